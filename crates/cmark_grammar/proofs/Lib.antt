@@ -1,0 +1,3 @@
+pub mod OutlineSound
+pub mod OutlineOne
+pub mod Samples

@@ -1,0 +1,16 @@
+-- The events that a document is read as.
+use Rattle.std.specs.Prelude.{ℕ, List}
+use Rattle.cmark_grammar.specs.Tag.{Tag}
+use Rattle.cmark_grammar.specs.TagEnd.{TagEnd}
+
+pub data Event : Type 0 where
+  Start : Tag → Event
+  End : TagEnd → Event
+  Text : List ℕ → Event
+  SoftBreak : Event
+
+-- an event with the bytes of the text that it comes from
+pub record Ranged : Type 0 where
+  pub event : Event
+  pub start : ℕ
+  pub end : ℕ

@@ -1,0 +1,14 @@
+pub mod Answers
+pub mod Columns
+pub mod Document
+pub mod Entities
+pub mod Escapes
+pub mod Event
+pub mod Html
+pub mod Lines
+pub mod Options
+pub mod Outline
+pub mod OutlineModel
+pub mod Reading
+pub mod Tag
+pub mod TagEnd
