@@ -1,3 +1,5 @@
+pub mod ColumnSteps
+pub mod LineSteps
 pub mod OutlineSound
 pub mod OutlineOne
 pub mod Samples

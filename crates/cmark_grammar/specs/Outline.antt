@@ -1,7 +1,7 @@
 -- Which documents a text derives, by the grammar that is read today: blank lines, ATX headings and paragraphs.
 -- A line that opens nothing else goes on with a paragraph or begins one; inside it every byte but the blanks at both ends
 -- of a line and the line endings is text.
-use Rattle.std.specs.Prelude.{◌≡◌, ◌≢◌, ℕ, suc, ◌+◌, Bool, true, false, ◌==◌, ◌&&◌, ◌||◌, nat_lt, nat_le, if◌then◌else◌, List, [], ◌∷◌, ◌++◌, length, drop, take_while}
+use Rattle.std.specs.Prelude.{◌≡◌, ◌≢◌, ℕ, suc, ◌+◌, Bool, true, false, ◌==◌, ◌&&◌, nat_lt, nat_le, if◌then◌else◌, List, [], ◌∷◌, ◌++◌, length, drop, take_while}
 use Rattle.cmark_grammar.specs.Lines.{lines, content}
 use Rattle.cmark_grammar.specs.Columns.{Column, expand, is_blank, indent, without_indent, drop_end, without_trailing_blanks, bytes_of}
 use Rattle.cmark_grammar.specs.Options.{Options}
@@ -86,11 +86,16 @@ further_spans r (s ∷ more) = Node (line_break r) Nil (join (line_text s) (furt
 abbrev pub paragraph_spans : Row → List Row → Document
 paragraph_spans first more = join (line_text first) (further_spans first more)
 
+-- no column, or a blank one at the end
+abbrev pub ends_parted : List Column → Bool
+ends_parted [] = true
+ends_parted (c ∷ []) = is_blank c
+ends_parted (c ∷ d ∷ ds) = ends_parted (d ∷ ds)
+
 -- without a closing sequence: `#` at the end, alone or behind a blank
 abbrev pub without_closing : List Column → List Column
 without_closing cs =
-    if is_bare (drop_end is_hash cs) || nat_lt (length (without_trailing_blanks (drop_end is_hash cs))) (length (drop_end is_hash cs))
-    then without_trailing_blanks (drop_end is_hash cs) else cs
+    if ends_parted (drop_end is_hash cs) then without_trailing_blanks (drop_end is_hash cs) else cs
 
 -- what stands behind the opening sequence, without blanks at both ends and the closing sequence
 abbrev pub heading_content : List Column → List Column
