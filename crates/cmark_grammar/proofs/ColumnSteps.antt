@@ -2,9 +2,9 @@
 use Rattle.std.proofs.Common.{◌≡◌, ◌≢◌, ℕ, zero, suc, ◌+◌, ◌-◌, ◌%◌, ◌≤◌, Bool, true, false, ◌==◌, cond, List, [], ◌∷◌, ◌++◌, length, drop, refl, sym, ap, ◌∙◌, subst, arith, append-nil, true≢false, eqb-true, ne_eqb}
 use Rattle.std.specs.Prelude.{if◌then◌else◌}
 use Rattle.std.specs.List.{prefix_len}
-use Rattle.cmark_grammar.specs.Columns.{Column, tab, space, tab_columns, to_tab_stop, expand, put_before, drop_end, bytes_of, is_blank, is_blank_byte}
+use Rattle.cmark_grammar.specs.Columns.{Column, tab, space, tab_columns, to_tab_stop, expand, put_before, drop_end, bytes_of, is_blank, is_blank_byte, none_or_first, none_or_last}
 use Rattle.cmark_grammar.specs.Document.{Nil, Text, one}
-use Rattle.cmark_grammar.specs.Outline.{is_bare, is_parted, ends_parted, first_at, last_at, text_over}
+use Rattle.cmark_grammar.specs.Outline.{is_bare, first_at, last_at, text_over}
 
 -- a test of a column that looks at its byte alone
 abbrev pub on_byte : (ℕ → Bool) → Column → Bool
@@ -156,12 +156,13 @@ is_bare-expand column at b bs = go (shape column at b)
     go (tabbed is n column' steps far e) = ap is_bare (e bs)
     go (plain not_tab e) = ap is_bare (e bs)
 
-pub is_parted-expand : (column at b : ℕ) (bs : List ℕ) → is_parted (expand column at (b ∷ bs)) ≡ is_blank_byte b
-is_parted-expand column at b bs = go (shape column at b)
+pub none_or_first-expand : (column at : ℕ) (bs : List ℕ) → none_or_first is_blank (expand column at bs) ≡ none_or_first is_blank_byte bs
+none_or_first-expand column at [] = refl
+none_or_first-expand column at (b ∷ bs) = go (shape column at b)
   where
-    go : Shape column at b → is_parted (expand column at (b ∷ bs)) ≡ is_blank_byte b
-    go (tabbed is n column' steps far e) = ap is_parted (e bs) ∙ ap is_blank_byte (sym is)
-    go (plain not_tab e) = ap is_parted (e bs)
+    go : Shape column at b → none_or_first is_blank (expand column at (b ∷ bs)) ≡ is_blank_byte b
+    go (tabbed is n column' steps far e) = ap (none_or_first is_blank) (e bs) ∙ ap is_blank_byte (sym is)
+    go (plain not_tab e) = ap (none_or_first is_blank) (e bs)
 
 pub first_at-expand : (none column at b : ℕ) (bs : List ℕ) → first_at none (expand column at (b ∷ bs)) ≡ at
 first_at-expand none column at b bs = go (shape column at b)
@@ -233,38 +234,32 @@ module _ (p : ℕ → Bool) where
               let s = some_of (expand (suc column) (suc at) (c ∷ cs)) (is_bare-expand (suc column) (suc at) c cs) in
               ap (put_before (p b) (record { byte = b; at = at; part = 0 })) some ∙ put_before-some (p b) (record { byte = b; at = at; part = 0 }) s.0 s.1 _ s.2 ∙ sym (e (c ∷ cs))
 
--- no byte, or a blank one at the end
-abbrev pub ends_parted_bytes : List ℕ → Bool
-ends_parted_bytes [] = true
-ends_parted_bytes (b ∷ []) = is_blank_byte b
-ends_parted_bytes (b ∷ c ∷ cs) = ends_parted_bytes (c ∷ cs)
+none_or_last-some : (c : Column) (cs : List Column) → is_bare cs ≡ false → none_or_last is_blank (c ∷ cs) ≡ none_or_last is_blank cs
+none_or_last-some c [] some = absurd (true≢false some)
+none_or_last-some c (d ∷ ds) some = refl
 
-ends_parted-some : (c : Column) (cs : List Column) → is_bare cs ≡ false → ends_parted (c ∷ cs) ≡ ends_parted cs
-ends_parted-some c [] some = absurd (true≢false some)
-ends_parted-some c (d ∷ ds) some = refl
+tab_none_or_last : (at part n : ℕ) (cs : List Column) → is_bare cs ≡ false → none_or_last is_blank (tab_columns at part n ++ cs) ≡ none_or_last is_blank cs
+tab_none_or_last at part zero cs some = refl
+tab_none_or_last at part (suc n) cs some =
+    none_or_last-some (record { byte = tab; at = at; part = part }) (tab_columns at (suc part) n ++ cs) (tab_before at (suc part) n cs some) ∙ tab_none_or_last at (suc part) n cs some
 
-tab_ends_parted : (at part n : ℕ) (cs : List Column) → is_bare cs ≡ false → ends_parted (tab_columns at part n ++ cs) ≡ ends_parted cs
-tab_ends_parted at part zero cs some = refl
-tab_ends_parted at part (suc n) cs some =
-    ends_parted-some (record { byte = tab; at = at; part = part }) (tab_columns at (suc part) n ++ cs) (tab_before at (suc part) n cs some) ∙ tab_ends_parted at (suc part) n cs some
-
-tab_last : (at part n : ℕ) → ends_parted (tab_columns at part (suc n)) ≡ true
+tab_last : (at part n : ℕ) → none_or_last is_blank (tab_columns at part (suc n)) ≡ true
 tab_last at part zero = refl
 tab_last at part (suc n) = tab_last at (suc part) n
 
-pub ends_parted-expand : (column at : ℕ) (bs : List ℕ) → ends_parted (expand column at bs) ≡ ends_parted_bytes bs
-ends_parted-expand column at [] = refl
-ends_parted-expand column at (b ∷ []) = go (shape column at b)
+pub none_or_last-expand : (column at : ℕ) (bs : List ℕ) → none_or_last is_blank (expand column at bs) ≡ none_or_last is_blank_byte bs
+none_or_last-expand column at [] = refl
+none_or_last-expand column at (b ∷ []) = go (shape column at b)
   where
-    go : Shape column at b → ends_parted (expand column at (b ∷ [])) ≡ is_blank_byte b
-    go (tabbed is n column' steps far e) = ap ends_parted (e [] ∙ append-nil (tab_columns at 0 (suc n))) ∙ tab_last at 0 n ∙ ap is_blank_byte (sym is)
-    go (plain not_tab e) = ap ends_parted (e [])
-ends_parted-expand column at (b ∷ c ∷ cs) = go (shape column at b) (λ column'. ends_parted-expand column' (suc at) (c ∷ cs))
+    go : Shape column at b → none_or_last is_blank (expand column at (b ∷ [])) ≡ is_blank_byte b
+    go (tabbed is n column' steps far e) = ap (none_or_last is_blank) (e [] ∙ append-nil (tab_columns at 0 (suc n))) ∙ tab_last at 0 n ∙ ap is_blank_byte (sym is)
+    go (plain not_tab e) = ap (none_or_last is_blank) (e [])
+none_or_last-expand column at (b ∷ c ∷ cs) = go (shape column at b) (λ column'. none_or_last-expand column' (suc at) (c ∷ cs))
   where
-    go : Shape column at b → ((column' : ℕ) → ends_parted (expand column' (suc at) (c ∷ cs)) ≡ ends_parted_bytes (c ∷ cs)) → ends_parted (expand column at (b ∷ c ∷ cs)) ≡ ends_parted_bytes (c ∷ cs)
-    go (tabbed is n column' steps far e) ih = ap ends_parted (e (c ∷ cs)) ∙ tab_ends_parted at 0 (suc n) (expand column' (suc at) (c ∷ cs)) (is_bare-expand column' (suc at) c cs) ∙ ih column'
+    go : Shape column at b → ((column' : ℕ) → none_or_last is_blank (expand column' (suc at) (c ∷ cs)) ≡ none_or_last is_blank_byte (c ∷ cs)) → none_or_last is_blank (expand column at (b ∷ c ∷ cs)) ≡ none_or_last is_blank_byte (c ∷ cs)
+    go (tabbed is n column' steps far e) ih = ap (none_or_last is_blank) (e (c ∷ cs)) ∙ tab_none_or_last at 0 (suc n) (expand column' (suc at) (c ∷ cs)) (is_bare-expand column' (suc at) c cs) ∙ ih column'
     go (plain not_tab e) ih =
-        ap ends_parted (e (c ∷ cs)) ∙ ends_parted-some (record { byte = b; at = at; part = 0 }) (expand (suc column) (suc at) (c ∷ cs)) (is_bare-expand (suc column) (suc at) c cs) ∙ ih (suc column)
+        ap (none_or_last is_blank) (e (c ∷ cs)) ∙ none_or_last-some (record { byte = b; at = at; part = 0 }) (expand (suc column) (suc at) (c ∷ cs)) (is_bare-expand (suc column) (suc at) c cs) ∙ ih (suc column)
 
 -- the text that columns spell
 tab_bytes : (at part n : ℕ) (cs : List Column) → bytes_of (tab_columns at (suc part) n ++ cs) ≡ bytes_of cs

@@ -4,14 +4,9 @@ use Rattle.std.specs.Prelude.{if◌then◌else◌}
 use Rattle.std.specs.List.{prefix_len}
 use Rattle.std.proofs.lemmas.List.Sums.{take_while-cons, prefix_len-le-length}
 use Rattle.std.proofs.lemmas.List.Folds.{length-prefix_len}
-use Rattle.cmark_grammar.specs.Lines.{lines, onto, ends_line, begins_with_line_feed, is_content, content}
+use Rattle.cmark_grammar.specs.Lines.{lines, onto, ends_line, begins_with_line_feed, is_content, content, ending_len}
 use Rattle.cmark_grammar.specs.Columns.{expand}
 use Rattle.cmark_grammar.specs.Outline.{rows_from}
-
--- how many bytes the line ending in front has
-abbrev pub ending_len : List ℕ → ℕ
-ending_len [] = 0
-ending_len (b ∷ bs) = if (b == 13) && begins_with_line_feed bs then 2 else 1
 
 -- how many bytes the first line has without its line ending, and with it
 abbrev pub content_len : List ℕ → ℕ

@@ -31,3 +31,8 @@ is_content b = not (b == line_feed) && not (b == carriage_return)
 -- a line without its line ending
 abbrev pub content : List ℕ → List ℕ
 content line = take_while is_content line
+
+-- how many bytes the line ending has that stands in front, where one does
+abbrev pub ending_len : List ℕ → ℕ
+ending_len [] = 0
+ending_len (b ∷ bs) = if (b == carriage_return) && begins_with_line_feed bs then 2 else 1

@@ -3,7 +3,7 @@
 -- of a line and the line endings is text.
 use Rattle.std.specs.Prelude.{◌≡◌, ◌≢◌, ℕ, suc, ◌+◌, Bool, true, false, ◌==◌, ◌&&◌, nat_lt, nat_le, if◌then◌else◌, List, [], ◌∷◌, ◌++◌, length, drop, take_while}
 use Rattle.cmark_grammar.specs.Lines.{lines, content}
-use Rattle.cmark_grammar.specs.Columns.{Column, expand, is_blank, indent, without_indent, drop_end, without_trailing_blanks, bytes_of}
+use Rattle.cmark_grammar.specs.Columns.{Column, expand, is_blank, indent, without_indent, drop_end, none_or_first, none_or_last, without_trailing_blanks, bytes_of}
 use Rattle.cmark_grammar.specs.Options.{Options}
 use Rattle.cmark_grammar.specs.Answers.{Lookup, Answers, NoneAsked}
 use Rattle.cmark_grammar.specs.Document.{Kind, Paragraph, Heading, Text, SoftBreak, Item, Document, Nil, Node, join, one}
@@ -35,14 +35,9 @@ abbrev pub is_bare : List Column → Bool
 is_bare [] = true
 is_bare (c ∷ cs) = false
 
--- no column, or a blank one in front
-abbrev pub is_parted : List Column → Bool
-is_parted [] = true
-is_parted (c ∷ cs) = is_blank c
-
 -- an opening sequence of 1 to 6 `#`, then a blank or the line's end (CommonMark 4.2)
 abbrev pub is_heading : List Column → Bool
-is_heading cs = nat_lt 0 (hashes cs) && nat_le (hashes cs) 6 && is_parted (drop (hashes cs) cs)
+is_heading cs = nat_lt 0 (hashes cs) && nat_le (hashes cs) 6 && none_or_first is_blank (drop (hashes cs) cs)
 
 -- what a line begins
 pub data Opening : Type 0 where
@@ -86,16 +81,10 @@ further_spans r (s ∷ more) = Node (line_break r) Nil (join (line_text s) (furt
 abbrev pub paragraph_spans : Row → List Row → Document
 paragraph_spans first more = join (line_text first) (further_spans first more)
 
--- no column, or a blank one at the end
-abbrev pub ends_parted : List Column → Bool
-ends_parted [] = true
-ends_parted (c ∷ []) = is_blank c
-ends_parted (c ∷ d ∷ ds) = ends_parted (d ∷ ds)
-
 -- without a closing sequence: `#` at the end, alone or behind a blank
 abbrev pub without_closing : List Column → List Column
 without_closing cs =
-    if ends_parted (drop_end is_hash cs) then without_trailing_blanks (drop_end is_hash cs) else cs
+    if none_or_last is_blank (drop_end is_hash cs) then without_trailing_blanks (drop_end is_hash cs) else cs
 
 -- what stands behind the opening sequence, without blanks at both ends and the closing sequence
 abbrev pub heading_content : List Column → List Column

@@ -1,0 +1,5 @@
+pub mod BuildSteps
+pub mod LineSteps
+pub mod OpeningSteps
+pub mod ParseSteps
+pub mod ScanSteps

@@ -1,0 +1,25 @@
+use Rattle.std.proofs.Common.{◌≡◌, ℕ, ◌+◌, ◌-◌, ◌==◌, drop, length, Some, sym, ap, ◌∙◌, refl}
+use Rattle.std.specs.List.{prefix_len}
+use Rattle.cmark_grammar.specs.Columns.{expand, drop_end, is_blank_byte}
+use Rattle.cmark_grammar.specs.Outline.{is_heading, hashes}
+use Rattle.cmark_text.specs.Shown.{level_number}
+use Rattle.pulldown_cmark.specs.Opening.{heading_level_of, closing_dropped}
+use Rattle.pulldown_cmark.proofs.ScanSteps.{cut_behind_hashes, hashes-expand}
+use Rattle.pulldown_cmark.proofs.OpeningSteps.{level_found, heading_text, opening_len}
+use Rattle.pulldown_cmark.proofs.scan.find_heading.Goals as goal
+
+pub range_from-requires : goal.range_from-requires
+range_from-requires c =
+    cut_behind_hashes c.args.rest.now c.level_len.result c.utf8.rest (opening_len c.args.rest.now c.as_bytes.result.now c.level_len.result _ c.as_bytes.ensures.value c.level_len.ensures c.in_ok-level.ensures)
+
+pub returns-clause-found : goal.returns-clause-found
+returns-clause-found c column at =
+    let rest = c.args.rest.now in
+    let n = c.level_len.result in
+    let found = level_found (expand column at c.as_bytes.result.now) (level_number c.in_ok-level.level) (c.in_ok-level.ensures column at) in
+    let same = c.as_bytes.ensures.value in (
+      ap (λ bs. is_heading (expand column at bs)) (sym same) ∙ found.0,
+      ap (λ bs. hashes (expand column at bs)) (sym same) ∙ found.1,
+      heading_text column at rest c.without_indent-behind.result.now c.without_closing.result.now n (opening_len rest c.as_bytes.result.now n _ same c.level_len.ensures c.in_ok-level.ensures)
+          (c.without_indent-behind.ensures.value ∙ ap (λ bs. drop (prefix_len is_blank_byte bs) bs) c.range_from.ensures.value) (c.without_closing.ensures.value ∙ ap closing_dropped c.without_end.ensures.value),
+    )

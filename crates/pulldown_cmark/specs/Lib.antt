@@ -1,0 +1,5 @@
+pub mod Building
+pub mod Line
+pub mod Opening
+pub mod Parsing
+pub mod Walking
