@@ -39,9 +39,9 @@ percent_encoded b = 37 ∷ hexadecimal_digit (b / 16) ∷ hexadecimal_digit (b %
 -- in the URL of a link `&` and `'` are written as entities, and each other byte that a URL does not keep is percent-encoded
 abbrev pub href_byte : ℕ → List ℕ
 href_byte b =
-    if b == 38 then codes "&amp;"
+    if is_url_byte b then b ∷ []
+    else if b == 38 then codes "&amp;"
     else if b == 39 then codes "&#x27;"
-    else if is_url_byte b then b ∷ []
     else percent_encoded b
 
 abbrev pub escaped_href : List ℕ → List ℕ

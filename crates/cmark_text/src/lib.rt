@@ -9,7 +9,6 @@ mod inline;
 mod kind;
 mod text;
 
-
 pub use entity::{BasicEntities, EntityLookup};
 pub use event::{Event, Tag, TagEnd};
 pub use inline::{InlineStr, MAX_INLINE_STR_LEN, StringTooLongError};
