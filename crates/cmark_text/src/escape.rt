@@ -1,6 +1,7 @@
 //! Escapes of texts in HTML. Stretches that are kept are copied whole.
 
 ghost use Rattle.std.specs.Prelude.{◌≡◌, ◌+◌, ◌<◌, ◌≤◌, ℕ, true, false, not, ◌++◌, length, position, slice_range, slice_index, OnOk, OnErr, string_bytes};
+ghost use Rattle.memchr.specs.Find.{IsFirstByte};
 ghost use Rattle.cmark_grammar.specs.Escapes.{body_text_byte, escaped_body_text, html_byte, escaped_html, is_url_byte, href_byte, escaped_href, hexadecimal_digit, percent_encoded};
 ghost use Rattle.cmark_text.specs.Appended.{AppendsFront};
 ghost use Rattle.cmark_text.specs.Marks.{is_body_text_mark, is_html_mark, is_href_mark};
@@ -16,12 +17,20 @@ pub fn escape_html_body_text(out: &mut String, text: &str) -> Result<(), AllocEr
     ensures err { OnErr result (AppendsFront (string_bytes out.old) (string_bytes out.new) (escaped_body_text text.now)) }
 {
     let mut rest = text;
-    while let Some(at) = memchr3(b'&', b'<', b'>', rest.as_bytes()) {
+    while let Some(at) = find_body_text_mark(rest) {
         out.push_str(&rest[..at])?;
         out.push_str(body_text_entity(rest.as_bytes()[at]))?;
         rest = &rest[at + 1..];
     }
     out.push_str(rest)
+}
+
+/// Where the first byte stands that `escape_html_body_text` does not keep.
+#[inline]
+fn find_body_text_mark(text: &str) -> Option<usize>
+    ensures { IsFirstByte is_body_text_mark text.now result }
+{
+    memchr3(b'&', b'<', b'>', text.as_bytes())
 }
 
 /// What a byte of body text that is not kept is written as.
@@ -56,7 +65,7 @@ pub fn escape_html(out: &mut String, text: &str) -> Result<(), AllocError>
     ensures err { OnErr result (AppendsFront (string_bytes out.old) (string_bytes out.new) (escaped_html text.now)) }
 {
     let mut rest = text;
-    while let Some(at) = find_html_mark(rest.as_bytes()) {
+    while let Some(at) = find_html_mark(rest) {
         out.push_str(&rest[..at])?;
         out.push_str(html_entity(rest.as_bytes()[at]))?;
         rest = &rest[at + 1..];
@@ -66,10 +75,10 @@ pub fn escape_html(out: &mut String, text: &str) -> Result<(), AllocError>
 
 /// Where the first byte stands that `escape_html` does not keep.
 #[inline]
-fn find_html_mark(bytes: &[u8]) -> Option<usize>
-    ensures { result ≡ position is_html_mark bytes.now }
+fn find_html_mark(text: &str) -> Option<usize>
+    ensures { result ≡ position is_html_mark text.now }
 {
-    bytes.iter().position(|byte| is_html_mark(*byte))
+    text.as_bytes().iter().position(|byte| is_html_mark(*byte))
 }
 
 #[inline]
