@@ -1,8 +1,8 @@
 -- A text escaped so far, by a map of each byte.
-use Rattle.std.proofs.Common.{◌≡◌, ℕ, suc, ◌+◌, ◌<◌, ◌≤◌, Bool, true, false, List, [], ◌∷◌, ◌++◌, length, get_or, take, drop, flat_map, position, nat_lt, cond, Option, None, Some, refl, sym, ap, subst, ◌∙◌, arith, add-one, append_assoc, append-nil, take-append-drop, drop-cons, Result, Ok, Err, OnOk, OnErr, is_ok, if◌then◌else◌}
+use Rattle.std.proofs.Common.{◌≡◌, ℕ, suc, ◌+◌, ◌-◌, ◌<◌, ◌≤◌, Bool, true, false, List, [], ◌∷◌, ◌++◌, length, get_or, take, drop, slice_range, flat_map, position, nat_lt, cond, Option, None, Some, refl, sym, ap, subst, ◌∙◌, arith, add-one, append_assoc, append-nil, take-append-drop, drop-cons, drop-drop, Result, Ok, Err, OnOk, OnErr, is_ok, if◌then◌else◌}
 use Rattle.std.proofs.lemmas.Bool.{false_from_ne_true, ltb-false}
 use Rattle.std.proofs.lemmas.Grind.{flat_map-append}
-use Rattle.std.proofs.lemmas.List.{get_or-take, length-take-le}
+use Rattle.std.proofs.lemmas.List.{get_or-take, get_or-drop, length-take-le, length-drop}
 use Rattle.std.proofs.lemmas.List.Quantifiers.{position-Some}
 use Rattle.std.proofs.lemmas.List.Sums.{fails_before_first}
 use Rattle.std.specs.List.{position_or_len}
@@ -94,6 +94,14 @@ first_mark-byte mark xs at found = record {
 pub all_kept-byte : (mark : ℕ → Bool) (xs : List ℕ) → IsFirstByte mark xs None → AllKept mark xs
 all_kept-byte mark xs none k below = false_from_ne_true (mark (get_or xs k 0)) (none k (omega arith) below)
 
+-- and a beginning of what is written for the mark
+pub written_within_mark : (escape : ℕ → List ℕ) (old mid new text : List ℕ) (at : ℕ) → at < length text → Written escape old mid text (drop at text) → AppendsFront mid new (escape (get_or text at 0)) → AppendsFront old new (flat_map escape text)
+written_within_mark escape old mid new text at below w h =
+    let cut : drop at text ≡ (get_or text at 0 ∷ []) ++ drop (at + 1) text = rw add-one (drop-cons text at 0 below) in
+    written_within escape old mid new text (get_or text at 0 ∷ []) (drop (at + 1) text)
+    (subst (Written escape old mid text) cut w)
+    (subst (AppendsFront mid new) (sym (append-nil (escape (get_or text at 0)))) h)
+
 module _ (escape : ℕ → List ℕ) (mark : ℕ → Bool) (keeps : (b : ℕ) → mark b ≡ false → escape b ≡ b ∷ []) where
   pub kept_whole : (xs : List ℕ) → AllKept mark xs → flat_map escape xs ≡ xs
   kept_whole [] all = refl
@@ -128,3 +136,13 @@ module _ (escape : ℕ → List ℕ) (mark : ℕ → Bool) (keeps : (b : ℕ) �
       (written_more escape old mid new text rest []
       (subst (Written escape old mid text) (sym (append-nil rest)) w)
       (e ∙ ap (λ l. mid ++ l) (sym (kept_whole rest kept))))
+
+  -- the bytes from one place to another
+  pub written_to : (old mid new text : List ℕ) (from to : ℕ) → from ≤ to → to ≤ length text → ((k : ℕ) → from ≤ k → k < to → mark (get_or text k 0) ≡ false) → Written escape old mid text (drop from text) → new ≡ mid ++ slice_range text from to → Written escape old new text (drop to text)
+  written_to old mid new text from to ordered fits kept w e =
+      let there : from + (to - from) ≡ to = omega arith in
+      subst (λ n. Written escape old new text (drop n text)) there
+      (subst (Written escape old new text) (drop-drop (to - from) from text)
+      (written_to_mark old mid new text (drop from text) (to - from) (omega (arith, length-drop from text))
+      (λ k small. ap mark (get_or-drop from text k 0) ∙ kept (from + k) (omega arith) (omega arith))
+      w e))

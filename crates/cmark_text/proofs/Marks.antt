@@ -1,6 +1,6 @@
 -- Each escape keeps the bytes that it does not mark.
-use Rattle.std.proofs.Common.{◌≡◌, ℕ, ◌<◌, true, false, [], ◌∷◌, ◌==◌, ◌||◌, inl, inr, arith, lit<}
-use Rattle.std.proofs.lemmas.Bool.{or_parts, or_cases, not-false, eqb-true}
+use Rattle.std.proofs.Common.{◌≡◌, ℕ, ◌<◌, true, false, [], ◌∷◌, ◌==◌, ◌||◌, nat_lt, inl, inr, refl, arith, lit<}
+use Rattle.std.proofs.lemmas.Bool.{or_parts, or_cases, not-false, eqb-true, ltb-true, both_ways, agree_below_at}
 use Rattle.cmark_grammar.specs.Escapes.{body_text_byte, html_byte, href_byte, is_url_byte}
 use Rattle.cmark_text.specs.Marks.{is_body_text_mark, is_html_mark, is_href_mark}
 
@@ -41,4 +41,12 @@ ascii-html_mark b marked =
         | inr e ↦ ascii_of b 34 (lit< tt) e
       ]
       | inr e ↦ ascii_of b 39 (lit< tt) e
+    ]
+
+-- a kept byte of a URL is ASCII
+pub ascii-href_kept : (b : ℕ) → b < 256 → is_href_mark b ≡ false → b < 128
+ascii-href_kept b small kept =
+    elim (or_cases (nat_lt b 128) (is_href_mark b) (agree_below_at (λ n. nat_lt n 128 || is_href_mark n) (λ _. true) 256 b refl small)) [
+      | inl below ↦ ltb-true b 128 below
+      | inr marked ↦ absurd (both_ways (is_href_mark b) kept marked)
     ]

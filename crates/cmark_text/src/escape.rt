@@ -46,7 +46,7 @@ fn body_text_entity(byte: u8) -> &'static str
 }
 
 /// 1 at each byte that `escape_html` does not keep.
-static HTML_MARKS: [u8; 256] = [
+const HTML_MARKS: &[u8; 256] = &[
     0, 0, 0, 0, 0, 0, 0, 0, 0, 0, 0, 0, 0, 0, 0, 0, 0, 0, 0, 0, 0, 0, 0, 0, 0, 0, 0, 0, 0, 0, 0, 0,
     0, 0, 1, 0, 0, 0, 1, 1, 0, 0, 0, 0, 0, 0, 0, 0, 0, 0, 0, 0, 0, 0, 0, 0, 0, 0, 0, 0, 1, 0, 1, 0,
     0, 0, 0, 0, 0, 0, 0, 0, 0, 0, 0, 0, 0, 0, 0, 0, 0, 0, 0, 0, 0, 0, 0, 0, 0, 0, 0, 0, 0, 0, 0, 0,
@@ -103,7 +103,7 @@ fn html_entity(byte: u8) -> &'static str
 }
 
 /// 1 at each byte that `escape_href` does not keep.
-static HREF_MARKS: [u8; 256] = [
+const HREF_MARKS: &[u8; 256] = &[
     1, 1, 1, 1, 1, 1, 1, 1, 1, 1, 1, 1, 1, 1, 1, 1, 1, 1, 1, 1, 1, 1, 1, 1, 1, 1, 1, 1, 1, 1, 1, 1,
     1, 0, 1, 0, 0, 0, 1, 1, 0, 0, 0, 0, 0, 0, 0, 0, 0, 0, 0, 0, 0, 0, 0, 0, 0, 0, 0, 0, 1, 0, 1, 0,
     0, 0, 0, 0, 0, 0, 0, 0, 0, 0, 0, 0, 0, 0, 0, 0, 0, 0, 0, 0, 0, 0, 0, 0, 0, 0, 0, 1, 1, 1, 1, 0,
@@ -127,23 +127,35 @@ pub fn escape_href(out: &mut String, url: &str) -> Result<(), AllocError>
     ensures ok { OnOk result (string_bytes out.new ≡ string_bytes out.old ++ escaped_href url.now) }
     ensures err { OnErr result (AppendsFront (string_bytes out.old) (string_bytes out.new) (escaped_href url.now)) }
 {
-    let bytes = url.as_bytes();
     let mut from = 0;
-    while let Some(kept) = find_href_mark(&bytes[from..]) {
-        let at = from + kept;
+    while from < url.len() {
+        let at = find_href_mark(url, from);
         push_kept(out, url, from, at)?;
-        push_href_byte(out, bytes[at])?;
+        if at == url.len() {
+            break;
+        }
+        push_href_byte(out, url.as_bytes()[at])?;
         from = at + 1;
     }
-    push_kept(out, url, from, bytes.len())
+    Ok(())
 }
 
-/// Where the first byte stands that `escape_href` does not keep.
+/// Where from `from` on the first byte stands that `escape_href` does not keep, or the length.
 #[inline]
-fn find_href_mark(bytes: &[u8]) -> Option<usize>
-    ensures { result ≡ position is_href_mark bytes.now }
+fn find_href_mark(url: &str, from: usize) -> usize
+    requires { from ≤ length url.now }
+    ensures past { from ≤ result }
+    ensures in_bounds { result ≤ length url.now }
+    ensures kept { (k : ℕ) → from ≤ k → k < result → is_href_mark (slice_index url.now k) ≡ false }
+    ensures stops { result < length url.now → is_href_mark (slice_index url.now result) ≡ true }
 {
-    bytes.iter().position(|byte| is_href_mark(*byte))
+    let bytes = url.as_bytes();
+    for at in from..bytes.len() {
+        if is_href_mark(bytes[at]) {
+            return at;
+        }
+    }
+    bytes.len()
 }
 
 #[inline]

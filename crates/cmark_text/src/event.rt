@@ -88,7 +88,7 @@ pub enum Tag<'a> {
     MetadataBlock(MetadataBlockKind),
 }
 
-impl Tag<'_> {
+impl<'a> Tag<'a> {
     /// The end of this element.
     pub fn to_end(&self) -> TagEnd
         ensures { shown_end result ≡ end_of (shown_tag self.now) }

@@ -7,13 +7,18 @@ pub mod escape;
 mod event;
 mod inline;
 mod kind;
+mod label;
+mod options;
 mod text;
 
 pub use entity::{BasicEntities, EntityLookup};
+pub use escape::{escape_href, escape_html, escape_html_body_text};
 pub use event::{Event, Tag, TagEnd};
 pub use inline::{InlineStr, MAX_INLINE_STR_LEN, StringTooLongError};
 pub use kind::{
     Alignment, BlockQuoteKind, CodeBlockKind, HeadingLevel, InvalidHeadingLevel, LinkType,
     MetadataBlockKind,
 };
+pub use label::{FootnoteLabel, LinkLabel};
+pub use options::Options;
 pub use text::CowStr;

@@ -1,5 +1,5 @@
 use Rattle.std.proofs.Common.{◌≡◌, ◌+◌, ◌++◌, string_bytes, get_or, take, drop, subst, sym, ap, ◌∙◌, arith}
-use Rattle.std.proofs.lemmas.Str.{IsCharBoundary-after_ascii}
+use Rattle.std.proofs.lemmas.Str.{IsCharBoundary-after_ascii, IsCharBoundary-before_ascii}
 use Rattle.cmark_grammar.specs.Escapes.{html_byte}
 use Rattle.cmark_text.specs.Marks.{is_html_mark}
 use Rattle.cmark_text.proofs.Escaping.{IsFirstMark, first_mark-position, all_kept-position, Written, written_front, written_to_mark, written_past_mark, written_to_end, on_err, at_ok, at_err}
@@ -44,3 +44,13 @@ returns-clause-ok c =
 
 pub returns-clause-err : goal.returns-clause-err
 returns-clause-err c = at_err c.push_str-2.result _ _ _ c.push_str-2.ensures.bytes (λ err. written_front html_byte _ _ _ _ _ c.loop-at.invariant.written err)
+
+pub range-requires-clause-end_boundary : goal.range-requires-clause-end_boundary
+range-requires-clause-end_boundary c =
+    let first : IsFirstMark is_html_mark c.loop-at.rest.now c.in-Some.at = first_mark-position is_html_mark c.loop-at.rest.now c.in-Some.at c.find_html_mark.result c.find_html_mark.ensures c.in-Some.is in
+    IsCharBoundary-before_ascii c.loop-at.rest.now c.in-Some.at first.below (ascii-html_mark (get_or c.loop-at.rest.now c.in-Some.at 0) first.here)
+
+pub html_entity-requires : goal.html_entity-requires
+html_entity-requires c =
+    let first : IsFirstMark is_html_mark c.loop-at.rest.now c.in-Some.at = first_mark-position is_html_mark c.loop-at.rest.now c.in-Some.at c.find_html_mark.result c.find_html_mark.ensures c.in-Some.is in
+    ap (λ l. is_html_mark (get_or l c.in-Some.at 0)) c.as_bytes.ensures.value ∙ first.here
