@@ -1,6 +1,6 @@
 //! Labels of links and footnotes.
 
-ghost use Rattle.std.specs.Prelude.{◌≡◌, IfOk, OnOk, string_bytes, nat_eq};
+ghost use Rattle.std.specs.Prelude.{◌≡◌, ◌<◌, ◌∷◌, ◌++◌, IfOk, OnOk, length, string_bytes, nat_eq};
 ghost use Rattle.std.specs.Cmp.{on_equiv, on_per, partial_equiv_from_equiv};
 ghost use Rattle.std.specs.Cmp.Lexicographic.{pointwise, nat_list_eq_equiv};
 ghost use Rattle.std.specs.Cmp.Rules.{hashing};
@@ -122,10 +122,18 @@ fn normalized(alloc: Global, label: &str) -> Result<String, AllocError>
 {
     let mut text = String::with_capacity(alloc, label.len())?;
     for word in label.split_ascii_whitespace() {
-        if !text.is_empty() {
-            text.push(' ')?;
-        }
-        text.push_str(word)?;
+        push_word(&mut text, word)?;
     }
     Ok(text)
+}
+
+/// Appends the word, behind a space unless it is the first.
+fn push_word(text: &mut String, word: &str) -> Result<(), AllocError>
+    ensures first { OnOk result (length (string_bytes text.old) ≡ 0 → string_bytes text.new ≡ word.now) }
+    ensures further { OnOk result (0 < length (string_bytes text.old) → string_bytes text.new ≡ string_bytes text.old ++ (32 ∷ word.now)) }
+{
+    if !text.is_empty() {
+        text.push(' ')?;
+    }
+    text.push_str(word)
 }
