@@ -1,5 +1,7 @@
--- Escapes: maps of each byte of a text.
-use Rattle.std.specs.Prelude.{ℕ, List, [], ◌∷◌, flat_map, codes, ◌==◌, if◌then◌else◌}
+-- Escapes: maps of each byte of a text, joined.
+use Rattle.std.specs.Prelude.{ℕ, ◌+◌, ◌/◌, ◌%◌, Bool, ◌||◌, ◌==◌, nat_lt, if◌then◌else◌, List, [], ◌∷◌, flat_map, codes}
+use Rattle.std.specs.Char.{is_ascii_alphanumeric}
+use Rattle.std.specs.List.{list_any}
 
 -- in body text `&`, `<` and `>` are written as entities
 abbrev pub body_text_byte : ℕ → List ℕ
@@ -11,3 +13,36 @@ body_text_byte b =
 
 abbrev pub escaped_body_text : List ℕ → List ℕ
 escaped_body_text text = flat_map body_text_byte text
+
+-- in the value of an attribute `"` and `'` too
+abbrev pub html_byte : ℕ → List ℕ
+html_byte b =
+    if b == 34 then codes "&quot;"
+    else if b == 39 then codes "&#x27;"
+    else body_text_byte b
+
+abbrev pub escaped_html : List ℕ → List ℕ
+escaped_html text = flat_map html_byte text
+
+-- the bytes that a URL keeps: ASCII letters and digits, and these signs
+abbrev pub is_url_byte : ℕ → Bool
+is_url_byte b = is_ascii_alphanumeric b || list_any (λ sign. sign == b) (codes "!#$%()*+,-./:;=?@_~")
+
+-- the upper-case digit of a number below 16
+abbrev pub hexadecimal_digit : ℕ → ℕ
+hexadecimal_digit n = if nat_lt n 10 then 48 + n else 55 + n
+
+-- `%` and two digits
+abbrev pub percent_encoded : ℕ → List ℕ
+percent_encoded b = 37 ∷ hexadecimal_digit (b / 16) ∷ hexadecimal_digit (b % 16) ∷ []
+
+-- in the URL of a link `&` and `'` are written as entities, and each other byte that a URL does not keep is percent-encoded
+abbrev pub href_byte : ℕ → List ℕ
+href_byte b =
+    if is_url_byte b then b ∷ []
+    else if b == 38 then codes "&amp;"
+    else if b == 39 then codes "&#x27;"
+    else percent_encoded b
+
+abbrev pub escaped_href : List ℕ → List ℕ
+escaped_href url = flat_map href_byte url

@@ -1,5 +1,5 @@
 -- The events that a document is read as.
-use Rattle.std.specs.Prelude.{ℕ, List}
+use Rattle.std.specs.Prelude.{ℕ, Bool, List}
 use Rattle.cmark_grammar.specs.Tag.{Tag}
 use Rattle.cmark_grammar.specs.TagEnd.{TagEnd}
 
@@ -7,7 +7,16 @@ pub data Event : Type 0 where
   Start : Tag → Event
   End : TagEnd → Event
   Text : List ℕ → Event
+  Code : List ℕ → Event
+  InlineMath : List ℕ → Event
+  DisplayMath : List ℕ → Event
+  Html : List ℕ → Event
+  InlineHtml : List ℕ → Event
+  FootnoteReference : (label : List ℕ) → Event
   SoftBreak : Event
+  HardBreak : Event
+  Rule : Event
+  TaskListMarker : (is_checked : Bool) → Event
 
 -- an event with the bytes of the text that it comes from
 pub record Ranged : Type 0 where

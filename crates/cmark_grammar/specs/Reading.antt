@@ -1,6 +1,7 @@
 -- The events of a document, in preorder.
 use Rattle.std.specs.Prelude.{List, [], ◌∷◌, ◌++◌}
 use Rattle.cmark_grammar.specs.Tag.{Tag, Paragraph as ParagraphTag, Heading as HeadingTag}
+use Rattle.cmark_grammar.specs.Attributes.{no_attributes}
 use Rattle.cmark_grammar.specs.TagEnd.{end_of}
 use Rattle.cmark_grammar.specs.Event.{Event, Start, End, Ranged, Text as TextEvent, SoftBreak as SoftBreakEvent}
 use Rattle.cmark_grammar.specs.Document.{Kind, Paragraph, Heading, Text, SoftBreak, Item, Document, Nil, Node}
@@ -12,7 +13,7 @@ pub data Reads : Type 0 where
 
 abbrev pub read_as : Kind → Reads
 read_as Paragraph = Around ParagraphTag
-read_as (Heading level) = Around (HeadingTag level)
+read_as (Heading level) = Around (HeadingTag level no_attributes)
 read_as (Text bytes) = Alone (TextEvent bytes)
 read_as SoftBreak = Alone SoftBreakEvent
 

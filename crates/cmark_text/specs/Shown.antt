@@ -1,21 +1,61 @@
 -- The values of this crate as those of the definitions: a text by its bytes, a heading level by its number.
-use Rattle.std.specs.Prelude.{ℕ, List}
-use Rattle.cmark_grammar.specs.Tag.{Tag as GrammarTag, Paragraph as ParagraphTag, Heading as HeadingTag}
-use Rattle.cmark_grammar.specs.TagEnd.{TagEnd as GrammarTagEnd, Paragraph as ParagraphEnd, Heading as HeadingEnd}
-use Rattle.cmark_grammar.specs.Event.{Event as GrammarEvent, Start as StartEvent, End as EndEvent, Text as TextEvent, SoftBreak as SoftBreakEvent}
+use Rattle.std.specs.Prelude.{ℕ, ◌==◌, Bool, List, map, Option, None, Some, option_map, if◌then◌else◌}
+use Rattle.std.specs.Box.{boxed_str_bytes}
+use Rattle.std.specs.Int.RustNames.{bit_and}
+use Rattle.cmark_grammar.specs.Alignment as alignment
+use Rattle.cmark_grammar.specs.Attributes.{Attribute, Attributes}
+use Rattle.cmark_grammar.specs.BlockQuoteKind as quote_kind
+use Rattle.cmark_grammar.specs.CodeBlockKind as code_kind
+use Rattle.cmark_grammar.specs.Event as event
+use Rattle.cmark_grammar.specs.LinkType as link
+use Rattle.cmark_grammar.specs.MetadataBlockKind as metadata
+use Rattle.cmark_grammar.specs.Tag as tag
+use Rattle.cmark_grammar.specs.TagEnd as end
+use Rattle.cmark_text.specs.declared.inline.InlineStr.{InlineStr}
 use Rattle.cmark_text.specs.declared.text.CowStr.{CowStr}
-use Rattle.cmark_text.specs.declared.text.CowStr.TheVariants.{Borrowed}
-use Rattle.cmark_text.specs.declared.event.HeadingLevel.{HeadingLevel}
-use Rattle.cmark_text.specs.declared.event.HeadingLevel.TheVariants.{H1, H2, H3, H4, H5, H6}
+use Rattle.cmark_text.specs.declared.text.CowStr.TheVariants.{Boxed, Borrowed, Inlined}
+use Rattle.cmark_text.specs.declared.kind.Alignment.{Alignment}
+use Rattle.cmark_text.specs.declared.kind.Alignment.TheVariants as declared_alignment
+use Rattle.cmark_text.specs.declared.kind.BlockQuoteKind.{BlockQuoteKind}
+use Rattle.cmark_text.specs.declared.kind.BlockQuoteKind.TheVariants.{Note, Tip, Important, Warning, Caution}
+use Rattle.cmark_text.specs.declared.kind.MetadataBlockKind.{MetadataBlockKind}
+use Rattle.cmark_text.specs.declared.kind.MetadataBlockKind.TheVariants.{YamlStyle, PlusesStyle}
+use Rattle.cmark_text.specs.declared.kind.CodeBlockKind.{CodeBlockKind}
+use Rattle.cmark_text.specs.declared.kind.CodeBlockKind.TheVariants.{Indented, Fenced}
+use Rattle.cmark_text.specs.declared.kind.HeadingLevel.{HeadingLevel}
+use Rattle.cmark_text.specs.declared.kind.HeadingLevel.TheVariants.{H1, H2, H3, H4, H5, H6}
+use Rattle.cmark_text.specs.declared.kind.LinkType.{LinkType}
+use Rattle.cmark_text.specs.declared.kind.LinkType.TheVariants as declared_link
 use Rattle.cmark_text.specs.declared.event.Tag.{Tag}
-use Rattle.cmark_text.specs.declared.event.Tag.TheVariants.{Paragraph, Heading}
+use Rattle.cmark_text.specs.declared.event.Tag.TheVariants as declared_tag
 use Rattle.cmark_text.specs.declared.event.TagEnd.{TagEnd}
-use Rattle.cmark_text.specs.declared.event.TagEnd.TheVariants.{Paragraph as EndParagraph, Heading as EndHeading}
+use Rattle.cmark_text.specs.declared.event.TagEnd.TheVariants as declared_end
 use Rattle.cmark_text.specs.declared.event.Event.{Event}
-use Rattle.cmark_text.specs.declared.event.Event.TheVariants.{Start, End, Text, SoftBreak}
+use Rattle.cmark_text.specs.declared.event.Event.TheVariants as declared_event
+
+abbrev pub inline_bytes : InlineStr → List ℕ
+inline_bytes text = text.text.bytes
 
 abbrev pub text_bytes : CowStr → List ℕ
+text_bytes (Boxed text) = boxed_str_bytes text
 text_bytes (Borrowed text) = text.now
+text_bytes (Inlined text) = inline_bytes text
+
+-- which of them holds the text
+abbrev pub IsBoxed : CowStr → Type 0
+IsBoxed (Boxed text) = Unit {0}
+IsBoxed (Borrowed text) = ⊥
+IsBoxed (Inlined text) = ⊥
+
+abbrev pub IsBorrowed : CowStr → Type 0
+IsBorrowed (Boxed text) = ⊥
+IsBorrowed (Borrowed text) = Unit {0}
+IsBorrowed (Inlined text) = ⊥
+
+abbrev pub IsInlined : CowStr → Type 0
+IsInlined (Boxed text) = ⊥
+IsInlined (Borrowed text) = ⊥
+IsInlined (Inlined text) = Unit {0}
 
 abbrev pub level_number : HeadingLevel → ℕ
 level_number H1 = 1
@@ -25,16 +65,109 @@ level_number H4 = 4
 level_number H5 = 5
 level_number H6 = 6
 
-abbrev pub shown_tag : Tag → GrammarTag
-shown_tag Paragraph = ParagraphTag
-shown_tag (Heading level) = HeadingTag (level_number level)
+abbrev pub shown_alignment : Alignment → alignment.Alignment
+shown_alignment declared_alignment.None = alignment.Unaligned
+shown_alignment declared_alignment.Left = alignment.Left
+shown_alignment declared_alignment.Center = alignment.Center
+shown_alignment declared_alignment.Right = alignment.Right
 
-abbrev pub shown_end : TagEnd → GrammarTagEnd
-shown_end EndParagraph = ParagraphEnd
-shown_end (EndHeading level) = HeadingEnd (level_number level)
+abbrev pub shown_block_quote_kind : BlockQuoteKind → quote_kind.BlockQuoteKind
+shown_block_quote_kind Note = quote_kind.Note
+shown_block_quote_kind Tip = quote_kind.Tip
+shown_block_quote_kind Important = quote_kind.Important
+shown_block_quote_kind Warning = quote_kind.Warning
+shown_block_quote_kind Caution = quote_kind.Caution
 
-abbrev pub shown : Event → GrammarEvent
-shown (Start tag) = StartEvent (shown_tag tag)
-shown (End tag) = EndEvent (shown_end tag)
-shown (Text text) = TextEvent (text_bytes text)
-shown SoftBreak = SoftBreakEvent
+abbrev pub shown_metadata_block_kind : MetadataBlockKind → metadata.MetadataBlockKind
+shown_metadata_block_kind YamlStyle = metadata.YamlStyle
+shown_metadata_block_kind PlusesStyle = metadata.PlusesStyle
+
+abbrev pub shown_code_block_kind : CodeBlockKind → code_kind.CodeBlockKind
+shown_code_block_kind Indented = code_kind.Indented
+shown_code_block_kind (Fenced info) = code_kind.Fenced (text_bytes info)
+
+abbrev pub shown_link_type : LinkType → link.LinkType
+shown_link_type declared_link.Inline = link.Inline
+shown_link_type declared_link.Reference = link.Reference
+shown_link_type declared_link.ReferenceUnknown = link.ReferenceUnknown
+shown_link_type declared_link.Collapsed = link.Collapsed
+shown_link_type declared_link.CollapsedUnknown = link.CollapsedUnknown
+shown_link_type declared_link.Shortcut = link.Shortcut
+shown_link_type declared_link.ShortcutUnknown = link.ShortcutUnknown
+shown_link_type declared_link.Autolink = link.Autolink
+shown_link_type declared_link.Email = link.Email
+shown_link_type (declared_link.WikiLink has_pothole) = link.WikiLink has_pothole
+
+abbrev pub shown_attribute : CowStr × Option CowStr → Attribute
+shown_attribute a = record { name = text_bytes a.0; value = option_map text_bytes a.1 }
+
+abbrev pub shown_attributes : Option CowStr → List CowStr → List (CowStr × Option CowStr) → Attributes
+shown_attributes id classes attrs = record { id = option_map text_bytes id; classes = map text_bytes classes; others = map shown_attribute attrs }
+
+abbrev pub shown_linked : LinkType → CowStr → CowStr → CowStr → tag.Linked
+shown_linked link_type dest_url title id = record { link_type = shown_link_type link_type; destination = text_bytes dest_url; title = text_bytes title; id = text_bytes id }
+
+abbrev pub shown_tag : Tag → tag.Tag
+shown_tag declared_tag.Paragraph = tag.Paragraph
+shown_tag (declared_tag.Heading level id classes attrs) = tag.Heading (level_number level) (shown_attributes id classes.items attrs.items)
+shown_tag (declared_tag.BlockQuote kind) = tag.BlockQuote (option_map shown_block_quote_kind kind)
+shown_tag (declared_tag.CodeBlock kind) = tag.CodeBlock (shown_code_block_kind kind)
+shown_tag declared_tag.HtmlBlock = tag.HtmlBlock
+shown_tag (declared_tag.List first) = tag.Listing first
+shown_tag declared_tag.Item = tag.ListItem
+shown_tag (declared_tag.FootnoteDefinition label) = tag.FootnoteDefinition (text_bytes label)
+shown_tag declared_tag.DefinitionList = tag.DefinitionList
+shown_tag declared_tag.DefinitionListTitle = tag.DefinitionListTitle
+shown_tag declared_tag.DefinitionListDefinition = tag.DefinitionListDefinition
+shown_tag (declared_tag.Table alignments) = tag.Table (map shown_alignment alignments.items)
+shown_tag declared_tag.TableHead = tag.TableHead
+shown_tag declared_tag.TableRow = tag.TableRow
+shown_tag declared_tag.TableCell = tag.TableCell
+shown_tag declared_tag.Emphasis = tag.Emphasis
+shown_tag declared_tag.Strong = tag.Strong
+shown_tag declared_tag.Strikethrough = tag.Strikethrough
+shown_tag declared_tag.Superscript = tag.Superscript
+shown_tag declared_tag.Subscript = tag.Subscript
+shown_tag (declared_tag.Link link_type dest_url title id) = tag.Link (shown_linked link_type dest_url title id)
+shown_tag (declared_tag.Image link_type dest_url title id) = tag.Image (shown_linked link_type dest_url title id)
+shown_tag (declared_tag.MetadataBlock kind) = tag.MetadataBlock (shown_metadata_block_kind kind)
+
+abbrev pub shown_end : TagEnd → end.TagEnd
+shown_end declared_end.Paragraph = end.Paragraph
+shown_end (declared_end.Heading level) = end.Heading (level_number level)
+shown_end (declared_end.BlockQuote kind) = end.BlockQuote (option_map shown_block_quote_kind kind)
+shown_end declared_end.CodeBlock = end.CodeBlock
+shown_end declared_end.HtmlBlock = end.HtmlBlock
+shown_end (declared_end.List is_ordered) = end.Listing is_ordered
+shown_end declared_end.Item = end.ListItem
+shown_end declared_end.FootnoteDefinition = end.FootnoteDefinition
+shown_end declared_end.DefinitionList = end.DefinitionList
+shown_end declared_end.DefinitionListTitle = end.DefinitionListTitle
+shown_end declared_end.DefinitionListDefinition = end.DefinitionListDefinition
+shown_end declared_end.Table = end.Table
+shown_end declared_end.TableHead = end.TableHead
+shown_end declared_end.TableRow = end.TableRow
+shown_end declared_end.TableCell = end.TableCell
+shown_end declared_end.Emphasis = end.Emphasis
+shown_end declared_end.Strong = end.Strong
+shown_end declared_end.Strikethrough = end.Strikethrough
+shown_end declared_end.Superscript = end.Superscript
+shown_end declared_end.Subscript = end.Subscript
+shown_end declared_end.Link = end.Link
+shown_end declared_end.Image = end.Image
+shown_end (declared_end.MetadataBlock kind) = end.MetadataBlock (shown_metadata_block_kind kind)
+
+abbrev pub shown : Event → event.Event
+shown (declared_event.Start tag) = event.Start (shown_tag tag)
+shown (declared_event.End end) = event.End (shown_end end)
+shown (declared_event.Text text) = event.Text (text_bytes text)
+shown (declared_event.Code text) = event.Code (text_bytes text)
+shown (declared_event.InlineMath text) = event.InlineMath (text_bytes text)
+shown (declared_event.DisplayMath text) = event.DisplayMath (text_bytes text)
+shown (declared_event.Html text) = event.Html (text_bytes text)
+shown (declared_event.InlineHtml text) = event.InlineHtml (text_bytes text)
+shown (declared_event.FootnoteReference label) = event.FootnoteReference (text_bytes label)
+shown declared_event.SoftBreak = event.SoftBreak
+shown declared_event.HardBreak = event.HardBreak
+shown declared_event.Rule = event.Rule
+shown (declared_event.TaskListMarker is_checked) = event.TaskListMarker is_checked

@@ -1,1 +1,210 @@
-//! Escapes of texts in HTML.
+//! Escapes of texts in HTML. Stretches that are kept are copied whole.
+
+ghost use Rattle.std.specs.Prelude.{◌≡◌, ◌+◌, ◌<◌, ◌≤◌, ℕ, true, false, not, ◌++◌, length, position, slice_range, slice_index, OnOk, OnErr, string_bytes};
+ghost use Rattle.memchr.specs.Find.{IsFirstByte};
+ghost use Rattle.cmark_grammar.specs.Escapes.{body_text_byte, escaped_body_text, html_byte, escaped_html, is_url_byte, href_byte, escaped_href, hexadecimal_digit, percent_encoded};
+ghost use Rattle.cmark_text.specs.Appended.{AppendsFront};
+ghost use Rattle.cmark_text.specs.Marks.{is_body_text_mark, is_html_mark, is_href_mark};
+
+use memchr::memchr3;
+use std::alloc::AllocError;
+
+/// Appends the text as body text of HTML: `&`, `<` and `>` are written as entities.
+///
+/// Where there is no memory, the old text stands with a beginning of the escaped one.
+pub fn escape_html_body_text(out: &mut String, text: &str) -> Result<(), AllocError>
+    ensures ok { OnOk result (string_bytes out.new ≡ string_bytes out.old ++ escaped_body_text text.now) }
+    ensures err { OnErr result (AppendsFront (string_bytes out.old) (string_bytes out.new) (escaped_body_text text.now)) }
+{
+    let mut rest = text;
+    while let Some(at) = find_body_text_mark(rest) {
+        out.push_str(&rest[..at])?;
+        out.push_str(body_text_entity(rest.as_bytes()[at]))?;
+        rest = &rest[at + 1..];
+    }
+    out.push_str(rest)
+}
+
+/// Where the first byte stands that `escape_html_body_text` does not keep.
+#[inline]
+fn find_body_text_mark(text: &str) -> Option<usize>
+    ensures { IsFirstByte is_body_text_mark text.now result }
+{
+    memchr3(b'&', b'<', b'>', text.as_bytes())
+}
+
+/// What a byte of body text that is not kept is written as.
+fn body_text_entity(byte: u8) -> &'static str
+    requires { is_body_text_mark byte ≡ true }
+    ensures { result.now ≡ body_text_byte byte }
+{
+    match byte {
+        b'&' => "&amp;",
+        b'<' => "&lt;",
+        _ => "&gt;",
+    }
+}
+
+/// 1 at each byte that `escape_html` does not keep.
+const HTML_MARKS: &[u8; 256] = &[
+    0, 0, 0, 0, 0, 0, 0, 0, 0, 0, 0, 0, 0, 0, 0, 0, 0, 0, 0, 0, 0, 0, 0, 0, 0, 0, 0, 0, 0, 0, 0, 0,
+    0, 0, 1, 0, 0, 0, 1, 1, 0, 0, 0, 0, 0, 0, 0, 0, 0, 0, 0, 0, 0, 0, 0, 0, 0, 0, 0, 0, 1, 0, 1, 0,
+    0, 0, 0, 0, 0, 0, 0, 0, 0, 0, 0, 0, 0, 0, 0, 0, 0, 0, 0, 0, 0, 0, 0, 0, 0, 0, 0, 0, 0, 0, 0, 0,
+    0, 0, 0, 0, 0, 0, 0, 0, 0, 0, 0, 0, 0, 0, 0, 0, 0, 0, 0, 0, 0, 0, 0, 0, 0, 0, 0, 0, 0, 0, 0, 0,
+    0, 0, 0, 0, 0, 0, 0, 0, 0, 0, 0, 0, 0, 0, 0, 0, 0, 0, 0, 0, 0, 0, 0, 0, 0, 0, 0, 0, 0, 0, 0, 0,
+    0, 0, 0, 0, 0, 0, 0, 0, 0, 0, 0, 0, 0, 0, 0, 0, 0, 0, 0, 0, 0, 0, 0, 0, 0, 0, 0, 0, 0, 0, 0, 0,
+    0, 0, 0, 0, 0, 0, 0, 0, 0, 0, 0, 0, 0, 0, 0, 0, 0, 0, 0, 0, 0, 0, 0, 0, 0, 0, 0, 0, 0, 0, 0, 0,
+    0, 0, 0, 0, 0, 0, 0, 0, 0, 0, 0, 0, 0, 0, 0, 0, 0, 0, 0, 0, 0, 0, 0, 0, 0, 0, 0, 0, 0, 0, 0, 0,
+];
+
+/// Appends the text as the value of an attribute of HTML: `&`, `<`, `>`, `"` and `'` are written as entities.
+///
+/// Where there is no memory, the old text stands with a beginning of the escaped one.
+pub fn escape_html(out: &mut String, text: &str) -> Result<(), AllocError>
+    ensures ok { OnOk result (string_bytes out.new ≡ string_bytes out.old ++ escaped_html text.now) }
+    ensures err { OnErr result (AppendsFront (string_bytes out.old) (string_bytes out.new) (escaped_html text.now)) }
+{
+    let mut rest = text;
+    while let Some(at) = find_html_mark(rest) {
+        out.push_str(&rest[..at])?;
+        out.push_str(html_entity(rest.as_bytes()[at]))?;
+        rest = &rest[at + 1..];
+    }
+    out.push_str(rest)
+}
+
+/// Where the first byte stands that `escape_html` does not keep.
+#[inline]
+fn find_html_mark(text: &str) -> Option<usize>
+    ensures { result ≡ position is_html_mark text.now }
+{
+    text.as_bytes().iter().position(|byte| is_html_mark(*byte))
+}
+
+#[inline]
+fn is_html_mark(byte: u8) -> bool
+    ensures { result ≡ is_html_mark byte }
+{
+    HTML_MARKS[byte as usize] != 0
+}
+
+/// What a byte that `escape_html` does not keep is written as.
+fn html_entity(byte: u8) -> &'static str
+    requires { is_html_mark byte ≡ true }
+    ensures { result.now ≡ html_byte byte }
+{
+    match byte {
+        b'&' => "&amp;",
+        b'<' => "&lt;",
+        b'>' => "&gt;",
+        b'"' => "&quot;",
+        _ => "&#x27;",
+    }
+}
+
+/// 1 at each byte that `escape_href` does not keep.
+const HREF_MARKS: &[u8; 256] = &[
+    1, 1, 1, 1, 1, 1, 1, 1, 1, 1, 1, 1, 1, 1, 1, 1, 1, 1, 1, 1, 1, 1, 1, 1, 1, 1, 1, 1, 1, 1, 1, 1,
+    1, 0, 1, 0, 0, 0, 1, 1, 0, 0, 0, 0, 0, 0, 0, 0, 0, 0, 0, 0, 0, 0, 0, 0, 0, 0, 0, 0, 1, 0, 1, 0,
+    0, 0, 0, 0, 0, 0, 0, 0, 0, 0, 0, 0, 0, 0, 0, 0, 0, 0, 0, 0, 0, 0, 0, 0, 0, 0, 0, 1, 1, 1, 1, 0,
+    1, 0, 0, 0, 0, 0, 0, 0, 0, 0, 0, 0, 0, 0, 0, 0, 0, 0, 0, 0, 0, 0, 0, 0, 0, 0, 0, 1, 1, 1, 0, 1,
+    1, 1, 1, 1, 1, 1, 1, 1, 1, 1, 1, 1, 1, 1, 1, 1, 1, 1, 1, 1, 1, 1, 1, 1, 1, 1, 1, 1, 1, 1, 1, 1,
+    1, 1, 1, 1, 1, 1, 1, 1, 1, 1, 1, 1, 1, 1, 1, 1, 1, 1, 1, 1, 1, 1, 1, 1, 1, 1, 1, 1, 1, 1, 1, 1,
+    1, 1, 1, 1, 1, 1, 1, 1, 1, 1, 1, 1, 1, 1, 1, 1, 1, 1, 1, 1, 1, 1, 1, 1, 1, 1, 1, 1, 1, 1, 1, 1,
+    1, 1, 1, 1, 1, 1, 1, 1, 1, 1, 1, 1, 1, 1, 1, 1, 1, 1, 1, 1, 1, 1, 1, 1, 1, 1, 1, 1, 1, 1, 1, 1,
+];
+
+/// The digits of percent-encoding.
+static HEXADECIMAL_DIGITS: [char; 16] = [
+    '0', '1', '2', '3', '4', '5', '6', '7', '8', '9', 'A', 'B', 'C', 'D', 'E', 'F',
+];
+
+/// Appends a URL as the value of an attribute of HTML: `&` and `'` are written as entities, and each other byte but ASCII
+/// letters, digits and ``!#$%()*+,-./:;=?@_~`` as `%` with two upper-case hexadecimal digits.
+///
+/// Where there is no memory, the old text stands with a beginning of the escaped URL.
+pub fn escape_href(out: &mut String, url: &str) -> Result<(), AllocError>
+    ensures ok { OnOk result (string_bytes out.new ≡ string_bytes out.old ++ escaped_href url.now) }
+    ensures err { OnErr result (AppendsFront (string_bytes out.old) (string_bytes out.new) (escaped_href url.now)) }
+{
+    let mut from = 0;
+    while from < url.len() {
+        let at = find_href_mark(url, from);
+        push_kept(out, url, from, at)?;
+        if at == url.len() {
+            break;
+        }
+        push_href_byte(out, url.as_bytes()[at])?;
+        from = at + 1;
+    }
+    Ok(())
+}
+
+/// Where from `from` on the first byte stands that `escape_href` does not keep, or the length.
+#[inline]
+fn find_href_mark(url: &str, from: usize) -> usize
+    requires { from ≤ length url.now }
+    ensures past { from ≤ result }
+    ensures in_bounds { result ≤ length url.now }
+    ensures kept { (k : ℕ) → from ≤ k → k < result → is_href_mark (slice_index url.now k) ≡ false }
+    ensures stops { result < length url.now → is_href_mark (slice_index url.now result) ≡ true }
+{
+    let bytes = url.as_bytes();
+    for at in from..bytes.len() {
+        if is_href_mark(bytes[at]) {
+            return at;
+        }
+    }
+    bytes.len()
+}
+
+#[inline]
+fn is_href_mark(byte: u8) -> bool
+    ensures { result ≡ is_href_mark byte }
+{
+    HREF_MARKS[byte as usize] != 0
+}
+
+/// Appends the bytes of the URL from `from` to before `to`, all of which are kept, and so ASCII.
+fn push_kept(out: &mut String, url: &str, from: usize, to: usize) -> Result<(), AllocError>
+    requires ordered { from ≤ to }
+    requires in_bounds { to ≤ length url.now }
+    requires kept { (k : ℕ) → from ≤ k → k < to → is_href_mark (slice_index url.now k) ≡ false }
+    ensures ok { OnOk result (string_bytes out.new ≡ string_bytes out.old ++ slice_range url.now from to) }
+    ensures err { OnErr result (string_bytes out.new ≡ string_bytes out.old) }
+{
+    if from == to {
+        return Ok(());
+    }
+    out.push_str(&url[from..to])
+}
+
+/// Appends what a byte that `escape_href` does not keep is written as.
+fn push_href_byte(out: &mut String, byte: u8) -> Result<(), AllocError>
+    requires { is_href_mark byte ≡ true }
+    ensures ok { OnOk result (string_bytes out.new ≡ string_bytes out.old ++ href_byte byte) }
+    ensures err { OnErr result (AppendsFront (string_bytes out.old) (string_bytes out.new) (href_byte byte)) }
+{
+    match byte {
+        b'&' => out.push_str("&amp;"),
+        b'\'' => out.push_str("&#x27;"),
+        _ => push_percent_encoded(out, byte),
+    }
+}
+
+fn push_percent_encoded(out: &mut String, byte: u8) -> Result<(), AllocError>
+    ensures ok { OnOk result (string_bytes out.new ≡ string_bytes out.old ++ percent_encoded byte) }
+    ensures err { OnErr result (AppendsFront (string_bytes out.old) (string_bytes out.new) (percent_encoded byte)) }
+{
+    out.push('%')?;
+    out.push(hexadecimal_digit(byte / 16))?;
+    out.push(hexadecimal_digit(byte % 16))
+}
+
+/// The upper-case digit of a number below 16.
+fn hexadecimal_digit(number: u8) -> char
+    requires { number < 16 }
+    ensures { result ≡ hexadecimal_digit number }
+{
+    HEXADECIMAL_DIGITS[number as usize]
+}

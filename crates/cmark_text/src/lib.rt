@@ -1,11 +1,24 @@
-//! The vocabulary of the product: texts, events and their tags, and the look-up of entities.
+//! The vocabulary of the product: texts, events and their tags, options, the look-up of entities, labels, and the escapes
+//! of texts in HTML.
 #![tactic(auto)]
 
 mod entity;
 pub mod escape;
 mod event;
+mod inline;
+mod kind;
+mod label;
+mod options;
 mod text;
 
 pub use entity::{BasicEntities, EntityLookup};
-pub use event::{Event, HeadingLevel, Tag, TagEnd};
+pub use escape::{escape_href, escape_html, escape_html_body_text};
+pub use event::{Event, Tag, TagEnd};
+pub use inline::{InlineStr, MAX_INLINE_STR_LEN, StringTooLongError};
+pub use kind::{
+    Alignment, BlockQuoteKind, CodeBlockKind, HeadingLevel, InvalidHeadingLevel, LinkType,
+    MetadataBlockKind,
+};
+pub use label::{FootnoteLabel, LinkLabel};
+pub use options::Options;
 pub use text::CowStr;

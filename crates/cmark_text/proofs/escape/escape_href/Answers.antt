@@ -1,0 +1,36 @@
+use Rattle.std.proofs.Common.{◌≡◌, ◌+◌, ◌++◌, string_bytes, get_or, drop, length, subst, sym, ap, ◌∙◌, arith}
+use Rattle.std.proofs.Math.Seq.{drop-length}
+use Rattle.cmark_grammar.specs.Escapes.{href_byte}
+use Rattle.cmark_text.specs.Appended.{AppendsFront}
+use Rattle.cmark_text.specs.Marks.{is_href_mark}
+use Rattle.cmark_text.proofs.Escaping.{Written, written_all, written_front, written_within_mark, written_to, written_past_mark, on_err}
+use Rattle.cmark_text.proofs.Marks.{keeps-href_byte}
+use Rattle.cmark_text.proofs.escape.escape_href.Goals as goal
+
+pub returns-in_err-push_kept-clause-err : goal.returns-in_err-push_kept-clause-err
+returns-in_err-push_kept-clause-err c =
+    on_err c.from_residual.result (written_front href_byte _ _ _ _ _ c.loop-from.invariant.written c.in_err-push_kept.ensures.err)
+
+pub returns-in_err-push_href_byte-clause-err : goal.returns-in_err-push_href_byte-clause-err
+returns-in_err-push_href_byte-clause-err c =
+    let at = c.find_href_mark-at.ensures in
+    let kept = written_to href_byte is_href_mark keeps-href_byte _ _ _ c.args.url.now c.loop-from.from c.find_href_mark-at.result at.past at.in_bounds at.kept c.loop-from.invariant.written c.in_ok-push_kept.ensures.ok in
+    on_err c.from_residual-in_err-push_href_byte.result
+    (written_within_mark href_byte _ _ _ c.args.url.now c.find_href_mark-at.result (omega (arith, at.in_bounds)) kept
+    (subst (λ l. AppendsFront (string_bytes c.push_kept.new.out) (string_bytes c.push_href_byte.new.out) (href_byte (get_or l c.find_href_mark-at.result 0))) c.as_bytes.ensures.value c.in_err-push_href_byte.ensures.err))
+
+pub loop-from-preserved : goal.loop-from-preserved
+loop-from-preserved c =
+    let at = c.find_href_mark-at.ensures in
+    let kept = written_to href_byte is_href_mark keeps-href_byte _ _ _ c.args.url.now c.loop-from.from c.find_href_mark-at.result at.past at.in_bounds at.kept c.loop-from.invariant.written c.in_ok-push_kept.ensures.ok in
+    record {
+      in_bounds = omega (arith, at.in_bounds);
+      written = written_past_mark href_byte is_href_mark keeps-href_byte _ _ _ c.args.url.now c.args.url.now c.find_href_mark-at.result (omega (arith, at.in_bounds)) kept
+          (c.in_ok-push_href_byte.ensures.ok ∙ ap (λ l. string_bytes c.push_kept.new.out ++ href_byte (get_or l c.find_href_mark-at.result 0)) c.as_bytes.ensures.value);
+    }
+
+pub returns-then-at-url-clause-ok : goal.returns-then-at-url-clause-ok
+returns-then-at-url-clause-ok c =
+    let at = c.find_href_mark-at.ensures in
+    let kept = written_to href_byte is_href_mark keeps-href_byte _ _ _ c.args.url.now c.loop-from.from c.find_href_mark-at.result at.past at.in_bounds at.kept c.loop-from.invariant.written c.in_ok-push_kept.ensures.ok in
+    written_all href_byte _ _ c.args.url.now (subst (λ l. Written href_byte (string_bytes c.args.out.now) (string_bytes c.push_kept.new.out) c.args.url.now l) (ap (λ n. drop n c.args.url.now) c.if-at-url.true ∙ drop-length c.args.url.now) kept)

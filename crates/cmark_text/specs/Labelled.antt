@@ -1,0 +1,16 @@
+-- What a label shows: its normal form, and what it is compared by.
+use Rattle.std.specs.Prelude.{ℕ, List, string_bytes}
+use Rattle.cmark_text.specs.declared.label.LinkLabel.{LinkLabel}
+use Rattle.cmark_text.specs.declared.label.FootnoteLabel.{FootnoteLabel}
+
+abbrev pub link_text : LinkLabel → List ℕ
+link_text label = string_bytes label.text
+
+abbrev pub link_key : LinkLabel → List ℕ
+link_key label = string_bytes label.folded
+
+abbrev pub footnote_text : FootnoteLabel → List ℕ
+footnote_text label = string_bytes label.text
+
+abbrev pub footnote_key : FootnoteLabel → List ℕ
+footnote_key label = string_bytes label.folded

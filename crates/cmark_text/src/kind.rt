@@ -1,0 +1,187 @@
+//! Kinds of blocks, links and headings.
+
+ghost use Rattle.std.specs.Prelude.{◌≡◌, ◌<◌, ◌⊎◌, ◌∷◌, [], ◌+◌, Some, MatchResult, IfOk, IsOk, length, ◌≤◌};
+ghost use Rattle.cmark_grammar.specs.LinkType.{to_unknown};
+ghost use Rattle.cmark_text.specs.Shown.{level_number, shown_code_block_kind, shown_link_type};
+ghost use Rattle.cmark_grammar.specs.CodeBlockKind.{is_fenced, is_indented};
+
+use crate::text::CowStr;
+use std::alloc::{AllocError, Global};
+use std::fmt::{self, Display, Formatter, Write};
+
+/// How the cells of a table's column are aligned (GFM 4.10).
+#[derive(Clone, Copy, Debug, PartialEq, Eq)]
+pub enum Alignment {
+    /// The delimiter row does not say.
+    None,
+    /// To the left.
+    Left,
+    /// In the middle.
+    Center,
+    /// To the right.
+    Right,
+}
+
+/// The kind of an alert, a block quote whose first line is a tag such as `[!NOTE]` (this profile's own).
+#[derive(Clone, Copy, Debug, PartialEq, Eq)]
+pub enum BlockQuoteKind {
+    /// `[!NOTE]`
+    Note,
+    /// `[!TIP]`
+    Tip,
+    /// `[!IMPORTANT]`
+    Important,
+    /// `[!WARNING]`
+    Warning,
+    /// `[!CAUTION]`
+    Caution,
+}
+
+/// The kind of a metadata block (this profile's own).
+#[derive(Clone, Copy, Debug, PartialEq, Eq)]
+pub enum MetadataBlockKind {
+    /// Between lines of `---`.
+    YamlStyle,
+    /// Between lines of `+++`.
+    PlusesStyle,
+}
+
+/// The kind of a code block.
+#[derive(Debug, Drop, PartialEq, Eq)]
+pub enum CodeBlockKind<'a> {
+    /// Indented by four columns or more (CommonMark 4.4).
+    Indented,
+    /// Between fences, with the info string of the first one, which may be empty (CommonMark 4.5).
+    Fenced(CowStr<'a>),
+}
+
+impl<'a> CodeBlockKind<'a> {
+    /// Whether the block is indented.
+    pub fn is_indented(&self) -> bool
+        ensures { result ≡ is_indented (shown_code_block_kind self.now) }
+    {
+        matches!(self, CodeBlockKind::Indented)
+    }
+
+    /// Whether the block stands between fences.
+    pub fn is_fenced(&self) -> bool
+        ensures { result ≡ is_fenced (shown_code_block_kind self.now) }
+    {
+        matches!(self, CodeBlockKind::Fenced(_))
+    }
+
+    /// The same kind once more.
+    pub fn clone(&self, alloc: Global) -> Result<CodeBlockKind<'a>, AllocError>
+        ensures { IfOk result (λ copy. shown_code_block_kind copy ≡ shown_code_block_kind self.now) }
+    {
+        match self {
+            CodeBlockKind::Indented => Ok(CodeBlockKind::Indented),
+            CodeBlockKind::Fenced(info) => Ok(CodeBlockKind::Fenced(info.clone(alloc)?)),
+        }
+    }
+
+    /// The same kind in a value that borrows nothing.
+    pub fn into_static(self, alloc: Global) -> Result<CodeBlockKind<'static>, AllocError>
+        ensures { IfOk result (λ made. shown_code_block_kind made ≡ shown_code_block_kind self.entry) }
+    {
+        match self {
+            CodeBlockKind::Indented => Ok(CodeBlockKind::Indented),
+            CodeBlockKind::Fenced(info) => Ok(CodeBlockKind::Fenced(info.into_static(alloc)?)),
+        }
+    }
+}
+
+/// The level of a heading (CommonMark 4.2 and 4.3). The highest, `H1`, is the least.
+#[derive(Clone, Copy, Debug, PartialEq, Eq, PartialOrd, Ord)]
+pub enum HeadingLevel {
+    H1,
+    H2,
+    H3,
+    H4,
+    H5,
+    H6,
+}
+
+/// No heading has this level: only 1 to 6 are levels.
+#[derive(Clone, Copy, Debug, PartialEq, Eq)]
+pub struct InvalidHeadingLevel(pub usize);
+
+impl TryFrom<usize> for HeadingLevel {
+    type Error = InvalidHeadingLevel;
+
+    ghost try_from_gives = { λ number made. MatchResult made
+        (λ level. level_number level ≡ number)
+        (λ error. (error.0 ≡ number) × ((number ≡ 0) ⊎ (6 < number))) };
+
+    /// The level of this number, if it is one of 1 to 6.
+    fn try_from(number: usize) -> Result<HeadingLevel, InvalidHeadingLevel> {
+        match number {
+            1 => Ok(HeadingLevel::H1),
+            2 => Ok(HeadingLevel::H2),
+            3 => Ok(HeadingLevel::H3),
+            4 => Ok(HeadingLevel::H4),
+            5 => Ok(HeadingLevel::H5),
+            6 => Ok(HeadingLevel::H6),
+            _ => Err(InvalidHeadingLevel(number)),
+        }
+    }
+}
+
+impl Display for HeadingLevel {
+    ghost output = { λ level. Some (104 ∷ (48 + level_number level) ∷ []) };
+
+    /// `h1` to `h6`.
+    fn fmt<W: Write>(&self, f: &mut Formatter<W>) -> fmt::Result {
+        let name = match self {
+            HeadingLevel::H1 => "h1",
+            HeadingLevel::H2 => "h2",
+            HeadingLevel::H3 => "h3",
+            HeadingLevel::H4 => "h4",
+            HeadingLevel::H5 => "h5",
+            HeadingLevel::H6 => "h6",
+        };
+        f.pad(name)
+    }
+}
+
+/// How a link or an image is written.
+#[derive(Clone, Copy, Debug, PartialEq, Eq)]
+pub enum LinkType {
+    /// `[text](url)`
+    Inline,
+    /// `[text][label]`
+    Reference,
+    /// The same with a label that has no definition; the caller's code said where it leads.
+    ReferenceUnknown,
+    /// `[label][]`
+    Collapsed,
+    /// The same with a label that has no definition.
+    CollapsedUnknown,
+    /// `[label]`
+    Shortcut,
+    /// The same with a label that has no definition.
+    ShortcutUnknown,
+    /// `<https://example.com>`
+    Autolink,
+    /// `<address@example.com>`
+    Email,
+    /// `[[page]]`, or with a pothole `[[page|text]]` (this profile's own).
+    WikiLink {
+        /// Whether a text of its own is shown.
+        has_pothole: bool,
+    },
+}
+
+impl LinkType {
+    /// The type of the same reference where its label has no definition. Types that are no reference stay.
+    pub fn to_unknown(self) -> LinkType
+        ensures { shown_link_type result ≡ to_unknown (shown_link_type self) }
+    {
+        match self {
+            LinkType::Reference => LinkType::ReferenceUnknown,
+            LinkType::Collapsed => LinkType::CollapsedUnknown,
+            LinkType::Shortcut => LinkType::ShortcutUnknown,
+            other => other,
+        }
+    }
+}

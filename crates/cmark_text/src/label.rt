@@ -1,0 +1,139 @@
+//! Labels of links and footnotes.
+
+ghost use Rattle.std.specs.Prelude.{◌≡◌, ◌<◌, ◌∷◌, ◌++◌, IfOk, OnOk, length, string_bytes, nat_eq};
+ghost use Rattle.std.specs.Cmp.{on_equiv, on_per, partial_equiv_from_equiv};
+ghost use Rattle.std.specs.Cmp.Lexicographic.{pointwise, nat_list_eq_equiv};
+ghost use Rattle.std.specs.Cmp.Rules.{hashing};
+ghost use Rattle.std.specs.Hash as fed;
+ghost use Rattle.std.proofs.Common.{rules};
+ghost use Rattle.cmark_grammar.specs.Labels.{normal_form, case_folded, fold};
+ghost use Rattle.cmark_text.specs.Labelled.{link_text, link_key, footnote_text, footnote_key};
+
+use caseless::default_case_fold_str;
+use std::alloc::{AllocError, Global};
+use std::hash::{Hash, Hasher};
+
+/// The label of a link (CommonMark 4.7), in its normal form: without white space at both ends, and with one space for
+/// each run of white space inside.
+///
+/// Two are equal, and hash alike, exactly when their normal forms are the same with Unicode's full case folding.
+#[derive(Debug, Drop)]
+pub struct LinkLabel {
+    text: String,
+    folded: String,
+}
+
+impl LinkLabel {
+    /// The label that this text spells.
+    pub fn new(alloc: Global, label: &str) -> Result<LinkLabel, AllocError>
+        ensures text { IfOk result (λ made. link_text made ≡ normal_form label.now) }
+        ensures key { IfOk result (λ made. link_key made ≡ fold label.now) }
+    {
+        let text = normalized(alloc, label)?;
+        let folded = default_case_fold_str(alloc, text.as_str())?;
+        Ok(LinkLabel { text, folded })
+    }
+
+    /// The normal form, with the case of the text.
+    pub fn as_str(&self) -> &str
+        ensures { result.now ≡ link_text self.now }
+    {
+        self.text.as_str()
+    }
+}
+
+impl PartialEq for LinkLabel {
+    ghost eq = { λ a b. pointwise nat_eq (link_key a) (link_key b) };
+
+    ghost laws = { on_per link_key (partial_equiv_from_equiv nat_list_eq_equiv) };
+
+    fn eq(&self, other: &LinkLabel) -> bool {
+        self.folded == other.folded
+    }
+}
+
+impl Eq for LinkLabel {
+    ghost laws = { on_equiv link_key nat_list_eq_equiv };
+}
+
+impl Hash for LinkLabel {
+    ghost hash_input = { λ label. fed.str (link_key label) };
+
+    ghost respects_eq = { Prim.search (hashing, rules) };
+
+    fn hash<H: Hasher>(&self, state: &mut H) {
+        self.folded.hash(state);
+    }
+}
+
+/// The label of a footnote (this profile's own), in its normal form; it is compared as a [`LinkLabel`] is.
+#[derive(Debug, Drop)]
+pub struct FootnoteLabel {
+    text: String,
+    folded: String,
+}
+
+impl FootnoteLabel {
+    /// The label that this text spells.
+    pub fn new(alloc: Global, label: &str) -> Result<FootnoteLabel, AllocError>
+        ensures text { IfOk result (λ made. footnote_text made ≡ normal_form label.now) }
+        ensures key { IfOk result (λ made. footnote_key made ≡ fold label.now) }
+    {
+        let text = normalized(alloc, label)?;
+        let folded = default_case_fold_str(alloc, text.as_str())?;
+        Ok(FootnoteLabel { text, folded })
+    }
+
+    /// The normal form, with the case of the text.
+    pub fn as_str(&self) -> &str
+        ensures { result.now ≡ footnote_text self.now }
+    {
+        self.text.as_str()
+    }
+}
+
+impl PartialEq for FootnoteLabel {
+    ghost eq = { λ a b. pointwise nat_eq (footnote_key a) (footnote_key b) };
+
+    ghost laws = { on_per footnote_key (partial_equiv_from_equiv nat_list_eq_equiv) };
+
+    fn eq(&self, other: &FootnoteLabel) -> bool {
+        self.folded == other.folded
+    }
+}
+
+impl Eq for FootnoteLabel {
+    ghost laws = { on_equiv footnote_key nat_list_eq_equiv };
+}
+
+impl Hash for FootnoteLabel {
+    ghost hash_input = { λ label. fed.str (footnote_key label) };
+
+    ghost respects_eq = { Prim.search (hashing, rules) };
+
+    fn hash<H: Hasher>(&self, state: &mut H) {
+        self.folded.hash(state);
+    }
+}
+
+/// The words of a label, with one space between each two.
+fn normalized(alloc: Global, label: &str) -> Result<String, AllocError>
+    ensures { IfOk result (λ text. string_bytes text ≡ normal_form label.now) }
+{
+    let mut text = String::with_capacity(alloc, label.len())?;
+    for word in label.split_ascii_whitespace() {
+        push_word(&mut text, word)?;
+    }
+    Ok(text)
+}
+
+/// Appends the word, behind a space unless it is the first.
+fn push_word(text: &mut String, word: &str) -> Result<(), AllocError>
+    ensures first { OnOk result (length (string_bytes text.old) ≡ 0 → string_bytes text.new ≡ word.now) }
+    ensures further { OnOk result (0 < length (string_bytes text.old) → string_bytes text.new ≡ string_bytes text.old ++ (32 ∷ word.now)) }
+{
+    if !text.is_empty() {
+        text.push(' ')?;
+    }
+    text.push_str(word)
+}
