@@ -1,21 +1,19 @@
 -- What the block pass does is what the model does.
-use Rattle.std.proofs.Common.{◌≡◌, ◌≢◌, ℕ, zero, suc, ◌+◌, ◌<◌, ◌≤◌, List, [], ◌∷◌, ◌++◌, map, length, set, get_or, Option, Some, None, Result, Ok, Err, OnOk, refl, sym, ap, ◌∙◌, subst, arith, append_assoc, append-nil, length-append, drop, drop_of_length-le}
+use Rattle.std.proofs.Common.{◌≡◌, ℕ, zero, suc, ◌≤◌, List, [], ◌∷◌, ◌++◌, map, length, set, get_or, Option, Some, None, refl, sym, ap, ◌∙◌, subst, arith, append_assoc, append-nil, drop, drop_of_length-le}
 use Rattle.std.proofs.lemmas.List.{map-set}
-use Rattle.std.specs.declared.ops.Range.{Range}
+use Rattle.cmark_grammar.specs.Attributes.{no_attributes}
 use Rattle.cmark_grammar.specs.Tag.{Paragraph as ParagraphTag, Heading as HeadingTag}
 use Rattle.cmark_grammar.specs.TagEnd.{Paragraph as ParagraphEnd, Heading as HeadingEnd}
-use Rattle.cmark_grammar.specs.Event.{Event as GrammarEvent, Start, End, SoftBreak, Ranged}
+use Rattle.cmark_grammar.specs.Event.{Start, End, SoftBreak, Ranged}
 use Rattle.cmark_grammar.specs.Document.{Document, Nil, Node, join}
-use Rattle.cmark_grammar.specs.Outline.{Row, rows, rows_from, Opening, Blank, Headed, Plain, begins, start_of, past_of, line_text, line_break, further_spans, paragraph_spans, heading_spans}
+use Rattle.cmark_grammar.specs.Outline.{Row, rows, rows_from, Blank, Headed, Plain, begins, start_of, past_of, line_text, line_break, further_spans, paragraph_spans, heading_spans}
 use Rattle.cmark_grammar.specs.Lines.{lines}
 use Rattle.cmark_grammar.specs.OutlineModel.{Open, Between, Within, paragraph, heading, begin, go_on, feed, feed_all, closed_off, document}
 use Rattle.cmark_grammar.specs.Reading.{reading, read_as, node_events}
 use Rattle.cmark_grammar.proofs.OutlineSound.{join_assoc}
-use Rattle.cmark_text.specs.declared.event.Event.{Event}
-use Rattle.cmark_text.specs.Shown.{shown}
+use Rattle.pulldown_cmark.specs.declared.outline.Step.{Step}
 use Rattle.pulldown_cmark.specs.declared.outline.OpenParagraph.{OpenParagraph}
 use Rattle.pulldown_cmark.specs.Building.{event_at, ranged, last_of, BuiltWithin, BuiltAs}
-use Rattle.pulldown_cmark.specs.Opening.{text_at}
 
 pub reading-join : (a b : Document) → reading (join a b) ≡ reading a ++ reading b
 reading-join Nil b = refl
@@ -48,14 +46,14 @@ past_of-last first (r ∷ more) = past_of-last r more
 
 -- a heading behind the blocks that have ended
 pub built_heading : (before first inner last : List Ranged) (p p' p'' p''' : Option OpenParagraph) (closed : Document) (level : ℕ) (r : Row)
-    → p' ≡ p → p'' ≡ p' → p''' ≡ p'' → first ≡ before ++ event_at (Start (HeadingTag level)) (start_of r) r.past ∷ [] → inner ≡ first ++ reading (heading_spans r)
+    → p' ≡ p → p'' ≡ p' → p''' ≡ p'' → first ≡ before ++ event_at (Start (HeadingTag level no_attributes)) (start_of r) r.past ∷ [] → inner ≡ first ++ reading (heading_spans r)
     → last ≡ inner ++ event_at (End (HeadingEnd level)) (start_of r) r.past ∷ []
     → BuiltAs before p (Between closed) → BuiltAs last p''' (Between (join closed (heading level r)))
 built_heading before first inner last (Some x) p' p'' p''' closed level r same same' same'' is_first is_inner is_last built = absurd built
 built_heading before first inner last None p' p'' p''' closed level r same same' same'' is_first is_inner is_last built =
     subst (λ q. BuiltAs last q (Between (join closed (heading level r)))) (sym (same'' ∙ same' ∙ same))
-    (is_last ∙ ap (λ es. es ++ event_at (End (HeadingEnd level)) (start_of r) r.past ∷ []) (is_inner ∙ ap (λ es. es ++ reading (heading_spans r)) (is_first ∙ ap (λ es. es ++ event_at (Start (HeadingTag level)) (start_of r) r.past ∷ []) built))
-    ∙ group (event_at (Start (HeadingTag level)) (start_of r) r.past) (event_at (End (HeadingEnd level)) (start_of r) r.past) (reading closed) (reading (heading_spans r))
+    (is_last ∙ ap (λ es. es ++ event_at (End (HeadingEnd level)) (start_of r) r.past ∷ []) (is_inner ∙ ap (λ es. es ++ reading (heading_spans r)) (is_first ∙ ap (λ es. es ++ event_at (Start (HeadingTag level no_attributes)) (start_of r) r.past ∷ []) built))
+    ∙ group (event_at (Start (HeadingTag level no_attributes)) (start_of r) r.past) (event_at (End (HeadingEnd level)) (start_of r) r.past) (reading closed) (reading (heading_spans r))
     ∙ sym (reading-join closed (heading level r)))
   where
     group : (a b : Ranged) (xs ys : List Ranged) → ((xs ++ a ∷ []) ++ ys) ++ b ∷ [] ≡ xs ++ (((a ∷ ys) ++ b ∷ []) ++ [])
@@ -129,13 +127,13 @@ map-get_or f (y ∷ ys) zero d = refl
 map-get_or f (y ∷ ys) (suc n) d = map-get_or f ys n d
 
 -- the open paragraph ends
-pub built_ended : (before : List Ranged) (items : List (Event × Range ℕ)) (p : Option OpenParagraph) (open_paragraph : OpenParagraph) (opened : Event × Range ℕ) (o : Open)
+pub built_ended : (before : List Ranged) (items : List Step) (p : Option OpenParagraph) (open_paragraph : OpenParagraph) (opened : Step) (o : Open)
     → p ≡ Some open_paragraph → map ranged items ≡ before ++ event_at (End ParagraphEnd) open_paragraph.start open_paragraph.past ∷ [] → opened ≡ get_or items open_paragraph.index opened
-    → BuiltAs before p o → map ranged (set items open_paragraph.index (opened.0, record { start = opened.1.start; end = open_paragraph.past })) ≡ reading (closed_off o)
+    → BuiltAs before p o → map ranged (set items open_paragraph.index (record { kind = opened.kind; start = opened.start; end = open_paragraph.past })) ≡ reading (closed_off o)
 built_ended before items None open_paragraph opened o is ended read built = absurd (let q : None ≡ Some open_paragraph = is in cc)
 built_ended before items (Some x) open_paragraph opened (Between closed) is ended read built = absurd built
 built_ended before items (Some x) open_paragraph opened (Within closed first more) is ended read built =
-    map-set ranged items open_paragraph.index (opened.0, record { start = opened.1.start; end = open_paragraph.past })
+    map-set ranged items open_paragraph.index (record { kind = opened.kind; start = opened.start; end = open_paragraph.past })
     ∙ ap (λ e. set (map ranged items) open_paragraph.index e) start_is
     ∙ ap (λ es. set es open_paragraph.index (event_at (Start ParagraphTag) (start_of first) (past_of first more))) all
     ∙ set_behind (reading closed) _ _ (event_at (Start ParagraphTag) (start_of first) (past_of first more)) open_paragraph.index h.index
@@ -165,9 +163,9 @@ built_ended before items (Some x) open_paragraph opened (Within closed first mor
         ap ranged read ∙ map-get_or ranged items open_paragraph.index opened ∙ ap (λ es. get_or es open_paragraph.index (ranged opened)) all
         ∙ get_behind (reading closed) _ (event_at (Start ParagraphTag) (start_of first) h.end) (ranged opened) open_paragraph.index h.index
 
-    start_is : ranged (opened.0, record { start = opened.1.start; end = open_paragraph.past }) ≡ event_at (Start ParagraphTag) (start_of first) (past_of first more)
+    start_is : ranged (record { kind = opened.kind; start = opened.start; end = open_paragraph.past }) ≡ event_at (Start ParagraphTag) (start_of first) (past_of first more)
     start_is =
-        ap (λ e. event_at e opened.1.start open_paragraph.past) (ap (λ r. r.event) found) ∙ ap (λ n. event_at (Start ParagraphTag) n open_paragraph.past) (ap (λ r. r.start) found)
+        ap (λ e. event_at e opened.start open_paragraph.past) (ap (λ r. r.event) found) ∙ ap (λ n. event_at (Start ParagraphTag) n open_paragraph.past) (ap (λ r. r.start) found)
         ∙ ap (event_at (Start ParagraphTag) (start_of first)) past
 
 -- no paragraph is open where none is kept
@@ -185,7 +183,7 @@ pub feed_heading : (o : Open) (r : Row) (level : ℕ) → begins r ≡ Headed le
 feed_heading (Between closed) r level e = ap (λ w. begin w closed r) e
 feed_heading (Within closed first more) r level e = ap (λ w. go_on w closed first more r) e
 
-pub length_ranged : (items : List (Event × Range ℕ)) → length items ≡ length (map ranged items)
+pub length_ranged : (items : List Step) → length items ≡ length (map ranged items)
 length_ranged [] = refl
 length_ranged (x ∷ xs) = ap suc (length_ranged xs)
 

@@ -1,5 +1,5 @@
 -- The first line ending of some bytes, and where a text may be cut behind it.
-use Rattle.std.proofs.Common.{◌≡◌, ◌≢◌, ℕ, zero, suc, ◌+◌, ◌-◌, ◌<◌, ◌≤◌, Bool, true, false, ◌==◌, ◌&&◌, ◌||◌, not, List, [], ◌∷◌, length, take, drop, get_or, Option, Some, None, refl, sym, ap, ◌∙◌, subst, arith, true≢false, eqb-true, length-drop, drop_of_length-le, ◌⊎◌, inl, inr, ⊎_elim}
+use Rattle.std.proofs.Common.{◌≡◌, ℕ, suc, ◌+◌, ◌<◌, ◌≤◌, Bool, true, false, ◌==◌, ◌&&◌, ◌||◌, not, List, [], ◌∷◌, length, drop, get_or, Option, Some, None, refl, sym, ap, ◌∙◌, subst, arith, true≢false, eqb-true, length-drop, drop_of_length-le, ⊎_elim}
 use Rattle.std.proofs.lemmas.List.{get_or-drop}
 use Rattle.std.proofs.Math.Nat.{eq-or-lt_of_le}
 use Rattle.std.specs.Prelude.{if◌then◌else◌, unwrap_or}
@@ -8,7 +8,7 @@ use Rattle.std.specs.Str.{IsCharBoundary, IsUtf8}
 use Rattle.std.proofs.lemmas.Str.{IsCharBoundary-after_ascii, IsCharBoundary-end}
 use Rattle.std.proofs.lemmas.List.Sums.{prefix_len_is, prefix_len_stops, prefix_len-le-length}
 use Rattle.memchr.specs.Find.{IsFirstByte, is_byte2}
-use Rattle.cmark_grammar.specs.Lines.{is_content, ending_len, begins_with_line_feed}
+use Rattle.cmark_grammar.specs.Lines.{is_content, ending_len}
 
 content_or_ending : (b : ℕ) → is_content b ≡ not (is_byte2 10 13 b)
 content_or_ending b = go (b == 10) (b == 13)
@@ -72,13 +72,13 @@ cut_behind_line text start len ending utf8 within is_len is_ending = ⊎_elim at
     before_end lt =
         let l = length-drop len (drop start text) in
         let stops : is_content (get_or (drop len (drop start text)) 0 0) ≡ false =
-            ap is_content (get_or-drop len (drop start text) 0 0 ∙ ap (λ n. get_or (drop start text) n 0) (let s : len + 0 ≡ prefix_len is_content (drop start text) = omega arith in s))
-            ∙ prefix_len_stops is_content (drop start text) 0 (omega arith)
+        ap is_content (get_or-drop len (drop start text) 0 0 ∙ ap (λ n. get_or (drop start text) n 0) (let s : len + 0 ≡ prefix_len is_content (drop start text) = omega arith in s))
+        ∙ prefix_len_stops is_content (drop start text) 0 (omega arith)
         in
         let last = ending_last (drop len (drop start text)) (omega arith) stops in
         let l' = length-drop start text in
         let ascii : get_or text (start + len + last.0) 0 < 128 =
-            subst (λ b. b < 128) (get_or-drop len (drop start text) last.0 0 ∙ get_or-drop start text (len + last.0) 0 ∙ ap (λ n. get_or text n 0) (let s : start + (len + last.0) ≡ start + len + last.0 = omega arith in s)) last.3
+        subst (λ b. b < 128) (get_or-drop len (drop start text) last.0 0 ∙ get_or-drop start text (len + last.0) 0 ∙ ap (λ n. get_or text n 0) (let s : start + (len + last.0) ≡ start + len + last.0 = omega arith in s)) last.3
         in
         subst (IsCharBoundary text) (let n = last.1 in let s : start + len + last.0 + 1 ≡ start + len + ending = omega arith in s)
         (IsCharBoundary-after_ascii text (start + len + last.0) utf8 (let n = last.2 in omega arith) ascii)

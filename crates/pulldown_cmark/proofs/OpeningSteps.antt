@@ -1,13 +1,12 @@
 -- What a line begins, found on its bytes.
-use Rattle.std.proofs.Common.{◌≡◌, ◌≢◌, ℕ, zero, suc, ◌+◌, ◌-◌, ◌<◌, ◌≤◌, Bool, true, false, ◌==◌, ◌&&◌, ◌||◌, not, List, [], ◌∷◌, length, take, drop, Option, Some, None, refl, sym, ap, ◌∙◌, subst, arith, true≢false, length-drop, le-leb, eqb-true, IsTrue, ◌↔◌}
+use Rattle.std.proofs.Common.{◌≡◌, ℕ, suc, ◌+◌, ◌-◌, ◌<◌, ◌≤◌, Bool, true, false, ◌==◌, ◌&&◌, ◌||◌, List, [], ◌∷◌, length, drop, Some, None, refl, sym, ap, ◌∙◌, subst, arith, true≢false, length-drop, le-leb, eqb-true, IsTrue, ◌↔◌}
 use Rattle.std.proofs.lemmas.Bool.{lt-leb, leb-false, leb-true}
-use Rattle.std.specs.Prelude.{if◌then◌else◌, nat_lt, nat_le}
+use Rattle.std.specs.Prelude.{if◌then◌else◌, nat_le}
 use Rattle.std.specs.List.{prefix_len}
 use Rattle.std.proofs.lemmas.List.Sums.{prefix_len-le-length}
 use Rattle.std.proofs.lemmas.List.Folds.{length-prefix_len}
 use Rattle.cmark_grammar.specs.Columns.{Column, expand, indent, without_indent, is_blank, is_blank_byte, put_before, drop_end, none_or_last, without_trailing_blanks}
-use Rattle.cmark_grammar.specs.Document.{Document, Nil, Text, one}
-use Rattle.cmark_grammar.specs.Outline.{Row, is_hash, hashes, is_bare, is_heading, text_over, without_closing, heading_content, Blank, Headed, Plain, opening_of, begins, first_at, start_of, line_text, heading_spans}
+use Rattle.cmark_grammar.specs.Outline.{is_hash, hashes, is_bare, is_heading, text_over, without_closing, heading_content, Blank, Headed, Plain, opening_of, begins, first_at, start_of, line_text, heading_spans}
 use Rattle.cmark_grammar.proofs.ColumnSteps.{drop-prefix, drop_end-expand, none_or_last-expand, is_bare-expand, first_at-expand, text_over-expand}
 use Rattle.pulldown_cmark.specs.Opening.{heading_level_of, closing_dropped, text_at}
 use Rattle.pulldown_cmark.proofs.ScanSteps.{hashes-expand, behind_hashes}
@@ -85,7 +84,7 @@ heading_text column at rest behind text n is_n is_behind is_text =
         let l = length-drop (prefix_len (λ b. b == 35) rest) rest in
         let l' = length-drop (prefix_len is_blank_byte (drop (prefix_len (λ b. b == 35) rest) rest)) (drop (prefix_len (λ b. b == 35) rest) rest) in
         let e : length behind ≡ length (drop (prefix_len is_blank_byte (drop (prefix_len (λ b. b == 35) rest) rest)) (drop (prefix_len (λ b. b == 35) rest) rest)) =
-            ap length is_behind ∙ ap (λ m. length (drop (prefix_len is_blank_byte (drop m rest)) (drop m rest))) is_n
+        ap length is_behind ∙ ap (λ m. length (drop (prefix_len is_blank_byte (drop m rest)) (drop m rest))) is_n
         in
         omega arith
 

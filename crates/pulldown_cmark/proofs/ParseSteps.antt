@@ -1,7 +1,5 @@
 -- Steps of a walk.
-use Rattle.std.proofs.Common.{◌≡◌, ℕ, List, [], ◌∷◌, map, Some, Ok, refl, sym, ap, ◌∙◌, inl, inr}
-use Rattle.std.specs.declared.ops.Range.{Range}
-use Rattle.std.specs.declared.alloc.AllocError.{AllocError}
+use Rattle.std.proofs.Common.{◌≡◌, ◌≢◌, ℕ, List, [], ◌∷◌, map, Some, Ok, refl, sym, ap, ◌∙◌, inr}
 use Rattle.std.specs.Vec.Iter.{into_iter_items}
 use Rattle.cmark_grammar.specs.Answers.{Answers, Absent, Given, Lookup}
 use Rattle.cmark_grammar.specs.Options.{Options}
@@ -13,34 +11,38 @@ use Rattle.cmark_grammar.proofs.OutlineSound.{document-derived}
 use Rattle.cmark_grammar.specs.Event.{Ranged}
 use Rattle.cmark_text.specs.declared.event.Event.{Event}
 use Rattle.cmark_text.specs.Shown.{shown}
+use Rattle.pulldown_cmark.specs.declared.outline.Step.{Step}
 use Rattle.pulldown_cmark.specs.declared.parse.Parser.{Parser}
 use Rattle.pulldown_cmark.specs.declared.parse.OffsetIter.{OffsetIter}
-use Rattle.pulldown_cmark.specs.Building.{ranged}
-use Rattle.pulldown_cmark.specs.Walking.{before, GivesNext, ReadsFrom}
+use Rattle.pulldown_cmark.specs.Building.{event_at, event_of, ranged}
+use Rattle.pulldown_cmark.specs.Walking.{before}
 use Rattle.pulldown_cmark.specs.Parsing.{left, Remains, Gives, GivesRanged, Reads}
 
 module _ {E : Type 0} where
-  step : (old new : Parser E) (x : Event × Range ℕ) → into_iter_items old.events ≡ x ∷ into_iter_items new.events → (answers : Answers) (events : List Ranged) → Remains new answers events → Remains old (before [] answers) (ranged x ∷ events)
-  step old new x e Absent events r = (refl, ap (map ranged) e ∙ ap (λ es. ranged x ∷ es) r.1)
-  step old new x e (Given later) events r = absurd (let q : Given later ≡ Absent = r.0 in cc)
+  given : (old new : Parser E) (step : Step) → into_iter_items old.steps ≡ step ∷ into_iter_items new.steps → (answers : Answers) (events : List Ranged) → Remains new answers events → Remains old (before [] answers) (ranged step ∷ events)
+  given old new step e Absent events r = (refl, ap (map ranged) e ∙ ap (λ es. ranged step ∷ es) r.1)
+  given old new step e (Given later) events r = absurd (let q : Given later ≡ Absent = r.0 in cc)
+
+  not_over : (old new : Parser E) (step : Step) → into_iter_items old.steps ≡ step ∷ into_iter_items new.steps → left old ≢ []
+  not_over old new step e none = let q : ranged step ∷ left new ≡ [] = sym (ap (map ranged) e) ∙ none in cc
 
   -- an event is given, and the others are left
-  pub gives_event : (old new : Parser E) (event : Event) (range : Range ℕ) → into_iter_items old.events ≡ (event, range) ∷ into_iter_items new.events → Gives old (Some (Ok event)) new
-  gives_event old new event range e = record {
+  pub gives_event : (old new : Parser E) (step : Step) (event : Event) → shown event ≡ event_of step.kind → into_iter_items old.steps ≡ step ∷ into_iter_items new.steps → Gives old (Some (Ok event)) new
+  gives_event old new step event shows e = record {
     taken = [];
     silent = refl;
-    first = (ranged (event, range), refl, step old new (event, range) e);
+    first = (ranged step, shows, given old new step e);
     goes_on = inr (Absent, left new, (refl, refl));
-    over = λ none. absurd (let q : ranged (event, range) ∷ left new ≡ [] = sym (ap (map ranged) e) ∙ none in cc);
+    over = λ none. absurd (not_over old new step e none);
   }
 
-  pub gives_ranged : (old new : OffsetIter E) (event : Event) (range : Range ℕ) → into_iter_items old.parser.events ≡ (event, range) ∷ into_iter_items new.parser.events → GivesRanged old (Some (Ok (event, range))) new
-  gives_ranged old new event range e = record {
+  pub gives_ranged : (old new : OffsetIter E) (step : Step) (event : Event) → shown event ≡ event_of step.kind → into_iter_items old.parser.steps ≡ step ∷ into_iter_items new.parser.steps → GivesRanged old (Some (Ok (event, record { start = step.start; end = step.end }))) new
+  gives_ranged old new step event shows e = record {
     taken = [];
     silent = refl;
-    first = (ranged (event, range), refl, step old.parser new.parser (event, range) e);
+    first = (ranged step, ap (λ x. event_at x step.start step.end) shows, given old.parser new.parser step e);
     goes_on = inr (Absent, left new.parser, (refl, refl));
-    over = λ none. absurd (let q : ranged (event, range) ∷ left new.parser ≡ [] = sym (ap (map ranged) e) ∙ none in cc);
+    over = λ none. absurd (not_over old.parser new.parser step e none);
   }
 
   -- a parser at the start

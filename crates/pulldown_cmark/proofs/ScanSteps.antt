@@ -1,16 +1,16 @@
 -- What the scanners find, as what the grammar says of columns.
-use Rattle.std.proofs.Common.{◌≡◌, ◌≢◌, ℕ, zero, suc, ◌+◌, ◌-◌, ◌<◌, ◌≤◌, Bool, true, false, ◌==◌, ◌&&◌, ◌||◌, not, cond, List, [], ◌∷◌, ◌++◌, length, take, drop, get_or, Option, Some, None, refl, sym, ap, ◌∙◌, subst, arith, IsTrue, true≢false, eqb-true, eq-eqb, ne_eqb, length-append, length-take, length-drop, append-nil, take_all, lt-ltb}
-use Rattle.std.specs.Prelude.{if◌then◌else◌, nat_lt, nat_le, nat_eq, slice_index, slice_range}
+use Rattle.std.proofs.Common.{◌≡◌, ℕ, zero, suc, ◌+◌, ◌-◌, ◌<◌, ◌≤◌, Bool, true, false, ◌==◌, ◌&&◌, ◌||◌, List, [], ◌∷◌, ◌++◌, length, take, drop, get_or, Some, None, refl, sym, ap, ◌∙◌, subst, arith, IsTrue, true≢false, eqb-true, eq-eqb, length-drop, take_all}
+use Rattle.std.specs.Prelude.{if◌then◌else◌, nat_lt, nat_le, nat_eq, slice_range}
 use Rattle.std.specs.List.{prefix_len}
 use Rattle.std.specs.Str.{IsCharBoundary, IsUtf8}
-use Rattle.std.proofs.lemmas.Str.{IsCharBoundary-after_ascii, IsCharBoundary-before_ascii}
+use Rattle.std.proofs.lemmas.Str.{IsCharBoundary-after_ascii}
 use Rattle.std.proofs.lemmas.List.{take_more}
 use Rattle.std.proofs.lemmas.Bool.{lt-leb}
-use Rattle.std.proofs.lemmas.List.Sums.{prefix_len_passes, prefix_len_stops, prefix_len-le-length}
+use Rattle.std.proofs.lemmas.List.Sums.{prefix_len_passes, prefix_len-le-length}
 use Rattle.std.proofs.lemmas.List.Folds.{length-prefix_len}
-use Rattle.cmark_grammar.specs.Columns.{Column, expand, indent, is_blank, is_blank_byte, put_before, drop_end, none_or_first, none_or_last}
+use Rattle.cmark_grammar.specs.Columns.{expand, indent, is_blank, is_blank_byte, put_before, drop_end, none_or_first, none_or_last}
 use Rattle.cmark_grammar.specs.Outline.{is_hash, hashes, is_heading}
-use Rattle.cmark_grammar.proofs.ColumnSteps.{on_byte, drop-prefix, prefix_len-expand, is_space_byte, indent_of_spaces, indent_with_tab, none_or_first-expand}
+use Rattle.cmark_grammar.proofs.ColumnSteps.{drop-prefix, prefix_len-expand, is_space_byte, indent_of_spaces, indent_with_tab, none_or_first-expand}
 use Rattle.pulldown_cmark.specs.Opening.{heading_level_of, level_at}
 
 blank_is_ascii : (b : ℕ) → is_blank_byte b ≡ true → b < 128

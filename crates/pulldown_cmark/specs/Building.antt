@@ -1,24 +1,40 @@
 -- What the block pass has built, as what the model has open.
 use Rattle.std.specs.Prelude.{◌≡◌, ℕ, List, [], ◌∷◌, ◌++◌, map, length, Option, Some, None}
-use Rattle.std.specs.declared.ops.Range.{Range}
-use Rattle.cmark_grammar.specs.Tag.{Paragraph as ParagraphTag}
-use Rattle.cmark_grammar.specs.Event.{Event as GrammarEvent, Start, Ranged}
-use Rattle.cmark_grammar.specs.Outline.{Row, start_of, past_of, paragraph_spans}
+use Rattle.cmark_grammar.specs.Attributes.{no_attributes}
+use Rattle.cmark_grammar.specs.Tag.{Tag, Paragraph as ParagraphTag, Heading as HeadingTag}
+use Rattle.cmark_grammar.specs.TagEnd.{end_of}
+use Rattle.cmark_grammar.specs.Event.{Event, Start, End, Text, SoftBreak, Ranged}
+use Rattle.cmark_grammar.specs.Outline.{Row, start_of, paragraph_spans}
 use Rattle.cmark_grammar.specs.OutlineModel.{Open, Between, Within}
 use Rattle.cmark_grammar.specs.Reading.{reading}
-use Rattle.cmark_text.specs.declared.event.Event.{Event}
-use Rattle.cmark_text.specs.Shown.{shown}
+use Rattle.cmark_text.specs.Shown.{level_number}
+use Rattle.pulldown_cmark.specs.declared.outline.Block.{Block}
+use Rattle.pulldown_cmark.specs.declared.outline.Block.TheVariants.{Paragraph, Heading}
+use Rattle.pulldown_cmark.specs.declared.outline.StepKind.{StepKind}
+use Rattle.pulldown_cmark.specs.declared.outline.StepKind.TheVariants.{Start as StepStart, End as StepEnd, Text as StepText, SoftBreak as StepSoftBreak}
+use Rattle.pulldown_cmark.specs.declared.outline.Step.{Step}
 use Rattle.pulldown_cmark.specs.declared.outline.OpenParagraph.{OpenParagraph}
 use Rattle.pulldown_cmark.specs.declared.outline.Outline.{Outline}
 
-abbrev pub event_at : GrammarEvent → ℕ → ℕ → Ranged
+abbrev pub event_at : Event → ℕ → ℕ → Ranged
 event_at event start end = record { event = event; start = start; end = end }
 
-abbrev pub ranged : Event × Range ℕ → Ranged
-ranged placed = event_at (shown placed.0) placed.1.start placed.1.end
+abbrev pub tag_of : Block → Tag
+tag_of Paragraph = ParagraphTag
+tag_of (Heading level) = HeadingTag (level_number level) no_attributes
+
+-- the event that a step gives
+abbrev pub event_of : StepKind → Event
+event_of (StepStart block) = Start (tag_of block)
+event_of (StepEnd block) = End (end_of (tag_of block))
+event_of (StepText text) = Text text.now
+event_of StepSoftBreak = SoftBreak
+
+abbrev pub ranged : Step → Ranged
+ranged step = event_at (event_of step.kind) step.start step.end
 
 abbrev pub all_ranged : Outline → List Ranged
-all_ranged outline = map ranged outline.events.items
+all_ranged outline = map ranged outline.steps.items
 
 abbrev pub last_of : Row → List Row → Row
 last_of first [] = first

@@ -10,7 +10,7 @@ use Rattle.cmark_text.specs.declared.event.Event.{Event}
 use Rattle.cmark_text.specs.Shown.{shown}
 use Rattle.pulldown_cmark.specs.declared.parse.Parser.{Parser}
 use Rattle.pulldown_cmark.specs.declared.parse.OffsetIter.{OffsetIter}
-use Rattle.pulldown_cmark.specs.Building.{ranged}
+use Rattle.pulldown_cmark.specs.Building.{event_at, ranged}
 use Rattle.pulldown_cmark.specs.Walking.{GoesOn, GivesNext, ReadsFrom}
 
 -- an item is the event, or the event with its range
@@ -18,15 +18,15 @@ abbrev pub Shows : Event → Ranged → Type 0
 Shows event r = shown event ≡ r.event
 
 abbrev pub ShowsRanged : Event × Range ℕ → Ranged → Type 0
-ShowsRanged item r = ranged item ≡ r
+ShowsRanged item r = event_at (shown item.0) item.1.start item.1.end ≡ r
 
 module _ {E : Type 0} where
   -- the events that a parser has left, and how many
   abbrev pub left : Parser E → List Ranged
-  left parser = map ranged (into_iter_items parser.events)
+  left parser = map ranged (into_iter_items parser.steps)
 
   abbrev pub events_left : Parser E → ℕ
-  events_left parser = into_iter_len parser.events
+  events_left parser = into_iter_len parser.steps
 
   abbrev pub Remains : Parser E → Answers → List Ranged → Type 0
   Remains parser answers events = (answers ≡ Absent) × (left parser ≡ events)

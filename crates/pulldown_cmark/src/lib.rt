@@ -6,5 +6,5 @@ mod outline;
 mod parse;
 mod scan;
 
-pub use parse::{OffsetIter, Parser};
 pub use cmark_text::{BasicEntities, CowStr, EntityLookup, Event, HeadingLevel, Tag, TagEnd};
+pub use parse::{OffsetIter, Parser};

@@ -1,25 +1,52 @@
-//! The block pass of today: from a text to the events that its document is read as, line by line.
+//! The block pass of today: from a text to the steps of the walk over its document, line by line.
 
 ghost use Rattle.std.specs.Prelude.{◌≡◌, ◌<◌, ◌≤◌, ◌+◌, ◌^◌, ◌++◌, ◌∷◌, [], OnOk, IfOk, length, map};
 ghost use Rattle.cmark_grammar.specs.Document.{Document, Nil, join};
 ghost use Rattle.cmark_grammar.specs.Outline.{Plain, begins, start_of, line_text};
 ghost use Rattle.cmark_grammar.specs.OutlineModel.{Open, Between, feed, closed_off, document, heading as heading_of};
 ghost use Rattle.cmark_grammar.specs.Reading.{reading};
-ghost use Rattle.cmark_text.specs.Shown.{shown, level_number};
+ghost use Rattle.cmark_text.specs.Shown.{level_number};
 ghost use Rattle.pulldown_cmark.specs.Line.{row_of};
 ghost use Rattle.pulldown_cmark.specs.Opening.{text_at, OpensAs};
-ghost use Rattle.pulldown_cmark.specs.Building.{Built, ranged, event_at, all_ranged};
+ghost use Rattle.pulldown_cmark.specs.Building.{Built, event_of, ranged, event_at, all_ranged};
 
 use crate::line::{Line, line_at};
 use crate::scan::{Heading, Opening, what_begins};
-use cmark_text::{CowStr, Event, Tag, TagEnd};
+use cmark_text::HeadingLevel;
 use std::alloc::{AllocError, Global};
-use std::ops::Range;
+
+/// A block with spans inside it.
+#[derive(Clone, Copy, Debug, PartialEq, Eq)]
+pub enum Block {
+    Paragraph,
+    Heading(HeadingLevel),
+}
+
+/// What a step of the walk is.
+#[derive(Clone, Copy, Debug)]
+pub enum StepKind<'a> {
+    /// A block starts.
+    Start(Block),
+    /// The block that started last ends.
+    End(Block),
+    /// A part of the text.
+    Text(&'a str),
+    /// A line ending inside a paragraph.
+    SoftBreak,
+}
+
+/// A step of the walk over a document, with the bytes of the text that it comes from.
+#[derive(Clone, Copy, Debug)]
+pub struct Step<'a> {
+    pub kind: StepKind<'a>,
+    pub start: usize,
+    pub end: usize,
+}
 
 /// A paragraph that may go on.
 #[derive(Clone, Copy, Debug)]
 pub struct OpenParagraph {
-    /// The index of its start among the events.
+    /// The index of its start among the steps.
     pub index: usize,
     /// Where it begins in the text.
     pub start: usize,
@@ -29,11 +56,11 @@ pub struct OpenParagraph {
     pub past: usize,
 }
 
-/// The events of the blocks that have ended, and of a paragraph that may go on.
+/// The steps over the blocks that have ended, and over a paragraph that may go on.
 #[derive(Drop)]
 pub struct Outline<'a> {
-    /// The events so far. The start of an open paragraph has the range's end still to come.
-    pub events: Vec<(Event<'a>, Range<usize>)>,
+    /// The steps so far. The start of an open paragraph has the range's end still to come.
+    pub steps: Vec<Step<'a>>,
     /// The paragraph that may go on, if the last line belongs to one.
     pub paragraph: Option<OpenParagraph>,
 }
@@ -44,17 +71,17 @@ impl<'a> Outline<'a> {
         ensures { Built result (Between Nil) }
     {
         Outline {
-            events: Vec::new(alloc),
+            steps: Vec::new(alloc),
             paragraph: None,
         }
     }
 
-    /// An event more.
-    fn add(&mut self, event: Event<'a>, range: Range<usize>) -> Result<(), AllocError>
-        ensures added { OnOk result (all_ranged self.new ≡ all_ranged self.old ++ event_at (shown event.entry) range.start range.end ∷ []) }
+    /// A step more.
+    fn add(&mut self, kind: StepKind<'a>, start: usize, end: usize) -> Result<(), AllocError>
+        ensures added { OnOk result (all_ranged self.new ≡ all_ranged self.old ++ event_at (event_of kind.entry) start end ∷ []) }
         ensures paragraph { self.new.paragraph ≡ self.old.paragraph }
     {
-        self.events.push((event, range))?;
+        self.steps.push(Step { kind, start, end })?;
         Ok(())
     }
 
@@ -67,7 +94,7 @@ impl<'a> Outline<'a> {
         if text.is_empty() {
             return Ok(());
         }
-        self.add(Event::Text(CowStr::Borrowed(text)), start..start + text.len())
+        self.add(StepKind::Text(text), start, start + text.len())
     }
 
     /// A line more.
@@ -94,9 +121,9 @@ impl<'a> Outline<'a> {
         let Some(open) = self.paragraph else {
             return Ok(());
         };
-        self.add(Event::End(TagEnd::Paragraph), open.start..open.past)?;
-        let start = &mut self.events[open.index];
-        start.1.end = open.past;
+        self.add(StepKind::End(Block::Paragraph), open.start, open.past)?;
+        let start = &mut self.steps[open.index];
+        start.end = open.past;
         self.paragraph = None;
         Ok(())
     }
@@ -108,16 +135,19 @@ impl<'a> Outline<'a> {
         ensures { OnOk result ((closed : Document) → Built self.old (Between closed)
             → Built self.new (Between (join closed (heading_of (level_number heading.entry.level) (row_of line.entry))))) }
     {
-        let tag = Tag::Heading {
-            level: heading.level,
-        };
-        self.add(Event::Start(tag), heading.start..line.past)?;
+        let block = Block::Heading(heading.level);
+        self.add(StepKind::Start(block), heading.start, line.past)?;
         self.add_text(heading.text, heading.text_start)?;
-        self.add(Event::End(tag.to_end()), heading.start..line.past)
+        self.add(StepKind::End(block), heading.start, line.past)
     }
 
     /// A line that goes on with the open paragraph, or begins one.
-    fn add_paragraph_line(&mut self, line: Line<'a>, start: usize, text: &'a str) -> Result<(), AllocError>
+    fn add_paragraph_line(
+        &mut self,
+        line: Line<'a>,
+        start: usize,
+        text: &'a str,
+    ) -> Result<(), AllocError>
         requires built { (o : Open) × Built self.old o }
         requires short { line.start + length line.content.now ≤ line.past }
         requires small { start + length text.now < 2 ^ 64 }
@@ -126,7 +156,7 @@ impl<'a> Outline<'a> {
     {
         let stop = line.start + line.content.len();
         if let Some(open) = self.paragraph {
-            self.add(Event::SoftBreak, open.stop..open.past)?;
+            self.add(StepKind::SoftBreak, open.stop, open.past)?;
             self.add_text(text, start)?;
             self.paragraph = Some(OpenParagraph {
                 stop,
@@ -135,8 +165,8 @@ impl<'a> Outline<'a> {
             });
             return Ok(());
         }
-        let index = self.events.len();
-        self.add(Event::Start(Tag::Paragraph), start..start)?;
+        let index = self.steps.len();
+        self.add(StepKind::Start(Block::Paragraph), start, start)?;
         self.add_text(text, start)?;
         self.paragraph = Some(OpenParagraph {
             index,
@@ -148,9 +178,9 @@ impl<'a> Outline<'a> {
     }
 }
 
-/// The events of the document that a text derives, each with the bytes of the text that it comes from.
-pub fn events_of(alloc: Global, text: &str) -> Result<Vec<(Event<'_>, Range<usize>)>, AllocError>
-    ensures { IfOk result (λ events. map ranged events.items ≡ reading (document text.now)) }
+/// The steps of the walk over the document that a text derives.
+pub fn steps_of(alloc: Global, text: &str) -> Result<Vec<Step<'_>>, AllocError>
+    ensures { IfOk result (λ steps. map ranged steps.items ≡ reading (document text.now)) }
 {
     let mut outline = Outline::new(alloc);
     let mut start = 0;
@@ -161,8 +191,8 @@ pub fn events_of(alloc: Global, text: &str) -> Result<Vec<(Event<'_>, Range<usiz
     }
     outline.end_paragraph()?;
     let Outline {
-        events,
+        steps,
         paragraph: _,
     } = outline;
-    Ok(events)
+    Ok(steps)
 }

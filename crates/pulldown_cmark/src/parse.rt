@@ -5,9 +5,11 @@ ghost use Rattle.std.specs.Iterator.{at_most};
 ghost use Rattle.cmark_grammar.specs.Answers.{Answers};
 ghost use Rattle.cmark_grammar.specs.Event.{Ranged};
 ghost use Rattle.cmark_grammar.specs.Options.{no_options};
+ghost use Rattle.cmark_text.specs.Shown.{shown};
+ghost use Rattle.pulldown_cmark.specs.Building.{event_of};
 
-use crate::outline::events_of;
-use cmark_text::{EntityLookup, Event};
+use crate::outline::{Block, Step, StepKind, steps_of};
+use cmark_text::{CowStr, EntityLookup, Event, Tag, TagEnd};
 use std::alloc::{AllocError, Global};
 use std::ops::Range;
 use std::vec::IntoIter;
@@ -24,8 +26,29 @@ use std::vec::IntoIter;
 /// ```
 #[derive(Drop)]
 pub struct Parser<'input, E> {
+    alloc: Global,
     entities: &'input E,
-    events: IntoIter<(Event<'input>, Range<usize>)>,
+    steps: IntoIter<Step<'input>>,
+}
+
+/// The event that a step gives. No memory is taken: a heading has no classes and no attributes.
+#[inline(always)]
+fn event_of<'a>(alloc: Global, kind: StepKind<'a>) -> Event<'a>
+    ensures { shown result ≡ event_of kind.entry }
+{
+    match kind {
+        StepKind::Start(Block::Paragraph) => Event::Start(Tag::Paragraph),
+        StepKind::Start(Block::Heading(level)) => Event::Start(Tag::Heading {
+            level,
+            id: None,
+            classes: Vec::new(alloc),
+            attrs: Vec::new(alloc),
+        }),
+        StepKind::End(Block::Paragraph) => Event::End(TagEnd::Paragraph),
+        StepKind::End(Block::Heading(level)) => Event::End(TagEnd::Heading(level)),
+        StepKind::Text(text) => Event::Text(CowStr::Borrowed(text)),
+        StepKind::SoftBreak => Event::SoftBreak,
+    }
 }
 
 impl<'input, E: EntityLookup> Parser<'input, E> {
@@ -40,10 +63,11 @@ impl<'input, E: EntityLookup> Parser<'input, E> {
     ) -> Result<Parser<'input, E>, AllocError>
         ensures { IfOk result (Reads text.entry.now no_options (E.replacement entities.entry.now)) }
     {
-        let events = events_of(alloc, text)?;
+        let steps = steps_of(alloc, text)?;
         Ok(Parser {
+            alloc,
             entities,
-            events: events.into_iter(),
+            steps: steps.into_iter(),
         })
     }
 
@@ -68,8 +92,8 @@ impl<'input, E: EntityLookup> Iterator for Parser<'input, E> {
     ghost remaining = { λ parser. at_most (events_left parser) };
 
     fn next(&mut self) -> Option<Result<Event<'input>, AllocError>> {
-        match self.events.next() {
-            Some((event, _range)) => Some(Ok(event)),
+        match self.steps.next() {
+            Some(step) => Some(Ok(event_of(self.alloc, step.kind))),
             None => None,
         }
     }
@@ -94,8 +118,8 @@ impl<'input, E: EntityLookup> Iterator for OffsetIter<'input, E> {
     ghost remaining = { λ iter. at_most (ranged_left iter) };
 
     fn next(&mut self) -> Option<Result<(Event<'input>, Range<usize>), AllocError>> {
-        match self.parser.events.next() {
-            Some((event, range)) => Some(Ok((event, range))),
+        match self.parser.steps.next() {
+            Some(step) => Some(Ok((event_of(self.parser.alloc, step.kind), step.start..step.end))),
             None => None,
         }
     }

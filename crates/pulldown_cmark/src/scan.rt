@@ -161,7 +161,11 @@ fn without_closing(text: &str) -> &str
     ensures within { length result.now ≤ length text.now }
 {
     let front = without_end(text, b'#', b'#');
-    if ends_parted(front) { without_end(front, b' ', b'\t') } else { text }
+    if ends_parted(front) {
+        without_end(front, b' ', b'\t')
+    } else {
+        text
+    }
 }
 
 /// The heading that begins in front of `rest`, a line behind its indent, if one does.

@@ -1,13 +1,12 @@
-use Rattle.std.proofs.Common.{◌≡◌, ℕ, ◌+◌, ◌-◌, List, ◌∷◌, length, take, drop, sym, ap, ◌∙◌, subst, arith}
+use Rattle.std.proofs.Common.{◌≡◌, ◌+◌, ◌∷◌, length, take, drop, sym, ap, ◌∙◌, arith}
 use Rattle.std.specs.List.{prefix_len}
 use Rattle.cmark_grammar.specs.Columns.{expand}
 use Rattle.cmark_grammar.specs.Lines.{lines, is_content, ending_len}
-use Rattle.cmark_grammar.specs.Outline.{Row, rows_from}
+use Rattle.cmark_grammar.specs.Outline.{rows_from}
 use Rattle.cmark_grammar.proofs.LineSteps.{rows-first}
 use Rattle.pulldown_cmark.proofs.LineSteps.{first_ending, cut_behind_line}
 use Rattle.pulldown_cmark.proofs.ScanSteps.{rest_of, front_of}
 use Rattle.pulldown_cmark.proofs.line.line_at.Goals as goal
-
 
 pub returns-clause-first : goal.returns-clause-first
 returns-clause-first c =

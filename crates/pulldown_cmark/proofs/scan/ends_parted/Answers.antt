@@ -1,4 +1,4 @@
-use Rattle.std.proofs.Common.{◌≡◌, sym, ap, ◌∙◌}
+use Rattle.std.proofs.Common.{sym, ap, ◌∙◌}
 use Rattle.cmark_grammar.specs.Columns.{is_blank_byte, none_or_last}
 use Rattle.pulldown_cmark.proofs.ScanSteps.{none_or_last-last}
 use Rattle.pulldown_cmark.proofs.scan.ends_parted.Goals as goal

@@ -1,10 +1,10 @@
-use Rattle.std.proofs.Common.{◌≡◌, ℕ, ◌+◌, ◌-◌, ◌==◌, drop, length, Some, sym, ap, ◌∙◌, refl}
+use Rattle.std.proofs.Common.{drop, sym, ap, ◌∙◌}
 use Rattle.std.specs.List.{prefix_len}
-use Rattle.cmark_grammar.specs.Columns.{expand, drop_end, is_blank_byte}
+use Rattle.cmark_grammar.specs.Columns.{expand, is_blank_byte}
 use Rattle.cmark_grammar.specs.Outline.{is_heading, hashes}
 use Rattle.cmark_text.specs.Shown.{level_number}
-use Rattle.pulldown_cmark.specs.Opening.{heading_level_of, closing_dropped}
-use Rattle.pulldown_cmark.proofs.ScanSteps.{cut_behind_hashes, hashes-expand}
+use Rattle.pulldown_cmark.specs.Opening.{closing_dropped}
+use Rattle.pulldown_cmark.proofs.ScanSteps.{cut_behind_hashes}
 use Rattle.pulldown_cmark.proofs.OpeningSteps.{level_found, heading_text, opening_len}
 use Rattle.pulldown_cmark.proofs.scan.find_heading.Goals as goal
 

@@ -1,4 +1,4 @@
-use Rattle.std.proofs.Common.{◌≡◌, true, false, sym, ap, ◌∙◌, drop}
+use Rattle.std.proofs.Common.{true, false, sym, ap, ◌∙◌}
 use Rattle.cmark_grammar.specs.Columns.{is_blank_byte, none_or_first}
 use Rattle.pulldown_cmark.proofs.ScanSteps.{heading_level_of-expand, level_at-unparted, rest_of}
 use Rattle.pulldown_cmark.proofs.scan.heading_level.Goals as goal

@@ -1,4 +1,3 @@
-use Rattle.std.proofs.Common.{◌≡◌, ◌≢◌, ◌≤◌, sym, ap, ◌∙◌, arith, eqb-true, eq-eqb, true≢false}
 use Rattle.pulldown_cmark.proofs.ScanSteps.{shallow, deep}
 use Rattle.pulldown_cmark.proofs.scan.is_shallow.Goals as goal
 

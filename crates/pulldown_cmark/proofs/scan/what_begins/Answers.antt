@@ -1,4 +1,4 @@
-use Rattle.std.proofs.Common.{◌≡◌, ℕ, ◌+◌, ◌-◌, ◌<◌, Bool, ◌&&◌, false, List, [], length, sym, ap, ◌∙◌, subst, arith, refl, eqb-true}
+use Rattle.std.proofs.Common.{◌≡◌, ℕ, ◌+◌, ◌-◌, ◌&&◌, false, length, sym, ap, ◌∙◌}
 use Rattle.std.specs.Prelude.{nat_le}
 use Rattle.cmark_grammar.specs.Columns.{expand, indent}
 use Rattle.cmark_grammar.specs.Outline.{is_heading}

@@ -1,4 +1,4 @@
-use Rattle.std.proofs.Common.{◌≡◌, ℕ, ◌-◌, Bool, true, ◌==◌, ◌||◌, get_or, take, sym, ap, ◌∙◌, subst, arith, take_all}
+use Rattle.std.proofs.Common.{◌≡◌, ℕ, ◌-◌, Bool, true, ◌==◌, ◌||◌, get_or, take, sym, ap, ◌∙◌, arith}
 use Rattle.std.proofs.lemmas.Str.{IsCharBoundary-before_ascii}
 use Rattle.cmark_grammar.specs.Columns.{drop_end}
 use Rattle.pulldown_cmark.proofs.ScanSteps.{drop_end-less, drop_end-none, drop_end-stays, either_is_ascii, front_of}
@@ -21,10 +21,10 @@ returns-clause-value c =
     let q : ℕ → Bool = λ b. (b == c.args.one) || (b == c.args.other) in
     let bytes = c.as_bytes-bytes.result.now in
     let stays : drop_end q (take c.loop-len.len bytes) ≡ take c.loop-len.len bytes =
-        elim c.loop-len-test.branch [
-          | then-loop-len-test+else-is_either w ↦ drop_end-stays q bytes c.loop-len.len w.loop-len-test.true c.loop-len.invariant.within (sym w.is_either.ensures ∙ w.if-is_either.false)
-          | else-loop-len-test w ↦ drop_end-none q bytes c.loop-len.len w.loop-len-test.false
-        ]
+    elim c.loop-len-test.branch [
+      | then-loop-len-test+else-is_either w ↦ drop_end-stays q bytes c.loop-len.len w.loop-len-test.true c.loop-len.invariant.within (sym w.is_either.ensures ∙ w.if-is_either.false)
+      | else-loop-len-test w ↦ drop_end-none q bytes c.loop-len.len w.loop-len-test.false
+    ]
     in
     c.range.ensures.value ∙ front_of c.args.text.now c.loop-len.len ∙ ap (take c.loop-len.len) (sym c.as_bytes-bytes.ensures.value) ∙ sym stays
     ∙ c.loop-len.invariant.dropped ∙ ap (drop_end q) c.as_bytes-bytes.ensures.value

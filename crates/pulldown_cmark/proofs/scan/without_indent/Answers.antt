@@ -1,4 +1,4 @@
-use Rattle.std.proofs.Common.{◌≡◌, ap, ◌∙◌}
+use Rattle.std.proofs.Common.{ap, ◌∙◌}
 use Rattle.std.specs.List.{prefix_len}
 use Rattle.cmark_grammar.specs.Columns.{is_blank_byte}
 use Rattle.pulldown_cmark.proofs.ScanSteps.{cut_behind_blanks}

@@ -1,5 +1,6 @@
-use Rattle.std.proofs.Common.{◌≡◌, [], ◌∷◌, ◌++◌, sym, ap, ◌∙◌}
+use Rattle.std.proofs.Common.{[], ◌∷◌, ◌++◌, sym, ap, ◌∙◌}
 use Rattle.std.proofs.lemmas.Result.{on_ok_weaker}
+use Rattle.cmark_grammar.specs.Attributes.{no_attributes}
 use Rattle.cmark_grammar.specs.Tag.{Heading as HeadingTag}
 use Rattle.cmark_grammar.specs.TagEnd.{Heading as HeadingEnd}
 use Rattle.cmark_grammar.specs.Event.{Start, End}
@@ -19,8 +20,8 @@ returns c =
     (λ added closed built.
     built_heading (all_ranged c.args.self.now) (all_ranged c.add.new.self) (all_ranged c.add_text.new.self) (all_ranged c.add-2.new.self) _ _ _ _ closed level r
     c.add.ensures.paragraph c.add_text.ensures.paragraph c.add-2.ensures.paragraph
-    (c.in_ok-add.ensures.added ∙ ap (λ n. all_ranged c.args.self.now ++ event_at (Start (HeadingTag level)) n r.past ∷ []) (sym opens.1))
+    (c.in_ok-add.ensures.added ∙ ap (λ n. all_ranged c.args.self.now ++ event_at (Start (HeadingTag level no_attributes)) n r.past ∷ []) (sym opens.1))
     (c.in_ok-add_text.ensures.added ∙ ap (λ d. all_ranged c.add.new.self ++ reading d) (sym opens.2))
-    (added ∙ ap (λ e. all_ranged c.add_text.new.self ++ event_at (End e) c.args.heading.start r.past ∷ []) c.to_end.ensures ∙ ap (λ n. all_ranged c.add_text.new.self ++ event_at (End (HeadingEnd level)) n r.past ∷ []) (sym opens.1))
+    (added ∙ ap (λ n. all_ranged c.add_text.new.self ++ event_at (End (HeadingEnd level)) n r.past ∷ []) (sym opens.1))
     built)
     c.add-2.ensures.added

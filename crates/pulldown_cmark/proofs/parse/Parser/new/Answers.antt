@@ -4,4 +4,4 @@ use Rattle.pulldown_cmark.proofs.ParseSteps.{reads_from}
 use Rattle.pulldown_cmark.proofs.parse.Parser.new.Goals as goal
 
 pub returns : goal.returns
-returns g c = reads_from _ c.args.text.now _ _ (ap (map ranged) c.into_iter.ensures.rest ∙ c.in_ok-events.ensures)
+returns g c = reads_from _ c.args.text.now _ _ (ap (map ranged) c.into_iter.ensures.rest ∙ c.in_ok-steps.ensures)

@@ -4,7 +4,7 @@ use Rattle.cmark_grammar.specs.Reading.{reading}
 use Rattle.cmark_grammar.specs.Document.{Nil}
 use Rattle.cmark_grammar.specs.OutlineModel.{Between}
 use Rattle.pulldown_cmark.proofs.BuildSteps.{nothing_more, all_read}
-use Rattle.pulldown_cmark.proofs.outline.events_of.Goals as goal
+use Rattle.pulldown_cmark.proofs.outline.steps_of.Goals as goal
 
 pub loop-start-init : goal.loop-start-init
 loop-start-init c = record {

@@ -5,7 +5,7 @@ use Rattle.cmark_grammar.specs.Document.{Nil}
 use Rattle.cmark_grammar.specs.Outline.{rows, rows_from}
 use Rattle.cmark_grammar.specs.OutlineModel.{Open, Between, feed_all}
 use Rattle.pulldown_cmark.specs.Building.{Built}
-use Rattle.pulldown_cmark.proofs.outline.events_of.Given as goal
+use Rattle.pulldown_cmark.proofs.outline.steps_of.Given as goal
 
 abbrev pub invariant-loop-start : goal.invariant-loop-start
 invariant-loop-start l = record {
