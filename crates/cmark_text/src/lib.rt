@@ -2,6 +2,7 @@
 //! of texts in HTML.
 #![tactic(auto)]
 
+mod copies;
 mod entity;
 pub mod escape;
 mod event;
