@@ -7,7 +7,6 @@ ghost use Rattle.std.specs.Cmp.Rules.{hashing};
 ghost use Rattle.std.specs.Hash as fed;
 ghost use Rattle.std.proofs.Common.{rules};
 ghost use Rattle.cmark_grammar.specs.Labels.{normal_form, case_folded, fold};
-ghost use Rattle.cmark_text.specs.Labelled.{link_text, link_key, footnote_text, footnote_key};
 
 use caseless::default_case_fold_str;
 use std::alloc::{AllocError, Global};
@@ -21,9 +20,12 @@ use std::hash::{Hash, Hasher};
 pub struct LinkLabel {
     text: String,
     folded: String,
+    ghost folds: { string_bytes folded ≡ case_folded (string_bytes text) },
 }
 
 impl LinkLabel {
+    ghost use Rattle.cmark_text.specs.Labelled.{link_text, link_key};
+
     /// The label that this text spells.
     pub fn new(alloc: Global, label: &str) -> Result<LinkLabel, AllocError>
         ensures text { IfOk result (λ made. link_text made ≡ normal_form label.now) }
@@ -43,6 +45,8 @@ impl LinkLabel {
 }
 
 impl PartialEq for LinkLabel {
+    ghost use Rattle.cmark_text.specs.Labelled.{link_key};
+
     ghost eq = { λ a b. pointwise nat_eq (link_key a) (link_key b) };
 
     ghost laws = { on_per link_key (partial_equiv_from_equiv nat_list_eq_equiv) };
@@ -53,10 +57,14 @@ impl PartialEq for LinkLabel {
 }
 
 impl Eq for LinkLabel {
+    ghost use Rattle.cmark_text.specs.Labelled.{link_key};
+
     ghost laws = { on_equiv link_key nat_list_eq_equiv };
 }
 
 impl Hash for LinkLabel {
+    ghost use Rattle.cmark_text.specs.Labelled.{link_key};
+
     ghost hash_input = { λ label. fed.str (link_key label) };
 
     ghost respects_eq = { Prim.search (hashing, rules) };
@@ -71,9 +79,12 @@ impl Hash for LinkLabel {
 pub struct FootnoteLabel {
     text: String,
     folded: String,
+    ghost folds: { string_bytes folded ≡ case_folded (string_bytes text) },
 }
 
 impl FootnoteLabel {
+    ghost use Rattle.cmark_text.specs.Labelled.{footnote_text, footnote_key};
+
     /// The label that this text spells.
     pub fn new(alloc: Global, label: &str) -> Result<FootnoteLabel, AllocError>
         ensures text { IfOk result (λ made. footnote_text made ≡ normal_form label.now) }
@@ -93,6 +104,8 @@ impl FootnoteLabel {
 }
 
 impl PartialEq for FootnoteLabel {
+    ghost use Rattle.cmark_text.specs.Labelled.{footnote_key};
+
     ghost eq = { λ a b. pointwise nat_eq (footnote_key a) (footnote_key b) };
 
     ghost laws = { on_per footnote_key (partial_equiv_from_equiv nat_list_eq_equiv) };
@@ -103,10 +116,14 @@ impl PartialEq for FootnoteLabel {
 }
 
 impl Eq for FootnoteLabel {
+    ghost use Rattle.cmark_text.specs.Labelled.{footnote_key};
+
     ghost laws = { on_equiv footnote_key nat_list_eq_equiv };
 }
 
 impl Hash for FootnoteLabel {
+    ghost use Rattle.cmark_text.specs.Labelled.{footnote_key};
+
     ghost hash_input = { λ label. fed.str (footnote_key label) };
 
     ghost respects_eq = { Prim.search (hashing, rules) };
