@@ -17,7 +17,7 @@ mod text;
 pub use entity::{BasicEntities, EntityLookup};
 pub use escape::{escape_href, escape_html, escape_html_body_text};
 pub use event::{Event, Tag, TagEnd};
-pub use inline::{InlineStr, MAX_INLINE_STR_LEN, StringTooLongError};
+pub use inline::{InlineStr, StringTooLongError};
 pub use kind::{
     Alignment, BlockQuoteKind, CodeBlockKind, HeadingLevel, InvalidHeadingLevel, LinkType,
     MetadataBlockKind,
