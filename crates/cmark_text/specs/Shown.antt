@@ -49,11 +49,6 @@ IsBoxed (Boxed text) = Unit {0}
 IsBoxed (Borrowed text) = ⊥
 IsBoxed (Inlined text) = ⊥
 
-abbrev pub IsBorrowed : CowStr → Type 0
-IsBorrowed (Boxed text) = ⊥
-IsBorrowed (Borrowed text) = Unit {0}
-IsBorrowed (Inlined text) = ⊥
-
 abbrev pub IsInlined : CowStr → Type 0
 IsInlined (Boxed text) = ⊥
 IsInlined (Borrowed text) = ⊥

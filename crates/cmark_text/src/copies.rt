@@ -1,6 +1,7 @@
 //! Copies of tags and events, and what they are in values that borrow nothing.
 
-ghost use Rattle.std.specs.Prelude.{◌≡◌, IfOk, map, option_map};
+ghost use Rattle.std.specs.Prelude.{◌≡◌, length, IfOk, IsOk, IfSome, map, option_map};
+ghost use Rattle.cmark_text.specs.InPlace.{CopiesInPlace, TagCopiesInPlace, EventCopiesInPlace, StaysInPlace, TagStaysInPlace, EventStaysInPlace};
 ghost use Rattle.cmark_text.specs.Shown.{shown, shown_tag, shown_attribute, text_bytes};
 
 use crate::event::{Event, Tag};
@@ -10,7 +11,8 @@ use std::alloc::{AllocError, Global};
 impl<'a> Tag<'a> {
     /// The same tag once more.
     pub fn clone(&self, alloc: Global) -> Result<Tag<'a>, AllocError>
-        ensures { IfOk result (λ copy. shown_tag copy ≡ shown_tag self.now) }
+        ensures value { IfOk result (λ copy. shown_tag copy ≡ shown_tag self.now) }
+        ensures succeeds { TagCopiesInPlace self.now → IsOk result }
     {
         match self {
             Tag::Paragraph => Ok(Tag::Paragraph),
@@ -71,7 +73,8 @@ impl<'a> Tag<'a> {
 
     /// The same tag in a value that borrows nothing.
     pub fn into_static(self, alloc: Global) -> Result<Tag<'static>, AllocError>
-        ensures { IfOk result (λ made. shown_tag made ≡ shown_tag self.entry) }
+        ensures value { IfOk result (λ made. shown_tag made ≡ shown_tag self.entry) }
+        ensures succeeds { TagStaysInPlace self.entry → IsOk result }
     {
         match self {
             Tag::Paragraph => Ok(Tag::Paragraph),
@@ -136,7 +139,8 @@ impl<'a> Tag<'a> {
 impl<'a> Event<'a> {
     /// The same event once more.
     pub fn clone(&self, alloc: Global) -> Result<Event<'a>, AllocError>
-        ensures { IfOk result (λ copy. shown copy ≡ shown self.now) }
+        ensures value { IfOk result (λ copy. shown copy ≡ shown self.now) }
+        ensures succeeds { EventCopiesInPlace self.now → IsOk result }
     {
         match self {
             Event::Start(tag) => Ok(Event::Start(tag.clone(alloc)?)),
@@ -157,7 +161,8 @@ impl<'a> Event<'a> {
 
     /// The same event in a value that borrows nothing.
     pub fn into_static(self, alloc: Global) -> Result<Event<'static>, AllocError>
-        ensures { IfOk result (λ made. shown made ≡ shown self.entry) }
+        ensures value { IfOk result (λ made. shown made ≡ shown self.entry) }
+        ensures succeeds { EventStaysInPlace self.entry → IsOk result }
     {
         match self {
             Event::Start(tag) => Ok(Event::Start(tag.into_static(alloc)?)),
@@ -186,7 +191,8 @@ fn clone_optional_text<'a>(
     alloc: Global,
     text: &Option<CowStr<'a>>,
 ) -> Result<Option<CowStr<'a>>, AllocError>
-    ensures { IfOk result (λ copy. option_map text_bytes copy ≡ option_map text_bytes text.now) }
+    ensures value { IfOk result (λ copy. option_map text_bytes copy ≡ option_map text_bytes text.now) }
+    ensures succeeds { IfSome text.now CopiesInPlace → IsOk result }
 {
     match text {
         Some(text) => Ok(Some(text.clone(alloc)?)),
@@ -195,7 +201,8 @@ fn clone_optional_text<'a>(
 }
 
 fn clone_texts<'a>(alloc: Global, texts: &[CowStr<'a>]) -> Result<Vec<CowStr<'a>>, AllocError>
-    ensures { IfOk result (λ copies. map text_bytes copies.items ≡ map text_bytes texts.now) }
+    ensures value { IfOk result (λ copies. map text_bytes copies.items ≡ map text_bytes texts.now) }
+    ensures succeeds { length texts.now ≡ 0 → IsOk result }
 {
     let mut copies = Vec::with_capacity(alloc, texts.len())?;
     for text in texts {
@@ -218,7 +225,8 @@ fn clone_attributes<'a>(
     alloc: Global,
     attributes: &[Attribute<'a>],
 ) -> Result<Vec<Attribute<'a>>, AllocError>
-    ensures { IfOk result (λ copies. map shown_attribute copies.items ≡ map shown_attribute attributes.now) }
+    ensures value { IfOk result (λ copies. map shown_attribute copies.items ≡ map shown_attribute attributes.now) }
+    ensures succeeds { length attributes.now ≡ 0 → IsOk result }
 {
     let mut copies = Vec::with_capacity(alloc, attributes.len())?;
     for attribute in attributes {
@@ -231,7 +239,8 @@ fn static_optional_text(
     alloc: Global,
     text: Option<CowStr<'_>>,
 ) -> Result<Option<CowStr<'static>>, AllocError>
-    ensures { IfOk result (λ made. option_map text_bytes made ≡ option_map text_bytes text.entry) }
+    ensures value { IfOk result (λ made. option_map text_bytes made ≡ option_map text_bytes text.entry) }
+    ensures succeeds { IfSome text.entry StaysInPlace → IsOk result }
 {
     match text {
         Some(text) => Ok(Some(text.into_static(alloc)?)),
@@ -240,7 +249,8 @@ fn static_optional_text(
 }
 
 fn static_texts(alloc: Global, texts: Vec<CowStr<'_>>) -> Result<Vec<CowStr<'static>>, AllocError>
-    ensures { IfOk result (λ made. map text_bytes made.items ≡ map text_bytes texts.entry.items) }
+    ensures value { IfOk result (λ made. map text_bytes made.items ≡ map text_bytes texts.entry.items) }
+    ensures succeeds { length texts.entry.items ≡ 0 → IsOk result }
 {
     let mut made = Vec::with_capacity(alloc, texts.len())?;
     for text in texts {
@@ -266,7 +276,8 @@ fn static_attributes(
     alloc: Global,
     attributes: Vec<Attribute<'_>>,
 ) -> Result<Vec<Attribute<'static>>, AllocError>
-    ensures { IfOk result (λ made. map shown_attribute made.items ≡ map shown_attribute attributes.entry.items) }
+    ensures value { IfOk result (λ made. map shown_attribute made.items ≡ map shown_attribute attributes.entry.items) }
+    ensures succeeds { length attributes.entry.items ≡ 0 → IsOk result }
 {
     let mut made = Vec::with_capacity(alloc, attributes.len())?;
     for attribute in attributes {
