@@ -7,5 +7,9 @@ mod outline;
 mod parse;
 mod scan;
 
-pub use cmark_text::{BasicEntities, CowStr, EntityLookup, Event, HeadingLevel, Tag, TagEnd};
+pub use cmark_text::{
+    Alignment, BasicEntities, BlockQuoteKind, CodeBlockKind, CowStr, EntityLookup, Event,
+    HeadingLevel, InlineStr, InvalidHeadingLevel, LinkType, MetadataBlockKind, Options,
+    StringTooLongError, Tag, TagEnd,
+};
 pub use parse::{OffsetIter, Parser};

@@ -4,12 +4,12 @@ ghost use Rattle.std.specs.Prelude.{◌≡◌, ◌↔◌, List, IfOk};
 ghost use Rattle.std.specs.Iterator.{at_most};
 ghost use Rattle.cmark_grammar.specs.Answers.{Answers};
 ghost use Rattle.cmark_grammar.specs.Event.{Ranged};
-ghost use Rattle.cmark_grammar.specs.Options.{no_options};
-ghost use Rattle.cmark_text.specs.Shown.{shown};
+ghost use Rattle.cmark_grammar.specs.Options.{no_options, Options as GrammarOptions};
+ghost use Rattle.cmark_text.specs.Shown.{shown, shown_options};
 ghost use Rattle.pulldown_cmark.specs.Building.{event_of};
 
 use crate::outline::{Block, Step, StepKind, steps_of};
-use cmark_text::{CowStr, EntityLookup, Event, Tag, TagEnd};
+use cmark_text::{CowStr, EntityLookup, Event, Options, Tag, TagEnd};
 use std::alloc::{AllocError, Global};
 use std::ops::Range;
 use std::vec::IntoIter;
@@ -62,6 +62,30 @@ impl<'input, E: EntityLookup> Parser<'input, E> {
         entities: &'input E,
     ) -> Result<Parser<'input, E>, AllocError>
         ensures { IfOk result (Reads text.entry.now no_options (E.replacement entities.entry.now)) }
+    {
+        Parser::start(alloc, text, entities)
+    }
+
+    /// A parser of `text` with these options. No option has an effect yet: each is read from the day on which the
+    /// grammar has its rules.
+    pub fn new_ext(
+        alloc: Global,
+        text: &'input str,
+        options: Options,
+        entities: &'input E,
+    ) -> Result<Parser<'input, E>, AllocError>
+        ensures { IfOk result (Reads text.entry.now (shown_options options) (E.replacement entities.entry.now)) }
+    {
+        let _unread = options;
+        Parser::start(alloc, text, entities)
+    }
+
+    fn start(
+        alloc: Global,
+        text: &'input str,
+        entities: &'input E,
+    ) -> Result<Parser<'input, E>, AllocError>
+        ensures { IfOk result (λ parser. (options : GrammarOptions) → Reads text.entry.now options (E.replacement entities.entry.now) parser) }
     {
         let steps = steps_of(alloc, text)?;
         Ok(Parser {

@@ -1,7 +1,6 @@
-use Rattle.std.proofs.Common.{ap, ◌∙◌, map}
-use Rattle.pulldown_cmark.specs.Building.{ranged}
-use Rattle.pulldown_cmark.proofs.ParseSteps.{reads_from}
+use Rattle.std.proofs.lemmas.Result.{IfOk-weaker}
+use Rattle.cmark_grammar.specs.Options.{no_options}
 use Rattle.pulldown_cmark.proofs.parse.Parser.new.Goals as goal
 
 pub returns : goal.returns
-returns g c = reads_from _ c.args.text.now _ _ (ap (map ranged) c.into_iter.ensures.rest ∙ c.in_ok-steps.ensures)
+returns g c = IfOk-weaker c.start.result _ _ (λ parser reads. reads no_options) c.start.ensures

@@ -1,0 +1,7 @@
+//! Tests that cross the crates: texts with the events, ranges and HTML that they are read as.
+#![tactic(auto)]
+
+#[cfg(test)]
+mod reading;
+#[cfg(test)]
+mod writing;

@@ -1,0 +1,98 @@
+//! From texts to events, ranges and HTML.
+
+use pulldown_cmark::html::push_html;
+use pulldown_cmark::{BasicEntities, Parser};
+use std::alloc::{AllocError, Global};
+use std::test::Fail;
+
+/// The HTML of a text.
+fn html_of(alloc: Global, text: &str) -> Result<String, AllocError> {
+    let mut html = String::new(alloc);
+    push_html(&mut html, Parser::new(alloc, text, &BasicEntities)?)?;
+    Ok(html)
+}
+
+/// The ranges of a text's events.
+fn ranges_of(alloc: Global, text: &str) -> Result<Vec<(usize, usize)>, AllocError> {
+    let mut ranges = Vec::new(alloc);
+    let iter = Parser::new(alloc, text, &BasicEntities)?.into_offset_iter();
+    for item in iter {
+        let (_event, range) = item?;
+        ranges.push((range.start, range.end))?;
+    }
+    Ok(ranges)
+}
+
+#[test]
+fn renders(rt: HostRuntime) -> Result<(), Fail> {
+    for (text, html) in [
+        ("hello world", "<p>hello world</p>\n"),
+        ("", ""),
+        ("# a\nb\nc\n", "<h1>a</h1>\n<p>b\nc</p>\n"),
+        ("a\r\n\r\nb", "<p>a</p>\n<p>b</p>\n"),
+        ("###\n", "<h3></h3>\n"),
+        ("a\rb", "<p>a\nb</p>\n"),
+        ("####### a\n", "<p>####### a</p>\n"),
+        ("   ## a ##  \n", "<h2>a</h2>\n"),
+        ("    # a\n", "<p># a</p>\n"),
+        (" \t# a\n", "<p># a</p>\n"),
+        (
+            "  \t x \t\n\t\n<&>\"'",
+            "<p>x</p>\n<p>&lt;&amp;&gt;\"'</p>\n",
+        ),
+        ("a\n# #\nb", "<p>a</p>\n<h1></h1>\n<p>b</p>\n"),
+        ("# a#\n#b\n", "<h1>a#</h1>\n<p>#b</p>\n"),
+        ("###### \u{e9}\n", "<h6>\u{e9}</h6>\n"),
+    ] {
+        assert_eq!(rt; html_of(rt.alloc(), text)?.as_str(), html, "of {text:?}");
+    }
+    Ok(())
+}
+
+#[test]
+fn gives_ranges(rt: HostRuntime) -> Result<(), Fail> {
+    let row = ranges_of(rt.alloc(), "hello world")?;
+    assert_eq!(rt; row.as_slice(), [(0, 11), (0, 11), (0, 11)].as_slice());
+    let heading = ranges_of(rt.alloc(), "# a\nb\nc\n")?;
+    assert_eq!(rt;
+        heading.as_slice(),
+        [
+            (0, 4),
+            (2, 3),
+            (0, 4),
+            (4, 8),
+            (4, 5),
+            (5, 6),
+            (6, 7),
+            (4, 8)
+        ]
+        .as_slice()
+    );
+    let pairs = ranges_of(rt.alloc(), "a\r\n\r\nb")?;
+    assert_eq!(rt;
+        pairs.as_slice(),
+        [(0, 3), (0, 1), (0, 3), (5, 6), (5, 6), (5, 6)].as_slice()
+    );
+    let bare = ranges_of(rt.alloc(), "###\n")?;
+    assert_eq!(rt; bare.as_slice(), [(0, 4), (0, 4)].as_slice());
+    let none = ranges_of(rt.alloc(), "")?;
+    assert_eq!(rt; none.len(), 0);
+    Ok(())
+}
+
+#[test]
+fn goes_on_with_ranges(rt: HostRuntime) -> Result<(), Fail> {
+    let mut parser = Parser::new(rt.alloc(), "# a\nb\nc\n", &BasicEntities)?;
+    for _ in 0..4 {
+        assert!(rt; parser.next().is_some());
+    }
+    let mut iter = parser.into_offset_iter();
+    for want in [(4, 5), (5, 6), (6, 7), (4, 8)] {
+        let Some(Ok((_event, range))) = iter.next() else {
+            return Err(Fail::from(AllocError));
+        };
+        assert_eq!(rt; (range.start, range.end), want);
+    }
+    assert!(rt; iter.next().is_none());
+    Ok(())
+}
