@@ -1,7 +1,4 @@
-//! From events to HTML, of an iterator that no parser made.
-
-ghost use Rattle.std.specs.Prelude.{◌-◌};
-ghost use Rattle.std.specs.Iterator.{at_most};
+//! From events to HTML, of iterators that no parser made.
 
 use pulldown_cmark::html::push_html;
 use pulldown_cmark::{
@@ -10,37 +7,226 @@ use pulldown_cmark::{
 use std::alloc::{AllocError, Global};
 use std::test::Fail;
 
-/// Gives so many rules, and then an error item if it is to fail.
-#[derive(Drop)]
-struct Rules {
-    left: usize,
-    fails: bool,
+/// A borrowed text.
+fn text_of(text: &str) -> CowStr<'_> {
+    CowStr::Borrowed(text)
 }
 
-impl Iterator for Rules {
-    type Item = Result<Event<'static>, AllocError>;
+/// A heading's start with nothing but its level.
+fn heading<'a>(alloc: Global, level: HeadingLevel) -> Event<'a> {
+    Event::Start(Tag::Heading {
+        level,
+        id: None,
+        classes: Vec::new(alloc),
+        attrs: Vec::new(alloc),
+    })
+}
 
-    ghost remaining = { λ rules. at_most (rules.left + 1) };
+/// A link's start.
+fn link<'a>(link_type: LinkType, dest_url: &'a str, title: &'a str) -> Event<'a> {
+    Event::Start(Tag::Link {
+        link_type,
+        dest_url: text_of(dest_url),
+        title: text_of(title),
+        id: text_of(""),
+    })
+}
 
-    fn next(&mut self) -> Option<Result<Event<'static>, AllocError>> {
-        if self.left > 0 {
-            self.left -= 1;
-            return Some(Ok(Event::Rule));
-        }
-        None
+/// The HTML of these events behind a text that the string had.
+fn html_behind(alloc: Global, old: &str, events: Vec<Event<'_>>) -> Result<String, AllocError> {
+    let mut html = String::from_str(alloc, old)?;
+    let mut items = Vec::new(alloc);
+    for event in events {
+        items.push(Ok(event))?;
     }
+    push_html(&mut html, items.into_iter())?;
+    Ok(html)
 }
 
 #[test]
-fn writes_behind_the_old_text(rt: HostRuntime) -> Result<(), Fail> {
-    let mut html = String::from_str(rt.alloc(), "x")?;
-    push_html(
-        &mut html,
-        Rules {
-            left: 1,
-            fails: false,
-        },
-    )?;
+fn judges_the_line_start_by_what_it_wrote(rt: HostRuntime) -> Result<(), Fail> {
+    let alloc = rt.alloc();
+    let html = html_behind(alloc, "x", vec![in alloc; Event::Rule]?)?;
     assert_eq!(rt; html.as_str(), "x<hr />\n");
+    let html = html_behind(
+        alloc,
+        "",
+        vec![in alloc; Event::Text(text_of("a")), Event::Rule]?,
+    )?;
+    assert_eq!(rt; html.as_str(), "a\n<hr />\n");
+    Ok(())
+}
+
+#[test]
+fn writes_headings(rt: HostRuntime) -> Result<(), Fail> {
+    let alloc = rt.alloc();
+    let bare = vec![in alloc;
+        heading(alloc, HeadingLevel::H6),
+        Event::Text(text_of("a")),
+        Event::End(TagEnd::Heading(HeadingLevel::H6)),
+    ]?;
+    assert_eq!(rt; html_behind(alloc, "", bare)?.as_str(), "<h6>a</h6>\n");
+    let mut classes = Vec::new(alloc);
+    classes.push(text_of("b"))?;
+    classes.push(text_of("\"c\""))?;
+    let mut attrs = Vec::new(alloc);
+    attrs.push((text_of("d"), None))?;
+    attrs.push((text_of("e"), Some(text_of("<f>"))))?;
+    let full = vec![in alloc;
+        Event::Start(Tag::Heading {
+            level: HeadingLevel::H2,
+            id: Some(text_of("a&")),
+            classes,
+            attrs,
+        }),
+    ]?;
+    assert_eq!(rt;
+        html_behind(alloc, "", full)?.as_str(),
+        "<h2 id=\"a&amp;\" class=\"b &quot;c&quot;\" d=\"\" e=\"&lt;f&gt;\">"
+    );
+    Ok(())
+}
+
+#[test]
+fn writes_blocks(rt: HostRuntime) -> Result<(), Fail> {
+    let alloc = rt.alloc();
+    let quote = vec![in alloc;
+        Event::Start(Tag::BlockQuote(Some(BlockQuoteKind::Tip))),
+        Event::Start(Tag::BlockQuote(None)),
+        Event::End(TagEnd::BlockQuote(None)),
+        Event::End(TagEnd::BlockQuote(Some(BlockQuoteKind::Tip))),
+    ]?;
+    assert_eq!(rt;
+        html_behind(alloc, "", quote)?.as_str(),
+        "<blockquote class=\"markdown-alert-tip\">\n<blockquote>\n</blockquote>\n</blockquote>\n"
+    );
+    let code = vec![in alloc;
+        Event::Start(Tag::CodeBlock(CodeBlockKind::Fenced(text_of("c++ x")))),
+        Event::Text(text_of("a<b\n")),
+        Event::End(TagEnd::CodeBlock),
+        Event::Start(Tag::CodeBlock(CodeBlockKind::Fenced(text_of("")))),
+        Event::End(TagEnd::CodeBlock),
+        Event::Start(Tag::CodeBlock(CodeBlockKind::Indented)),
+        Event::End(TagEnd::CodeBlock),
+    ]?;
+    assert_eq!(rt;
+        html_behind(alloc, "", code)?.as_str(),
+        "<pre><code class=\"language-c++\">a&lt;b\n</code></pre>\n<pre><code></code></pre>\n<pre><code></code></pre>\n"
+    );
+    let list = vec![in alloc;
+        Event::Start(Tag::List(Some(7))),
+        Event::Start(Tag::Item),
+        Event::TaskListMarker(true),
+        Event::Text(text_of("a")),
+        Event::Start(Tag::List(None)),
+        Event::Start(Tag::Item),
+        Event::TaskListMarker(false),
+        Event::End(TagEnd::Item),
+        Event::End(TagEnd::List(false)),
+        Event::End(TagEnd::Item),
+        Event::End(TagEnd::List(true)),
+    ]?;
+    assert_eq!(rt;
+        html_behind(alloc, "", list)?.as_str(),
+        "<ol start=\"7\">\n<li><input disabled=\"\" type=\"checkbox\" checked=\"\"/>\na\n<ul>\n\
+         <li><input disabled=\"\" type=\"checkbox\"/>\n</li>\n</ul>\n</li>\n</ol>\n"
+    );
+    let terms = vec![in alloc;
+        Event::Start(Tag::DefinitionList),
+        Event::Start(Tag::DefinitionListTitle),
+        Event::Text(text_of("a")),
+        Event::End(TagEnd::DefinitionListTitle),
+        Event::Start(Tag::DefinitionListDefinition),
+        Event::Text(text_of("b")),
+        Event::End(TagEnd::DefinitionListDefinition),
+        Event::End(TagEnd::DefinitionList),
+    ]?;
+    assert_eq!(rt;
+        html_behind(alloc, "", terms)?.as_str(),
+        "<dl>\n<dt>a</dt>\n<dd>b</dd>\n</dl>\n"
+    );
+    let html = vec![in alloc;
+        Event::Start(Tag::HtmlBlock),
+        Event::Html(text_of("<hr>\n")),
+        Event::End(TagEnd::HtmlBlock),
+        Event::Rule,
+    ]?;
+    assert_eq!(rt; html_behind(alloc, "", html)?.as_str(), "<hr>\n<hr />\n");
+    Ok(())
+}
+
+#[test]
+fn writes_spans(rt: HostRuntime) -> Result<(), Fail> {
+    let alloc = rt.alloc();
+    let nested = vec![in alloc;
+        Event::Start(Tag::Emphasis),
+        Event::Start(Tag::Strong),
+        Event::Start(Tag::Strikethrough),
+        Event::Start(Tag::Superscript),
+        Event::Start(Tag::Subscript),
+        Event::Text(text_of("<&>\"'")),
+        Event::End(TagEnd::Subscript),
+        Event::End(TagEnd::Superscript),
+        Event::End(TagEnd::Strikethrough),
+        Event::End(TagEnd::Strong),
+        Event::End(TagEnd::Emphasis),
+    ]?;
+    assert_eq!(rt;
+        html_behind(alloc, "", nested)?.as_str(),
+        "<em><strong><del><sup><sub>&lt;&amp;&gt;\"'</sub></sup></del></strong></em>"
+    );
+    let leaves = vec![in alloc;
+        Event::Code(text_of("<\">")),
+        Event::InlineMath(text_of("a'")),
+        Event::DisplayMath(text_of("\"b")),
+        Event::InlineHtml(text_of("<i>")),
+        Event::HardBreak,
+        Event::SoftBreak,
+    ]?;
+    assert_eq!(rt;
+        html_behind(alloc, "", leaves)?.as_str(),
+        "<code>&lt;\"&gt;</code><span class=\"math math-inline\">a&#x27;</span>\
+         <span class=\"math math-display\">&quot;b</span><i><br />\n\n"
+    );
+    Ok(())
+}
+
+#[test]
+fn writes_links(rt: HostRuntime) -> Result<(), Fail> {
+    let alloc = rt.alloc();
+    for (event, html) in [
+        (
+            link(LinkType::Inline, "/a b'&", ""),
+            "<a href=\"/a%20b&#x27;&amp;\">",
+        ),
+        (
+            link(LinkType::Reference, "/", "t\"'"),
+            "<a href=\"/\" title=\"t&quot;&#x27;\">",
+        ),
+        (
+            link(LinkType::Email, "a@b.c", ""),
+            "<a href=\"mailto:a@b.c\">",
+        ),
+        (Event::End(TagEnd::Link), "</a>"),
+    ] {
+        assert_eq!(rt;
+            html_behind(alloc, "", vec![in alloc; event]?)?.as_str(),
+            html
+        );
+    }
+    Ok(())
+}
+
+#[test]
+fn stops_at_an_error(rt: HostRuntime) -> Result<(), Fail> {
+    let mut html = String::from_str(rt.alloc(), "old ")?;
+    let items = [
+        Ok(Event::Start(Tag::Paragraph)),
+        Ok(Event::Text(text_of("a"))),
+        Err(AllocError),
+        Ok(Event::End(TagEnd::Paragraph)),
+    ];
+    assert!(rt; push_html(&mut html, items.into_iter()).is_err());
+    assert_eq!(rt; html.as_str(), "old <p>a");
     Ok(())
 }

@@ -9,6 +9,7 @@ ghost use Rattle.cmark_text.specs.Shown.{shown, shown_options};
 ghost use Rattle.pulldown_cmark.specs.Building.{event_of};
 
 use crate::outline::{Block, Step, StepKind, steps_of};
+use bitflags::Flags;
 use cmark_text::{CowStr, EntityLookup, Event, Options, Tag, TagEnd};
 use std::alloc::{AllocError, Global};
 use std::ops::Range;
@@ -63,7 +64,7 @@ impl<'input, E: EntityLookup> Parser<'input, E> {
     ) -> Result<Parser<'input, E>, AllocError>
         ensures { IfOk result (Reads text.entry.now no_options (E.replacement entities.entry.now)) }
     {
-        Parser::start(alloc, text, entities)
+        Parser::start(alloc, text, Options::empty(), entities)
     }
 
     /// A parser of `text` with these options. No option has an effect yet: each is read from the day on which the
@@ -76,13 +77,13 @@ impl<'input, E: EntityLookup> Parser<'input, E> {
     ) -> Result<Parser<'input, E>, AllocError>
         ensures { IfOk result (Reads text.entry.now (shown_options options) (E.replacement entities.entry.now)) }
     {
-        let _unread = options;
-        Parser::start(alloc, text, entities)
+        Parser::start(alloc, text, options, entities)
     }
 
     fn start(
         alloc: Global,
         text: &'input str,
+        _options: Options,
         entities: &'input E,
     ) -> Result<Parser<'input, E>, AllocError>
         ensures { IfOk result (λ parser. (options : GrammarOptions) → Reads text.entry.now options (E.replacement entities.entry.now) parser) }
