@@ -9,7 +9,7 @@ use crate::kind::{
 };
 use crate::text::CowStr;
 
-/// An element that has a start and an end.
+/// An element that has a start and an end. A value has 128 bytes, those of a link's three texts.
 #[derive(Debug, Drop, PartialEq, Eq)]
 pub enum Tag<'a> {
     /// A paragraph (CommonMark 4.8).
@@ -86,6 +86,8 @@ pub enum Tag<'a> {
     /// A metadata block (this profile's own).
     MetadataBlock(MetadataBlockKind),
 }
+
+const _: () = prove!(size_of::<Tag<'static>>() == 128);
 
 impl<'a> Tag<'a> {
     /// The end of this element.
@@ -180,7 +182,7 @@ impl From<Tag<'_>> for TagEnd {
     }
 }
 
-/// What a walk over a document gives, one after the other.
+/// What a walk over a document gives, one after the other. A value has 136 bytes, eight more than a tag.
 #[derive(Debug, Drop, PartialEq, Eq)]
 pub enum Event<'a> {
     /// An element starts; what is inside it follows, and then its `End`.
@@ -210,3 +212,5 @@ pub enum Event<'a> {
     /// The marker of a task; `true` where it is done (GFM 5.3).
     TaskListMarker(bool),
 }
+
+const _: () = prove!(size_of::<Event<'static>>() == 136);

@@ -19,11 +19,13 @@ const MAX_INLINE_STR_LEN: usize = 22;
 #[derive(Clone, Copy, Debug, PartialEq, Eq)]
 pub struct StringTooLongError;
 
-/// A text of at most 22 bytes, which takes no memory besides the value.
+/// A text of at most 22 bytes, which takes no memory besides the value, 32 bytes.
 #[derive(Drop)]
 pub struct InlineStr {
     text: ArrayString<MAX_INLINE_STR_LEN>,
 }
+
+const _: () = prove!(size_of::<InlineStr>() == 32);
 
 impl InlineStr {
     /// The text.
