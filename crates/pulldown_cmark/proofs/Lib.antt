@@ -3,3 +3,4 @@ pub mod LineSteps
 pub mod OpeningSteps
 pub mod ParseSteps
 pub mod ScanSteps
+pub mod WalkSteps
