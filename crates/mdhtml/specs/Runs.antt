@@ -14,8 +14,10 @@ use Rattle.mdhtml.specs.declared.run.TheConstants.{INPUT_LIMIT}
 use Rattle.mdhtml.specs.declared.watched.Notes.{Notes}
 
 -- the output is the HTML of a document that the text derives
-abbrev pub Renders : List ℕ → Lookup → List ℕ → Type 0
-Renders text lookup output = (document : Document) × Derives text no_options lookup Absent document × (output ≡ html (map (λ r. r.event) (reading document)))
+pub record Renders (text : List ℕ) (lookup : Lookup) (output : List ℕ) : Type 0 where
+  pub document : Document
+  pub derives : Derives text no_options lookup Absent document
+  pub output_is : output ≡ html (map (λ ranged. ranged.event) (reading document))
 
 -- a reader gave these bytes and is at its end: the bytes are all that it had, where it tells what it has left
 abbrev pub ReadsAll : Option (List ℕ) → Option (List ℕ) → List ℕ → Type 0
