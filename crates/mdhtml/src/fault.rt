@@ -29,8 +29,8 @@ impl From<AllocError> for RunFault {
 
     ghost from_gives = { λ _ fault. fault ≡ Memory };
 
-    fn from(_error: AllocError) -> RunFault {
-        RunFault::Memory
+    fn from(_error: AllocError) -> Self {
+        Self::Memory
     }
 }
 

@@ -21,7 +21,8 @@ fn render<E: EntityLookup>(alloc: Global, text: &str, entities: &E) -> Result<St
 {
     let _a = text;
     let _b = entities;
-    Ok(String::new(alloc))
+    let _c = alloc;
+    Err(AllocError)
 }
 
 /// Reads all of a reader's Markdown, writes its HTML and flushes. `entities` says what the entity names stand for.
