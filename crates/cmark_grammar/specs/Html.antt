@@ -57,9 +57,12 @@ abbrev pub value_or_empty : Option (List ℕ) → List ℕ
 value_or_empty None = []
 value_or_empty (Some value) = value
 
+abbrev pub other_attribute : Attribute → List ℕ
+other_attribute a = 32 ∷ quoted (escaped_html a.name) (value_or_empty a.value)
+
 abbrev pub other_attributes : List Attribute → List ℕ
 other_attributes [] = []
-other_attributes (a ∷ others) = quoted (32 ∷ escaped_html a.name) (value_or_empty a.value) ++ other_attributes others
+other_attributes (a ∷ others) = other_attribute a ++ other_attributes others
 
 abbrev pub heading_attributes : Attributes → List ℕ
 heading_attributes a = id_attribute a.id ++ (class_attribute a.classes ++ other_attributes a.others)

@@ -1,5 +1,5 @@
 -- The words of a label, as they come off its front.
-use Rattle.std.proofs.Common.{◌≡◌, ℕ, zero, suc, ◌+◌, ◌<◌, ◌≤◌, Bool, true, false, nat_le, cond, List, [], ◌∷◌, ◌++◌, length, get_or, filter, All, refl, sym, ap, subst, ◌∙◌, inl, inr, arith, length-append, append_assoc, append-nil}
+use Rattle.std.proofs.Common.{◌≡◌, ℕ, suc, ◌<◌, ◌≤◌, false, List, [], ◌∷◌, ◌++◌, length, get_or, filter, All, refl, sym, ap, subst, ◌∙◌, inl, inr, arith, length-append, append_assoc, append-nil}
 use Rattle.std.specs.Char.{is_ascii_whitespace}
 use Rattle.std.specs.List.{slice_split, join_with_byte, AllPass}
 use Rattle.std.specs.Str.{NoCharPasses}
@@ -19,17 +19,17 @@ not_white b high = grind (arith, nat_tests)
 no_white : (x : List ℕ) → NoCharPasses is_ascii_whitespace x → All (λ b. is_ascii_whitespace b ≡ false) x
 no_white x none =
     All-from_get_or (λ b. is_ascii_whitespace b ≡ false) x 0 (λ k below.
-      elim (cases_lt (get_or x k 0) 128) [
-        | inl small ↦ NoCharPasses-byte is_ascii_whitespace x k none below small
-        | inr high ↦ not_white (get_or x k 0) high
-      ])
+    elim (cases_lt (get_or x k 0) 128) [
+      | inl small ↦ NoCharPasses-byte is_ascii_whitespace x k none below small
+      | inr high ↦ not_white (get_or x k 0) high
+    ])
 
 -- white space in front
 words_past_gap : (gap bs : List ℕ) → AllPass is_ascii_whitespace gap → words (gap ++ bs) ≡ words bs
 words_past_gap [] bs white = refl
 words_past_gap (b ∷ gap) bs white =
     ap (filter is_nonempty) (slice_split-cons_yes is_ascii_whitespace b (gap ++ bs) (white 0 b (omega arith)))
-      ∙ words_past_gap gap bs (λ k d below. white (suc k) d (omega arith))
+    ∙ words_past_gap gap bs (λ k d below. white (suc k) d (omega arith))
 
 kept_word : (x : List ℕ) (parts : List (List ℕ)) → 0 < length x → filter is_nonempty (x ∷ parts) ≡ x ∷ filter is_nonempty parts
 kept_word x parts some = cond-true (is_nonempty x) (x ∷ filter is_nonempty parts) (filter is_nonempty parts) (lt-ltb 0 (length x) some)
@@ -39,11 +39,11 @@ words_at_word : (x sep rest : List ℕ) → 0 < length x → All (λ b. is_ascii
 words_at_word x [] rest some none behind =
     let nothing : rest ≡ [] = nil_from_length rest (behind.2 refl) in
     subst (λ l. words (x ++ l) ≡ x ∷ words l) (sym nothing)
-      (subst (λ l. words l ≡ x ∷ words []) (sym (append-nil x))
-        (ap (filter is_nonempty) (slice_split_none is_ascii_whitespace x none) ∙ kept_word x [] some))
+    (subst (λ l. words l ≡ x ∷ words []) (sym (append-nil x))
+    (ap (filter is_nonempty) (slice_split_none is_ascii_whitespace x none) ∙ kept_word x [] some))
 words_at_word x (y ∷ []) rest some none behind =
     ap (filter is_nonempty) (slice_split_at is_ascii_whitespace x y rest none (behind.0 0 y (omega arith)))
-      ∙ kept_word x (slice_split is_ascii_whitespace rest) some
+    ∙ kept_word x (slice_split is_ascii_whitespace rest) some
 words_at_word x (y ∷ (z ∷ zs)) rest some none behind = absurd (omega (arith, behind.1))
 
 words_white : (bs : List ℕ) → AllPass is_ascii_whitespace bs → words bs ≡ []
@@ -80,8 +80,8 @@ pub joined_more : (label text new bs gap x sep rest : List ℕ) → Joined label
 joined_more label text new bs gap x sep rest j cut white some none behind first further = record {
   seen = j.seen ++ x ∷ [];
   cut = j.cut
-    ∙ ap (λ l. j.seen ++ l) (ap words cut ∙ words_past_gap gap (x ++ (sep ++ rest)) white ∙ words_at_word x sep rest some (no_white x none) behind)
-    ∙ sym (append_assoc j.seen (x ∷ []) (words rest));
+      ∙ ap (λ l. j.seen ++ l) (ap words cut ∙ words_past_gap gap (x ++ (sep ++ rest)) white ∙ words_at_word x sep rest some (no_white x none) behind)
+      ∙ sym (append_assoc j.seen (x ∷ []) (words rest));
   joined = join_more j.seen text new x j.joined j.none first further;
   none = λ empty. absurd (elim (cases_lt 0 (length text)) [
     | inl more ↦ longer more empty
@@ -91,6 +91,7 @@ joined_more label text new bs gap x sep rest j cut white some none behind first 
   where
     shorter : length text ≡ 0 → length new ≡ 0 → ⊥
     shorter e empty = omega (arith, ap length (first e))
+
     longer : 0 < length text → length new ≡ 0 → ⊥
     longer more empty = omega (arith, ap length (further more), length-append text (32 ∷ x))
 

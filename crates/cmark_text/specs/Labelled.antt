@@ -4,13 +4,13 @@ use Rattle.cmark_text.specs.declared.label.LinkLabel.{LinkLabel}
 use Rattle.cmark_text.specs.declared.label.FootnoteLabel.{FootnoteLabel}
 
 abbrev pub link_text : LinkLabel → List ℕ
-link_text label = string_bytes label.text
+link_text label = string_bytes label.link.text
 
 abbrev pub link_key : LinkLabel → List ℕ
-link_key label = string_bytes label.folded
+link_key label = string_bytes label.link.folded
 
 abbrev pub footnote_text : FootnoteLabel → List ℕ
-footnote_text label = string_bytes label.text
+footnote_text label = string_bytes label.footnote.text
 
 abbrev pub footnote_key : FootnoteLabel → List ℕ
-footnote_key label = string_bytes label.folded
+footnote_key label = string_bytes label.footnote.folded

@@ -1,5 +1,5 @@
 pub mod Appended
-pub mod Chosen
+pub mod InPlace
 pub mod Labelled
 pub mod Marks
 pub mod Shown

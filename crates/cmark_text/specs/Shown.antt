@@ -1,5 +1,5 @@
 -- The values of this crate as those of the definitions: a text by its bytes, a heading level by its number.
-use Rattle.std.specs.Prelude.{ℕ, ◌==◌, Bool, List, map, Option, None, Some, option_map, if◌then◌else◌}
+use Rattle.std.specs.Prelude.{ℕ, ◌==◌, Bool, List, map, Option, option_map}
 use Rattle.std.specs.Box.{boxed_str_bytes}
 use Rattle.std.specs.Int.RustNames.{bit_and}
 use Rattle.cmark_grammar.specs.Alignment as alignment
@@ -9,6 +9,7 @@ use Rattle.cmark_grammar.specs.CodeBlockKind as code_kind
 use Rattle.cmark_grammar.specs.Event as event
 use Rattle.cmark_grammar.specs.LinkType as link
 use Rattle.cmark_grammar.specs.MetadataBlockKind as metadata
+use Rattle.cmark_grammar.specs.Options as options
 use Rattle.cmark_grammar.specs.Tag as tag
 use Rattle.cmark_grammar.specs.TagEnd as end
 use Rattle.cmark_text.specs.declared.inline.InlineStr.{InlineStr}
@@ -26,6 +27,7 @@ use Rattle.cmark_text.specs.declared.kind.HeadingLevel.{HeadingLevel}
 use Rattle.cmark_text.specs.declared.kind.HeadingLevel.TheVariants.{H1, H2, H3, H4, H5, H6}
 use Rattle.cmark_text.specs.declared.kind.LinkType.{LinkType}
 use Rattle.cmark_text.specs.declared.kind.LinkType.TheVariants as declared_link
+use Rattle.cmark_text.specs.declared.options.Options.{Options}
 use Rattle.cmark_text.specs.declared.event.Tag.{Tag}
 use Rattle.cmark_text.specs.declared.event.Tag.TheVariants as declared_tag
 use Rattle.cmark_text.specs.declared.event.TagEnd.{TagEnd}
@@ -46,11 +48,6 @@ abbrev pub IsBoxed : CowStr → Type 0
 IsBoxed (Boxed text) = Unit {0}
 IsBoxed (Borrowed text) = ⊥
 IsBoxed (Inlined text) = ⊥
-
-abbrev pub IsBorrowed : CowStr → Type 0
-IsBorrowed (Boxed text) = ⊥
-IsBorrowed (Borrowed text) = Unit {0}
-IsBorrowed (Inlined text) = ⊥
 
 abbrev pub IsInlined : CowStr → Type 0
 IsInlined (Boxed text) = ⊥
@@ -171,3 +168,26 @@ shown declared_event.SoftBreak = event.SoftBreak
 shown declared_event.HardBreak = event.HardBreak
 shown declared_event.Rule = event.Rule
 shown (declared_event.TaskListMarker is_checked) = event.TaskListMarker is_checked
+
+-- the set has all of these bits
+abbrev pub has_bits : Options → ℕ → Bool
+has_bits set bits = bit_and set.0 bits == bits
+
+abbrev pub shown_options : Options → options.Options
+shown_options set = record {
+  tables = has_bits set 2;
+  footnotes = has_bits set 4;
+  strikethrough = has_bits set 8;
+  tasklists = has_bits set 16;
+  smart_punctuation = has_bits set 32;
+  heading_attributes = has_bits set 64;
+  yaml_style_metadata_blocks = has_bits set 128;
+  pluses_delimited_metadata_blocks = has_bits set 256;
+  old_footnotes = has_bits set 516;
+  math = has_bits set 1024;
+  gfm = has_bits set 2048;
+  definition_list = has_bits set 4096;
+  superscript = has_bits set 8192;
+  subscript = has_bits set 16384;
+  wikilinks = has_bits set 32768;
+}

@@ -1,14 +1,13 @@
 //! Events and tags.
 
-ghost use Rattle.std.specs.Prelude.{◌≡◌, ℕ, List, IfOk, map, option_map};
+ghost use Rattle.std.specs.Prelude.{◌≡◌};
 ghost use Rattle.cmark_grammar.specs.TagEnd.{end_of};
-ghost use Rattle.cmark_text.specs.Shown.{shown, shown_tag, shown_end, text_bytes, shown_attribute};
+ghost use Rattle.cmark_text.specs.Shown.{shown_tag, shown_end};
 
 use crate::kind::{
     Alignment, BlockQuoteKind, CodeBlockKind, HeadingLevel, LinkType, MetadataBlockKind,
 };
 use crate::text::CowStr;
-use std::alloc::{AllocError, Global};
 
 /// An element that has a start and an end.
 #[derive(Debug, Drop, PartialEq, Eq)]

@@ -12,17 +12,17 @@ use arrayvec::ArrayString;
 use std::fmt::{self, Debug, Display, Formatter, Write};
 use std::hash::{Hash, Hasher};
 
-/// How many bytes an [`InlineStr`] holds at most.
-pub const MAX_INLINE_STR_LEN: usize = 22;
+/// How many bytes an `InlineStr` holds at most.
+const MAX_INLINE_STR_LEN: usize = 22;
 
-/// The text is longer than [`MAX_INLINE_STR_LEN`] bytes.
+/// The text is longer than 22 bytes.
 #[derive(Clone, Copy, Debug, PartialEq, Eq)]
 pub struct StringTooLongError;
 
 /// A text of at most 22 bytes, which takes no memory besides the value.
 #[derive(Drop)]
 pub struct InlineStr {
-    text: ArrayString<22>,
+    text: ArrayString<MAX_INLINE_STR_LEN>,
 }
 
 impl InlineStr {

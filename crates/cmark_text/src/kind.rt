@@ -2,6 +2,7 @@
 
 ghost use Rattle.std.specs.Prelude.{◌≡◌, ◌<◌, ◌⊎◌, ◌∷◌, [], ◌+◌, Some, MatchResult, IfOk, IsOk, length, ◌≤◌};
 ghost use Rattle.cmark_grammar.specs.LinkType.{to_unknown};
+ghost use Rattle.cmark_text.specs.InPlace.{KindCopiesInPlace, KindStaysInPlace};
 ghost use Rattle.cmark_text.specs.Shown.{level_number, shown_code_block_kind, shown_link_type};
 ghost use Rattle.cmark_grammar.specs.CodeBlockKind.{is_fenced, is_indented};
 
@@ -72,7 +73,8 @@ impl<'a> CodeBlockKind<'a> {
 
     /// The same kind once more.
     pub fn clone(&self, alloc: Global) -> Result<CodeBlockKind<'a>, AllocError>
-        ensures { IfOk result (λ copy. shown_code_block_kind copy ≡ shown_code_block_kind self.now) }
+        ensures value { IfOk result (λ copy. shown_code_block_kind copy ≡ shown_code_block_kind self.now) }
+        ensures succeeds { KindCopiesInPlace self.now → IsOk result }
     {
         match self {
             CodeBlockKind::Indented => Ok(CodeBlockKind::Indented),
@@ -82,7 +84,8 @@ impl<'a> CodeBlockKind<'a> {
 
     /// The same kind in a value that borrows nothing.
     pub fn into_static(self, alloc: Global) -> Result<CodeBlockKind<'static>, AllocError>
-        ensures { IfOk result (λ made. shown_code_block_kind made ≡ shown_code_block_kind self.entry) }
+        ensures value { IfOk result (λ made. shown_code_block_kind made ≡ shown_code_block_kind self.entry) }
+        ensures succeeds { KindStaysInPlace self.entry → IsOk result }
     {
         match self {
             CodeBlockKind::Indented => Ok(CodeBlockKind::Indented),

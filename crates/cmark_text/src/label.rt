@@ -7,107 +7,108 @@ ghost use Rattle.std.specs.Cmp.Rules.{hashing};
 ghost use Rattle.std.specs.Hash as fed;
 ghost use Rattle.std.proofs.Common.{rules};
 ghost use Rattle.cmark_grammar.specs.Labels.{normal_form, case_folded, fold};
-ghost use Rattle.cmark_text.specs.Labelled.{link_text, link_key, footnote_text, footnote_key};
 
 use caseless::default_case_fold_str;
 use std::alloc::{AllocError, Global};
 use std::hash::{Hash, Hasher};
 
 /// The label of a link (CommonMark 4.7), in its normal form: without white space at both ends, and with one space for
-/// each run of white space inside.
+/// each run of white space inside. White space is tab, line feed, form feed, carriage return and space.
 ///
 /// Two are equal, and hash alike, exactly when their normal forms are the same with Unicode's full case folding.
-#[derive(Debug, Drop)]
+#[derive(Debug, Drop, PartialEq, Eq, Hash)]
 pub struct LinkLabel {
-    text: String,
-    folded: String,
+    link: Label,
 }
 
 impl LinkLabel {
+    ghost use Rattle.cmark_text.specs.Labelled.{link_text, link_key};
+
     /// The label that this text spells.
     pub fn new(alloc: Global, label: &str) -> Result<LinkLabel, AllocError>
         ensures text { IfOk result (λ made. link_text made ≡ normal_form label.now) }
         ensures key { IfOk result (λ made. link_key made ≡ fold label.now) }
     {
-        let text = normalized(alloc, label)?;
-        let folded = default_case_fold_str(alloc, text.as_str())?;
-        Ok(LinkLabel { text, folded })
+        Ok(LinkLabel {
+            link: Label::new(alloc, label)?,
+        })
     }
 
     /// The normal form, with the case of the text.
     pub fn as_str(&self) -> &str
         ensures { result.now ≡ link_text self.now }
     {
-        self.text.as_str()
-    }
-}
-
-impl PartialEq for LinkLabel {
-    ghost eq = { λ a b. pointwise nat_eq (link_key a) (link_key b) };
-
-    ghost laws = { on_per link_key (partial_equiv_from_equiv nat_list_eq_equiv) };
-
-    fn eq(&self, other: &LinkLabel) -> bool {
-        self.folded == other.folded
-    }
-}
-
-impl Eq for LinkLabel {
-    ghost laws = { on_equiv link_key nat_list_eq_equiv };
-}
-
-impl Hash for LinkLabel {
-    ghost hash_input = { λ label. fed.str (link_key label) };
-
-    ghost respects_eq = { Prim.search (hashing, rules) };
-
-    fn hash<H: Hasher>(&self, state: &mut H) {
-        self.folded.hash(state);
+        self.link.as_str()
     }
 }
 
 /// The label of a footnote (this profile's own), in its normal form; it is compared as a [`LinkLabel`] is.
-#[derive(Debug, Drop)]
+#[derive(Debug, Drop, PartialEq, Eq, Hash)]
 pub struct FootnoteLabel {
-    text: String,
-    folded: String,
+    footnote: Label,
 }
 
 impl FootnoteLabel {
+    ghost use Rattle.cmark_text.specs.Labelled.{footnote_text, footnote_key};
+
     /// The label that this text spells.
     pub fn new(alloc: Global, label: &str) -> Result<FootnoteLabel, AllocError>
         ensures text { IfOk result (λ made. footnote_text made ≡ normal_form label.now) }
         ensures key { IfOk result (λ made. footnote_key made ≡ fold label.now) }
     {
-        let text = normalized(alloc, label)?;
-        let folded = default_case_fold_str(alloc, text.as_str())?;
-        Ok(FootnoteLabel { text, folded })
+        Ok(FootnoteLabel {
+            footnote: Label::new(alloc, label)?,
+        })
     }
 
     /// The normal form, with the case of the text.
     pub fn as_str(&self) -> &str
         ensures { result.now ≡ footnote_text self.now }
     {
+        self.footnote.as_str()
+    }
+}
+
+/// A normal form, and what it is compared by.
+#[derive(Debug, Drop)]
+struct Label {
+    text: String,
+    folded: String,
+    ghost folds: { string_bytes folded ≡ case_folded (string_bytes text) },
+}
+
+impl Label {
+    fn new(alloc: Global, label: &str) -> Result<Label, AllocError>
+        ensures { IfOk result (λ made. string_bytes made.text ≡ normal_form label.now) }
+    {
+        let text = normalized(alloc, label)?;
+        let folded = default_case_fold_str(alloc, text.as_str())?;
+        Ok(Label { text, folded })
+    }
+
+    fn as_str(&self) -> &str
+        ensures { result.now ≡ string_bytes self.now.text }
+    {
         self.text.as_str()
     }
 }
 
-impl PartialEq for FootnoteLabel {
-    ghost eq = { λ a b. pointwise nat_eq (footnote_key a) (footnote_key b) };
+impl PartialEq for Label {
+    ghost eq = { λ a b. pointwise nat_eq (string_bytes a.folded) (string_bytes b.folded) };
 
-    ghost laws = { on_per footnote_key (partial_equiv_from_equiv nat_list_eq_equiv) };
+    ghost laws = { on_per (λ label. string_bytes label.folded) (partial_equiv_from_equiv nat_list_eq_equiv) };
 
-    fn eq(&self, other: &FootnoteLabel) -> bool {
+    fn eq(&self, other: &Label) -> bool {
         self.folded == other.folded
     }
 }
 
-impl Eq for FootnoteLabel {
-    ghost laws = { on_equiv footnote_key nat_list_eq_equiv };
+impl Eq for Label {
+    ghost laws = { on_equiv (λ label. string_bytes label.folded) nat_list_eq_equiv };
 }
 
-impl Hash for FootnoteLabel {
-    ghost hash_input = { λ label. fed.str (footnote_key label) };
+impl Hash for Label {
+    ghost hash_input = { λ label. fed.str (string_bytes label.folded) };
 
     ghost respects_eq = { Prim.search (hashing, rules) };
 

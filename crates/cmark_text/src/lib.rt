@@ -2,6 +2,7 @@
 //! of texts in HTML.
 #![tactic(auto)]
 
+mod copies;
 mod entity;
 pub mod escape;
 mod event;
@@ -9,12 +10,14 @@ mod inline;
 mod kind;
 mod label;
 mod options;
+#[cfg(test)]
+mod tests;
 mod text;
 
 pub use entity::{BasicEntities, EntityLookup};
 pub use escape::{escape_href, escape_html, escape_html_body_text};
 pub use event::{Event, Tag, TagEnd};
-pub use inline::{InlineStr, MAX_INLINE_STR_LEN, StringTooLongError};
+pub use inline::{InlineStr, StringTooLongError};
 pub use kind::{
     Alignment, BlockQuoteKind, CodeBlockKind, HeadingLevel, InvalidHeadingLevel, LinkType,
     MetadataBlockKind,

@@ -7,7 +7,8 @@ ghost use Rattle.std.specs.Cmp.Rules.{hashing};
 ghost use Rattle.std.specs.Cow.{cow_str_bytes};
 ghost use Rattle.std.specs.Hash as fed;
 ghost use Rattle.std.proofs.Common.{rules};
-ghost use Rattle.cmark_text.specs.Shown.{text_bytes, IsBoxed, IsBorrowed, IsInlined};
+ghost use Rattle.cmark_text.specs.InPlace.{CopiesInPlace, StaysInPlace};
+ghost use Rattle.cmark_text.specs.Shown.{text_bytes, IsBoxed, IsInlined};
 
 use crate::inline::InlineStr;
 use std::alloc::{AllocError, Global};
@@ -44,7 +45,7 @@ impl<'a> CowStr<'a> {
     /// The same text once more. Memory is taken only where a text of its own does not fit into an [`InlineStr`].
     pub fn clone(&self, alloc: Global) -> Result<CowStr<'a>, AllocError>
         ensures value { IfOk result (λ copy. text_bytes copy ≡ text_bytes self.now) }
-        ensures succeeds { (IsBoxed self.now → length (text_bytes self.now) ≤ 22) → IsOk result }
+        ensures succeeds { CopiesInPlace self.now → IsOk result }
     {
         match self {
             CowStr::Boxed(text) => own(alloc, text.as_str()),
@@ -76,7 +77,7 @@ impl<'a> CowStr<'a> {
     /// The same text in a value that borrows nothing. A borrowed text is copied, into the value itself where it is short.
     pub fn into_static(self, alloc: Global) -> Result<CowStr<'static>, AllocError>
         ensures value { IfOk result (λ made. text_bytes made ≡ text_bytes self.entry) }
-        ensures succeeds { (IsBorrowed self.entry → length (text_bytes self.entry) ≤ 22) → IsOk result }
+        ensures succeeds { StaysInPlace self.entry → IsOk result }
     {
         match self {
             CowStr::Boxed(text) => Ok(CowStr::Boxed(text)),

@@ -14,7 +14,7 @@ mod write;
 use crate::fault::status;
 use crate::run::run;
 use crate::watched::Watched;
-use cmark_text::BasicEntities;
+use pulldown_cmark::BasicEntities;
 use std::process::ExitCode;
 
 fn main(rt: HostRuntime) -> ExitCode {

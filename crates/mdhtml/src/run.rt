@@ -8,7 +8,8 @@ use crate::fault::RunFault;
 use crate::read::read_all;
 use crate::watched::Watched;
 use crate::write::write_text;
-use cmark_text::EntityLookup;
+use pulldown_cmark::html::push_html;
+use pulldown_cmark::{EntityLookup, Parser};
 use std::alloc::{AllocError, Global};
 use std::io::{Read, Write};
 
@@ -17,12 +18,12 @@ pub const INPUT_LIMIT: u64 = 2_147_483_648;
 
 /// The HTML of a text. Fails where memory is refused.
 fn render<E: EntityLookup>(alloc: Global, text: &str, entities: &E) -> Result<String, AllocError>
-    ensures { IfOk result (λ output. Renders text.now (E.replacement entities.now) (string_bytes output)) }
+    ensures { IfOk result (λ html. Renders text.now (E.replacement entities.now) (string_bytes html)) }
 {
-    let _a = text;
-    let _b = entities;
-    let _c = alloc;
-    Err(AllocError)
+    let parser = Parser::new(alloc, text, entities)?;
+    let mut html = String::new(alloc);
+    push_html(&mut html, parser)?;
+    Ok(html)
 }
 
 /// Reads all of a reader's Markdown, writes its HTML and flushes. `entities` says what the entity names stand for.

@@ -3,7 +3,7 @@ use crate::read::read_all;
 use crate::run::run;
 use crate::scripted::{Answer, Scripted};
 use crate::watched::{PATIENCE, Watched};
-use cmark_text::BasicEntities;
+use pulldown_cmark::BasicEntities;
 use std::alloc::{AllocError, Global};
 use std::test::Fail;
 

@@ -1,6 +1,9 @@
 pub mod BuildSteps
+pub mod FrontSteps
+pub mod HtmlSteps
 pub mod LineSteps
 pub mod OpeningSteps
 pub mod ParseSteps
 pub mod ScanSteps
 pub mod WalkSteps
+pub mod WordSteps

@@ -1,6 +1,7 @@
 //! A pull parser for Markdown: from a text to the events that its document is read as, and from events to HTML.
 #![tactic(auto)]
 
+pub mod html;
 mod line;
 mod outline;
 mod parse;

@@ -1,4 +1,4 @@
-use Rattle.std.proofs.Common.{◌≡◌, ◌+◌, ◌++◌, string_bytes, get_or, drop, length, subst, sym, ap, ◌∙◌, arith}
+use Rattle.std.proofs.Common.{◌++◌, string_bytes, get_or, drop, subst, ap, ◌∙◌, arith}
 use Rattle.std.proofs.Math.Seq.{drop-length}
 use Rattle.cmark_grammar.specs.Escapes.{href_byte}
 use Rattle.cmark_text.specs.Appended.{AppendsFront}

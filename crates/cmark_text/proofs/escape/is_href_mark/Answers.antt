@@ -1,4 +1,4 @@
-use Rattle.std.proofs.Common.{ℕ, not, ◌==◌, get_or, refl, ◌∙◌}
+use Rattle.std.proofs.Common.{not, ◌==◌, get_or, refl}
 use Rattle.std.proofs.lemmas.Bool.{agree_below_at}
 use Rattle.cmark_text.specs.declared.escape.TheConstants.{HREF_MARKS}
 use Rattle.cmark_text.specs.Marks.{is_href_mark}

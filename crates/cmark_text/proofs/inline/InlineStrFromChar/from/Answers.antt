@@ -1,4 +1,4 @@
-use Rattle.std.proofs.Common.{ap, arith, ◌+◌, ◌≤◌, length, encode_utf8, lit<}
+use Rattle.std.proofs.Common.{ap, arith, length, lit<}
 use Rattle.std.proofs.lemmas.Str.{length-encode, len_utf8_bounds}
 use Rattle.cmark_text.proofs.inline.InlineStrFromChar.from.Goals as goal
 

@@ -1,0 +1,287 @@
+//! Copies of tags and events, and what they are in values that borrow nothing.
+
+ghost use Rattle.std.specs.Prelude.{◌≡◌, length, IfOk, IsOk, IfSome, map, option_map};
+ghost use Rattle.cmark_text.specs.InPlace.{CopiesInPlace, TagCopiesInPlace, EventCopiesInPlace, StaysInPlace, TagStaysInPlace, EventStaysInPlace};
+ghost use Rattle.cmark_text.specs.Shown.{shown, shown_tag, shown_attribute, text_bytes};
+
+use crate::event::{Event, Tag};
+use crate::text::CowStr;
+use std::alloc::{AllocError, Global};
+
+impl<'a> Tag<'a> {
+    /// The same tag once more.
+    pub fn clone(&self, alloc: Global) -> Result<Tag<'a>, AllocError>
+        ensures value { IfOk result (λ copy. shown_tag copy ≡ shown_tag self.now) }
+        ensures succeeds { TagCopiesInPlace self.now → IsOk result }
+    {
+        match self {
+            Tag::Paragraph => Ok(Tag::Paragraph),
+            Tag::Heading {
+                level,
+                id,
+                classes,
+                attrs,
+            } => Ok(Tag::Heading {
+                level: *level,
+                id: clone_optional_text(alloc, id)?,
+                classes: clone_texts(alloc, classes)?,
+                attrs: clone_attributes(alloc, attrs)?,
+            }),
+            Tag::BlockQuote(kind) => Ok(Tag::BlockQuote(*kind)),
+            Tag::CodeBlock(kind) => Ok(Tag::CodeBlock(kind.clone(alloc)?)),
+            Tag::HtmlBlock => Ok(Tag::HtmlBlock),
+            Tag::List(first) => Ok(Tag::List(*first)),
+            Tag::Item => Ok(Tag::Item),
+            Tag::FootnoteDefinition(label) => Ok(Tag::FootnoteDefinition(label.clone(alloc)?)),
+            Tag::DefinitionList => Ok(Tag::DefinitionList),
+            Tag::DefinitionListTitle => Ok(Tag::DefinitionListTitle),
+            Tag::DefinitionListDefinition => Ok(Tag::DefinitionListDefinition),
+            Tag::Table(alignments) => Ok(Tag::Table(Vec::from_slice(alloc, alignments)?)),
+            Tag::TableHead => Ok(Tag::TableHead),
+            Tag::TableRow => Ok(Tag::TableRow),
+            Tag::TableCell => Ok(Tag::TableCell),
+            Tag::Emphasis => Ok(Tag::Emphasis),
+            Tag::Strong => Ok(Tag::Strong),
+            Tag::Strikethrough => Ok(Tag::Strikethrough),
+            Tag::Superscript => Ok(Tag::Superscript),
+            Tag::Subscript => Ok(Tag::Subscript),
+            Tag::Link {
+                link_type,
+                dest_url,
+                title,
+                id,
+            } => Ok(Tag::Link {
+                link_type: *link_type,
+                dest_url: dest_url.clone(alloc)?,
+                title: title.clone(alloc)?,
+                id: id.clone(alloc)?,
+            }),
+            Tag::Image {
+                link_type,
+                dest_url,
+                title,
+                id,
+            } => Ok(Tag::Image {
+                link_type: *link_type,
+                dest_url: dest_url.clone(alloc)?,
+                title: title.clone(alloc)?,
+                id: id.clone(alloc)?,
+            }),
+            Tag::MetadataBlock(kind) => Ok(Tag::MetadataBlock(*kind)),
+        }
+    }
+
+    /// The same tag in a value that borrows nothing.
+    pub fn into_static(self, alloc: Global) -> Result<Tag<'static>, AllocError>
+        ensures value { IfOk result (λ made. shown_tag made ≡ shown_tag self.entry) }
+        ensures succeeds { TagStaysInPlace self.entry → IsOk result }
+    {
+        match self {
+            Tag::Paragraph => Ok(Tag::Paragraph),
+            Tag::Heading {
+                level,
+                id,
+                classes,
+                attrs,
+            } => Ok(Tag::Heading {
+                level,
+                id: static_optional_text(alloc, id)?,
+                classes: static_texts(alloc, classes)?,
+                attrs: static_attributes(alloc, attrs)?,
+            }),
+            Tag::BlockQuote(kind) => Ok(Tag::BlockQuote(kind)),
+            Tag::CodeBlock(kind) => Ok(Tag::CodeBlock(kind.into_static(alloc)?)),
+            Tag::HtmlBlock => Ok(Tag::HtmlBlock),
+            Tag::List(first) => Ok(Tag::List(first)),
+            Tag::Item => Ok(Tag::Item),
+            Tag::FootnoteDefinition(label) => Ok(Tag::FootnoteDefinition(label.into_static(
+                alloc,
+            )?)),
+            Tag::DefinitionList => Ok(Tag::DefinitionList),
+            Tag::DefinitionListTitle => Ok(Tag::DefinitionListTitle),
+            Tag::DefinitionListDefinition => Ok(Tag::DefinitionListDefinition),
+            Tag::Table(alignments) => Ok(Tag::Table(alignments)),
+            Tag::TableHead => Ok(Tag::TableHead),
+            Tag::TableRow => Ok(Tag::TableRow),
+            Tag::TableCell => Ok(Tag::TableCell),
+            Tag::Emphasis => Ok(Tag::Emphasis),
+            Tag::Strong => Ok(Tag::Strong),
+            Tag::Strikethrough => Ok(Tag::Strikethrough),
+            Tag::Superscript => Ok(Tag::Superscript),
+            Tag::Subscript => Ok(Tag::Subscript),
+            Tag::Link {
+                link_type,
+                dest_url,
+                title,
+                id,
+            } => Ok(Tag::Link {
+                link_type,
+                dest_url: dest_url.into_static(alloc)?,
+                title: title.into_static(alloc)?,
+                id: id.into_static(alloc)?,
+            }),
+            Tag::Image {
+                link_type,
+                dest_url,
+                title,
+                id,
+            } => Ok(Tag::Image {
+                link_type,
+                dest_url: dest_url.into_static(alloc)?,
+                title: title.into_static(alloc)?,
+                id: id.into_static(alloc)?,
+            }),
+            Tag::MetadataBlock(kind) => Ok(Tag::MetadataBlock(kind)),
+        }
+    }
+}
+
+impl<'a> Event<'a> {
+    /// The same event once more.
+    pub fn clone(&self, alloc: Global) -> Result<Event<'a>, AllocError>
+        ensures value { IfOk result (λ copy. shown copy ≡ shown self.now) }
+        ensures succeeds { EventCopiesInPlace self.now → IsOk result }
+    {
+        match self {
+            Event::Start(tag) => Ok(Event::Start(tag.clone(alloc)?)),
+            Event::End(end) => Ok(Event::End(*end)),
+            Event::Text(text) => Ok(Event::Text(text.clone(alloc)?)),
+            Event::Code(text) => Ok(Event::Code(text.clone(alloc)?)),
+            Event::InlineMath(text) => Ok(Event::InlineMath(text.clone(alloc)?)),
+            Event::DisplayMath(text) => Ok(Event::DisplayMath(text.clone(alloc)?)),
+            Event::Html(text) => Ok(Event::Html(text.clone(alloc)?)),
+            Event::InlineHtml(text) => Ok(Event::InlineHtml(text.clone(alloc)?)),
+            Event::FootnoteReference(text) => Ok(Event::FootnoteReference(text.clone(alloc)?)),
+            Event::SoftBreak => Ok(Event::SoftBreak),
+            Event::HardBreak => Ok(Event::HardBreak),
+            Event::Rule => Ok(Event::Rule),
+            Event::TaskListMarker(is_checked) => Ok(Event::TaskListMarker(*is_checked)),
+        }
+    }
+
+    /// The same event in a value that borrows nothing.
+    pub fn into_static(self, alloc: Global) -> Result<Event<'static>, AllocError>
+        ensures value { IfOk result (λ made. shown made ≡ shown self.entry) }
+        ensures succeeds { EventStaysInPlace self.entry → IsOk result }
+    {
+        match self {
+            Event::Start(tag) => Ok(Event::Start(tag.into_static(alloc)?)),
+            Event::End(end) => Ok(Event::End(end)),
+            Event::Text(text) => Ok(Event::Text(text.into_static(alloc)?)),
+            Event::Code(text) => Ok(Event::Code(text.into_static(alloc)?)),
+            Event::InlineMath(text) => Ok(Event::InlineMath(text.into_static(alloc)?)),
+            Event::DisplayMath(text) => Ok(Event::DisplayMath(text.into_static(alloc)?)),
+            Event::Html(text) => Ok(Event::Html(text.into_static(alloc)?)),
+            Event::InlineHtml(text) => Ok(Event::InlineHtml(text.into_static(alloc)?)),
+            Event::FootnoteReference(text) => Ok(Event::FootnoteReference(text.into_static(
+                alloc,
+            )?)),
+            Event::SoftBreak => Ok(Event::SoftBreak),
+            Event::HardBreak => Ok(Event::HardBreak),
+            Event::Rule => Ok(Event::Rule),
+            Event::TaskListMarker(is_checked) => Ok(Event::TaskListMarker(is_checked)),
+        }
+    }
+}
+
+/// An attribute of a heading: its name, and its value if it has one.
+type Attribute<'a> = (CowStr<'a>, Option<CowStr<'a>>);
+
+fn clone_optional_text<'a>(
+    alloc: Global,
+    text: &Option<CowStr<'a>>,
+) -> Result<Option<CowStr<'a>>, AllocError>
+    ensures value { IfOk result (λ copy. option_map text_bytes copy ≡ option_map text_bytes text.now) }
+    ensures succeeds { IfSome text.now CopiesInPlace → IsOk result }
+{
+    match text {
+        Some(text) => Ok(Some(text.clone(alloc)?)),
+        None => Ok(None),
+    }
+}
+
+fn clone_texts<'a>(alloc: Global, texts: &[CowStr<'a>]) -> Result<Vec<CowStr<'a>>, AllocError>
+    ensures value { IfOk result (λ copies. map text_bytes copies.items ≡ map text_bytes texts.now) }
+    ensures succeeds { length texts.now ≡ 0 → IsOk result }
+{
+    let mut copies = Vec::with_capacity(alloc, texts.len())?;
+    for text in texts {
+        copies.push(text.clone(alloc)?)?;
+    }
+    Ok(copies)
+}
+
+fn clone_attribute<'a>(
+    alloc: Global,
+    attribute: &Attribute<'a>,
+) -> Result<Attribute<'a>, AllocError>
+    ensures { IfOk result (λ copy. shown_attribute copy ≡ shown_attribute attribute.now) }
+{
+    let (name, value) = attribute;
+    Ok((name.clone(alloc)?, clone_optional_text(alloc, value)?))
+}
+
+fn clone_attributes<'a>(
+    alloc: Global,
+    attributes: &[Attribute<'a>],
+) -> Result<Vec<Attribute<'a>>, AllocError>
+    ensures value { IfOk result (λ copies. map shown_attribute copies.items ≡ map shown_attribute attributes.now) }
+    ensures succeeds { length attributes.now ≡ 0 → IsOk result }
+{
+    let mut copies = Vec::with_capacity(alloc, attributes.len())?;
+    for attribute in attributes {
+        copies.push(clone_attribute(alloc, attribute)?)?;
+    }
+    Ok(copies)
+}
+
+fn static_optional_text(
+    alloc: Global,
+    text: Option<CowStr<'_>>,
+) -> Result<Option<CowStr<'static>>, AllocError>
+    ensures value { IfOk result (λ made. option_map text_bytes made ≡ option_map text_bytes text.entry) }
+    ensures succeeds { IfSome text.entry StaysInPlace → IsOk result }
+{
+    match text {
+        Some(text) => Ok(Some(text.into_static(alloc)?)),
+        None => Ok(None),
+    }
+}
+
+fn static_texts(alloc: Global, texts: Vec<CowStr<'_>>) -> Result<Vec<CowStr<'static>>, AllocError>
+    ensures value { IfOk result (λ made. map text_bytes made.items ≡ map text_bytes texts.entry.items) }
+    ensures succeeds { length texts.entry.items ≡ 0 → IsOk result }
+{
+    let mut made = Vec::with_capacity(alloc, texts.len())?;
+    for text in texts {
+        made.push(text.into_static(alloc)?)?;
+    }
+    Ok(made)
+}
+
+fn static_attribute(
+    alloc: Global,
+    attribute: Attribute<'_>,
+) -> Result<Attribute<'static>, AllocError>
+    ensures { IfOk result (λ made. shown_attribute made ≡ shown_attribute attribute.entry) }
+{
+    let (name, value) = attribute;
+    Ok((
+        name.into_static(alloc)?,
+        static_optional_text(alloc, value)?,
+    ))
+}
+
+fn static_attributes(
+    alloc: Global,
+    attributes: Vec<Attribute<'_>>,
+) -> Result<Vec<Attribute<'static>>, AllocError>
+    ensures value { IfOk result (λ made. map shown_attribute made.items ≡ map shown_attribute attributes.entry.items) }
+    ensures succeeds { length attributes.entry.items ≡ 0 → IsOk result }
+{
+    let mut made = Vec::with_capacity(alloc, attributes.len())?;
+    for attribute in attributes {
+        made.push(static_attribute(alloc, attribute)?)?;
+    }
+    Ok(made)
+}

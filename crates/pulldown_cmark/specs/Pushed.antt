@@ -1,0 +1,22 @@
+-- What is left where the HTML of an iterator's events is broken off.
+use Rattle.std.specs.Prelude.{◌⊎◌, ℕ, List, map, Option, Some, None, Result, Ok, Err}
+use Rattle.std.specs.declared.alloc.AllocError.{AllocError}
+use Rattle.std.specs.Iterator.{Yields, YieldsThen}
+use Rattle.cmark_grammar.specs.Html.{html}
+use Rattle.cmark_text.specs.declared.event.Event.{Event}
+use Rattle.cmark_text.specs.Appended.{AppendsFront}
+use Rattle.cmark_text.specs.Shown.{shown}
+
+module _ {S : Type 0} (steps : S → Option (Result Event AllocError) → S → Type 0) where
+  -- the calls led from s to t and gave these events, and then perhaps None or an error item
+  abbrev pub GaveTo : S → List Event → S → Type 0
+  GaveTo s events t =
+      Yields steps s (map Ok events) t ⊎ (YieldsThen steps s (map Ok events) None t ⊎ ((e : AllocError) × YieldsThen steps s (map Ok events) (Some (Err e)) t))
+
+  -- the calls led from s to t, and a beginning of the HTML of the events that they gave stands behind the old text
+  abbrev pub StopsAt : S → S → List ℕ → List ℕ → Type 0
+  StopsAt s t old new = (events : List Event) × GaveTo s events t × AppendsFront old new (html (map shown events))
+
+  -- the same, of an iterator that is no more
+  abbrev pub Stops : S → List ℕ → List ℕ → Type 0
+  Stops s old new = (t : S) × StopsAt s t old new
