@@ -8,6 +8,7 @@ use std::alloc::{AllocError, Global};
 use std::test::Fail;
 
 const HELLO: &[u8] = b"hello world";
+
 const HELLO_HTML: &[u8] = b"<p>hello world</p>\n";
 
 /// What a run ended with, and what it wrote.
@@ -104,8 +105,16 @@ fn writes_a_beginning_before_a_failed_write(rt: HostRuntime) -> Result<(), Fail>
         let answers = after(rt.alloc(), writes, Answer::Bytes(3), Answer::Failed)?;
         let outcome = run_on(rt.alloc(), HELLO, &[], answers.as_slice())?;
         let written = (3 * writes).min(19);
-        assert_eq!(rt; outcome.written.as_slice(), &HELLO_HTML[..written], "after {writes} writes");
-        let result = if writes < 8 { Err(RunFault::Write) } else { Ok(()) };
+        assert_eq!(rt;
+            outcome.written.as_slice(),
+            &HELLO_HTML[..written],
+            "after {writes} writes"
+        );
+        let result = if writes < 8 {
+            Err(RunFault::Write)
+        } else {
+            Ok(())
+        };
         assert_eq!(rt; outcome.result, result, "after {writes} writes");
     }
     Ok(())
