@@ -5,4 +5,5 @@ pub mod LineSteps
 pub mod OpeningSteps
 pub mod ParseSteps
 pub mod ScanSteps
+pub mod WalkSteps
 pub mod WordSteps

@@ -1,0 +1,2 @@
+pub mod FrontSteps
+pub mod RenderSteps
