@@ -1,3 +1,5 @@
+pub mod BlockLaws
+pub mod BlocksSound
 pub mod OutlineSound
 pub mod OutlineOne
 pub mod Samples
