@@ -28,3 +28,8 @@ pub fn one_reading()
 pub fn blocks_are_derived()
     ensures { (text : List ℕ) → Body false (rows text) (blocks text) }
 {}
+
+/// A text has one block structure: each that its lines are is the model's.
+pub fn one_block_structure()
+    ensures { (text : List ℕ) (structure : Blocks) → Body false (rows text) structure → structure ≡ blocks text }
+{}
