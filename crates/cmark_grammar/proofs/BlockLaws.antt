@@ -5,7 +5,9 @@ use Rattle.cmark_grammar.specs.Columns.{Column, without_indent}
 use Rattle.cmark_grammar.specs.Rows.{Row, without, lazy_row, is_bare, is_blank_line, indent_of, words_of}
 use Rattle.cmark_grammar.specs.Leaves.{Fence, Further, GoesOn, Closes, Waits, Stops, count_more, counted, underlines, is_thematic_break, is_atx_heading, run, fence_of, fence_further, code_further}
 use Rattle.cmark_grammar.specs.Containers.{Container, Quote, Item, Marker, marker_of, delimited, digits, is_bullet, is_delimiter, number_of, item_with, width_with, container_with, container_of, item_of, is_quote, quote_width, width_of, enter, keep_as, keeps, strip_as, strip}
-use Rattle.cmark_grammar.specs.Openings.{Leaf, ThematicBreak, AtxHeading, IndentedCode, Opening, Blank, Nests, Takes, Plain, or_else, nests_if, fenced_if, leaf_of, whole_opens, opens, texts, lazily}
+use Rattle.cmark_grammar.specs.HtmlBlocks.{html_kind, holds_end, html_further}
+use Rattle.cmark_grammar.specs.LinkDefinitions.{Defined, definition_in, bytes_over}
+use Rattle.cmark_grammar.specs.Openings.{Leaf, IndentedCode, Opening, Blank, Nests, Takes, Plain, or_else, nests_if, fenced_if, leaf_of, whole_opens, opens, texts, lazily, html_if, break_if, heading_if, text_lines, defined_if, put_if, definition_of, is_none}
 
 pub opens-lazy : (r : Row) (ahead : List Row) → r.lazy ≡ true → opens r ahead ≡ Plain
 unfolding opens
@@ -62,11 +64,41 @@ fits_fenced None ahead = tt
 zero-len : (ahead : List Row) → 0 ≤ length ahead
 zero-len ahead = omega arith
 
+fits_html : (r : Row) (ahead : List Row) (o : Option ℕ) → Fits (html_if r ahead o) ahead
+fits_html r ahead None = tt
+fits_html r ahead (Some kind) = go (nat_le kind 5 && holds_end kind (words_of r))
+  where
+    go : (z : Bool) → (if z then 0 else counted (html_further kind) ahead) ≤ length ahead
+    go true = zero-len ahead
+    go false = counted-len (html_further kind) ahead
+
+fits_break : (z : Bool) (ahead : List Row) → Fits (break_if z) ahead
+fits_break true ahead = zero-len ahead
+fits_break false ahead = tt
+
+fits_heading : (z : Bool) (level : ℕ) (ahead : List Row) → Fits (heading_if z level) ahead
+fits_heading true level ahead = zero-len ahead
+fits_heading false level ahead = tt
+
+text_lines-len : (ahead : List Row) → length (text_lines ahead) ≤ length ahead
+text_lines-len [] = omega arith
+text_lines-len (r ∷ ahead) = go (texts r ahead && is_none (underlines r)) (text_lines-len ahead)
+  where
+    go : (z : Bool) → length (text_lines ahead) ≤ length ahead → length (put_if z r (text_lines ahead)) ≤ suc (length ahead)
+    go true le = omega (arith, le)
+    go false le = omega arith
+
+fits_defined : (lines : ℕ) (o : Option Defined) (ahead : List Row) → lines ≤ length ahead → Fits (defined_if lines o) ahead
+fits_defined lines None ahead le = tt
+fits_defined lines (Some found) ahead le = omega (arith, le)
+
 fits_leaf : (r : Row) (ahead : List Row) → Fits (leaf_of r ahead) ahead
 fits_leaf r ahead =
-    fits_if (is_thematic_break (words_of r)) (Takes ThematicBreak 0) _ ahead (zero-len ahead)
-    (fits_if (is_atx_heading (words_of r)) (Takes (AtxHeading (run 35 (words_of r))) 0) _ ahead (zero-len ahead)
-    (fits_fenced (fence_of (indent_of r) (words_of r)) ahead))
+    fits_or (html_if r ahead (html_kind (words_of r))) _ ahead (fits_html r ahead (html_kind (words_of r)))
+    (fits_or (break_if (is_thematic_break (words_of r))) _ ahead (fits_break (is_thematic_break (words_of r)) ahead)
+    (fits_or (heading_if (is_atx_heading (words_of r)) (run 35 (words_of r))) _ ahead (fits_heading (is_atx_heading (words_of r)) (run 35 (words_of r)) ahead)
+    (fits_or (fenced_if (fence_of (indent_of r) (words_of r)) ahead) (definition_of r ahead) ahead (fits_fenced (fence_of (indent_of r) (words_of r)) ahead)
+    (fits_defined (length (text_lines ahead)) (definition_in (bytes_over r (text_lines ahead))) ahead (text_lines-len ahead)))))
 
 fits_opens : (r : Row) (ahead : List Row) → Fits (opens r ahead) ahead
 unfolding opens
@@ -142,11 +174,29 @@ wide_fenced : (r : Row) (o : Option Fence) (ahead : List Row) → IsWide r (fenc
 wide_fenced r (Some fence) ahead = tt
 wide_fenced r None ahead = tt
 
+wide_html : (r : Row) (ahead : List Row) (o : Option ℕ) → IsWide r (html_if r ahead o)
+wide_html r ahead (Some kind) = tt
+wide_html r ahead None = tt
+
+wide_break : (r : Row) (z : Bool) → IsWide r (break_if z)
+wide_break r true = tt
+wide_break r false = tt
+
+wide_heading : (r : Row) (z : Bool) (level : ℕ) → IsWide r (heading_if z level)
+wide_heading r true level = tt
+wide_heading r false level = tt
+
+wide_defined : (r : Row) (lines : ℕ) (o : Option Defined) → IsWide r (defined_if lines o)
+wide_defined r lines (Some found) = tt
+wide_defined r lines None = tt
+
 wide_leaf : (r : Row) (ahead : List Row) → IsWide r (leaf_of r ahead)
 wide_leaf r ahead =
-    wide_if r (is_thematic_break (words_of r)) (Takes ThematicBreak 0) (if is_atx_heading (words_of r) then Takes (AtxHeading (run 35 (words_of r))) 0 else fenced_if (fence_of (indent_of r) (words_of r)) ahead) tt
-    (wide_if r (is_atx_heading (words_of r)) (Takes (AtxHeading (run 35 (words_of r))) 0) (fenced_if (fence_of (indent_of r) (words_of r)) ahead) tt
-    (wide_fenced r (fence_of (indent_of r) (words_of r)) ahead))
+    wide_or r (html_if r ahead (html_kind (words_of r))) _ (wide_html r ahead (html_kind (words_of r)))
+    (wide_or r (break_if (is_thematic_break (words_of r))) _ (wide_break r (is_thematic_break (words_of r)))
+    (wide_or r (heading_if (is_atx_heading (words_of r)) (run 35 (words_of r))) _ (wide_heading r (is_atx_heading (words_of r)) (run 35 (words_of r)))
+    (wide_or r (fenced_if (fence_of (indent_of r) (words_of r)) ahead) (definition_of r ahead) (wide_fenced r (fence_of (indent_of r) (words_of r)) ahead)
+    (wide_defined r (length (text_lines ahead)) (definition_in (bytes_over r (text_lines ahead)))))))
 
 wide_opens : (r : Row) (ahead : List Row) → IsWide r (opens r ahead)
 unfolding opens

@@ -1,4 +1,5 @@
 pub mod BlockLaws
+pub mod BlockSamples
 pub mod BlocksOne
 pub mod BlocksSound
 pub mod OutlineSound

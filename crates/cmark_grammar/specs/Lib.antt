@@ -8,8 +8,10 @@ pub mod Entities
 pub mod Escapes
 pub mod Event
 pub mod Html
+pub mod HtmlBlocks
 pub mod Leaves
 pub mod Lines
+pub mod LinkDefinitions
 pub mod Openings
 pub mod Options
 pub mod Outline
