@@ -1,3 +1,4 @@
+pub mod BlockDocumentOne
 pub mod BlockLaws
 pub mod BlockSamples
 pub mod BlocksOne

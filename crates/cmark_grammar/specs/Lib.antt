@@ -1,8 +1,10 @@
 pub mod Answers
+pub mod BlockDocument
 pub mod Blocks
 pub mod BlocksModel
 pub mod Columns
 pub mod Containers
+pub mod Derivation
 pub mod Document
 pub mod Entities
 pub mod Escapes
@@ -12,11 +14,14 @@ pub mod HtmlBlocks
 pub mod Leaves
 pub mod Lines
 pub mod LinkDefinitions
+pub mod Lists
 pub mod Openings
 pub mod Options
 pub mod Outline
 pub mod OutlineModel
 pub mod Reading
+pub mod References
 pub mod Rows
 pub mod Tag
 pub mod TagEnd
+pub mod Tokens

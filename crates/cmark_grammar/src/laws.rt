@@ -1,14 +1,11 @@
 //! Theorems over the definitions, each the contract of a function that does nothing.
 
-ghost use Rattle.std.specs.Prelude.{◌≡◌, ℕ, false, List};
+ghost use Rattle.std.specs.Prelude.{◌≡◌, ℕ, List};
 ghost use Rattle.cmark_grammar.specs.Answers.{Answers, Lookup, NoneAsked};
 ghost use Rattle.cmark_grammar.specs.Document.{Document};
 ghost use Rattle.cmark_grammar.specs.Options.{Options};
 ghost use Rattle.cmark_grammar.specs.Outline.{Derives};
 ghost use Rattle.cmark_grammar.specs.OutlineModel.{document};
-ghost use Rattle.cmark_grammar.specs.Blocks.{Blocks, Body};
-ghost use Rattle.cmark_grammar.specs.BlocksModel.{blocks};
-ghost use Rattle.cmark_grammar.specs.Rows.{rows};
 ghost use Rattle.cmark_grammar.specs.Reading.{reading};
 
 /// The model's document of a text is derived from it: so each text derives a document.
@@ -22,14 +19,4 @@ pub fn one_reading()
     ensures { (text : List ℕ) (options : Options) (lookup : Lookup) (answers : Answers) (first second : Document)
         → Derives text options lookup answers first → Derives text options lookup answers second
         → reading first ≡ reading second }
-{}
-
-/// The model's blocks are the blocks of the text's lines.
-pub fn blocks_are_derived()
-    ensures { (text : List ℕ) → Body false (rows text) (blocks text) }
-{}
-
-/// A text has one block structure: each that its lines are is the model's.
-pub fn one_block_structure()
-    ensures { (text : List ℕ) (structure : Blocks) → Body false (rows text) structure → structure ≡ blocks text }
 {}

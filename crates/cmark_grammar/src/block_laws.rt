@@ -1,0 +1,31 @@
+//! Theorems over the block grammar, each the contract of a function that does nothing.
+
+ghost use Rattle.std.specs.Prelude.{◌≡◌, ℕ, false, List};
+ghost use Rattle.cmark_grammar.specs.Answers.{Lookup};
+ghost use Rattle.cmark_grammar.specs.BlockDocument.{BlockDocument};
+ghost use Rattle.cmark_grammar.specs.Blocks.{Blocks, Body};
+ghost use Rattle.cmark_grammar.specs.BlocksModel.{blocks};
+ghost use Rattle.cmark_grammar.specs.Derivation.{Derives, document};
+ghost use Rattle.cmark_grammar.specs.Options.{Options};
+ghost use Rattle.cmark_grammar.specs.Rows.{rows};
+
+/// The model's blocks are the blocks of the text's lines.
+pub fn blocks_are_derived()
+    ensures { (text : List ℕ) → Body false (rows text) (blocks text) }
+{}
+
+/// A text has one block structure: each that its lines are is the model's.
+pub fn one_block_structure()
+    ensures { (text : List ℕ) (structure : Blocks) → Body false (rows text) structure → structure ≡ blocks text }
+{}
+
+/// The model's document of a text is derived from it: so each text derives a document.
+pub fn block_document_is_derived()
+    ensures { (text : List ℕ) (options : Options) (lookup : Lookup) → Derives text options lookup (document text lookup) }
+{}
+
+/// A text derives one document: two that it derives have the same nodes with the same data, ranges and tokens.
+pub fn one_block_document()
+    ensures { (text : List ℕ) (options : Options) (lookup : Lookup) (first second : BlockDocument)
+        → Derives text options lookup first → Derives text options lookup second → first ≡ second }
+{}
