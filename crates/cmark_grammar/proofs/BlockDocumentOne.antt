@@ -7,5 +7,5 @@ use Rattle.cmark_grammar.specs.Derivation.{Derives, document_of, document}
 use Rattle.cmark_grammar.proofs.BlocksOne.{blocks-only}
 use Rattle.std.specs.Prelude.{None}
 
-pub document-only : (text : List ℕ) (options : Options) (lookup : Lookup) (d : BlockDocument) → Derives text options lookup d → d ≡ document text lookup
-document-only text options lookup d derived = derived.2 ∙ ap (document_of text lookup false None) (blocks-only text derived.0 derived.1)
+pub document-only : (text : List ℕ) (options : Options) (lookup : Lookup) (d : BlockDocument) → Derives text options lookup d → d ≡ document text options lookup
+document-only text options lookup d derived = derived.2 ∙ ap (document_of text lookup false None) (blocks-only options text derived.0 derived.1)

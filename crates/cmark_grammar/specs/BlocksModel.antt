@@ -5,6 +5,7 @@ use Rattle.cmark_grammar.specs.Leaves.{underlines}
 use Rattle.cmark_grammar.specs.Containers.{Container, enter, keeps, strip, strips, is_bare_start, bare_after}
 use Rattle.cmark_grammar.specs.Openings.{Leaf, Opening, Blank, Nests, Takes, Plain, opens, texts, lazily}
 use Rattle.cmark_grammar.specs.Blocks.{Blocks, Nil, BlankLine, Paragraph, SetextHeading, LeafBlock, ContainerBlock, join, may_lazy}
+use Rattle.cmark_grammar.specs.Options.{Options}
 
 -- blocks that have ended, and behind them what is open: nothing, a paragraph, a leaf with lines to come, or a container
 pub data Open : Type 0 where
@@ -37,14 +38,6 @@ begin_as (Nests k) inside closed r = InContainer closed k r [] (inside k)
 begin_as (Takes leaf more) inside closed r = InLeaf closed leaf r [] more
 begin_as Plain inside closed r = InParagraph closed r []
 
--- what a line begins behind these blocks, with these lines ahead; each container takes at least a column
-abbrev pub begin_in : (columns : ℕ) → Blocks → Row → List Row → Open
-begin_in zero closed r ahead = Between closed
-begin_in (suc columns) closed r ahead = begin_as (opens r ahead) (λ k. begin_in columns Nil (enter k r) (within k (is_bare_start k r) ahead)) closed r
-
-unfoldable pub begin : Blocks → Row → List Row → Open
-begin closed r ahead = begin_in (suc (length r.columns)) closed r ahead
-
 abbrev pub underline_or : Option ℕ → (ℕ → Open) → Open → Open
 underline_or (Some level) underlined other = underlined level
 underline_or None underlined other = other
@@ -59,23 +52,32 @@ kept_or (Some s) is_lazy on off = on
 kept_or None true on off = on
 kept_or None false on off = off
 
--- one more line, with these lines ahead
-abbrev pub feed : Open → Row → List Row → Open
-feed (Between closed) r ahead = begin closed r ahead
-feed (InParagraph closed first more) r ahead =
-    underline_or (underlines r) (λ level. Between (join closed (SetextHeading level first more r Nil)))
-    (goes_on_or (texts r ahead) (InParagraph closed first (more ++ r ∷ [])) (begin (join closed (Paragraph first more Nil)) r ahead))
-feed (InLeaf closed leaf first had zero) r ahead = begin (join closed (LeafBlock leaf first had Nil)) r ahead
-feed (InLeaf closed leaf first had (suc left)) r ahead = InLeaf closed leaf first (had ++ r ∷ []) left
-feed (InContainer closed k first more inside) r ahead =
-    kept_or (keeps k (bare_after (is_bare_start k first) more) r) (lazily r ahead && takes_lazy inside)
-    (InContainer closed k first (more ++ r ∷ []) (feed inside (strip k (bare_after (is_bare_start k first) more) r) (within k false ahead)))
-    (begin (join closed (ContainerBlock k first more (close inside) Nil)) r ahead)
+module _ (options : Options) where
+  -- what a line begins behind these blocks, with these lines ahead; each container takes at least a column
+  abbrev pub begin_in : (columns : ℕ) → Blocks → Row → List Row → Open
+  begin_in zero closed r ahead = Between closed
+  begin_in (suc columns) closed r ahead = begin_as (opens options r ahead) (λ k. begin_in columns Nil (enter k r) (within k (is_bare_start k r) ahead)) closed r
 
-abbrev pub feed_all : Open → List Row → Open
-feed_all o [] = o
-feed_all o (r ∷ rs) = feed_all (feed o r (shown rs)) rs
+  unfoldable pub begin : Blocks → Row → List Row → Open
+  begin closed r ahead = begin_in (suc (length r.columns)) closed r ahead
 
--- the blocks of a text
-unfoldable pub blocks : List ℕ → Blocks
-blocks text = close (feed_all (Between Nil) (rows text))
+  -- one more line, with these lines ahead
+  abbrev pub feed : Open → Row → List Row → Open
+  feed (Between closed) r ahead = begin closed r ahead
+  feed (InParagraph closed first more) r ahead =
+      underline_or (underlines r) (λ level. Between (join closed (SetextHeading level first more r Nil)))
+      (goes_on_or (texts options r ahead) (InParagraph closed first (more ++ r ∷ [])) (begin (join closed (Paragraph first more Nil)) r ahead))
+  feed (InLeaf closed leaf first had zero) r ahead = begin (join closed (LeafBlock leaf first had Nil)) r ahead
+  feed (InLeaf closed leaf first had (suc left)) r ahead = InLeaf closed leaf first (had ++ r ∷ []) left
+  feed (InContainer closed k first more inside) r ahead =
+      kept_or (keeps k (bare_after (is_bare_start k first) more) r) (lazily options r ahead && takes_lazy inside)
+      (InContainer closed k first (more ++ r ∷ []) (feed inside (strip k (bare_after (is_bare_start k first) more) r) (within k false ahead)))
+      (begin (join closed (ContainerBlock k first more (close inside) Nil)) r ahead)
+
+  abbrev pub feed_all : Open → List Row → Open
+  feed_all o [] = o
+  feed_all o (r ∷ rs) = feed_all (feed o r (shown rs)) rs
+
+  -- the blocks of a text
+  unfoldable pub blocks : List ℕ → Blocks
+  blocks text = close (feed_all (Between Nil) (rows text))

@@ -77,8 +77,8 @@ document_of text lookup direct list (ContainerBlock (Item mark number width) fir
 -- the text derives the document. No option has a part in the grammar of today
 abbrev pub Derives : List ℕ → Options → Lookup → BlockDocument → Type 0
 Derives text options lookup document =
-    (structure : Blocks) × (Body false (rows text) structure) × (document ≡ document_of text lookup false None structure)
+    (structure : Blocks) × (Body options false (rows text) structure) × (document ≡ document_of text lookup false None structure)
 
 -- the model's document
-abbrev pub document : List ℕ → Lookup → BlockDocument
-document text lookup = document_of text lookup false None (blocks text)
+abbrev pub document : List ℕ → Options → Lookup → BlockDocument
+document text options lookup = document_of text lookup false None (blocks options text)

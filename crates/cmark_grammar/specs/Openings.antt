@@ -5,6 +5,7 @@ use Rattle.cmark_grammar.specs.Leaves.{Fence, underlines, counted, run, is_thema
 use Rattle.cmark_grammar.specs.HtmlBlocks.{html_kind, html_lines}
 use Rattle.cmark_grammar.specs.LinkDefinitions.{Definition, Defined, definition_in, bytes_over, line_ends}
 use Rattle.cmark_grammar.specs.Containers.{Container, Quote, Item, item_of, is_quote, container_of}
+use Rattle.cmark_grammar.specs.Options.{Options}
 
 -- a leaf that is no paragraph
 pub data Leaf : Type 0 where
@@ -52,20 +53,6 @@ abbrev pub html_interrupts : Option ℕ → Bool
 html_interrupts None = false
 html_interrupts (Some kind) = nat_le kind 6
 
--- whether a line interrupts a paragraph, which stands in the same container or further in (CommonMark 4.8)
-abbrev pub interrupts : (same : Bool) → Row → List Row → Bool
-interrupts same r ahead =
-    is_blank_line r || (nat_le (indent_of r) 3 && (is_quote r || (item_interrupts same r (item_of r) || (is_thematic_break (words_of r)
-    || (is_atx_heading (words_of r) || (is_some_fence (fence_of (indent_of r) (words_of r)) || html_interrupts (html_kind (words_of r))))))))
-
--- the line goes on with a paragraph in the same container; a lazy line is none of it
-unfoldable pub texts : Row → List Row → Bool
-texts r ahead = not (interrupts (not r.lazy) r ahead)
-
--- the line, which lacks a prefix from here on, goes on with a paragraph further in
-unfoldable pub lazily : Row → List Row → Bool
-lazily r ahead = not (interrupts false r ahead)
-
 abbrev pub fenced_if : Option Fence → List Row → Opening
 fenced_if (Some fence) ahead = Takes (FencedCode fence) (counted (fence_further fence) ahead)
 fenced_if None ahead = Plain
@@ -82,18 +69,9 @@ abbrev pub put_if : Bool → Row → List Row → List Row
 put_if true r rs = r ∷ rs
 put_if false r rs = []
 
--- the lines ahead up to the first that does not go on with a paragraph
-abbrev pub text_lines : List Row → List Row
-text_lines [] = []
-text_lines (r ∷ ahead) = put_if (texts r ahead && is_none (underlines r)) r (text_lines ahead)
-
 abbrev pub defined_if : (lines : ℕ) → Option Defined → Opening
 defined_if lines (Some found) = Takes (LinkDefinition found.definition) (lines - line_ends found.behind)
 defined_if lines None = Plain
-
--- a link reference definition, whose further lines could go on with a paragraph (CommonMark 4.7)
-abbrev pub definition_of : Row → List Row → Opening
-definition_of r ahead = defined_if (length (text_lines ahead)) (definition_in (bytes_over r (text_lines ahead)))
 
 abbrev pub break_if : Bool → Opening
 break_if true = Takes ThematicBreak 0
@@ -103,22 +81,46 @@ abbrev pub heading_if : Bool → (level : ℕ) → Opening
 heading_if true level = Takes (AtxHeading level) 0
 heading_if false level = Plain
 
--- the first leaf that the line begins; a paragraph, where there is none
-abbrev pub leaf_of : Row → List Row → Opening
-leaf_of r ahead =
-    or_else (html_if r ahead (html_kind (words_of r)))
-    (or_else (break_if (is_thematic_break (words_of r)))
-    (or_else (heading_if (is_atx_heading (words_of r)) (run 35 (words_of r)))
-    (or_else (fenced_if (fence_of (indent_of r) (words_of r)) ahead)
-    (definition_of r ahead))))
+module _ (options : Options) where
+  -- whether a line interrupts a paragraph, which stands in the same container or further in (CommonMark 4.8)
+  abbrev pub interrupts : (same : Bool) → Row → List Row → Bool
+  interrupts same r ahead =
+      is_blank_line r || (nat_le (indent_of r) 3 && (is_quote r || (item_interrupts same r (item_of r) || (is_thematic_break (words_of r)
+      || (is_atx_heading (words_of r) || (is_some_fence (fence_of (indent_of r) (words_of r)) || html_interrupts (html_kind (words_of r))))))))
 
--- what a line begins that lacks no prefix: from four columns of indent on, indented code alone
-abbrev pub whole_opens : Row → List Row → Opening
-whole_opens r ahead =
-    if is_blank_line r then Blank
-    else if nat_le 4 (indent_of r) then Takes IndentedCode (counted code_further ahead)
-    else or_else (nests_if (container_of r)) (leaf_of r ahead)
+  -- the line goes on with a paragraph in the same container; a lazy line is none of it
+  unfoldable pub texts : Row → List Row → Bool
+  texts r ahead = not (interrupts (not r.lazy) r ahead)
 
--- what a line begins, with these lines ahead; a lazy line can begin a paragraph alone
-unfoldable pub opens : Row → List Row → Opening
-opens r ahead = if r.lazy then Plain else whole_opens r ahead
+  -- the line, which lacks a prefix from here on, goes on with a paragraph further in
+  unfoldable pub lazily : Row → List Row → Bool
+  lazily r ahead = not (interrupts false r ahead)
+
+  -- the lines ahead up to the first that does not go on with a paragraph
+  abbrev pub text_lines : List Row → List Row
+  text_lines [] = []
+  text_lines (r ∷ ahead) = put_if (texts r ahead && is_none (underlines r)) r (text_lines ahead)
+
+  -- a link reference definition, whose further lines could go on with a paragraph (CommonMark 4.7)
+  abbrev pub definition_of : Row → List Row → Opening
+  definition_of r ahead = defined_if (length (text_lines ahead)) (definition_in (bytes_over r (text_lines ahead)))
+
+  -- the first leaf that the line begins; a paragraph, where there is none
+  abbrev pub leaf_of : Row → List Row → Opening
+  leaf_of r ahead =
+      or_else (html_if r ahead (html_kind (words_of r)))
+      (or_else (break_if (is_thematic_break (words_of r)))
+      (or_else (heading_if (is_atx_heading (words_of r)) (run 35 (words_of r)))
+      (or_else (fenced_if (fence_of (indent_of r) (words_of r)) ahead)
+      (definition_of r ahead))))
+
+  -- what a line begins that lacks no prefix: from four columns of indent on, indented code alone
+  abbrev pub whole_opens : Row → List Row → Opening
+  whole_opens r ahead =
+      if is_blank_line r then Blank
+      else if nat_le 4 (indent_of r) then Takes IndentedCode (counted code_further ahead)
+      else or_else (nests_if (container_of r)) (leaf_of r ahead)
+
+  -- what a line begins, with these lines ahead; a lazy line can begin a paragraph alone
+  unfoldable pub opens : Row → List Row → Opening
+  opens r ahead = if r.lazy then Plain else whole_opens r ahead

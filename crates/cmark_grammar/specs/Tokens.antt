@@ -1,5 +1,6 @@
 -- What stands in a leaf: texts, line breaks, HTML (CommonMark 2.4, 2.5, 4.4 to 4.8, 6.7 and 6.8).
-use Rattle.std.specs.Prelude.{ℕ, zero, suc, ◌+◌, ◌-◌, ◌*◌, ◌%◌, Bool, true, false, ◌==◌, ◌&&◌, ◌||◌, not, nat_lt, nat_le, if◌then◌else◌, List, [], ◌∷◌, ◌++◌, length, drop, take, take_while, reverse, replicate, fold, Option, Some, None, encode_utf8}
+use Rattle.std.specs.Char.{encode_utf8}
+use Rattle.std.specs.Prelude.{ℕ, zero, suc, ◌+◌, ◌-◌, ◌*◌, ◌%◌, Bool, true, false, ◌==◌, ◌&&◌, ◌||◌, not, nat_lt, nat_le, if◌then◌else◌, List, [], ◌∷◌, ◌++◌, length, drop, take, take_while, reverse, replicate, fold, Option, Some, None}
 use Rattle.cmark_grammar.specs.Answers.{Lookup}
 use Rattle.cmark_grammar.specs.Columns.{Column, is_blank_byte, without_indent, drop_end, without_trailing_blanks, bytes_of}
 use Rattle.cmark_grammar.specs.Rows.{Row, is_bare, first_place, indent_of}

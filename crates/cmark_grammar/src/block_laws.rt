@@ -11,17 +11,18 @@ ghost use Rattle.cmark_grammar.specs.Rows.{rows};
 
 /// The model's blocks are the blocks of the text's lines.
 pub fn blocks_are_derived()
-    ensures { (text : List ℕ) → Body false (rows text) (blocks text) }
+    ensures { (options : Options) (text : List ℕ) → Body options false (rows text) (blocks options text) }
 {}
 
 /// A text has one block structure: each that its lines are is the model's.
 pub fn one_block_structure()
-    ensures { (text : List ℕ) (structure : Blocks) → Body false (rows text) structure → structure ≡ blocks text }
+    ensures { (options : Options) (text : List ℕ) (structure : Blocks)
+        → Body options false (rows text) structure → structure ≡ blocks options text }
 {}
 
 /// The model's document of a text is derived from it: so each text derives a document.
 pub fn block_document_is_derived()
-    ensures { (text : List ℕ) (options : Options) (lookup : Lookup) → Derives text options lookup (document text lookup) }
+    ensures { (text : List ℕ) (options : Options) (lookup : Lookup) → Derives text options lookup (document text options lookup) }
 {}
 
 /// A text derives one document: two that it derives have the same nodes with the same data, ranges and tokens.
