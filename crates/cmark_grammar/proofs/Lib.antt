@@ -1,8 +1,10 @@
 pub mod BlockDocumentOne
 pub mod BlockLaws
+pub mod BlockReadings
 pub mod BlockSamples
 pub mod BlocksOne
 pub mod BlocksSound
-pub mod OutlineSound
+pub mod NotDerived
 pub mod OutlineOne
+pub mod OutlineSound
 pub mod Samples
