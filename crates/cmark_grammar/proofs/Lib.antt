@@ -2,6 +2,7 @@ pub mod BlockDocumentOne
 pub mod BlockLaws
 pub mod BlockReadings
 pub mod BlockSamples
+pub mod BlocksByLine
 pub mod BlocksOne
 pub mod BlocksSound
 pub mod NotDerived

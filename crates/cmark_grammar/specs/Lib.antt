@@ -1,6 +1,7 @@
 pub mod Answers
 pub mod BlockDocument
 pub mod Blocks
+pub mod BlocksByLine
 pub mod BlocksModel
 pub mod Columns
 pub mod Containers

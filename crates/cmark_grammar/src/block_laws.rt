@@ -4,6 +4,7 @@ ghost use Rattle.std.specs.Prelude.{◌≡◌, ℕ, false, List};
 ghost use Rattle.cmark_grammar.specs.Answers.{Lookup};
 ghost use Rattle.cmark_grammar.specs.BlockDocument.{BlockDocument};
 ghost use Rattle.cmark_grammar.specs.Blocks.{Blocks, Body};
+ghost use Rattle.cmark_grammar.specs.BlocksByLine.{blocks_by_line};
 ghost use Rattle.cmark_grammar.specs.BlocksModel.{blocks};
 ghost use Rattle.cmark_grammar.specs.Derivation.{Derives, document};
 ghost use Rattle.cmark_grammar.specs.Options.{Options};
@@ -29,4 +30,9 @@ pub fn block_document_is_derived()
 pub fn one_block_document()
     ensures { (text : List ℕ) (options : Options) (lookup : Lookup) (first second : BlockDocument)
         → Derives text options lookup first → Derives text options lookup second → first ≡ second }
+{}
+
+/// Judged line by line, with blank lines that wait until it is seen whether they belong to code, the blocks are the same.
+pub fn lines_give_the_blocks()
+    ensures { (options : Options) (text : List ℕ) → blocks_by_line options text ≡ blocks options text }
 {}
