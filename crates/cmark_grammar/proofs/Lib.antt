@@ -8,4 +8,6 @@ pub mod BlocksSound
 pub mod NotDerived
 pub mod OutlineOne
 pub mod OutlineSound
+pub mod ReferenceLaws
 pub mod Samples
+pub mod TightLaws

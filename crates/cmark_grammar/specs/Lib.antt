@@ -25,4 +25,5 @@ pub mod References
 pub mod Rows
 pub mod Tag
 pub mod TagEnd
+pub mod Tightness
 pub mod Tokens

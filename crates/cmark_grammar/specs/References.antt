@@ -1,5 +1,5 @@
 -- The link reference definitions of a document: the first of each label counts (CommonMark 4.7).
-use Rattle.std.specs.Prelude.{ℕ, Bool, true, false, List, [], ◌∷◌, ◌++◌, bytes_eq, Option, Some, None}
+use Rattle.std.specs.Prelude.{ℕ, Bool, true, false, List, [], ◌∷◌, ◌++◌, bytes_eq, Option, Some, None, ◌≡◌}
 use Rattle.cmark_grammar.specs.BlockDocument.{Reference, BlockKind, Paragraph, TightParagraph, Heading, ThematicBreak, IndentedCode, FencedCode, HtmlBlock, LinkDefinition, BlockQuote, BlockList, ListItem, Text, Html, SoftBreak, HardBreak, BlockDocument, Nil, Node}
 
 abbrev pub reference_of_kind : BlockKind → List Reference
@@ -46,3 +46,8 @@ without_label fold folded (reference ∷ rs) = keep_or (bytes_eq (fold reference
 abbrev pub table : (fold : List ℕ → List ℕ) → List Reference → List Reference
 table fold [] = []
 table fold (reference ∷ rs) = reference ∷ without_label fold (fold reference.label) (table fold rs)
+
+-- each folded label stands once
+abbrev pub EachOnce : (fold : List ℕ → List ℕ) → List Reference → Type 0
+EachOnce fold [] = Unit {0}
+EachOnce fold (reference ∷ rs) = (first_with fold (fold reference.label) rs ≡ None) × EachOnce fold rs

@@ -2,13 +2,15 @@
 
 ghost use Rattle.std.specs.Prelude.{◌≡◌, ℕ, false, List};
 ghost use Rattle.cmark_grammar.specs.Answers.{Lookup};
-ghost use Rattle.cmark_grammar.specs.BlockDocument.{BlockDocument};
+ghost use Rattle.cmark_grammar.specs.BlockDocument.{BlockDocument, Reference};
 ghost use Rattle.cmark_grammar.specs.Blocks.{Blocks, Body};
 ghost use Rattle.cmark_grammar.specs.BlocksByLine.{blocks_by_line};
 ghost use Rattle.cmark_grammar.specs.BlocksModel.{blocks};
 ghost use Rattle.cmark_grammar.specs.Derivation.{Derives, document};
 ghost use Rattle.cmark_grammar.specs.Options.{Options};
+ghost use Rattle.cmark_grammar.specs.References.{EachOnce, first_with, table};
 ghost use Rattle.cmark_grammar.specs.Rows.{rows};
+ghost use Rattle.cmark_grammar.specs.Tightness.{HasTightParagraphs};
 
 /// The model's blocks are the blocks of the text's lines.
 pub fn blocks_are_derived()
@@ -35,4 +37,17 @@ pub fn one_block_document()
 /// Judged line by line, with blank lines that wait until it is seen whether they belong to code, the blocks are the same.
 pub fn lines_give_the_blocks()
     ensures { (options : Options) (text : List ℕ) → blocks_by_line options text ≡ blocks options text }
+{}
+
+/// Directly in an item of a tight list stands no paragraph that is an element of its own, and elsewhere each is one.
+pub fn tight_lists_have_tight_paragraphs()
+    ensures { (text : List ℕ) (options : Options) (lookup : Lookup) (document : BlockDocument)
+        → Derives text options lookup document → HasTightParagraphs false document }
+{}
+
+/// The first definition of a folded label stays: the table answers for each label as the list of all definitions does.
+pub fn first_definition_stays()
+    ensures first { (fold : List ℕ → List ℕ) (folded : List ℕ) (references : List Reference)
+        → first_with fold folded (table fold references) ≡ first_with fold folded references }
+    ensures once { (fold : List ℕ → List ℕ) (references : List Reference) → EachOnce fold (table fold references) }
 {}
