@@ -8,6 +8,9 @@ pub mod BlocksSound
 pub mod NotDerived
 pub mod OutlineOne
 pub mod OutlineSound
+pub mod RangeLaws
 pub mod ReferenceLaws
+pub mod RowPlaces
 pub mod Samples
 pub mod TightLaws
+pub mod TokenRanges

@@ -1,5 +1,5 @@
 -- Directly in an item of a tight list stands no paragraph of its own.
-use Rattle.std.proofs.Common.{◌≡◌, ℕ, Bool, true, false, ◌==◌, ◌-◌, List, [], ◌∷◌, refl, sym, ap, ◌∙◌, subst, Option, Some, None, true≢false, arith, take, length}
+use Rattle.std.proofs.Common.{◌≡◌, ℕ, Bool, true, false, ◌==◌, List, [], ◌∷◌, refl, sym, ap, ◌∙◌, subst, Option, Some, None, true≢false, arith}
 use Rattle.std.specs.Prelude.{if◌then◌else◌}
 use Rattle.cmark_grammar.specs.Answers.{Lookup}
 use Rattle.cmark_grammar.specs.Options.{Options}
@@ -8,7 +8,7 @@ use Rattle.cmark_grammar.specs.Containers.{Quote, Item}
 use Rattle.cmark_grammar.specs.Openings.{Leaf, ThematicBreak as ThematicBreakLeaf, AtxHeading as AtxHeadingLeaf, IndentedCode as IndentedCodeLeaf, FencedCode as FencedCodeLeaf, HtmlBlock as HtmlBlockLeaf, LinkDefinition as LinkDefinitionLeaf}
 use Rattle.cmark_grammar.specs.Blocks.{Blocks, Nil as NoBlocks, BlankLine, Paragraph as ParagraphBlock, SetextHeading, LeafBlock, ContainerBlock}
 use Rattle.cmark_grammar.specs.Lists.{ListBefore, tight_behind, goes_on, is_tight}
-use Rattle.cmark_grammar.specs.Tokens.{Piece, LineEnd, Soft, Spaces, Backslash, line_end, line_columns, end_place, pieces, texts_then, broken, paragraph_tokens, html_then, html_tokens, html_kind_of, verbatim_line, heading_columns, code_pieces, fenced_lines}
+use Rattle.cmark_grammar.specs.Tokens.{Piece, LineEnd, Soft, Spaces, Backslash, line_end, line_columns, end_place, pieces, texts_then, broken, paragraph_tokens, html_then, html_tokens, html_kind_of, verbatim_line, heading_columns, code_pieces, fenced_lines, without_last}
 use Rattle.cmark_grammar.specs.BlockDocument.{BlockKind, SoftBreak, HardBreak, BlockList, ListItem, BlockNode, BlockDocument, Nil, Node, node}
 use Rattle.cmark_grammar.specs.Derivation.{leaf_then, item_then, paragraph_kind, document_of, Derives}
 use Rattle.cmark_grammar.specs.Tightness.{tight_within, IsElement, HasTightParagraphs}
@@ -22,8 +22,8 @@ break_tight tight ps kind start end after is h = texts_tight tight ps (Node (nod
 
 broken_tight : (tight : Bool) (lookup : Lookup) (e : LineEnd) (r : Row) (after : BlockDocument) → HasTightParagraphs tight after → HasTightParagraphs tight (broken lookup e r after)
 broken_tight tight lookup Soft r after h = break_tight tight (pieces lookup (line_columns r)) SoftBreak r.stop r.past after tt h
-broken_tight tight lookup Spaces r after h = break_tight tight (pieces lookup (line_columns r)) HardBreak (end_place r.stop (line_columns r)) r.past after tt h
-broken_tight tight lookup Backslash r after h = break_tight tight (pieces lookup (take (length (line_columns r) - 1) (line_columns r))) HardBreak (r.stop - 1) r.past after tt h
+broken_tight tight lookup Spaces r after h = break_tight tight (pieces lookup (line_columns r)) HardBreak (end_place (start_of r) (line_columns r)) r.past after tt h
+broken_tight tight lookup Backslash r after h = break_tight tight (pieces lookup (without_last (line_columns r))) HardBreak (end_place (start_of r) (without_last (line_columns r))) r.past after tt h
 
 paragraph_tight : (tight : Bool) (lookup : Lookup) (r : Row) (more : List Row) → HasTightParagraphs tight (paragraph_tokens lookup r more)
 paragraph_tight tight lookup r [] = texts_tight tight (pieces lookup (line_columns r)) Nil tt

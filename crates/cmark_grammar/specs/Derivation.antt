@@ -1,6 +1,6 @@
 -- Which documents a text derives, by the block grammar: its lines are blocks, their lists are found and the text of their
 -- leaves is read.
-use Rattle.std.specs.Prelude.{◌≡◌, ℕ, Bool, true, false, if◌then◌else◌, List, [], ◌∷◌, drop, Option, Some, None}
+use Rattle.std.specs.Prelude.{◌≡◌, ℕ, Bool, true, false, if◌then◌else◌, List, [], ◌∷◌, Option, Some, None}
 use Rattle.cmark_grammar.specs.Answers.{Lookup}
 use Rattle.cmark_grammar.specs.Options.{Options}
 use Rattle.cmark_grammar.specs.Rows.{Row, rows, first_place, begin_of, start_of, past_of}
@@ -10,7 +10,7 @@ use Rattle.cmark_grammar.specs.Openings.{Leaf, ThematicBreak as ThematicBreakLea
 use Rattle.cmark_grammar.specs.Blocks.{Blocks, Nil as NoBlocks, BlankLine, Paragraph as ParagraphBlock, SetextHeading, LeafBlock, ContainerBlock, Body}
 use Rattle.cmark_grammar.specs.BlocksModel.{blocks}
 use Rattle.cmark_grammar.specs.Lists.{ListBefore, tight_behind, goes_on}
-use Rattle.cmark_grammar.specs.Tokens.{resolved, title_lines, paragraph_tokens, heading_tokens, code_tokens, fenced_lines, html_tokens}
+use Rattle.cmark_grammar.specs.Tokens.{resolved, title_lines, paragraph_tokens, heading_tokens, code_tokens, fenced_lines, html_tokens, code_columns}
 use Rattle.cmark_grammar.specs.BlockDocument.{Reference, BlockKind, Paragraph, TightParagraph, Heading, ThematicBreak, IndentedCode, FencedCode, HtmlBlock, LinkDefinition, BlockQuote, BlockList, ListItem, BlockNode, BlockDocument, Nil, Node, node}
 
 -- where the last of these lines ends, without its line ending
@@ -38,7 +38,7 @@ leaf_then text lookup ThematicBreakLeaf first more after = Node (node ThematicBr
 leaf_then text lookup (AtxHeadingLeaf level) first more after =
     Node (node (Heading level) (start_of first) (past_of first more)) (heading_tokens lookup level first) after
 leaf_then text lookup IndentedCodeLeaf first more after =
-    Node (node IndentedCode (first_place first.stop (drop 4 first.columns)) (past_of first more)) (code_tokens text 4 (first ∷ more)) after
+    Node (node IndentedCode (first_place first.stop (code_columns 4 first)) (past_of first more)) (code_tokens text 4 (first ∷ more)) after
 leaf_then text lookup (FencedCodeLeaf fence) first more after =
     Node (node (FencedCode (resolved lookup fence.info)) (start_of first) (past_of first more)) (code_tokens text fence.indented (fenced_lines fence more)) after
 leaf_then text lookup (HtmlBlockLeaf kind) first more after = Node (node HtmlBlock (begin_of first) (past_of first more)) (html_tokens text (first ∷ more)) after

@@ -20,6 +20,7 @@ pub mod Openings
 pub mod Options
 pub mod Outline
 pub mod OutlineModel
+pub mod Ranges
 pub mod Reading
 pub mod References
 pub mod Rows

@@ -3,7 +3,7 @@ use Rattle.std.specs.Char.{encode_utf8}
 use Rattle.std.specs.Prelude.{ℕ, zero, suc, ◌+◌, ◌-◌, ◌*◌, ◌%◌, Bool, true, false, ◌==◌, ◌&&◌, ◌||◌, not, nat_lt, nat_le, if◌then◌else◌, List, [], ◌∷◌, ◌++◌, length, drop, take, take_while, reverse, replicate, fold, Option, Some, None}
 use Rattle.cmark_grammar.specs.Answers.{Lookup}
 use Rattle.cmark_grammar.specs.Columns.{Column, is_blank_byte, without_indent, drop_end, without_trailing_blanks, bytes_of}
-use Rattle.cmark_grammar.specs.Rows.{Row, is_bare, first_place, indent_of}
+use Rattle.cmark_grammar.specs.Rows.{Row, is_bare, first_place, indent_of, start_of}
 use Rattle.cmark_grammar.specs.Leaves.{Fence, closes_fence, is_empty, run}
 use Rattle.cmark_grammar.specs.HtmlBlocks.{is_alphanumeric, is_number, lower, first_is}
 use Rattle.cmark_grammar.specs.BlockDocument.{BlockKind, BlockDocument, Nil, Node, node, Text, Html, SoftBreak, HardBreak}
@@ -192,12 +192,15 @@ line_end r =
     else if is_open_backslash (reverse (bytes_of r.columns)) then Backslash
     else Soft
 
--- a line's text, the break behind it, and what follows
+abbrev pub without_last : List Column → List Column
+without_last cs = take (length cs - 1) cs
+
+-- a line's text, the break behind it, and what follows. A hard break begins where the text has ended
 abbrev pub broken : Lookup → LineEnd → Row → BlockDocument → BlockDocument
 broken lookup Soft r after = texts_then (pieces lookup (line_columns r)) (Node (node SoftBreak r.stop r.past) Nil after)
-broken lookup Spaces r after = texts_then (pieces lookup (line_columns r)) (Node (node HardBreak (end_place r.stop (line_columns r)) r.past) Nil after)
+broken lookup Spaces r after = texts_then (pieces lookup (line_columns r)) (Node (node HardBreak (end_place (start_of r) (line_columns r)) r.past) Nil after)
 broken lookup Backslash r after =
-    texts_then (pieces lookup (take (length (line_columns r) - 1) (line_columns r))) (Node (node HardBreak (r.stop - 1) r.past) Nil after)
+    texts_then (pieces lookup (without_last (line_columns r))) (Node (node HardBreak (end_place (start_of r) (without_last (line_columns r))) r.past) Nil after)
 
 -- the lines of a paragraph or setext heading
 abbrev pub paragraph_tokens : Lookup → Row → List Row → BlockDocument
@@ -260,11 +263,13 @@ abbrev pub merge_all : List Piece → List Piece → List Piece
 merge_all [] behind = behind
 merge_all (p ∷ ps) behind = merge p (merge_all ps behind)
 
--- the lines of code, each without so many columns of indent at most
+-- a line of code without so many columns of indent at most
+abbrev pub code_columns : (most : ℕ) → Row → List Column
+code_columns most r = drop (if nat_le most (indent_of r) then most else indent_of r) r.columns
+
 abbrev pub code_pieces : List ℕ → (most : ℕ) → List Row → List Piece
 code_pieces text most [] = []
-code_pieces text most (r ∷ rs) =
-    merge_all (verbatim_line text (drop (if nat_le most (indent_of r) then most else indent_of r) r.columns) r) (code_pieces text most rs)
+code_pieces text most (r ∷ rs) = merge_all (verbatim_line text (code_columns most r) r) (code_pieces text most rs)
 
 abbrev pub code_tokens : List ℕ → (most : ℕ) → List Row → BlockDocument
 code_tokens text most rs = texts_then (code_pieces text most rs) Nil

@@ -1,6 +1,6 @@
 //! Theorems over the block grammar, each the contract of a function that does nothing.
 
-ghost use Rattle.std.specs.Prelude.{◌≡◌, ℕ, false, List};
+ghost use Rattle.std.specs.Prelude.{◌≡◌, ℕ, false, List, length};
 ghost use Rattle.cmark_grammar.specs.Answers.{Lookup};
 ghost use Rattle.cmark_grammar.specs.BlockDocument.{BlockDocument, Reference};
 ghost use Rattle.cmark_grammar.specs.Blocks.{Blocks, Body};
@@ -8,6 +8,7 @@ ghost use Rattle.cmark_grammar.specs.BlocksByLine.{blocks_by_line};
 ghost use Rattle.cmark_grammar.specs.BlocksModel.{blocks};
 ghost use Rattle.cmark_grammar.specs.Derivation.{Derives, document};
 ghost use Rattle.cmark_grammar.specs.Options.{Options};
+ghost use Rattle.cmark_grammar.specs.Ranges.{InOrder};
 ghost use Rattle.cmark_grammar.specs.References.{EachOnce, first_with, table};
 ghost use Rattle.cmark_grammar.specs.Rows.{rows};
 ghost use Rattle.cmark_grammar.specs.Tightness.{HasTightParagraphs};
@@ -50,4 +51,10 @@ pub fn first_definition_stays()
     ensures first { (fold : List ℕ → List ℕ) (folded : List ℕ) (references : List Reference)
         → first_with fold folded (table fold references) ≡ first_with fold folded references }
     ensures once { (fold : List ℕ → List ℕ) (references : List Reference) → EachOnce fold (table fold references) }
+{}
+
+/// The ranges of a document lie in its text: siblings stand in order without overlap, and a child lies within its parent.
+pub fn ranges_are_in_order()
+    ensures { (text : List ℕ) (options : Options) (lookup : Lookup) (document : BlockDocument)
+        → Derives text options lookup document → InOrder 0 document (length text) }
 {}

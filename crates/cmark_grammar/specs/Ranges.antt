@@ -1,0 +1,9 @@
+-- The ranges of a document's nodes.
+use Rattle.std.specs.Prelude.{ℕ, ◌≤◌}
+use Rattle.cmark_grammar.specs.BlockDocument.{BlockDocument, Nil, Node}
+
+-- between these two places the nodes stand in order: none begins before the one before it has ended, and each holds what
+-- is inside it
+abbrev pub InOrder : ℕ → BlockDocument → ℕ → Type 0
+InOrder from Nil to = from ≤ to
+InOrder from (Node node inside after) to = (from ≤ node.start) × InOrder node.start inside node.end × InOrder node.end after to
