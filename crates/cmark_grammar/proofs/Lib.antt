@@ -10,6 +10,7 @@ pub mod OutlineOne
 pub mod OutlineSound
 pub mod RangeLaws
 pub mod ReferenceLaws
+pub mod RowEdges
 pub mod RowPlaces
 pub mod Samples
 pub mod TightLaws

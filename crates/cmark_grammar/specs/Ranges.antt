@@ -7,3 +7,8 @@ use Rattle.cmark_grammar.specs.BlockDocument.{BlockDocument, Nil, Node}
 abbrev pub InOrder : ℕ → BlockDocument → ℕ → Type 0
 InOrder from Nil to = from ≤ to
 InOrder from (Node node inside after) to = (from ≤ node.start) × InOrder node.start inside node.end × InOrder node.end after to
+
+-- both ends of each range are such places
+abbrev pub AllAt : (Place : ℕ → Type 0) → BlockDocument → Type 0
+AllAt Place Nil = Unit {0}
+AllAt Place (Node node inside after) = Place node.start × Place node.end × AllAt Place inside × AllAt Place after
