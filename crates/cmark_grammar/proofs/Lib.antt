@@ -14,4 +14,5 @@ pub mod RowEdges
 pub mod RowPlaces
 pub mod Samples
 pub mod TightLaws
+pub mod TokenEdges
 pub mod TokenRanges

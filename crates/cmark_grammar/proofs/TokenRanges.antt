@@ -198,11 +198,15 @@ pub record UpTo (from : ℕ) (cs : List Column) (to : ℕ) : Type 0 where
   pub runs : Runs from cs mid
   pub low : mid ≤ to
 
-take-UpTo : (n from : ℕ) (cs : List Column) (to : ℕ) → Runs from cs to → UpTo from (take n cs) to
-take-UpTo zero from cs to h = record { mid = from; runs = refl; low = Runs-le from cs to h }
-take-UpTo (suc n) from [] to h = record { mid = to; runs = h; low = omega arith }
-take-UpTo (suc n) from (c ∷ cs) to h =
-    let ih = take-UpTo n (suc c.at) cs to h.1 in record { mid = ih.mid; runs = (h.0, ih.runs); low = ih.low }
+without_last-UpTo : (from : ℕ) (cs : List Column) (to : ℕ) → Runs from cs to → UpTo from (without_last cs) to
+without_last-UpTo from [] to h = record { mid = to; runs = h; low = omega arith }
+without_last-UpTo from (c ∷ []) to h = go (c.byte == 92)
+  where
+    go : (z : Bool) → UpTo from (if z then [] else c ∷ []) to
+    go true = record { mid = from; runs = refl; low = Runs-le from (c ∷ []) to h }
+    go false = record { mid = to; runs = h; low = omega arith }
+without_last-UpTo from (c ∷ (d ∷ cs)) to h =
+    let ih = without_last-UpTo (suc c.at) (d ∷ cs) to h.1 in record { mid = ih.mid; runs = (h.0, ih.runs); low = ih.low }
 
 drop_end-UpTo : (p : Column → Bool) (from : ℕ) (cs : List Column) (to : ℕ) → Runs from cs to → UpTo from (drop_end p cs) to
 drop_end-UpTo p from [] to h = record { mid = to; runs = h; low = omega arith }
@@ -248,7 +252,7 @@ broken-order lookup from r after to h Spaces a = hard-order lookup (start_of r) 
 broken-order lookup from r after to h Backslash a =
     let u = line-UpTo from r h in
     hard-order lookup (start_of r) (without_last (line_columns r)) r.stop r.past after to
-    (up-more (start_of r) (without_last (line_columns r)) u.mid r.stop u.low (take-UpTo (length (line_columns r) - 1) (start_of r) (line_columns r) u.mid u.runs)) h.2 a
+    (up-more (start_of r) (without_last (line_columns r)) u.mid r.stop u.low (without_last-UpTo (start_of r) (line_columns r) u.mid u.runs)) h.2 a
 
 pub paragraph-order : (lookup : Lookup) (from : ℕ) (r : Row) (more : List Row) → Lies from r → Along r.past more (past_of r more) → InOrder (start_of r) (paragraph_tokens lookup r more) (past_of r more)
 paragraph-order lookup from r [] h a =

@@ -192,8 +192,11 @@ line_end r =
     else if is_open_backslash (reverse (bytes_of r.columns)) then Backslash
     else Soft
 
+-- without a backslash at the end
 abbrev pub without_last : List Column → List Column
-without_last cs = take (length cs - 1) cs
+without_last [] = []
+without_last (c ∷ []) = if c.byte == 92 then [] else c ∷ []
+without_last (c ∷ (d ∷ cs)) = c ∷ without_last (d ∷ cs)
 
 -- a line's text, the break behind it, and what follows. A hard break begins where the text has ended
 abbrev pub broken : Lookup → LineEnd → Row → BlockDocument → BlockDocument
