@@ -5,6 +5,7 @@ pub mod BlockSamples
 pub mod BlocksByLine
 pub mod BlocksOne
 pub mod BlocksSound
+pub mod BoundaryLaws
 pub mod NotDerived
 pub mod OutlineOne
 pub mod OutlineSound

@@ -1,16 +1,16 @@
 -- Where a line begins and ends behind prefixes no character is cut: prefixes are ASCII.
-use Rattle.std.proofs.Common.{◌≡◌, ◌≢◌, ◌⊎◌, inl, inr, ⊎_elim, ℕ, zero, suc, ◌+◌, ◌-◌, ◌≤◌, ◌<◌, Bool, true, false, ◌==◌, ◌&&◌, ◌||◌, not, List, [], ◌∷◌, ◌++◌, length, drop, take, take_while, refl, sym, ap, ◌∙◌, subst, arith, Option, Some, None, true≢false, drop-drop}
+use Rattle.std.proofs.Common.{◌≡◌, ◌⊎◌, inl, inr, ⊎_elim, ℕ, zero, suc, ◌+◌, ◌-◌, ◌≤◌, ◌<◌, Bool, true, false, ◌==◌, ◌&&◌, ◌||◌, not, List, [], ◌∷◌, ◌++◌, length, drop, take_while, refl, sym, subst, arith, Option, Some, None, true≢false, drop-drop}
 use Rattle.std.proofs.lemmas.List.Sums.{take_while-cons}
 use Rattle.std.specs.Prelude.{if◌then◌else◌, nat_le, nat_lt, cond}
 use Rattle.cmark_grammar.specs.Options.{Options}
 use Rattle.cmark_grammar.specs.Columns.{Column, is_blank_byte, is_blank, indent, without_indent, bytes_of}
-use Rattle.cmark_grammar.specs.Rows.{Row, without, place, first_place, begin_of, start_of, is_bare, is_blank_line, indent_of, words_of}
+use Rattle.cmark_grammar.specs.Rows.{Row, without, first_place, begin_of, start_of, is_bare, is_blank_line, indent_of, words_of}
 use Rattle.cmark_grammar.specs.Leaves.{run, Fence, is_thematic_break, is_atx_heading, fence_of, counted, code_further, is_parted}
 use Rattle.cmark_grammar.specs.HtmlBlocks.{html_kind}
 use Rattle.cmark_grammar.specs.LinkDefinitions.{Defined, definition_in, bytes_over}
 use Rattle.cmark_grammar.specs.Containers.{Container, Quote, Item, Marker, is_bullet, is_digit, is_delimiter, digits, number_of, delimited, marker_of, behind_marker, padding, width_with, item_with, item_of, begins_with, is_quote, one_blank, quote_width, container_with, container_of, width_of, enter, keep_as, keeps, strip_as, strip, strips}
 use Rattle.cmark_grammar.specs.Openings.{Leaf, ThematicBreak, AtxHeading, IndentedCode, FencedCode, HtmlBlock, LinkDefinition, Opening, Blank, Nests, Takes, Plain, or_else, nests_if, fenced_if, html_if, break_if, heading_if, text_lines, defined_if, definition_of, leaf_of, whole_opens, opens}
-use Rattle.cmark_grammar.proofs.RowPlaces.{Runs, Runs-le, first_place-Runs, drop-Runs}
+use Rattle.cmark_grammar.proofs.RowPlaces.{Runs, first_place-Runs, drop-Runs}
 
 -- what holds of the first n elements, as far as there are any
 abbrev pub Front : {X : Type 0} → (X → Type 0) → ℕ → List X → Type 0
@@ -144,7 +144,6 @@ one_blank-front (c ∷ cs) = go (is_blank c) refl
     go false e = tt
 
 module _ (E : ℕ → Type 0) where
-
   -- a column: one in which no byte begins is of a tab, and around an ASCII byte no character is cut
   abbrev pub Good : Column → Type 0
   Good c = ((c.part == 0) ≡ false → c.byte < 128) × (c.byte < 128 → E c.at × E (suc c.at))
@@ -229,10 +228,19 @@ module _ (E : ℕ → Type 0) where
   container-front None true r g e f = quote-front r g e
   container-front None false r g e f = tt
 
+  -- a heading's opening sequence is ASCII too
+  abbrev pub LeafFront : Row → Leaf → Type 0
+  LeafFront r ThematicBreak = Unit {0}
+  LeafFront r (AtxHeading level) = Front IsAsciiColumn level (without_indent r.columns)
+  LeafFront r IndentedCode = Unit {0}
+  LeafFront r (FencedCode fence) = Unit {0}
+  LeafFront r (HtmlBlock kind) = Unit {0}
+  LeafFront r (LinkDefinition definition) = Unit {0}
+
   abbrev OpeningFront : Row → Opening → Type 0
   OpeningFront r Blank = Unit {0}
   OpeningFront r (Nests k) = Front IsAsciiColumn (width_of k r) r.columns
-  OpeningFront r (Takes leaf n) = Unit {0}
+  OpeningFront r (Takes leaf n) = LeafFront r leaf
   OpeningFront r Plain = Unit {0}
 
   front_if : (r : Row) (b : Bool) (x y : Opening) → OpeningFront r x → OpeningFront r y → OpeningFront r (if b then x else y)
@@ -257,9 +265,9 @@ module _ (E : ℕ → Type 0) where
   front_break r true = tt
   front_break r false = tt
 
-  front_heading : (r : Row) (z : Bool) (level : ℕ) → OpeningFront r (heading_if z level)
-  front_heading r true level = tt
-  front_heading r false level = tt
+  front_heading : (r : Row) (z : Bool) → GoodRow r → OpeningFront r (heading_if z (run 35 (words_of r)))
+  front_heading r true g = bytes-front (run 35 (words_of r)) (without_indent r.columns) (drop-good (indent r.columns) r.columns g.good) (run-front 35 (words_of r) (omega arith))
+  front_heading r false g = tt
 
   front_fenced : (r : Row) (o : Option Fence) (ahead : List Row) → OpeningFront r (fenced_if o ahead)
   front_fenced r (Some fence) ahead = tt
@@ -269,11 +277,11 @@ module _ (E : ℕ → Type 0) where
   front_defined r lines (Some found) = tt
   front_defined r lines None = tt
 
-  front_leaf : (options : Options) (r : Row) (ahead : List Row) → OpeningFront r (leaf_of options r ahead)
-  front_leaf options r ahead =
+  front_leaf : (options : Options) (r : Row) (ahead : List Row) → GoodRow r → OpeningFront r (leaf_of options r ahead)
+  front_leaf options r ahead g =
       front_or r (html_if r ahead (html_kind (words_of r))) _ (front_html r ahead (html_kind (words_of r)))
       (front_or r (break_if (is_thematic_break (words_of r))) _ (front_break r (is_thematic_break (words_of r)))
-      (front_or r (heading_if (is_atx_heading (words_of r)) (run 35 (words_of r))) _ (front_heading r (is_atx_heading (words_of r)) (run 35 (words_of r)))
+      (front_or r (heading_if (is_atx_heading (words_of r)) (run 35 (words_of r))) _ (front_heading r (is_atx_heading (words_of r)) g)
       (front_or r (fenced_if (fence_of (indent_of r) (words_of r)) ahead) (definition_of options r ahead) (front_fenced r (fence_of (indent_of r) (words_of r)) ahead)
       (front_defined r (length (text_lines options ahead)) (definition_in (bytes_over r (text_lines options ahead)))))))
 
@@ -283,11 +291,14 @@ module _ (E : ℕ → Type 0) where
       front_if r r.lazy Plain (whole_opens options r ahead) tt
       (front_if r (is_blank_line r) Blank _ tt
       (front_if r (nat_le 4 (indent_of r)) (Takes IndentedCode (counted code_further ahead)) _ tt
-      (front_or r (nests_if (container_of r)) (leaf_of options r ahead) (front_nests r (container_of r) (container-front (item_of r) (is_quote r) r g refl (item-front r (marker_of (words_of r)) g (marker-front (words_of r))))) (front_leaf options r ahead))))
+      (front_or r (nests_if (container_of r)) (leaf_of options r ahead) (front_nests r (container_of r) (container-front (item_of r) (is_quote r) r g refl (item-front r (marker_of (words_of r)) g (marker-front (words_of r))))) (front_leaf options r ahead g))))
 
   pub enter-good : (options : Options) (k : Container) (r : Row) (ahead : List Row) → opens options r ahead ≡ Nests k → GoodRow r → GoodRow (enter k r)
   unfolding enter
   enter-good options k r ahead e g = without-good (width_of k r) r g (subst (OpeningFront r) e (front_opens options r ahead g))
+
+  pub leaf-front : (options : Options) (r : Row) (ahead : List Row) (leaf : Leaf) (n : ℕ) → opens options r ahead ≡ Takes leaf n → GoodRow r → LeafFront r leaf
+  leaf-front options r ahead leaf n e g = subst (OpeningFront r) e (front_opens options r ahead g)
 
   -- nor what its later lines have in front
   keep_as-good : (k : Container) (r s : Row) → GoodRow r → keep_as k r ≡ Some s → GoodRow s

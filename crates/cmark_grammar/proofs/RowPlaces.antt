@@ -145,7 +145,7 @@ tab-Runs : (at part n : ℕ) (rest : List Column) (to : ℕ) → Runs (suc at) r
 tab-Runs at part zero rest to h = h
 tab-Runs at part (suc n) rest to h = (ap (λ z. if z then at else suc at) (ne_eqb (suc part) 0 (omega arith)), tab-Runs at (suc part) n rest to h)
 
-expand-Runs : (column at : ℕ) (bs : List ℕ) → Runs at (expand column at bs) (at + length bs)
+pub expand-Runs : (column at : ℕ) (bs : List ℕ) → Runs at (expand column at bs) (at + length bs)
 expand-Runs column at [] = omega arith
 expand-Runs column at (b ∷ bs) =
     go (b == tab) (to_tab_stop column) some (expand-Runs (column + to_tab_stop column) (suc at) bs) (expand-Runs (suc column) (suc at) bs)

@@ -1,16 +1,16 @@
 -- Where tokens begin and end no character is cut.
-use Rattle.std.proofs.Common.{◌≡◌, ◌⊎◌, inl, inr, ⊎_elim, ℕ, zero, suc, ◌+◌, ◌-◌, ◌≤◌, ◌<◌, Bool, true, false, ◌==◌, ◌&&◌, ◌||◌, not, List, [], ◌∷◌, ◌++◌, length, drop, take, take_while, refl, sym, ap, ◌∙◌, subst, arith, Option, Some, None, true≢false, eq-eqb}
-use Rattle.std.specs.Prelude.{if◌then◌else◌, nat_le, nat_lt, slice_index}
+use Rattle.std.proofs.Common.{◌≡◌, ◌⊎◌, inl, inr, ℕ, zero, suc, ◌+◌, ◌-◌, ◌≤◌, ◌<◌, Bool, true, false, ◌==◌, ◌&&◌, ◌||◌, not, List, [], ◌∷◌, ◌++◌, length, drop, take_while, refl, sym, ap, ◌∙◌, subst, arith, Option, Some, None, true≢false, eq-eqb}
+use Rattle.std.specs.Prelude.{if◌then◌else◌, nat_le, nat_lt}
 use Rattle.cmark_grammar.specs.Answers.{Lookup}
-use Rattle.cmark_grammar.specs.Columns.{Column, indent, without_indent, drop_end, put_before, without_trailing_blanks, bytes_of, is_blank, is_blank_byte}
-use Rattle.cmark_grammar.specs.Rows.{Row, place, first_place, begin_of, start_of, past_of, is_bare, indent_of}
-use Rattle.cmark_grammar.specs.Leaves.{is_empty, Fence, closes_fence, run}
+use Rattle.cmark_grammar.specs.Columns.{Column, indent, without_indent, drop_end, put_before, without_trailing_blanks, bytes_of, is_blank}
+use Rattle.cmark_grammar.specs.Rows.{Row, place, first_place, begin_of, start_of, indent_of}
+use Rattle.cmark_grammar.specs.Leaves.{is_empty, Fence, closes_fence}
 use Rattle.cmark_grammar.specs.HtmlBlocks.{first_is, is_alphanumeric, is_number}
-use Rattle.cmark_grammar.specs.BlockDocument.{BlockKind, BlockNode, BlockDocument, Nil, Node, node, SoftBreak, HardBreak}
+use Rattle.cmark_grammar.specs.BlockDocument.{BlockKind, BlockDocument, Nil, Node, node, SoftBreak, HardBreak}
 use Rattle.cmark_grammar.specs.Ranges.{AllAt}
-use Rattle.cmark_grammar.specs.Tokens.{slice, character, value_of, Piece, Entity, Does, Stands, EscapesNext, Begins, does, does_at, begins_if, is_escape, size_behind, entity_if, entity_in, numeric_in, hexadecimal_in, decimal_in, numeric, named, named_in, is_hexadecimal, is_punctuation, plain_of, grown, onto, add, pieces_from, put_column, byte_columns, pieces, texts_then, line_columns, end_place, without_last, LineEnd, Soft, Spaces, Backslash, line_end, broken, paragraph_tokens, is_hash, without_closing, heading_columns, heading_tokens, piece_if, plain_line, left_columns, spaces_if, verbatim_line, touches, merge, merge_all, code_columns, code_pieces, code_tokens, stop_at, fenced_lines, html_then, html_tokens, html_kind_of}
-use Rattle.cmark_grammar.proofs.RowPlaces.{Runs, Runs-le, first_place-Runs, drop-Runs}
-use Rattle.cmark_grammar.proofs.RowEdges.{Front, front-less, IsAsciiByte, IsAsciiColumn, is-ascii, blank-ascii, indent-front, Good, AreGood, drop-good, bytes-front, run-front, drop-E, GoodRow, without-good, start-E, GoodRows}
+use Rattle.cmark_grammar.specs.Tokens.{slice, character, value_of, Piece, Entity, Does, Stands, EscapesNext, Begins, does, does_at, begins_if, is_escape, size_behind, entity_if, entity_in, numeric_in, hexadecimal_in, decimal_in, numeric, named_in, is_hexadecimal, is_punctuation, plain_of, grown, onto, add, pieces_from, put_column, byte_columns, pieces, texts_then, line_columns, end_place, without_last, LineEnd, Soft, Spaces, Backslash, line_end, broken, paragraph_tokens, is_hash, without_closing, heading_columns, heading_tokens, piece_if, plain_line, left_columns, spaces_if, verbatim_line, touches, merge, merge_all, code_columns, code_pieces, code_tokens, stop_at, fenced_lines, html_then, html_tokens}
+use Rattle.cmark_grammar.proofs.RowPlaces.{Runs, drop-Runs}
+use Rattle.cmark_grammar.proofs.RowEdges.{Front, front-less, IsAsciiColumn, is-ascii, blank-ascii, indent-front, Good, AreGood, drop-good, drop-E, GoodRow, start-E, GoodRows}
 
 no : {A : Type 0} → false ≡ true → A
 no e = absurd (true≢false (sym e))
@@ -105,7 +105,6 @@ does-ends lookup true b bs = tt
 does-ends lookup false b bs = does_at-ends lookup (b == 38) (b == 92) b bs refl refl
 
 module _ (E : ℕ → Type 0) where
-
   abbrev pub Edged : List Piece → Type 0
   Edged [] = Unit {0}
   Edged (p ∷ ps) = E p.start × E p.end × Edged ps
