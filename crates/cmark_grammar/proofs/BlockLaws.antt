@@ -1,5 +1,5 @@
 -- The laws of openings and prefixes that the theorems on blocks use.
-use Rattle.std.proofs.Common.{◌≡◌, ◌≢◌, ◌⊎◌, inl, inr, ℕ, zero, suc, ◌≤◌, ◌<◌, Bool, true, false, ◌||◌, ◌&&◌, List, [], ◌∷◌, length, drop, refl, sym, ap, ◌∙◌, subst, arith, Option, Some, None, length-drop}
+use Rattle.std.proofs.Common.{◌≡◌, ◌≢◌, ◌⊎◌, inl, inr, ℕ, zero, suc, ◌≤◌, ◌<◌, Bool, true, false, ◌||◌, ◌&&◌, List, [], ◌∷◌, length, drop, refl, sym, ap, ◌∙◌, subst, arith, Option, Some, None, length-drop, true≢false, not}
 use Rattle.std.specs.Prelude.{if◌then◌else◌, nat_le, nat_lt}
 use Rattle.cmark_grammar.specs.Columns.{Column, without_indent}
 use Rattle.cmark_grammar.specs.Rows.{Row, without, lazy_row, is_bare, is_blank_line, indent_of, words_of}
@@ -113,10 +113,10 @@ module _ (options : Options) where
   pub opens-len : (r : Row) (ahead : List Row) (leaf : Leaf) (n : ℕ) → opens options r ahead ≡ Takes leaf n → n ≤ length ahead
   opens-len r ahead leaf n e = subst (λ o. Fits o ahead) e (fits_opens r ahead)
 
-  -- a container takes a column at least
+  -- a container takes a column behind the indent at least
   abbrev pub IsWide : Row → Opening → Type 0
   IsWide r Blank = Unit {0}
-  IsWide r (Nests k) = 0 < width_of k r
+  IsWide r (Nests k) = indent_of r < width_of k r
   IsWide r (Takes leaf n) = Unit {0}
   IsWide r Plain = Unit {0}
 
@@ -133,7 +133,7 @@ module _ (options : Options) where
   -- and a marker too
   abbrev pub SomeWide : Row → Option Container → Type 0
   SomeWide r None = Unit {0}
-  SomeWide r (Some k) = 0 < width_of k r
+  SomeWide r (Some k) = indent_of r < width_of k r
 
   abbrev pub SomeSize : Option Marker → Type 0
   SomeSize None = Unit {0}
@@ -200,7 +200,7 @@ module _ (options : Options) where
       (wide_or r (fenced_if (fence_of (indent_of r) (words_of r)) ahead) (definition_of options r ahead) (wide_fenced r (fence_of (indent_of r) (words_of r)) ahead)
       (wide_defined r (length (text_lines options ahead)) (definition_in (bytes_over r (text_lines options ahead)))))))
 
-  wide_opens : (r : Row) (ahead : List Row) → IsWide r (opens options r ahead)
+  pub wide_opens : (r : Row) (ahead : List Row) → IsWide r (opens options r ahead)
   unfolding opens
   wide_opens r ahead =
       wide_if r r.lazy Plain (whole_opens options r ahead) tt
@@ -223,7 +223,7 @@ module _ (options : Options) where
   pub enter_len : (k : Container) (r : Row) (ahead : List Row) → opens options r ahead ≡ Nests k → length (enter k r).columns < length r.columns
   unfolding enter
   enter_len k r ahead e =
-      let wide : 0 < width_of k r = subst (IsWide r) e (wide_opens r ahead) in
+      let wide : indent_of r < width_of k r = subst (IsWide r) e (wide_opens r ahead) in
       rw (length-drop (width_of k r) r.columns) (omega (arith, wide, opens-some r ahead k e))
 
   pub enter-lazy : (k : Container) (r : Row) → (enter k r).lazy ≡ r.lazy
@@ -291,3 +291,20 @@ module _ (options : Options) where
       go : (z : Bool) → r.lazy ≡ z → (r.lazy ≡ false) ⊎ (texts options r ahead ≡ true)
       go true e = inr (texts-lazy r ahead [] e ∙ subst (λ s. texts options s [] ≡ true) (lazy-same r e) t)
       go false e = inl e
+
+  not_or : (x y : Bool) → not (x || y) ≡ true → x ≡ false
+  not_or true y e = absurd (true≢false (sym e))
+  not_or false y e = refl
+
+  -- what begins something else than a blank line is not blank
+  pub opens-words : (r : Row) (ahead : List Row) → r.lazy ≡ false → opens options r ahead ≢ Blank → is_blank_line r ≡ false
+  unfolding opens
+  opens-words r ahead w ne = go (is_blank_line r) refl
+    where
+      go : (z : Bool) → is_blank_line r ≡ z → is_blank_line r ≡ false
+      go false e = e
+      go true e = absurd (ne (rw (w, e) refl))
+
+  pub texts-words : (r : Row) (ahead : List Row) → texts options r ahead ≡ true → is_blank_line r ≡ false
+  unfolding texts
+  texts-words r ahead t = not_or (is_blank_line r) _ t

@@ -6,6 +6,7 @@ pub mod BlocksByLine
 pub mod BlocksOne
 pub mod BlocksSound
 pub mod BoundaryLaws
+pub mod CountLaws
 pub mod NotDerived
 pub mod OutlineOne
 pub mod OutlineSound

@@ -105,7 +105,7 @@ kept_as-without (Item mark number width) r s e = (width, go _ e)
     go true q = cc
     go false q = cc
 
-kept-without : (k : Container) (bare : Bool) (r s : Row) → keeps k bare r ≡ Some s → (n : ℕ) × (without n r ≡ s)
+pub kept-without : (k : Container) (bare : Bool) (r s : Row) → keeps k bare r ≡ Some s → (n : ℕ) × (without n r ≡ s)
 unfolding keeps
 kept-without k bare r s e = go _ e
   where
@@ -124,7 +124,7 @@ strip-Lies k bare from r h = go (keeps k bare r) refl
         let q : without n r ≡ s = w.1 in
         subst (Lies from) q (Lies-lower from (begin_of r) (without n r) h.0 (Lies-without n from r h))
 
-strip-past : (k : Container) (bare : Bool) (r : Row) → (strip k bare r).past ≡ r.past
+pub strip-past : (k : Container) (bare : Bool) (r : Row) → (strip k bare r).past ≡ r.past
 strip-past k bare r = go (keeps k bare r) refl
   where
     go : (o : Option Row) → keeps k bare r ≡ o → (strip_as o r).past ≡ r.past

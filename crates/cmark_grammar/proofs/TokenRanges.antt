@@ -198,7 +198,7 @@ pub record UpTo (from : ℕ) (cs : List Column) (to : ℕ) : Type 0 where
   pub runs : Runs from cs mid
   pub low : mid ≤ to
 
-without_last-UpTo : (from : ℕ) (cs : List Column) (to : ℕ) → Runs from cs to → UpTo from (without_last cs) to
+pub without_last-UpTo : (from : ℕ) (cs : List Column) (to : ℕ) → Runs from cs to → UpTo from (without_last cs) to
 without_last-UpTo from [] to h = record { mid = to; runs = h; low = omega arith }
 without_last-UpTo from (c ∷ []) to h = go (c.byte == 92)
   where
@@ -208,7 +208,7 @@ without_last-UpTo from (c ∷ []) to h = go (c.byte == 92)
 without_last-UpTo from (c ∷ (d ∷ cs)) to h =
     let ih = without_last-UpTo (suc c.at) (d ∷ cs) to h.1 in record { mid = ih.mid; runs = (h.0, ih.runs); low = ih.low }
 
-drop_end-UpTo : (p : Column → Bool) (from : ℕ) (cs : List Column) (to : ℕ) → Runs from cs to → UpTo from (drop_end p cs) to
+pub drop_end-UpTo : (p : Column → Bool) (from : ℕ) (cs : List Column) (to : ℕ) → Runs from cs to → UpTo from (drop_end p cs) to
 drop_end-UpTo p from [] to h = record { mid = to; runs = h; low = omega arith }
 drop_end-UpTo p from (c ∷ cs) to h = go (drop_end p cs) (p c) (drop_end-UpTo p (suc c.at) cs to h.1)
   where
@@ -230,7 +230,7 @@ end_place-Runs : (from : ℕ) (cs : List Column) (to : ℕ) → Runs from cs to 
 end_place-Runs from [] to h = h
 end_place-Runs from (c ∷ cs) to h = end_place-Runs (suc c.at) cs to h.1
 
-line-UpTo : (from : ℕ) (r : Row) → Lies from r → UpTo (start_of r) (line_columns r) r.stop
+pub line-UpTo : (from : ℕ) (r : Row) → Lies from r → UpTo (start_of r) (line_columns r) r.stop
 line-UpTo from r h = drop_end-UpTo is_blank (start_of r) (without_indent r.columns) r.stop (start-Runs from r h)
 
 -- a text behind which a break stands
@@ -267,7 +267,7 @@ paragraph-order lookup from r (s ∷ more) h a =
     past-start : r.past ≤ start_of s
     past-start = let b : r.past ≤ begin_of s = a.0.0 in let c : begin_of s ≤ start_of s = begin-start r.past s a.0 in omega (arith, b, c)
 
-without_closing-UpTo : (from : ℕ) (cs : List Column) (to : ℕ) → Runs from cs to → UpTo from (without_closing cs) to
+pub without_closing-UpTo : (from : ℕ) (cs : List Column) (to : ℕ) → Runs from cs to → UpTo from (without_closing cs) to
 without_closing-UpTo from cs to h = go _
   where
     go : (z : Bool) → UpTo from (if z then without_trailing_blanks (drop_end is_hash cs) else cs) to

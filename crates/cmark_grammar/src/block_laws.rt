@@ -1,6 +1,6 @@
 //! Theorems over the block grammar, each the contract of a function that does nothing.
 
-ghost use Rattle.std.specs.Prelude.{◌≡◌, ℕ, false, List, length, IsUtf8, IsCharBoundary};
+ghost use Rattle.std.specs.Prelude.{◌≡◌, ℕ, false, ◌*◌, ◌≤◌, List, length, IsUtf8, IsCharBoundary};
 ghost use Rattle.cmark_grammar.specs.Answers.{Lookup};
 ghost use Rattle.cmark_grammar.specs.BlockDocument.{BlockDocument, Reference};
 ghost use Rattle.cmark_grammar.specs.Blocks.{Blocks, Body};
@@ -8,7 +8,7 @@ ghost use Rattle.cmark_grammar.specs.BlocksByLine.{blocks_by_line};
 ghost use Rattle.cmark_grammar.specs.BlocksModel.{blocks};
 ghost use Rattle.cmark_grammar.specs.Derivation.{Derives, document};
 ghost use Rattle.cmark_grammar.specs.Options.{Options};
-ghost use Rattle.cmark_grammar.specs.Ranges.{AllAt, InOrder};
+ghost use Rattle.cmark_grammar.specs.Ranges.{AllAt, InOrder, count_nodes};
 ghost use Rattle.cmark_grammar.specs.References.{EachOnce, first_with, table};
 ghost use Rattle.cmark_grammar.specs.Rows.{rows};
 ghost use Rattle.cmark_grammar.specs.Tightness.{HasTightParagraphs};
@@ -63,4 +63,10 @@ pub fn ranges_are_in_order()
 pub fn ranges_cut_no_character()
     ensures { (text : List ℕ) (options : Options) (lookup : Lookup) (document : BlockDocument)
         → IsUtf8 text → Derives text options lookup document → AllAt (IsCharBoundary text) document }
+{}
+
+/// A document has at most four nodes a byte of its text.
+pub fn nodes_are_few()
+    ensures { (text : List ℕ) (options : Options) (lookup : Lookup) (document : BlockDocument)
+        → Derives text options lookup document → count_nodes document ≤ 4 * length text }
 {}
