@@ -7,7 +7,7 @@ use Rattle.cmark_grammar.specs.Options.{no_options}
 use Rattle.cmark_grammar.specs.Openings.{opens, texts, lazily}
 use Rattle.cmark_grammar.specs.BlocksModel.{begin, blocks}
 use Rattle.cmark_grammar.specs.Entities.{basic_entity}
-use Rattle.cmark_grammar.specs.BlockDocument.{BlockQuote, IndentedCode, FencedCode, HtmlBlock, Text, Html, BlockNode, outline, node}
+use Rattle.cmark_grammar.specs.BlockDocument.{BlockQuote, IndentedCode, FencedCode, HtmlBlock, Text, OwnedText, Html, BlockNode, outline, node}
 use Rattle.cmark_grammar.specs.Derivation.{document}
 use Rattle.cmark_grammar.proofs.BlockSamples.{written}
 
@@ -142,7 +142,7 @@ cut_tab_item = refl
 
 -- what is left of a tab in code is a text of spaces that takes no byte
 cut_tab_code : outline (document (codes ">\t\tfoo\n") no_options basic_entity) ≡
-    node BlockQuote 0 7 ∷ node IndentedCode 3 7 ∷ node (Text (codes "  ")) 3 3 ∷ node (Text (codes "foo\n")) 3 7 ∷ []
+    node BlockQuote 0 7 ∷ node IndentedCode 3 7 ∷ node (OwnedText (codes "  ")) 3 3 ∷ node (Text (codes "foo\n")) 3 7 ∷ []
 unfolding blocks begin opens texts lazily enter keeps underlines
 cut_tab_code = refl
 

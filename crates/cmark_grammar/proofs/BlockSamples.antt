@@ -9,7 +9,7 @@ use Rattle.cmark_grammar.specs.Options.{no_options}
 use Rattle.cmark_grammar.specs.Openings.{opens, texts, lazily}
 use Rattle.cmark_grammar.specs.BlocksModel.{begin, blocks}
 use Rattle.cmark_grammar.specs.Entities.{basic_entity}
-use Rattle.cmark_grammar.specs.BlockDocument.{BlockKind, Paragraph, TightParagraph, Heading, ThematicBreak, IndentedCode, FencedCode, HtmlBlock, LinkDefinition, BlockQuote, BlockList, ListItem, Text, Html, SoftBreak, HardBreak, BlockDocument, Nil, Node}
+use Rattle.cmark_grammar.specs.BlockDocument.{BlockKind, Paragraph, TightParagraph, Heading, ThematicBreak, IndentedCode, FencedCode, HtmlBlock, LinkDefinition, BlockQuote, BlockList, ListItem, Text, OwnedText, Html, SoftBreak, HardBreak, BlockDocument, Nil, Node}
 use Rattle.cmark_grammar.specs.Derivation.{document}
 
 abbrev escaped : ℕ → List ℕ
@@ -46,6 +46,7 @@ written_as BlockQuote inside = element (codes "blockquote") inside
 written_as (BlockList number tight) inside = list_element number inside
 written_as ListItem inside = element (codes "li") inside
 written_as (Text bytes) inside = flat_map escaped bytes
+written_as (OwnedText bytes) inside = flat_map escaped bytes
 written_as (Html bytes) inside = flat_map without_line_end bytes
 written_as SoftBreak inside = []
 written_as HardBreak inside = codes "<br />"

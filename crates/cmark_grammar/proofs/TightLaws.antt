@@ -9,13 +9,17 @@ use Rattle.cmark_grammar.specs.Openings.{Leaf, ThematicBreak as ThematicBreakLea
 use Rattle.cmark_grammar.specs.Blocks.{Blocks, Nil as NoBlocks, BlankLine, Paragraph as ParagraphBlock, SetextHeading, LeafBlock, ContainerBlock}
 use Rattle.cmark_grammar.specs.Lists.{ListBefore, tight_behind, goes_on, is_tight}
 use Rattle.cmark_grammar.specs.Tokens.{Piece, LineEnd, Soft, Spaces, Backslash, line_end, line_columns, end_place, pieces, texts_then, broken, paragraph_tokens, html_then, html_tokens, html_kind_of, verbatim_line, heading_columns, code_pieces, fenced_lines, without_last}
-use Rattle.cmark_grammar.specs.BlockDocument.{BlockKind, SoftBreak, HardBreak, BlockList, ListItem, BlockNode, BlockDocument, Nil, Node, node}
+use Rattle.cmark_grammar.specs.BlockDocument.{BlockKind, Text, OwnedText, SoftBreak, HardBreak, BlockList, ListItem, BlockNode, BlockDocument, Nil, Node, node}
 use Rattle.cmark_grammar.specs.Derivation.{leaf_then, item_then, paragraph_kind, document_of, Derives}
 use Rattle.cmark_grammar.specs.Tightness.{tight_within, IsElement, HasTightParagraphs}
 
 texts_tight : (tight : Bool) (ps : List Piece) (after : BlockDocument) → HasTightParagraphs tight after → HasTightParagraphs tight (texts_then ps after)
 texts_tight tight [] after h = h
-texts_tight tight (p ∷ ps) after h = (tt, tt, texts_tight tight ps after h)
+texts_tight tight (p ∷ ps) after h = (text_piece p.owned, tt, texts_tight tight ps after h)
+  where
+    text_piece : (z : Bool) → IsElement tight (if z then OwnedText p.bytes else Text p.bytes)
+    text_piece true = tt
+    text_piece false = tt
 
 break_tight : (tight : Bool) (ps : List Piece) (kind : BlockKind) (start end : ℕ) (after : BlockDocument) → IsElement tight kind → HasTightParagraphs tight after → HasTightParagraphs tight (texts_then ps (Node (node kind start end) Nil after))
 break_tight tight ps kind start end after is h = texts_tight tight ps (Node (node kind start end) Nil after) (is, tt, h)

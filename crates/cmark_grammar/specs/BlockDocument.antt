@@ -10,7 +10,8 @@ pub record Reference : Type 0 where
   pub end : ℕ
 
 -- what a node is. A paragraph that stands directly in an item of a tight list is no element of its own; a list has the
--- number of its first item, if it is ordered
+-- number of its first item, if it is ordered. A text and an HTML line stand as they are in the text; an owned text is
+-- what an entity stands for, or spaces that are left of a tab
 pub data BlockKind : Type 0 where
   Paragraph : BlockKind
   TightParagraph : BlockKind
@@ -24,6 +25,7 @@ pub data BlockKind : Type 0 where
   BlockList : (number : Option ℕ) → (tight : Bool) → BlockKind
   ListItem : BlockKind
   Text : (bytes : List ℕ) → BlockKind
+  OwnedText : (bytes : List ℕ) → BlockKind
   Html : (bytes : List ℕ) → BlockKind
   SoftBreak : BlockKind
   HardBreak : BlockKind

@@ -1,6 +1,6 @@
 -- Paragraphs of tight lists (CommonMark 5.3).
 use Rattle.std.specs.Prelude.{◌≡◌, Bool, true, false}
-use Rattle.cmark_grammar.specs.BlockDocument.{BlockKind, Paragraph, TightParagraph, Heading, ThematicBreak, IndentedCode, FencedCode, HtmlBlock, LinkDefinition, BlockQuote, BlockList, ListItem, Text, Html, SoftBreak, HardBreak, BlockDocument, Nil, Node}
+use Rattle.cmark_grammar.specs.BlockDocument.{BlockKind, Paragraph, TightParagraph, Heading, ThematicBreak, IndentedCode, FencedCode, HtmlBlock, LinkDefinition, BlockQuote, BlockList, ListItem, Text, OwnedText, Html, SoftBreak, HardBreak, BlockDocument, Nil, Node}
 
 -- whether what is inside such a node stands in items of a tight list, or directly in one
 abbrev pub tight_within : Bool → BlockKind → Bool
@@ -16,6 +16,7 @@ tight_within tight HtmlBlock = false
 tight_within tight (LinkDefinition reference) = false
 tight_within tight BlockQuote = false
 tight_within tight (Text bytes) = false
+tight_within tight (OwnedText bytes) = false
 tight_within tight (Html bytes) = false
 tight_within tight SoftBreak = false
 tight_within tight HardBreak = false
@@ -34,6 +35,7 @@ IsElement tight BlockQuote = Unit {0}
 IsElement tight (BlockList number t) = Unit {0}
 IsElement tight ListItem = Unit {0}
 IsElement tight (Text bytes) = Unit {0}
+IsElement tight (OwnedText bytes) = Unit {0}
 IsElement tight (Html bytes) = Unit {0}
 IsElement tight SoftBreak = Unit {0}
 IsElement tight HardBreak = Unit {0}

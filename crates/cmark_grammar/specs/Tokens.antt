@@ -6,7 +6,7 @@ use Rattle.cmark_grammar.specs.Columns.{Column, is_blank_byte, without_indent, d
 use Rattle.cmark_grammar.specs.Rows.{Row, is_bare, first_place, indent_of, start_of}
 use Rattle.cmark_grammar.specs.Leaves.{Fence, closes_fence, is_empty, run}
 use Rattle.cmark_grammar.specs.HtmlBlocks.{is_alphanumeric, is_number, lower, first_is}
-use Rattle.cmark_grammar.specs.BlockDocument.{BlockKind, BlockDocument, Nil, Node, node, Text, Html, SoftBreak, HardBreak}
+use Rattle.cmark_grammar.specs.BlockDocument.{BlockKind, BlockDocument, Nil, Node, node, Text, OwnedText, Html, SoftBreak, HardBreak}
 
 -- a piece of text: the bytes that it stands for and those that it takes in the text; owned if they differ
 pub record Piece : Type 0 where
@@ -157,10 +157,13 @@ abbrev pub title_lines : (front : Bool) → List ℕ → List ℕ
 title_lines front [] = []
 title_lines front (b ∷ bs) = title_byte front b (title_lines ((b == 10) || (front && is_blank_byte b)) bs)
 
+abbrev pub text_kind_of : Piece → BlockKind
+text_kind_of p = if p.owned then OwnedText p.bytes else Text p.bytes
+
 -- pieces as nodes, in front of others
 abbrev pub texts_then : List Piece → BlockDocument → BlockDocument
 texts_then [] after = after
-texts_then (p ∷ ps) after = Node (node (Text p.bytes) p.start p.end) Nil (texts_then ps after)
+texts_then (p ∷ ps) after = Node (node (text_kind_of p) p.start p.end) Nil (texts_then ps after)
 
 -- a line's columns without the blanks at both ends (CommonMark 4.8)
 abbrev pub line_columns : Row → List Column
@@ -288,7 +291,7 @@ fenced_lines fence (r ∷ rs) = stop_at (closes_fence fence r) r (fenced_lines f
 
 -- HTML lines: a node a line, but for CR LF and the spaces left of a tab
 abbrev pub html_kind_of : Piece → BlockKind
-html_kind_of p = if p.owned then Text p.bytes else Html p.bytes
+html_kind_of p = if p.owned then OwnedText p.bytes else Html p.bytes
 
 abbrev pub html_then : List Piece → BlockDocument → BlockDocument
 html_then [] after = after
