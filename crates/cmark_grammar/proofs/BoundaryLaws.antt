@@ -74,17 +74,17 @@ module _ (E : ℕ → Type 0) where
       (document-edged text options lookup direct (Some (record { mark = mark; tight = tight })) false body.rest after body.after s.1)
 
 -- the lines of a text
-abbrev joined : List (List ℕ) → List ℕ
+abbrev pub joined : List (List ℕ) → List ℕ
 joined [] = []
 joined (l ∷ ls) = l ++ joined ls
 
-abbrev LastAscii : List ℕ → Type 0
+abbrev pub LastAscii : List ℕ → Type 0
 LastAscii [] = ⊥
 LastAscii (b ∷ []) = b < 128
 LastAscii (b ∷ (c ∷ bs)) = LastAscii (c ∷ bs)
 
 -- each line but the last ends with an ASCII byte
-abbrev AreEnded : List (List ℕ) → Type 0
+abbrev pub AreEnded : List (List ℕ) → Type 0
 AreEnded [] = Unit {0}
 AreEnded (l ∷ ls) = ((ls ≡ []) ⊎ LastAscii l) × AreEnded ls
 
@@ -111,7 +111,7 @@ and-left false y e = e
 end-ascii : (b : ℕ) (bs : List ℕ) → ends_line b bs ≡ true → b < 128
 end-ascii b bs e = ⊎_elim (λ x. is-ascii b 10 (omega arith) x) (λ x. is-ascii b 13 (omega arith) (and-left (b == carriage_return) _ x)) (or-cases (b == line_feed) _ e)
 
-lines-ended : (bs : List ℕ) → AreEnded (lines bs) × (joined (lines bs) ≡ bs)
+pub lines-ended : (bs : List ℕ) → AreEnded (lines bs) × (joined (lines bs) ≡ bs)
 lines-ended [] = (tt, refl)
 lines-ended (b ∷ bs) = go (ends_line b bs) refl (lines-ended bs)
   where
@@ -140,7 +140,7 @@ stop-shape (b ∷ line) = subst (λ c. Stopped (drop (length c) (b ∷ line))) (
     go true e ih = ih
     go false e ih = inr (b, (line, refl, content-stop b e))
 
-content-cut : (line : List ℕ) → content line ++ drop (length (content line)) line ≡ line
+pub content-cut : (line : List ℕ) → content line ++ drop (length (content line)) line ≡ line
 content-cut [] = refl
 content-cut (b ∷ line) = subst (λ c. c ++ drop (length c) (b ∷ line) ≡ b ∷ line) (sym (take_while-cons is_content b line)) (go (is_content b) (content-cut line))
   where

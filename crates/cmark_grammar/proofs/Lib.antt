@@ -15,6 +15,7 @@ pub mod ReferenceLaws
 pub mod RowEdges
 pub mod RowPlaces
 pub mod Samples
+pub mod SliceLaws
 pub mod TightLaws
 pub mod TokenEdges
 pub mod TokenRanges

@@ -8,7 +8,7 @@ ghost use Rattle.cmark_grammar.specs.BlocksByLine.{blocks_by_line};
 ghost use Rattle.cmark_grammar.specs.BlocksModel.{blocks};
 ghost use Rattle.cmark_grammar.specs.Derivation.{Derives, document};
 ghost use Rattle.cmark_grammar.specs.Options.{Options};
-ghost use Rattle.cmark_grammar.specs.Ranges.{AllAt, InOrder, count_nodes};
+ghost use Rattle.cmark_grammar.specs.Ranges.{AllAt, HasSlices, InOrder, count_nodes};
 ghost use Rattle.cmark_grammar.specs.References.{EachOnce, first_with, table};
 ghost use Rattle.cmark_grammar.specs.Rows.{rows};
 ghost use Rattle.cmark_grammar.specs.Tightness.{HasTightParagraphs};
@@ -69,4 +69,10 @@ pub fn ranges_cut_no_character()
 pub fn nodes_are_few()
     ensures { (text : List ℕ) (options : Options) (lookup : Lookup) (document : BlockDocument)
         → Derives text options lookup document → count_nodes document ≤ 4 * length text }
+{}
+
+/// A text that is not owned, and an HTML line, is the slice of its range.
+pub fn texts_are_slices()
+    ensures { (text : List ℕ) (options : Options) (lookup : Lookup) (document : BlockDocument)
+        → Derives text options lookup document → HasSlices text document }
 {}
