@@ -7,6 +7,7 @@ pub mod BlocksOne
 pub mod BlocksSound
 pub mod BoundaryLaws
 pub mod CountLaws
+pub mod DocumentsJoin
 pub mod NotDerived
 pub mod OutlineOne
 pub mod OutlineSound

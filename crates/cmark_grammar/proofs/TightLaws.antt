@@ -77,7 +77,7 @@ module _ (text : List ℕ) (lookup : Lookup) where
   rest_of_item true number tight item inside Nil = record { list = _; items = _; after = _; number = number; is = refl; kind = refl }
   rest_of_item true number tight item inside (Node list items after) = record { list = _; items = _; after = _; number = number; is = refl; kind = refl }
 
-  rest_of : (direct tight : Bool) (mark : ℕ) (b : Blocks) → goes_on mark b ≡ true → Rest tight (document_of text lookup direct (Some (record { mark = mark; tight = tight })) b)
+  pub rest_of : (direct tight : Bool) (mark : ℕ) (b : Blocks) → goes_on mark b ≡ true → Rest tight (document_of text lookup direct (Some (record { mark = mark; tight = tight })) b)
   rest_of direct tight mark NoBlocks e = absurd (true≢false (sym e))
   rest_of direct tight mark (BlankLine line after) e = rest_of direct tight mark after e
   rest_of direct tight mark (ParagraphBlock first more after) e = absurd (true≢false (sym e))
