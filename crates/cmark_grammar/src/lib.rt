@@ -3,4 +3,5 @@
 //! of [`laws`] carry theorems over these definitions, and do nothing.
 #![tactic(auto)]
 
+pub mod block_laws;
 pub mod laws;

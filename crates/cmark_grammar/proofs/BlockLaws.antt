@@ -1,0 +1,310 @@
+-- The laws of openings and prefixes that the theorems on blocks use.
+use Rattle.std.proofs.Common.{◌≡◌, ◌≢◌, ◌⊎◌, inl, inr, ℕ, zero, suc, ◌≤◌, ◌<◌, Bool, true, false, ◌||◌, ◌&&◌, List, [], ◌∷◌, length, drop, refl, sym, ap, ◌∙◌, subst, arith, Option, Some, None, length-drop, true≢false, not}
+use Rattle.std.specs.Prelude.{if◌then◌else◌, nat_le, nat_lt}
+use Rattle.cmark_grammar.specs.Columns.{Column, without_indent}
+use Rattle.cmark_grammar.specs.Rows.{Row, without, lazy_row, is_bare, is_blank_line, indent_of, words_of}
+use Rattle.cmark_grammar.specs.Leaves.{Fence, Further, GoesOn, Closes, Waits, Stops, count_more, counted, underlines, is_thematic_break, is_atx_heading, run, fence_of, fence_further, code_further}
+use Rattle.cmark_grammar.specs.Containers.{Container, Quote, Item, Marker, marker_of, delimited, digits, is_bullet, is_delimiter, number_of, item_with, width_with, container_with, container_of, item_of, is_quote, quote_width, width_of, enter, keep_as, keeps, strip_as, strip}
+use Rattle.cmark_grammar.specs.HtmlBlocks.{html_kind, holds_end, html_further}
+use Rattle.cmark_grammar.specs.LinkDefinitions.{Defined, definition_in, bytes_over}
+use Rattle.cmark_grammar.specs.Openings.{Leaf, IndentedCode, Opening, Blank, Nests, Takes, Plain, or_else, nests_if, fenced_if, leaf_of, whole_opens, opens, texts, lazily, html_if, break_if, heading_if, text_lines, defined_if, put_if, definition_of, is_none}
+use Rattle.cmark_grammar.specs.Options.{Options}
+
+module _ (options : Options) where
+  pub opens-lazy : (r : Row) (ahead : List Row) → r.lazy ≡ true → opens options r ahead ≡ Plain
+  unfolding opens
+  opens-lazy r ahead e = rw e refl
+
+  pub opens-whole : (r : Row) (ahead : List Row) → opens options r ahead ≢ Plain → r.lazy ≡ false
+  opens-whole r ahead ne = go r.lazy refl
+    where
+      go : (z : Bool) → r.lazy ≡ z → r.lazy ≡ false
+      go true e = absurd (ne (opens-lazy r ahead e))
+      go false e = e
+
+  pub underlines-lazy : (r : Row) → r.lazy ≡ true → underlines r ≡ None
+  unfolding underlines
+  underlines-lazy r e = rw e refl
+
+  -- no leaf takes more lines than there are
+  counted-len : (further : Row → Further) (ahead : List Row) → counted further ahead ≤ length ahead
+  counted-len further [] = omega arith
+  counted-len further (r ∷ ahead) = go (further r) (counted further ahead) (counted-len further ahead)
+    where
+      go : (f : Further) (n : ℕ) → n ≤ length ahead → count_more f n ≤ suc (length ahead)
+      go GoesOn n le = omega (arith, le)
+      go Closes n le = omega (arith, le)
+      go Waits zero le = omega arith
+      go Waits (suc n) le = omega (arith, le)
+      go Stops n le = omega arith
+
+  -- what an opening says of the lines ahead
+  abbrev pub Fits : Opening → List Row → Type 0
+  Fits Blank ahead = Unit {0}
+  Fits (Nests k) ahead = Unit {0}
+  Fits (Takes leaf n) ahead = n ≤ length ahead
+  Fits Plain ahead = Unit {0}
+
+  fits_if : (b : Bool) (x y : Opening) (ahead : List Row) → Fits x ahead → Fits y ahead → Fits (if b then x else y) ahead
+  fits_if true x y ahead p q = p
+  fits_if false x y ahead p q = q
+
+  fits_or : (x y : Opening) (ahead : List Row) → Fits x ahead → Fits y ahead → Fits (or_else x y) ahead
+  fits_or Blank y ahead p q = p
+  fits_or (Nests k) y ahead p q = p
+  fits_or (Takes leaf n) y ahead p q = p
+  fits_or Plain y ahead p q = q
+
+  fits_nests : (o : Option Container) (ahead : List Row) → Fits (nests_if o) ahead
+  fits_nests (Some k) ahead = tt
+  fits_nests None ahead = tt
+
+  fits_fenced : (o : Option Fence) (ahead : List Row) → Fits (fenced_if o ahead) ahead
+  fits_fenced (Some fence) ahead = counted-len (fence_further fence) ahead
+  fits_fenced None ahead = tt
+
+  zero-len : (ahead : List Row) → 0 ≤ length ahead
+  zero-len ahead = omega arith
+
+  fits_html : (r : Row) (ahead : List Row) (o : Option ℕ) → Fits (html_if r ahead o) ahead
+  fits_html r ahead None = tt
+  fits_html r ahead (Some kind) = go (nat_le kind 5 && holds_end kind (words_of r))
+    where
+      go : (z : Bool) → (if z then 0 else counted (html_further kind) ahead) ≤ length ahead
+      go true = zero-len ahead
+      go false = counted-len (html_further kind) ahead
+
+  fits_break : (z : Bool) (ahead : List Row) → Fits (break_if z) ahead
+  fits_break true ahead = zero-len ahead
+  fits_break false ahead = tt
+
+  fits_heading : (z : Bool) (level : ℕ) (ahead : List Row) → Fits (heading_if z level) ahead
+  fits_heading true level ahead = zero-len ahead
+  fits_heading false level ahead = tt
+
+  text_lines-len : (ahead : List Row) → length (text_lines options ahead) ≤ length ahead
+  text_lines-len [] = omega arith
+  text_lines-len (r ∷ ahead) = go (texts options r ahead && is_none (underlines r)) (text_lines-len ahead)
+    where
+      go : (z : Bool) → length (text_lines options ahead) ≤ length ahead → length (put_if z r (text_lines options ahead)) ≤ suc (length ahead)
+      go true le = omega (arith, le)
+      go false le = omega arith
+
+  fits_defined : (lines : ℕ) (o : Option Defined) (ahead : List Row) → lines ≤ length ahead → Fits (defined_if lines o) ahead
+  fits_defined lines None ahead le = tt
+  fits_defined lines (Some found) ahead le = omega (arith, le)
+
+  fits_leaf : (r : Row) (ahead : List Row) → Fits (leaf_of options r ahead) ahead
+  fits_leaf r ahead =
+      fits_or (html_if r ahead (html_kind (words_of r))) _ ahead (fits_html r ahead (html_kind (words_of r)))
+      (fits_or (break_if (is_thematic_break (words_of r))) _ ahead (fits_break (is_thematic_break (words_of r)) ahead)
+      (fits_or (heading_if (is_atx_heading (words_of r)) (run 35 (words_of r))) _ ahead (fits_heading (is_atx_heading (words_of r)) (run 35 (words_of r)) ahead)
+      (fits_or (fenced_if (fence_of (indent_of r) (words_of r)) ahead) (definition_of options r ahead) ahead (fits_fenced (fence_of (indent_of r) (words_of r)) ahead)
+      (fits_defined (length (text_lines options ahead)) (definition_in (bytes_over r (text_lines options ahead))) ahead (text_lines-len ahead)))))
+
+  fits_opens : (r : Row) (ahead : List Row) → Fits (opens options r ahead) ahead
+  unfolding opens
+  fits_opens r ahead =
+      fits_if r.lazy Plain (whole_opens options r ahead) ahead tt
+      (fits_if (is_blank_line r) Blank _ ahead tt
+      (fits_if (nat_le 4 (indent_of r)) (Takes IndentedCode (counted code_further ahead)) _ ahead (counted-len code_further ahead)
+      (fits_or (nests_if (container_of r)) (leaf_of options r ahead) ahead (fits_nests (container_of r) ahead) (fits_leaf r ahead))))
+
+  pub opens-len : (r : Row) (ahead : List Row) (leaf : Leaf) (n : ℕ) → opens options r ahead ≡ Takes leaf n → n ≤ length ahead
+  opens-len r ahead leaf n e = subst (λ o. Fits o ahead) e (fits_opens r ahead)
+
+  -- a container takes a column behind the indent at least
+  abbrev pub IsWide : Row → Opening → Type 0
+  IsWide r Blank = Unit {0}
+  IsWide r (Nests k) = indent_of r < width_of k r
+  IsWide r (Takes leaf n) = Unit {0}
+  IsWide r Plain = Unit {0}
+
+  wide_if : (r : Row) (b : Bool) (x y : Opening) → IsWide r x → IsWide r y → IsWide r (if b then x else y)
+  wide_if r true x y p q = p
+  wide_if r false x y p q = q
+
+  wide_or : (r : Row) (x y : Opening) → IsWide r x → IsWide r y → IsWide r (or_else x y)
+  wide_or r Blank y p q = p
+  wide_or r (Nests k) y p q = p
+  wide_or r (Takes leaf n) y p q = p
+  wide_or r Plain y p q = q
+
+  -- and a marker too
+  abbrev pub SomeWide : Row → Option Container → Type 0
+  SomeWide r None = Unit {0}
+  SomeWide r (Some k) = indent_of r < width_of k r
+
+  abbrev pub SomeSize : Option Marker → Type 0
+  SomeSize None = Unit {0}
+  SomeSize (Some m) = 0 < m.size
+
+  delimited-size : (ds bs : List ℕ) → SomeSize (delimited ds bs)
+  delimited-size ds [] = tt
+  delimited-size ds (b ∷ bs) = go (nat_lt 0 (length ds) && (nat_le (length ds) 9 && is_delimiter b))
+    where
+      go : (z : Bool) → SomeSize (if z then Some (record { mark = b; number = Some (number_of ds); size = suc (length ds) }) else None)
+      go true = omega arith
+      go false = tt
+
+  marker-size : (bs : List ℕ) → SomeSize (marker_of bs)
+  marker-size [] = tt
+  marker-size (b ∷ bs) = go (is_bullet b)
+    where
+      go : (z : Bool) → SomeSize (if z then Some (record { mark = b; number = None; size = 1 }) else delimited (digits (b ∷ bs)) (drop (length (digits (b ∷ bs))) (b ∷ bs)))
+      go true = omega arith
+      go false = delimited-size (digits (b ∷ bs)) (drop (length (digits (b ∷ bs))) (b ∷ bs))
+
+  item-wide : (m : Option Marker) (r : Row) → SomeSize m → SomeWide r (item_with r m)
+  item-wide None r some = tt
+  item-wide (Some m) r some = go _
+    where
+      go : (z : Bool) → SomeWide r (if z then Some (Item m.mark m.number (width_with m.size r)) else None)
+      go true = let p : 0 < m.size = some in omega (arith, p)
+      go false = tt
+
+  container-wide : (o : Option Container) (quoted : Bool) (r : Row) → SomeWide r o → SomeWide r (container_with o quoted)
+  container-wide (Some k) quoted r some = some
+  container-wide None true r some = omega arith
+  container-wide None false r some = tt
+
+  wide_nests : (r : Row) (o : Option Container) → SomeWide r o → IsWide r (nests_if o)
+  wide_nests r (Some k) some = some
+  wide_nests r None some = tt
+
+  wide_fenced : (r : Row) (o : Option Fence) (ahead : List Row) → IsWide r (fenced_if o ahead)
+  wide_fenced r (Some fence) ahead = tt
+  wide_fenced r None ahead = tt
+
+  wide_html : (r : Row) (ahead : List Row) (o : Option ℕ) → IsWide r (html_if r ahead o)
+  wide_html r ahead (Some kind) = tt
+  wide_html r ahead None = tt
+
+  wide_break : (r : Row) (z : Bool) → IsWide r (break_if z)
+  wide_break r true = tt
+  wide_break r false = tt
+
+  wide_heading : (r : Row) (z : Bool) (level : ℕ) → IsWide r (heading_if z level)
+  wide_heading r true level = tt
+  wide_heading r false level = tt
+
+  wide_defined : (r : Row) (lines : ℕ) (o : Option Defined) → IsWide r (defined_if lines o)
+  wide_defined r lines (Some found) = tt
+  wide_defined r lines None = tt
+
+  wide_leaf : (r : Row) (ahead : List Row) → IsWide r (leaf_of options r ahead)
+  wide_leaf r ahead =
+      wide_or r (html_if r ahead (html_kind (words_of r))) _ (wide_html r ahead (html_kind (words_of r)))
+      (wide_or r (break_if (is_thematic_break (words_of r))) _ (wide_break r (is_thematic_break (words_of r)))
+      (wide_or r (heading_if (is_atx_heading (words_of r)) (run 35 (words_of r))) _ (wide_heading r (is_atx_heading (words_of r)) (run 35 (words_of r)))
+      (wide_or r (fenced_if (fence_of (indent_of r) (words_of r)) ahead) (definition_of options r ahead) (wide_fenced r (fence_of (indent_of r) (words_of r)) ahead)
+      (wide_defined r (length (text_lines options ahead)) (definition_in (bytes_over r (text_lines options ahead)))))))
+
+  pub wide_opens : (r : Row) (ahead : List Row) → IsWide r (opens options r ahead)
+  unfolding opens
+  wide_opens r ahead =
+      wide_if r r.lazy Plain (whole_opens options r ahead) tt
+      (wide_if r (is_blank_line r) Blank _ tt
+      (wide_if r (nat_le 4 (indent_of r)) (Takes IndentedCode (counted code_further ahead)) _ tt
+      (wide_or r (nests_if (container_of r)) (leaf_of options r ahead) (wide_nests r (container_of r) (container-wide (item_of r) (is_quote r) r (item-wide (marker_of (words_of r)) r (marker-size (words_of r))))) (wide_leaf r ahead))))
+
+  opens-some : (r : Row) (ahead : List Row) (k : Container) → opens options r ahead ≡ Nests k → 0 < length r.columns
+  unfolding opens
+  opens-some r ahead k e = go r.columns r.lazy refl refl
+    where
+      go : (cs : List Column) (z : Bool) → r.columns ≡ cs → r.lazy ≡ z → 0 < length r.columns
+      go (c ∷ cs) z ec ez = let n : length r.columns ≡ suc (length cs) = ap length ec in omega (arith, n)
+      go [] true ec ez = let q : Plain ≡ Nests k = sym (ap (λ b. if b then Plain else whole_opens options r ahead) ez) ∙ e in cc
+      go [] false ec ez =
+          let p : whole_opens options r ahead ≡ Nests k = sym (ap (λ b. if b then Plain else whole_opens options r ahead) ez) ∙ e in
+          let q : Blank ≡ Nests k = sym (ap (λ cs. if is_bare (without_indent cs) then Blank else if nat_le 4 (indent_of r) then Takes IndentedCode (counted code_further ahead) else or_else (nests_if (container_of r)) (leaf_of options r ahead)) ec) ∙ p in cc
+
+  -- inside a container a first line has fewer columns
+  pub enter_len : (k : Container) (r : Row) (ahead : List Row) → opens options r ahead ≡ Nests k → length (enter k r).columns < length r.columns
+  unfolding enter
+  enter_len k r ahead e =
+      let wide : indent_of r < width_of k r = subst (IsWide r) e (wide_opens r ahead) in
+      rw (length-drop (width_of k r) r.columns) (omega (arith, wide, opens-some r ahead k e))
+
+  pub enter-lazy : (k : Container) (r : Row) → (enter k r).lazy ≡ r.lazy
+  unfolding enter
+  enter-lazy k r = refl
+
+  keep_as-lazy : (k : Container) (r s : Row) → keep_as k r ≡ Some s → s.lazy ≡ r.lazy
+  keep_as-lazy Quote r s e = go (is_quote r) e
+    where
+      go : (z : Bool) → (if z then Some (without (quote_width r) r) else None) ≡ Some s → s.lazy ≡ r.lazy
+      go true q = let p : without (quote_width r) r ≡ s = cc in sym (ap (λ x. x.lazy) p)
+      go false q = cc
+  keep_as-lazy (Item mark number width) r s e = go _ e
+    where
+      go : (z : Bool) → (if z then Some (without width r) else None) ≡ Some s → s.lazy ≡ r.lazy
+      go true q = let p : without width r ≡ s = cc in sym (ap (λ x. x.lazy) p)
+      go false q = cc
+
+  or_no : (x y : Bool) → (x || y) ≡ false → x ≡ false
+  or_no true y e = e
+  or_no false y e = refl
+
+  -- a line that has the prefix is whole, and so is what is left of it
+  pub kept-whole : (k : Container) (bare : Bool) (r s : Row) → keeps k bare r ≡ Some s → s.lazy ≡ false
+  unfolding keeps
+  kept-whole k bare r s e = go (r.lazy || (bare && is_blank_line r)) refl e
+    where
+      go : (z : Bool) → (r.lazy || (bare && is_blank_line r)) ≡ z → (if z then None else keep_as k r) ≡ Some s → s.lazy ≡ false
+      go true l q = cc
+      go false l q = keep_as-lazy k r s q ∙ or_no r.lazy (bare && is_blank_line r) l
+
+  pub keeps-lazy : (k : Container) (bare : Bool) (r : Row) → r.lazy ≡ true → keeps k bare r ≡ None
+  unfolding keeps
+  keeps-lazy k bare r e = rw e refl
+
+  pub strip_lazy : (k : Container) (bare : Bool) (r : Row) → keeps k bare r ≡ None → strip k bare r ≡ lazy_row r
+  strip_lazy k bare r e = ap (λ o. strip_as o r) e
+
+  pub strip_whole : (k : Container) (bare : Bool) (r s : Row) → keeps k bare r ≡ Some s → (strip k bare r).lazy ≡ false
+  strip_whole k bare r s e = ap (λ o. (strip_as o r).lazy) e ∙ kept-whole k bare r s e
+
+  pub strip-still : (k : Container) (bare : Bool) (r : Row) → r.lazy ≡ true → (strip k bare r).lazy ≡ true
+  strip-still k bare r e = ap (λ s. s.lazy) (strip_lazy k bare r (keeps-lazy k bare r e))
+
+  pub lazy-same : (r : Row) → r.lazy ≡ true → lazy_row r ≡ r
+  lazy-same r e = ap (λ z. record { columns = r.columns; stop = r.stop; past = r.past; lazy = z }) (sym e)
+
+  -- a lazy line looks at nothing ahead
+  pub texts-lazy : (r : Row) (x y : List Row) → r.lazy ≡ true → texts options r x ≡ texts options r y
+  unfolding texts
+  texts-lazy r x y e = rw e refl
+
+  pub lazily-texts : (r : Row) (x y : List Row) → lazily options r x ≡ true → texts options (lazy_row r) y ≡ true
+  unfolding texts lazily
+  lazily-texts r x y e = e
+
+  pub texts-lazily : (r : Row) (x : List Row) → r.lazy ≡ true → texts options (lazy_row r) [] ≡ true → lazily options r x ≡ true
+  unfolding texts lazily
+  texts-lazily r x e t = t
+
+  -- a line is whole, or text that lacks a prefix
+  pub texts_or : (r : Row) (ahead : List Row) → texts options (lazy_row r) [] ≡ true → (r.lazy ≡ false) ⊎ (texts options r ahead ≡ true)
+  texts_or r ahead t = go r.lazy refl
+    where
+      go : (z : Bool) → r.lazy ≡ z → (r.lazy ≡ false) ⊎ (texts options r ahead ≡ true)
+      go true e = inr (texts-lazy r ahead [] e ∙ subst (λ s. texts options s [] ≡ true) (lazy-same r e) t)
+      go false e = inl e
+
+  not_or : (x y : Bool) → not (x || y) ≡ true → x ≡ false
+  not_or true y e = absurd (true≢false (sym e))
+  not_or false y e = refl
+
+  -- what begins something else than a blank line is not blank
+  pub opens-words : (r : Row) (ahead : List Row) → r.lazy ≡ false → opens options r ahead ≢ Blank → is_blank_line r ≡ false
+  unfolding opens
+  opens-words r ahead w ne = go (is_blank_line r) refl
+    where
+      go : (z : Bool) → is_blank_line r ≡ z → is_blank_line r ≡ false
+      go false e = e
+      go true e = absurd (ne (rw (w, e) refl))
+
+  pub texts-words : (r : Row) (ahead : List Row) → texts options r ahead ≡ true → is_blank_line r ≡ false
+  unfolding texts
+  texts-words r ahead t = not_or (is_blank_line r) _ t

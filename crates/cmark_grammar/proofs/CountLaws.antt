@@ -1,0 +1,425 @@
+-- A document has at most four nodes a byte.
+use Rattle.std.proofs.Common.{◌≡◌, inl, inr, ℕ, zero, suc, ◌+◌, ◌-◌, ◌*◌, ◌≤◌, ◌<◌, Bool, true, false, ◌==◌, ◌&&◌, not, List, [], ◌∷◌, ◌++◌, length, drop, take_while, refl, sym, ap, ◌∙◌, subst, arith, Option, Some, None, true≢false, drop-drop}
+use Rattle.std.proofs.lemmas.List.Sums.{take_while-cons}
+use Rattle.std.specs.Prelude.{if◌then◌else◌, cond, nat_lt}
+use Rattle.cmark_grammar.specs.Answers.{Lookup}
+use Rattle.cmark_grammar.specs.Options.{Options}
+use Rattle.cmark_grammar.specs.Lines.{lines, ends_line, onto, content}
+use Rattle.cmark_grammar.specs.Columns.{Column, tab, expand, tab_columns, to_tab_stop, indent, without_indent, bytes_of, is_blank, without_trailing_blanks}
+use Rattle.cmark_grammar.specs.Rows.{Row, rows, rows_from, without, place, first_place, begin_of, start_of, past_of, is_bare, is_blank_line}
+use Rattle.cmark_grammar.specs.Leaves.{Fence, closes_fence}
+use Rattle.cmark_grammar.specs.Containers.{Container, Quote, Item, keeps, strip_as, strip, strips, enter, width_of, is_bare_start, insides}
+use Rattle.cmark_grammar.specs.Openings.{Leaf, ThematicBreak as ThematicBreakLeaf, AtxHeading as AtxHeadingLeaf, IndentedCode as IndentedCodeLeaf, FencedCode as FencedCodeLeaf, HtmlBlock as HtmlBlockLeaf, LinkDefinition as LinkDefinitionLeaf, Blank, Nests, Takes, Plain, opens}
+use Rattle.cmark_grammar.specs.Blocks.{Blocks, Nil as NoBlocks, BlankLine, Paragraph as ParagraphBlock, SetextHeading, LeafBlock, ContainerBlock, MayBegin, Body, may_lazy}
+use Rattle.cmark_grammar.specs.Lists.{ListBefore, tight_behind, goes_on}
+use Rattle.cmark_grammar.specs.BlockDocument.{ListItem, BlockNode, BlockDocument, Nil, Node, node, SoftBreak, HardBreak}
+use Rattle.cmark_grammar.specs.Derivation.{leaf_then, item_then, document_of, Derives}
+use Rattle.cmark_grammar.specs.Ranges.{count_nodes}
+use Rattle.cmark_grammar.specs.Tokens.{Piece, Does, Stands, EscapesNext, Begins, does, is_escape, size_behind, onto as onto_piece, grown, plain_of, add, pieces_from, put_column, byte_columns, pieces, texts_then, line_columns, without_last, LineEnd, Soft, Spaces, Backslash, line_end, broken, paragraph_tokens, heading_columns, heading_tokens, piece_if, plain_line, left_columns, spaces_if, verbatim_line, touches, merge, merge_all, code_columns, code_pieces, stop_at, fenced_lines, html_then, html_tokens, slice, end_place}
+use Rattle.cmark_grammar.proofs.BlockLaws.{opens-whole, opens-words, texts-words, IsWide, wide_opens}
+use Rattle.cmark_grammar.proofs.RowPlaces.{Runs, Runs-le, first_place-Runs, drop-Runs, drop-mono, Lies, begin-start, start-Runs, start-stop, Lies-without, strip-Lies, kept-without, strip-past, Along, text-Along}
+use Rattle.cmark_grammar.proofs.TokenRanges.{line-UpTo, without_last-UpTo, drop_end-UpTo, without_closing-UpTo}
+
+-- a column in which no byte begins is of a tab
+abbrev AreTabs : List Column → Type 0
+AreTabs [] = Unit {0}
+AreTabs (c ∷ cs) = ((c.part == 0) ≡ false → is_blank c ≡ true) × AreTabs cs
+
+drop-tabs : (n : ℕ) (cs : List Column) → AreTabs cs → AreTabs (drop n cs)
+drop-tabs zero cs t = t
+drop-tabs (suc n) [] t = tt
+drop-tabs (suc n) (c ∷ cs) t = drop-tabs n cs t.1
+
+tab-tabs : (at part n : ℕ) (rest : List Column) → AreTabs rest → AreTabs (tab_columns at part n ++ rest)
+tab-tabs at part zero rest t = t
+tab-tabs at part (suc n) rest t = ((λ e. refl), tab-tabs at (suc part) n rest t)
+
+expand-tabs : (column at : ℕ) (bs : List ℕ) → AreTabs (expand column at bs)
+expand-tabs column at [] = tt
+expand-tabs column at (b ∷ bs) = go (b == tab) (expand-tabs (column + to_tab_stop column) (suc at) bs) (expand-tabs (suc column) (suc at) bs)
+  where
+    go : (z : Bool) → AreTabs (expand (column + to_tab_stop column) (suc at) bs) → AreTabs (expand (suc column) (suc at) bs) → AreTabs (if z then tab_columns at 0 (to_tab_stop column) ++ expand (column + to_tab_stop column) (suc at) bs else record { byte = b; at = at; part = 0 } ∷ expand (suc column) (suc at) bs)
+    go true p q = tab-tabs at 0 (to_tab_stop column) (expand (column + to_tab_stop column) (suc at) bs) p
+    go false p q = ((λ e. absurd (true≢false e)), q)
+
+abbrev Sits : ℕ → Row → Type 0
+Sits from r = Lies from r × AreTabs r.columns
+
+-- lines of which each ends behind where the one before it has ended
+abbrev Fed : ℕ → List Row → ℕ → Type 0
+Fed from [] to = from ≤ to
+Fed from (r ∷ rs) to = (from < r.past) × Sits from r × Fed r.past rs to
+
+abbrev FedBehind : ℕ → List Row → ℕ → Type 0
+FedBehind from [] to = from ≤ to
+FedBehind from (r ∷ rs) to = Sits from r × Fed r.past rs to
+
+fed-behind : (from : ℕ) (rs : List Row) (to : ℕ) → Fed from rs to → FedBehind from rs to
+fed-behind from [] to f = f
+fed-behind from (r ∷ rs) to f = (f.1, f.2)
+
+fed-le : (from : ℕ) (rs : List Row) (to : ℕ) → Fed from rs to → from ≤ to
+fed-le from [] to f = f
+fed-le from (r ∷ rs) to f = let a : from < r.past = f.0 in let b = fed-le r.past rs to f.2 in omega (arith, a, b)
+
+fed-split : (first : Row) (more rest : List Row) (to : ℕ) → Fed first.past (more ++ rest) to → Fed first.past more (past_of first more) × Fed (past_of first more) rest to
+fed-split first [] rest to f = (omega arith, f)
+fed-split first (r ∷ more) rest to f = let s = fed-split r more rest to f.2 in ((f.0, f.1, s.0), s.1)
+
+strip-sits : (k : Container) (bare : Bool) (from : ℕ) (r : Row) → Sits from r → Sits from (strip k bare r)
+strip-sits k bare from r s = (strip-Lies k bare from r s.0, go (keeps k bare r) refl)
+  where
+    go : (o : Option Row) → keeps k bare r ≡ o → AreTabs (strip_as o r).columns
+    go None e = s.1
+    go (Some t) e =
+        let w = kept-without k bare r t e in
+        let n : ℕ = w.0 in
+        let q : without n r ≡ t = w.1 in
+        subst (λ x. AreTabs x.columns) q (drop-tabs n r.columns s.1)
+
+strips-fed : (k : Container) (bare : Bool) (from : ℕ) (rs : List Row) (to : ℕ) → Fed from rs to → Fed from (strips k bare rs) to
+strips-fed k bare from [] to f = f
+strips-fed k bare from (r ∷ rs) to f =
+    (subst (λ p. from < p) (sym (strip-past k bare r)) f.0, strip-sits k bare from r f.1, subst (λ p. Fed p (strips k false rs) to) (sym (strip-past k bare r)) (strips-fed k false r.past rs to f.2))
+
+-- the first column behind the indent is no blank
+indent-stop : (cs : List Column) (c : Column) (rest : List Column) → without_indent cs ≡ c ∷ rest → is_blank c ≡ false
+indent-stop [] c rest e = absurd (let q : [] ≡ c ∷ rest = e in cc)
+indent-stop (d ∷ cs) c rest e = go (is_blank d) refl (subst (λ l. drop (length l) (d ∷ cs) ≡ c ∷ rest) (take_while-cons is_blank d cs) e) (indent-stop cs c rest)
+  where
+    go : (z : Bool) → is_blank d ≡ z → drop (length (cond z (d ∷ take_while is_blank cs) [])) (d ∷ cs) ≡ c ∷ rest → (without_indent cs ≡ c ∷ rest → is_blank c ≡ false) → is_blank c ≡ false
+    go true b f ih = ih f
+    go false b f ih = let q : d ≡ c = let g : d ∷ cs ≡ c ∷ rest = f in cc in subst (λ x. is_blank x ≡ false) q b
+
+-- a line that is not blank takes a byte behind its indent
+pub next-place : (from : ℕ) (r : Row) → Sits from r → is_blank_line r ≡ false → start_of r < first_place r.stop (drop (suc (indent r.columns)) r.columns)
+next-place from r s e = go (without_indent r.columns) refl (start-Runs from r s.0) (drop-tabs (indent r.columns) r.columns s.1)
+  where
+    go : (cs : List Column) → without_indent r.columns ≡ cs → Runs (start_of r) cs r.stop → AreTabs cs → start_of r < first_place r.stop (drop (suc (indent r.columns)) r.columns)
+    go [] q h t = absurd (true≢false (ap is_bare (sym q) ∙ e))
+    go (c ∷ cs) q h t =
+        let p : place c ≡ start_of r = h.0 in
+        let n : place c ≡ c.at = whole (c.part == 0) refl in
+        let d : drop (suc (indent r.columns)) r.columns ≡ cs = ap (λ k. drop k r.columns) (let z : suc (indent r.columns) ≡ indent r.columns + 1 = omega arith in z) ∙ sym (drop-drop 1 (indent r.columns) r.columns) ∙ ap (drop 1) q in
+        let f : first_place r.stop (drop (suc (indent r.columns)) r.columns) ≡ suc c.at = ap (first_place r.stop) d ∙ first_place-Runs (suc c.at) cs r.stop h.1 in
+        omega (arith, p, n, f)
+      where
+        whole : (z : Bool) → (c.part == 0) ≡ z → (if c.part == 0 then c.at else suc c.at) ≡ c.at
+        whole true w = ap (λ b. if b then c.at else suc c.at) w
+        whole false w = absurd (true≢false (sym (t.0 w) ∙ indent-stop r.columns c cs q))
+
+words-stop : (from : ℕ) (r : Row) → Sits from r → is_blank_line r ≡ false → start_of r < r.stop
+words-stop from r s e =
+    let d = drop-Runs (suc (indent r.columns)) (begin_of r) r.columns r.stop s.0.1 in
+    let l : first_place r.stop (drop (suc (indent r.columns)) r.columns) ≤ r.stop = Runs-le _ (drop (suc (indent r.columns)) r.columns) r.stop d.0 in
+    let n = next-place from r s e in
+    omega (arith, l, n)
+
+-- tokens
+texts-count : (ps : List Piece) (after : BlockDocument) → count_nodes (texts_then ps after) ≡ length ps + count_nodes after
+texts-count [] after = omega arith
+texts-count (p ∷ ps) after = let ih = texts-count ps after in omega (arith, ih)
+
+html_then-count : (ps : List Piece) (after : BlockDocument) → count_nodes (html_then ps after) ≡ length ps + count_nodes after
+html_then-count [] after = omega arith
+html_then-count (p ∷ ps) after = let ih = html_then-count ps after in omega (arith, ih)
+
+onto-count : (c : Column) (ps : List Piece) → length (onto_piece c ps) ≤ suc (length ps)
+onto-count c [] = omega arith
+onto-count c (p ∷ ps) = go (not p.owned && (p.start == suc c.at))
+  where
+    go : (z : Bool) → length (if z then grown c p ∷ ps else plain_of c ∷ p ∷ ps) ≤ suc (suc (length ps))
+    go true = omega arith
+    go false = omega arith
+
+add-count : (w : Does) (c : Column) (ps : List Piece) → length (add w c ps) ≤ suc (length ps)
+add-count Stands c ps = onto-count c ps
+add-count EscapesNext c ps = omega arith
+add-count (Begins e) c ps = omega arith
+
+pieces_from-count : (lookup : Lookup) (escaped : Bool) (skip : ℕ) (cs : List Column) → length (pieces_from lookup escaped skip cs) ≤ length cs
+pieces_from-count lookup escaped skip [] = omega arith
+pieces_from-count lookup escaped (suc skip) (c ∷ cs) = let ih = pieces_from-count lookup false skip cs in omega (arith, ih)
+pieces_from-count lookup escaped zero (c ∷ cs) =
+    let w = does lookup escaped c.byte (bytes_of cs) in
+    let ih = pieces_from-count lookup (is_escape w) (size_behind w) cs in
+    let a = add-count w c (pieces_from lookup (is_escape w) (size_behind w) cs) in
+    omega (arith, ih, a)
+
+bytes-count : (from : ℕ) (cs : List Column) (to : ℕ) → Runs from cs to → from + length (byte_columns cs) ≡ to
+bytes-count from [] to h = let e : from ≡ to = h in omega (arith, e)
+bytes-count from (c ∷ cs) to h = go (c.part == 0) h.0 (bytes-count (suc c.at) cs to h.1)
+  where
+    go : (z : Bool) → (if z then c.at else suc c.at) ≡ from → suc c.at + length (byte_columns cs) ≡ to → from + length (put_column z c (byte_columns cs)) ≡ to
+    go true e ih = omega (arith, e, ih)
+    go false e ih = omega (arith, e, ih)
+
+pieces-count : (lookup : Lookup) (from : ℕ) (cs : List Column) (to : ℕ) → Runs from cs to → from + length (pieces lookup cs) ≤ to
+pieces-count lookup from cs to h =
+    let a = bytes-count from cs to h in
+    let b = pieces_from-count lookup false 0 (byte_columns cs) in
+    omega (arith, a, b)
+
+broken-count : (lookup : Lookup) (from : ℕ) (r : Row) (after : BlockDocument) → Lies from r → (e : LineEnd) → start_of r + count_nodes (broken lookup e r after) ≤ r.stop + (1 + count_nodes after)
+broken-count lookup from r after h Soft =
+    let u = line-UpTo from r h in
+    let l : u.mid ≤ r.stop = u.low in
+    let p = pieces-count lookup (start_of r) (line_columns r) u.mid u.runs in
+    let t = texts-count (pieces lookup (line_columns r)) (Node (node SoftBreak r.stop r.past) Nil after) in
+    omega (arith, l, p, t)
+broken-count lookup from r after h Spaces =
+    let u = line-UpTo from r h in
+    let l : u.mid ≤ r.stop = u.low in
+    let p = pieces-count lookup (start_of r) (line_columns r) u.mid u.runs in
+    let t = texts-count (pieces lookup (line_columns r)) (Node (node HardBreak (end_place (start_of r) (line_columns r)) r.past) Nil after) in
+    omega (arith, l, p, t)
+broken-count lookup from r after h Backslash =
+    let v = line-UpTo from r h in
+    let k : v.mid ≤ r.stop = v.low in
+    let u = without_last-UpTo (start_of r) (line_columns r) v.mid v.runs in
+    let l : u.mid ≤ v.mid = u.low in
+    let p = pieces-count lookup (start_of r) (without_last (line_columns r)) u.mid u.runs in
+    let t = texts-count (pieces lookup (without_last (line_columns r))) (Node (node HardBreak (end_place (start_of r) (without_last (line_columns r))) r.past) Nil after) in
+    omega (arith, k, l, p, t)
+
+from-start : (from : ℕ) (r : Row) → Lies from r → from ≤ start_of r
+from-start from r h = let a : from ≤ begin_of r = h.0 in let b = begin-start from r h in omega (arith, a, b)
+
+paragraph-count : (lookup : Lookup) (from : ℕ) (r : Row) (more : List Row) → Lies from r → Fed r.past more (past_of r more) → (start_of r + count_nodes (paragraph_tokens lookup r more)) + 4 * r.past ≤ (r.stop + 1) + 4 * past_of r more
+paragraph-count lookup from r [] h f =
+    let u = line-UpTo from r h in
+    let l : u.mid ≤ r.stop = u.low in
+    let p = pieces-count lookup (start_of r) (line_columns r) u.mid u.runs in
+    let t = texts-count (pieces lookup (line_columns r)) Nil in
+    omega (arith, l, p, t)
+paragraph-count lookup from r (s ∷ more) h f =
+    let b = broken-count lookup from r (paragraph_tokens lookup s more) h (line_end r) in
+    let ih = paragraph-count lookup r.past s more f.1.0 f.2 in
+    let a = from-start r.past s f.1.0 in
+    let c = start-stop r.past s f.1.0 in
+    let d : s.stop ≤ s.past = f.1.0.2 in
+    let e : r.past < s.past = f.0 in
+    omega (arith, b, ih, a, c, d, e)
+
+piece_if-count : (text : List ℕ) (start end : ℕ) (ps : List Piece) → length (piece_if text start end ps) ≤ suc (length ps)
+piece_if-count text start end ps = go (nat_lt start end)
+  where
+    go : (z : Bool) → length (if z then record { owned = false; bytes = slice text start end; start = start; end = end } ∷ ps else ps) ≤ suc (length ps)
+    go true = omega arith
+    go false = omega arith
+
+plain_line-count : (text : List ℕ) (from : ℕ) (r : Row) → length (plain_line text from r) ≤ 2
+plain_line-count text from r = go (r.past - r.stop == 2)
+  where
+    go : (z : Bool) → length (if z then piece_if text from r.stop (piece_if text (suc r.stop) r.past []) else piece_if text from r.past []) ≤ 2
+    go true = let a = piece_if-count text from r.stop (piece_if text (suc r.stop) r.past []) in let b = piece_if-count text (suc r.stop) r.past [] in omega (arith, a, b)
+    go false = let a = piece_if-count text from r.past [] in omega (arith, a)
+
+spaces_if-count : (n at : ℕ) (ps : List Piece) → length (spaces_if n at ps) ≤ suc (length ps)
+spaces_if-count zero at ps = omega arith
+spaces_if-count (suc n) at ps = omega arith
+
+verbatim-count : (text : List ℕ) (cs : List Column) (r : Row) → length (verbatim_line text cs r) ≤ 3
+verbatim-count text cs r =
+    let a = plain_line-count text (first_place r.stop cs) r in
+    let b = spaces_if-count (left_columns cs) (first_place r.stop cs) (plain_line text (first_place r.stop cs) r) in
+    omega (arith, a, b)
+
+merge-count : (p : Piece) (ps : List Piece) → length (merge p ps) ≤ suc (length ps)
+merge-count p [] = omega arith
+merge-count p (q ∷ ps) = go (touches p q)
+  where
+    go : (z : Bool) → length (if z then record { owned = false; bytes = p.bytes ++ q.bytes; start = p.start; end = q.end } ∷ ps else p ∷ q ∷ ps) ≤ suc (suc (length ps))
+    go true = omega arith
+    go false = omega arith
+
+merge_all-count : (ps behind : List Piece) → length (merge_all ps behind) ≤ length ps + length behind
+merge_all-count [] behind = omega arith
+merge_all-count (p ∷ ps) behind = let a = merge-count p (merge_all ps behind) in let ih = merge_all-count ps behind in omega (arith, a, ih)
+
+code-count : (text : List ℕ) (most from : ℕ) (rs : List Row) (to : ℕ) → Fed from rs to → length (code_pieces text most rs) + 4 * from ≤ 4 * to
+code-count text most from [] to f = let a : from ≤ to = f in omega (arith, a)
+code-count text most from (r ∷ rs) to f =
+    let a : from < r.past = f.0 in
+    let b = verbatim-count text (code_columns most r) r in
+    let c = merge_all-count (verbatim_line text (code_columns most r) r) (code_pieces text most rs) in
+    let ih = code-count text most r.past rs to f.2 in
+    omega (arith, a, b, c, ih)
+
+fenced-fed : (fence : Fence) (from : ℕ) (rs : List Row) (to : ℕ) → Fed from rs to → Fed from (fenced_lines fence rs) to
+fenced-fed fence from [] to f = f
+fenced-fed fence from (r ∷ rs) to f = go (closes_fence fence r) (fenced-fed fence r.past rs to f.2)
+  where
+    go : (z : Bool) → Fed r.past (fenced_lines fence rs) to → Fed from (stop_at z r (fenced_lines fence rs)) to
+    go true ih = fed-le from (r ∷ rs) to f
+    go false ih = (f.0, f.1, ih)
+
+html-count : (text : List ℕ) (from : ℕ) (rs : List Row) (to : ℕ) → Fed from rs to → count_nodes (html_tokens text rs) + 4 * from ≤ 4 * to
+html-count text from [] to f = let a : from ≤ to = f in omega (arith, a)
+html-count text from (r ∷ rs) to f =
+    let a : from < r.past = f.0 in
+    let b = verbatim-count text r.columns r in
+    let c = html_then-count (verbatim_line text r.columns r) (html_tokens text rs) in
+    let ih = html-count text r.past rs to f.2 in
+    omega (arith, a, b, c, ih)
+
+heading-count : (lookup : Lookup) (level from : ℕ) (r : Row) → Lies from r → start_of r + count_nodes (heading_tokens lookup level r) ≤ r.stop
+heading-count lookup level from r h =
+    let d = drop-Runs level (start_of r) (without_indent r.columns) r.stop (start-Runs from r h) in
+    let cs = drop level (without_indent r.columns) in
+    let e = drop-Runs (indent cs) (first_place r.stop cs) cs r.stop d.0 in
+    let f = first_place r.stop (without_indent cs) in
+    let u = drop_end-UpTo is_blank f (without_indent cs) r.stop e.0 in
+    let w = without_closing-UpTo f (without_trailing_blanks (without_indent cs)) u.mid u.runs in
+    let a : start_of r ≤ first_place r.stop cs = d.1 in
+    let b : first_place r.stop cs ≤ f = e.1 in
+    let c : w.mid ≤ u.mid = w.low in
+    let g : u.mid ≤ r.stop = u.low in
+    let p = pieces-count lookup f (heading_columns level r) w.mid w.runs in
+    let t = texts-count (pieces lookup (heading_columns level r)) Nil in
+    omega (arith, a, b, c, g, p, t)
+
+-- a leaf's nodes, where its first line is not blank
+leaf-count : (text : List ℕ) (lookup : Lookup) (from : ℕ) (leaf : Leaf) (first : Row) (more : List Row) (after : BlockDocument) → Sits from first → is_blank_line first ≡ false → Fed first.past more (past_of first more) → 4 * from + count_nodes (leaf_then text lookup leaf first more after) ≤ 4 * past_of first more + count_nodes after
+leaf-count text lookup from leaf first more after s e f = go leaf
+  where
+    low : from ≤ start_of first
+    low = from-start from first s.0
+
+    some : start_of first < first.stop
+    some = words-stop from first s e
+
+    high : first.stop ≤ first.past
+    high = s.0.2
+
+    up : first.past ≤ past_of first more
+    up = fed-le first.past more (past_of first more) f
+
+    go : (leaf : Leaf) → 4 * from + count_nodes (leaf_then text lookup leaf first more after) ≤ 4 * past_of first more + count_nodes after
+    go ThematicBreakLeaf = omega (arith, low, some, high, up)
+    go (AtxHeadingLeaf level) = let h = heading-count lookup level from first s.0 in omega (arith, low, some, high, up, h)
+    go IndentedCodeLeaf =
+        let b = verbatim-count text (code_columns 4 first) first in
+        let c = merge_all-count (verbatim_line text (code_columns 4 first) first) (code_pieces text 4 more) in
+        let d = code-count text 4 first.past more (past_of first more) f in
+        let t = texts-count (code_pieces text 4 (first ∷ more)) Nil in
+        omega (arith, low, some, high, b, c, d, t)
+    go (FencedCodeLeaf fence) =
+        let d = code-count text fence.indented first.past (fenced_lines fence more) (past_of first more) (fenced-fed fence first.past more (past_of first more) f) in
+        let t = texts-count (code_pieces text fence.indented (fenced_lines fence more)) Nil in
+        omega (arith, low, some, high, d, t)
+    go (HtmlBlockLeaf kind) =
+        let b = verbatim-count text first.columns first in
+        let c = html_then-count (verbatim_line text first.columns first) (html_tokens text more) in
+        let d = html-count text first.past more (past_of first more) f in
+        omega (arith, low, some, high, b, c, d)
+    go (LinkDefinitionLeaf definition) = omega (arith, low, some, high, up)
+
+item-count : (joins : Bool) (number : Option ℕ) (tight : Bool) (item : BlockNode) (inside after : BlockDocument) → count_nodes (item_then joins number tight item inside after) ≤ 2 + (count_nodes inside + count_nodes after)
+item-count false number tight item inside after = omega arith
+item-count true number tight item inside Nil = omega arith
+item-count true number tight item inside (Node list items after) = omega arith
+
+module _ (text : List ℕ) (options : Options) (lookup : Lookup) where
+  begun-words : (behind : Bool) (r : Row) (ahead : List Row) → MayBegin options behind r → opens options r ahead ≡ Plain → is_blank_line r ≡ false
+  begun-words behind r ahead (inl w) o = opens-words options r ahead w (λ b. let q : Plain ≡ Blank = sym o ∙ b in cc)
+  begun-words behind r ahead (inr p) o = texts-words options r [] p.1
+
+  -- inside a container the first line has lost a byte
+  enter-sits : (k : Container) (from : ℕ) (r : Row) (ahead : List Row) → opens options r ahead ≡ Nests k → Sits from r → Sits (suc from) (enter k r)
+  unfolding enter
+  enter-sits k from r ahead o s =
+      let w : r.lazy ≡ false = opens-whole options r ahead (λ p. let q : Nests k ≡ Plain = sym o ∙ p in cc) in
+      let e : is_blank_line r ≡ false = opens-words options r ahead w (λ b. let q : Nests k ≡ Blank = sym o ∙ b in cc) in
+      let n = next-place from r s e in
+      let wide : indent r.columns < width_of k r = subst (IsWide options r) o (wide_opens options r ahead) in
+      let m = drop-mono (suc (indent r.columns)) (width_of k r) (begin_of r) r.columns r.stop wide s.0.1 in
+      let l = Lies-without (width_of k r) from r s.0 in
+      let a = from-start from r s.0 in
+      ((omega (arith, n, m, a), l.1, l.2), drop-tabs (width_of k r) r.columns s.1)
+
+  enter-past : (k : Container) (r : Row) → (enter k r).past ≡ r.past
+  unfolding enter
+  enter-past k r = refl
+
+  insides-fed : (k : Container) (from : ℕ) (first : Row) (more : List Row) (ahead : List Row) (to : ℕ) → opens options first ahead ≡ Nests k → Sits from first → Fed first.past more to → FedBehind (suc from) (insides k first more) to
+  insides-fed k from first more ahead to o s f =
+      (enter-sits k from first ahead o s, subst (λ p. Fed p (strips k (is_bare_start k first) more) to) (sym (enter-past k first)) (strips-fed k (is_bare_start k first) first.past more to f))
+
+  pub document-count : (direct : Bool) (before : Option ListBefore) (behind : Bool) (from : ℕ) (all : List Row) (b : Blocks) (to : ℕ) → Body options behind all b → FedBehind from all to → 4 * from + count_nodes (document_of text lookup direct before b) ≤ 4 * to
+  document-count direct before behind from all NoBlocks to body f = let l : from ≤ to = subst (λ ls. FedBehind from ls to) body f in omega (arith, l)
+  document-count direct before behind from all (BlankLine line after) to body f =
+      let c : FedBehind from (line ∷ body.rest) to = subst (λ ls. FedBehind from ls to) body.cut f in
+      let a = from-start from line c.0.0 in
+      let b = start-stop from line c.0.0 in
+      let d : line.stop ≤ line.past = c.0.0.2 in
+      let ih = document-count direct before false line.past body.rest after to body.after (fed-behind line.past body.rest to c.1) in
+      omega (arith, a, b, d, ih)
+  document-count direct before behind from all (ParagraphBlock first more after) to body f =
+      let c : FedBehind from (first ∷ (more ++ body.rest)) to = subst (λ ls. FedBehind from ls to) body.cut f in
+      let s = fed-split first more body.rest to c.1 in
+      let a = from-start from first c.0.0 in
+      let b = words-stop from first c.0 (begun-words behind first _ body.begun body.opened) in
+      let d : first.stop ≤ first.past = c.0.0.2 in
+      let p = paragraph-count lookup from first more c.0.0 s.0 in
+      let ih = document-count direct None false (past_of first more) body.rest after to body.after (fed-behind (past_of first more) body.rest to s.1) in
+      omega (arith, a, b, d, p, ih)
+  document-count direct before behind from all (SetextHeading level first more underline after) to body f =
+      let c : FedBehind from (first ∷ (more ++ (underline ∷ body.rest))) to = subst (λ ls. FedBehind from ls to) body.cut f in
+      let s = fed-split first more (underline ∷ body.rest) to c.1 in
+      let a = from-start from first c.0.0 in
+      let b = words-stop from first c.0 (begun-words behind first _ body.begun body.opened) in
+      let d : first.stop ≤ first.past = c.0.0.2 in
+      let p = paragraph-count lookup from first more c.0.0 s.0 in
+      let g : past_of first more < underline.past = s.1.0 in
+      let ih = document-count direct None false underline.past body.rest after to body.after (fed-behind underline.past body.rest to s.1.2) in
+      omega (arith, a, b, d, p, g, ih)
+  document-count direct before behind from all (LeafBlock leaf first more after) to body f =
+      let c : FedBehind from (first ∷ (more ++ body.rest)) to = subst (λ ls. FedBehind from ls to) body.cut f in
+      let s = fed-split first more body.rest to c.1 in
+      let w : first.lazy ≡ false = opens-whole options first _ (λ p. let q : Takes leaf (length more) ≡ Plain = sym body.opened ∙ p in cc) in
+      let e : is_blank_line first ≡ false = opens-words options first _ w (λ p. let q : Takes leaf (length more) ≡ Blank = sym body.opened ∙ p in cc) in
+      let l = leaf-count text lookup from leaf first more (document_of text lookup direct None after) c.0 e s.0 in
+      let ih = document-count direct None (may_lazy leaf) (past_of first more) body.rest after to body.after (fed-behind (past_of first more) body.rest to s.1) in
+      omega (arith, l, ih)
+  document-count direct before behind from all (ContainerBlock Quote first more inside after) to body f =
+      let c : FedBehind from (first ∷ (more ++ body.rest)) to = subst (λ ls. FedBehind from ls to) body.cut f in
+      let s = fed-split first more body.rest to c.1 in
+      let i = document-count false None false (suc from) (insides Quote first more) inside (past_of first more) body.contents (insides-fed Quote from first more _ (past_of first more) body.opened c.0 s.0) in
+      let ih = document-count direct None false (past_of first more) body.rest after to body.after (fed-behind (past_of first more) body.rest to s.1) in
+      omega (arith, i, ih)
+  document-count direct before behind from all (ContainerBlock (Item mark number width) first more inside after) to body f =
+      let c : FedBehind from (first ∷ (more ++ body.rest)) to = subst (λ ls. FedBehind from ls to) body.cut f in
+      let s = fed-split first more body.rest to c.1 in
+      let tight = tight_behind before mark inside after in
+      let i = document-count tight None false (suc from) (insides (Item mark number width) first more) inside (past_of first more) body.contents (insides-fed (Item mark number width) from first more _ (past_of first more) body.opened c.0 s.0) in
+      let ih = document-count direct (Some (record { mark = mark; tight = tight })) false (past_of first more) body.rest after to body.after (fed-behind (past_of first more) body.rest to s.1) in
+      let n = item-count (goes_on mark after) number tight (node ListItem (begin_of first) (past_of first more)) (document_of text lookup tight None inside) (document_of text lookup direct (Some (record { mark = mark; tight = tight })) after) in
+      omega (arith, i, ih, n)
+
+-- each line of a text has a byte
+abbrev Full : List (List ℕ) → Type 0
+Full [] = Unit {0}
+Full (l ∷ ls) = (0 < length l) × Full ls
+
+onto-full : (b : ℕ) (ls : List (List ℕ)) → Full ls → Full (onto b ls)
+onto-full b [] f = (omega arith, tt)
+onto-full b (l ∷ ls) f = (omega arith, f.1)
+
+lines-full : (bs : List ℕ) → Full (lines bs)
+lines-full [] = tt
+lines-full (b ∷ bs) = go (ends_line b bs) (lines-full bs)
+  where
+    go : (z : Bool) → Full (lines bs) → Full (if z then (b ∷ []) ∷ lines bs else onto b (lines bs))
+    go true f = (omega arith, f)
+    go false f = onto-full b (lines bs) f
+
+rows-fed : (at : ℕ) (ls : List (List ℕ)) (to : ℕ) → Full ls → Along at (rows_from at ls) to → Fed at (rows_from at ls) to
+rows-fed at [] to f a = a
+rows-fed at (l ∷ ls) to f a = (let n : 0 < length l = f.0 in omega (arith, n), (a.0, expand-tabs 0 at (content l)), rows-fed (at + length l) ls to f.1 a.1)
+
+pub derived-count : (text : List ℕ) (options : Options) (lookup : Lookup) (d : BlockDocument) → Derives text options lookup d → count_nodes d ≤ 4 * length text
+derived-count text options lookup d h =
+    let c = document-count text options lookup false None false 0 (rows text) h.0 (length text) h.1 (fed-behind 0 (rows text) (length text) (rows-fed 0 (lines text) (length text) (lines-full text) (text-Along text))) in
+    let e = ap count_nodes h.2 in
+    omega (arith, c, e)

@@ -1,0 +1,122 @@
+-- The nodes of a derived document stand in order in the text, each around what is inside it.
+use Rattle.std.proofs.Common.{◌≡◌, ℕ, suc, ◌+◌, ◌≤◌, Bool, true, false, List, ◌∷◌, ◌++◌, length, drop, refl, sym, subst, arith, Option, Some, None}
+use Rattle.cmark_grammar.specs.Answers.{Lookup}
+use Rattle.cmark_grammar.specs.Options.{Options}
+use Rattle.cmark_grammar.specs.Columns.{indent}
+use Rattle.cmark_grammar.specs.Rows.{Row, rows, first_place, begin_of, start_of, past_of}
+use Rattle.cmark_grammar.specs.Containers.{Container, Quote, Item, enter, quote_width, one_blank, strips, is_bare_start, insides}
+use Rattle.cmark_grammar.specs.Openings.{Leaf, ThematicBreak as ThematicBreakLeaf, AtxHeading as AtxHeadingLeaf, IndentedCode as IndentedCodeLeaf, FencedCode as FencedCodeLeaf, HtmlBlock as HtmlBlockLeaf, LinkDefinition as LinkDefinitionLeaf}
+use Rattle.cmark_grammar.specs.Blocks.{Blocks, Nil as NoBlocks, BlankLine, Paragraph as ParagraphBlock, SetextHeading, LeafBlock, ContainerBlock, may_lazy, Body}
+use Rattle.cmark_grammar.specs.Lists.{ListBefore, tight_behind, goes_on}
+use Rattle.cmark_grammar.specs.Tokens.{fenced_lines, paragraph_tokens, code_tokens, code_columns}
+use Rattle.cmark_grammar.specs.BlockDocument.{ListItem, BlockNode, BlockDocument, Nil, Node, node}
+use Rattle.cmark_grammar.specs.Derivation.{leaf_then, item_then, document_of, Derives}
+use Rattle.cmark_grammar.specs.Ranges.{InOrder}
+use Rattle.cmark_grammar.proofs.RowPlaces.{drop-mono, Lies, begin-start, start-stop, Lies-without, Along, Along-split, Along-le, strips-Along, text-Along}
+use Rattle.cmark_grammar.proofs.TokenRanges.{InOrder-lower, InOrder-upper, paragraph-order, heading-order, code-order, code_place, indented-order, fenced-Along, html-order}
+
+-- what lines end at is not in front of the first line's end
+past-le : (first : Row) (more : List Row) → Along first.past more (past_of first more) → first.past ≤ past_of first more
+past-le first more h = Along-le first.past more (past_of first more) h
+
+start-past : (from : ℕ) (r : Row) → Lies from r → start_of r ≤ r.past
+start-past from r h = let a : start_of r ≤ r.stop = start-stop from r h in let b : r.stop ≤ r.past = h.2 in omega (arith, a, b)
+
+from-start : (from : ℕ) (r : Row) → Lies from r → from ≤ start_of r
+from-start from r h = let a : from ≤ begin_of r = h.0 in let b : begin_of r ≤ start_of r = begin-start from r h in omega (arith, a, b)
+
+leaf-order : (text : List ℕ) (lookup : Lookup) (from : ℕ) (leaf : Leaf) (first : Row) (more : List Row) (after : BlockDocument) (to : ℕ) → Lies from first → Along first.past more (past_of first more) → InOrder (past_of first more) after to → InOrder from (leaf_then text lookup leaf first more after) to
+leaf-order text lookup from ThematicBreakLeaf first more after to h a o =
+    let p : start_of first ≤ first.past = start-past from first h in let q : first.past ≤ past_of first more = past-le first more a in
+    (from-start from first h, omega (arith, p, q), o)
+leaf-order text lookup from (AtxHeadingLeaf level) first more after to h a o = (from-start from first h, heading-order lookup level from first (past_of first more) h (past-le first more a), o)
+leaf-order text lookup from IndentedCodeLeaf first more after to h a o =
+    let d = code_place 4 from first h in
+    let b : from ≤ begin_of first = h.0 in
+    let e : begin_of first ≤ first_place first.stop (code_columns 4 first) = d.1 in
+    (omega (arith, b, e), indented-order text 4 from first more (past_of first more) h a, o)
+leaf-order text lookup from (FencedCodeLeaf fence) first more after to h a o = (
+  from-start from first h,
+  InOrder-lower (start_of first) first.past (code_tokens text fence.indented (fenced_lines fence more)) (past_of first more) (start-past from first h)
+      (code-order text fence.indented first.past (fenced_lines fence more) (past_of first more) (fenced-Along fence first.past more (past_of first more) a)),
+  o,
+)
+leaf-order text lookup from (HtmlBlockLeaf kind) first more after to h a o =
+    let l : Lies (begin_of first) first = (omega arith, h.1, h.2) in
+    (h.0, html-order text (begin_of first) (first ∷ more) (past_of first more) (l, a), o)
+leaf-order text lookup from (LinkDefinitionLeaf definition) first more after to h a o =
+    let p : start_of first ≤ first.past = start-past from first h in let q : first.past ≤ past_of first more = past-le first more a in
+    (from-start from first h, omega (arith, p, q), o)
+
+item-order : (from : ℕ) (joins : Bool) (number : Option ℕ) (tight : Bool) (item : BlockNode) (inside after : BlockDocument) (to : ℕ) → from ≤ item.start → InOrder item.start inside item.end → InOrder item.end after to → InOrder from (item_then joins number tight item inside after) to
+item-order from false number tight item inside after to a i o = (a, (omega arith, i, omega arith), o)
+item-order from true number tight item inside Nil to a i o = (a, (omega arith, i, omega arith), o)
+item-order from true number tight item inside (Node list items after) to a i o = (a, (omega arith, i, InOrder-lower item.end list.start items list.end o.0 o.1), o.2)
+
+-- inside a container the lines stand behind its start
+enter-Lies : (k : Container) (from : ℕ) (r : Row) → Lies from r → Lies (begin_of r) (enter k r)
+unfolding enter
+enter-Lies k from r h = Lies-without _ from r h
+
+enter-past : (k : Container) (r : Row) → (enter k r).past ≡ r.past
+unfolding enter
+enter-past k r = refl
+
+quote-Lies : (from : ℕ) (r : Row) → Lies from r → Lies (start_of r) (enter Quote r)
+unfolding enter
+quote-Lies from r h =
+    let l = Lies-without (quote_width r) from r h in
+    (drop-mono (indent r.columns) (quote_width r) (begin_of r) r.columns r.stop (wide (one_blank (drop (suc (indent r.columns)) r.columns))) h.1, l.1, l.2)
+  where
+    wide : (n : ℕ) → indent r.columns ≤ suc (indent r.columns + n)
+    wide n = omega arith
+
+insides-Along : (k : Container) (from : ℕ) (first : Row) (more : List Row) (to : ℕ) → Lies from (enter k first) → Along first.past more to → Along from (insides k first more) to
+insides-Along k from first more to l a =
+    (l, subst (λ p. Along p (strips k (is_bare_start k first) more) to) (sym (enter-past k first)) (strips-Along k (is_bare_start k first) first.past more to a))
+
+module _ (text : List ℕ) (options : Options) (lookup : Lookup) where
+  pub document-order : (direct : Bool) (before : Option ListBefore) (behind : Bool) (from : ℕ) (all : List Row) (b : Blocks) (to : ℕ) → Body options behind all b → Along from all to → InOrder from (document_of text lookup direct before b) to
+  document-order direct before behind from all NoBlocks to body a = subst (λ ls. Along from ls to) body a
+  document-order direct before behind from all (BlankLine line after) to body a =
+      let c : Along from (line ∷ body.rest) to = subst (λ ls. Along from ls to) body.cut a in
+      let p : from ≤ start_of line = from-start from line c.0 in
+      let q : start_of line ≤ line.past = start-past from line c.0 in
+      InOrder-lower from line.past (document_of text lookup direct before after) to (omega (arith, p, q)) (document-order direct before false line.past body.rest after to body.after c.1)
+  document-order direct before behind from all (ParagraphBlock first more after) to body a =
+      let c : Along from (first ∷ (more ++ body.rest)) to = subst (λ ls. Along from ls to) body.cut a in
+      let s = Along-split first more body.rest to c.1 in
+      (from-start from first c.0, paragraph-order lookup from first more c.0 s.0, document-order direct None false (past_of first more) body.rest after to body.after s.1)
+  document-order direct before behind from all (SetextHeading level first more underline after) to body a =
+      let c : Along from (first ∷ (more ++ (underline ∷ body.rest))) to = subst (λ ls. Along from ls to) body.cut a in
+      let s = Along-split first more (underline ∷ body.rest) to c.1 in
+      let p : past_of first more ≤ start_of underline = from-start (past_of first more) underline s.1.0 in
+      let q : start_of underline ≤ underline.past = start-past (past_of first more) underline s.1.0 in (
+        from-start from first c.0,
+        InOrder-upper (start_of first) (paragraph_tokens lookup first more) (past_of first more) underline.past (omega (arith, p, q)) (paragraph-order lookup from first more c.0 s.0),
+        document-order direct None false underline.past body.rest after to body.after s.1.1,
+      )
+  document-order direct before behind from all (LeafBlock leaf first more after) to body a =
+      let c : Along from (first ∷ (more ++ body.rest)) to = subst (λ ls. Along from ls to) body.cut a in
+      let s = Along-split first more body.rest to c.1 in
+      leaf-order text lookup from leaf first more (document_of text lookup direct None after) to c.0 s.0
+      (document-order direct None (may_lazy leaf) (past_of first more) body.rest after to body.after s.1)
+  document-order direct before behind from all (ContainerBlock Quote first more inside after) to body a =
+      let c : Along from (first ∷ (more ++ body.rest)) to = subst (λ ls. Along from ls to) body.cut a in
+      let s = Along-split first more body.rest to c.1 in (
+        from-start from first c.0,
+        document-order false None false (start_of first) (insides Quote first more) inside (past_of first more) body.contents (insides-Along Quote (start_of first) first more (past_of first more) (quote-Lies from first c.0) s.0),
+        document-order direct None false (past_of first more) body.rest after to body.after s.1,
+      )
+  document-order direct before behind from all (ContainerBlock (Item mark number width) first more inside after) to body a =
+      let c : Along from (first ∷ (more ++ body.rest)) to = subst (λ ls. Along from ls to) body.cut a in
+      let s = Along-split first more body.rest to c.1 in
+      let tight = tight_behind before mark inside after in
+      item-order from (goes_on mark after) number tight (node ListItem (begin_of first) (past_of first more)) (document_of text lookup tight None inside) (document_of text lookup direct (Some (record { mark = mark; tight = tight })) after) to
+      c.0.0
+      (document-order tight None false (begin_of first) (insides (Item mark number width) first more) inside (past_of first more) body.contents (insides-Along (Item mark number width) (begin_of first) first more (past_of first more) (enter-Lies (Item mark number width) from first c.0) s.0))
+      (document-order direct (Some (record { mark = mark; tight = tight })) false (past_of first more) body.rest after to body.after s.1)
+
+pub derived-order : (text : List ℕ) (options : Options) (lookup : Lookup) (d : BlockDocument) → Derives text options lookup d → InOrder 0 d (length text)
+derived-order text options lookup d h =
+    subst (λ x. InOrder 0 x (length text)) (sym h.2) (document-order text options lookup false None false 0 (rows text) h.0 (length text) h.1 (text-Along text))

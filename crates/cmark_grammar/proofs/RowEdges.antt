@@ -1,0 +1,351 @@
+-- Where a line begins and ends behind prefixes no character is cut: prefixes are ASCII.
+use Rattle.std.proofs.Common.{◌≡◌, ◌⊎◌, inl, inr, ⊎_elim, ℕ, zero, suc, ◌+◌, ◌-◌, ◌≤◌, ◌<◌, Bool, true, false, ◌==◌, ◌&&◌, ◌||◌, not, List, [], ◌∷◌, ◌++◌, length, drop, take_while, refl, sym, subst, arith, Option, Some, None, true≢false, drop-drop}
+use Rattle.std.proofs.lemmas.List.Sums.{take_while-cons}
+use Rattle.std.specs.Prelude.{if◌then◌else◌, nat_le, nat_lt, cond}
+use Rattle.cmark_grammar.specs.Options.{Options}
+use Rattle.cmark_grammar.specs.Columns.{Column, is_blank_byte, is_blank, indent, without_indent, bytes_of}
+use Rattle.cmark_grammar.specs.Rows.{Row, without, first_place, begin_of, start_of, is_bare, is_blank_line, indent_of, words_of}
+use Rattle.cmark_grammar.specs.Leaves.{run, Fence, is_thematic_break, is_atx_heading, fence_of, counted, code_further, is_parted}
+use Rattle.cmark_grammar.specs.HtmlBlocks.{html_kind}
+use Rattle.cmark_grammar.specs.LinkDefinitions.{Defined, definition_in, bytes_over}
+use Rattle.cmark_grammar.specs.Containers.{Container, Quote, Item, Marker, is_bullet, is_digit, is_delimiter, digits, number_of, delimited, marker_of, behind_marker, padding, width_with, item_with, item_of, begins_with, is_quote, one_blank, quote_width, container_with, container_of, width_of, enter, keep_as, keeps, strip_as, strip, strips}
+use Rattle.cmark_grammar.specs.Openings.{Leaf, ThematicBreak, AtxHeading, IndentedCode, FencedCode, HtmlBlock, LinkDefinition, Opening, Blank, Nests, Takes, Plain, or_else, nests_if, fenced_if, html_if, break_if, heading_if, text_lines, defined_if, definition_of, leaf_of, whole_opens, opens}
+use Rattle.cmark_grammar.proofs.RowPlaces.{Runs, first_place-Runs, drop-Runs}
+
+-- what holds of the first n elements, as far as there are any
+abbrev pub Front : {X : Type 0} → (X → Type 0) → ℕ → List X → Type 0
+Front Q n [] = Unit {0}
+Front Q zero (x ∷ xs) = Unit {0}
+Front Q (suc n) (x ∷ xs) = Q x × Front Q n xs
+
+pub front-less : {X : Type 0} (Q : X → Type 0) (m n : ℕ) (xs : List X) → m ≤ n → Front Q n xs → Front Q m xs
+front-less Q m n [] le f = tt
+front-less Q zero n (x ∷ xs) le f = tt
+front-less Q (suc m) zero (x ∷ xs) le f = absurd (omega (arith, le))
+front-less Q (suc m) (suc n) (x ∷ xs) le f = (f.0, front-less Q m n xs (omega (arith, le)) f.1)
+
+pub front-add : {X : Type 0} (Q : X → Type 0) (m n : ℕ) (xs : List X) → Front Q m xs → Front Q n (drop m xs) → Front Q (m + n) xs
+front-add Q zero n xs f g = subst (λ k. Front Q k xs) (let z : n ≡ 0 + n = omega arith in z) g
+front-add Q (suc m) n [] f g = tt
+front-add Q (suc m) n (x ∷ xs) f g = subst (λ k. Front Q k (x ∷ xs)) (let z : suc (m + n) ≡ suc m + n = omega arith in z) (f.0, front-add Q m n xs f.1 g)
+
+pub prefix-front : {X : Type 0} (p : X → Bool) (Q : X → Type 0) → ((x : X) → p x ≡ true → Q x) → (xs : List X) → Front Q (length (take_while p xs)) xs
+prefix-front p Q holds [] = tt
+prefix-front p Q holds (x ∷ xs) = subst (λ l. Front Q (length l) (x ∷ xs)) (sym (take_while-cons p x xs)) (go (p x) refl (prefix-front p Q holds xs))
+  where
+    go : (z : Bool) → p x ≡ z → Front Q (length (take_while p xs)) xs → Front Q (length (cond z (x ∷ take_while p xs) [])) (x ∷ xs)
+    go true e ih = (holds x e, ih)
+    go false e ih = tt
+
+either : (x y : Bool) → (x || y) ≡ true → (x ≡ true) ⊎ (y ≡ true)
+either true y e = inl refl
+either false y e = inr e
+
+both : (x y : Bool) → (x && y) ≡ true → (x ≡ true) × (y ≡ true)
+both true y e = (refl, e)
+both false y e = absurd (true≢false (sym e))
+
+abbrev pub IsAsciiByte : ℕ → Type 0
+IsAsciiByte b = b < 128
+
+abbrev pub IsAsciiColumn : Column → Type 0
+IsAsciiColumn c = c.byte < 128
+
+pub is-ascii : (b k : ℕ) → k < 128 → (b == k) ≡ true → b < 128
+is-ascii b k lt e = let q : b ≡ k = same b k e in omega (arith, lt, q)
+  where
+    same : (b k : ℕ) → (b == k) ≡ true → b ≡ k
+    same b k e = grind (arith)
+
+pub blank-ascii : (b : ℕ) → is_blank_byte b ≡ true → b < 128
+blank-ascii b e = ⊎_elim (λ x. is-ascii b 32 (omega arith) x) (λ x. is-ascii b 9 (omega arith) x) (either (b == 32) (b == 9) e)
+
+digit-ascii : (b : ℕ) → is_digit b ≡ true → b < 128
+digit-ascii b e = let p = (both (nat_le 48 b) (nat_le b 57) e).1 in let q : b ≤ 57 = le b p in omega (arith, q)
+  where
+    le : (b : ℕ) → nat_le b 57 ≡ true → b ≤ 57
+    le b e = grind (arith)
+
+bullet-ascii : (b : ℕ) → is_bullet b ≡ true → b < 128
+bullet-ascii b e = ⊎_elim (λ x. is-ascii b 45 (omega arith) x) (λ x. ⊎_elim (λ y. is-ascii b 43 (omega arith) y) (λ y. is-ascii b 42 (omega arith) y) (either (b == 43) (b == 42) x)) (either (b == 45) ((b == 43) || (b == 42)) e)
+
+delimiter-ascii : (b : ℕ) → is_delimiter b ≡ true → b < 128
+delimiter-ascii b e = ⊎_elim (λ x. is-ascii b 46 (omega arith) x) (λ x. is-ascii b 41 (omega arith) x) (either (b == 46) (b == 41) e)
+
+-- the front of a line's indent
+pub indent-front : (cs : List Column) → Front IsAsciiColumn (indent cs) cs
+indent-front cs = prefix-front is_blank IsAsciiColumn (λ c e. blank-ascii c.byte e) cs
+
+pub run-front : (b : ℕ) (bs : List ℕ) → b < 128 → Front IsAsciiByte (run b bs) bs
+run-front b bs lt = prefix-front (λ c. c == b) IsAsciiByte (λ c e. is-ascii c b lt e) bs
+
+-- of blank columns all are ASCII
+bare-front : (n : ℕ) (cs : List Column) → is_bare (without_indent cs) ≡ true → Front IsAsciiColumn n cs
+bare-front n cs e = front-less IsAsciiColumn n (indent cs + n) cs (omega arith) (front-add IsAsciiColumn (indent cs) n cs (indent-front cs) (none (without_indent cs) e))
+  where
+    none : (ds : List Column) → is_bare ds ≡ true → Front IsAsciiColumn n ds
+    none [] q = tt
+    none (d ∷ ds) q = absurd (true≢false (sym q))
+
+padding-front : (cs : List Column) → Front IsAsciiColumn (padding cs) cs
+padding-front cs = go (is_bare (without_indent cs)) (nat_le 5 (indent cs)) refl refl
+  where
+    five : (n : ℕ) → nat_le 5 n ≡ true → 1 ≤ n
+    five n e = let q : 5 ≤ n = grind (arith) in omega (arith, q)
+
+    go : (x y : Bool) → is_bare (without_indent cs) ≡ x → nat_le 5 (indent cs) ≡ y → Front IsAsciiColumn (if x || y then 1 else indent cs) cs
+    go true y ex ey = bare-front 1 cs ex
+    go false true ex ey = front-less IsAsciiColumn 1 (indent cs) cs (five (indent cs) ey) (indent-front cs)
+    go false false ex ey = indent-front cs
+
+-- the bytes of a list marker
+abbrev MarkerFront : Option Marker → List ℕ → Type 0
+MarkerFront None bs = Unit {0}
+MarkerFront (Some m) bs = Front IsAsciiByte m.size bs
+
+delimited-front : (bs : List ℕ) (rest : List ℕ) → drop (length (digits bs)) bs ≡ rest → MarkerFront (delimited (digits bs) rest) bs
+delimited-front bs [] e = tt
+delimited-front bs (b ∷ rest) e = go (nat_lt 0 (length (digits bs))) (nat_le (length (digits bs)) 9) (is_delimiter b) refl
+  where
+    go : (x y z : Bool) → is_delimiter b ≡ z → MarkerFront (if x && (y && z) then Some (record { mark = b; number = Some (number_of (digits bs)); size = suc (length (digits bs)) }) else None) bs
+    go true true true q =
+        subst (λ k. Front IsAsciiByte k bs) (let s : length (digits bs) + 1 ≡ suc (length (digits bs)) = omega arith in s)
+        (front-add IsAsciiByte (length (digits bs)) 1 bs (prefix-front is_digit IsAsciiByte digit-ascii bs) (subst (λ r. Front IsAsciiByte 1 r) (sym e) (delimiter-ascii b q, last rest)))
+      where
+        last : (r : List ℕ) → Front IsAsciiByte 0 r
+        last [] = tt
+        last (a ∷ r) = tt
+    go true true false q = tt
+    go true false z q = tt
+    go false y z q = tt
+
+front-zero : {X : Type 0} (Q : X → Type 0) (xs : List X) → Front Q 0 xs
+front-zero Q [] = tt
+front-zero Q (x ∷ xs) = tt
+
+marker-front : (bs : List ℕ) → MarkerFront (marker_of bs) bs
+marker-front [] = tt
+marker-front (b ∷ bs) = go (is_bullet b) refl
+  where
+    go : (z : Bool) → is_bullet b ≡ z → MarkerFront (if z then Some (record { mark = b; number = None; size = 1 }) else delimited (digits (b ∷ bs)) (drop (length (digits (b ∷ bs))) (b ∷ bs))) (b ∷ bs)
+    go true e = (bullet-ascii b e, front-zero IsAsciiByte bs)
+    go false e = delimited-front (b ∷ bs) _ refl
+
+begins-front : (k : ℕ) (bs : List ℕ) → k < 128 → begins_with k bs ≡ true → Front IsAsciiByte 1 bs
+begins-front k [] lt e = tt
+begins-front k (b ∷ bs) lt e = (is-ascii b k lt e, front-zero IsAsciiByte bs)
+
+one_blank-front : (cs : List Column) → Front IsAsciiColumn (one_blank cs) cs
+one_blank-front [] = tt
+one_blank-front (c ∷ cs) = go (is_blank c) refl
+  where
+    go : (z : Bool) → is_blank c ≡ z → Front IsAsciiColumn (if z then 1 else 0) (c ∷ cs)
+    go true e = (blank-ascii c.byte e, front-zero IsAsciiColumn cs)
+    go false e = tt
+
+module _ (E : ℕ → Type 0) where
+  -- a column: one in which no byte begins is of a tab, and around an ASCII byte no character is cut
+  abbrev pub Good : Column → Type 0
+  Good c = ((c.part == 0) ≡ false → c.byte < 128) × (c.byte < 128 → E c.at × E (suc c.at))
+
+  abbrev pub AreGood : List Column → Type 0
+  AreGood [] = Unit {0}
+  AreGood (c ∷ cs) = Good c × AreGood cs
+
+  pub drop-good : (n : ℕ) (cs : List Column) → AreGood cs → AreGood (drop n cs)
+  drop-good zero cs g = g
+  drop-good (suc n) [] g = tt
+  drop-good (suc n) (c ∷ cs) g = drop-good n cs g.1
+
+  -- ASCII bytes in front are ASCII columns in front
+  pub bytes-front : (n : ℕ) (cs : List Column) → AreGood cs → Front IsAsciiByte n (bytes_of cs) → Front IsAsciiColumn n cs
+  bytes-front n [] g f = tt
+  bytes-front zero (c ∷ cs) g f = tt
+  bytes-front (suc n) (c ∷ cs) g f = go (c.part == 0) refl f (bytes-front n cs g.1)
+    where
+      go : (z : Bool) → (c.part == 0) ≡ z → Front IsAsciiByte (suc n) (if z then c.byte ∷ bytes_of cs else bytes_of cs) → (Front IsAsciiByte n (bytes_of cs) → Front IsAsciiColumn n cs) → (c.byte < 128) × Front IsAsciiColumn n cs
+      go true e f ih = (f.0, ih f.1)
+      go false e f ih = (g.0.0 e, ih (front-less IsAsciiByte n (suc n) (bytes_of cs) (omega arith) f))
+
+  -- behind ASCII columns no character is cut
+  pub drop-E : (n from : ℕ) (cs : List Column) (to : ℕ) → Runs from cs to → AreGood cs → Front IsAsciiColumn n cs → E from → E to → E (first_place to (drop n cs))
+  drop-E zero from cs to h g f ef et = subst E (sym (first_place-Runs from cs to h)) ef
+  drop-E (suc n) from [] to h g f ef et = et
+  drop-E (suc n) from (c ∷ cs) to h g f ef et = drop-E n (suc c.at) cs to h.1 g.1 f.1 (g.0.1 f.0).1 et
+
+  pub record GoodRow (r : Row) : Type 0 where
+    pub runs : Runs (begin_of r) r.columns r.stop
+    pub good : AreGood r.columns
+    pub begin : E (begin_of r)
+    pub stop : E r.stop
+    pub past : E r.past
+    pub feed : r.past - r.stop ≡ 2 → E (suc r.stop)
+
+  pub without-good : (n : ℕ) (r : Row) → GoodRow r → Front IsAsciiColumn n r.columns → GoodRow (without n r)
+  without-good n r g f = record {
+    runs = (drop-Runs n (begin_of r) r.columns r.stop g.runs).0;
+    good = drop-good n r.columns g.good;
+    begin = drop-E n (begin_of r) r.columns r.stop g.runs g.good f g.begin g.stop;
+    stop = g.stop;
+    past = g.past;
+    feed = g.feed;
+  }
+
+  pub start-E : (r : Row) → GoodRow r → E (start_of r)
+  start-E r g = (without-good (indent r.columns) r g (indent-front r.columns)).begin
+
+  -- a quote's prefix
+  quote-front : (r : Row) → GoodRow r → is_quote r ≡ true → Front IsAsciiColumn (quote_width r) r.columns
+  quote-front r g e =
+      let marked : Front IsAsciiColumn 1 (without_indent r.columns) = bytes-front 1 (without_indent r.columns) (drop-good (indent r.columns) r.columns g.good) (begins-front 62 (words_of r) (omega arith) (both (nat_le (indent_of r) 3) _ e).1) in
+      let front : Front IsAsciiColumn (indent r.columns + 1) r.columns = front-add IsAsciiColumn (indent r.columns) 1 r.columns (indent-front r.columns) marked in
+      let s : indent r.columns + 1 ≡ suc (indent r.columns) = omega arith in
+      let t : suc (indent r.columns) + one_blank (drop (suc (indent r.columns)) r.columns) ≡ quote_width r = omega arith in
+      subst (λ k. Front IsAsciiColumn k r.columns) t (front-add IsAsciiColumn (suc (indent r.columns)) (one_blank (drop (suc (indent r.columns)) r.columns)) r.columns (subst (λ k. Front IsAsciiColumn k r.columns) s front) (one_blank-front (drop (suc (indent r.columns)) r.columns)))
+
+  -- an item's marker with what counts behind it
+  width-front : (size : ℕ) (r : Row) → GoodRow r → Front IsAsciiByte size (words_of r) → Front IsAsciiColumn (width_with size r) r.columns
+  width-front size r g f =
+      let marked : Front IsAsciiColumn size (without_indent r.columns) = bytes-front size (without_indent r.columns) (drop-good (indent r.columns) r.columns g.good) f in
+      let behind : Front IsAsciiColumn (padding (behind_marker size r)) (drop size (without_indent r.columns)) = subst (λ cs. Front IsAsciiColumn (padding (behind_marker size r)) cs) (sym (drop-drop size (indent r.columns) r.columns)) (padding-front (behind_marker size r)) in
+      front-add IsAsciiColumn (indent r.columns) (size + padding (behind_marker size r)) r.columns (indent-front r.columns) (front-add IsAsciiColumn size (padding (behind_marker size r)) (without_indent r.columns) marked behind)
+
+  -- what a container's first line has in front is ASCII
+  abbrev SomeFront : Row → Option Container → Type 0
+  SomeFront r None = Unit {0}
+  SomeFront r (Some k) = Front IsAsciiColumn (width_of k r) r.columns
+
+  item-front : (r : Row) (m : Option Marker) → GoodRow r → MarkerFront m (words_of r) → SomeFront r (item_with r m)
+  item-front r None g f = tt
+  item-front r (Some m) g f = go (is_parted (drop m.size (words_of r)) && not (is_thematic_break (words_of r)))
+    where
+      go : (z : Bool) → SomeFront r (if z then Some (Item m.mark m.number (width_with m.size r)) else None)
+      go true = width-front m.size r g f
+      go false = tt
+
+  container-front : (o : Option Container) (q : Bool) (r : Row) → GoodRow r → is_quote r ≡ q → SomeFront r o → SomeFront r (container_with o q)
+  container-front (Some k) q r g e f = f
+  container-front None true r g e f = quote-front r g e
+  container-front None false r g e f = tt
+
+  -- a heading's opening sequence is ASCII too
+  abbrev pub LeafFront : Row → Leaf → Type 0
+  LeafFront r ThematicBreak = Unit {0}
+  LeafFront r (AtxHeading level) = Front IsAsciiColumn level (without_indent r.columns)
+  LeafFront r IndentedCode = Unit {0}
+  LeafFront r (FencedCode fence) = Unit {0}
+  LeafFront r (HtmlBlock kind) = Unit {0}
+  LeafFront r (LinkDefinition definition) = Unit {0}
+
+  abbrev OpeningFront : Row → Opening → Type 0
+  OpeningFront r Blank = Unit {0}
+  OpeningFront r (Nests k) = Front IsAsciiColumn (width_of k r) r.columns
+  OpeningFront r (Takes leaf n) = LeafFront r leaf
+  OpeningFront r Plain = Unit {0}
+
+  front_if : (r : Row) (b : Bool) (x y : Opening) → OpeningFront r x → OpeningFront r y → OpeningFront r (if b then x else y)
+  front_if r true x y p q = p
+  front_if r false x y p q = q
+
+  front_or : (r : Row) (x y : Opening) → OpeningFront r x → OpeningFront r y → OpeningFront r (or_else x y)
+  front_or r Blank y p q = p
+  front_or r (Nests k) y p q = p
+  front_or r (Takes leaf n) y p q = p
+  front_or r Plain y p q = q
+
+  front_nests : (r : Row) (o : Option Container) → SomeFront r o → OpeningFront r (nests_if o)
+  front_nests r (Some k) f = f
+  front_nests r None f = tt
+
+  front_html : (r : Row) (ahead : List Row) (o : Option ℕ) → OpeningFront r (html_if r ahead o)
+  front_html r ahead (Some kind) = tt
+  front_html r ahead None = tt
+
+  front_break : (r : Row) (z : Bool) → OpeningFront r (break_if z)
+  front_break r true = tt
+  front_break r false = tt
+
+  front_heading : (r : Row) (z : Bool) → GoodRow r → OpeningFront r (heading_if z (run 35 (words_of r)))
+  front_heading r true g = bytes-front (run 35 (words_of r)) (without_indent r.columns) (drop-good (indent r.columns) r.columns g.good) (run-front 35 (words_of r) (omega arith))
+  front_heading r false g = tt
+
+  front_fenced : (r : Row) (o : Option Fence) (ahead : List Row) → OpeningFront r (fenced_if o ahead)
+  front_fenced r (Some fence) ahead = tt
+  front_fenced r None ahead = tt
+
+  front_defined : (r : Row) (lines : ℕ) (o : Option Defined) → OpeningFront r (defined_if lines o)
+  front_defined r lines (Some found) = tt
+  front_defined r lines None = tt
+
+  front_leaf : (options : Options) (r : Row) (ahead : List Row) → GoodRow r → OpeningFront r (leaf_of options r ahead)
+  front_leaf options r ahead g =
+      front_or r (html_if r ahead (html_kind (words_of r))) _ (front_html r ahead (html_kind (words_of r)))
+      (front_or r (break_if (is_thematic_break (words_of r))) _ (front_break r (is_thematic_break (words_of r)))
+      (front_or r (heading_if (is_atx_heading (words_of r)) (run 35 (words_of r))) _ (front_heading r (is_atx_heading (words_of r)) g)
+      (front_or r (fenced_if (fence_of (indent_of r) (words_of r)) ahead) (definition_of options r ahead) (front_fenced r (fence_of (indent_of r) (words_of r)) ahead)
+      (front_defined r (length (text_lines options ahead)) (definition_in (bytes_over r (text_lines options ahead)))))))
+
+  front_opens : (options : Options) (r : Row) (ahead : List Row) → GoodRow r → OpeningFront r (opens options r ahead)
+  unfolding opens
+  front_opens options r ahead g =
+      front_if r r.lazy Plain (whole_opens options r ahead) tt
+      (front_if r (is_blank_line r) Blank _ tt
+      (front_if r (nat_le 4 (indent_of r)) (Takes IndentedCode (counted code_further ahead)) _ tt
+      (front_or r (nests_if (container_of r)) (leaf_of options r ahead) (front_nests r (container_of r) (container-front (item_of r) (is_quote r) r g refl (item-front r (marker_of (words_of r)) g (marker-front (words_of r))))) (front_leaf options r ahead g))))
+
+  pub enter-good : (options : Options) (k : Container) (r : Row) (ahead : List Row) → opens options r ahead ≡ Nests k → GoodRow r → GoodRow (enter k r)
+  unfolding enter
+  enter-good options k r ahead e g = without-good (width_of k r) r g (subst (OpeningFront r) e (front_opens options r ahead g))
+
+  pub leaf-front : (options : Options) (r : Row) (ahead : List Row) (leaf : Leaf) (n : ℕ) → opens options r ahead ≡ Takes leaf n → GoodRow r → LeafFront r leaf
+  leaf-front options r ahead leaf n e g = subst (OpeningFront r) e (front_opens options r ahead g)
+
+  -- nor what its later lines have in front
+  keep_as-good : (k : Container) (r s : Row) → GoodRow r → keep_as k r ≡ Some s → GoodRow s
+  keep_as-good Quote r s g e = go (is_quote r) refl e
+    where
+      go : (z : Bool) → is_quote r ≡ z → (if z then Some (without (quote_width r) r) else None) ≡ Some s → GoodRow s
+      go true q f = let p : without (quote_width r) r ≡ s = cc in subst GoodRow p (without-good (quote_width r) r g (quote-front r g q))
+      go false q f = absurd (let p : None ≡ Some s = f in cc)
+  keep_as-good (Item mark number width) r s g e = go (is_blank_line r) (nat_le width (indent_of r)) refl refl e
+    where
+      le : (a b : ℕ) → nat_le a b ≡ true → a ≤ b
+      le a b q = grind (arith)
+
+      is : Front IsAsciiColumn width r.columns → Some (without width r) ≡ Some s → GoodRow s
+      is f q = let p : without width r ≡ s = cc in subst GoodRow p (without-good width r g f)
+
+      go : (x y : Bool) → is_blank_line r ≡ x → nat_le width (indent_of r) ≡ y → (if x || y then Some (without width r) else None) ≡ Some s → GoodRow s
+      go true y ex ey f = is (bare-front width r.columns ex) f
+      go false true ex ey f = is (front-less IsAsciiColumn width (indent r.columns) r.columns (le width (indent r.columns) ey) (indent-front r.columns)) f
+      go false false ex ey f = absurd (let p : None ≡ Some s = f in cc)
+
+  keeps-good : (k : Container) (bare : Bool) (r s : Row) → GoodRow r → keeps k bare r ≡ Some s → GoodRow s
+  unfolding keeps
+  keeps-good k bare r s g e = go _ e
+    where
+      go : (z : Bool) → (if z then None else keep_as k r) ≡ Some s → GoodRow s
+      go true q = absurd (let p : None ≡ Some s = q in cc)
+      go false q = keep_as-good k r s g q
+
+  lazy-good : (r : Row) → GoodRow r → GoodRow (strip_as None r)
+  lazy-good r g = record { runs = g.runs; good = g.good; begin = g.begin; stop = g.stop; past = g.past; feed = g.feed }
+
+  strip-good : (k : Container) (bare : Bool) (r : Row) → GoodRow r → GoodRow (strip k bare r)
+  strip-good k bare r g = go (keeps k bare r) refl
+    where
+      go : (o : Option Row) → keeps k bare r ≡ o → GoodRow (strip_as o r)
+      go None e = lazy-good r g
+      go (Some s) e = keeps-good k bare r s g e
+
+  abbrev pub GoodRows : List Row → Type 0
+  GoodRows [] = Unit {0}
+  GoodRows (r ∷ rs) = GoodRow r × GoodRows rs
+
+  pub strips-good : (k : Container) (bare : Bool) (rs : List Row) → GoodRows rs → GoodRows (strips k bare rs)
+  strips-good k bare [] g = tt
+  strips-good k bare (r ∷ rs) g = (strip-good k bare r g.0, strips-good k false rs g.1)
+
+  pub split-good : (more rest : List Row) → GoodRows (more ++ rest) → GoodRows more × GoodRows rest
+  split-good [] rest g = (tt, g)
+  split-good (r ∷ more) rest g = let s = split-good more rest g.1 in ((g.0, s.0), s.1)

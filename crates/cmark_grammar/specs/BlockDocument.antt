@@ -1,0 +1,54 @@
+-- Documents of blocks with their tokens: ordered trees (CommonMark 3).
+use Rattle.std.specs.Prelude.{ℕ, Bool, List, [], ◌∷◌, ◌++◌, Option}
+
+-- a link reference definition: its label's normal form, its destination and title, and where its text begins and ends
+pub record Reference : Type 0 where
+  pub label : List ℕ
+  pub destination : List ℕ
+  pub title : Option (List ℕ)
+  pub start : ℕ
+  pub end : ℕ
+
+-- what a node is. A paragraph that stands directly in an item of a tight list is no element of its own; a list has the
+-- number of its first item, if it is ordered. A text and an HTML line stand as they are in the text; an owned text is
+-- what an entity stands for, or spaces that are left of a tab
+pub data BlockKind : Type 0 where
+  Paragraph : BlockKind
+  TightParagraph : BlockKind
+  Heading : (level : ℕ) → BlockKind
+  ThematicBreak : BlockKind
+  IndentedCode : BlockKind
+  FencedCode : (info : List ℕ) → BlockKind
+  HtmlBlock : BlockKind
+  LinkDefinition : (reference : Reference) → BlockKind
+  BlockQuote : BlockKind
+  BlockList : (number : Option ℕ) → (tight : Bool) → BlockKind
+  ListItem : BlockKind
+  Text : (bytes : List ℕ) → BlockKind
+  OwnedText : (bytes : List ℕ) → BlockKind
+  Html : (bytes : List ℕ) → BlockKind
+  SoftBreak : BlockKind
+  HardBreak : BlockKind
+
+-- a node: its kind, and its bytes in the text, from start to before end
+pub record BlockNode : Type 0 where
+  pub kind : BlockKind
+  pub start : ℕ
+  pub end : ℕ
+
+-- no node, or a node with what is inside it and what stands after it
+pub data BlockDocument : Type 0 where
+  Nil : BlockDocument
+  Node : (node : BlockNode) → (inside after : BlockDocument) → BlockDocument
+
+abbrev pub join : BlockDocument → BlockDocument → BlockDocument
+join Nil other = other
+join (Node node inside after) other = Node node inside (join after other)
+
+abbrev pub node : BlockKind → ℕ → ℕ → BlockNode
+node kind start end = record { kind = kind; start = start; end = end }
+
+-- the nodes in preorder
+abbrev pub outline : BlockDocument → List BlockNode
+outline Nil = []
+outline (Node node inside after) = node ∷ (outline inside ++ outline after)

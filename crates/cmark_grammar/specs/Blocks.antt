@@ -1,0 +1,126 @@
+-- The block structure of lines: which blocks they are, each with its lines (CommonMark 3 to 5).
+use Rattle.std.specs.Prelude.{◌≡◌, ◌⊎◌, ℕ, Bool, true, false, List, [], ◌∷◌, ◌++◌, length, Some, None}
+use Rattle.cmark_grammar.specs.Rows.{Row, shown}
+use Rattle.cmark_grammar.specs.Leaves.{underlines}
+use Rattle.cmark_grammar.specs.Containers.{Container, keeps, is_bare_start, bare_after, insides}
+use Rattle.cmark_grammar.specs.Openings.{Leaf, ThematicBreak, AtxHeading, IndentedCode, FencedCode, HtmlBlock, LinkDefinition, Blank, Nests, Takes, Plain, opens, texts, lazily}
+use Rattle.cmark_grammar.specs.Options.{Options}
+
+-- the blocks of some lines, in their order: each with its lines, behind the prefixes of the containers around it, and a
+-- container with what is inside it. List items stand side by side
+pub data Blocks : Type 0 where
+  Nil : Blocks
+  BlankLine : (line : Row) → (after : Blocks) → Blocks
+  Paragraph : (first : Row) → (more : List Row) → (after : Blocks) → Blocks
+  SetextHeading : (level : ℕ) → (first : Row) → (more : List Row) → (underline : Row) → (after : Blocks) → Blocks
+  LeafBlock : (leaf : Leaf) → (first : Row) → (more : List Row) → (after : Blocks) → Blocks
+  ContainerBlock : (container : Container) → (first : Row) → (more : List Row) → (inside after : Blocks) → Blocks
+
+-- the second blocks after the first
+abbrev pub join : Blocks → Blocks → Blocks
+join Nil other = other
+join (BlankLine line after) other = BlankLine line (join after other)
+join (Paragraph first more after) other = Paragraph first more (join after other)
+join (SetextHeading level first more underline after) other = SetextHeading level first more underline (join after other)
+join (LeafBlock leaf first more after) other = LeafBlock leaf first more (join after other)
+join (ContainerBlock container first more inside after) other = ContainerBlock container first more inside (join after other)
+
+-- a lazy line may begin a paragraph directly behind such a leaf
+abbrev pub may_lazy : Leaf → Bool
+may_lazy ThematicBreak = false
+may_lazy (AtxHeading level) = false
+may_lazy IndentedCode = false
+may_lazy (FencedCode fence) = false
+may_lazy (HtmlBlock kind) = false
+may_lazy (LinkDefinition definition) = true
+
+-- whether a lazy line may stand behind these blocks: whether their last line lies in a paragraph, or in a leaf behind
+-- which a lazy line may begin one. So: what holds where there is no block
+abbrev pub ends_lazily : (so : Bool) → Blocks → Bool
+ends_lazily so Nil = so
+ends_lazily so (BlankLine line after) = ends_lazily false after
+ends_lazily so (Paragraph first more after) = ends_lazily true after
+ends_lazily so (SetextHeading level first more underline after) = ends_lazily false after
+ends_lazily so (LeafBlock leaf first more after) = ends_lazily (may_lazy leaf) after
+ends_lazily so (ContainerBlock container first more inside after) = ends_lazily (ends_lazily false inside) after
+
+-- what holds of the next line, if there is one
+abbrev pub Next : (Row → List Row → Type 0) → List Row → Type 0
+Next P [] = Unit {0}
+Next P (r ∷ rest) = P r (shown rest)
+
+module _ (options : Options) where
+  -- the line goes on with a paragraph: it does not interrupt, and is no underline
+  abbrev pub IsText : Row → List Row → Type 0
+  IsText r ahead = (texts options r ahead ≡ true) × (underlines r ≡ None)
+
+  -- each of the first lines does, with the others and the second lines behind it
+  abbrev pub AreText : List Row → List Row → Type 0
+  AreText [] rest = Unit {0}
+  AreText (r ∷ more) rest = IsText r (shown (more ++ rest)) × AreText more rest
+
+  abbrev pub IsNoText : Row → List Row → Type 0
+  IsNoText r ahead = (texts options r ahead ≡ false) × (underlines r ≡ None)
+
+  -- a container's line that lacks the prefix is lazy: where it lacks it, it interrupts nothing
+  abbrev pub AreLazy : Container → (bare : Bool) → List Row → List Row → Type 0
+  AreLazy k bare [] rest = Unit {0}
+  AreLazy k bare (r ∷ more) rest = (keeps k bare r ≡ None → lazily options r (shown (more ++ rest)) ≡ true) × AreLazy k false more rest
+
+  -- a container ends before a line that lacks the prefix and is not lazy
+  abbrev pub Ends : Container → (bare : Bool) → Blocks → List Row → Type 0
+  Ends k bare inside rest = Next (λ r ahead. (keeps k bare r ≡ None) × (ends_lazily false inside ≡ true → lazily options r ahead ≡ false)) rest
+
+  -- a paragraph begins on a line with all prefixes, or directly behind a leaf that allows it on a lazy one that is text
+  abbrev pub MayBegin : (behind : Bool) → Row → Type 0
+  MayBegin behind first = (first.lazy ≡ false) ⊎ ((behind ≡ true) × (texts options first [] ≡ true))
+
+  -- all lines: a blank one, and those of the blocks after it
+  pub record HasBlankLine (After : List Row → Type 0) (all : List Row) (line : Row) : Type 0 where
+    pub rest : List Row
+    pub cut : all ≡ line ∷ rest
+    pub opened : opens options line (shown rest) ≡ Blank
+    pub after : After rest
+
+  pub record HasParagraph (After : List Row → Type 0) (behind : Bool) (all : List Row) (first : Row) (more : List Row) : Type 0 where
+    pub rest : List Row
+    pub cut : all ≡ first ∷ (more ++ rest)
+    pub begun : MayBegin behind first
+    pub opened : opens options first (shown (more ++ rest)) ≡ Plain
+    pub others : AreText more rest
+    pub stops : Next IsNoText rest
+    pub after : After rest
+
+  pub record HasSetextHeading (After : List Row → Type 0) (behind : Bool) (all : List Row) (level : ℕ) (first : Row) (more : List Row) (underline : Row) : Type 0 where
+    pub rest : List Row
+    pub cut : all ≡ first ∷ (more ++ (underline ∷ rest))
+    pub begun : MayBegin behind first
+    pub opened : opens options first (shown (more ++ (underline ∷ rest))) ≡ Plain
+    pub others : AreText more (underline ∷ rest)
+    pub underlined : underlines underline ≡ Some level
+    pub after : After rest
+
+  pub record HasLeaf (After : List Row → Type 0) (all : List Row) (leaf : Leaf) (first : Row) (more : List Row) : Type 0 where
+    pub rest : List Row
+    pub cut : all ≡ first ∷ (more ++ rest)
+    pub opened : opens options first (shown (more ++ rest)) ≡ Takes leaf (length more)
+    pub after : After rest
+
+  pub record HasContainer (Inside After : List Row → Type 0) (all : List Row) (k : Container) (first : Row) (more : List Row) (inside : Blocks) : Type 0 where
+    pub rest : List Row
+    pub cut : all ≡ first ∷ (more ++ rest)
+    pub opened : opens options first (shown (more ++ rest)) ≡ Nests k
+    pub contents : Inside (insides k first more)
+    pub others : AreLazy k (is_bare_start k first) more rest
+    pub stops : Ends k (bare_after (is_bare_start k first) more) inside rest
+    pub after : After rest
+
+  -- these lines are these blocks. Behind: a leaf stands directly before that allows a lazy line behind it
+  abbrev pub Body : (behind : Bool) → List Row → Blocks → Type 0
+  Body behind all Nil = all ≡ []
+  Body behind all (BlankLine line after) = HasBlankLine (λ rest. Body false rest after) all line
+  Body behind all (Paragraph first more after) = HasParagraph (λ rest. Body false rest after) behind all first more
+  Body behind all (SetextHeading level first more underline after) = HasSetextHeading (λ rest. Body false rest after) behind all level first more underline
+  Body behind all (LeafBlock leaf first more after) = HasLeaf (λ rest. Body (may_lazy leaf) rest after) all leaf first more
+  Body behind all (ContainerBlock k first more inside after) =
+      HasContainer (λ lines. Body false lines inside) (λ rest. Body false rest after) all k first more inside

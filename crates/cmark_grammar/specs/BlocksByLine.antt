@@ -1,0 +1,131 @@
+-- The blocks of lines, as one line after the other shows them: of the lines ahead only a link reference definition is
+-- looked up. Code and HTML go on as their lines come, and blank lines wait until it is seen whether they belong to code.
+use Rattle.std.specs.Prelude.{ℕ, zero, suc, Bool, true, false, ◌&&◌, nat_le, List, [], ◌∷◌, ◌++◌, length, Option, Some, None}
+use Rattle.cmark_grammar.specs.Options.{Options}
+use Rattle.cmark_grammar.specs.Rows.{Row, rows, shown, words_of}
+use Rattle.cmark_grammar.specs.Leaves.{Fence, Further, GoesOn, Closes, Waits, Stops, underlines, code_further, fence_further}
+use Rattle.cmark_grammar.specs.HtmlBlocks.{holds_end, html_further}
+use Rattle.cmark_grammar.specs.Containers.{Container, enter, keeps, strip, is_bare_start, bare_after}
+use Rattle.cmark_grammar.specs.Openings.{Leaf, ThematicBreak, AtxHeading, IndentedCode, FencedCode, HtmlBlock, LinkDefinition, Opening, Blank, Nests, Takes, Plain, opens, texts, lazily}
+use Rattle.cmark_grammar.specs.Blocks.{Blocks, Nil, BlankLine, Paragraph, SetextHeading, LeafBlock, ContainerBlock, join, may_lazy}
+use Rattle.cmark_grammar.specs.BlocksModel.{within}
+
+-- a leaf whose lines are judged one by one
+pub data Verbatim : Type 0 where
+  Indented : Verbatim
+  Fenced : (fence : Fence) → Verbatim
+  HtmlLines : (kind : ℕ) → Verbatim
+
+abbrev pub leaf_in : Verbatim → Leaf
+leaf_in Indented = IndentedCode
+leaf_in (Fenced fence) = FencedCode fence
+leaf_in (HtmlLines kind) = HtmlBlock kind
+
+abbrev pub further_in : Verbatim → Row → Further
+further_in Indented r = code_further r
+further_in (Fenced fence) r = fence_further fence r
+further_in (HtmlLines kind) r = html_further kind r
+
+abbrev pub further_if : (is_lazy : Bool) → Verbatim → Row → Further
+further_if true verbatim r = Stops
+further_if false verbatim r = further_in verbatim r
+
+-- what is open: nothing, a paragraph, a leaf of so many lines more, a leaf whose lines are judged one by one, with blank
+-- lines that belong to it only if a later line does, or a container
+pub data OpenLines : Type 0 where
+  Between : (closed : Blocks) → OpenLines
+  InParagraph : (closed : Blocks) → (first : Row) → (more : List Row) → OpenLines
+  InLeaf : (closed : Blocks) → (leaf : Leaf) → (first : Row) → (had : List Row) → (left : ℕ) → OpenLines
+  InVerbatim : (closed : Blocks) → (verbatim : Verbatim) → (first : Row) → (had waiting : List Row) → OpenLines
+  InContainer : (closed : Blocks) → (container : Container) → (first : Row) → (more : List Row) → (inside : OpenLines) → OpenLines
+
+abbrev pub blank_lines : List Row → Blocks
+blank_lines [] = Nil
+blank_lines (r ∷ rs) = BlankLine r (blank_lines rs)
+
+-- all blocks, where the lines end
+abbrev pub close_lines : OpenLines → Blocks
+close_lines (Between closed) = closed
+close_lines (InParagraph closed first more) = join closed (Paragraph first more Nil)
+close_lines (InLeaf closed leaf first had left) = join closed (LeafBlock leaf first had Nil)
+close_lines (InVerbatim closed verbatim first had waiting) = join (join closed (LeafBlock (leaf_in verbatim) first had Nil)) (blank_lines waiting)
+close_lines (InContainer closed k first more inside) = join closed (ContainerBlock k first more (close_lines inside) Nil)
+
+abbrev pub lines_take_lazy : OpenLines → Bool
+lines_take_lazy (Between closed) = false
+lines_take_lazy (InParagraph closed first more) = true
+lines_take_lazy (InLeaf closed leaf first had left) = may_lazy leaf
+lines_take_lazy (InVerbatim closed verbatim first had waiting) = false
+lines_take_lazy (InContainer closed k first more inside) = lines_take_lazy inside
+
+abbrev pub html_begun : Bool → Blocks → ℕ → Row → OpenLines
+html_begun true closed kind r = InLeaf closed (HtmlBlock kind) r [] 0
+html_begun false closed kind r = InVerbatim closed (HtmlLines kind) r [] []
+
+-- a leaf that begins: how many lines it takes is asked of definitions alone
+abbrev pub leaf_begun : Leaf → ℕ → Blocks → Row → OpenLines
+leaf_begun ThematicBreak n closed r = InLeaf closed ThematicBreak r [] n
+leaf_begun (AtxHeading level) n closed r = InLeaf closed (AtxHeading level) r [] n
+leaf_begun IndentedCode n closed r = InVerbatim closed Indented r [] []
+leaf_begun (FencedCode fence) n closed r = InVerbatim closed (Fenced fence) r [] []
+leaf_begun (HtmlBlock kind) n closed r = html_begun (nat_le kind 5 && holds_end kind (words_of r)) closed kind r
+leaf_begun (LinkDefinition definition) n closed r = InLeaf closed (LinkDefinition definition) r [] n
+
+abbrev pub lines_begin_as : Opening → (Container → OpenLines) → Blocks → Row → OpenLines
+lines_begin_as Blank inside closed r = Between (join closed (BlankLine r Nil))
+lines_begin_as (Nests k) inside closed r = InContainer closed k r [] (inside k)
+lines_begin_as (Takes leaf more) inside closed r = leaf_begun leaf more closed r
+lines_begin_as Plain inside closed r = InParagraph closed r []
+
+abbrev pub lines_underline_or : Option ℕ → (ℕ → OpenLines) → OpenLines → OpenLines
+lines_underline_or (Some level) underlined other = underlined level
+lines_underline_or None underlined other = other
+
+abbrev pub lines_go_on_or : Bool → OpenLines → OpenLines → OpenLines
+lines_go_on_or true on off = on
+lines_go_on_or false on off = off
+
+abbrev pub lines_kept_or : Option Row → (is_lazy : Bool) → OpenLines → OpenLines → OpenLines
+lines_kept_or (Some s) is_lazy on off = on
+lines_kept_or None true on off = on
+lines_kept_or None false on off = off
+
+-- one more line of a leaf whose lines are judged one by one; off: what the line begins behind it
+abbrev pub verbatim_line : Further → Blocks → Verbatim → Row → (had waiting : List Row) → Row → (off : OpenLines) → OpenLines
+verbatim_line GoesOn closed verbatim first had waiting r off = InVerbatim closed verbatim first ((had ++ waiting) ++ r ∷ []) []
+verbatim_line Closes closed verbatim first had waiting r off = InLeaf closed (leaf_in verbatim) first ((had ++ waiting) ++ r ∷ []) 0
+verbatim_line Waits closed verbatim first had waiting r off = InVerbatim closed verbatim first had (waiting ++ r ∷ [])
+verbatim_line Stops closed verbatim first had waiting r off = off
+
+module _ (options : Options) where
+  abbrev pub lines_begin_in : (columns : ℕ) → Blocks → Row → List Row → OpenLines
+  lines_begin_in zero closed r ahead = Between closed
+  lines_begin_in (suc columns) closed r ahead =
+      lines_begin_as (opens options r ahead) (λ k. lines_begin_in columns Nil (enter k r) (within k (is_bare_start k r) ahead)) closed r
+
+  unfoldable pub lines_begin : Blocks → Row → List Row → OpenLines
+  lines_begin closed r ahead = lines_begin_in (suc (length r.columns)) closed r ahead
+
+  -- one more line, with these lines ahead
+  abbrev pub lines_feed : OpenLines → Row → List Row → OpenLines
+  lines_feed (Between closed) r ahead = lines_begin closed r ahead
+  lines_feed (InParagraph closed first more) r ahead =
+      lines_underline_or (underlines r) (λ level. Between (join closed (SetextHeading level first more r Nil)))
+      (lines_go_on_or (texts options r ahead) (InParagraph closed first (more ++ r ∷ [])) (lines_begin (join closed (Paragraph first more Nil)) r ahead))
+  lines_feed (InLeaf closed leaf first had zero) r ahead = lines_begin (join closed (LeafBlock leaf first had Nil)) r ahead
+  lines_feed (InLeaf closed leaf first had (suc left)) r ahead = InLeaf closed leaf first (had ++ r ∷ []) left
+  lines_feed (InVerbatim closed verbatim first had waiting) r ahead =
+      verbatim_line (further_if r.lazy verbatim r) closed verbatim first had waiting r
+      (lines_begin (join (join closed (LeafBlock (leaf_in verbatim) first had Nil)) (blank_lines waiting)) r ahead)
+  lines_feed (InContainer closed k first more inside) r ahead =
+      lines_kept_or (keeps k (bare_after (is_bare_start k first) more) r) (lazily options r ahead && lines_take_lazy inside)
+      (InContainer closed k first (more ++ r ∷ []) (lines_feed inside (strip k (bare_after (is_bare_start k first) more) r) (within k false ahead)))
+      (lines_begin (join closed (ContainerBlock k first more (close_lines inside) Nil)) r ahead)
+
+  abbrev pub lines_feed_all : OpenLines → List Row → OpenLines
+  lines_feed_all o [] = o
+  lines_feed_all o (r ∷ rs) = lines_feed_all (lines_feed o r (shown rs)) rs
+
+  -- the blocks of a text, line by line
+  unfoldable pub blocks_by_line : List ℕ → Blocks
+  blocks_by_line text = close_lines (lines_feed_all (Between Nil) (rows text))

@@ -1,0 +1,129 @@
+-- Container blocks, and the prefixes that their lines have (CommonMark 5).
+use Rattle.std.specs.Prelude.{ℕ, suc, ◌+◌, ◌-◌, ◌*◌, Bool, false, ◌==◌, ◌&&◌, ◌||◌, not, nat_lt, nat_le, if◌then◌else◌, List, [], ◌∷◌, length, drop, take_while, fold, Option, Some, None}
+use Rattle.cmark_grammar.specs.Columns.{Column, is_blank, indent, without_indent}
+use Rattle.cmark_grammar.specs.Rows.{Row, without, lazy_row, is_bare, is_blank_line, indent_of, words_of}
+use Rattle.cmark_grammar.specs.Leaves.{is_parted, is_thematic_break}
+
+-- a block quote, or a list item: its character (the bullet, or what stands behind the number), its number if it is
+-- ordered, and the width of the prefix that its later lines have
+pub data Container : Type 0 where
+  Quote : Container
+  Item : (mark : ℕ) → (number : Option ℕ) → (width : ℕ) → Container
+
+abbrev pub is_bullet : ℕ → Bool
+is_bullet b = (b == 45) || ((b == 43) || (b == 42))
+
+abbrev pub is_digit : ℕ → Bool
+is_digit b = nat_le 48 b && nat_le b 57
+
+abbrev pub is_delimiter : ℕ → Bool
+is_delimiter b = (b == 46) || (b == 41)
+
+-- a list marker: its character, its number, and how many columns it has (CommonMark 5.2)
+pub record Marker : Type 0 where
+  pub mark : ℕ
+  pub number : Option ℕ
+  pub size : ℕ
+
+abbrev pub digits : List ℕ → List ℕ
+digits bs = take_while is_digit bs
+
+abbrev pub number_of : List ℕ → ℕ
+number_of ds = fold (λ n d. n * 10 + (d - 48)) 0 ds
+
+-- behind one to nine digits stands `.` or `)`
+abbrev pub delimited : List ℕ → List ℕ → Option Marker
+delimited ds [] = None
+delimited ds (b ∷ bs) =
+    if nat_lt 0 (length ds) && (nat_le (length ds) 9 && is_delimiter b) then Some (record { mark = b; number = Some (number_of ds); size = suc (length ds) }) else None
+
+-- a bullet, or else an ordered list marker
+abbrev pub marker_of : List ℕ → Option Marker
+marker_of [] = None
+marker_of (b ∷ bs) = if is_bullet b then Some (record { mark = b; number = None; size = 1 }) else delimited (digits (b ∷ bs)) (drop (length (digits (b ∷ bs))) (b ∷ bs))
+
+-- the columns behind a marker of this size
+abbrev pub behind_marker : ℕ → Row → List Column
+behind_marker size r = drop (indent_of r + size) r.columns
+
+-- of five or more blank columns behind the marker, and in front of a blank rest, one counts (CommonMark 5.2)
+abbrev pub padding : List Column → ℕ
+padding cs = if is_bare (without_indent cs) || nat_le 5 (indent cs) then 1 else indent cs
+
+abbrev pub width_with : ℕ → Row → ℕ
+width_with size r = indent_of r + (size + padding (behind_marker size r))
+
+abbrev pub item_with : Row → Option Marker → Option Container
+item_with r None = None
+item_with r (Some m) =
+    if is_parted (drop m.size (words_of r)) && not (is_thematic_break (words_of r)) then Some (Item m.mark m.number (width_with m.size r)) else None
+
+abbrev pub item_of : Row → Option Container
+item_of r = item_with r (marker_of (words_of r))
+
+abbrev pub begins_with : ℕ → List ℕ → Bool
+begins_with b [] = false
+begins_with b (c ∷ cs) = c == b
+
+-- at most three columns of indent, and `>` (CommonMark 5.1)
+abbrev pub is_quote : Row → Bool
+is_quote r = nat_le (indent_of r) 3 && begins_with 62 (words_of r)
+
+-- a column of space, if there is one
+abbrev pub one_blank : List Column → ℕ
+one_blank [] = 0
+one_blank (c ∷ cs) = if is_blank c then 1 else 0
+
+-- the indent, `>` and an optional column of space
+abbrev pub quote_width : Row → ℕ
+quote_width r = suc (indent_of r + one_blank (drop (suc (indent_of r)) r.columns))
+
+-- the container that a line begins, indented by at most three columns
+abbrev pub container_with : Option Container → Bool → Option Container
+container_with (Some k) quoted = Some k
+container_with None quoted = if quoted then Some Quote else None
+
+abbrev pub container_of : Row → Option Container
+container_of r = container_with (item_of r) (is_quote r)
+
+abbrev pub width_of : Container → Row → ℕ
+width_of Quote r = quote_width r
+width_of (Item mark number width) r = width
+
+-- a container's first line, behind the marker
+unfoldable pub enter : Container → Row → Row
+enter k r = without (width_of k r) r
+
+abbrev pub keep_as : Container → Row → Option Row
+keep_as Quote r = if is_quote r then Some (without (quote_width r) r) else None
+keep_as (Item mark number width) r = if is_blank_line r || nat_le width (indent_of r) then Some (without width r) else None
+
+-- an item whose first line is blank behind the marker
+abbrev pub is_bare_start : Container → Row → Bool
+is_bare_start Quote first = false
+is_bare_start (Item mark number width) first = is_blank_line (enter (Item mark number width) first)
+
+-- a later line behind the container's prefix, if it has the prefix. Bare: the line before was the blank first line of an
+-- item; then a blank line ends the item (CommonMark 5.2)
+unfoldable pub keeps : Container → (bare : Bool) → Row → Option Row
+keeps k bare r = if r.lazy || (bare && is_blank_line r) then None else keep_as k r
+
+abbrev pub strip_as : Option Row → Row → Row
+strip_as (Some s) r = s
+strip_as None r = lazy_row r
+
+-- a later line seen from inside the container: without the prefix, or lazy where it lacks the prefix
+abbrev pub strip : Container → Bool → Row → Row
+strip k bare r = strip_as (keeps k bare r) r
+
+abbrev pub strips : Container → Bool → List Row → List Row
+strips k bare [] = []
+strips k bare (r ∷ rs) = strip k bare r ∷ strips k false rs
+
+abbrev pub bare_after : Bool → List Row → Bool
+bare_after bare [] = bare
+bare_after bare (r ∷ rs) = false
+
+-- a container's lines seen from inside
+abbrev pub insides : Container → Row → List Row → List Row
+insides k first more = enter k first ∷ strips k (is_bare_start k first) more

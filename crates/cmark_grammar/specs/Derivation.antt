@@ -1,0 +1,84 @@
+-- Which documents a text derives, by the block grammar: its lines are blocks, their lists are found and the text of their
+-- leaves is read.
+use Rattle.std.specs.Prelude.{◌≡◌, ℕ, Bool, true, false, if◌then◌else◌, List, [], ◌∷◌, Option, Some, None}
+use Rattle.cmark_grammar.specs.Answers.{Lookup}
+use Rattle.cmark_grammar.specs.Options.{Options}
+use Rattle.cmark_grammar.specs.Rows.{Row, rows, first_place, begin_of, start_of, past_of}
+use Rattle.cmark_grammar.specs.LinkDefinitions.{Definition, normal_form}
+use Rattle.cmark_grammar.specs.Containers.{Quote, Item}
+use Rattle.cmark_grammar.specs.Openings.{Leaf, ThematicBreak as ThematicBreakLeaf, AtxHeading as AtxHeadingLeaf, IndentedCode as IndentedCodeLeaf, FencedCode as FencedCodeLeaf, HtmlBlock as HtmlBlockLeaf, LinkDefinition as LinkDefinitionLeaf}
+use Rattle.cmark_grammar.specs.Blocks.{Blocks, Nil as NoBlocks, BlankLine, Paragraph as ParagraphBlock, SetextHeading, LeafBlock, ContainerBlock, Body}
+use Rattle.cmark_grammar.specs.BlocksModel.{blocks}
+use Rattle.cmark_grammar.specs.Lists.{ListBefore, tight_behind, goes_on}
+use Rattle.cmark_grammar.specs.Tokens.{resolved, title_lines, paragraph_tokens, heading_tokens, code_tokens, fenced_lines, html_tokens, code_columns}
+use Rattle.cmark_grammar.specs.BlockDocument.{Reference, BlockKind, Paragraph, TightParagraph, Heading, ThematicBreak, IndentedCode, FencedCode, HtmlBlock, LinkDefinition, BlockQuote, BlockList, ListItem, BlockNode, BlockDocument, Nil, Node, node}
+
+-- where the last of these lines ends, without its line ending
+abbrev pub stop_of : Row → List Row → ℕ
+stop_of first [] = first.stop
+stop_of first (r ∷ more) = stop_of r more
+
+abbrev pub title_of : Lookup → Option (List ℕ) → Option (List ℕ)
+title_of lookup None = None
+title_of lookup (Some title) = Some (resolved lookup (title_lines false title))
+
+abbrev pub reference_of : Lookup → Definition → ℕ → ℕ → Reference
+reference_of lookup definition start end = record {
+  label = normal_form definition.label;
+  destination = resolved lookup definition.destination;
+  title = title_of lookup definition.title;
+  start = start;
+  end = end;
+}
+
+-- a leaf runs from its first byte behind the indent, which is four columns for indented code and none for HTML, to behind
+-- its last line ending (this profile's own)
+abbrev pub leaf_then : List ℕ → Lookup → Leaf → Row → List Row → BlockDocument → BlockDocument
+leaf_then text lookup ThematicBreakLeaf first more after = Node (node ThematicBreak (start_of first) (past_of first more)) Nil after
+leaf_then text lookup (AtxHeadingLeaf level) first more after =
+    Node (node (Heading level) (start_of first) (past_of first more)) (heading_tokens lookup level first) after
+leaf_then text lookup IndentedCodeLeaf first more after =
+    Node (node IndentedCode (first_place first.stop (code_columns 4 first)) (past_of first more)) (code_tokens text 4 (first ∷ more)) after
+leaf_then text lookup (FencedCodeLeaf fence) first more after =
+    Node (node (FencedCode (resolved lookup fence.info)) (start_of first) (past_of first more)) (code_tokens text fence.indented (fenced_lines fence more)) after
+leaf_then text lookup (HtmlBlockLeaf kind) first more after = Node (node HtmlBlock (begin_of first) (past_of first more)) (html_tokens text (first ∷ more)) after
+leaf_then text lookup (LinkDefinitionLeaf definition) first more after =
+    Node (node (LinkDefinition (reference_of lookup definition (start_of first) (stop_of first more))) (start_of first) (past_of first more)) Nil after
+
+-- an item before others of its list, or alone in its list
+abbrev pub new_list : Option ℕ → (tight : Bool) → BlockNode → (inside after : BlockDocument) → BlockDocument
+new_list number tight item inside after = Node (node (BlockList number tight) item.start item.end) (Node item inside Nil) after
+
+abbrev pub item_then : (joins : Bool) → Option ℕ → (tight : Bool) → BlockNode → (inside after : BlockDocument) → BlockDocument
+item_then false number tight item inside after = new_list number tight item inside after
+item_then true number tight item inside Nil = new_list number tight item inside Nil
+item_then true number tight item inside (Node list items after) = Node (node (BlockList number tight) item.start list.end) (Node item inside items) after
+
+abbrev pub paragraph_kind : (direct : Bool) → BlockKind
+paragraph_kind direct = if direct then TightParagraph else Paragraph
+
+-- the document of blocks. Direct: they stand directly in an item of a tight list; list: that of the item before. A block
+-- quote runs from its marker, an item from the indent before it, to behind its last line
+abbrev pub document_of : List ℕ → Lookup → (direct : Bool) → (list : Option ListBefore) → Blocks → BlockDocument
+document_of text lookup direct list NoBlocks = Nil
+document_of text lookup direct list (BlankLine line after) = document_of text lookup direct list after
+document_of text lookup direct list (ParagraphBlock first more after) =
+    Node (node (paragraph_kind direct) (start_of first) (past_of first more)) (paragraph_tokens lookup first more) (document_of text lookup direct None after)
+document_of text lookup direct list (SetextHeading level first more underline after) =
+    Node (node (Heading level) (start_of first) underline.past) (paragraph_tokens lookup first more) (document_of text lookup direct None after)
+document_of text lookup direct list (LeafBlock leaf first more after) = leaf_then text lookup leaf first more (document_of text lookup direct None after)
+document_of text lookup direct list (ContainerBlock Quote first more inside after) =
+    Node (node BlockQuote (start_of first) (past_of first more)) (document_of text lookup false None inside) (document_of text lookup direct None after)
+document_of text lookup direct list (ContainerBlock (Item mark number width) first more inside after) =
+    let tight = tight_behind list mark inside after in
+    item_then (goes_on mark after) number tight (node ListItem (begin_of first) (past_of first more)) (document_of text lookup tight None inside)
+    (document_of text lookup direct (Some (record { mark = mark; tight = tight })) after)
+
+-- the text derives the document. No option has a part in the grammar of today
+abbrev pub Derives : List ℕ → Options → Lookup → BlockDocument → Type 0
+Derives text options lookup document =
+    (structure : Blocks) × (Body options false (rows text) structure) × (document ≡ document_of text lookup false None structure)
+
+-- the model's document
+abbrev pub document : List ℕ → Options → Lookup → BlockDocument
+document text options lookup = document_of text lookup false None (blocks options text)

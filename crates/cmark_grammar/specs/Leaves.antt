@@ -1,0 +1,96 @@
+-- Leaf blocks, and which lines belong to them (CommonMark 4).
+use Rattle.std.specs.Prelude.{ℕ, zero, suc, Bool, true, false, ◌==◌, ◌&&◌, ◌||◌, nat_lt, nat_le, if◌then◌else◌, List, [], ◌∷◌, length, drop, take_while, count_by, Option, Some, None}
+use Rattle.cmark_grammar.specs.Columns.{is_blank_byte, drop_end}
+use Rattle.cmark_grammar.specs.Rows.{Row, is_blank_line, indent_of, words_of}
+
+-- what one line more does to a leaf: it belongs to it and the leaf goes on, or ends; it belongs to it only where a later
+-- line does; or the leaf has ended before it
+pub data Further : Type 0 where
+  GoesOn : Further
+  Closes : Further
+  Waits : Further
+  Stops : Further
+
+abbrev pub count_more : Further → ℕ → ℕ
+count_more GoesOn n = suc n
+count_more Closes n = 1
+count_more Waits zero = 0
+count_more Waits (suc n) = suc (suc n)
+count_more Stops n = 0
+
+-- how many of the lines ahead belong to a leaf
+abbrev pub counted : (Row → Further) → List Row → ℕ
+counted further [] = 0
+counted further (r ∷ ahead) = count_more (further r) (counted further ahead)
+
+abbrev pub is_empty : List ℕ → Bool
+is_empty [] = true
+is_empty (b ∷ bs) = false
+
+abbrev pub all_pass : (ℕ → Bool) → List ℕ → Bool
+all_pass p [] = true
+all_pass p (b ∷ bs) = p b && all_pass p bs
+
+abbrev pub are_blank : List ℕ → Bool
+are_blank bs = all_pass is_blank_byte bs
+
+-- nothing, or a blank in front
+abbrev pub is_parted : List ℕ → Bool
+is_parted [] = true
+is_parted (b ∷ bs) = is_blank_byte b
+
+abbrev pub run : ℕ → List ℕ → ℕ
+run b bs = length (take_while (λ c. c == b) bs)
+
+-- three or more of the character, with blanks between and behind (CommonMark 4.1)
+abbrev pub is_break_of : ℕ → List ℕ → Bool
+is_break_of b bs = nat_le 3 (count_by (λ c. c == b) bs) && all_pass (λ c. (c == b) || is_blank_byte c) bs
+
+abbrev pub is_thematic_break : List ℕ → Bool
+is_thematic_break bs = is_break_of 42 bs || (is_break_of 45 bs || is_break_of 95 bs)
+
+-- an opening sequence of 1 to 6 `#`, then a blank or the line's end (CommonMark 4.2)
+abbrev pub is_atx_heading : List ℕ → Bool
+is_atx_heading bs = nat_lt 0 (run 35 bs) && (nat_le (run 35 bs) 6 && is_parted (drop (run 35 bs) bs))
+
+-- a code fence: its indent, its character and how often that stands, and the info string behind it (CommonMark 4.5)
+pub record Fence : Type 0 where
+  pub indented : ℕ
+  pub mark : ℕ
+  pub size : ℕ
+  pub info : List ℕ
+
+-- without blanks at both ends
+abbrev pub trimmed : List ℕ → List ℕ
+trimmed bs = drop_end is_blank_byte (drop (length (take_while is_blank_byte bs)) bs)
+
+abbrev pub fence_with : ℕ → ℕ → List ℕ → Fence
+fence_with indented b bs = record { indented = indented; mark = b; size = run b bs; info = trimmed (drop (run b bs) bs) }
+
+-- three or more backticks with none in the info string, or three or more tildes
+abbrev pub fence_of : ℕ → List ℕ → Option Fence
+fence_of indented bs =
+    if nat_le 3 (run 96 bs) && (count_by (λ c. c == 96) (drop (run 96 bs) bs) == 0) then Some (fence_with indented 96 bs)
+    else if nat_le 3 (run 126 bs) then Some (fence_with indented 126 bs)
+    else None
+
+-- at most three columns of indent, at least as many of the same character, then blanks
+abbrev pub closes_fence : Fence → Row → Bool
+closes_fence fence r = nat_le (indent_of r) 3 && (nat_le fence.size (run fence.mark (words_of r)) && are_blank (drop (run fence.mark (words_of r)) (words_of r)))
+
+abbrev pub fence_further : Fence → Row → Further
+fence_further fence r = if closes_fence fence r then Closes else GoesOn
+
+-- an indented line goes on with indented code; blank lines belong to it between two such lines (CommonMark 4.4)
+abbrev pub code_further : Row → Further
+code_further r = if is_blank_line r then Waits else if nat_le 4 (indent_of r) then GoesOn else Stops
+
+abbrev pub is_run_of : ℕ → List ℕ → Bool
+is_run_of b bs = nat_lt 0 (run b bs) && are_blank (drop (run b bs) bs)
+
+abbrev pub underline_of : List ℕ → Option ℕ
+underline_of bs = if is_run_of 61 bs then Some 1 else if is_run_of 45 bs then Some 2 else None
+
+-- the level of the heading that the line makes of a paragraph, if it is a setext heading underline (CommonMark 4.3)
+unfoldable pub underlines : Row → Option ℕ
+underlines r = if r.lazy || nat_le 4 (indent_of r) then None else underline_of (words_of r)

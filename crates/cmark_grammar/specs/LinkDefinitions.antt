@@ -1,0 +1,185 @@
+-- Link reference definitions (CommonMark 4.7): labels, destinations and titles.
+use Rattle.std.specs.Prelude.{ℕ, suc, ◌-◌, Bool, true, false, ◌==◌, ◌&&◌, ◌||◌, not, nat_lt, nat_le, if◌then◌else◌, List, [], ◌∷◌, ◌++◌, length, drop, take_while, count_by, Option, Some, None}
+use Rattle.cmark_grammar.specs.Columns.{is_blank_byte, bytes_of}
+use Rattle.cmark_grammar.specs.Rows.{Row, words_of}
+use Rattle.cmark_grammar.specs.Leaves.{is_empty}
+
+-- what was read, and the bytes behind it
+pub record Found : Type 0 where
+  pub bytes : List ℕ
+  pub behind : List ℕ
+
+abbrev pub put : ℕ → Option Found → Option Found
+put b None = None
+put b (Some found) = Some (record { bytes = b ∷ found.bytes; behind = found.behind })
+
+-- the byte before is a backslash that escapes, or this one is none
+abbrev pub escapes_next : (escaped : Bool) → ℕ → Bool
+escapes_next escaped b = not escaped && (b == 92)
+
+-- up to the closer, which no backslash escapes: neither the refused byte, nor a line end where lines may not end
+abbrev pub up_to_byte : (escaped : Bool) → (closer refused : ℕ) → (over_lines : Bool) → (b : ℕ) → List ℕ → Option Found → Option Found
+up_to_byte escaped closer refused over_lines b bs found =
+    if not escaped && (b == closer) then Some (record { bytes = []; behind = bs })
+    else if (not escaped && (b == refused)) || (not over_lines && ((b == 10) || (b == 13))) then None
+    else put b found
+
+abbrev pub up_to : (escaped : Bool) → (closer refused : ℕ) → (over_lines : Bool) → List ℕ → Option Found
+up_to escaped closer refused over_lines [] = None
+up_to escaped closer refused over_lines (b ∷ bs) = up_to_byte escaped closer refused over_lines b bs (up_to (escapes_next escaped b) closer refused over_lines bs)
+
+-- tab, line feed, form feed, carriage return and space
+abbrev pub is_white : ℕ → Bool
+is_white b = is_blank_byte b || ((b == 10) || ((b == 12) || (b == 13)))
+
+-- characters of UTF-8: all bytes but those that go on with one
+abbrev pub characters : List ℕ → ℕ
+characters bs = count_by (λ b. nat_lt b 128 || nat_le 192 b) bs
+
+-- 1 to 999 characters, at least one of them no white space
+abbrev pub is_label : List ℕ → Bool
+is_label bs = nat_le (characters bs) 999 && nat_lt 0 (count_by (λ b. not (is_white b)) bs)
+
+-- a label behind its opening bracket, up to the next bracket, which no backslash escapes and which closes it
+abbrev pub label_if : Option Found → Option Found
+label_if None = None
+label_if (Some found) = if is_label found.bytes then Some found else None
+
+abbrev pub label_in : List ℕ → Option Found
+label_in bs = label_if (up_to false 93 91 true bs)
+
+-- the normal form of a label: white space at both ends dropped, and each run of it between one space
+pub data AtWhite : Type 0 where
+  Front : AtWhite
+  Within : AtWhite
+  Behind : AtWhite
+
+abbrev pub at_white : AtWhite → ℕ → AtWhite
+at_white Front b = if is_white b then Front else Within
+at_white Within b = if is_white b then Behind else Within
+at_white Behind b = if is_white b then Behind else Within
+
+abbrev pub normal_byte : AtWhite → ℕ → List ℕ
+normal_byte Front b = if is_white b then [] else b ∷ []
+normal_byte Within b = if is_white b then [] else b ∷ []
+normal_byte Behind b = if is_white b then [] else 32 ∷ b ∷ []
+
+abbrev pub normal_from : AtWhite → List ℕ → List ℕ
+normal_from state [] = []
+normal_from state (b ∷ bs) = normal_byte state b ++ normal_from (at_white state b) bs
+
+abbrev pub normal_form : List ℕ → List ℕ
+normal_form bs = normal_from Front bs
+
+-- a bare destination: up to an ASCII control, a space, or a closing parenthesis without its opening one; parentheses are
+-- balanced, 32 deep at most, or escaped (CommonMark 6.3)
+abbrev pub ends_bare : ℕ → Bool
+ends_bare b = nat_le b 32 || (b == 127)
+
+abbrev pub depth_after : (escaped : Bool) → (depth b : ℕ) → ℕ
+depth_after escaped depth b = if escaped then depth else if b == 40 then suc depth else if b == 41 then depth - 1 else depth
+
+abbrev pub bare_byte : (escaped : Bool) → (depth b : ℕ) → List ℕ → Option Found → Option Found
+bare_byte escaped depth b bs found =
+    if ends_bare b || (not escaped && ((b == 41) && (depth == 0))) then (if depth == 0 then Some (record { bytes = []; behind = b ∷ bs }) else None)
+    else if not escaped && ((b == 40) && nat_le 32 depth) then None
+    else put b found
+
+abbrev pub bare_in : (escaped : Bool) → (depth : ℕ) → List ℕ → Option Found
+bare_in escaped depth [] = if depth == 0 then Some (record { bytes = []; behind = [] }) else None
+bare_in escaped depth (b ∷ bs) = bare_byte escaped depth b bs (bare_in (escapes_next escaped b) (depth_after escaped depth b) bs)
+
+abbrev pub nonempty : Option Found → Option Found
+nonempty None = None
+nonempty (Some found) = if is_empty found.bytes then None else Some found
+
+-- a destination: in pointed brackets on one line, or bare and not empty
+abbrev pub destination_in : List ℕ → Option Found
+destination_in [] = None
+destination_in (b ∷ bs) = if b == 60 then up_to false 62 60 false bs else nonempty (bare_in false 0 (b ∷ bs))
+
+-- a title: in double or single quotes, or in parentheses; none of its opening bytes stands in it but an escaped one
+abbrev pub title_in : List ℕ → Option Found
+title_in [] = None
+title_in (b ∷ bs) =
+    if (b == 34) || (b == 39) then up_to false b b true bs
+    else if b == 40 then up_to false 41 40 true bs
+    else None
+
+abbrev pub behind_blanks : List ℕ → List ℕ
+behind_blanks bs = drop (length (take_while is_blank_byte bs)) bs
+
+abbrev pub behind_line_end : List ℕ → List ℕ
+behind_line_end [] = []
+behind_line_end (b ∷ bs) = if b == 10 then bs else if b == 13 then drop 1 bs else b ∷ bs
+
+-- behind blanks with at most one line end
+abbrev pub behind_separator : List ℕ → List ℕ
+behind_separator bs = behind_blanks (behind_line_end (behind_blanks bs))
+
+-- nothing on the line any more
+abbrev pub at_end : List ℕ → Bool
+at_end [] = true
+at_end (b ∷ bs) = (b == 10) || (b == 13)
+
+abbrev pub is_line_done : List ℕ → Bool
+is_line_done bs = at_end (behind_blanks bs)
+
+-- a definition as it is written: the bytes of its label, its destination and its title, if it has one
+pub record Definition : Type 0 where
+  pub label : List ℕ
+  pub destination : List ℕ
+  pub title : Option (List ℕ)
+
+-- a definition, and the bytes behind it
+pub record Defined : Type 0 where
+  pub definition : Definition
+  pub behind : List ℕ
+
+abbrev pub defined : (label destination : List ℕ) → Option (List ℕ) → List ℕ → Defined
+defined label destination title behind = record { definition = record { label = label; destination = destination; title = title }; behind = behind }
+
+-- without a title the line must be done behind the destination
+abbrev pub untitled : (label : List ℕ) → Found → Option Defined
+untitled label destination = if is_line_done destination.behind then Some (defined label destination.bytes None destination.behind) else None
+
+-- a title counts only if it is parted from the destination, and the line is done behind it; else the definition ends
+-- before it
+abbrev pub titled : (label : List ℕ) → Found → Option Found → Option Defined
+titled label destination None = untitled label destination
+titled label destination (Some title) =
+    if nat_lt (length (behind_separator destination.behind)) (length destination.behind) && is_line_done title.behind
+    then Some (defined label destination.bytes (Some title.bytes) title.behind)
+    else untitled label destination
+
+abbrev pub with_destination : (label : List ℕ) → Option Found → Option Defined
+with_destination label None = None
+with_destination label (Some destination) = titled label destination (title_in (behind_separator destination.behind))
+
+abbrev pub behind_colon : Found → List ℕ → Option Defined
+behind_colon label [] = None
+behind_colon label (b ∷ bs) = if b == 58 then with_destination label.bytes (destination_in (behind_separator bs)) else None
+
+abbrev pub with_label : Option Found → Option Defined
+with_label None = None
+with_label (Some label) = behind_colon label label.behind
+
+-- the definition that these bytes begin with
+abbrev pub definition_in : List ℕ → Option Defined
+definition_in [] = None
+definition_in (b ∷ bs) = if b == 91 then with_label (label_in bs) else None
+
+-- a line end as the text has it: CR LF where it has two bytes
+abbrev pub line_end_of : Row → List ℕ
+line_end_of r = if nat_le 2 (r.past - r.stop) then 13 ∷ 10 ∷ [] else 10 ∷ []
+
+-- a line behind its indent, and further lines, with the line ends between them
+abbrev pub further_bytes : Row → List Row → List ℕ
+further_bytes r [] = []
+further_bytes r (s ∷ more) = line_end_of r ++ (bytes_of s.columns ++ further_bytes s more)
+
+abbrev pub bytes_over : Row → List Row → List ℕ
+bytes_over first more = words_of first ++ further_bytes first more
+
+abbrev pub line_ends : List ℕ → ℕ
+line_ends bs = count_by (λ b. b == 10) bs

@@ -1,0 +1,83 @@
+-- Lists: neighbouring items, and whether a list is loose (CommonMark 5.3).
+use Rattle.std.specs.Prelude.{ℕ, Bool, true, false, ◌==◌, ◌&&◌, ◌||◌, not, if◌then◌else◌, Option, Some, None}
+use Rattle.cmark_grammar.specs.Containers.{Quote, Item}
+use Rattle.cmark_grammar.specs.Blocks.{Blocks, Nil, BlankLine, Paragraph, SetextHeading, LeafBlock, ContainerBlock}
+
+-- whether a blank line ends these blocks, where a nested item ends with the blank lines that its last block ends with.
+-- Front: nothing stands before, so that a blank line is the rest of an item's first line; so: a blank line stands before
+abbrev pub ends_blank : (front so : Bool) → Blocks → Bool
+ends_blank front so Nil = so
+ends_blank front so (BlankLine line after) = ends_blank false (not front) after
+ends_blank front so (Paragraph first more after) = ends_blank false false after
+ends_blank front so (SetextHeading level first more underline after) = ends_blank false false after
+ends_blank front so (LeafBlock leaf first more after) = ends_blank false false after
+ends_blank front so (ContainerBlock Quote first more inside after) = ends_blank false false after
+ends_blank front so (ContainerBlock (Item mark number width) first more inside after) = ends_blank false (ends_blank true false inside) after
+
+-- what stands before a block in its container
+pub data Before : Type 0 where
+  NoBlock : Before
+  Other : Before
+  ItemWith : (mark : ℕ) → Before
+
+abbrev pub is_list_of : ℕ → Before → Bool
+is_list_of mark NoBlock = false
+is_list_of mark Other = false
+is_list_of mark (ItemWith m) = m == mark
+
+abbrev pub is_block : Before → Bool
+is_block NoBlock = false
+is_block Other = true
+is_block (ItemWith m) = true
+
+-- whether a blank line stands between two of these blocks, where the items of one list are one block. Blank: a blank line
+-- stands directly before
+abbrev pub parted : Before → (blank : Bool) → Blocks → Bool
+parted before blank Nil = false
+parted before blank (BlankLine line after) = parted before (is_block before) after
+parted before blank (Paragraph first more after) = blank || parted Other false after
+parted before blank (SetextHeading level first more underline after) = blank || parted Other false after
+parted before blank (LeafBlock leaf first more after) = blank || parted Other false after
+parted before blank (ContainerBlock Quote first more inside after) = blank || parted Other false after
+parted before blank (ContainerBlock (Item mark number width) first more inside after) =
+    (blank && not (is_list_of mark before)) || parted (ItemWith mark) (ends_blank true false inside) after
+
+-- whether an item contains two blocks with a blank line between them
+abbrev pub is_parted_item : Blocks → Bool
+is_parted_item inside = parted NoBlock false inside
+
+-- whether a list of this character, of which an item stands before, is loose from there on
+abbrev pub loose_from : (mark : ℕ) → (blank : Bool) → Blocks → Bool
+loose_from mark blank Nil = false
+loose_from mark blank (BlankLine line after) = loose_from mark true after
+loose_from mark blank (Paragraph first more after) = false
+loose_from mark blank (SetextHeading level first more underline after) = false
+loose_from mark blank (LeafBlock leaf first more after) = false
+loose_from mark blank (ContainerBlock Quote first more inside after) = false
+loose_from mark blank (ContainerBlock (Item m number width) first more inside after) =
+    (m == mark) && (blank || (is_parted_item inside || loose_from mark (ends_blank true false inside) after))
+
+-- whether the list that begins with this item is tight: no blank line between two of its items, and none between two
+-- blocks that an item contains directly
+abbrev pub is_tight : (mark : ℕ) → (inside after : Blocks) → Bool
+is_tight mark inside after = not (is_parted_item inside || loose_from mark (ends_blank true false inside) after)
+
+-- whether the next block is an item of a list with this character
+abbrev pub goes_on : (mark : ℕ) → Blocks → Bool
+goes_on mark Nil = false
+goes_on mark (BlankLine line after) = goes_on mark after
+goes_on mark (Paragraph first more after) = false
+goes_on mark (SetextHeading level first more underline after) = false
+goes_on mark (LeafBlock leaf first more after) = false
+goes_on mark (ContainerBlock Quote first more inside after) = false
+goes_on mark (ContainerBlock (Item m number width) first more inside after) = m == mark
+
+-- the list to which the item before belongs
+pub record ListBefore : Type 0 where
+  pub mark : ℕ
+  pub tight : Bool
+
+-- an item is as tight as the list that it goes on with, or else as the one that it begins
+abbrev pub tight_behind : Option ListBefore → (mark : ℕ) → (inside after : Blocks) → Bool
+tight_behind None mark inside after = is_tight mark inside after
+tight_behind (Some before) mark inside after = if before.mark == mark then before.tight else is_tight mark inside after

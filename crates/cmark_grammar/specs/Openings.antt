@@ -1,0 +1,126 @@
+-- What a line begins, and what interrupts a paragraph (CommonMark 3 to 5).
+use Rattle.std.specs.Prelude.{ℕ, Bool, true, false, ◌==◌, ◌&&◌, ◌||◌, not, nat_le, if◌then◌else◌, List, Option, Some, None, ◌∷◌, ◌-◌, length, []}
+use Rattle.cmark_grammar.specs.Rows.{Row, is_blank_line, indent_of, words_of, without}
+use Rattle.cmark_grammar.specs.Leaves.{Fence, underlines, counted, run, is_thematic_break, is_atx_heading, fence_of, fence_further, code_further}
+use Rattle.cmark_grammar.specs.HtmlBlocks.{html_kind, html_lines}
+use Rattle.cmark_grammar.specs.LinkDefinitions.{Definition, Defined, definition_in, bytes_over, line_ends}
+use Rattle.cmark_grammar.specs.Containers.{Container, Quote, Item, item_of, is_quote, container_of}
+use Rattle.cmark_grammar.specs.Options.{Options}
+
+-- a leaf that is no paragraph
+pub data Leaf : Type 0 where
+  ThematicBreak : Leaf
+  AtxHeading : (level : ℕ) → Leaf
+  IndentedCode : Leaf
+  FencedCode : (fence : Fence) → Leaf
+  HtmlBlock : (kind : ℕ) → Leaf
+  LinkDefinition : (definition : Definition) → Leaf
+
+-- what a line begins: nothing, for it is blank; a container; a leaf, to which so many of the lines ahead belong; or, if
+-- none of these, a paragraph
+pub data Opening : Type 0 where
+  Blank : Opening
+  Nests : (container : Container) → Opening
+  Takes : (leaf : Leaf) → (more : ℕ) → Opening
+  Plain : Opening
+
+abbrev pub or_else : Opening → Opening → Opening
+or_else Plain other = other
+or_else Blank other = Blank
+or_else (Nests container) other = Nests container
+or_else (Takes leaf more) other = Takes leaf more
+
+abbrev pub nests_if : Option Container → Opening
+nests_if (Some container) = Nests container
+nests_if None = Plain
+
+abbrev pub is_one : Option ℕ → Bool
+is_one None = true
+is_one (Some n) = n == 1
+
+-- an item that begins with a blank line, or is numbered other than 1, interrupts no paragraph of its own container (CommonMark 5.2)
+abbrev pub item_interrupts : (same : Bool) → Row → Option Container → Bool
+item_interrupts same r None = false
+item_interrupts same r (Some Quote) = false
+item_interrupts same r (Some (Item mark number width)) = not same || (is_one number && not (is_blank_line (without width r)))
+
+abbrev pub is_some_fence : Option Fence → Bool
+is_some_fence (Some fence) = true
+is_some_fence None = false
+
+-- HTML blocks of kind 7 interrupt no paragraph (CommonMark 4.6)
+abbrev pub html_interrupts : Option ℕ → Bool
+html_interrupts None = false
+html_interrupts (Some kind) = nat_le kind 6
+
+abbrev pub fenced_if : Option Fence → List Row → Opening
+fenced_if (Some fence) ahead = Takes (FencedCode fence) (counted (fence_further fence) ahead)
+fenced_if None ahead = Plain
+
+abbrev pub html_if : Row → List Row → Option ℕ → Opening
+html_if r ahead (Some kind) = Takes (HtmlBlock kind) (html_lines kind r ahead)
+html_if r ahead None = Plain
+
+abbrev pub is_none : Option ℕ → Bool
+is_none (Some n) = false
+is_none None = true
+
+abbrev pub put_if : Bool → Row → List Row → List Row
+put_if true r rs = r ∷ rs
+put_if false r rs = []
+
+abbrev pub defined_if : (lines : ℕ) → Option Defined → Opening
+defined_if lines (Some found) = Takes (LinkDefinition found.definition) (lines - line_ends found.behind)
+defined_if lines None = Plain
+
+abbrev pub break_if : Bool → Opening
+break_if true = Takes ThematicBreak 0
+break_if false = Plain
+
+abbrev pub heading_if : Bool → (level : ℕ) → Opening
+heading_if true level = Takes (AtxHeading level) 0
+heading_if false level = Plain
+
+module _ (options : Options) where
+  -- whether a line interrupts a paragraph, which stands in the same container or further in (CommonMark 4.8)
+  abbrev pub interrupts : (same : Bool) → Row → List Row → Bool
+  interrupts same r ahead =
+      is_blank_line r || (nat_le (indent_of r) 3 && (is_quote r || (item_interrupts same r (item_of r) || (is_thematic_break (words_of r)
+      || (is_atx_heading (words_of r) || (is_some_fence (fence_of (indent_of r) (words_of r)) || html_interrupts (html_kind (words_of r))))))))
+
+  -- the line goes on with a paragraph in the same container; a lazy line is none of it
+  unfoldable pub texts : Row → List Row → Bool
+  texts r ahead = not (interrupts (not r.lazy) r ahead)
+
+  -- the line, which lacks a prefix from here on, goes on with a paragraph further in
+  unfoldable pub lazily : Row → List Row → Bool
+  lazily r ahead = not (interrupts false r ahead)
+
+  -- the lines ahead up to the first that does not go on with a paragraph
+  abbrev pub text_lines : List Row → List Row
+  text_lines [] = []
+  text_lines (r ∷ ahead) = put_if (texts r ahead && is_none (underlines r)) r (text_lines ahead)
+
+  -- a link reference definition, whose further lines could go on with a paragraph (CommonMark 4.7)
+  abbrev pub definition_of : Row → List Row → Opening
+  definition_of r ahead = defined_if (length (text_lines ahead)) (definition_in (bytes_over r (text_lines ahead)))
+
+  -- the first leaf that the line begins; a paragraph, where there is none
+  abbrev pub leaf_of : Row → List Row → Opening
+  leaf_of r ahead =
+      or_else (html_if r ahead (html_kind (words_of r)))
+      (or_else (break_if (is_thematic_break (words_of r)))
+      (or_else (heading_if (is_atx_heading (words_of r)) (run 35 (words_of r)))
+      (or_else (fenced_if (fence_of (indent_of r) (words_of r)) ahead)
+      (definition_of r ahead))))
+
+  -- what a line begins that lacks no prefix: from four columns of indent on, indented code alone
+  abbrev pub whole_opens : Row → List Row → Opening
+  whole_opens r ahead =
+      if is_blank_line r then Blank
+      else if nat_le 4 (indent_of r) then Takes IndentedCode (counted code_further ahead)
+      else or_else (nests_if (container_of r)) (leaf_of r ahead)
+
+  -- what a line begins, with these lines ahead; a lazy line can begin a paragraph alone
+  unfoldable pub opens : Row → List Row → Opening
+  opens r ahead = if r.lazy then Plain else whole_opens r ahead

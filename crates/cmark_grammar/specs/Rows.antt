@@ -1,0 +1,76 @@
+-- What is left of a line inside containers.
+use Rattle.std.specs.Prelude.{ℕ, suc, ◌+◌, Bool, true, false, ◌==◌, if◌then◌else◌, List, [], ◌∷◌, length, drop}
+use Rattle.cmark_grammar.specs.Lines.{lines, content}
+use Rattle.cmark_grammar.specs.Columns.{Column, expand, indent, without_indent, bytes_of}
+
+-- the columns of a line behind the prefixes of the containers around it, the places of the text where its line ending
+-- begins and where the next line begins, and whether it lacks a prefix: such a line is lazy (CommonMark 5.1)
+pub record Row : Type 0 where
+  pub columns : List Column
+  pub stop : ℕ
+  pub past : ℕ
+  pub lazy : Bool
+
+abbrev pub row_at : ℕ → List ℕ → Row
+row_at at line = record { columns = expand 0 at (content line); stop = at + length (content line); past = at + length line; lazy = false }
+
+-- lines that begin at this place of the text
+abbrev pub rows_from : ℕ → List (List ℕ) → List Row
+rows_from at [] = []
+rows_from at (line ∷ more) = row_at at line ∷ rows_from (at + length line) more
+
+-- the lines of a text (CommonMark 2.1)
+abbrev pub rows : List ℕ → List Row
+rows text = rows_from 0 (lines text)
+
+-- the line without its first n columns: what is left of a tab stays as spaces (CommonMark 2.2)
+abbrev pub without : ℕ → Row → Row
+without n r = record r { columns = drop n r.columns }
+
+abbrev pub lazy_row : Row → Row
+lazy_row r = record r { lazy = true }
+
+abbrev pub is_bare : List Column → Bool
+is_bare [] = true
+is_bare (c ∷ cs) = false
+
+-- nothing but spaces and tabs (CommonMark 2.1)
+abbrev pub is_blank_line : Row → Bool
+is_blank_line r = is_bare (without_indent r.columns)
+
+-- how many columns of spaces and tabs stand in front (CommonMark 2.2)
+abbrev pub indent_of : Row → ℕ
+indent_of r = indent r.columns
+
+-- the bytes behind the indent
+abbrev pub words_of : Row → List ℕ
+words_of r = bytes_of (without_indent r.columns)
+
+-- where a column begins; one that is left of a tab begins behind the tab (this profile's own)
+abbrev pub place : Column → ℕ
+place c = if c.part == 0 then c.at else suc c.at
+
+abbrev pub first_place : ℕ → List Column → ℕ
+first_place none [] = none
+first_place none (c ∷ cs) = place c
+
+-- where the line begins, and where its first byte behind the indent stands
+abbrev pub begin_of : Row → ℕ
+begin_of r = first_place r.stop r.columns
+
+abbrev pub start_of : Row → ℕ
+start_of r = first_place r.stop (without_indent r.columns)
+
+-- where the last of these lines ends
+abbrev pub past_of : Row → List Row → ℕ
+past_of first [] = first.past
+past_of first (r ∷ more) = past_of r more
+
+-- a line in front of those ahead, and the lines up to the first that lacks a prefix: what a line may look at
+abbrev pub show_as : Bool → Row → List Row → List Row
+show_as true r ahead = []
+show_as false r ahead = r ∷ ahead
+
+abbrev pub shown : List Row → List Row
+shown [] = []
+shown (r ∷ rs) = show_as r.lazy r (shown rs)

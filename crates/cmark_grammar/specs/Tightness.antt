@@ -1,0 +1,46 @@
+-- Paragraphs of tight lists (CommonMark 5.3).
+use Rattle.std.specs.Prelude.{◌≡◌, Bool, true, false}
+use Rattle.cmark_grammar.specs.BlockDocument.{BlockKind, Paragraph, TightParagraph, Heading, ThematicBreak, IndentedCode, FencedCode, HtmlBlock, LinkDefinition, BlockQuote, BlockList, ListItem, Text, OwnedText, Html, SoftBreak, HardBreak, BlockDocument, Nil, Node}
+
+-- whether what is inside such a node stands in items of a tight list, or directly in one
+abbrev pub tight_within : Bool → BlockKind → Bool
+tight_within tight (BlockList number t) = t
+tight_within tight ListItem = tight
+tight_within tight Paragraph = false
+tight_within tight TightParagraph = false
+tight_within tight (Heading level) = false
+tight_within tight ThematicBreak = false
+tight_within tight IndentedCode = false
+tight_within tight (FencedCode info) = false
+tight_within tight HtmlBlock = false
+tight_within tight (LinkDefinition reference) = false
+tight_within tight BlockQuote = false
+tight_within tight (Text bytes) = false
+tight_within tight (OwnedText bytes) = false
+tight_within tight (Html bytes) = false
+tight_within tight SoftBreak = false
+tight_within tight HardBreak = false
+
+-- a paragraph is an element of its own exactly where it does not stand directly in an item of a tight list
+abbrev pub IsElement : (tight : Bool) → BlockKind → Type 0
+IsElement tight Paragraph = tight ≡ false
+IsElement tight TightParagraph = tight ≡ true
+IsElement tight (Heading level) = Unit {0}
+IsElement tight ThematicBreak = Unit {0}
+IsElement tight IndentedCode = Unit {0}
+IsElement tight (FencedCode info) = Unit {0}
+IsElement tight HtmlBlock = Unit {0}
+IsElement tight (LinkDefinition reference) = Unit {0}
+IsElement tight BlockQuote = Unit {0}
+IsElement tight (BlockList number t) = Unit {0}
+IsElement tight ListItem = Unit {0}
+IsElement tight (Text bytes) = Unit {0}
+IsElement tight (OwnedText bytes) = Unit {0}
+IsElement tight (Html bytes) = Unit {0}
+IsElement tight SoftBreak = Unit {0}
+IsElement tight HardBreak = Unit {0}
+
+abbrev pub HasTightParagraphs : (tight : Bool) → BlockDocument → Type 0
+HasTightParagraphs tight Nil = Unit {0}
+HasTightParagraphs tight (Node node inside after) =
+    IsElement tight node.kind × HasTightParagraphs (tight_within tight node.kind) inside × HasTightParagraphs tight after

@@ -1,0 +1,302 @@
+-- What stands in a leaf: texts, line breaks, HTML (CommonMark 2.4, 2.5, 4.4 to 4.8, 6.7 and 6.8).
+use Rattle.std.specs.Char.{encode_utf8}
+use Rattle.std.specs.Prelude.{ℕ, zero, suc, ◌+◌, ◌-◌, ◌*◌, ◌%◌, Bool, true, false, ◌==◌, ◌&&◌, ◌||◌, not, nat_lt, nat_le, if◌then◌else◌, List, [], ◌∷◌, ◌++◌, length, drop, take, take_while, reverse, replicate, fold, Option, Some, None}
+use Rattle.cmark_grammar.specs.Answers.{Lookup}
+use Rattle.cmark_grammar.specs.Columns.{Column, is_blank_byte, without_indent, drop_end, without_trailing_blanks, bytes_of}
+use Rattle.cmark_grammar.specs.Rows.{Row, is_bare, first_place, indent_of, start_of}
+use Rattle.cmark_grammar.specs.Leaves.{Fence, closes_fence, is_empty, run}
+use Rattle.cmark_grammar.specs.HtmlBlocks.{is_alphanumeric, is_number, lower, first_is}
+use Rattle.cmark_grammar.specs.BlockDocument.{BlockKind, BlockDocument, Nil, Node, node, Text, OwnedText, Html, SoftBreak, HardBreak}
+
+-- a piece of text: the bytes that it stands for and those that it takes in the text; owned if they differ
+pub record Piece : Type 0 where
+  pub owned : Bool
+  pub bytes : List ℕ
+  pub start : ℕ
+  pub end : ℕ
+
+-- ASCII punctuation (CommonMark 2.1)
+abbrev pub is_punctuation : ℕ → Bool
+is_punctuation b = (nat_le 33 b && nat_le b 47) || ((nat_le 58 b && nat_le b 64) || ((nat_le 91 b && nat_le b 96) || (nat_le 123 b && nat_le b 126)))
+
+-- the text of an entity, and how many bytes it takes from `&` to `;`
+pub record Entity : Type 0 where
+  pub bytes : List ℕ
+  pub size : ℕ
+
+abbrev pub entity_if : Option (List ℕ) → ℕ → Option Entity
+entity_if None size = None
+entity_if (Some bytes) size = Some (record { bytes = bytes; size = size })
+
+-- 0, surrogates and numbers past the last character stand for U+FFFD (CommonMark 2.5)
+abbrev pub is_character : ℕ → Bool
+is_character n = nat_lt 0 n && (nat_le n 1114111 && not (nat_le 55296 n && nat_le n 57343))
+
+abbrev pub character : ℕ → List ℕ
+character n = if is_character n then encode_utf8 n else 239 ∷ 191 ∷ 189 ∷ []
+
+abbrev pub is_hexadecimal : ℕ → Bool
+is_hexadecimal b = is_number b || (nat_le 97 (lower b) && nat_le (lower b) 102)
+
+abbrev pub digit_of : ℕ → ℕ
+digit_of b = if is_number b then b - 48 else lower b - 87
+
+abbrev pub value_of : (base : ℕ) → List ℕ → ℕ
+value_of base ds = fold (λ n d. n * base + digit_of d) 0 ds
+
+-- 1 to so many digits and a semicolon
+abbrev pub numeric : (base most size : ℕ) → (digits behind : List ℕ) → Option Entity
+numeric base most size digits behind =
+    if nat_lt 0 (length digits) && (nat_le (length digits) most && first_is (λ b. b == 59) behind)
+    then Some (record { bytes = character (value_of base digits); size = length digits + size }) else None
+
+abbrev pub hexadecimal_in : List ℕ → Option Entity
+hexadecimal_in bs = numeric 16 6 4 (take_while is_hexadecimal bs) (drop (length (take_while is_hexadecimal bs)) bs)
+
+abbrev pub decimal_in : List ℕ → Option Entity
+decimal_in bs = numeric 10 7 3 (take_while is_number bs) (drop (length (take_while is_number bs)) bs)
+
+abbrev pub numeric_in : List ℕ → Option Entity
+numeric_in bs = if first_is (λ b. (b == 120) || (b == 88)) bs then hexadecimal_in (drop 1 bs) else decimal_in bs
+
+-- a name that the look-up knows, and a semicolon
+abbrev pub named : Lookup → (name behind : List ℕ) → Option Entity
+named lookup name behind = if not (is_empty name) && first_is (λ b. b == 59) behind then entity_if (lookup name) (length name + 2) else None
+
+abbrev pub named_in : Lookup → List ℕ → Option Entity
+named_in lookup bs = named lookup (take_while is_alphanumeric bs) (drop (length (take_while is_alphanumeric bs)) bs)
+
+-- the entity or numeric character reference behind `&` (CommonMark 2.5)
+abbrev pub entity_in : Lookup → List ℕ → Option Entity
+entity_in lookup bs = if first_is (λ b. b == 35) bs then numeric_in (drop 1 bs) else named_in lookup bs
+
+-- what a byte does: it stands for itself, escapes the next one, or begins an entity
+pub data Does : Type 0 where
+  Stands : Does
+  EscapesNext : Does
+  Begins : (entity : Entity) → Does
+
+abbrev pub begins_if : Option Entity → Does
+begins_if None = Stands
+begins_if (Some entity) = Begins entity
+
+abbrev pub does_at : Lookup → (ampersand backslash : Bool) → List ℕ → Does
+does_at lookup true backslash bs = begins_if (entity_in lookup bs)
+does_at lookup false true bs = if first_is is_punctuation bs then EscapesNext else Stands
+does_at lookup false false bs = Stands
+
+-- a byte behind an escaping backslash stands for itself
+abbrev pub does : Lookup → (escaped : Bool) → ℕ → List ℕ → Does
+does lookup true b bs = Stands
+does lookup false b bs = does_at lookup (b == 38) (b == 92) bs
+
+abbrev pub is_escape : Does → Bool
+is_escape Stands = false
+is_escape EscapesNext = true
+is_escape (Begins entity) = false
+
+-- how many bytes more it takes
+abbrev pub size_behind : Does → ℕ
+size_behind Stands = 0
+size_behind EscapesNext = 0
+size_behind (Begins entity) = entity.size - 1
+
+abbrev pub plain_of : Column → Piece
+plain_of c = record { owned = false; bytes = c.byte ∷ []; start = c.at; end = suc c.at }
+
+abbrev pub grown : Column → Piece → Piece
+grown c p = record { owned = false; bytes = c.byte ∷ p.bytes; start = c.at; end = p.end }
+
+-- a byte in front of pieces: it goes onto a piece of the text that begins directly behind it
+abbrev pub onto : Column → List Piece → List Piece
+onto c [] = plain_of c ∷ []
+onto c (p ∷ ps) = if not p.owned && (p.start == suc c.at) then grown c p ∷ ps else plain_of c ∷ p ∷ ps
+
+abbrev pub add : Does → Column → List Piece → List Piece
+add Stands c ps = onto c ps
+add EscapesNext c ps = ps
+add (Begins entity) c ps = record { owned = true; bytes = entity.bytes; start = c.at; end = c.at + entity.size } ∷ ps
+
+-- the pieces of these bytes: a backslash before punctuation is dropped, and an entity is a piece of its own
+abbrev pub pieces_from : Lookup → (escaped : Bool) → (skip : ℕ) → List Column → List Piece
+pieces_from lookup escaped skip [] = []
+pieces_from lookup escaped (suc skip) (c ∷ cs) = pieces_from lookup false skip cs
+pieces_from lookup escaped zero (c ∷ cs) =
+    let what = does lookup escaped c.byte (bytes_of cs) in add what c (pieces_from lookup (is_escape what) (size_behind what) cs)
+
+-- the columns in which bytes begin
+abbrev pub put_column : Bool → Column → List Column → List Column
+put_column true c cs = c ∷ cs
+put_column false c cs = cs
+
+abbrev pub byte_columns : List Column → List Column
+byte_columns [] = []
+byte_columns (c ∷ cs) = put_column (c.part == 0) c (byte_columns cs)
+
+abbrev pub pieces : Lookup → List Column → List Piece
+pieces lookup cs = pieces_from lookup false 0 (byte_columns cs)
+
+-- bytes that stand in no line, as columns
+abbrev pub columns_of : ℕ → List ℕ → List Column
+columns_of at [] = []
+columns_of at (b ∷ bs) = record { byte = b; at = at; part = 0 } ∷ columns_of (suc at) bs
+
+abbrev pub piece_bytes : List Piece → List ℕ
+piece_bytes [] = []
+piece_bytes (p ∷ ps) = p.bytes ++ piece_bytes ps
+
+-- bytes with escapes and entities resolved (info strings, destinations and titles)
+abbrev pub resolved : Lookup → List ℕ → List ℕ
+resolved lookup bs = piece_bytes (pieces lookup (columns_of 0 bs))
+
+-- a title's lines: each line end and the blanks behind it are one line feed (this profile's own)
+abbrev pub title_byte : (front : Bool) → ℕ → List ℕ → List ℕ
+title_byte front b bs = if (b == 13) || (front && is_blank_byte b) then bs else b ∷ bs
+
+abbrev pub title_lines : (front : Bool) → List ℕ → List ℕ
+title_lines front [] = []
+title_lines front (b ∷ bs) = title_byte front b (title_lines ((b == 10) || (front && is_blank_byte b)) bs)
+
+abbrev pub text_kind_of : Piece → BlockKind
+text_kind_of p = if p.owned then OwnedText p.bytes else Text p.bytes
+
+-- pieces as nodes, in front of others
+abbrev pub texts_then : List Piece → BlockDocument → BlockDocument
+texts_then [] after = after
+texts_then (p ∷ ps) after = Node (node (text_kind_of p) p.start p.end) Nil (texts_then ps after)
+
+-- a line's columns without the blanks at both ends (CommonMark 4.8)
+abbrev pub line_columns : Row → List Column
+line_columns r = without_trailing_blanks (without_indent r.columns)
+
+abbrev pub end_place : ℕ → List Column → ℕ
+end_place none [] = none
+end_place none (c ∷ cs) = end_place (suc c.at) cs
+
+-- two spaces at the line's end (CommonMark 6.7), on the columns from the last one
+abbrev pub two_spaces : List Column → Bool
+two_spaces [] = false
+two_spaces (c ∷ []) = false
+two_spaces (c ∷ (d ∷ cs)) = (c.byte == 32) && (d.byte == 32)
+
+-- a backslash that no backslash escapes, on the bytes from the last one
+abbrev pub is_open_backslash : List ℕ → Bool
+is_open_backslash bs = run 92 bs % 2 == 1
+
+-- how a line that is not its leaf's last ends: softly, or hard by spaces or by a backslash
+pub data LineEnd : Type 0 where
+  Soft : LineEnd
+  Spaces : LineEnd
+  Backslash : LineEnd
+
+abbrev pub line_end : Row → LineEnd
+line_end r =
+    if two_spaces (reverse r.columns) then Spaces
+    else if is_open_backslash (reverse (bytes_of r.columns)) then Backslash
+    else Soft
+
+-- without a backslash at the end
+abbrev pub without_last : List Column → List Column
+without_last [] = []
+without_last (c ∷ []) = if c.byte == 92 then [] else c ∷ []
+without_last (c ∷ (d ∷ cs)) = c ∷ without_last (d ∷ cs)
+
+-- a line's text, the break behind it, and what follows. A hard break begins where the text has ended
+abbrev pub broken : Lookup → LineEnd → Row → BlockDocument → BlockDocument
+broken lookup Soft r after = texts_then (pieces lookup (line_columns r)) (Node (node SoftBreak r.stop r.past) Nil after)
+broken lookup Spaces r after = texts_then (pieces lookup (line_columns r)) (Node (node HardBreak (end_place (start_of r) (line_columns r)) r.past) Nil after)
+broken lookup Backslash r after =
+    texts_then (pieces lookup (without_last (line_columns r))) (Node (node HardBreak (end_place (start_of r) (without_last (line_columns r))) r.past) Nil after)
+
+-- the lines of a paragraph or setext heading
+abbrev pub paragraph_tokens : Lookup → Row → List Row → BlockDocument
+paragraph_tokens lookup r [] = texts_then (pieces lookup (line_columns r)) Nil
+paragraph_tokens lookup r (s ∷ more) = broken lookup (line_end r) r (paragraph_tokens lookup s more)
+
+abbrev pub is_hash : Column → Bool
+is_hash c = c.byte == 35
+
+-- without a closing sequence: `#` at the end, alone or behind a blank (CommonMark 4.2)
+abbrev pub without_closing : List Column → List Column
+without_closing cs =
+    if is_bare (drop_end is_hash cs) || nat_lt (length (without_trailing_blanks (drop_end is_hash cs))) (length (drop_end is_hash cs))
+    then without_trailing_blanks (drop_end is_hash cs) else cs
+
+-- what stands behind a heading's opening sequence
+abbrev pub heading_columns : (level : ℕ) → Row → List Column
+heading_columns level r = without_closing (without_trailing_blanks (without_indent (drop level (without_indent r.columns))))
+
+abbrev pub heading_tokens : Lookup → (level : ℕ) → Row → BlockDocument
+heading_tokens lookup level r = texts_then (pieces lookup (heading_columns level r)) Nil
+
+-- the bytes of the text from start to before end
+abbrev pub slice : List ℕ → ℕ → ℕ → List ℕ
+slice text start end = take (end - start) (drop start text)
+
+abbrev pub piece_if : List ℕ → ℕ → ℕ → List Piece → List Piece
+piece_if text start end ps = if nat_lt start end then record { owned = false; bytes = slice text start end; start = start; end = end } ∷ ps else ps
+
+-- a line as it is, from there on: of CR LF, the line feed is a piece of its own and the CR is left out
+abbrev pub plain_line : List ℕ → ℕ → Row → List Piece
+plain_line text from r =
+    if r.past - r.stop == 2 then piece_if text from r.stop (piece_if text (suc r.stop) r.past []) else piece_if text from r.past []
+
+-- how many columns in front are left of a tab of which a prefix took a part
+abbrev pub is_left : Column → Bool
+is_left c = not (c.part == 0)
+
+abbrev pub left_columns : List Column → ℕ
+left_columns cs = length (take_while is_left cs)
+
+-- these columns are as many spaces, which stand behind the tab (this profile's own)
+abbrev pub spaces_if : ℕ → ℕ → List Piece → List Piece
+spaces_if zero at ps = ps
+spaces_if (suc n) at ps = record { owned = true; bytes = replicate (suc n) 32; start = at; end = at } ∷ ps
+
+-- a line of code or HTML without prefixes
+abbrev pub verbatim_line : List ℕ → List Column → Row → List Piece
+verbatim_line text cs r = spaces_if (left_columns cs) (first_place r.stop cs) (plain_line text (first_place r.stop cs) r)
+
+-- pieces of the text that touch are one
+abbrev pub touches : Piece → Piece → Bool
+touches p q = not p.owned && (not q.owned && (p.end == q.start))
+
+abbrev pub merge : Piece → List Piece → List Piece
+merge p [] = p ∷ []
+merge p (q ∷ ps) = if touches p q then record { owned = false; bytes = p.bytes ++ q.bytes; start = p.start; end = q.end } ∷ ps else p ∷ q ∷ ps
+
+abbrev pub merge_all : List Piece → List Piece → List Piece
+merge_all [] behind = behind
+merge_all (p ∷ ps) behind = merge p (merge_all ps behind)
+
+-- a line of code without so many columns of indent at most
+abbrev pub code_columns : (most : ℕ) → Row → List Column
+code_columns most r = drop (if nat_le most (indent_of r) then most else indent_of r) r.columns
+
+abbrev pub code_pieces : List ℕ → (most : ℕ) → List Row → List Piece
+code_pieces text most [] = []
+code_pieces text most (r ∷ rs) = merge_all (verbatim_line text (code_columns most r) r) (code_pieces text most rs)
+
+abbrev pub code_tokens : List ℕ → (most : ℕ) → List Row → BlockDocument
+code_tokens text most rs = texts_then (code_pieces text most rs) Nil
+
+-- a fence's lines, without the closing fence
+abbrev pub stop_at : Bool → Row → List Row → List Row
+stop_at true r rs = []
+stop_at false r rs = r ∷ rs
+
+abbrev pub fenced_lines : Fence → List Row → List Row
+fenced_lines fence [] = []
+fenced_lines fence (r ∷ rs) = stop_at (closes_fence fence r) r (fenced_lines fence rs)
+
+-- HTML lines: a node a line, but for CR LF and the spaces left of a tab
+abbrev pub html_kind_of : Piece → BlockKind
+html_kind_of p = if p.owned then OwnedText p.bytes else Html p.bytes
+
+abbrev pub html_then : List Piece → BlockDocument → BlockDocument
+html_then [] after = after
+html_then (p ∷ ps) after = Node (node (html_kind_of p) p.start p.end) Nil (html_then ps after)
+
+abbrev pub html_tokens : List ℕ → List Row → BlockDocument
+html_tokens text [] = Nil
+html_tokens text (r ∷ rs) = html_then (verbatim_line text r.columns r) (html_tokens text rs)

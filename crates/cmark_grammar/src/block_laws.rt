@@ -1,0 +1,78 @@
+//! Theorems over the block grammar, each the contract of a function that does nothing.
+
+ghost use Rattle.std.specs.Prelude.{◌≡◌, ℕ, false, ◌*◌, ◌≤◌, List, length, IsUtf8, IsCharBoundary};
+ghost use Rattle.cmark_grammar.specs.Answers.{Lookup};
+ghost use Rattle.cmark_grammar.specs.BlockDocument.{BlockDocument, Reference};
+ghost use Rattle.cmark_grammar.specs.Blocks.{Blocks, Body};
+ghost use Rattle.cmark_grammar.specs.BlocksByLine.{blocks_by_line};
+ghost use Rattle.cmark_grammar.specs.BlocksModel.{blocks};
+ghost use Rattle.cmark_grammar.specs.Derivation.{Derives, document};
+ghost use Rattle.cmark_grammar.specs.Options.{Options};
+ghost use Rattle.cmark_grammar.specs.Ranges.{AllAt, HasSlices, InOrder, count_nodes};
+ghost use Rattle.cmark_grammar.specs.References.{EachOnce, first_with, table};
+ghost use Rattle.cmark_grammar.specs.Rows.{rows};
+ghost use Rattle.cmark_grammar.specs.Tightness.{HasTightParagraphs};
+
+/// The model's blocks are the blocks of the text's lines.
+pub fn blocks_are_derived()
+    ensures { (options : Options) (text : List ℕ) → Body options false (rows text) (blocks options text) }
+{}
+
+/// A text has one block structure: each that its lines are is the model's.
+pub fn one_block_structure()
+    ensures { (options : Options) (text : List ℕ) (structure : Blocks)
+        → Body options false (rows text) structure → structure ≡ blocks options text }
+{}
+
+/// The model's document of a text is derived from it: so each text derives a document.
+pub fn block_document_is_derived()
+    ensures { (text : List ℕ) (options : Options) (lookup : Lookup) → Derives text options lookup (document text options lookup) }
+{}
+
+/// A text derives one document: two that it derives have the same nodes with the same data, ranges and tokens.
+pub fn one_block_document()
+    ensures { (text : List ℕ) (options : Options) (lookup : Lookup) (first second : BlockDocument)
+        → Derives text options lookup first → Derives text options lookup second → first ≡ second }
+{}
+
+/// Judged line by line, with blank lines that wait until it is seen whether they belong to code, the blocks are the same.
+pub fn lines_give_the_blocks()
+    ensures { (options : Options) (text : List ℕ) → blocks_by_line options text ≡ blocks options text }
+{}
+
+/// Directly in an item of a tight list stands no paragraph that is an element of its own, and elsewhere each is one.
+pub fn tight_lists_have_tight_paragraphs()
+    ensures { (text : List ℕ) (options : Options) (lookup : Lookup) (document : BlockDocument)
+        → Derives text options lookup document → HasTightParagraphs false document }
+{}
+
+/// The first definition of a folded label stays: the table answers for each label as the list of all definitions does.
+pub fn first_definition_stays()
+    ensures first { (fold : List ℕ → List ℕ) (folded : List ℕ) (references : List Reference)
+        → first_with fold folded (table fold references) ≡ first_with fold folded references }
+    ensures once { (fold : List ℕ → List ℕ) (references : List Reference) → EachOnce fold (table fold references) }
+{}
+
+/// The ranges of a document lie in its text: siblings stand in order without overlap, and a child lies within its parent.
+pub fn ranges_are_in_order()
+    ensures { (text : List ℕ) (options : Options) (lookup : Lookup) (document : BlockDocument)
+        → Derives text options lookup document → InOrder 0 document (length text) }
+{}
+
+/// The ranges of a document begin and end where characters do.
+pub fn ranges_cut_no_character()
+    ensures { (text : List ℕ) (options : Options) (lookup : Lookup) (document : BlockDocument)
+        → IsUtf8 text → Derives text options lookup document → AllAt (IsCharBoundary text) document }
+{}
+
+/// A document has at most four nodes a byte of its text.
+pub fn nodes_are_few()
+    ensures { (text : List ℕ) (options : Options) (lookup : Lookup) (document : BlockDocument)
+        → Derives text options lookup document → count_nodes document ≤ 4 * length text }
+{}
+
+/// A text that is not owned, and an HTML line, is the slice of its range.
+pub fn texts_are_slices()
+    ensures { (text : List ℕ) (options : Options) (lookup : Lookup) (document : BlockDocument)
+        → Derives text options lookup document → HasSlices text document }
+{}
