@@ -15,7 +15,7 @@ abbrev Range : Type 0
 Range = ℕ × ℕ
 
 abbrev range_of : Ranged → Range
-range_of ranged = (ranged.start , ranged.end)
+range_of ranged = (ranged.start, ranged.end)
 
 abbrev ranges_of : List ℕ → List Range
 ranges_of text = map range_of (reading (document text))
@@ -55,6 +55,6 @@ unfolding document begins line_text heading_spans start_of
 endings = refl
 
 ranges : ranges_of (codes "# a\nb\r\nc\n")
-    ≡ (0 , 4) ∷ (2 , 3) ∷ (0 , 4) ∷ (4 , 9) ∷ (4 , 5) ∷ (5 , 7) ∷ (7 , 8) ∷ (4 , 9) ∷ []
+    ≡ (0, 4) ∷ (2, 3) ∷ (0, 4) ∷ (4, 9) ∷ (4, 5) ∷ (5, 7) ∷ (7, 8) ∷ (4, 9) ∷ []
 unfolding document begins line_text heading_spans start_of
 ranges = refl
