@@ -1,0 +1,18 @@
+# make builds bin/mdhtml. make test passes everything; its last line is the gate's count.
+.PHONY: all test gate
+.NOTPARALLEL:
+
+all:
+	cd crates/mdhtml && rt run < /dev/null
+	mkdir -p bin
+	cp crates/mdhtml/out/mdhtml bin/mdhtml
+
+test: gate all
+	tests/refusals
+	tests/vectors
+	@tail -n 1 bin/gate.log
+
+gate:
+	mkdir -p bin
+	(rt ci; echo $$? > bin/gate.status) 2>&1 | tee bin/gate.log
+	exit "$$(cat bin/gate.status)"
