@@ -1,3 +1,4 @@
+pub mod BalanceLaws
 pub mod BlockDocumentOne
 pub mod BlockLaws
 pub mod BlockReadings
