@@ -1,6 +1,7 @@
--- The examples of CommonMark's block sections: what the definitions give for each text is the standard's HTML, with each
+-- Examples of CommonMark, most of its block sections: what the definitions give for each text is the standard's HTML, with each
 -- `"` of a text as it stands.
 use Rattle.std.specs.Prelude.{◌≡◌, ℕ, List, codes, map}
+use Rattle.std.specs.Fmt.{digits}
 use Rattle.std.proofs.Common.{refl}
 use Rattle.cmark_grammar.specs.Leaves.{underlines}
 use Rattle.cmark_grammar.specs.Containers.{enter, keeps}
@@ -37,6 +38,31 @@ tab_nests : written (document (codes " - foo\n   - bar\n\t - baz\n") no_options 
 unfolding blocks begin opens texts lazily enter keeps underlines
 tab_nests = refl
 
+-- example 12
+every_escape : written (document (codes "\\!\\\"\\#\\$\\%\\&\\'\\(\\)\\*\\+\\,\\-\\.\\/\\:\\;\\<\\=\\>\\?\\@\\[\\\\\\]\\^\\_\\`\\{\\|\\}\\~\n") no_options basic_entity) ≡ codes "<p>!\"#$%&amp;'()*+,-./:;&lt;=&gt;?@[\\]^_`{|}~</p>\n"
+unfolding blocks begin opens texts lazily enter keeps underlines
+every_escape = refl
+
+-- example 14
+escapes : written (document (codes "\\*not emphasized*\n\\<br/> not a tag\n\\[not a link](/foo)\n\\`not code`\n1\\. not a list\n\\* not a list\n\\# not a heading\n\\[foo]: /url \"not a reference\"\n\\&ouml; not a character entity\n") no_options basic_entity) ≡ codes "<p>*not emphasized*\n&lt;br/&gt; not a tag\n[not a link](/foo)\n`not code`\n1. not a list\n* not a list\n# not a heading\n[foo]: /url \"not a reference\"\n&amp;ouml; not a character entity</p>\n"
+unfolding blocks begin opens texts lazily enter keeps underlines
+escapes = refl
+
+-- example 38
+character_that_is_no_marker : written (document (codes "&#42; foo\n\n* foo\n") no_options basic_entity) ≡ codes "<p>* foo</p>\n<ul>\n<li>foo</li>\n</ul>\n"
+unfolding blocks begin opens texts lazily enter keeps underlines lib.Utf8.encode
+character_that_is_no_marker = refl
+
+-- example 39
+line_feeds_in_text : written (document (codes "foo&#10;&#10;bar\n") no_options basic_entity) ≡ codes "<p>foo\n\nbar</p>\n"
+unfolding blocks begin opens texts lazily enter keeps underlines lib.Utf8.encode
+line_feeds_in_text = refl
+
+-- example 40
+tab_in_text : written (document (codes "&#9;foo\n") no_options basic_entity) ≡ codes "<p>\tfoo</p>\n"
+unfolding blocks begin opens texts lazily enter keeps underlines lib.Utf8.encode
+tab_in_text = refl
+
 -- example 47
 breaks : written (document (codes " ***\n  ***\n   ***\n") no_options basic_entity) ≡ codes "<hr />\n<hr />\n<hr />\n"
 unfolding blocks begin opens texts lazily enter keeps underlines
@@ -62,10 +88,20 @@ closing_hashes : written (document (codes "## foo ##\n  ###   bar    ###\n") no_
 unfolding blocks begin opens texts lazily enter keeps underlines
 closing_hashes = refl
 
+-- example 83
+underlines_of_any_length : written (document (codes "Foo\n-------------------------\n\nFoo\n=\n") no_options basic_entity) ≡ codes "<h2>Foo</h2>\n<h1>Foo</h1>\n"
+unfolding blocks begin opens texts lazily enter keeps underlines
+underlines_of_any_length = refl
+
 -- example 88
 spaced_runs_underline_nothing : written (document (codes "Foo\n= =\n\nFoo\n--- -\n") no_options basic_entity) ≡ codes "<p>Foo\n= =</p>\n<p>Foo</p>\n<hr />\n"
 unfolding blocks begin opens texts lazily enter keeps underlines
 spaced_runs_underline_nothing = refl
+
+-- example 92
+break_behind_quote : written (document (codes "> Foo\n---\n") no_options basic_entity) ≡ codes "<blockquote>\n<p>Foo</p>\n</blockquote>\n<hr />\n"
+unfolding blocks begin opens texts lazily enter keeps underlines
+break_behind_quote = refl
 
 -- example 95
 underline_behind_lines : written (document (codes "Foo\nBar\n---\n") no_options basic_entity) ≡ codes "<h2>Foo\nBar</h2>\n"
@@ -127,6 +163,16 @@ info : written (document (codes "~~~~    ruby startline=3 $%@#$\ndef foo(x)\n  r
 unfolding blocks begin opens texts lazily enter keeps underlines
 info = refl
 
+-- example 179
+comment : written (document (codes "<!-- Foo\n\nbar\n   baz -->\nokay\n") no_options basic_entity) ≡ codes "<!-- Foo\n\nbar\n   baz -->\n<p>okay</p>\n"
+unfolding blocks begin opens texts lazily enter keeps underlines
+comment = refl
+
+-- example 182
+character_data : written (document (codes "<![CDATA[\nfunction matchwo(a,b)\n{\n  if (a < b && a < 0) then {\n    return 1;\n\n  } else {\n\n    return 0;\n  }\n}\n]]>\nokay\n") no_options basic_entity) ≡ codes "<![CDATA[\nfunction matchwo(a,b)\n{\n  if (a < b && a < 0) then {\n    return 1;\n\n  } else {\n\n    return 0;\n  }\n}\n]]>\n<p>okay</p>\n"
+unfolding blocks begin opens texts lazily enter keeps underlines
+character_data = refl
+
 -- example 185
 html_interrupts : written (document (codes "Foo\n<div>\nbar\n</div>\n") no_options basic_entity) ≡ codes "<p>Foo</p>\n<div>\nbar\n</div>\n"
 unfolding blocks begin opens texts lazily enter keeps underlines
@@ -136,6 +182,21 @@ html_interrupts = refl
 html_to_a_blank_line : written (document (codes "<div>\nbar\n</div>\n*foo*\n") no_options basic_entity) ≡ codes "<div>\nbar\n</div>\n*foo*\n"
 unfolding blocks begin opens texts lazily enter keeps underlines
 html_to_a_blank_line = refl
+
+-- example 208
+definition_over_lines : written (document (codes "[\nfoo\n]: /url\nbar\n") no_options basic_entity) ≡ codes "<p>bar</p>\n"
+unfolding blocks begin opens texts lazily enter keeps underlines
+definition_over_lines = refl
+
+-- example 210
+title_that_does_not_fit : written (document (codes "[foo]: /url\n\"title\" ok\n") no_options basic_entity) ≡ codes "<p>\"title\" ok</p>\n"
+unfolding blocks begin opens texts lazily enter keeps underlines
+title_that_does_not_fit = refl
+
+-- example 213
+definition_interrupts_not : written (document (codes "Foo\n[bar]: /baz\n\n[bar]\n") no_options basic_entity) ≡ codes "<p>Foo\n[bar]: /baz</p>\n<p>[bar]</p>\n"
+unfolding blocks begin opens texts lazily enter keeps underlines
+definition_interrupts_not = refl
 
 -- example 219
 paragraphs : written (document (codes "aaa\n\nbbb\n") no_options basic_entity) ≡ codes "<p>aaa</p>\n<p>bbb</p>\n"
@@ -186,6 +247,21 @@ code_behind_paragraph = refl
 item_with_everything : written (document (codes "1.  foo\n\n    ```\n    bar\n    ```\n\n    baz\n\n    > bam\n") no_options basic_entity) ≡ codes "<ol>\n<li>\n<p>foo</p>\n<pre><code>bar\n</code></pre>\n<p>baz</p>\n<blockquote>\n<p>bam</p>\n</blockquote>\n</li>\n</ol>\n"
 unfolding blocks begin opens texts lazily enter keeps underlines
 item_with_everything = refl
+
+-- example 265
+nine_digits : written (document (codes "123456789. ok\n") no_options basic_entity) ≡ codes "<ol start=\"123456789\">\n<li>ok</li>\n</ol>\n"
+unfolding blocks begin opens texts lazily enter keeps underlines digits
+nine_digits = refl
+
+-- example 267
+zero : written (document (codes "0. ok\n") no_options basic_entity) ≡ codes "<ol start=\"0\">\n<li>ok</li>\n</ol>\n"
+unfolding blocks begin opens texts lazily enter keeps underlines digits
+zero = refl
+
+-- example 268
+leading_zeros : written (document (codes "003. ok\n") no_options basic_entity) ≡ codes "<ol start=\"3\">\n<li>ok</li>\n</ol>\n"
+unfolding blocks begin opens texts lazily enter keeps underlines digits
+leading_zeros = refl
 
 -- example 278
 empty_first_lines : written (document (codes "-\n  foo\n-\n  ```\n  bar\n  ```\n-\n      baz\n") no_options basic_entity) ≡ codes "<ul>\n<li>foo</li>\n<li>\n<pre><code>bar\n</code></pre>\n</li>\n<li>\n<pre><code>baz\n</code></pre>\n</li>\n</ul>\n"
@@ -266,3 +342,23 @@ inner_loose = refl
 outer_tight : written (document (codes "- a\n  - b\n  - c\n\n- d\n  - e\n  - f\n") no_options basic_entity) ≡ codes "<ul>\n<li>\n<p>a</p>\n<ul>\n<li>b</li>\n<li>c</li>\n</ul>\n</li>\n<li>\n<p>d</p>\n<ul>\n<li>e</li>\n<li>f</li>\n</ul>\n</li>\n</ul>\n"
 unfolding blocks begin opens texts lazily enter keeps underlines
 outer_tight = refl
+
+-- example 633
+hard_break : written (document (codes "foo  \nbaz\n") no_options basic_entity) ≡ codes "<p>foo<br />\nbaz</p>\n"
+unfolding blocks begin opens texts lazily enter keeps underlines
+hard_break = refl
+
+-- example 637
+hard_break_of_a_backslash : written (document (codes "foo\\\n     bar\n") no_options basic_entity) ≡ codes "<p>foo<br />\nbar</p>\n"
+unfolding blocks begin opens texts lazily enter keeps underlines
+hard_break_of_a_backslash = refl
+
+-- example 644
+backslash_at_the_end : written (document (codes "foo\\\n") no_options basic_entity) ≡ codes "<p>foo\\</p>\n"
+unfolding blocks begin opens texts lazily enter keeps underlines
+backslash_at_the_end = refl
+
+-- example 645
+spaces_at_the_end : written (document (codes "foo  \n") no_options basic_entity) ≡ codes "<p>foo</p>\n"
+unfolding blocks begin opens texts lazily enter keeps underlines
+spaces_at_the_end = refl
