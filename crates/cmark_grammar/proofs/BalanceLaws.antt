@@ -27,13 +27,13 @@ IsFit Silent = Unit {0}
 fit : (kind : BlockKind) → IsFit (read_as kind)
 fit Paragraph = tt
 fit TightParagraph = tt
-fit (Heading level) = tt
+fit (Heading level attributes) = tt
 fit ThematicBreak = tt
 fit IndentedCode = tt
 fit (FencedCode info) = tt
 fit HtmlBlock = tt
 fit (LinkDefinition reference) = tt
-fit BlockQuote = tt
+fit (BlockQuote alert) = tt
 fit (BlockList number tight) = tt
 fit ListItem = tt
 fit (Text bytes) = tt

@@ -1,5 +1,5 @@
 -- The readings of places where the standard is silent, or this profile's own: each met by a text.
-use Rattle.std.specs.Prelude.{◌≡◌, ℕ, List, [], ◌∷◌, codes}
+use Rattle.std.specs.Prelude.{◌≡◌, ℕ, List, [], ◌∷◌, codes, None}
 use Rattle.std.specs.Fmt.{digits}
 use Rattle.std.proofs.Common.{refl}
 use Rattle.cmark_grammar.specs.Leaves.{underlines}
@@ -143,7 +143,7 @@ cut_tab_item = refl
 
 -- what is left of a tab in code is a text of spaces that takes no byte
 cut_tab_code : outline (document (codes ">\t\tfoo\n") no_options basic_entity) ≡
-    node BlockQuote 0 7 ∷ node IndentedCode 3 7 ∷ node (OwnedText (codes "  ")) 3 3 ∷ node (Text (codes "foo\n")) 3 7 ∷ []
+    node (BlockQuote None) 0 7 ∷ node IndentedCode 3 7 ∷ node (OwnedText (codes "  ")) 3 3 ∷ node (Text (codes "foo\n")) 3 7 ∷ []
 unfolding blocks begin opens texts lazily enter keeps underlines
 cut_tab_code = refl
 

@@ -1,8 +1,7 @@
 -- The events of a document of blocks, in preorder: each with the range of its node.
-use Rattle.std.specs.Prelude.{List, [], ◌∷◌, ◌++◌, None}
+use Rattle.std.specs.Prelude.{List, [], ◌∷◌, ◌++◌}
 use Rattle.cmark_grammar.specs.Tag as tag
 use Rattle.cmark_grammar.specs.Tag.{Tag}
-use Rattle.cmark_grammar.specs.Attributes.{no_attributes}
 use Rattle.cmark_grammar.specs.CodeBlockKind.{Indented, Fenced}
 use Rattle.cmark_grammar.specs.TagEnd.{end_of}
 use Rattle.cmark_grammar.specs.Event as event
@@ -21,13 +20,13 @@ pub data Reads : Type 0 where
 abbrev pub read_as : BlockKind → Reads
 read_as Paragraph = Around tag.Paragraph
 read_as TightParagraph = Inside
-read_as (Heading level) = Around (tag.Heading level no_attributes)
+read_as (Heading level attributes) = Around (tag.Heading level attributes)
 read_as ThematicBreak = Alone Rule
 read_as IndentedCode = Around (tag.CodeBlock Indented)
 read_as (FencedCode info) = Around (tag.CodeBlock (Fenced info))
 read_as HtmlBlock = Around tag.HtmlBlock
 read_as (LinkDefinition reference) = Silent
-read_as BlockQuote = Around (tag.BlockQuote None)
+read_as (BlockQuote alert) = Around (tag.BlockQuote alert)
 read_as (BlockList number tight) = Around (tag.Listing number)
 read_as ListItem = Around tag.ListItem
 read_as (Text bytes) = Alone (event.Text bytes)
