@@ -11,9 +11,10 @@ pub record Reference : Type 0 where
   pub start : ℕ
   pub end : ℕ
 
--- what a node is. A paragraph that stands directly in an item of a tight list is no element of its own; a heading has its
--- attributes, a block quote its kind, if it is an alert, a list the number of its first item, if it is ordered. A text and
--- an HTML line stand as they are in the text; an owned text is what an entity stands for, or spaces that are left of a tab
+-- what a node is. A paragraph that stands directly in an item of a tight list is no element of its own; a heading has
+-- its attributes, a block quote its kind, if it is an alert, a list the number of its first item, if it is ordered. A
+-- text and an HTML line stand as they are in the text; an owned text is what an entity stands for, or spaces that are
+-- left of a tab
 pub data BlockKind : Type 0 where
   Paragraph : BlockKind
   TightParagraph : BlockKind
