@@ -1,5 +1,6 @@
 -- The readings of places where the standard is silent, or this profile's own: each met by a text.
-use Rattle.std.specs.Prelude.{◌≡◌, ℕ, List, [], ◌∷◌, codes}
+use Rattle.std.specs.Prelude.{◌≡◌, ℕ, List, [], ◌∷◌, codes, None}
+use Rattle.std.specs.Fmt.{digits}
 use Rattle.std.proofs.Common.{refl}
 use Rattle.cmark_grammar.specs.Leaves.{underlines}
 use Rattle.cmark_grammar.specs.Containers.{enter, keeps}
@@ -12,108 +13,108 @@ use Rattle.cmark_grammar.specs.Derivation.{document}
 use Rattle.cmark_grammar.proofs.BlockSamples.{written}
 
 -- directly behind a definition a lazy line begins a paragraph, and no definition
-lazy_line_behind_definition : written (document (codes "> [a]: /u\n[b]: /v\n\n[b]\n") no_options basic_entity) ≡ codes "<blockquote><p>[b]: /v</p></blockquote><p>[b]</p>"
+lazy_line_behind_definition : written (document (codes "> [a]: /u\n[b]: /v\n\n[b]\n") no_options basic_entity) ≡ codes "<blockquote>\n<p>[b]: /v</p>\n</blockquote>\n<p>[b]</p>\n"
 unfolding blocks begin opens texts lazily enter keeps underlines
 lazy_line_behind_definition = refl
 
 -- a definition takes no lazy line
-no_lazy_line_in_definition : written (document (codes "> [a]:\n/u\n") no_options basic_entity) ≡ codes "<blockquote><p>[a]:/u</p></blockquote>"
+no_lazy_line_in_definition : written (document (codes "> [a]:\n/u\n") no_options basic_entity) ≡ codes "<blockquote>\n<p>[a]:\n/u</p>\n</blockquote>\n"
 unfolding blocks begin opens texts lazily enter keeps underlines
 no_lazy_line_in_definition = refl
 
 -- nor one that could not go on with a paragraph
-break_in_definition : written (document (codes "[a]:\n***\n") no_options basic_entity) ≡ codes "<p>[a]:</p><hr />"
+break_in_definition : written (document (codes "[a]:\n***\n") no_options basic_entity) ≡ codes "<p>[a]:</p>\n<hr />\n"
 unfolding blocks begin opens texts lazily enter keeps underlines
 break_in_definition = refl
 
-underline_in_definition : written (document (codes "[a]:\n===\n") no_options basic_entity) ≡ codes "<h1>[a]:</h1>"
+underline_in_definition : written (document (codes "[a]:\n===\n") no_options basic_entity) ≡ codes "<h1>[a]:</h1>\n"
 unfolding blocks begin opens texts lazily enter keeps underlines
 underline_in_definition = refl
 
-blank_line_in_title : written (document (codes "[a]: /u \"x\n\ny\"\n") no_options basic_entity) ≡ codes "<p>[a]: /u &quot;x</p><p>y&quot;</p>"
+blank_line_in_title : written (document (codes "[a]: /u \"x\n\ny\"\n") no_options basic_entity) ≡ codes "<p>[a]: /u \"x</p>\n<p>y\"</p>\n"
 unfolding blocks begin opens texts lazily enter keeps underlines
 blank_line_in_title = refl
 
 -- a title that does not fit is left to a paragraph
-title_on_its_line : written (document (codes "[a]: /u\n\"x\" y\n") no_options basic_entity) ≡ codes "<p>&quot;x&quot; y</p>"
+title_on_its_line : written (document (codes "[a]: /u\n\"x\" y\n") no_options basic_entity) ≡ codes "<p>\"x\" y</p>\n"
 unfolding blocks begin opens texts lazily enter keeps underlines
 title_on_its_line = refl
 
-titles_over_lines : written (document (codes "[a]: /u 'x\n  y'\nz\n") no_options basic_entity) ≡ codes "<p>z</p>"
+titles_over_lines : written (document (codes "[a]: /u 'x\n  y'\nz\n") no_options basic_entity) ≡ codes "<p>z</p>\n"
 unfolding blocks begin opens texts lazily enter keeps underlines
 titles_over_lines = refl
 
 -- no paragraph is open behind a definition
-code_behind_definition : written (document (codes "[a]: /u\n    b\n") no_options basic_entity) ≡ codes "<pre><code>b</code></pre>"
+code_behind_definition : written (document (codes "[a]: /u\n    b\n") no_options basic_entity) ≡ codes "<pre><code>b\n</code></pre>\n"
 unfolding blocks begin opens texts lazily enter keeps underlines
 code_behind_definition = refl
 
-item_behind_definition : written (document (codes "[a]: /u\n2. b\n") no_options basic_entity) ≡ codes "<ol start=\"2\"><li>b</li></ol>"
-unfolding blocks begin opens texts lazily enter keeps underlines
+item_behind_definition : written (document (codes "[a]: /u\n2. b\n") no_options basic_entity) ≡ codes "<ol start=\"2\">\n<li>b</li>\n</ol>\n"
+unfolding blocks begin opens texts lazily enter keeps underlines digits
 item_behind_definition = refl
 
-html_behind_definition : written (document (codes "[a]: /u\n<b>\n") no_options basic_entity) ≡ codes "<b>"
+html_behind_definition : written (document (codes "[a]: /u\n<b>\n") no_options basic_entity) ≡ codes "<b>\n"
 unfolding blocks begin opens texts lazily enter keeps underlines
 html_behind_definition = refl
 
-definition_parts_lists : written (document (codes "- a\n\n[x]: /u\n- b\n") no_options basic_entity) ≡ codes "<ul><li>a</li></ul><ul><li>b</li></ul>"
+definition_parts_lists : written (document (codes "- a\n\n[x]: /u\n- b\n") no_options basic_entity) ≡ codes "<ul>\n<li>a</li>\n</ul>\n<ul>\n<li>b</li>\n</ul>\n"
 unfolding blocks begin opens texts lazily enter keeps underlines
 definition_parts_lists = refl
 
-comment_ends_in_its_start : written (document (codes "<!-->\nx\n") no_options basic_entity) ≡ codes "<!--><p>x</p>"
+comment_ends_in_its_start : written (document (codes "<!-->\nx\n") no_options basic_entity) ≡ codes "<!-->\n<p>x</p>\n"
 unfolding blocks begin opens texts lazily enter keeps underlines
 comment_ends_in_its_start = refl
 
-instruction_ends_in_its_start : written (document (codes "<?>\nx\n") no_options basic_entity) ≡ codes "<?><p>x</p>"
+instruction_ends_in_its_start : written (document (codes "<?>\nx\n") no_options basic_entity) ≡ codes "<?>\n<p>x</p>\n"
 unfolding blocks begin opens texts lazily enter keeps underlines
 instruction_ends_in_its_start = refl
 
 -- no HTML block begins with a closing tag of such a name
-closing_tag_of_code : written (document (codes "</pre>\n") no_options basic_entity) ≡ codes "<p>&lt;/pre&gt;</p>"
+closing_tag_of_code : written (document (codes "</pre>\n") no_options basic_entity) ≡ codes "<p>&lt;/pre&gt;</p>\n"
 unfolding blocks begin opens texts lazily enter keeps underlines
 closing_tag_of_code = refl
 
-lone_tag_interrupts_not : written (document (codes "a\n<b>\n") no_options basic_entity) ≡ codes "<p>a&lt;b&gt;</p>"
+lone_tag_interrupts_not : written (document (codes "a\n<b>\n") no_options basic_entity) ≡ codes "<p>a\n&lt;b&gt;</p>\n"
 unfolding blocks begin opens texts lazily enter keeps underlines
 lone_tag_interrupts_not = refl
 
-backslash_at_the_end : written (document (codes "a\\\n") no_options basic_entity) ≡ codes "<p>a\\</p>"
+backslash_at_the_end : written (document (codes "a\\\n") no_options basic_entity) ≡ codes "<p>a\\</p>\n"
 unfolding blocks begin opens texts lazily enter keeps underlines
 backslash_at_the_end = refl
 
-hard_breaks : written (document (codes "a  \nb\\\nc\\\\\nd\n") no_options basic_entity) ≡ codes "<p>a<br />b<br />c\\d</p>"
+hard_breaks : written (document (codes "a  \nb\\\nc\\\\\nd\n") no_options basic_entity) ≡ codes "<p>a<br />\nb<br />\nc\\\nd</p>\n"
 unfolding blocks begin opens texts lazily enter keeps underlines
 hard_breaks = refl
 
-escapes_and_entities : written (document (codes "\\*a&amp;\\b&x;\\&lt;\n") no_options basic_entity) ≡ codes "<p>*a&amp;\\b&amp;x;&amp;lt;</p>"
+escapes_and_entities : written (document (codes "\\*a&amp;\\b&x;\\&lt;\n") no_options basic_entity) ≡ codes "<p>*a&amp;\\b&amp;x;&amp;lt;</p>\n"
 unfolding blocks begin opens texts lazily enter keeps underlines
 escapes_and_entities = refl
 
 -- a lazy line begins no list
-lazy_marker : written (document (codes "> a\n    - b\n") no_options basic_entity) ≡ codes "<blockquote><p>a- b</p></blockquote>"
+lazy_marker : written (document (codes "> a\n    - b\n") no_options basic_entity) ≡ codes "<blockquote>\n<p>a\n- b</p>\n</blockquote>\n"
 unfolding blocks begin opens texts lazily enter keeps underlines
 lazy_marker = refl
 
 -- an empty item interrupts a paragraph further in
-empty_item_behind_quote : written (document (codes "> a\n-\n") no_options basic_entity) ≡ codes "<blockquote><p>a</p></blockquote><ul><li></li></ul>"
+empty_item_behind_quote : written (document (codes "> a\n-\n") no_options basic_entity) ≡ codes "<blockquote>\n<p>a</p>\n</blockquote>\n<ul>\n<li></li>\n</ul>\n"
 unfolding blocks begin opens texts lazily enter keeps underlines
 empty_item_behind_quote = refl
 
-empty_item_in_paragraph : written (document (codes "a\n*\n") no_options basic_entity) ≡ codes "<p>a*</p>"
+empty_item_in_paragraph : written (document (codes "a\n*\n") no_options basic_entity) ≡ codes "<p>a\n*</p>\n"
 unfolding blocks begin opens texts lazily enter keeps underlines
 empty_item_in_paragraph = refl
 
 -- nine digits at most
-long_number : written (document (codes "1234567890. a\n") no_options basic_entity) ≡ codes "<p>1234567890. a</p>"
+long_number : written (document (codes "1234567890. a\n") no_options basic_entity) ≡ codes "<p>1234567890. a</p>\n"
 unfolding blocks begin opens texts lazily enter keeps underlines
 long_number = refl
 
-quote_in_item_ends_code : written (document (codes "- a\n\n      b\n\n\n  c\n") no_options basic_entity) ≡ codes "<ul><li><p>a</p><pre><code>b</code></pre><p>c</p></li></ul>"
+quote_in_item_ends_code : written (document (codes "- a\n\n      b\n\n\n  c\n") no_options basic_entity) ≡ codes "<ul>\n<li>\n<p>a</p>\n<pre><code>b\n</code></pre>\n<p>c</p>\n</li>\n</ul>\n"
 unfolding blocks begin opens texts lazily enter keeps underlines
 quote_in_item_ends_code = refl
 
 -- CR LF and lone CR end lines too
-line_ends : written (document (97 ∷ 13 ∷ 10 ∷ 98 ∷ 13 ∷ 13 ∷ 35 ∷ 32 ∷ 99 ∷ 13 ∷ []) no_options basic_entity) ≡ codes "<p>ab</p><h1>c</h1>"
+line_ends : written (document (97 ∷ 13 ∷ 10 ∷ 98 ∷ 13 ∷ 13 ∷ 35 ∷ 32 ∷ 99 ∷ 13 ∷ []) no_options basic_entity) ≡ codes "<p>a\nb</p>\n<h1>c</h1>\n"
 unfolding blocks begin opens texts lazily enter keeps underlines
 line_ends = refl
 
@@ -142,7 +143,7 @@ cut_tab_item = refl
 
 -- what is left of a tab in code is a text of spaces that takes no byte
 cut_tab_code : outline (document (codes ">\t\tfoo\n") no_options basic_entity) ≡
-    node BlockQuote 0 7 ∷ node IndentedCode 3 7 ∷ node (OwnedText (codes "  ")) 3 3 ∷ node (Text (codes "foo\n")) 3 7 ∷ []
+    node (BlockQuote None) 0 7 ∷ node IndentedCode 3 7 ∷ node (OwnedText (codes "  ")) 3 3 ∷ node (Text (codes "foo\n")) 3 7 ∷ []
 unfolding blocks begin opens texts lazily enter keeps underlines
 cut_tab_code = refl
 

@@ -3,6 +3,7 @@
 use Rattle.std.proofs.Common.{◌≡◌, ℕ, Bool, true, false, ◌==◌, ◌&&◌, ◌||◌, not, List, refl, ap, ◌∙◌, subst, Option, Some, None, true≢false, arith}
 use Rattle.std.specs.Prelude.{if◌then◌else◌}
 use Rattle.cmark_grammar.specs.Answers.{Lookup}
+use Rattle.cmark_grammar.specs.Attributes.{no_attributes}
 use Rattle.cmark_grammar.specs.Rows.{Row, start_of, past_of, begin_of}
 use Rattle.cmark_grammar.specs.Containers.{Quote, Item}
 use Rattle.cmark_grammar.specs.Openings.{Leaf, ThematicBreak as ThematicBreakLeaf, AtxHeading as AtxHeadingLeaf, IndentedCode as IndentedCodeLeaf, FencedCode as FencedCodeLeaf, HtmlBlock as HtmlBlockLeaf, LinkDefinition as LinkDefinitionLeaf}
@@ -109,9 +110,9 @@ module _ (text : List ℕ) (lookup : Lookup) where
   document-join direct (Some before) NoBlocks b p = list-off direct before b p
   document-join direct before (BlankLine line after) b p = document-join direct before after b p
   document-join direct before (ParagraphBlock first more after) b p = ap (Node (node (paragraph_kind direct) (start_of first) (past_of first more)) (paragraph_tokens lookup first more)) (document-join direct None after b p)
-  document-join direct before (SetextHeading level first more underline after) b p = ap (Node (node (Heading level) (start_of first) underline.past) (paragraph_tokens lookup first more)) (document-join direct None after b p)
+  document-join direct before (SetextHeading level first more underline after) b p = ap (Node (node (Heading level no_attributes) (start_of first) underline.past) (paragraph_tokens lookup first more)) (document-join direct None after b p)
   document-join direct before (LeafBlock leaf first more after) b p = ap (leaf_then text lookup leaf first more) (document-join direct None after b p) ∙ leaf-join text lookup leaf first more (document_of text lookup direct None after) (document_of text lookup direct None b)
-  document-join direct before (ContainerBlock Quote first more inside after) b p = ap (Node (node BlockQuote (start_of first) (past_of first more)) (document_of text lookup false None inside)) (document-join direct None after b p)
+  document-join direct before (ContainerBlock Quote first more inside after) b p = ap (Node (node (BlockQuote None) (start_of first) (past_of first more)) (document_of text lookup false None inside)) (document-join direct None after b p)
   document-join direct before (ContainerBlock (Item mark number width) first more inside after) b p =
       let t = tight_behind before mark inside after in
       let item = node ListItem (begin_of first) (past_of first more) in

@@ -1,4 +1,6 @@
+pub mod BalanceLaws
 pub mod BlockDocumentOne
+pub mod BlockEvents
 pub mod BlockLaws
 pub mod BlockReadings
 pub mod BlockSamples

@@ -21,33 +21,33 @@ refused text wrong differs same d derived is =
     true≢false (sym same ∙ sym (ap (λ w. bytes_eq w wrong) right) ∙ differs)
 
 -- a heading of seven `#`
-pub seven_hashes : Refused (codes "####### a\n") (codes "<h6># a</h6>")
+pub seven_hashes : Refused (codes "####### a\n") (codes "<h6># a</h6>\n")
 unfolding blocks begin opens texts lazily enter keeps underlines
-seven_hashes = refused (codes "####### a\n") (codes "<h6># a</h6>") refl refl
+seven_hashes = refused (codes "####### a\n") (codes "<h6># a</h6>\n") refl refl
 
 -- a lazy line opens no list inside the quote
-pub lazy_list : Refused (codes "> - a\n- b\n") (codes "<blockquote><ul><li>a</li><li>b</li></ul></blockquote>")
+pub lazy_list : Refused (codes "> - a\n- b\n") (codes "<blockquote>\n<ul>\n<li>a</li>\n<li>b</li>\n</ul>\n</blockquote>\n")
 unfolding blocks begin opens texts lazily enter keeps underlines
-lazy_list = refused (codes "> - a\n- b\n") (codes "<blockquote><ul><li>a</li><li>b</li></ul></blockquote>") refl refl
+lazy_list = refused (codes "> - a\n- b\n") (codes "<blockquote>\n<ul>\n<li>a</li>\n<li>b</li>\n</ul>\n</blockquote>\n") refl refl
 
 -- a shorter fence closes nothing
-pub short_closer : Refused (codes "````\na\n```\nb\n````\n") (codes "<pre><code>a</code></pre><p>b</p><pre><code></code></pre>")
+pub short_closer : Refused (codes "````\na\n```\nb\n````\n") (codes "<pre><code>a\n</code></pre>\n<p>b</p>\n<pre><code></code></pre>\n")
 unfolding blocks begin opens texts lazily enter keeps underlines
-short_closer = refused (codes "````\na\n```\nb\n````\n") (codes "<pre><code>a</code></pre><p>b</p><pre><code></code></pre>") refl refl
+short_closer = refused (codes "````\na\n```\nb\n````\n") (codes "<pre><code>a\n</code></pre>\n<p>b</p>\n<pre><code></code></pre>\n") refl refl
 
 -- neighbouring items of one character are one list
-pub parted_lists : Refused (codes "- a\n\n- b\n") (codes "<ul><li>a</li></ul><ul><li>b</li></ul>")
+pub parted_lists : Refused (codes "- a\n\n- b\n") (codes "<ul>\n<li>a</li>\n</ul>\n<ul>\n<li>b</li>\n</ul>\n")
 unfolding blocks begin opens texts lazily enter keeps underlines
-parted_lists = refused (codes "- a\n\n- b\n") (codes "<ul><li>a</li></ul><ul><li>b</li></ul>") refl refl
+parted_lists = refused (codes "- a\n\n- b\n") (codes "<ul>\n<li>a</li>\n</ul>\n<ul>\n<li>b</li>\n</ul>\n") refl refl
 
 -- items with a blank line between them are loose
-pub loose_called_tight : Refused (codes "- a\n\n- b\n") (codes "<ul><li>a</li><li>b</li></ul>")
+pub loose_called_tight : Refused (codes "- a\n\n- b\n") (codes "<ul>\n<li>a</li>\n<li>b</li>\n</ul>\n")
 unfolding blocks begin opens texts lazily enter keeps underlines
-loose_called_tight = refused (codes "- a\n\n- b\n") (codes "<ul><li>a</li><li>b</li></ul>") refl refl
+loose_called_tight = refused (codes "- a\n\n- b\n") (codes "<ul>\n<li>a</li>\n<li>b</li>\n</ul>\n") refl refl
 
-pub tight_called_loose : Refused (codes "- a\n- b\n") (codes "<ul><li><p>a</p></li><li><p>b</p></li></ul>")
+pub tight_called_loose : Refused (codes "- a\n- b\n") (codes "<ul>\n<li>\n<p>a</p>\n</li>\n<li>\n<p>b</p>\n</li>\n</ul>\n")
 unfolding blocks begin opens texts lazily enter keeps underlines
-tight_called_loose = refused (codes "- a\n- b\n") (codes "<ul><li><p>a</p></li><li><p>b</p></li></ul>") refl refl
+tight_called_loose = refused (codes "- a\n- b\n") (codes "<ul>\n<li>\n<p>a</p>\n</li>\n<li>\n<p>b</p>\n</li>\n</ul>\n") refl refl
 
 -- no title holds a blank line
 pub blank_line_in_title : Refused (codes "[a]: /u \"x\n\ny\"\n") (codes "")
@@ -55,26 +55,26 @@ unfolding blocks begin opens texts lazily enter keeps underlines
 blank_line_in_title = refused (codes "[a]: /u \"x\n\ny\"\n") (codes "") refl refl
 
 -- an item numbered 2 interrupts no paragraph
-pub number_interrupts : Refused (codes "a\n2. b\n") (codes "<p>a</p><ol start=\"2\"><li>b</li></ol>")
+pub number_interrupts : Refused (codes "a\n2. b\n") (codes "<p>a</p>\n<ol start=\"2\">\n<li>b</li>\n</ol>\n")
 unfolding blocks begin opens texts lazily enter keeps underlines
-number_interrupts = refused (codes "a\n2. b\n") (codes "<p>a</p><ol start=\"2\"><li>b</li></ol>") refl refl
+number_interrupts = refused (codes "a\n2. b\n") (codes "<p>a</p>\n<ol start=\"2\">\n<li>b</li>\n</ol>\n") refl refl
 
 -- nor does indented code
-pub code_interrupts : Refused (codes "a\n    b\n") (codes "<p>a</p><pre><code>b</code></pre>")
+pub code_interrupts : Refused (codes "a\n    b\n") (codes "<p>a</p>\n<pre><code>b\n</code></pre>\n")
 unfolding blocks begin opens texts lazily enter keeps underlines
-code_interrupts = refused (codes "a\n    b\n") (codes "<p>a</p><pre><code>b</code></pre>") refl refl
+code_interrupts = refused (codes "a\n    b\n") (codes "<p>a</p>\n<pre><code>b\n</code></pre>\n") refl refl
 
 -- a lazy line is no underline
-pub lazy_heading : Refused (codes "> a\n===\n") (codes "<blockquote><h1>a</h1></blockquote>")
+pub lazy_heading : Refused (codes "> a\n===\n") (codes "<blockquote>\n<h1>a</h1>\n</blockquote>\n")
 unfolding blocks begin opens texts lazily enter keeps underlines
-lazy_heading = refused (codes "> a\n===\n") (codes "<blockquote><h1>a</h1></blockquote>") refl refl
+lazy_heading = refused (codes "> a\n===\n") (codes "<blockquote>\n<h1>a</h1>\n</blockquote>\n") refl refl
 
 -- blank lines at the end belong to no indented code
-pub trailing_blank_in_code : Refused (codes "    a\n\nb\n") (codes "<pre><code>a</code></pre><pre><code></code></pre><p>b</p>")
+pub trailing_blank_in_code : Refused (codes "    a\n\nb\n") (codes "<pre><code>a\n</code></pre>\n<pre><code></code></pre>\n<p>b</p>\n")
 unfolding blocks begin opens texts lazily enter keeps underlines
-trailing_blank_in_code = refused (codes "    a\n\nb\n") (codes "<pre><code>a</code></pre><pre><code></code></pre><p>b</p>") refl refl
+trailing_blank_in_code = refused (codes "    a\n\nb\n") (codes "<pre><code>a\n</code></pre>\n<pre><code></code></pre>\n<p>b</p>\n") refl refl
 
 -- a blank line parts two quotes
-pub quote_over_blank : Refused (codes "> a\n\n> b\n") (codes "<blockquote><p>a</p><p>b</p></blockquote>")
+pub quote_over_blank : Refused (codes "> a\n\n> b\n") (codes "<blockquote>\n<p>a</p>\n<p>b</p>\n</blockquote>\n")
 unfolding blocks begin opens texts lazily enter keeps underlines
-quote_over_blank = refused (codes "> a\n\n> b\n") (codes "<blockquote><p>a</p><p>b</p></blockquote>") refl refl
+quote_over_blank = refused (codes "> a\n\n> b\n") (codes "<blockquote>\n<p>a</p>\n<p>b</p>\n</blockquote>\n") refl refl

@@ -1,5 +1,7 @@
 -- Documents of blocks with their tokens: ordered trees (CommonMark 3).
 use Rattle.std.specs.Prelude.{ℕ, Bool, List, [], ◌∷◌, ◌++◌, Option}
+use Rattle.cmark_grammar.specs.Attributes.{Attributes}
+use Rattle.cmark_grammar.specs.BlockQuoteKind.{BlockQuoteKind}
 
 -- a link reference definition: its label's normal form, its destination and title, and where its text begins and ends
 pub record Reference : Type 0 where
@@ -9,19 +11,20 @@ pub record Reference : Type 0 where
   pub start : ℕ
   pub end : ℕ
 
--- what a node is. A paragraph that stands directly in an item of a tight list is no element of its own; a list has the
--- number of its first item, if it is ordered. A text and an HTML line stand as they are in the text; an owned text is
--- what an entity stands for, or spaces that are left of a tab
+-- what a node is. A paragraph that stands directly in an item of a tight list is no element of its own; a heading has
+-- its attributes, a block quote its kind, if it is an alert, a list the number of its first item, if it is ordered. A
+-- text and an HTML line stand as they are in the text; an owned text is what an entity stands for, or spaces that are
+-- left of a tab
 pub data BlockKind : Type 0 where
   Paragraph : BlockKind
   TightParagraph : BlockKind
-  Heading : (level : ℕ) → BlockKind
+  Heading : (level : ℕ) → (attributes : Attributes) → BlockKind
   ThematicBreak : BlockKind
   IndentedCode : BlockKind
   FencedCode : (info : List ℕ) → BlockKind
   HtmlBlock : BlockKind
   LinkDefinition : (reference : Reference) → BlockKind
-  BlockQuote : BlockKind
+  BlockQuote : (alert : Option BlockQuoteKind) → BlockKind
   BlockList : (number : Option ℕ) → (tight : Bool) → BlockKind
   ListItem : BlockKind
   Text : (bytes : List ℕ) → BlockKind

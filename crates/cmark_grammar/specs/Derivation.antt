@@ -2,6 +2,7 @@
 -- leaves is read.
 use Rattle.std.specs.Prelude.{◌≡◌, ℕ, Bool, true, false, if◌then◌else◌, List, [], ◌∷◌, Option, Some, None}
 use Rattle.cmark_grammar.specs.Answers.{Lookup}
+use Rattle.cmark_grammar.specs.Attributes.{no_attributes}
 use Rattle.cmark_grammar.specs.Options.{Options}
 use Rattle.cmark_grammar.specs.Rows.{Row, rows, first_place, begin_of, start_of, past_of}
 use Rattle.cmark_grammar.specs.LinkDefinitions.{Definition, normal_form}
@@ -36,7 +37,7 @@ reference_of lookup definition start end = record {
 abbrev pub leaf_then : List ℕ → Lookup → Leaf → Row → List Row → BlockDocument → BlockDocument
 leaf_then text lookup ThematicBreakLeaf first more after = Node (node ThematicBreak (start_of first) (past_of first more)) Nil after
 leaf_then text lookup (AtxHeadingLeaf level) first more after =
-    Node (node (Heading level) (start_of first) (past_of first more)) (heading_tokens lookup level first) after
+    Node (node (Heading level no_attributes) (start_of first) (past_of first more)) (heading_tokens lookup level first) after
 leaf_then text lookup IndentedCodeLeaf first more after =
     Node (node IndentedCode (first_place first.stop (code_columns 4 first)) (past_of first more)) (code_tokens text 4 (first ∷ more)) after
 leaf_then text lookup (FencedCodeLeaf fence) first more after =
@@ -65,10 +66,10 @@ document_of text lookup direct list (BlankLine line after) = document_of text lo
 document_of text lookup direct list (ParagraphBlock first more after) =
     Node (node (paragraph_kind direct) (start_of first) (past_of first more)) (paragraph_tokens lookup first more) (document_of text lookup direct None after)
 document_of text lookup direct list (SetextHeading level first more underline after) =
-    Node (node (Heading level) (start_of first) underline.past) (paragraph_tokens lookup first more) (document_of text lookup direct None after)
+    Node (node (Heading level no_attributes) (start_of first) underline.past) (paragraph_tokens lookup first more) (document_of text lookup direct None after)
 document_of text lookup direct list (LeafBlock leaf first more after) = leaf_then text lookup leaf first more (document_of text lookup direct None after)
 document_of text lookup direct list (ContainerBlock Quote first more inside after) =
-    Node (node BlockQuote (start_of first) (past_of first more)) (document_of text lookup false None inside) (document_of text lookup direct None after)
+    Node (node (BlockQuote None) (start_of first) (past_of first more)) (document_of text lookup false None inside) (document_of text lookup direct None after)
 document_of text lookup direct list (ContainerBlock (Item mark number width) first more inside after) =
     let tight = tight_behind list mark inside after in
     item_then (goes_on mark after) number tight (node ListItem (begin_of first) (past_of first more)) (document_of text lookup tight None inside)

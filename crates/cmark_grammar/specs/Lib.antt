@@ -1,8 +1,10 @@
 pub mod Alignment
 pub mod Answers
 pub mod Attributes
+pub mod Balance
 pub mod BlockDocument
 pub mod BlockQuoteKind
+pub mod BlockReading
 pub mod Blocks
 pub mod BlocksByLine
 pub mod BlocksModel

@@ -1,12 +1,15 @@
 //! Theorems over the block grammar, each the contract of a function that does nothing.
 
-ghost use Rattle.std.specs.Prelude.{◌≡◌, ℕ, false, ◌*◌, ◌≤◌, List, length, IsUtf8, IsCharBoundary};
+ghost use Rattle.std.specs.Prelude.{◌≡◌, ℕ, false, ◌*◌, ◌≤◌, List, length, map, IsUtf8, IsCharBoundary};
 ghost use Rattle.cmark_grammar.specs.Answers.{Lookup};
+ghost use Rattle.cmark_grammar.specs.Balance.{Balanced};
 ghost use Rattle.cmark_grammar.specs.BlockDocument.{BlockDocument, Reference};
+ghost use Rattle.cmark_grammar.specs.BlockReading.{block_reading};
 ghost use Rattle.cmark_grammar.specs.Blocks.{Blocks, Body};
 ghost use Rattle.cmark_grammar.specs.BlocksByLine.{blocks_by_line};
 ghost use Rattle.cmark_grammar.specs.BlocksModel.{blocks};
 ghost use Rattle.cmark_grammar.specs.Derivation.{Derives, document};
+ghost use Rattle.cmark_grammar.specs.Event.{Ranged};
 ghost use Rattle.cmark_grammar.specs.Options.{Options};
 ghost use Rattle.cmark_grammar.specs.Ranges.{AllAt, HasSlices, InOrder, count_nodes};
 ghost use Rattle.cmark_grammar.specs.References.{EachOnce, first_with, table};
@@ -33,6 +36,17 @@ pub fn block_document_is_derived()
 pub fn one_block_document()
     ensures { (text : List ℕ) (options : Options) (lookup : Lookup) (first second : BlockDocument)
         → Derives text options lookup first → Derives text options lookup second → first ≡ second }
+{}
+
+/// A text has one reading: two documents that it derives are read as the same events with the same ranges.
+pub fn one_block_reading()
+    ensures { (text : List ℕ) (options : Options) (lookup : Lookup) (first second : BlockDocument)
+        → Derives text options lookup first → Derives text options lookup second → block_reading first ≡ block_reading second }
+{}
+
+/// The events that a document is read as are balanced: each start has its end behind it, of the same tag.
+pub fn block_reading_is_balanced()
+    ensures { (document : BlockDocument) → Balanced (map Ranged.event (block_reading document)) }
 {}
 
 /// Judged line by line, with blank lines that wait until it is seen whether they belong to code, the blocks are the same.

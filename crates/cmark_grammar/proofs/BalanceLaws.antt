@@ -1,0 +1,57 @@
+-- The events of a document of blocks are balanced.
+use Rattle.std.proofs.Common.{List, [], ◌∷◌, ◌++◌, sym, subst}
+use Rattle.std.specs.Prelude.{map}
+use Rattle.std.proofs.lemmas.List.{append_assoc, map-append}
+use Rattle.cmark_grammar.specs.TagEnd.{end_of}
+use Rattle.cmark_grammar.specs.Event.{Event, Start, End, Ranged}
+use Rattle.cmark_grammar.specs.BlockDocument.{BlockKind, Paragraph, TightParagraph, Heading, ThematicBreak, IndentedCode, FencedCode, HtmlBlock, LinkDefinition, BlockQuote, BlockList, ListItem, Text, OwnedText, Html, SoftBreak, HardBreak, BlockNode, BlockDocument, Nil, Node}
+use Rattle.cmark_grammar.specs.BlockReading.{Reads, Around, Inside, Alone, Silent, read_as, node_events, block_reading}
+use Rattle.cmark_grammar.specs.Balance.{IsSingle, Balanced, Nothing, Single, Element}
+
+abbrev events : List Ranged → List Event
+events rs = map Ranged.event rs
+
+pub balanced-append : (first second : List Event) → Balanced first → Balanced second → Balanced (first ++ second)
+balanced-append _ second Nothing b = b
+balanced-append _ second (Single event after single a) b = Single event (after ++ second) single (balanced-append after second a b)
+balanced-append _ second (Element tag inside after i a) b =
+    subst (λ es. Balanced (Start tag ∷ es)) (sym (append_assoc inside (End (end_of tag) ∷ after) second)) (Element tag inside (after ++ second) i (balanced-append after second a b))
+
+-- an event of its own is neither a start nor an end
+abbrev IsFit : Reads → Type 0
+IsFit (Around tag) = Unit {0}
+IsFit Inside = Unit {0}
+IsFit (Alone event) = IsSingle event
+IsFit Silent = Unit {0}
+
+fit : (kind : BlockKind) → IsFit (read_as kind)
+fit Paragraph = tt
+fit TightParagraph = tt
+fit (Heading level attributes) = tt
+fit ThematicBreak = tt
+fit IndentedCode = tt
+fit (FencedCode info) = tt
+fit HtmlBlock = tt
+fit (LinkDefinition reference) = tt
+fit (BlockQuote alert) = tt
+fit (BlockList number tight) = tt
+fit ListItem = tt
+fit (Text bytes) = tt
+fit (OwnedText bytes) = tt
+fit (Html bytes) = tt
+fit SoftBreak = tt
+fit HardBreak = tt
+
+node-balanced : (reads : Reads) (node : BlockNode) (inside : List Ranged) → IsFit reads → Balanced (events inside) → Balanced (events (node_events reads node inside))
+node-balanced (Around tag) node inside fits b =
+    subst (λ es. Balanced (Start tag ∷ es)) (sym (map-append Ranged.event inside (record { event = End (end_of tag); start = node.start; end = node.end } ∷ []))) (Element tag (events inside) [] b Nothing)
+node-balanced Inside node inside fits b = b
+node-balanced (Alone event) node inside fits b = Single event [] fits Nothing
+node-balanced Silent node inside fits b = Nothing
+
+pub reading-balanced : (document : BlockDocument) → Balanced (events (block_reading document))
+reading-balanced Nil = Nothing
+reading-balanced (Node node inside after) =
+    subst Balanced (sym (map-append Ranged.event (node_events (read_as node.kind) node (block_reading inside)) (block_reading after)))
+    (balanced-append (events (node_events (read_as node.kind) node (block_reading inside))) (events (block_reading after))
+        (node-balanced (read_as node.kind) node (block_reading inside) (fit node.kind) (reading-balanced inside)) (reading-balanced after))

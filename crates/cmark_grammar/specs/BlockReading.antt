@@ -1,0 +1,49 @@
+-- The events of a document of blocks, in preorder: each with the range of its node.
+use Rattle.std.specs.Prelude.{List, [], ◌∷◌, ◌++◌}
+use Rattle.cmark_grammar.specs.Tag as tag
+use Rattle.cmark_grammar.specs.Tag.{Tag}
+use Rattle.cmark_grammar.specs.CodeBlockKind.{Indented, Fenced}
+use Rattle.cmark_grammar.specs.TagEnd.{end_of}
+use Rattle.cmark_grammar.specs.Event as event
+use Rattle.cmark_grammar.specs.Event.{Event, Start, End, Rule, Ranged}
+use Rattle.cmark_grammar.specs.BlockDocument.{BlockKind, Paragraph, TightParagraph, Heading, ThematicBreak, IndentedCode, FencedCode, HtmlBlock, LinkDefinition, BlockQuote, BlockList, ListItem, Text, OwnedText, Html, SoftBreak, HardBreak, BlockNode, BlockDocument, Nil, Node}
+
+-- how a node is read: as an element around what is inside it, as what is inside it alone, as one event, or not at all
+pub data Reads : Type 0 where
+  Around : Tag → Reads
+  Inside : Reads
+  Alone : Event → Reads
+  Silent : Reads
+
+-- a paragraph of a tight list is read as what is inside it (CommonMark 5.3), a link reference definition not at all
+-- (CommonMark 4.7)
+abbrev pub read_as : BlockKind → Reads
+read_as Paragraph = Around tag.Paragraph
+read_as TightParagraph = Inside
+read_as (Heading level attributes) = Around (tag.Heading level attributes)
+read_as ThematicBreak = Alone Rule
+read_as IndentedCode = Around (tag.CodeBlock Indented)
+read_as (FencedCode info) = Around (tag.CodeBlock (Fenced info))
+read_as HtmlBlock = Around tag.HtmlBlock
+read_as (LinkDefinition reference) = Silent
+read_as (BlockQuote alert) = Around (tag.BlockQuote alert)
+read_as (BlockList number tight) = Around (tag.Listing number)
+read_as ListItem = Around tag.ListItem
+read_as (Text bytes) = Alone (event.Text bytes)
+read_as (OwnedText bytes) = Alone (event.Text bytes)
+read_as (Html bytes) = Alone (event.Html bytes)
+read_as SoftBreak = Alone event.SoftBreak
+read_as HardBreak = Alone event.HardBreak
+
+abbrev pub over : BlockNode → Event → Ranged
+over node event = record { event = event; start = node.start; end = node.end }
+
+abbrev pub node_events : Reads → BlockNode → List Ranged → List Ranged
+node_events (Around tag) node inside = over node (Start tag) ∷ (inside ++ (over node (End (end_of tag)) ∷ []))
+node_events Inside node inside = inside
+node_events (Alone event) node inside = over node event ∷ []
+node_events Silent node inside = []
+
+abbrev pub block_reading : BlockDocument → List Ranged
+block_reading Nil = []
+block_reading (Node node inside after) = node_events (read_as node.kind) node (block_reading inside) ++ block_reading after
