@@ -5,7 +5,8 @@ use Rattle.cmark_grammar.specs.Answers.{Lookup}
 use Rattle.cmark_grammar.specs.Attributes.{no_attributes}
 use Rattle.cmark_grammar.specs.Options.{Options}
 use Rattle.cmark_grammar.specs.Rows.{Row, rows, first_place, begin_of, start_of, past_of}
-use Rattle.cmark_grammar.specs.LinkDefinitions.{Definition, normal_form}
+use Rattle.cmark_grammar.specs.Labels.{normal_form}
+use Rattle.cmark_grammar.specs.LinkDefinitions.{Definition}
 use Rattle.cmark_grammar.specs.Containers.{Quote, Item}
 use Rattle.cmark_grammar.specs.Openings.{Leaf, ThematicBreak as ThematicBreakLeaf, AtxHeading as AtxHeadingLeaf, IndentedCode as IndentedCodeLeaf, FencedCode as FencedCodeLeaf, HtmlBlock as HtmlBlockLeaf, LinkDefinition as LinkDefinitionLeaf}
 use Rattle.cmark_grammar.specs.Blocks.{Blocks, Nil as NoBlocks, BlankLine, Paragraph as ParagraphBlock, SetextHeading, LeafBlock, ContainerBlock, Body}

@@ -48,29 +48,6 @@ label_if (Some found) = if is_label found.bytes then Some found else None
 abbrev pub label_in : List ℕ → Option Found
 label_in bs = label_if (up_to false 93 91 true bs)
 
--- the normal form of a label: white space at both ends dropped, and each run of it between one space
-pub data AtWhite : Type 0 where
-  Front : AtWhite
-  Within : AtWhite
-  Behind : AtWhite
-
-abbrev pub at_white : AtWhite → ℕ → AtWhite
-at_white Front b = if is_white b then Front else Within
-at_white Within b = if is_white b then Behind else Within
-at_white Behind b = if is_white b then Behind else Within
-
-abbrev pub normal_byte : AtWhite → ℕ → List ℕ
-normal_byte Front b = if is_white b then [] else b ∷ []
-normal_byte Within b = if is_white b then [] else b ∷ []
-normal_byte Behind b = if is_white b then [] else 32 ∷ b ∷ []
-
-abbrev pub normal_from : AtWhite → List ℕ → List ℕ
-normal_from state [] = []
-normal_from state (b ∷ bs) = normal_byte state b ++ normal_from (at_white state b) bs
-
-abbrev pub normal_form : List ℕ → List ℕ
-normal_form bs = normal_from Front bs
-
 -- a bare destination: up to an ASCII control, a space, or a closing parenthesis without its opening one; parentheses are
 -- balanced, 32 deep at most, or escaped (CommonMark 6.3)
 abbrev pub ends_bare : ℕ → Bool
