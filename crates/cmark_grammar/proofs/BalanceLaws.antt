@@ -54,4 +54,4 @@ reading-balanced Nil = Nothing
 reading-balanced (Node node inside after) =
     subst Balanced (sym (map-append Ranged.event (node_events (read_as node.kind) node (block_reading inside)) (block_reading after)))
     (balanced-append (events (node_events (read_as node.kind) node (block_reading inside))) (events (block_reading after))
-        (node-balanced (read_as node.kind) node (block_reading inside) (fit node.kind) (reading-balanced inside)) (reading-balanced after))
+    (node-balanced (read_as node.kind) node (block_reading inside) (fit node.kind) (reading-balanced inside)) (reading-balanced after))

@@ -15,65 +15,65 @@ abbrev Range : Type 0
 Range = ℕ × ℕ
 
 abbrev range_of : Ranged → Range
-range_of ranged = (ranged.start , ranged.end)
+range_of ranged = (ranged.start, ranged.end)
 
 abbrev ranges_of : List ℕ → List Range
 ranges_of text = map range_of (block_reading (document text no_options basic_entity))
 
 -- a rule is one event
-thematic_break : ranges_of (codes " ***\n") ≡ (1 , 5) ∷ []
+thematic_break : ranges_of (codes " ***\n") ≡ (1, 5) ∷ []
 unfolding blocks begin opens texts lazily enter keeps underlines
 thematic_break = refl
 
 -- both events of an element have the range of its node
-atx_heading : ranges_of (codes "## a #\n") ≡ (0 , 7) ∷ (3 , 4) ∷ (0 , 7) ∷ []
+atx_heading : ranges_of (codes "## a #\n") ≡ (0, 7) ∷ (3, 4) ∷ (0, 7) ∷ []
 unfolding blocks begin opens texts lazily enter keeps underlines
 atx_heading = refl
 
 -- the underline belongs to the heading
-setext_heading : ranges_of (codes "a\nb\n===\n") ≡ (0 , 8) ∷ (0 , 1) ∷ (1 , 2) ∷ (2 , 3) ∷ (0 , 8) ∷ []
+setext_heading : ranges_of (codes "a\nb\n===\n") ≡ (0, 8) ∷ (0, 1) ∷ (1, 2) ∷ (2, 3) ∷ (0, 8) ∷ []
 unfolding blocks begin opens texts lazily enter keeps underlines
 setext_heading = refl
 
-fenced_code : ranges_of (codes "```x\na\n```\n") ≡ (0 , 11) ∷ (5 , 7) ∷ (0 , 11) ∷ []
+fenced_code : ranges_of (codes "```x\na\n```\n") ≡ (0, 11) ∷ (5, 7) ∷ (0, 11) ∷ []
 unfolding blocks begin opens texts lazily enter keeps underlines
 fenced_code = refl
 
 -- each HTML line is one event
-html_block : ranges_of (codes "<div>\n</div>\n") ≡ (0 , 13) ∷ (0 , 6) ∷ (6 , 13) ∷ (0 , 13) ∷ []
+html_block : ranges_of (codes "<div>\n</div>\n") ≡ (0, 13) ∷ (0, 6) ∷ (6, 13) ∷ (0, 13) ∷ []
 unfolding blocks begin opens texts lazily enter keeps underlines
 html_block = refl
 
 -- a definition is no event
-link_definition : ranges_of (codes "[a]: /u\nb\n") ≡ (8 , 10) ∷ (8 , 9) ∷ (8 , 10) ∷ []
+link_definition : ranges_of (codes "[a]: /u\nb\n") ≡ (8, 10) ∷ (8, 9) ∷ (8, 10) ∷ []
 unfolding blocks begin opens texts lazily enter keeps underlines
 link_definition = refl
 
-lazy_line : ranges_of (codes "> a\nb\n") ≡ (0 , 6) ∷ (2 , 6) ∷ (2 , 3) ∷ (3 , 4) ∷ (4 , 5) ∷ (2 , 6) ∷ (0 , 6) ∷ []
+lazy_line : ranges_of (codes "> a\nb\n") ≡ (0, 6) ∷ (2, 6) ∷ (2, 3) ∷ (3, 4) ∷ (4, 5) ∷ (2, 6) ∷ (0, 6) ∷ []
 unfolding blocks begin opens texts lazily enter keeps underlines
 lazy_line = refl
 
 -- a paragraph of a tight list is its text alone
-tight_list : ranges_of (codes "- a\n- b\n") ≡ (0 , 8) ∷ (0 , 4) ∷ (2 , 3) ∷ (0 , 4) ∷ (4 , 8) ∷ (6 , 7) ∷ (4 , 8) ∷ (0 , 8) ∷ []
+tight_list : ranges_of (codes "- a\n- b\n") ≡ (0, 8) ∷ (0, 4) ∷ (2, 3) ∷ (0, 4) ∷ (4, 8) ∷ (6, 7) ∷ (4, 8) ∷ (0, 8) ∷ []
 unfolding blocks begin opens texts lazily enter keeps underlines
 tight_list = refl
 
 loose_list : ranges_of (codes "- a\n\n- b\n")
-    ≡ (0 , 9) ∷ (0 , 5) ∷ (2 , 4) ∷ (2 , 3) ∷ (2 , 4) ∷ (0 , 5) ∷ (5 , 9) ∷ (7 , 9) ∷ (7 , 8) ∷ (7 , 9) ∷ (5 , 9) ∷ (0 , 9) ∷ []
+    ≡ (0, 9) ∷ (0, 5) ∷ (2, 4) ∷ (2, 3) ∷ (2, 4) ∷ (0, 5) ∷ (5, 9) ∷ (7, 9) ∷ (7, 8) ∷ (7, 9) ∷ (5, 9) ∷ (0, 9) ∷ []
 unfolding blocks begin opens texts lazily enter keeps underlines
 loose_list = refl
 
 -- a list within an item begins behind the prefix of that item
 nested_list : ranges_of (codes "7. a\n   - b\n")
-    ≡ (0 , 12) ∷ (0 , 12) ∷ (3 , 4) ∷ (8 , 12) ∷ (8 , 12) ∷ (10 , 11) ∷ (8 , 12) ∷ (8 , 12) ∷ (0 , 12) ∷ (0 , 12) ∷ []
+    ≡ (0, 12) ∷ (0, 12) ∷ (3, 4) ∷ (8, 12) ∷ (8, 12) ∷ (10, 11) ∷ (8, 12) ∷ (8, 12) ∷ (0, 12) ∷ (0, 12) ∷ []
 unfolding blocks begin opens texts lazily enter keeps underlines
 nested_list = refl
 
 -- an entity has the range of all it is written as, and behind an escape a new text begins
-entity_and_escape : ranges_of (codes "a&amp;b\\*c\n") ≡ (0 , 11) ∷ (0 , 1) ∷ (1 , 6) ∷ (6 , 7) ∷ (8 , 10) ∷ (0 , 11) ∷ []
+entity_and_escape : ranges_of (codes "a&amp;b\\*c\n") ≡ (0, 11) ∷ (0, 1) ∷ (1, 6) ∷ (6, 7) ∷ (8, 10) ∷ (0, 11) ∷ []
 unfolding blocks begin opens texts lazily enter keeps underlines
 entity_and_escape = refl
 
-hard_break : ranges_of (codes "a  \nb\n") ≡ (0 , 6) ∷ (0 , 1) ∷ (1 , 4) ∷ (4 , 5) ∷ (0 , 6) ∷ []
+hard_break : ranges_of (codes "a  \nb\n") ≡ (0, 6) ∷ (0, 1) ∷ (1, 4) ∷ (4, 5) ∷ (0, 6) ∷ []
 unfolding blocks begin opens texts lazily enter keeps underlines
 hard_break = refl
