@@ -21,6 +21,7 @@ pub mod RowEdges
 pub mod RowPlaces
 pub mod Samples
 pub mod SliceLaws
+pub mod TagSamples
 pub mod TightLaws
 pub mod TokenEdges
 pub mod TokenRanges

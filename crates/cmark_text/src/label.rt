@@ -1,8 +1,9 @@
 //! Labels of links and footnotes.
 
-ghost use Rattle.std.specs.Prelude.{◌≡◌, ◌<◌, ◌∷◌, ◌++◌, IfOk, OnOk, length, string_bytes, nat_eq};
-ghost use Rattle.std.specs.Cmp.{on_equiv, on_per, partial_equiv_from_equiv};
-ghost use Rattle.std.specs.Cmp.Lexicographic.{pointwise, nat_list_eq_equiv};
+ghost use Rattle.std.specs.Prelude.{◌≡◌, ◌<◌, ◌∷◌, ◌++◌, IfOk, OnOk, length, string_bytes, nat_eq, Some, refl};
+ghost use Rattle.std.specs.Ordering.{nat_cmp};
+ghost use Rattle.std.specs.Cmp.{on_equiv, on_per, on_po, on_total, partial_equiv_from_equiv};
+ghost use Rattle.std.specs.Cmp.Lexicographic.{pointwise, slice_cmp, nat_list_eq_equiv, nat_list_cmp_total, texts_po, texts_ties};
 ghost use Rattle.std.specs.Cmp.Rules.{hashing};
 ghost use Rattle.std.specs.Hash as fed;
 ghost use Rattle.std.proofs.Common.{rules};
@@ -10,13 +11,15 @@ ghost use Rattle.cmark_grammar.specs.Labels.{normal_form, case_folded, fold};
 
 use caseless::default_case_fold_str;
 use std::alloc::{AllocError, Global};
+use std::cmp::Ordering;
 use std::hash::{Hash, Hasher};
 
 /// The label of a link (CommonMark 4.7), in its normal form: without white space at both ends, and with one space for
 /// each run of white space inside. White space is tab, line feed, form feed, carriage return and space.
 ///
-/// Two are equal, and hash alike, exactly when their normal forms are the same with Unicode's full case folding.
-#[derive(Debug, Drop, PartialEq, Eq, Hash)]
+/// Two are equal, and hash alike, exactly when their normal forms are the same with Unicode's full case folding; they are
+/// ordered by the bytes of these.
+#[derive(Debug, Drop, PartialEq, Eq, PartialOrd, Ord, Hash)]
 pub struct LinkLabel {
     link: Label,
 }
@@ -43,7 +46,7 @@ impl LinkLabel {
 }
 
 /// The label of a footnote (this profile's own), in its normal form; it is compared as a [`LinkLabel`] is.
-#[derive(Debug, Drop, PartialEq, Eq, Hash)]
+#[derive(Debug, Drop, PartialEq, Eq, PartialOrd, Ord, Hash)]
 pub struct FootnoteLabel {
     footnote: Label,
 }
@@ -105,6 +108,30 @@ impl PartialEq for Label {
 
 impl Eq for Label {
     ghost laws = { on_equiv (λ label. string_bytes label.folded) nat_list_eq_equiv };
+}
+
+impl PartialOrd for Label {
+    ghost partial_cmp = { λ a b. Some (slice_cmp nat_cmp (string_bytes a.folded) (string_bytes b.folded)) };
+
+    ghost laws = { on_po (λ label. string_bytes label.folded) texts_po };
+
+    fn partial_cmp(&self, other: &Label) -> Option<Ordering> {
+        Some(self.cmp(other))
+    }
+}
+
+impl Ord for Label {
+    ghost cmp = { λ a b. slice_cmp nat_cmp (string_bytes a.folded) (string_bytes b.folded) };
+
+    ghost total = { on_total (λ label. string_bytes label.folded) nat_list_cmp_total };
+
+    ghost matches_partial_cmp = { λ a b. refl };
+
+    ghost matches_eq = { λ a b. texts_ties (string_bytes a.folded) (string_bytes b.folded) };
+
+    fn cmp(&self, other: &Label) -> Ordering {
+        self.folded.cmp(&other.folded)
+    }
 }
 
 impl Hash for Label {

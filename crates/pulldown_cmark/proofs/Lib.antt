@@ -1,6 +1,7 @@
 pub mod BuildSteps
 pub mod FrontSteps
 pub mod HtmlSteps
+pub mod IndentSteps
 pub mod LineSteps
 pub mod OpeningSteps
 pub mod ParseSteps

@@ -1,30 +1,32 @@
 -- What a line begins, found on its bytes.
-use Rattle.std.proofs.Common.{◌≡◌, ℕ, suc, ◌+◌, ◌-◌, ◌<◌, ◌≤◌, Bool, true, false, ◌==◌, ◌&&◌, ◌||◌, List, [], ◌∷◌, length, drop, Some, None, refl, sym, ap, ◌∙◌, subst, arith, true≢false, length-drop, le-leb, eqb-true, IsTrue, ◌↔◌}
-use Rattle.std.proofs.lemmas.Bool.{lt-leb, leb-false, leb-true}
+use Rattle.std.proofs.Common.{◌≡◌, ℕ, suc, ◌+◌, ◌-◌, ◌<◌, ◌≤◌, Bool, true, false, ◌==◌, ◌&&◌, ◌||◌, List, [], ◌∷◌, length, drop, min, Some, None, refl, sym, ap, ◌∙◌, arith, true≢false, length-drop, le-leb, eqb-true}
+use Rattle.std.proofs.lemmas.Bool.{lt-leb}
 use Rattle.std.specs.Prelude.{if◌then◌else◌, nat_le}
 use Rattle.std.specs.List.{prefix_len}
 use Rattle.std.proofs.lemmas.List.Sums.{prefix_len-le-length}
 use Rattle.std.proofs.lemmas.List.Folds.{length-prefix_len}
-use Rattle.cmark_grammar.specs.Columns.{Column, expand, indent, without_indent, is_blank, is_blank_byte, put_before, drop_end, none_or_last, without_trailing_blanks}
+use Rattle.cmark_grammar.specs.Columns.{expand, indent, without_indent, is_blank, is_blank_byte, put_before, drop_end, none_or_last, without_trailing_blanks}
 use Rattle.cmark_grammar.specs.Outline.{is_hash, hashes, is_bare, is_heading, text_over, without_closing, heading_content, Blank, Headed, Plain, opening_of, begins, first_at, start_of, line_text, heading_spans}
 use Rattle.cmark_grammar.proofs.ColumnSteps.{drop-prefix, drop_end-expand, none_or_last-expand, is_bare-expand, first_at-expand, text_over-expand}
-use Rattle.pulldown_cmark.specs.Opening.{heading_level_of, closing_dropped, text_at}
-use Rattle.pulldown_cmark.proofs.ScanSteps.{hashes-expand, behind_hashes}
+use Rattle.cmark_grammar.specs.Leaves.{run, is_atx_heading}
+use Rattle.cmark_scan.specs.LeafLines.{atx_level}
+use Rattle.pulldown_cmark.specs.Opening.{closing_dropped, text_at}
+use Rattle.pulldown_cmark.proofs.ScanSteps.{hashes-expand, behind_hashes, is_heading-expand, hashes_are_run}
 
 -- a level is found where a heading begins
-pub level_found : (cs : List Column) (n : ℕ) → Some n ≡ heading_level_of cs → (is_heading cs ≡ true) × (hashes cs ≡ n)
-level_found cs n e = go (is_heading cs) refl e
+pub level_found : (column at : ℕ) (bs : List ℕ) (n : ℕ) → Some n ≡ atx_level bs → (is_heading (expand column at bs) ≡ true) × (hashes (expand column at bs) ≡ n)
+level_found column at bs n e = go (is_atx_heading bs) refl e
   where
-    go : (t : Bool) → is_heading cs ≡ t → Some n ≡ (if t then Some (hashes cs) else None) → (is_heading cs ≡ true) × (hashes cs ≡ n)
-    go true h e = (h, (let s : n ≡ hashes cs = cc in sym s))
+    go : (t : Bool) → is_atx_heading bs ≡ t → Some n ≡ (if t then Some (run 35 bs) else None) → (is_heading (expand column at bs) ≡ true) × (hashes (expand column at bs) ≡ n)
+    go true h e = (is_heading-expand column at bs ∙ h, hashes_are_run column at bs ∙ (let s : n ≡ run 35 bs = cc in sym s))
     go false h e = absurd (let q : Some n ≡ None = e in cc)
 
-pub level_missed : (cs : List Column) → None ≡ heading_level_of cs → is_heading cs ≡ false
-level_missed cs e = go (is_heading cs) refl e
+pub level_missed : (column at : ℕ) (bs : List ℕ) → None ≡ atx_level bs → is_heading (expand column at bs) ≡ false
+level_missed column at bs e = go (is_atx_heading bs) refl e
   where
-    go : (t : Bool) → is_heading cs ≡ t → None ≡ (if t then Some (hashes cs) else None) → is_heading cs ≡ false
-    go true h e = absurd (let q : None ≡ Some (hashes cs) = e in cc)
-    go false h e = h
+    go : (t : Bool) → is_atx_heading bs ≡ t → None ≡ (if t then Some (run 35 bs) else None) → is_heading (expand column at bs) ≡ false
+    go true h e = absurd (let q : None ≡ Some (run 35 bs) = e in cc)
+    go false h e = is_heading-expand column at bs ∙ h
 
 -- the columns behind the indent are those of the bytes behind the blanks
 pub behind_indent : (column at : ℕ) (bs : List ℕ) → (column' : ℕ) × (without_indent (expand column at bs) ≡ expand column' (at + prefix_len is_blank_byte bs) (drop (prefix_len is_blank_byte bs) bs))
@@ -181,9 +183,9 @@ no_heading indented heads e = ap (λ t. nat_le indented 3 && t) e ∙ both (nat_
     both false = refl
 
 -- a level that was found is the length of the opening sequence
-pub opening_len : (rest bytes : List ℕ) (n level : ℕ) → bytes ≡ rest → n ≡ level → ((column at : ℕ) → Some level ≡ heading_level_of (expand column at bytes)) → n ≡ prefix_len (λ b. b == 35) rest
+pub opening_len : (rest bytes : List ℕ) (n level : ℕ) → bytes ≡ rest → n ≡ level → Some level ≡ atx_level bytes → n ≡ prefix_len (λ b. b == 35) rest
 opening_len rest bytes n level same is found =
-    is ∙ sym (level_found (expand 0 0 bytes) level (found 0 0)).1 ∙ hashes-expand 0 0 bytes ∙ ap (prefix_len (λ b. b == 35)) same
+    is ∙ sym (level_found 0 0 bytes level found).1 ∙ hashes-expand 0 0 bytes ∙ ap (prefix_len (λ b. b == 35)) same
 
 pub none_of_length : (bs : List ℕ) → (length bs == 0) ≡ true → bs ≡ []
 none_of_length [] e = refl
@@ -193,14 +195,9 @@ pub some_of_test : (bs : List ℕ) → (length bs == 0) ≡ false → 0 < length
 some_of_test [] e = absurd (true≢false e)
 some_of_test (b ∷ bs) e = omega arith
 
--- what the test of the indent says of the line
-pub shallow_indent : (at : ℕ) (bytes content : List ℕ) → bytes ≡ content → (found : Bool) → ((place : ℕ) → IsTrue found ↔ (indent (expand 0 place bytes) ≤ 3)) → found ≡ true → indent (expand 0 at content) ≤ 3
-shallow_indent at bytes content same found tells passed = subst (λ bs. indent (expand 0 at bs) ≤ 3) same ((tells at).0 passed)
+-- what the count of the indent says of the line
+pub shallow_indent : (n indented : ℕ) → n ≡ min 4 indented → n ≤ 3 → indented ≤ 3
+shallow_indent n indented is few = omega arith
 
-pub not_shallow : (at : ℕ) (bytes content : List ℕ) → bytes ≡ content → (found : Bool) → ((place : ℕ) → IsTrue found ↔ (indent (expand 0 place bytes) ≤ 3)) → found ≡ false → 3 < indent (expand 0 at content)
-not_shallow at bytes content same found tells failed =
-    subst (λ bs. 3 < indent (expand 0 at bs)) same (by (nat_le (indent (expand 0 at bytes)) 3) refl)
-  where
-    by : (t : Bool) → nat_le (indent (expand 0 at bytes)) 3 ≡ t → 3 < indent (expand 0 at bytes)
-    by true e = absurd (true≢false (sym ((tells at).1 (leb-true (indent (expand 0 at bytes)) 3 e)) ∙ failed))
-    by false e = leb-false (indent (expand 0 at bytes)) 3 e
+pub not_shallow : (n indented : ℕ) → n ≡ min 4 indented → 3 < n → 3 < indented
+not_shallow n indented is many = omega arith

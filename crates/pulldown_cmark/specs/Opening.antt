@@ -1,5 +1,5 @@
 -- What the program finds on a line, as what the grammar says of the line's columns.
-use Rattle.std.specs.Prelude.{◌≡◌, ℕ, ◌+◌, ◌-◌, ◌≤◌, ◌==◌, ◌&&◌, ◌||◌, nat_lt, nat_le, Bool, true, false, List, [], ◌∷◌, length, Option, Some, None, if◌then◌else◌}
+use Rattle.std.specs.Prelude.{◌≡◌, ℕ, ◌+◌, ◌-◌, ◌≤◌, ◌==◌, ◌||◌, true, false, List, [], ◌∷◌, length, Option, Some, None, if◌then◌else◌}
 use Rattle.cmark_grammar.specs.Columns.{Column, is_blank_byte, drop_end, none_or_last}
 use Rattle.cmark_grammar.specs.Document.{Document, Nil, Text, one}
 use Rattle.cmark_grammar.specs.Outline.{is_heading, hashes, text_over, heading_content, Blank, Headed, Plain, begins, start_of, line_text, heading_spans}
@@ -9,14 +9,6 @@ use Rattle.pulldown_cmark.specs.declared.scan.HeadingParts.{HeadingParts}
 use Rattle.pulldown_cmark.specs.declared.scan.Opening.{Opening}
 use Rattle.pulldown_cmark.specs.declared.scan.Opening.TheVariants.{Blank as FoundBlank, Heading as FoundHeading, Paragraph as FoundParagraph}
 use Rattle.pulldown_cmark.specs.Line.{row_of}
-
--- the level of the heading that begins in front, if one does
-abbrev pub heading_level_of : List Column → Option ℕ
-heading_level_of cs = if is_heading cs then Some (hashes cs) else None
-
--- the level that n `#` open, if they open a heading; parted: whether nothing or a blank follows
-abbrev pub level_at : ℕ → Bool → Option ℕ
-level_at n parted = if nat_lt 0 n && nat_le n 6 && parted then Some n else None
 
 -- the bytes without a closing sequence of a heading
 abbrev pub closing_dropped : List ℕ → List ℕ

@@ -1,12 +1,13 @@
 //! What a line begins.
 
-ghost use Rattle.std.specs.Prelude.{◌≡◌, ℕ, ◌+◌, ◌<◌, ◌≤◌, ◌==◌, ◌||◌, ◌↔◌, length, drop, IsTrue, IfSome, true, option_map};
+ghost use Rattle.std.specs.Prelude.{◌≡◌, ℕ, ◌+◌, ◌<◌, ◌≤◌, ◌==◌, ◌||◌, length, drop, min, IfSome};
 ghost use Rattle.std.specs.List.{prefix_len};
-ghost use Rattle.cmark_grammar.specs.Columns.{is_blank_byte, drop_end, expand, indent, none_or_first, none_or_last};
+ghost use Rattle.cmark_grammar.specs.Columns.{is_blank_byte, drop_end, expand, indent, none_or_last};
 ghost use Rattle.cmark_text.specs.Shown.{level_number};
-ghost use Rattle.pulldown_cmark.specs.Opening.{heading_level_of, level_at, closing_dropped, FindsHeading, OpensAs, EndsBy};
+ghost use Rattle.pulldown_cmark.specs.Opening.{closing_dropped, FindsHeading, OpensAs, EndsBy};
 
 use crate::line::Line;
+use cmark_scan::{LineStart, scan_atx_heading};
 use cmark_text::HeadingLevel;
 
 /// What a line begins.
@@ -48,11 +49,13 @@ struct HeadingParts<'a> {
     text: &'a str,
 }
 
-/// Whether a byte is a space or a tab.
-fn is_blank(byte: u8) -> bool
-    ensures { result ≡ is_blank_byte byte }
-{
-    byte == b' ' || byte == b'\t'
+/// A text by its indent and what stands behind that.
+#[derive(Clone, Copy, Debug)]
+struct Indented<'a> {
+    /// How many columns of spaces and tabs stand in front, or 4, where more do.
+    indent: usize,
+    /// The text behind them all.
+    rest: &'a str,
 }
 
 /// Whether a byte is one of these two.
@@ -62,28 +65,19 @@ fn is_either(byte: u8, one: u8, other: u8) -> bool
     byte == one || byte == other
 }
 
-/// How many blanks stand in front.
-fn count_blanks(bytes: &[u8]) -> usize
-    ensures value { result ≡ prefix_len is_blank_byte bytes.now }
-    ensures within { result ≤ length bytes.now }
+/// Cuts off the spaces and tabs in front, and counts their columns, up to four, as at the beginning of a line.
+fn split_indent(text: &str) -> Indented<'_>
+    ensures indent { (at : ℕ) → result.indent ≡ min 4 (indent (expand 0 at text.entry.now)) }
+    ensures rest { result.rest.now ≡ drop (prefix_len is_blank_byte text.entry.now) text.entry.now }
+    ensures within { length result.rest.now ≤ length text.entry.now }
 {
-    bytes.iter().take_while(|byte| is_blank(**byte)).count()
-}
-
-/// How many times this byte stands in front.
-fn count_leading(bytes: &[u8], one: u8) -> usize
-    ensures value { result ≡ prefix_len (λ b. b == one) bytes.now }
-    ensures within { result ≤ length bytes.now }
-{
-    bytes.iter().take_while(|byte| **byte == one).count()
-}
-
-/// The text behind the blanks in front.
-fn without_indent(text: &str) -> &str
-    ensures value { result.now ≡ drop (prefix_len is_blank_byte text.now) text.now }
-    ensures within { length result.now ≤ length text.now }
-{
-    &text[count_blanks(text.as_bytes())..]
+    let mut front = LineStart::new(text.as_bytes());
+    let indent = front.scan_space_upto(4);
+    front.scan_all_space();
+    Indented {
+        indent,
+        rest: &text[front.bytes_scanned()..],
+    }
 }
 
 /// The text without the bytes at its end that are one of these two, both ASCII.
@@ -101,57 +95,13 @@ fn without_end(text: &str, one: u8, other: u8) -> &str
     &text[..len]
 }
 
-/// The level that so many `#` open, if they open a heading.
-fn level_of(hashes: usize) -> Option<HeadingLevel>
-    ensures { option_map level_number result ≡ level_at hashes true }
-{
-    match hashes {
-        1 => Some(HeadingLevel::H1),
-        2 => Some(HeadingLevel::H2),
-        3 => Some(HeadingLevel::H3),
-        4 => Some(HeadingLevel::H4),
-        5 => Some(HeadingLevel::H5),
-        6 => Some(HeadingLevel::H6),
-        _ => None,
-    }
-}
-
-/// The level of the heading that begins in front, if one does (CommonMark 4.2): one to six `#`, then a blank or the end.
-fn heading_level(bytes: &[u8]) -> Option<HeadingLevel>
-    ensures { (column at : ℕ) → option_map level_number result ≡ heading_level_of (expand column at bytes.now) }
-{
-    let hashes = count_leading(bytes, b'#');
-    if !is_parted(&bytes[hashes..]) {
-        return None;
-    }
-    level_of(hashes)
-}
-
-/// Whether nothing stands there, or a blank in front.
-fn is_parted(bytes: &[u8]) -> bool
-    ensures { result ≡ none_or_first is_blank_byte bytes.now }
-{
-    match bytes {
-        [] => true,
-        [first, ..] => is_blank(*first),
-    }
-}
-
-/// Whether the blanks in front take at most three columns. A tab reaches the fourth from wherever it begins.
-fn is_shallow(bytes: &[u8]) -> bool
-    ensures { (at : ℕ) → IsTrue result ↔ (indent (expand 0 at bytes.now) ≤ 3) }
-{
-    let blanks = count_blanks(bytes);
-    blanks <= 3 && count_leading(bytes, b' ') == blanks
-}
-
 /// Whether a text has no bytes, or a blank at its end.
 fn ends_parted(text: &str) -> bool
     ensures { result ≡ none_or_last is_blank_byte text.now }
 {
     match text.as_bytes() {
         [] => true,
-        [.., last] => is_blank(*last),
+        [.., last] => is_either(*last, b' ', b'\t'),
     }
 }
 
@@ -173,8 +123,8 @@ fn find_heading(rest: &str) -> Option<HeadingParts<'_>>
     ensures found { (column at : ℕ) → FindsHeading (expand column at rest.entry.now) (at + length rest.entry.now) result }
     ensures within { IfSome result (λ parts. (length parts.text.now ≤ length parts.behind.now) × (length parts.behind.now ≤ length rest.entry.now)) }
 {
-    let level = heading_level(rest.as_bytes())?;
-    let behind = without_indent(&rest[level_len(level)..]);
+    let level = scan_atx_heading(rest.as_bytes())?;
+    let behind = split_indent(&rest[level_len(level)..]).rest;
     Some(HeadingParts {
         level,
         behind,
@@ -203,12 +153,12 @@ pub fn what_begins(line: Line<'_>) -> Opening<'_>
     ensures within { EndsBy (line.entry.start + length line.entry.content.now) result }
 {
     let stop = line.start + line.content.len();
-    let rest = without_indent(line.content);
+    let Indented { indent, rest } = split_indent(line.content);
     if rest.is_empty() {
         return Opening::Blank;
     }
     if let Some(parts) = find_heading(rest) {
-        if is_shallow(line.content.as_bytes()) {
+        if indent <= 3 {
             return Opening::Heading(Heading {
                 level: parts.level,
                 start: stop - rest.len(),

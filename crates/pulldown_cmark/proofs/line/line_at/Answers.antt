@@ -5,7 +5,8 @@ use Rattle.cmark_grammar.specs.Lines.{lines, is_content, ending_len}
 use Rattle.cmark_grammar.specs.Outline.{rows_from}
 use Rattle.cmark_grammar.proofs.LineSteps.{rows-first}
 use Rattle.pulldown_cmark.proofs.LineSteps.{first_ending, cut_behind_line}
-use Rattle.pulldown_cmark.proofs.ScanSteps.{rest_of, front_of}
+use Rattle.cmark_scan.proofs.ByteSteps.{rest_of}
+use Rattle.pulldown_cmark.proofs.ScanSteps.{front_of}
 use Rattle.pulldown_cmark.proofs.line.line_at.Goals as goal
 
 pub returns-clause-first : goal.returns-clause-first

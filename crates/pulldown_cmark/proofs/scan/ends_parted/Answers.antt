@@ -5,4 +5,4 @@ use Rattle.pulldown_cmark.proofs.scan.ends_parted.Goals as goal
 
 pub returns-in-len1-up : goal.returns-in-len1-up
 returns-in-len1-up c =
-    c.is_blank.ensures ∙ sym (none_or_last-last c.as_bytes.result.now c.in-len1-up.len_at_least) ∙ ap (none_or_last is_blank_byte) c.as_bytes.ensures.value
+    c.is_either.ensures ∙ sym (none_or_last-last c.as_bytes.result.now c.in-len1-up.len_at_least) ∙ ap (none_or_last is_blank_byte) c.as_bytes.ensures.value

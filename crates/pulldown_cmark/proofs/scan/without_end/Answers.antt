@@ -1,7 +1,8 @@
 use Rattle.std.proofs.Common.{◌≡◌, ℕ, ◌-◌, Bool, true, ◌==◌, ◌||◌, get_or, take, sym, ap, ◌∙◌, arith}
 use Rattle.std.proofs.lemmas.Str.{IsCharBoundary-before_ascii}
 use Rattle.cmark_grammar.specs.Columns.{drop_end}
-use Rattle.pulldown_cmark.proofs.ScanSteps.{drop_end-less, drop_end-none, drop_end-stays, either_is_ascii, front_of}
+use Rattle.cmark_scan.proofs.ByteSteps.{drop_end-less, drop_end-none, drop_end-stays}
+use Rattle.pulldown_cmark.proofs.ScanSteps.{either_is_ascii, front_of}
 use Rattle.pulldown_cmark.proofs.scan.without_end.Goals as goal
 use Rattle.pulldown_cmark.proofs.scan.without_end.Goals.{then-loop-len-test+else-is_either, else-loop-len-test}
 

@@ -1,0 +1,19 @@
+-- Alerts: block quotes whose first line is a tag such as `[!NOTE]` (this profile's own).
+use Rattle.std.specs.Prelude.{ℕ, Bool, ◌&&◌, if◌then◌else◌, List, length, drop, map, codes, Option, Some, None}
+use Rattle.cmark_grammar.specs.Leaves.{are_blank}
+use Rattle.cmark_grammar.specs.HtmlBlocks.{lower, starts}
+use Rattle.cmark_grammar.specs.BlockQuoteKind.{BlockQuoteKind, Note, Tip, Important, Warning, Caution}
+
+-- this tag with its letters in any case, and blanks behind it
+abbrev pub is_tag : (tag bs : List ℕ) → Bool
+is_tag tag bs = starts tag (map lower bs) && are_blank (drop (length tag) bs)
+
+-- the kind of the alert whose tag these bytes are, if they are one
+abbrev pub alert_of : List ℕ → Option BlockQuoteKind
+alert_of bs =
+    if is_tag (codes "[!note]") bs then Some Note
+    else if is_tag (codes "[!tip]") bs then Some Tip
+    else if is_tag (codes "[!important]") bs then Some Important
+    else if is_tag (codes "[!warning]") bs then Some Warning
+    else if is_tag (codes "[!caution]") bs then Some Caution
+    else None

@@ -1,0 +1,46 @@
+-- ASCII letters and digits, and what bytes begin with.
+use Rattle.std.specs.Prelude.{ℕ, ◌+◌, Bool, false, ◌&&◌, ◌||◌, nat_le, if◌then◌else◌, List, [], ◌∷◌, length, drop, take, bytes_eq, Option, Some, None}
+use Rattle.std.specs.List.{prefix_len}
+
+-- an ASCII letter in its lower case, other bytes as they are
+abbrev pub lower : ℕ → ℕ
+lower b = if nat_le 65 b && nat_le b 90 then b + 32 else b
+
+abbrev pub is_letter : ℕ → Bool
+is_letter b = nat_le 97 (lower b) && nat_le (lower b) 122
+
+abbrev pub is_number : ℕ → Bool
+is_number b = nat_le 48 b && nat_le b 57
+
+abbrev pub is_alphanumeric : ℕ → Bool
+is_alphanumeric b = is_letter b || is_number b
+
+abbrev pub starts : (prefix bs : List ℕ) → Bool
+starts prefix bs = bytes_eq (take (length prefix) bs) prefix
+
+abbrev pub first_is : (ℕ → Bool) → List ℕ → Bool
+first_is p [] = false
+first_is p (b ∷ bs) = p b
+
+-- behind the bytes in front that pass
+abbrev pub behind_all : (ℕ → Bool) → List ℕ → List ℕ
+behind_all p bs = drop (prefix_len p bs) bs
+
+-- behind these bytes, if they stand in front
+abbrev pub behind_start : (prefix bs : List ℕ) → Option (List ℕ)
+behind_start prefix bs = if starts prefix bs then Some (drop (length prefix) bs) else None
+
+-- behind the first place where these bytes stand
+abbrev pub behind_first : (closer : List ℕ) → List ℕ → Option (List ℕ)
+behind_first closer [] = None
+behind_first closer (b ∷ bs) = if starts closer (b ∷ bs) then Some (drop (length closer) (b ∷ bs)) else behind_first closer bs
+
+-- behind a byte that passes, if such a one stands in front
+abbrev pub behind_if : (ℕ → Bool) → List ℕ → Option (List ℕ)
+behind_if p [] = None
+behind_if p (b ∷ bs) = if p b then Some bs else None
+
+-- what is read behind a part, if that part was there
+abbrev pub and_then : {A B : Type 0} → Option A → (A → Option B) → Option B
+and_then None next = None
+and_then (Some x) next = next x

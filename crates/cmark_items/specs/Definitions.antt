@@ -1,0 +1,51 @@
+-- What a table of link reference definitions contains (CommonMark 4.7).
+use Rattle.std.specs.Prelude.{ℕ, List, map, bytes_eq, if◌then◌else◌, Option, Some, None, option_map}
+use Rattle.std.specs.Borrow.{Bor}
+use Rattle.std.specs.BTreeMap.{get_by}
+use Rattle.std.specs.Cmp.Lexicographic.{slice_cmp}
+use Rattle.std.specs.Ordering.{nat_cmp}
+use Rattle.cmark_text.specs.Labelled.{link_text, link_key}
+use Rattle.cmark_text.specs.declared.label.LinkLabel.{LinkLabel}
+use Rattle.cmark_items.specs.declared.definitions.LinkDef.{LinkDef}
+use Rattle.cmark_items.specs.declared.definitions.RefDefs.{RefDefs}
+use Rattle.cmark_items.specs.declared.definitions.RefDefsIter.{RefDefsIter}
+use Rattle.cmark_text.specs.Shown.{text_bytes}
+
+-- the definition of a folded label
+abbrev pub definition : RefDefs → List ℕ → Option LinkDef
+definition table folded = get_by (λ label. slice_cmp nat_cmp folded (link_key label)) table.defs
+
+-- a label's normal form with its definition
+abbrev pub entry : LinkLabel × LinkDef → List ℕ × LinkDef
+entry e = (link_text e.0, e.1)
+
+-- all of them
+abbrev pub definitions : RefDefs → List (List ℕ × LinkDef)
+definitions table = map entry table.defs.entries
+
+-- what there is, or else this one
+abbrev pub first_of : Option LinkDef → Option LinkDef → Option LinkDef
+first_of (Some def) other = Some def
+first_of None other = other
+
+-- the definition, if the folded labels are the same
+abbrev pub at_label : (label : List ℕ) → LinkDef → (folded : List ℕ) → Option LinkDef
+at_label label def folded = if bytes_eq folded label then Some def else None
+
+-- what is left of an iterator over them
+abbrev pub left : RefDefsIter → List (List ℕ × LinkDef)
+left iter = map entry iter.entries
+
+-- what it gives
+abbrev pub seen : Bor (List ℕ) × Bor LinkDef → List ℕ × LinkDef
+seen given = (given.0.now, given.1.now)
+
+-- a definition by its destination, its title and where it stands
+pub record ShownDefinition : Type 0 where
+  pub destination : List ℕ
+  pub title : Option (List ℕ)
+  pub start : ℕ
+  pub end : ℕ
+
+abbrev pub shown_definition : LinkDef → ShownDefinition
+shown_definition def = record { destination = text_bytes def.dest; title = option_map text_bytes def.title; start = def.span.start; end = def.span.end }

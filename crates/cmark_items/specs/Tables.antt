@@ -1,0 +1,49 @@
+-- What the tables contain.
+use Rattle.std.specs.Prelude.{◌≡◌, ℕ, List, [], ◌∷◌, ◌++◌, map, slice_set}
+use Rattle.cmark_text.specs.Shown.{text_bytes}
+use Rattle.cmark_text.specs.declared.text.CowStr.{CowStr}
+use Rattle.cmark_text.specs.declared.kind.Alignment.{Alignment}
+use Rattle.cmark_text.specs.declared.kind.LinkType.TheVariants.{ShortcutUnknown}
+use Rattle.cmark_items.specs.declared.allocations.Allocations.{Allocations}
+use Rattle.cmark_items.specs.declared.allocations.Link.{Link}
+use Rattle.cmark_items.specs.declared.definitions.RefDefs.{RefDefs}
+use Rattle.cmark_items.specs.declared.heading.HeadingAttributes.{HeadingAttributes}
+
+-- the texts, the links and images, the alignments of tables and the attributes of headings, each at its index, and the
+-- link reference definitions
+pub record Tables : Type 0 where
+  pub texts : List CowStr
+  pub links : List Link
+  pub alignments : List (List Alignment)
+  pub headings : List HeadingAttributes
+  pub references : RefDefs
+
+abbrev pub tables : Allocations → Tables
+tables a = record { texts = a.texts.items; links = a.links.items; alignments = map (λ row. row.items) a.alignments.items; headings = a.headings.items; references = a.refdefs }
+
+abbrev pub with_text : CowStr → Tables → Tables
+with_text text t = record t { texts = t.texts ++ text ∷ [] }
+
+abbrev pub with_link : Link → Tables → Tables
+with_link link t = record t { links = t.links ++ link ∷ [] }
+
+abbrev pub with_alignments : List Alignment → Tables → Tables
+with_alignments row t = record t { alignments = t.alignments ++ row ∷ [] }
+
+abbrev pub with_heading : HeadingAttributes → Tables → Tables
+with_heading heading t = record t { headings = t.headings ++ heading ∷ [] }
+
+-- an empty text stands at the index instead
+abbrev pub LeavesNoText : ℕ → Tables → Tables → Type 0
+LeavesNoText index old new = (left : CowStr) × (text_bytes left ≡ []) × (new ≡ record old { texts = slice_set old.texts index left })
+
+abbrev pub IsUnknown : Link → Type 0
+IsUnknown link = (link.link_type ≡ ShortcutUnknown) × (text_bytes link.dest_url ≡ []) × (text_bytes link.title ≡ []) × (text_bytes link.id ≡ [])
+
+-- an unknown shortcut without texts stands at the index instead
+abbrev pub LeavesNoLink : ℕ → Tables → Tables → Type 0
+LeavesNoLink index old new = (left : Link) × IsUnknown left × (new ≡ record old { links = slice_set old.links index left })
+
+-- no alignments stand at the index instead
+abbrev pub without_alignments : ℕ → Tables → Tables
+without_alignments index t = record t { alignments = slice_set t.alignments index [] }

@@ -1,0 +1,225 @@
+//! The tables that items point into.
+
+ghost use Rattle.std.specs.Prelude.{◌≡◌, ◌<◌, ◌++◌, ◌∷◌, [], length, IfOk, OnOk, OnErr, slice_get, Some, None, List, ℕ};
+ghost use Rattle.cmark_items.specs.Definitions.{definition};
+ghost use Rattle.cmark_items.specs.Tables.{Tables, tables, with_text, with_link, with_alignments, with_heading, LeavesNoText, LeavesNoLink, without_alignments};
+
+use crate::definitions::RefDefs;
+use crate::heading::HeadingAttributes;
+use cmark_text::{Alignment, CowStr, LinkType};
+use std::alloc::{AllocError, Global};
+use std::mem;
+use std::ops::Index;
+
+/// Where a text stands in its table.
+#[derive(Clone, Copy, Debug, PartialEq, Eq)]
+pub struct CowIndex(usize);
+
+/// Where a link or an image stands in its table.
+#[derive(Clone, Copy, Debug, PartialEq, Eq)]
+pub struct LinkIndex(usize);
+
+/// Where a table's alignments stand in theirs.
+#[derive(Clone, Copy, Debug, PartialEq, Eq)]
+pub struct AlignmentIndex(usize);
+
+/// Where a heading's attributes stand in theirs.
+#[derive(Clone, Copy, Debug, PartialEq, Eq)]
+pub struct HeadingIndex(u32);
+
+/// What a link or an image says of itself (CommonMark 6.3, 6.4).
+#[derive(Debug, Drop)]
+pub struct Link<'a> {
+    /// How it is written.
+    pub link_type: LinkType,
+    /// Where it leads.
+    pub dest_url: CowStr<'a>,
+    /// Its title; empty if it has none.
+    pub title: CowStr<'a>,
+    /// The label of a reference; empty for others.
+    pub id: CowStr<'a>,
+}
+
+/// The tables that the items of a tree point into, and the definitions of links.
+///
+/// An index is good for the table that gave it. What is allocated stays at its index; what is taken leaves an empty value
+/// there.
+#[derive(Drop)]
+pub struct Allocations<'a> {
+    /// The link reference definitions of the text.
+    pub refdefs: RefDefs<'a>,
+    texts: Vec<CowStr<'a>>,
+    links: Vec<Link<'a>>,
+    alignments: Vec<Vec<Alignment>>,
+    headings: Vec<HeadingAttributes<'a>>,
+    alloc: Global,
+}
+
+impl<'a> Allocations<'a> {
+    /// Empty tables.
+    pub fn new(alloc: Global) -> Allocations<'a>
+        ensures texts { (tables result).texts ≡ [] }
+        ensures links { (tables result).links ≡ [] }
+        ensures alignments { (tables result).alignments ≡ [] }
+        ensures headings { (tables result).headings ≡ [] }
+        ensures references { (folded : List ℕ) → definition (tables result).references folded ≡ None }
+    {
+        Allocations {
+            refdefs: RefDefs::new(alloc),
+            texts: Vec::new(alloc),
+            links: Vec::new(alloc),
+            alignments: Vec::new(alloc),
+            headings: Vec::new(alloc),
+            alloc,
+        }
+    }
+
+    /// Keeps a text. Where memory is refused nothing changes, and the text is dropped.
+    pub fn allocate_cow(&mut self, text: CowStr<'a>) -> Result<CowIndex, AllocError>
+        ensures index { IfOk result (λ index. index.0 ≡ length (tables self.old).texts) }
+        ensures kept { OnOk result (tables self.new ≡ with_text text.entry (tables self.old)) }
+        ensures refused { OnErr result (tables self.new ≡ tables self.old) }
+    {
+        let index = self.texts.len();
+        self.texts.push(text)?;
+        Ok(CowIndex(index))
+    }
+
+    /// Keeps what a link or an image says of itself. Where memory is refused nothing changes, and the texts are dropped.
+    pub fn allocate_link(
+        &mut self,
+        link_type: LinkType,
+        dest_url: CowStr<'a>,
+        title: CowStr<'a>,
+        id: CowStr<'a>,
+    ) -> Result<LinkIndex, AllocError>
+        ensures index { IfOk result (λ index. index.0 ≡ length (tables self.old).links) }
+        ensures kept { OnOk result (tables self.new
+            ≡ with_link (record { link_type = link_type; dest_url = dest_url.entry; title = title.entry; id = id.entry }) (tables self.old)) }
+        ensures refused { OnErr result (tables self.new ≡ tables self.old) }
+    {
+        let index = self.links.len();
+        self.links.push(Link {
+            link_type,
+            dest_url,
+            title,
+            id,
+        })?;
+        Ok(LinkIndex(index))
+    }
+
+    /// Keeps a table's alignments. Where memory is refused nothing changes, and they are dropped.
+    pub fn allocate_alignment(
+        &mut self,
+        alignments: Vec<Alignment>,
+    ) -> Result<AlignmentIndex, AllocError>
+        ensures index { IfOk result (λ index. index.0 ≡ length (tables self.old).alignments) }
+        ensures kept { OnOk result (tables self.new ≡ with_alignments alignments.items (tables self.old)) }
+        ensures refused { OnErr result (tables self.new ≡ tables self.old) }
+    {
+        let index = self.alignments.len();
+        self.alignments.push(alignments)?;
+        Ok(AlignmentIndex(index))
+    }
+
+    /// Keeps a heading's attributes. Where memory is refused nothing changes, and they are dropped. The table has room for
+    /// 4,294,967,296 of them, which keeps an item small; one more is refused like memory.
+    pub fn allocate_heading(
+        &mut self,
+        attributes: HeadingAttributes<'a>,
+    ) -> Result<HeadingIndex, AllocError>
+        ensures index { IfOk result (λ index. index.0 ≡ length (tables self.old).headings) }
+        ensures kept { OnOk result (tables self.new ≡ with_heading attributes.entry (tables self.old)) }
+        ensures refused { OnErr result (tables self.new ≡ tables self.old) }
+    {
+        let Ok(index) = u32::try_from(self.headings.len()) else {
+            return Err(AllocError);
+        };
+        self.headings.push(attributes)?;
+        Ok(HeadingIndex(index))
+    }
+
+    /// Takes a text out. An empty one is left.
+    pub fn take_cow(&mut self, index: CowIndex) -> CowStr<'a>
+        requires { index.0 < length (tables self.old).texts }
+        ensures value { slice_get (tables self.old).texts index.0 ≡ Some result }
+        ensures left { LeavesNoText index.0 (tables self.old) (tables self.new) }
+    {
+        mem::replace(&mut self.texts[index.0], CowStr::Borrowed(""))
+    }
+
+    /// Takes a link or an image out. One of an unknown shortcut without texts is left.
+    pub fn take_link(&mut self, index: LinkIndex) -> Link<'a>
+        requires { index.0 < length (tables self.old).links }
+        ensures value { slice_get (tables self.old).links index.0 ≡ Some result }
+        ensures left { LeavesNoLink index.0 (tables self.old) (tables self.new) }
+    {
+        mem::replace(
+            &mut self.links[index.0],
+            Link {
+                link_type: LinkType::ShortcutUnknown,
+                dest_url: CowStr::Borrowed(""),
+                title: CowStr::Borrowed(""),
+                id: CowStr::Borrowed(""),
+            },
+        )
+    }
+
+    /// Takes a table's alignments out. None are left.
+    pub fn take_alignment(&mut self, index: AlignmentIndex) -> Vec<Alignment>
+        requires { index.0 < length (tables self.old).alignments }
+        ensures value { slice_get (tables self.old).alignments index.0 ≡ Some result.items }
+        ensures left { tables self.new ≡ without_alignments index.0 (tables self.old) }
+    {
+        let none = Vec::new(self.alloc);
+        mem::replace(&mut self.alignments[index.0], none)
+    }
+}
+
+impl<'a> Index<CowIndex> for Allocations<'a> {
+    type Output = CowStr<'a>;
+
+    ghost can_index = { λ a index. index.0 < length (tables a).texts };
+
+    ghost index_gives = { λ a index text. slice_get (tables a).texts index.0 ≡ Some text };
+
+    fn index(&self, index: CowIndex) -> &CowStr<'a> {
+        &self.texts[index.0]
+    }
+}
+
+impl<'a> Index<LinkIndex> for Allocations<'a> {
+    type Output = Link<'a>;
+
+    ghost can_index = { λ a index. index.0 < length (tables a).links };
+
+    ghost index_gives = { λ a index link. slice_get (tables a).links index.0 ≡ Some link };
+
+    fn index(&self, index: LinkIndex) -> &Link<'a> {
+        &self.links[index.0]
+    }
+}
+
+impl<'a> Index<AlignmentIndex> for Allocations<'a> {
+    type Output = Vec<Alignment>;
+
+    ghost can_index = { λ a index. index.0 < length (tables a).alignments };
+
+    ghost index_gives = { λ a index row. slice_get (tables a).alignments index.0 ≡ Some row.items };
+
+    fn index(&self, index: AlignmentIndex) -> &Vec<Alignment> {
+        &self.alignments[index.0]
+    }
+}
+
+impl<'a> Index<HeadingIndex> for Allocations<'a> {
+    type Output = HeadingAttributes<'a>;
+
+    ghost can_index = { λ a index. index.0 < length (tables a).headings };
+
+    ghost index_gives = { λ a index heading. slice_get (tables a).headings index.0 ≡ Some heading };
+
+    fn index(&self, index: HeadingIndex) -> &HeadingAttributes<'a> {
+        &self.headings[index.0 as usize]
+    }
+}

@@ -1,0 +1,122 @@
+//! Link reference definitions (CommonMark 4.7).
+
+ghost use Rattle.std.specs.Prelude.{◌≡◌, IfOk, OnOk, OnErr, List, ℕ, option_copied, None, Some, All};
+ghost use Rattle.std.specs.Iterator.{YieldsFirstBy, item_count};
+ghost use Rattle.cmark_grammar.specs.Labels.{fold};
+ghost use Rattle.cmark_text.specs.Labelled.{link_key};
+ghost use Rattle.cmark_items.specs.Definitions.{definition, definitions, first_of, at_label, left, seen, shown_definition};
+
+use cmark_text::{CowStr, LinkLabel};
+use std::alloc::{AllocError, Global};
+use std::collections::btree_map::{self, BTreeMap};
+use std::ops::Range;
+
+/// A link reference definition, without its label.
+#[derive(Debug, Drop)]
+pub struct LinkDef<'a> {
+    /// Where the link leads, with escapes and entities resolved.
+    pub dest: CowStr<'a>,
+    /// The title, with escapes and entities resolved, if there is one.
+    pub title: Option<CowStr<'a>>,
+    /// The definition's bytes in the text, from its opening bracket to before its last line ending.
+    pub span: Range<usize>,
+}
+
+/// The link reference definitions of a text: for each label the first one. Two labels are the same where they are equal
+/// as a `LinkLabel`.
+#[derive(Drop)]
+pub struct RefDefs<'a> {
+    defs: BTreeMap<LinkLabel, LinkDef<'a>>,
+    alloc: Global,
+}
+
+impl<'a> RefDefs<'a> {
+    /// No definitions.
+    pub fn new(alloc: Global) -> RefDefs<'a>
+        ensures { (folded : List ℕ) → definition result folded ≡ None }
+    {
+        RefDefs {
+            defs: BTreeMap::new(alloc),
+            alloc,
+        }
+    }
+
+    /// The definition of the label that this text spells. Refused where there is no memory for the label's normal form.
+    pub fn get(&self, label: &str) -> Result<Option<&LinkDef<'a>>, AllocError>
+        ensures { IfOk result (λ found. option_copied found ≡ definition self.now (fold label.now)) }
+    {
+        let label = LinkLabel::new(self.alloc, label)?;
+        Ok(self.defs.get(&label))
+    }
+
+    /// Keeps a definition, unless there is one of its label.
+    pub fn insert(&mut self, label: LinkLabel, def: LinkDef<'a>) -> Result<(), AllocError>
+        ensures first_stays { OnOk result ((folded : List ℕ) → definition self.new folded
+            ≡ first_of (definition self.old folded) (at_label (link_key label) def.entry folded)) }
+        ensures refused { OnErr result ((folded : List ℕ) → definition self.new folded ≡ definition self.old folded) }
+    {
+        if !self.defs.contains_key(&label) {
+            self.defs.insert(label, def)?;
+        }
+        Ok(())
+    }
+
+    /// All definitions, each with its label's normal form, in no order that is promised.
+    pub fn iter(&self) -> RefDefsIter<'_, 'a>
+        ensures all { left result ≡ definitions self.now }
+        ensures found { All (λ e. definition self.now (link_key e.0) ≡ Some e.1) self.now.defs.entries }
+    {
+        RefDefsIter {
+            entries: self.defs.iter(),
+        }
+    }
+}
+
+impl<'a> LinkDef<'a> {
+    /// The same definition once more.
+    pub fn clone(&self, alloc: Global) -> Result<LinkDef<'a>, AllocError>
+        ensures { IfOk result (λ copy. shown_definition copy ≡ shown_definition self.now) }
+    {
+        let title = match &self.title {
+            Some(title) => Some(title.clone(alloc)?),
+            None => None,
+        };
+        Ok(LinkDef {
+            dest: self.dest.clone(alloc)?,
+            title,
+            span: self.span.start..self.span.end,
+        })
+    }
+
+    /// The same definition in a value that borrows nothing.
+    pub fn into_static(self, alloc: Global) -> Result<LinkDef<'static>, AllocError>
+        ensures { IfOk result (λ made. shown_definition made ≡ shown_definition self.entry) }
+    {
+        let LinkDef { dest, title, span } = self;
+        let title = match title {
+            Some(title) => Some(title.into_static(alloc)?),
+            None => None,
+        };
+        let dest = dest.into_static(alloc)?;
+        Ok(LinkDef { dest, title, span })
+    }
+}
+
+/// The definitions of a text, one after the other: the label's normal form, and the definition.
+#[derive(Drop)]
+pub struct RefDefsIter<'s, 'a> {
+    entries: btree_map::Iter<'s, LinkLabel, LinkDef<'a>>,
+}
+
+impl<'s, 'a> Iterator for RefDefsIter<'s, 'a> {
+    type Item = (&'s str, &'s LinkDef<'a>);
+
+    ghost next_gives = { YieldsFirstBy seen left };
+
+    ghost remaining = { item_count left };
+
+    fn next(&mut self) -> Option<(&'s str, &'s LinkDef<'a>)> {
+        let (label, def) = self.entries.next()?;
+        Some((label.as_str(), def))
+    }
+}

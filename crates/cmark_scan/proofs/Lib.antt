@@ -1,0 +1,12 @@
+pub mod ByteSteps
+pub mod ContentSteps
+pub mod FirstSteps
+pub mod HtmlSteps
+pub mod LeafSteps
+pub mod LineStartSteps
+pub mod MarkerSteps
+pub mod PlaceSteps
+pub mod PrefixSteps
+pub mod RemainingSteps
+pub mod RowSteps
+pub mod TableSteps

@@ -1,0 +1,181 @@
+-- The calls on the front of a line, one after the other, as the prefixes of containers: up to three columns of blanks and
+-- a marker, or an item's width of blanks.
+use Rattle.std.proofs.Common.{◌≡◌, ℕ, zero, suc, ◌+◌, ◌-◌, ◌<◌, ◌≤◌, min, Bool, true, false, ◌&&◌, ◌||◌, not, List, [], ◌∷◌, drop, Option, Some, None, refl, sym, ap, ◌∙◌, arith, eq-eqb, ne_eqb, true≢false}
+use Rattle.std.specs.Prelude.{if◌then◌else◌, nat_le, unwrap_or, ◌^◌}
+use Rattle.std.proofs.lemmas.Bool.{leb-true, leb-false}
+use Rattle.std.proofs.lemmas.List.{drop-drop}
+use Rattle.cmark_grammar.specs.Columns.{Column, without_indent, bytes_of}
+use Rattle.cmark_grammar.specs.Rows.{Row, without, indent_of, words_of, is_bare, is_blank_line}
+use Rattle.cmark_grammar.specs.Leaves.{is_parted, is_thematic_break}
+use Rattle.cmark_grammar.specs.Containers.{Container, Quote, Item, Marker, marker_of, padding, width_with, item_with, item_of, begins_with, is_quote, one_blank, quote_width, enter, keep_as, keeps}
+use Rattle.cmark_scan.specs.LineMarkers.{is_flush, begins_quote, behind_quote, item_in, item_numbers, entered}
+use Rattle.cmark_scan.proofs.PlaceSteps.{indent-drop}
+
+-- the row behind up to three columns of blanks
+abbrev pub shallow : Row → Row
+shallow r = without (min 3 (indent_of r)) r
+
+module _ (r : Row) (le : indent_of r ≤ 3) where
+  taken-all : min 3 (indent_of r) ≡ indent_of r
+  taken-all = omega arith
+
+  flat : indent_of (shallow r) ≡ 0
+  flat = let e = indent-drop (min 3 (indent_of r)) r.columns (omega arith) in omega (arith, e, taken-all)
+
+  same-words : words_of (shallow r) ≡ words_of r
+  same-words = ap (λ n. bytes_of (drop n (drop (min 3 (indent_of r)) r.columns))) flat ∙ ap (λ n. bytes_of (drop n r.columns)) taken-all
+
+deep : (r : Row) → 3 < indent_of r → is_flush (shallow r) ≡ false
+deep r lt = ne_eqb (indent_of (shallow r)) 0 (λ e. let d = indent-drop (min 3 (indent_of r)) r.columns (omega arith) in absurd (omega (arith, d, e, lt)))
+
+-- a quote's marker behind up to three columns is the one that the grammar sees on the whole row
+pub quote-seen : (r : Row) → begins_quote (shallow r) ≡ is_quote r
+quote-seen r = go (nat_le (indent_of r) 3) refl
+  where
+    go : (z : Bool) → nat_le (indent_of r) 3 ≡ z → begins_quote (shallow r) ≡ is_quote r
+    go true e =
+        let le = leb-true (indent_of r) 3 e in
+        ap (λ t. t && is_quote (shallow r)) (eq-eqb _ 0 (flat r le)) ∙ ap (λ n. nat_le n 3 && begins_with 62 (words_of (shallow r))) (flat r le)
+        ∙ ap (begins_with 62) (same-words r le) ∙ ap (λ t. t && begins_with 62 (words_of r)) (sym e)
+    go false e = ap (λ t. t && is_quote (shallow r)) (deep r (leb-false (indent_of r) 3 e)) ∙ ap (λ t. t && begins_with 62 (words_of r)) (sym e)
+
+quote-shallow : (r : Row) → is_quote r ≡ true → indent_of r ≤ 3
+quote-shallow r e = go (nat_le (indent_of r) 3) refl e
+  where
+    go : (z : Bool) → nat_le (indent_of r) 3 ≡ z → (z && begins_with 62 (words_of r)) ≡ true → indent_of r ≤ 3
+    go true f e = leb-true (indent_of r) 3 f
+    go false f e = absurd (true≢false (sym e))
+
+quote-left : (r : Row) → is_quote r ≡ true → behind_quote (shallow r) ≡ without (quote_width r) r
+quote-left r e =
+    let le = quote-shallow r e in
+    let k : ℕ = indent_of r in
+    ap (λ t. if t then without (quote_width (shallow r)) (shallow r) else shallow r) (quote-seen r ∙ e)
+    ∙ ap (λ n. without (suc (n + one_blank (drop (suc n) (shallow r).columns))) (shallow r)) (flat r le)
+    ∙ ap (λ n. record r { columns = drop (suc (0 + one_blank (drop 1 (drop n r.columns)))) (drop n r.columns) }) (taken-all r le)
+    ∙ ap (λ cs. record r { columns = cs }) (drop-drop (suc (0 + one_blank (drop 1 (drop k r.columns)))) k r.columns)
+    ∙ ap (λ cs. without (k + suc (0 + one_blank cs)) r) (drop-drop 1 k r.columns)
+    ∙ ap (λ n. without (k + suc (0 + one_blank (drop n r.columns))) r) (let s : k + 1 ≡ suc k = omega arith in s)
+    ∙ ap (λ n. without n r) (let s : k + suc (0 + one_blank (drop (suc k) r.columns)) ≡ suc (k + one_blank (drop (suc k) r.columns)) = omega arith in s)
+
+-- a later line of a quote: behind up to three columns and the marker stands what the grammar keeps of it
+pub quote-kept : (r : Row) → r.lazy ≡ false → keeps Quote false r ≡ (if begins_quote (shallow r) then Some (behind_quote (shallow r)) else None)
+unfolding keeps
+quote-kept r whole =
+    ap (λ t. if t || (false && is_blank_line r) then None else keep_as Quote r) whole
+    ∙ go (is_quote r) refl ∙ ap (λ t. if t then Some (behind_quote (shallow r)) else None) (sym (quote-seen r))
+  where
+    go : (z : Bool) → is_quote r ≡ z → (if z then Some (without (quote_width r) r) else None) ≡ (if z then Some (behind_quote (shallow r)) else None)
+    go true e = ap Some (sym (quote-left r e))
+    go false e = refl
+
+-- the first line of a quote
+pub quote-entered : (r : Row) → is_quote r ≡ true → behind_quote (shallow r) ≡ enter Quote r
+unfolding enter
+quote-entered r e = quote-left r e
+
+-- a list item, with its width from the row's beginning on
+abbrev pub widened : ℕ → Option Container → Option Container
+widened k None = None
+widened k (Some Quote) = Some Quote
+widened k (Some (Item mark number width)) = Some (Item mark number (k + width))
+
+module _ (r : Row) (le : indent_of r ≤ 3) where
+  width-widened : (size : ℕ) → width_with size r ≡ indent_of r + width_with size (shallow r)
+  width-widened size =
+      let k : ℕ = indent_of r in
+      ap (λ cs. k + (size + padding cs)) (sym (drop-drop size k r.columns)) ∙ ap (λ n. k + (size + padding (drop size (drop n r.columns)))) (sym (taken-all r le))
+      ∙ ap (λ n. k + n) ((let s : size + padding (drop size (shallow r).columns) ≡ 0 + (size + padding (drop size (shallow r).columns)) = omega arith in s)
+      ∙ ap (λ n. 0 + (size + padding (drop n (shallow r).columns))) (let s : size ≡ 0 + size = omega arith in s)
+      ∙ ap (λ n. n + (size + padding (drop (n + size) (shallow r).columns))) (sym (flat r le)))
+
+  item-widened : item_of r ≡ widened (indent_of r) (item_in (shallow r))
+  item-widened =
+      by (marker_of (words_of r)) ∙ ap (λ o. widened (indent_of r) (item_with (shallow r) o)) (ap marker_of (sym (same-words r le)))
+      ∙ ap (λ t. widened (indent_of r) (if t then item_of (shallow r) else None)) (sym (eq-eqb _ 0 (flat r le)))
+    where
+      by : (o : Option Marker) → item_with r o ≡ widened (indent_of r) (item_with (shallow r) o)
+      by None = refl
+      by (Some m) =
+          ap (λ w. if is_parted (drop m.size (words_of r)) && not (is_thematic_break (words_of r)) then Some (Item m.mark m.number w) else None) (width-widened m.size)
+          ∙ ap (λ l. if is_parted (drop m.size l) && not (is_thematic_break l) then Some (Item m.mark m.number (indent_of r + width_with m.size (shallow r))) else None) (sym (same-words r le))
+          ∙ test (is_parted (drop m.size (words_of (shallow r))) && not (is_thematic_break (words_of (shallow r))))
+        where
+          test : (z : Bool) → (if z then Some (Item m.mark m.number (indent_of r + width_with m.size (shallow r))) else None) ≡ widened (indent_of r) (if z then Some (Item m.mark m.number (width_with m.size (shallow r))) else None)
+          test true = refl
+          test false = refl
+
+  -- what the call answers behind so many columns is what the grammar says of the whole row
+  pub item-seen : item_numbers (min 3 (indent_of r)) (item_in (shallow r)) ≡ item_numbers 0 (item_of r)
+  item-seen = ap (λ n. item_numbers n (item_in (shallow r))) (taken-all r le) ∙ by (item_in (shallow r)) ∙ ap (item_numbers 0) (sym item-widened)
+    where
+      by : (o : Option Container) → item_numbers (indent_of r) o ≡ item_numbers 0 (widened (indent_of r) o)
+      by None = refl
+      by (Some Quote) = refl
+      by (Some (Item mark number width)) = ap (λ n. Some (mark, unwrap_or number 0, min n (2 ^ 64 - 1))) (let s : indent_of r + width ≡ 0 + (indent_of r + width) = omega arith in s)
+
+  no_quote_item : item_in (shallow r) ≡ Some Quote → ⊥
+  no_quote_item e = go (is_flush (shallow r)) (marker_of (words_of (shallow r))) e
+    where
+      test : (z : Bool) (mark : ℕ) (number : Option ℕ) (width : ℕ) → (if z then Some (Item mark number width) else None) ≡ Some Quote → ⊥
+      test true mark number width q = cc
+      test false mark number width q = cc
+
+      go : (z : Bool) (o : Option Marker) → (if z then item_with (shallow r) o else None) ≡ Some Quote → ⊥
+      go true None q = cc
+      go true (Some m) q = test (is_parted (drop m.size (words_of (shallow r))) && not (is_thematic_break (words_of (shallow r)))) m.mark m.number (width_with m.size (shallow r)) q
+      go false o q = cc
+
+  -- and what it leaves is the item's first line
+  pub item-entered : (k : Container) → item_of r ≡ Some k → entered (item_in (shallow r)) (shallow r) ≡ enter k r
+  unfolding enter
+  item-entered k is = by (item_in (shallow r)) refl (sym item-widened ∙ is)
+    where
+      by : (o : Option Container) → item_in (shallow r) ≡ o → widened (indent_of r) o ≡ Some k → entered o (shallow r) ≡ enter k r
+      by None e q = let z : None ≡ Some k = q in absurd (cc)
+      by (Some Quote) e q = absurd (no_quote_item e)
+      by (Some (Item mark number width)) e q =
+          let z : Item mark number (indent_of r + width) ≡ k = cc in
+          ap (λ cs. record r { columns = cs }) (drop-drop width (min 3 (indent_of r)) r.columns) ∙ ap (λ n. without (n + width) r) (taken-all r le) ∙ ap (λ c. enter c r) z
+
+-- where four columns or more of blanks stand in front, no item is seen
+pub item-unseen : (r : Row) → 3 < indent_of r → item_in (shallow r) ≡ None
+item-unseen r lt = ap (λ t. if t then item_of (shallow r) else None) (deep r lt)
+
+-- a later line of an item: its width of blanks, or nothing behind fewer
+pub item-kept : (r : Row) (mark : ℕ) (number : Option ℕ) (width : ℕ) → r.lazy ≡ false
+    → keeps (Item mark number width) false r
+    ≡ (if nat_le width (indent_of r) || is_bare (without (min width (indent_of r)) r).columns then Some (without (min width (indent_of r)) r) else None)
+unfolding keeps
+item-kept r mark number width whole =
+    ap (λ t. if t || (false && is_blank_line r) then None else keep_as (Item mark number width) r) whole ∙ go (nat_le width (indent_of r)) refl
+  where
+    go : (z : Bool) → nat_le width (indent_of r) ≡ z → (if is_blank_line r || nat_le width (indent_of r) then Some (without width r) else None) ≡ (if nat_le width (indent_of r) || is_bare (without (min width (indent_of r)) r).columns then Some (without (min width (indent_of r)) r) else None)
+    go true e =
+        ap (λ t. if is_blank_line r || t then Some (without width r) else None) e ∙ or-true (is_blank_line r)
+        ∙ ap (λ n. Some (without n r)) (let le = leb-true width (indent_of r) e in let s : width ≡ min width (indent_of r) = omega arith in s)
+        ∙ ap (λ t. if t || is_bare (without (min width (indent_of r)) r).columns then Some (without (min width (indent_of r)) r) else None) (sym e)
+      where
+        or-true : (z : Bool) → (if z || true then Some (without width r) else None) ≡ Some (without width r)
+        or-true true = refl
+        or-true false = refl
+    go false e =
+        ap (λ t. if is_blank_line r || t then Some (without width r) else None) e ∙ by (without_indent r.columns) refl
+        ∙ ap (λ n. if false || is_bare (without n r).columns then Some (without n r) else None) (let lt = leb-false width (indent_of r) e in let s : indent_of r ≡ min width (indent_of r) = omega arith in s)
+        ∙ ap (λ t. if t || is_bare (without (min width (indent_of r)) r).columns then Some (without (min width (indent_of r)) r) else None) (sym e)
+      where
+        past : (cs : List Column) → without_indent r.columns ≡ cs → is_bare cs ≡ true → drop width r.columns ≡ cs
+        past [] f b =
+            ap (λ n. drop n r.columns) (let lt = leb-false width (indent_of r) e in let s : width ≡ indent_of r + (width - indent_of r) = omega arith in s)
+            ∙ sym (drop-drop (width - indent_of r) (indent_of r) r.columns) ∙ ap (drop (width - indent_of r)) f ∙ none (width - indent_of r)
+          where
+            none : (n : ℕ) → drop {A = Column} n [] ≡ []
+            none zero = refl
+            none (suc n) = refl
+        past (c ∷ cs) f b = absurd (true≢false (sym b))
+
+        by : (cs : List Column) → without_indent r.columns ≡ cs → (if is_blank_line r || false then Some (without width r) else None) ≡ (if false || is_bare (without_indent r.columns) then Some (record r { columns = without_indent r.columns }) else None)
+        by [] f =
+            ap (λ l. if is_bare l || false then Some (without width r) else None) f ∙ ap (λ l. Some (record r { columns = l })) (past [] f refl ∙ sym f)
+            ∙ ap (λ l. if false || is_bare l then Some (record r { columns = without_indent r.columns }) else None) (sym f)
+        by (c ∷ cs) f = ap (λ l. if is_bare l || false then Some (without width r) else None) f ∙ ap (λ l. if false || is_bare l then Some (record r { columns = without_indent r.columns }) else None) (sym f)

@@ -1,0 +1,11 @@
+use Rattle.std.proofs.Common.{sym, ◌∙◌}
+use Rattle.cmark_scan.proofs.ByteSteps.{rest_of}
+use Rattle.cmark_scan.proofs.LeafSteps.{backticks-found}
+use Rattle.cmark_scan.proofs.leaf.backtick_fence.Goals as goal
+
+pub returns-clause-fence : goal.returns-clause-fence
+returns-clause-fence c indent =
+    let line = c.args.line.now in
+    let fence = c.in_ok-fence.fence in
+    c.in_ok-fence.ensures.fence indent
+    ∙ backticks-found indent line fence.size _ c.memchr.result c.in_ok-fence.ensures.size (rest_of line fence.size) c.memchr.ensures (sym c.is_some.ensures ∙ c.if-is_some.false)

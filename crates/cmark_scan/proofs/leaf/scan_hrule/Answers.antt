@@ -1,0 +1,21 @@
+use Rattle.std.proofs.Common.{drop, sym, ap, ◌∙◌}
+use Rattle.cmark_scan.proofs.ByteSteps.{rest_of}
+use Rattle.cmark_scan.proofs.LeafSteps.{break-none, break-yes, break-no}
+use Rattle.cmark_scan.proofs.leaf.scan_hrule.Goals as goal
+
+pub returns-in-empty : goal.returns-in-empty
+returns-in-empty c =
+    let line = c.args.line.now in
+    break-none line _ (rest_of line c.count_blanks.result ∙ ap (λ n. drop n line) c.count_blanks.ensures.value) c.in-empty.len_below
+
+pub returns-then-is_break_mark : goal.returns-then-is_break_mark
+returns-then-is_break_mark c =
+    let line = c.args.line.now in
+    c.is_break_of.ensures
+    ∙ break-yes line _ (rest_of line c.count_blanks.result ∙ ap (λ n. drop n line) c.count_blanks.ensures.value) c.in-len1-up.len_at_least (sym c.if-is_break_mark.true ∙ c.is_break_mark.ensures)
+
+pub returns-else-is_break_mark : goal.returns-else-is_break_mark
+returns-else-is_break_mark c =
+    let line = c.args.line.now in
+    c.if-is_break_mark.false
+    ∙ break-no line _ (rest_of line c.count_blanks.result ∙ ap (λ n. drop n line) c.count_blanks.ensures.value) c.in-len1-up.len_at_least (sym c.if-is_break_mark.false ∙ c.is_break_mark.ensures)

@@ -1,0 +1,34 @@
+use Rattle.std.proofs.Common.{[], sym, ap, ◌∙◌, arith}
+use Rattle.std.specs.Prelude.{if◌then◌else◌, is_some, option_map}
+use Rattle.cmark_grammar.specs.Alerts.{alert_of}
+use Rattle.cmark_text.specs.Shown.{shown_block_quote_kind}
+use Rattle.cmark_scan.specs.LineStart.{row_from}
+use Rattle.cmark_scan.proofs.RowSteps.{found-is, alert-none}
+use Rattle.cmark_scan.proofs.LineStartSteps.{row-emptied}
+use Rattle.cmark_scan.proofs.line_start.LineStart.scan_blockquote_tag.Goals as goal
+
+pub returns-in_err-kind-clause-found : goal.returns-in_err-kind-clause-found
+returns-in_err-kind-clause-found c at past =
+    let r = row_from at past c.args.self.now in
+    ap (option_map shown_block_quote_kind) c.from_residual.ensures ∙ c.in_err-kind.ensures.value
+    ∙ sym (found-is r c.ahead.result.now (c.ahead.ensures.words at past) (c.ahead.ensures.blank at past) alert_of alert-none)
+
+pub returns-in_err-kind-clause-rest : goal.returns-in_err-kind-clause-rest
+returns-in_err-kind-clause-rest c at past =
+    let r = row_from at past c.args.self.now in
+    ap (λ o. if is_some o then record r { columns = [] } else r)
+    (c.in_err-kind.ensures.value ∙ sym (found-is r c.ahead.result.now (c.ahead.ensures.words at past) (c.ahead.ensures.blank at past) alert_of alert-none))
+
+pub returns-clause-found : goal.returns-clause-found
+returns-clause-found c at past =
+    let r = row_from at past c.args.self.now in
+    c.in_ok-kind.ensures.value ∙ sym (found-is r c.ahead.result.now (c.ahead.ensures.words at past) (c.ahead.ensures.blank at past) alert_of alert-none)
+
+pub returns-clause-rest : goal.returns-clause-rest
+returns-clause-rest c at past =
+    let line = c.args.self.now in
+    let r = row_from at past line in
+    row-emptied at past line c.take_bytes.new.self c.scan_all_space.new.self c.in_ok-kind.size c.ahead.result.now c.take_bytes.ensures.line c.take_bytes.ensures.taken c.take_bytes.ensures.whole (c.ahead.ensures.rest (let some = c.in_ok-kind.ensures.some in let within = c.in_ok-kind.ensures.within in omega arith))
+    c.in_ok-kind.ensures.blank (c.scan_all_space.ensures at past)
+    ∙ ap (λ o. if is_some o then record r { columns = [] } else r)
+    (c.in_ok-kind.ensures.value ∙ sym (found-is r c.ahead.result.now (c.ahead.ensures.words at past) (c.ahead.ensures.blank at past) alert_of alert-none))

@@ -1,0 +1,61 @@
+-- What begins on a line behind the prefixes that were taken, where no blank stands in front of it.
+use Rattle.std.specs.Prelude.{ℕ, ◌+◌, ◌-◌, ◌^◌, min, Bool, ◌==◌, ◌&&◌, if◌then◌else◌, [], Option, Some, None, is_some, unwrap_or}
+use Rattle.cmark_grammar.specs.Rows.{Row, without, indent_of, words_of}
+use Rattle.cmark_grammar.specs.Containers.{Container, Quote, Item, is_quote, quote_width, item_of, enter}
+use Rattle.cmark_grammar.specs.BlockQuoteKind.{BlockQuoteKind}
+use Rattle.cmark_grammar.specs.Alerts.{alert_of}
+use Rattle.cmark_grammar.specs.DefinitionLists.{definition_width}
+use Rattle.cmark_grammar.specs.TaskMarkers.{task_of}
+
+abbrev pub is_flush : Row → Bool
+is_flush r = indent_of r == 0
+
+-- what was found, where no blank stands in front
+abbrev pub flush : {A : Type 0} → Row → Option A → Option A
+flush r found = if is_flush r then found else None
+
+-- the marker of a block quote, and the line behind it
+abbrev pub begins_quote : Row → Bool
+begins_quote r = is_flush r && is_quote r
+
+abbrev pub behind_quote : Row → Row
+behind_quote r = if begins_quote r then without (quote_width r) r else r
+
+-- the tag of an alert, and the line behind it, on which nothing is left
+abbrev pub alert_in : Row → Option BlockQuoteKind
+alert_in r = flush r (alert_of (words_of r))
+
+abbrev pub behind_alert : Row → Row
+behind_alert r = if is_some (alert_in r) then record r { columns = [] } else r
+
+-- the list item, and its first line behind the marker
+abbrev pub item_in : Row → Option Container
+item_in r = flush r (item_of r)
+
+abbrev pub entered : Option Container → Row → Row
+entered None r = r
+entered (Some k) r = enter k r
+
+-- a sum, or the largest number, if that is less
+abbrev pub sum_up_to_most : ℕ → ℕ → ℕ
+sum_up_to_most m n = min (m + n) (2 ^ 64 - 1)
+
+-- a list item's character, its number, 0 for a bullet, and its width with the indent that was taken before
+abbrev pub item_numbers : (indent : ℕ) → Option Container → Option (ℕ × ℕ × ℕ)
+item_numbers indent None = None
+item_numbers indent (Some Quote) = None
+item_numbers indent (Some (Item mark number width)) = Some (mark, unwrap_or number 0, sum_up_to_most indent width)
+
+-- the width of a definition's prefix, and its first line behind the marker
+abbrev pub definition_in : Row → Option ℕ
+definition_in r = flush r (definition_width r)
+
+abbrev pub behind_definition : Row → Row
+behind_definition r = without (unwrap_or (definition_in r) 0) r
+
+-- the task marker, and the line behind its box
+abbrev pub task_in : Row → Option Bool
+task_in r = flush r (task_of (words_of r))
+
+abbrev pub behind_task : Row → Row
+behind_task r = if is_some (task_in r) then without 3 r else r

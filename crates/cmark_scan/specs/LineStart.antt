@@ -1,0 +1,28 @@
+-- What is left of a line, seen as the row of the grammar that it is.
+use Rattle.std.specs.Prelude.{ℕ, suc, ◌+◌, ◌-◌, ◌==◌, false, if◌then◌else◌, List, [], ◌∷◌, length, drop, take}
+use Rattle.cmark_grammar.specs.Columns.{Column, expand}
+use Rattle.cmark_grammar.specs.Lines.{content}
+use Rattle.cmark_grammar.specs.Rows.{Row}
+use Rattle.cmark_scan.specs.Places.{column_behind}
+use Rattle.cmark_scan.specs.declared.line_start.LineStart.{LineStart}
+
+-- how many columns were taken
+abbrev pub columns_taken : LineStart → ℕ
+columns_taken line = column_behind 0 (take line.taken line.bytes.now) - line.pending
+
+-- the columns still to come, where the line begins at this place of a text
+abbrev pub columns_from : ℕ → LineStart → List Column
+columns_from at line = drop (columns_taken line) (expand 0 at line.bytes.now)
+
+-- the row that is left, where the line begins at this place of a text and the next one at that one
+abbrev pub row_from : (at past : ℕ) → LineStart → Row
+row_from at past line = record { columns = columns_from at line; stop = at + length line.bytes.now; past = past; lazy = false }
+
+-- the whole line that these bytes begin with, at this place of a text
+abbrev pub line_of : (at past : ℕ) → List ℕ → Row
+line_of at past bytes = record { columns = expand 0 at (content bytes); stop = at + length (content bytes); past = past; lazy = false }
+
+-- how many columns in front are left of a tab of which a part was taken
+abbrev pub cut_columns : List Column → ℕ
+cut_columns [] = 0
+cut_columns (c ∷ cs) = if c.part == 0 then 0 else suc (cut_columns cs)

@@ -1,0 +1,129 @@
+//! Tests and cuts of bytes that the scanners share.
+
+ghost use Rattle.std.specs.Prelude.{◌≡◌, ℕ, ◌+◌, ◌<◌, ◌≤◌, ◌==◌, ◌&&◌, ◌||◌, not, length, take, drop, map, IsTrue};
+ghost use Rattle.std.specs.List.{prefix_len};
+ghost use Rattle.cmark_grammar.specs.Columns.{is_blank_byte, drop_end};
+ghost use Rattle.cmark_grammar.specs.Leaves.{are_blank, is_parted, run, trimmed};
+ghost use Rattle.cmark_grammar.specs.HtmlBlocks.{lower, is_letter, is_number, is_alphanumeric, starts};
+
+/// Whether a byte is a space or a tab.
+#[inline]
+pub(crate) fn is_blank(byte: u8) -> bool
+    ensures { result ≡ is_blank_byte byte }
+{
+    byte == b' ' || byte == b'\t'
+}
+
+/// How many blanks stand in front.
+#[inline]
+pub(crate) fn count_blanks(bytes: &[u8]) -> usize
+    ensures value { result ≡ prefix_len is_blank_byte bytes.now }
+    ensures within { result ≤ length bytes.now }
+{
+    bytes.iter().take_while(|byte| is_blank(**byte)).count()
+}
+
+/// How many times this byte stands in front.
+#[inline]
+pub(crate) fn count_leading(bytes: &[u8], one: u8) -> usize
+    ensures value { result ≡ run one bytes.now }
+    ensures within { result ≤ length bytes.now }
+{
+    bytes.iter().take_while(|byte| **byte == one).count()
+}
+
+/// Whether nothing but blanks stands there.
+#[inline]
+pub(crate) fn are_blank(bytes: &[u8]) -> bool
+    ensures { result ≡ are_blank bytes.now }
+{
+    count_blanks(bytes) == bytes.len()
+}
+
+/// Whether nothing stands there, or a blank in front.
+#[inline]
+pub(crate) fn is_parted(bytes: &[u8]) -> bool
+    ensures { result ≡ is_parted bytes.now }
+{
+    match bytes {
+        [] => true,
+        [first, ..] => is_blank(*first),
+    }
+}
+
+/// The bytes without blanks at both ends.
+#[inline]
+pub(crate) fn trimmed(bytes: &[u8]) -> &[u8]
+    ensures value { result.now ≡ trimmed bytes.now }
+    ensures within { length result.now ≤ length bytes.now }
+{
+    without_trailing(&bytes[count_blanks(bytes)..])
+}
+
+/// The bytes without blanks at their end.
+#[inline]
+fn without_trailing(bytes: &[u8]) -> &[u8]
+    ensures value { result.now ≡ drop_end is_blank_byte bytes.now }
+    ensures within { length result.now ≤ length bytes.now }
+{
+    let mut len = bytes.len();
+    while len > 0 && is_blank(bytes[len - 1]) {
+        len -= 1;
+    }
+    &bytes[..len]
+}
+
+/// An ASCII letter in its lower case, other bytes as they are.
+#[inline]
+pub(crate) fn lower(byte: u8) -> u8
+    ensures { result ≡ lower byte }
+{
+    if byte >= b'A' && byte <= b'Z' {
+        byte + 32
+    } else {
+        byte
+    }
+}
+
+/// Whether a byte is an ASCII letter.
+#[inline]
+pub(crate) fn is_letter(byte: u8) -> bool
+    ensures { result ≡ is_letter byte }
+{
+    let small = lower(byte);
+    small >= b'a' && small <= b'z'
+}
+
+/// Whether a byte is an ASCII letter or digit.
+#[inline]
+pub(crate) fn is_alphanumeric(byte: u8) -> bool
+    ensures { result ≡ is_alphanumeric byte }
+{
+    is_letter(byte) || (byte >= b'0' && byte <= b'9')
+}
+
+/// Whether these bytes stand in front.
+#[inline]
+pub(crate) fn starts(bytes: &[u8], prefix: &[u8]) -> bool
+    ensures value { result ≡ starts prefix.now bytes.now }
+    ensures within { IsTrue result → length prefix.now ≤ length bytes.now }
+{
+    bytes.starts_with(prefix)
+}
+
+/// Whether these bytes stand in front, which have no capital letters, in any case of their letters.
+#[inline]
+pub(crate) fn starts_lower(bytes: &[u8], prefix: &[u8]) -> bool
+    ensures value { result ≡ starts prefix.now (map lower bytes.now) }
+    ensures within { IsTrue result → length prefix.now ≤ length bytes.now }
+{
+    if bytes.len() < prefix.len() {
+        return false;
+    }
+    for (at, byte) in prefix.iter().enumerate() {
+        if lower(bytes[at]) != *byte {
+            return false;
+        }
+    }
+    true
+}

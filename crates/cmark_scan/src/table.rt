@@ -1,0 +1,105 @@
+//! The delimiter row of a table (GFM 4.10).
+
+ghost use Rattle.std.specs.Prelude.{◌≡◌, map, option_map, IfOk};
+ghost use Rattle.cmark_grammar.specs.Tables.{aligned, hyphens, alignment_of, alignments, cells, without_first_pipe, without_last_pipe, delimiter_row};
+ghost use Rattle.cmark_text.specs.Shown.{shown_alignment};
+
+use crate::bytes::{count_leading, trimmed};
+use cmark_text::Alignment;
+use memchr::memchr;
+use std::alloc::{AllocError, Global};
+
+/// How a table's columns are aligned, where the line is a delimiter row: cells of hyphens, each with an optional colon
+/// before and behind them and blanks around it, parted by pipes. One pipe at least must stand there (this profile's own);
+/// one may stand in front and one at the end. The line is handed in without its ending.
+pub fn scan_table_head(alloc: Global, line: &[u8]) -> Result<Option<Vec<Alignment>>, AllocError>
+    ensures { IfOk result (λ row. option_map (λ columns. map shown_alignment columns.items) row ≡ delimiter_row line.now) }
+{
+    if memchr(b'|', line).is_none() {
+        return Ok(None);
+    }
+    scan_cells(alloc, without_last_pipe(without_first_pipe(trimmed(line))))
+}
+
+/// What the cells between pipes say, where each is a delimiter cell.
+fn scan_cells(alloc: Global, row: &[u8]) -> Result<Option<Vec<Alignment>>, AllocError>
+    ensures { IfOk result (λ found. option_map (λ columns. map shown_alignment columns.items) found ≡ alignments (cells row.now)) }
+{
+    let mut columns = Vec::new(alloc);
+    let mut rest = row;
+    while let Some(at) = memchr(b'|', rest) {
+        let (cell, behind) = rest.split_at(at);
+        let Some(alignment) = scan_cell(trimmed(cell)) else {
+            return Ok(None);
+        };
+        columns.push(alignment)?;
+        rest = &behind[1..];
+    }
+    let Some(alignment) = scan_cell(trimmed(rest)) else {
+        return Ok(None);
+    };
+    columns.push(alignment)?;
+    Ok(Some(columns))
+}
+
+/// The bytes behind a pipe in front, if there is one.
+#[inline]
+fn without_first_pipe(bytes: &[u8]) -> &[u8]
+    ensures { result.now ≡ without_first_pipe bytes.now }
+{
+    match bytes {
+        [b'|', rest @ ..] => rest,
+        _ => bytes,
+    }
+}
+
+/// The bytes before a pipe at the end, if there is one.
+#[inline]
+fn without_last_pipe(bytes: &[u8]) -> &[u8]
+    ensures { result.now ≡ without_last_pipe bytes.now }
+{
+    let len = bytes.len();
+    if len > 0 && bytes[len - 1] == b'|' {
+        &bytes[..len - 1]
+    } else {
+        bytes
+    }
+}
+
+/// What a delimiter cell without blanks at its ends says.
+fn scan_cell(cell: &[u8]) -> Option<Alignment>
+    ensures { option_map shown_alignment result ≡ alignment_of cell.now }
+{
+    match cell {
+        [b':', rest @ ..] => scan_hyphens(true, rest),
+        _ => scan_hyphens(false, cell),
+    }
+}
+
+/// What a delimiter cell says that goes on with these bytes: one or more hyphens, and a colon or the end.
+fn scan_hyphens(before: bool, bytes: &[u8]) -> Option<Alignment>
+    ensures { option_map shown_alignment result ≡ hyphens before bytes.now }
+{
+    let size = count_leading(bytes, b'-');
+    if size == 0 {
+        return None;
+    }
+    match &bytes[size..] {
+        [] => Some(aligned(before, false)),
+        [b':'] => Some(aligned(before, true)),
+        _ => None,
+    }
+}
+
+/// What a colon before the hyphens and one behind them say.
+#[inline]
+fn aligned(before: bool, behind: bool) -> Alignment
+    ensures { shown_alignment result ≡ aligned before behind }
+{
+    match (before, behind) {
+        (true, true) => Alignment::Center,
+        (true, false) => Alignment::Left,
+        (false, true) => Alignment::Right,
+        (false, false) => Alignment::None,
+    }
+}

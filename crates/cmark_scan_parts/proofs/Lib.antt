@@ -1,0 +1,9 @@
+pub mod Closers
+pub mod EntitySteps
+pub mod LabelSteps
+pub mod Links
+pub mod Lists
+pub mod OwnedSteps
+pub mod PartSteps
+pub mod TagSteps
+pub mod Unescaping

@@ -1,0 +1,42 @@
+use Rattle.std.proofs.Common.{[], Option, None, Some, Bool, if◌then◌else◌, eq-eqb, sym, ap, ◌∙◌, arith}
+use Rattle.std.proofs.lemmas.Bool.{ne_eqb}
+use Rattle.cmark_grammar.specs.LinkDefinitions.{Found, put, bare_in, depth_after}
+use Rattle.cmark_scan_parts.proofs.PartSteps.{reads_none, reads_more, reads_fail, reads_open, reads_end, no_bytes}
+use Rattle.cmark_scan_parts.proofs.destination.bare_size.Goals as goal
+
+abbrev at_end : Bool → Option Found
+at_end t = if t then Some (record { bytes = []; behind = [] }) else None
+
+pub loop-first-init : goal.loop-first-init
+loop-first-init c = record { reads = reads_none _ c.args.bytes.now; shallow = omega arith }
+
+pub loop-first-preserved : goal.loop-first-preserved
+loop-first-preserved c =
+    let cut = c.in-Some.ensures.cases.0 in
+    record {
+      reads = reads_more _ _ _ c.args.bytes.now _ c.in-Some.others.now c.in-Some.first.now c.loop-first.invariant.reads cut
+          (ap (bare_in c.loop-first.escaped c.loop-first.depth) cut ∙ c.in-GoesOn.ensures.value c.in-Some.others.now _
+          ∙ ap (λ t. put c.in-Some.first.now (bare_in t (depth_after c.loop-first.escaped c.loop-first.depth c.in-Some.first.now) c.in-Some.others.now)) (sym c.escapes_next-escaped.ensures)
+          ∙ ap (λ n. put c.in-Some.first.now (bare_in c.escapes_next-escaped.result n c.in-Some.others.now)) (sym c.depth_after-depth.ensures));
+      shallow = let e = c.depth_after-depth.ensures in let s = c.in-GoesOn.ensures.shallow in omega (arith, e, s);
+    }
+
+pub returns-in-Ends-clause-value : goal.returns-in-Ends-clause-value
+returns-in-Ends-clause-value c =
+    let cut = c.in-Some.ensures.cases.0 in
+    reads_open _ _ c.args.bytes.now _ c.loop-first.invariant.reads (ap (bare_in c.loop-first.escaped c.loop-first.depth) cut ∙ c.in-Ends.ensures.value c.in-Some.others.now _ ∙ ap (λ bs. let found : Found = record { bytes = []; behind = bs } in Some found) (sym cut))
+
+pub returns-in-Fails-clause-value : goal.returns-in-Fails-clause-value
+returns-in-Fails-clause-value c =
+    let cut = c.in-Some.ensures.cases.0 in
+    reads_fail _ _ c.args.bytes.now _ c.loop-first.invariant.reads (ap (bare_in c.loop-first.escaped c.loop-first.depth) cut ∙ c.in-Fails.ensures.value c.in-Some.others.now _)
+
+pub returns-then-depth-eq0-clause-value : goal.returns-then-depth-eq0-clause-value
+returns-then-depth-eq0-clause-value c =
+    reads_end _ _ c.args.bytes.now c.loop-first.rest.now c.loop-first.invariant.reads c.in_default.ensures.cases
+    (ap (bare_in c.loop-first.escaped c.loop-first.depth) (no_bytes c.loop-first.rest.now c.in_default.ensures.cases) ∙ ap at_end (eq-eqb c.loop-first.depth 0 c.if-depth-eq0.true))
+
+pub returns-else-depth-eq0-clause-value : goal.returns-else-depth-eq0-clause-value
+returns-else-depth-eq0-clause-value c =
+    reads_fail _ _ c.args.bytes.now c.loop-first.rest.now c.loop-first.invariant.reads
+    (ap (bare_in c.loop-first.escaped c.loop-first.depth) (no_bytes c.loop-first.rest.now c.in_default.ensures.cases) ∙ ap at_end (ne_eqb c.loop-first.depth 0 c.if-depth-eq0.false))

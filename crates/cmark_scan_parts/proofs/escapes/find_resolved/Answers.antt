@@ -1,0 +1,23 @@
+use Rattle.std.proofs.Common.{List, None, subst}
+use Rattle.memchr.specs.Find.{IsFirstByte, is_byte2}
+use Rattle.cmark_scan_parts.specs.Shown.{shown_entity}
+use Rattle.cmark_scan_parts.proofs.Unescaping.{behind_mark, found_in, past_mark, passed_all}
+use Rattle.cmark_scan_parts.proofs.escapes.find_resolved.Goals as goal
+
+pub returns-in-Some-resolved_in_front : goal.returns-in-Some-resolved_in_front
+returns-in-Some-resolved_in_front g c =
+    found_in _ c.args.text.now c.loop-at.rest.now c.as_bytes.result.now c.range_from.result.now c.in-Some.at c.as_bytes.ensures.value c.in-Some.ensures c.range_from.ensures.value c.loop-at.invariant.passed
+    (shown_entity c.in-Some-resolved_in_front.part) c.range_from.utf8 c.in-Some-resolved_in_front.ensures.value c.in-Some-resolved_in_front.ensures.within
+
+pub range_from-rest-requires : goal.range_from-rest-requires
+range_from-rest-requires g c = λ some. behind_mark c.as_bytes.result.now c.loop-at.rest.now c.in-Some.at c.as_bytes.ensures.value c.loop-at.invariant.text c.in-Some.ensures
+
+pub loop-at-preserved : goal.loop-at-preserved
+loop-at-preserved g c = record {
+  text = c.range_from-rest.utf8;
+  passed = past_mark _ c.args.text.now c.loop-at.rest.now c.as_bytes.result.now c.range_from.result.now c.in-Some.at c.as_bytes.ensures.value c.in-Some.ensures c.range_from.ensures.value c.loop-at.invariant.passed
+      c.range_from-rest.result.now c.in_default-resolved_in_front.ensures.value c.range_from-rest.ensures.value;
+}
+
+pub returns : goal.returns
+returns g c = passed_all _ c.args.text.now c.loop-at.rest.now (subst (λ (l : List _). IsFirstByte (is_byte2 38 92) l None) c.as_bytes.ensures.value c.in_default.ensures) c.loop-at.invariant.passed

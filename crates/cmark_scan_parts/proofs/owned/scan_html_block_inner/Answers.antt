@@ -1,0 +1,13 @@
+use Rattle.std.proofs.Common.{ℕ, List, ◌-◌, length, Option, Some, ap, ◌∙◌}
+use Rattle.std.specs.Prelude.{option_map}
+use Rattle.cmark_grammar.specs.InlineHtml.{OwnedTag, owned_tag}
+use Rattle.cmark_scan_parts.proofs.owned.scan_html_block_inner.Goals as goal
+
+with_text : (end : ℕ) → List ℕ → Option OwnedTag
+with_text end text = Some (record { end = end; buffer = text })
+
+pub returns-clause-value : goal.returns-clause-value
+unfolding with_text
+returns-clause-value g c = λ prefix answers.
+    ap (with_text (length c.args.bytes.now - length c.in-Some.rest.now)) (c.in_ok-buffer.ensures prefix answers)
+    ∙ ap (option_map (λ rest. owned_tag prefix (length c.args.bytes.now - length rest) c.args.bytes.now)) (c.in-Some.ensures.value prefix answers)

@@ -1,0 +1,5 @@
+pub mod Classes
+pub mod Handled
+pub mod Resolved
+pub mod Shown
+pub mod Steps

@@ -1,0 +1,49 @@
+-- What the values of structs mean.
+use Rattle.cmark_grammar.specs.InlineHtml.{OwnedTag, Find}
+use Rattle.cmark_scan_parts.specs.declared.owned.HtmlTag.{HtmlTag}
+use Rattle.std.specs.Prelude.{ℕ, List, ◌+◌, ◌-◌, ◌<◌, ◌≤◌, ◌≡◌, slice_index, suc, length, Option, option_map}
+use Rattle.cmark_grammar.specs.LinkDefinitions.{Found}
+use Rattle.cmark_scan_parts.specs.declared.link.Cut.{Cut}
+use Rattle.cmark_text.specs.Shown.{text_bytes}
+use Rattle.cmark_grammar.specs.Tokens as tokens
+use Rattle.cmark_scan_parts.specs.declared.entity.Entity.{Entity}
+use Rattle.cmark_scan_parts.specs.declared.label.LabelRead.{LabelRead}
+use Rattle.cmark_scan_parts.specs.declared.label.LinkLabelRest.{LinkLabelRest}
+use Rattle.cmark_scan_parts.specs.declared.inline_html.HtmlFind.{HtmlFind}
+
+abbrev pub shown_tag : HtmlTag → OwnedTag
+shown_tag tag = record { end = tag.end; buffer = tag.buffer.items }
+
+abbrev pub shown_find : HtmlFind → Find
+shown_find find = record { end = find.end; passed = find.passed }
+
+-- a part of a text, and the place behind its closer
+pub record Part : Type 0 where
+  pub end : ℕ
+  pub bytes : List ℕ
+
+abbrev pub shown_cut : Cut → Part
+shown_cut closed = record { end = closed.end; bytes = closed.part.now }
+
+-- what was found from a place on, with a closer of one byte
+abbrev pub cut_at : (start : ℕ) → Option Found → Option Part
+cut_at start found = option_map (λ f. record { end = start + suc (length f.bytes); bytes = f.bytes }) found
+
+abbrev pub shown_entity : Entity → tokens.Entity
+shown_entity entity = record { bytes = text_bytes entity.text; size = entity.len }
+
+-- what was found in a text, and where it ends in the text
+abbrev pub cut_behind : (text : List ℕ) → Found → Part
+cut_behind text found = record { end = length text - length found.behind; bytes = found.bytes }
+
+-- a part of so many bytes, of which some stand in front of these, ends with a semicolon
+pub record Closes (bs : List ℕ) (front size : ℕ) : Type 0 where
+  pub low : front < size
+  pub high : size ≤ front + length bs
+  pub semicolon : slice_index bs (size - front - 1) ≡ 59
+
+abbrev pub shown_label : LinkLabelRest → Part
+shown_label label = record { end = label.end; bytes = label.text.items }
+
+abbrev pub shown_read : LabelRead → Found
+shown_read read = record { bytes = read.text.items; behind = read.behind.now }

@@ -1,0 +1,28 @@
+-- Steps of a scanner from byte to byte.
+use Rattle.std.specs.Prelude.{ℕ, List, [], ◌∷◌, Option, Some, None}
+use Rattle.cmark_grammar.specs.LinkDefinitions.{Found, put}
+use Rattle.cmark_scan_parts.specs.declared.destination.Step.{Step}
+use Rattle.cmark_scan_parts.specs.declared.destination.Step.TheVariants.{Ends, Fails, GoesOn}
+
+-- what is read from a byte on, if this is what the byte does, and that is read behind it: one that ends a part is its
+-- closer, or stands behind it
+abbrev pub read_closed : Step → ℕ → List ℕ → Option Found → Option Found
+read_closed Ends b bs found = Some (record { bytes = []; behind = bs })
+read_closed Fails b bs found = None
+read_closed GoesOn b bs found = put b found
+
+abbrev pub read_bare : Step → ℕ → List ℕ → Option Found → Option Found
+read_bare Ends b bs found = Some (record { bytes = []; behind = b ∷ bs })
+read_bare Fails b bs found = None
+read_bare GoesOn b bs found = put b found
+
+-- P, if the part ends at the byte, or if the byte belongs to it
+abbrev pub OnEnds : Step → Type 0 → Type 0
+OnEnds Ends P = P
+OnEnds Fails P = Unit {0}
+OnEnds GoesOn P = Unit {0}
+
+abbrev pub OnGoesOn : Step → Type 0 → Type 0
+OnGoesOn Ends P = Unit {0}
+OnGoesOn Fails P = Unit {0}
+OnGoesOn GoesOn P = P

@@ -1,0 +1,127 @@
+//! Bytes by their class.
+
+ghost use Rattle.std.specs.Prelude.{◌≡◌, ◌<◌, ◌≤◌, length, option_copied, IfSome};
+ghost use Rattle.cmark_grammar.specs.Columns.{is_blank_byte};
+ghost use Rattle.std.specs.List.{prefix_len};
+ghost use Rattle.cmark_grammar.specs.Letters.{is_letter, behind_all};
+ghost use Rattle.cmark_grammar.specs.Tags.{is_attribute_start, is_space_byte, ends_value, behind_ending, behind_line_feed};
+
+/// A class of bytes, all of them ASCII but for `BareValue` and `Uri`.
+#[derive(Clone, Copy, Debug)]
+pub enum Class {
+    /// Spaces and tabs.
+    Blank,
+    /// What follows the first letter of a tag's name: letters, digits and `-` (CommonMark 6.6).
+    TagName,
+    /// What follows the first byte of an attribute's name: letters, digits, `_`, `:`, `.` and `-` (CommonMark 6.6).
+    AttributeName,
+    /// All but blanks, line endings, quotes, `=`, `<`, `>` and backticks (CommonMark 6.6).
+    BareValue,
+    /// What follows the first letter of a URI's scheme: letters, digits, `+`, `-` and `.` (CommonMark 6.5).
+    Scheme,
+    /// All but ASCII controls, space, `<` and `>` (CommonMark 6.5).
+    Uri,
+    /// Letters and digits.
+    Alphanumeric,
+    /// Decimal digits.
+    Digit,
+    /// Hexadecimal digits.
+    Hexadecimal,
+}
+
+impl Class {
+    ghost use Rattle.cmark_scan_parts.specs.Classes.{is_in};
+
+    /// Whether a byte is in the class.
+    #[inline]
+    pub fn has(self, byte: u8) -> bool
+        ensures { result ≡ is_in self byte }
+    {
+        match self {
+            Class::Blank => is_blank(byte),
+            Class::TagName => byte.is_ascii_alphanumeric() || byte == b'-',
+            Class::AttributeName => {
+                byte.is_ascii_alphanumeric() || matches!(byte, b'_' | b':' | b'.' | b'-')
+            }
+            Class::BareValue => !ends_value(byte),
+            Class::Scheme => byte.is_ascii_alphanumeric() || matches!(byte, b'+' | b'-' | b'.'),
+            Class::Uri => byte > b' ' && !matches!(byte, 127 | b'<' | b'>'),
+            Class::Alphanumeric => byte.is_ascii_alphanumeric(),
+            Class::Digit => byte.is_ascii_digit(),
+            Class::Hexadecimal => byte.is_ascii_hexdigit(),
+        }
+    }
+
+    /// How many bytes of the class stand in front.
+    pub fn count(self, bytes: &[u8]) -> usize
+        ensures value { result ≡ prefix_len (is_in self) bytes.now }
+        ensures within { result ≤ length bytes.now }
+    {
+        bytes.iter().take_while(|byte| self.has(**byte)).count()
+    }
+
+    /// The bytes behind those of the class in front.
+    pub fn behind(self, bytes: &[u8]) -> &[u8]
+        ensures value { result.now ≡ behind_all (is_in self) bytes.now }
+        ensures within { length result.now ≤ length bytes.now }
+    {
+        &bytes[self.count(bytes)..]
+    }
+}
+
+/// Whether a byte is a space or a tab.
+fn is_blank(byte: u8) -> bool
+    ensures { result ≡ is_blank_byte byte }
+{
+    byte == b' ' || byte == b'\t'
+}
+
+/// Whether a byte is a blank or a part of a line ending.
+pub fn is_space(byte: u8) -> bool
+    ensures { result ≡ is_space_byte byte }
+{
+    matches!(byte, b' ' | b'\t' | b'\n' | b'\r')
+}
+
+/// Whether a byte ends an attribute's bare value.
+fn ends_value(byte: u8) -> bool
+    ensures { result ≡ ends_value byte }
+{
+    is_space(byte) || matches!(byte, b'"' | b'\'' | b'<' | b'=' | b'>' | b'`')
+}
+
+/// Whether a byte is an ASCII letter.
+pub fn is_letter(byte: u8) -> bool
+    ensures { result ≡ is_letter byte }
+{
+    byte.is_ascii_alphabetic()
+}
+
+/// Whether an attribute's name may begin with this byte: a letter, `_` or `:`.
+pub fn is_attribute_start(byte: u8) -> bool
+    ensures { result ≡ is_attribute_start byte }
+{
+    byte.is_ascii_alphabetic() || byte == b'_' || byte == b':'
+}
+
+/// The bytes behind a line ending, if one stands in front: a line feed, a carriage return, or both in this order.
+pub fn behind_ending(bytes: &[u8]) -> Option<&[u8]>
+    ensures value { option_copied result ≡ behind_ending bytes.now }
+    ensures within { IfSome result (λ rest. length rest.now < length bytes.now) }
+{
+    match bytes {
+        [b'\n', rest @ ..] => Some(rest),
+        [b'\r', rest @ ..] => Some(behind_line_feed(rest)),
+        _ => None,
+    }
+}
+
+fn behind_line_feed(bytes: &[u8]) -> &[u8]
+    ensures value { result.now ≡ behind_line_feed bytes.now }
+    ensures within { length result.now ≤ length bytes.now }
+{
+    match bytes {
+        [b'\n', rest @ ..] => rest,
+        _ => bytes,
+    }
+}

@@ -1,0 +1,160 @@
+//! Destinations of links (CommonMark 6.3).
+
+ghost use Rattle.std.specs.Prelude.{◌≡◌, ◌<◌, ◌≤◌, ◌+◌, ℕ, List, Option, suc, false, length, drop, take, slice_index, IfSome, option_map};
+ghost use Rattle.std.specs.Str.{IsCharBoundary};
+ghost use Rattle.cmark_grammar.specs.LinkDefinitions.{Found, up_to_byte, up_to, bare_byte, bare_in, depth_after, escapes_next};
+ghost use Rattle.cmark_grammar.specs.Destinations.{link_destination_in};
+ghost use Rattle.cmark_scan_parts.specs.Shown.{shown_cut, cut_behind};
+ghost use Rattle.cmark_scan_parts.specs.Steps.{read_closed, read_bare, OnEnds, OnGoesOn};
+
+use crate::find::begins_with;
+use crate::link::Cut;
+
+/// What a byte does to the part that is read.
+#[derive(Clone, Copy, Debug)]
+pub enum Step {
+    /// The part ends there.
+    Ends,
+    /// There is no such part.
+    Fails,
+    /// The byte belongs to the part.
+    GoesOn,
+}
+
+/// Whether the byte behind this one is escaped.
+pub fn escapes_next(escaped: bool, byte: u8) -> bool
+    ensures { result ≡ escapes_next escaped byte }
+{
+    !escaped && byte == b'\\'
+}
+
+/// What a byte does to a destination in pointed brackets: `>` ends it, and a line ending or `<` refuses it, but for escaped
+/// brackets.
+fn pointed_step(escaped: bool, byte: u8) -> Step
+    ensures value { (bs : List ℕ) (found : Option Found) → up_to_byte escaped 62 60 false byte bs found ≡ read_closed result byte bs found }
+    ensures ends { OnEnds result (byte ≡ 62) }
+{
+    match byte {
+        b'\n' | b'\r' => Step::Fails,
+        b'>' if !escaped => Step::Ends,
+        b'<' if !escaped => Step::Fails,
+        _ => Step::GoesOn,
+    }
+}
+
+/// How many bytes of a destination stand in front of the `>` that closes it, if it does.
+fn pointed_size(bytes: &[u8]) -> Option<usize>
+    ensures value { option_map (λ size. record { bytes = take size bytes.now; behind = drop (suc size) bytes.now }) result ≡ up_to false 62 60 false bytes.now }
+    ensures within { IfSome result (λ size. size < length bytes.now) }
+    ensures closed { IfSome result (λ size. slice_index bytes.now size ≡ 62) }
+{
+    let mut escaped = false;
+    let mut rest = bytes;
+    while let Some((first, others)) = rest.split_first() {
+        match pointed_step(escaped, *first) {
+            Step::Ends => return Some(bytes.len() - rest.len()),
+            Step::Fails => return None,
+            Step::GoesOn => {}
+        }
+        escaped = escapes_next(escaped, *first);
+        rest = others;
+    }
+    None
+}
+
+/// How deep the parentheses are behind a byte of a bare destination.
+fn depth_after(escaped: bool, depth: usize, byte: u8) -> usize
+    requires { depth ≤ 32 }
+    ensures { result ≡ depth_after escaped depth byte }
+{
+    match byte {
+        b'(' if !escaped => depth + 1,
+        b')' if !escaped => depth.saturating_sub(1),
+        _ => depth,
+    }
+}
+
+/// What a byte does to a bare destination: an ASCII control, a space or an unescaped `)` without its `(` ends it where all
+/// parentheses are closed, and refuses it elsewhere; so does one more parenthesis where 32 are open.
+fn bare_step(escaped: bool, depth: usize, byte: u8) -> Step
+    requires { depth ≤ 32 }
+    ensures value { (bs : List ℕ) (found : Option Found) → bare_byte escaped depth byte bs found ≡ read_bare result byte bs found }
+    ensures ends { OnEnds result (byte < 128) }
+    ensures shallow { OnGoesOn result (depth_after escaped depth byte ≤ 32) }
+{
+    let closes = !escaped && byte == b')' && depth == 0;
+    if byte <= b' ' || byte == 127 || closes {
+        return if depth == 0 { Step::Ends } else { Step::Fails };
+    }
+    if !escaped && byte == b'(' && 32 <= depth {
+        Step::Fails
+    } else {
+        Step::GoesOn
+    }
+}
+
+/// How many bytes a bare destination in front has, if its parentheses are balanced.
+fn bare_size(bytes: &[u8]) -> Option<usize>
+    ensures value { option_map (λ size. record { bytes = take size bytes.now; behind = drop size bytes.now }) result ≡ bare_in false 0 bytes.now }
+    ensures within { IfSome result (λ size. size ≤ length bytes.now) }
+    ensures ends { IfSome result (λ size. size < length bytes.now → slice_index bytes.now size < 128) }
+{
+    let mut escaped = false;
+    let mut depth = 0;
+    let mut rest = bytes;
+    while let Some((first, others)) = rest.split_first() {
+        match bare_step(escaped, depth, *first) {
+            Step::Ends => return Some(bytes.len() - rest.len()),
+            Step::Fails => return None,
+            Step::GoesOn => {}
+        }
+        depth = depth_after(escaped, depth, *first);
+        escaped = escapes_next(escaped, *first);
+        rest = others;
+    }
+    if depth == 0 { Some(bytes.len()) } else { None }
+}
+
+/// The destination in pointed brackets whose `<` stands at this place of the text.
+fn pointed_dest(text: &str, start_ix: usize) -> Option<Cut<'_>>
+    requires within { start_ix < length text.now }
+    requires opens { slice_index text.now start_ix ≡ 60 }
+    ensures value { option_map shown_cut result ≡ option_map (cut_behind text.entry.now) (up_to false 62 60 false (drop (start_ix + 1) text.entry.now)) }
+    ensures within { IfSome result (λ dest. dest.end ≤ length text.entry.now) }
+{
+    let start = start_ix + 1;
+    let size = pointed_size(&text.as_bytes()[start..])?;
+    Some(Cut {
+        end: start + size + 1,
+        part: &text[start..start + size],
+    })
+}
+
+/// The bare destination at this place of the text.
+fn bare_dest(text: &str, start_ix: usize) -> Option<Cut<'_>>
+    requires { IsCharBoundary text.now start_ix }
+    ensures value { option_map shown_cut result ≡ option_map (cut_behind text.entry.now) (bare_in false 0 (drop start_ix text.entry.now)) }
+    ensures within { IfSome result (λ dest. dest.end ≤ length text.entry.now) }
+{
+    let size = bare_size(&text.as_bytes()[start_ix..])?;
+    Some(Cut {
+        end: start_ix + size,
+        part: &text[start_ix..start_ix + size],
+    })
+}
+
+/// The destination of a link at this place of the text, as it is written, and the place behind it (CommonMark 6.3): in pointed
+/// brackets, without a line ending or an unescaped `<` or `>`, or else all bytes up to an ASCII control, a space or an
+/// unescaped `)` without its `(`, where parentheses are balanced, 32 deep at most, or escaped. Either may be empty; `part` is
+/// without the brackets.
+pub fn scan_link_dest(text: &str, start_ix: usize) -> Option<Cut<'_>>
+    requires { IsCharBoundary text.now start_ix }
+    ensures value { option_map shown_cut result ≡ option_map (cut_behind text.entry.now) (link_destination_in (drop start_ix text.entry.now)) }
+    ensures within { IfSome result (λ dest. dest.end ≤ length text.entry.now) }
+{
+    if begins_with(&text.as_bytes()[start_ix..], b'<') {
+        pointed_dest(text, start_ix)
+    } else {
+        bare_dest(text, start_ix)
+    }
+}

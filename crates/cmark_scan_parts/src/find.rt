@@ -1,0 +1,57 @@
+//! Searches for bytes and closers.
+
+ghost use Rattle.std.specs.Prelude.{◌≡◌, ◌<◌, ◌≤◌, ◌==◌, not, length, option_copied, IfSome};
+ghost use Rattle.memchr.specs.Find.{is_byte3};
+ghost use Rattle.cmark_grammar.specs.Letters.{first_is, behind_all, behind_if, behind_start, behind_first};
+
+use memchr::{memchr3, memmem};
+
+/// The bytes from the first of these three on; none, where none of them stands there.
+pub fn at_first3(one: u8, two: u8, three: u8, bytes: &[u8]) -> &[u8]
+    ensures value { result.now ≡ behind_all (λ b. not (is_byte3 one two three b)) bytes.now }
+    ensures within { length result.now ≤ length bytes.now }
+{
+    match memchr3(one, two, three, bytes) {
+        Some(at) => &bytes[at..],
+        None => &bytes[bytes.len()..],
+    }
+}
+
+/// The bytes behind this one, if it stands in front.
+pub fn behind_byte(byte: u8, bytes: &[u8]) -> Option<&[u8]>
+    ensures value { option_copied result ≡ behind_if (λ b. b == byte) bytes.now }
+    ensures within { IfSome result (λ rest. length rest.now < length bytes.now) }
+{
+    match bytes {
+        [first, rest @ ..] if *first == byte => Some(rest),
+        _ => None,
+    }
+}
+
+/// The bytes behind these, if they stand in front.
+pub fn behind_start<'a>(prefix: &[u8], bytes: &'a [u8]) -> Option<&'a [u8]>
+    ensures value { option_copied result ≡ behind_start prefix.now bytes.now }
+    ensures within { IfSome result (λ rest. length rest.now ≤ length bytes.now) }
+{
+    bytes.strip_prefix(prefix)
+}
+
+/// The bytes behind the first place where the closer stands.
+pub fn behind_first<'a>(closer: &[u8], bytes: &'a [u8]) -> Option<&'a [u8]>
+    requires { 0 < length closer.now }
+    ensures value { option_copied result ≡ behind_first closer.now bytes.now }
+    ensures within { IfSome result (λ rest. length rest.now ≤ length bytes.now) }
+{
+    let at = memmem::find(bytes, closer)?;
+    Some(&bytes[at + closer.len()..])
+}
+
+/// Whether this byte stands in front.
+pub fn begins_with(bytes: &[u8], byte: u8) -> bool
+    ensures { result ≡ first_is (λ b. b == byte) bytes.now }
+{
+    match bytes {
+        [first, ..] => *first == byte,
+        [] => false,
+    }
+}

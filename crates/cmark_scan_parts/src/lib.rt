@@ -1,0 +1,26 @@
+//! Scanners of what stands inside a line: entities, destinations, autolinks, tags and other inline HTML.
+#![tactic(auto)]
+
+mod bytes;
+mod count;
+mod destination;
+mod entity;
+mod escapes;
+mod find;
+mod inline_html;
+mod label;
+mod link;
+mod owned;
+mod tag;
+#[cfg(test)]
+mod tests;
+
+pub use count::{scan_rev_while, scan_while};
+pub use destination::scan_link_dest;
+pub use entity::{Entity, scan_entity};
+pub use escapes::unescape;
+pub use inline_html::{HtmlFind, scan_inline_html_comment, scan_inline_html_processing};
+pub use label::{LinkLabelRest, scan_link_label_rest};
+pub use link::{Cut, scan_autolink, scan_wikilink_pipe};
+pub use owned::{HtmlTag, scan_html_block_inner};
+pub use tag::scan_tag;

@@ -1,0 +1,76 @@
+//! Autolinks and the names of wikilinks.
+
+ghost use Rattle.std.specs.Prelude.{◌≡◌, ◌+◌, ◌<◌, ◌≤◌, ◌==◌, suc, length, drop, take, slice_index, IfSome, option_map};
+ghost use Rattle.std.specs.List.{prefix_len};
+ghost use Rattle.std.specs.Str.{IsCharBoundary};
+ghost use Rattle.cmark_grammar.specs.Autolinks.{has_scheme, is_uri_byte, autolink_in, piped_name_in};
+ghost use Rattle.cmark_grammar.specs.LinkDefinitions.{Found};
+ghost use Rattle.cmark_grammar.specs.Letters.{first_is};
+ghost use Rattle.cmark_scan_parts.specs.Shown.{shown_cut, cut_at};
+
+use crate::bytes::{Class, is_letter};
+use crate::find::begins_with;
+use memchr::memchr;
+
+/// A part of a text, and the place behind its closer.
+#[derive(Clone, Copy, Debug, PartialEq, Eq)]
+pub struct Cut<'t> {
+    /// The place in the text behind the closer.
+    pub end: usize,
+    /// The part up to the closer.
+    pub part: &'t str,
+}
+
+/// Whether a scheme and a colon stand in front: a letter, then letters, digits, `+`, `-` and `.`, 2 to 32 bytes in all.
+fn has_scheme(bytes: &[u8]) -> bool
+    ensures { result ≡ has_scheme bytes.now }
+{
+    let [first, ..] = bytes else {
+        return false;
+    };
+    let size = Class::Scheme.count(bytes);
+    is_letter(*first) && 2 <= size && size <= 32 && begins_with(&bytes[size..], b':')
+}
+
+/// How many bytes a URI in front takes up to a `>`, if it is one and that follows it.
+fn uri_size(bytes: &[u8]) -> Option<usize>
+    ensures value { option_map (λ size. record { bytes = take size bytes.now; behind = drop (suc size) bytes.now }) result ≡ autolink_in bytes.now }
+    ensures within { IfSome result (λ size. size < length bytes.now) }
+    ensures closed { IfSome result (λ size. slice_index bytes.now size ≡ 62) }
+{
+    let size = Class::Uri.count(bytes);
+    if has_scheme(bytes) && begins_with(&bytes[size..], b'>') {
+        Some(size)
+    } else {
+        None
+    }
+}
+
+/// The autolink whose `<` ends at the place `start_ix` (CommonMark 6.5): its URI, as it is written, up to the `>` that closes
+/// it, and the place behind that. The URI has a scheme of 2 to 32 bytes, and no ASCII control, space, `<` or `>` in it.
+pub fn scan_autolink(text: &str, start_ix: usize) -> Option<Cut<'_>>
+    requires { IsCharBoundary text.now start_ix }
+    ensures value { option_map shown_cut result ≡ cut_at start_ix (autolink_in (drop start_ix text.entry.now)) }
+    ensures within { IfSome result (λ link. link.end ≤ length text.entry.now) }
+{
+    let size = uri_size(&text.as_bytes()[start_ix..])?;
+    Some(Cut {
+        end: start_ix + size + 1,
+        part: &text[start_ix..start_ix + size],
+    })
+}
+
+/// The name of a wikilink in front of its first `|`, among the `len` bytes of the text from `start_ix` on, and the place
+/// behind that `|` (this profile's own).
+pub fn scan_wikilink_pipe(text: &str, start_ix: usize, len: usize) -> Option<Cut<'_>>
+    requires starts { IsCharBoundary text.now start_ix }
+    requires within { start_ix + len ≤ length text.now }
+    ensures value { option_map shown_cut result ≡ cut_at start_ix (piped_name_in (take len (drop start_ix text.entry.now))) }
+    ensures within { IfSome result (λ name. name.end ≤ start_ix + len) }
+{
+    let size = memchr(b'|', &text.as_bytes()[start_ix..start_ix + len])?;
+    Some(Cut {
+        end: start_ix + size + 1,
+        part: &text[start_ix..start_ix + size],
+    })
+}

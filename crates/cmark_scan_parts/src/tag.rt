@@ -1,0 +1,215 @@
+//! Open and closing tags (CommonMark 6.6).
+//!
+//! A tag may take several lines, behind each of which stand the prefixes of the containers around it. A handler is asked
+//! about the bytes behind a line ending, and answers how many of them are prefixes.
+
+ghost use Rattle.std.specs.Prelude.{◌≡◌, ◌<◌, ◌≤◌, length, true, option_copied, IfSome};
+ghost use Rattle.cmark_grammar.specs.Lines.{is_content};
+ghost use Rattle.cmark_grammar.specs.Tags.{without_prefix, behind_space, behind_tag_name, behind_attribute_name, behind_bare_value, behind_greater, behind_open_end, behind_closing_tag, behind_quote, behind_value, behind_assigned, behind_attribute, behind_attributes, behind_open_tag, behind_tag_start, behind_tag, no_prefix};
+ghost use Rattle.cmark_scan_parts.specs.Handled.{AnswersWithin, ForAnswers};
+
+use crate::bytes::{Class, behind_ending, is_attribute_start, is_letter, is_space};
+use crate::find::{at_first3, behind_byte};
+
+/// The bytes behind a tag's name, if one stands in front: a letter, then letters, digits and `-`.
+fn behind_tag_name(bytes: &[u8]) -> Option<&[u8]>
+    ensures value { option_copied result ≡ behind_tag_name bytes.now }
+    ensures within { IfSome result (λ rest. length rest.now ≤ length bytes.now) }
+{
+    match bytes {
+        [first, rest @ ..] if is_letter(*first) => Some(Class::TagName.behind(rest)),
+        _ => None,
+    }
+}
+
+/// The bytes behind an attribute's name, if one stands in front: a letter, `_` or `:`, then letters, digits, `_`, `:`, `.`
+/// and `-`.
+fn behind_attribute_name(bytes: &[u8]) -> Option<&[u8]>
+    ensures value { option_copied result ≡ behind_attribute_name bytes.now }
+    ensures within { IfSome result (λ rest. length rest.now < length bytes.now) }
+{
+    match bytes {
+        [first, rest @ ..] if is_attribute_start(*first) => {
+            Some(Class::AttributeName.behind(rest))
+        }
+        _ => None,
+    }
+}
+
+/// The bytes behind a bare value, if one stands in front.
+fn behind_bare_value(bytes: &[u8]) -> Option<&[u8]>
+    ensures value { option_copied result ≡ behind_bare_value bytes.now }
+    ensures within { IfSome result (λ rest. length rest.now ≤ length bytes.now) }
+{
+    match bytes {
+        [first, rest @ ..] if Class::BareValue.has(*first) => Some(Class::BareValue.behind(rest)),
+        _ => None,
+    }
+}
+
+/// The bytes behind the end of an open tag, if it stands in front: `>`, or `/>`.
+fn behind_open_end(bytes: &[u8]) -> Option<&[u8]>
+    ensures value { option_copied result ≡ behind_open_end bytes.now }
+    ensures within { IfSome result (λ rest. length rest.now ≤ length bytes.now) }
+{
+    match bytes {
+        [b'/', rest @ ..] => behind_byte(b'>', rest),
+        _ => behind_byte(b'>', bytes),
+    }
+}
+
+/// The bytes behind a closing tag, if `bytes` are those behind its `</`.
+fn behind_closing_tag(bytes: &[u8]) -> Option<&[u8]>
+    ensures value { option_copied result ≡ behind_closing_tag bytes.now }
+    ensures within { IfSome result (λ rest. length rest.now ≤ length bytes.now) }
+{
+    behind_byte(b'>', Class::Blank.behind(behind_tag_name(bytes)?))
+}
+
+/// A rest of a line without its prefixes, of which the handler says how many bytes they take.
+pub fn without_prefix<'a, H: Fn(&[u8]) -> usize>(bytes: &'a [u8], handler: &H) -> &'a [u8]
+    requires callable { H.IsAlwaysCallable handler.now }
+    requires within { AnswersWithin H.Fn handler.now }
+    ensures value { ForAnswers H.Fn handler.now (λ prefix. result.now ≡ without_prefix prefix bytes.now) }
+    ensures within { length result.now ≤ length bytes.now }
+{
+    &bytes[handler(bytes)..]
+}
+
+/// The bytes behind white space: blanks with at most one line ending, and the prefixes of the next line.
+fn behind_space<'a, H: Fn(&[u8]) -> usize>(bytes: &'a [u8], handler: &H) -> &'a [u8]
+    requires callable { H.IsAlwaysCallable handler.now }
+    requires within { AnswersWithin H.Fn handler.now }
+    ensures value { ForAnswers H.Fn handler.now (λ prefix. result.now ≡ behind_space prefix bytes.now) }
+    ensures within { length result.now ≤ length bytes.now }
+{
+    let blanks = Class::Blank.behind(bytes);
+    match behind_ending(blanks) {
+        Some(rest) => Class::Blank.behind(without_prefix(rest, handler)),
+        None => blanks,
+    }
+}
+
+/// The bytes behind the closing quote, if `bytes` are those behind the opening one.
+fn behind_quote<'a, H: Fn(&[u8]) -> usize>(
+    quote: u8,
+    bytes: &'a [u8],
+    handler: &H,
+) -> Option<&'a [u8]>
+    requires callable { H.IsAlwaysCallable handler.now }
+    requires within { AnswersWithin H.Fn handler.now }
+    requires quote { is_content quote ≡ true }
+    ensures value { ForAnswers H.Fn handler.now (λ prefix. option_copied result ≡ behind_quote prefix quote 0 bytes.now) }
+    ensures within { IfSome result (λ rest. length rest.now ≤ length bytes.now) }
+{
+    let mut line = bytes;
+    'lines: loop {
+        let stop = at_first3(quote, b'\n', b'\r', line);
+        match behind_ending(stop) {
+            Some(next) => line = without_prefix(next, handler),
+            None => return behind_byte(quote, stop),
+        }
+    }
+}
+
+/// The bytes behind an attribute's value, if one stands in front.
+fn behind_value<'a, H: Fn(&[u8]) -> usize>(bytes: &'a [u8], handler: &H) -> Option<&'a [u8]>
+    requires callable { H.IsAlwaysCallable handler.now }
+    requires within { AnswersWithin H.Fn handler.now }
+    ensures value { ForAnswers H.Fn handler.now (λ prefix. option_copied result ≡ behind_value prefix bytes.now) }
+    ensures within { IfSome result (λ rest. length rest.now ≤ length bytes.now) }
+{
+    match bytes {
+        [b'"', rest @ ..] => behind_quote(b'"', rest, handler),
+        [b'\'', rest @ ..] => behind_quote(b'\'', rest, handler),
+        _ => behind_bare_value(bytes),
+    }
+}
+
+/// The bytes behind the value that an attribute has, if one stands behind its name; none, where `=` stands there alone.
+/// `name` are the bytes behind the name.
+fn behind_assigned<'a, H: Fn(&[u8]) -> usize>(name: &'a [u8], handler: &H) -> Option<&'a [u8]>
+    requires callable { H.IsAlwaysCallable handler.now }
+    requires within { AnswersWithin H.Fn handler.now }
+    ensures value { ForAnswers H.Fn handler.now (λ prefix. option_copied result ≡ behind_assigned prefix name.now (behind_space prefix name.now)) }
+    ensures within { IfSome result (λ rest. length rest.now ≤ length name.now) }
+{
+    match behind_space(name, handler) {
+        [b'=', value @ ..] => behind_value(behind_space(value, handler), handler),
+        _ => Some(name),
+    }
+}
+
+/// The bytes behind an attribute, if one stands in front behind white space.
+fn behind_attribute<'a, H: Fn(&[u8]) -> usize>(bytes: &'a [u8], handler: &H) -> Option<&'a [u8]>
+    requires callable { H.IsAlwaysCallable handler.now }
+    requires within { AnswersWithin H.Fn handler.now }
+    ensures value { ForAnswers H.Fn handler.now (λ prefix. option_copied result ≡ behind_attribute prefix bytes.now) }
+    ensures within { IfSome result (λ rest. length rest.now < length bytes.now) }
+{
+    match bytes {
+        [first, ..] if is_space(*first) => {
+            behind_assigned(
+                behind_attribute_name(behind_space(bytes, handler))?,
+                handler,
+            )
+        }
+        _ => None,
+    }
+}
+
+/// The bytes behind all attributes in front.
+fn behind_attributes<'a, H: Fn(&[u8]) -> usize>(bytes: &'a [u8], handler: &H) -> &'a [u8]
+    requires callable { H.IsAlwaysCallable handler.now }
+    requires within { AnswersWithin H.Fn handler.now }
+    ensures value { ForAnswers H.Fn handler.now (λ prefix. result.now ≡ behind_attributes prefix (length bytes.now) bytes.now) }
+    ensures within { length result.now ≤ length bytes.now }
+{
+    let mut rest = bytes;
+    while let Some(next) = behind_attribute(rest, handler) {
+        rest = next;
+    }
+    rest
+}
+
+/// The bytes behind an open tag, if `bytes` are those behind its `<`.
+fn behind_open_tag<'a, H: Fn(&[u8]) -> usize>(bytes: &'a [u8], handler: &H) -> Option<&'a [u8]>
+    requires callable { H.IsAlwaysCallable handler.now }
+    requires within { AnswersWithin H.Fn handler.now }
+    ensures value { ForAnswers H.Fn handler.now (λ prefix. option_copied result ≡ behind_open_tag prefix bytes.now) }
+    ensures within { IfSome result (λ rest. length rest.now ≤ length bytes.now) }
+{
+    let attributes = behind_attributes(behind_tag_name(bytes)?, handler);
+    behind_open_end(behind_space(attributes, handler))
+}
+
+/// The bytes behind an open or a closing tag, if `bytes` are those behind its `<`.
+fn behind_tag_start<'a, H: Fn(&[u8]) -> usize>(bytes: &'a [u8], handler: &H) -> Option<&'a [u8]>
+    requires callable { H.IsAlwaysCallable handler.now }
+    requires within { AnswersWithin H.Fn handler.now }
+    ensures value { ForAnswers H.Fn handler.now (λ prefix. option_copied result ≡ behind_tag_start prefix bytes.now) }
+    ensures within { IfSome result (λ rest. length rest.now ≤ length bytes.now) }
+{
+    match bytes {
+        [b'/', rest @ ..] => behind_closing_tag(rest),
+        _ => behind_open_tag(bytes, handler),
+    }
+}
+
+/// The bytes behind an open or a closing tag, if one stands in front.
+pub fn behind_tag<'a, H: Fn(&[u8]) -> usize>(bytes: &'a [u8], handler: &H) -> Option<&'a [u8]>
+    requires callable { H.IsAlwaysCallable handler.now }
+    requires within { AnswersWithin H.Fn handler.now }
+    ensures value { ForAnswers H.Fn handler.now (λ prefix. option_copied result ≡ behind_tag prefix bytes.now) }
+    ensures within { IfSome result (λ rest. length rest.now ≤ length bytes.now) }
+{
+    behind_tag_start(behind_byte(b'<', bytes)?, handler)
+}
+
+/// The bytes behind an open or a closing tag, if one stands in front (CommonMark 6.6). For bytes of one line.
+pub fn scan_tag(bytes: &[u8]) -> Option<&[u8]>
+    ensures value { option_copied result ≡ behind_tag no_prefix bytes.now }
+    ensures within { IfSome result (λ rest. length rest.now ≤ length bytes.now) }
+{
+    behind_tag(bytes, &|_: &[u8]| 0)
+}

@@ -1,0 +1,12 @@
+pub mod Building
+pub mod Cutting
+pub mod Entries
+pub mod Items
+pub mod Order
+pub mod Reading
+pub mod Relinks
+pub mod StandsLemmas
+pub mod Steps
+pub mod Surgery
+pub mod Times
+pub mod Truncating

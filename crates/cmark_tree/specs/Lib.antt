@@ -1,0 +1,11 @@
+pub mod Arena
+pub mod Building
+pub mod Forest
+pub mod Lending
+pub mod Nodes
+pub mod Order
+pub mod Reading
+pub mod Tree
+pub mod Truncated
+pub mod Truncating
+pub mod Zip

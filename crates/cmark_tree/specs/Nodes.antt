@@ -1,0 +1,58 @@
+-- The nodes of a tree by their numbers, from 1 on. No other file of specs/ knows how they are stored.
+use Rattle.std.specs.Prelude.{◌≡◌, ◌≢◌, ℕ, zero, suc, ◌<◌, ◌≤◌, List, length, slice_get, Option, Some, None}
+use Rattle.cmark_tree.specs.declared.nodes.Node.{Node}
+use Rattle.cmark_tree.specs.declared.nodes.Nodes.{Nodes}
+use Rattle.cmark_tree.specs.Arena.{Entry}
+
+module _ {T : Type 0} where
+  abbrev pub entry_of : Option (Node T) → Option (Entry T)
+  entry_of None = None
+  entry_of (Some n) = Some (record { item = n.item; child = n.child; next = n.next })
+
+  abbrev pub entry_in : List (Node T) → ℕ → Option (Entry T)
+  entry_in list zero = None
+  entry_in list (suc i) = entry_of (slice_get list i)
+
+  -- the node of this number
+  unfoldable pub node_at : Nodes T → ℕ → Option (Entry T)
+  node_at nodes = entry_in nodes.list.items
+
+  -- how many there are
+  unfoldable pub node_count : Nodes T → ℕ
+  node_count nodes = length nodes.list.items
+
+  -- there is a node of this number
+  abbrev pub HasNumber : Nodes T → ℕ → Type 0
+  HasNumber nodes ix = (0 < ix) × (ix ≤ node_count nodes)
+
+  -- every node but that of this number is as it was
+  abbrev pub SameBut : Nodes T → Nodes T → ℕ → Type 0
+  SameBut old new ix = (i : ℕ) → i ≢ ix → node_at new i ≡ node_at old i
+
+  -- a new node behind the others, with no links
+  pub record IsGrown (old new : Nodes T) (ix : ℕ) (x : T) : Type 0 where
+    pub place : ix ≡ suc (node_count old)
+    pub written : node_at new ix ≡ Some (record { item = x; child = 0; next = 0 })
+    pub others : SameBut old new ix
+    pub count : node_count new ≡ suc (node_count old)
+
+  -- one node is changed
+  pub record IsChanged (old new : Nodes T) (ix : ℕ) (change : Entry T → Entry T) : Type 0 where
+    pub written : (e : Entry T) → node_at old ix ≡ Some e → node_at new ix ≡ Some (change e)
+    pub others : SameBut old new ix
+    pub count : node_count new ≡ node_count old
+
+  -- the same nodes
+  pub record SameNodes (old new : Nodes T) : Type 0 where
+    pub nodes : node_at new ≡ node_at old
+    pub count : node_count new ≡ node_count old
+
+  -- the node with another link, or with another item
+  abbrev pub with_next : ℕ → Entry T → Entry T
+  with_next to e = record e { next = to }
+
+  abbrev pub with_child : ℕ → Entry T → Entry T
+  with_child to e = record e { child = to }
+
+  abbrev pub with_other_item : T → Entry T → Entry T
+  with_other_item w e = record e { item = w }

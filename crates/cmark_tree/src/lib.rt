@@ -1,0 +1,13 @@
+//! An ordered forest in one place of memory, with a path down into it and a focus: the tree of a document.
+#![tactic(auto)]
+
+mod nodes;
+#[cfg(test)]
+mod tests;
+mod tree;
+mod tree_index;
+mod truncate;
+
+pub use tree::Tree;
+pub use tree_index::TreeIndex;
+pub use truncate::TreeSpan;

@@ -1,0 +1,264 @@
+//! An ordered forest in one place of memory, with a path down into it and a focus.
+//!
+//! Nodes are numbered from 1 on in the order in which they are made, and none is ever freed. The contracts speak of a `Zip`: the
+//! siblings before the focus, those from the focus on, and the nodes above. `Holds tree z` says that the links of the tree are
+//! that forest, that no node is reached twice, and that the path and the focus are those of `z`; each call is a step of `z`.
+
+ghost use Rattle.std.specs.Prelude.{◌⊎◌, List, ◌∷◌, ◌≡◌, ◌≢◌, ◌+◌, ◌<◌, ◌≤◌, suc, Some, length, IfOk, OnOk, OnErr, IfSome, OnSome, IfNone};
+ghost use Rattle.std.specs.Borrow.{sem};
+ghost use Rattle.std.specs.Slice.Iter.{iter_rest};
+ghost use Rattle.cmark_tree.specs.Lending.{LendsItemAt};
+ghost use Rattle.cmark_tree.specs.Forest.{Forest, Nil, join, one};
+ghost use Rattle.cmark_tree.specs.Building.{Opened, Is, IsPlaced, closed};
+ghost use Rattle.cmark_tree.specs.Arena.{Entry, Placed};
+ghost use Rattle.cmark_tree.specs.Zip.{Zip, nothing, CanAppend, appended, HasFocus, pushed, popped, Sibling, past, at_first, next_relinked, child_relinked};
+ghost use Rattle.cmark_tree.specs.Nodes.{IsGrown, IsChanged, with_next, with_child};
+ghost use Rattle.cmark_tree.specs.Tree.{entry_at, HasNode, tree_len, place_of, index_at, focus_of, parent_of, spine_of, Holds, IsOpen, IsAtNode, IsAtSibling, KeepsNodes, KeepsPath, IsUnchanged, CanLink, CanLinkNext, CanLinkChild};
+
+use crate::nodes::Nodes;
+use crate::tree_index::TreeIndex;
+use std::alloc::{AllocError, Global};
+use std::slice::Iter;
+
+/// An ordered forest with a path and a focus: siblings, of which one is the focus or none is, below the nodes of the path.
+///
+/// A builder calls `open`, `add` and `close`; a walk calls `cur`, `push`, `next_sibling` and `pop`:
+///
+/// ```text
+/// tree.open(list)?;        // list
+/// tree.add(item)?;         //   item      the focus
+/// tree.close();            // list is the focus again
+/// ```
+// A link is the number of a node, where 0 stands for none; a node's item of 32 bytes so takes 48 bytes with its links.
+#[derive(Drop)]
+pub struct Tree<T> {
+    pub(crate) nodes: Nodes<T>,
+    pub(crate) spine: Vec<TreeIndex>,
+    pub(crate) first: usize,
+    pub(crate) cur: usize,
+}
+
+// The node that a link leads to.
+fn index_of(link: usize) -> Option<TreeIndex>
+    ensures { result ≡ index_at link }
+{
+    if link == 0 {
+        None
+    } else {
+        Some(TreeIndex { ix: link })
+    }
+}
+
+fn link_of(ix: Option<TreeIndex>) -> usize
+    ensures { result ≡ place_of ix }
+{
+    match ix {
+        Some(ix) => ix.ix,
+        None => 0,
+    }
+}
+
+impl<T: Drop> Tree<T> {
+    /// An empty forest with room for `capacity` nodes. It fails where there is no memory for them.
+    pub fn with_capacity(alloc: Global, capacity: usize) -> Result<Tree<T>, AllocError>
+        ensures empty { IfOk result (λ t. Holds t nothing) }
+        ensures none { IfOk result (λ t. tree_len t ≡ 0) }
+    {
+        let nodes = Nodes::with_capacity(alloc, capacity)?;
+        Ok(Tree {
+            nodes,
+            spine: Vec::new(alloc),
+            first: 0,
+            cur: 0,
+        })
+    }
+
+    /// A node after the focus; with no focus, the parent's first child, or the first tree. It becomes the focus, and its number is
+    /// answered. Nothing may stand in that place yet. Where there is no memory nothing changes.
+    pub fn append(&mut self, item: T) -> Result<TreeIndex, AllocError>
+        requires { IsOpen self.old }
+        ensures ok { IfOk result (λ i. (z : Zip T) → Holds self.old z → CanAppend z → Holds self.new (appended i.ix item z)) }
+        ensures new { IfOk result (λ i. i.ix ≡ suc (tree_len self.old)) }
+        ensures len { OnOk result (tree_len self.new ≡ suc (tree_len self.old)) }
+        ensures err { OnErr result (IsUnchanged self.old self.new) }
+    {
+        let ix = self.nodes.push(item)?;
+        if self.cur != 0 {
+            self.nodes.set_next(self.cur, ix);
+        } else if let Some(parent) = self.peek_up() {
+            self.nodes.set_child(parent.ix, ix);
+        } else {
+            self.first = ix;
+        }
+        self.cur = ix;
+        Ok(TreeIndex { ix })
+    }
+
+    /// Down to the focus's first child, or to no focus where it has none. Where there is no memory nothing changes.
+    pub fn push(&mut self) -> Result<(), AllocError>
+        requires { IsAtNode self.old }
+        ensures ok { OnOk result ((z : Zip T) → Holds self.old z → HasFocus z → Holds self.new (pushed z)) }
+        ensures nodes { KeepsNodes self.old self.new }
+        ensures err { OnErr result (IsUnchanged self.old self.new) }
+    {
+        self.spine.push(TreeIndex { ix: self.cur })?;
+        self.cur = self.nodes.child(self.cur);
+        Ok(())
+    }
+
+    /// Up to the parent, which becomes the focus and is answered; with no parent nothing changes.
+    pub fn pop(&mut self) -> Option<TreeIndex>
+        ensures result { (z : Zip T) → Holds self.old z → result ≡ parent_of z.up }
+        ensures popped { (z : Zip T) → Holds self.old z → Holds self.new (popped z) }
+        ensures nodes { KeepsNodes self.old self.new }
+    {
+        let ix = self.spine.pop()?;
+        self.cur = ix.ix;
+        Some(ix)
+    }
+
+    /// The focus.
+    pub fn cur(&self) -> Option<TreeIndex>
+        ensures { (z : Zip T) → Holds self.now z → result ≡ focus_of z.right }
+    {
+        index_of(self.cur)
+    }
+
+    /// The parent of the focus.
+    pub fn peek_up(&self) -> Option<TreeIndex>
+        ensures { (z : Zip T) → Holds self.now z → result ≡ parent_of z.up }
+    {
+        self.spine.last().copied()
+    }
+
+    /// To the sibling after `ix`, which is answered, or to no focus after the last. `ix` is the focus or one of its siblings.
+    pub fn next_sibling(&mut self, ix: TreeIndex) -> Option<TreeIndex>
+        requires { IsAtSibling self.old ix.ix }
+        ensures past { (z : Zip T) (s : Sibling z ix.ix) → Holds self.old z → Holds self.new (past z ix.ix s) }
+        ensures result { (z : Zip T) (s : Sibling z ix.ix) → Holds self.old z → result ≡ focus_of s.after }
+        ensures nodes { KeepsNodes self.old self.new }
+    {
+        let next = self.nodes.next(ix.ix);
+        self.cur = next;
+        index_of(next)
+    }
+
+    /// To the first tree, with no parent.
+    pub fn reset(&mut self)
+        ensures first { (z : Zip T) → Holds self.old z → Holds self.new (at_first z) }
+        ensures nodes { KeepsNodes self.old self.new }
+    {
+        self.spine.clear();
+        self.cur = self.first;
+    }
+
+    /// The parents, outermost first.
+    pub fn walk_spine(&self) -> Iter<'_, TreeIndex>
+        ensures { (z : Zip T) → Holds self.now z → iter_rest result ≡ spine_of z.up }
+    {
+        self.spine.iter()
+    }
+
+    /// How many parents there are.
+    pub fn spine_len(&self) -> usize
+        ensures { (z : Zip T) → Holds self.now z → result ≡ length z.up }
+    {
+        self.spine.len()
+    }
+
+    /// A node after the focus, and the path down to it.
+    ///
+    /// Refused, the tree is as it was, or the node stands there and is the focus.
+    pub fn open(&mut self, item: T) -> Result<(), AllocError>
+        requires { IsPlaced self.old }
+        ensures ok { OnOk result ((here : Forest T) (up : List (Opened T)) → Is self.old here up → Is self.new Nil (record { left = here; item = item } ∷ up)) }
+        ensures err { OnErr result ((here : Forest T) (up : List (Opened T)) → Is self.old here up → Is self.new here up ⊎ Is self.new (join here (one item Nil)) up) }
+    {
+        self.append(item)?;
+        self.push()?;
+        Ok(())
+    }
+
+    /// A node with no children after the focus, which it becomes. Refused, the tree is as it was.
+    pub fn add(&mut self, item: T) -> Result<TreeIndex, AllocError>
+        requires { IsPlaced self.old }
+        ensures ok { OnOk result ((here : Forest T) (up : List (Opened T)) → Is self.old here up → Is self.new (join here (one item Nil)) up) }
+        ensures new { IfOk result (λ i. i.ix ≡ suc (tree_len self.old)) }
+        ensures err { OnErr result (IsUnchanged self.old self.new) }
+    {
+        let ix = self.append(item)?;
+        Ok(ix)
+    }
+
+    /// Up from the innermost open node, which is the focus then.
+    pub fn close(&mut self)
+        ensures { (here : Forest T) (v : Opened T) (up : List (Opened T)) → Is self.old here (v ∷ up) → Is self.new (closed v here) up }
+    {
+        self.pop();
+    }
+
+    /// A node that no link leads to, as for `set_next` or `set_child` to lead to it. Where there is no memory nothing changes.
+    pub fn create_node(&mut self, item: T) -> Result<TreeIndex, AllocError>
+        ensures new { IfOk result (λ i. IsGrown self.old.nodes self.new.nodes i.ix item) }
+        ensures forest { (z : Zip T) → Holds self.old z → Holds self.new z }
+        ensures err { OnErr result (IsUnchanged self.old self.new) }
+    {
+        let new = self.nodes.push(item)?;
+        Ok(TreeIndex { ix: new })
+    }
+
+    /// The item of a node.
+    pub fn item(&self, ix: TreeIndex) -> &T
+        requires { HasNode self.now ix.ix }
+        ensures { (e : Entry T) → entry_at self.now ix.ix ≡ Some e → result.now ≡ e.item }
+    {
+        self.nodes.item(ix.ix)
+    }
+
+    /// The item of a node, to be written.
+    pub fn item_mut(&mut self, ix: TreeIndex) -> &mut T
+        requires { HasNode self.old ix.ix }
+        ensures* lends { sem 𝓛 (LendsItemAt T.row self.entry ix.ix result) }
+        ensures value { (e : Entry T) → entry_at self.old ix.ix ≡ Some e → result.now ≡ e.item }
+    {
+        self.nodes.item_mut(ix.ix)
+    }
+
+    /// The sibling after a node.
+    pub fn next(&self, ix: TreeIndex) -> Option<TreeIndex>
+        requires { HasNode self.now ix.ix }
+        ensures { (e : Entry T) → entry_at self.now ix.ix ≡ Some e → result ≡ index_at e.next }
+    {
+        index_of(self.nodes.next(ix.ix))
+    }
+
+    /// The first child of a node.
+    pub fn child(&self, ix: TreeIndex) -> Option<TreeIndex>
+        requires { HasNode self.now ix.ix }
+        ensures { (e : Entry T) → entry_at self.now ix.ix ≡ Some e → result ≡ index_at e.child }
+    {
+        index_of(self.nodes.child(ix.ix))
+    }
+
+    /// Sets the sibling after a node, which is the focus, or stands after it or inside one of those. The siblings that stood there
+    /// are dropped from the forest, and stay nodes. No other link may lead to `to`, but from dropped nodes, and the node may not
+    /// stand inside `to`.
+    pub fn set_next(&mut self, ix: TreeIndex, to: Option<TreeIndex>)
+        requires { CanLinkNext self.old ix.ix (place_of to) }
+        ensures forest { (z : Zip T) (g : Forest (Placed T)) → CanLink self.old z ix.ix (place_of to) g (next_relinked ix.ix g z) → Holds self.new (next_relinked ix.ix g z) }
+        ensures nodes { IsChanged self.old.nodes self.new.nodes ix.ix (with_next (place_of to)) }
+        ensures path { KeepsPath self.old self.new }
+    {
+        self.nodes.set_next(ix.ix, link_of(to));
+    }
+
+    /// Sets the first child of a node, on the terms of `set_next`.
+    pub fn set_child(&mut self, ix: TreeIndex, to: Option<TreeIndex>)
+        requires { CanLinkChild self.old ix.ix (place_of to) }
+        ensures forest { (z : Zip T) (g : Forest (Placed T)) → CanLink self.old z ix.ix (place_of to) g (child_relinked ix.ix g z) → Holds self.new (child_relinked ix.ix g z) }
+        ensures nodes { IsChanged self.old.nodes self.new.nodes ix.ix (with_child (place_of to)) }
+        ensures path { KeepsPath self.old self.new }
+    {
+        self.nodes.set_child(ix.ix, link_of(to));
+    }
+}

@@ -1,0 +1,129 @@
+//! Siblings cut off where their text ends.
+
+ghost use Rattle.std.specs.Prelude.{◌≡◌, ℕ, ◌+◌, ◌<◌, ◌≤◌, true, List, ◌∷◌, Some, None, if◌then◌else◌};
+ghost use Rattle.cmark_tree.specs.Forest.{Forest, join};
+ghost use Rattle.cmark_tree.specs.Arena.{Entry, Placed, Stands, IsOnce, IsForest};
+ghost use Rattle.cmark_tree.specs.Arena.{first as first_of};
+ghost use Rattle.cmark_tree.specs.Zip.{Zip, Level, plug};
+ghost use Rattle.cmark_tree.specs.Nodes.{node_at, HasNumber};
+ghost use Rattle.cmark_tree.specs.Tree.{Holds, entry_at, parent_of, spine_of};
+ghost use Rattle.cmark_tree.specs.Truncating.{Spans, shortened, IsCut, last_place, at_last, siblings_truncated};
+ghost use Rattle.cmark_tree.specs.Truncated.{CanTruncate, HasParent, CanEnd, IsChildren, IsShortened};
+
+use crate::nodes::Nodes;
+use crate::tree::Tree;
+use crate::tree_index::TreeIndex;
+
+/// What has a range of bytes, and may begin with a byte that a backslash escapes.
+pub trait TreeSpan: Drop {
+    ghost spans: { Spans Self };
+
+    /// Where the range begins.
+    fn start(&self) -> usize
+        ensures { result ≡ spans.start self.now };
+
+    /// Where the range ends.
+    fn end(&self) -> usize
+        ensures { result ≡ spans.end self.now };
+
+    /// Whether a backslash stands before the first byte, and escapes it.
+    fn escaped(&self) -> bool
+        ensures { result ≡ spans.escaped self.now };
+
+    /// Sets the range.
+    fn set_range(&mut self, start: usize, end: usize)
+        ensures { self.new ≡ spans.ranged self.old start end };
+}
+
+// Whether something is left of an item that does not end before `to`, which it is then.
+fn shorten<T: TreeSpan>(item: &mut T, to: usize) -> bool
+    requires { T.spans.start item.old ≡ to → T.spans.escaped item.old ≡ true → 0 < to }
+    ensures { shortened T.spans to item.old ≡ (if result then Some item.new else None) }
+{
+    if item.end() == to {
+        return true;
+    }
+    let start = item.start();
+    if start < to {
+        item.set_range(start, to);
+        return true;
+    }
+    if start == to && item.escaped() {
+        item.set_range(to - 1, to);
+        return true;
+    }
+    false
+}
+
+// The last sibling that ends before the place, and the one after it, where 0 stands for none.
+#[derive(Clone, Copy)]
+struct Cut {
+    kept: usize,
+    at: usize,
+}
+
+// Where siblings are cut, from `head` on.
+fn cut_place<T: TreeSpan>(nodes: &Nodes<T>, head: usize, to: usize) -> Cut
+    requires { (f : Forest (Placed T)) × IsChildren nodes.now f head }
+    ensures { (f : Forest (Placed T)) → IsChildren nodes.now f head → IsCut T.spans to f result.kept result.at }
+{
+    let mut cut = Cut { kept: 0, at: head };
+    for _step in 0..nodes.count() {
+        if cut.at == 0 {
+            return cut;
+        }
+        if nodes.item(cut.at).end() >= to {
+            return cut;
+        }
+        cut = Cut {
+            kept: cut.at,
+            at: nodes.next(cut.at),
+        };
+    }
+    cut
+}
+
+// Whether something is left of a node's item that does not end before `to`, which it is then.
+fn shorten_at<T: TreeSpan>(nodes: &mut Nodes<T>, at: usize, to: usize) -> bool
+    requires number { HasNumber nodes.old at }
+    requires inside { (e : Entry T) → node_at nodes.old at ≡ Some e → T.spans.start e.item ≡ to → T.spans.escaped e.item ≡ true → 0 < to }
+    ensures { (e : Entry T) → node_at nodes.old at ≡ Some e → IsShortened T.spans to nodes.old nodes.new at e.item result }
+{
+    let item = nodes.item_mut(at);
+    shorten(item, to)
+}
+
+impl<T: TreeSpan> Tree<T> {
+    /// Cuts the parent's children off at byte `end`. Those that end before it stay; the next is shortened to end there, and what is
+    /// after it goes. One that begins at `end` goes too, but where a backslash escapes its first byte, it becomes that backslash. The
+    /// last that is left is the focus.
+    pub fn truncate_siblings(&mut self, end: usize)
+        requires { CanTruncate T.spans self.old }
+        ensures { (z : Zip T) → Holds self.old z → HasParent z.up → Holds self.new (siblings_truncated T.spans end z) }
+    {
+        let Some(parent) = self.peek_up() else {
+            return;
+        };
+        let cut = cut_place(&self.nodes, self.nodes.child(parent.ix), end);
+        if cut.at == 0 {
+            self.end_siblings(parent, cut.kept);
+        } else if shorten_at(&mut self.nodes, cut.at, end) {
+            self.end_siblings(parent, cut.at);
+        } else {
+            self.end_siblings(parent, cut.kept);
+        }
+    }
+
+    // The parent's children end with this one, or there are none: it is the focus.
+    fn end_siblings(&mut self, parent: TreeIndex, last: usize)
+        requires { CanEnd self.old parent last }
+        ensures { (done rest : Forest (Placed T)) (up : List (Level T)) → IsForest (entry_at self.old) self.old.first (plug up (join done rest)) → self.old.spine.items ≡ spine_of up → parent_of up ≡ Some parent → last_place done ≡ last → Holds self.new (at_last done up) }
+    {
+        if last == 0 {
+            self.nodes.set_child(parent.ix, 0);
+        } else {
+            self.nodes.set_next(last, 0);
+        }
+        self.cur = last;
+    }
+}
