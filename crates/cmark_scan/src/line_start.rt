@@ -193,7 +193,8 @@ impl<'a> LineStart<'a> {
     pub fn remaining_bytes(&self) -> &'a [u8]
         ensures { (at : ℕ) → bytes_of (columns_from at self.now) ≡ result.now }
     {
-        &self.bytes[self.taken..]
+        let LineStart { bytes, taken, .. } = *self;
+        &bytes[taken..]
     }
 
     /// How many bytes of the line were taken, a tab of which a part was taken among them.
