@@ -1,0 +1,52 @@
+-- Which lines a container keeps, and the places of what it leaves of them.
+use Rattle.std.proofs.Common.{◌≡◌, ℕ, Bool, true, false, ◌&&◌, ◌||◌, List, [], ◌∷◌, Option, Some, None, refl, sym, ap, ◌∙◌, subst}
+use Rattle.std.specs.Prelude.{if◌then◌else◌, option_map, IfSome}
+use Rattle.std.specs.Str.{IsCharBoundary}
+use Rattle.cmark_grammar.specs.Rows.{Row, without, is_blank_line}
+use Rattle.cmark_grammar.specs.Containers as grammar
+use Rattle.cmark_grammar.specs.Containers.{is_quote, quote_width, keep_as, keeps, enter, strip_as, strip}
+use Rattle.cmark_grammar.proofs.RowPlaces.{strip-past}
+use Rattle.cmark_grammar.proofs.RowEdges.{strips-good}
+use Rattle.cmark_lines.specs.Rests.{row_of, IsIn}
+use Rattle.cmark_lines.specs.Starts.{Shows, quote_entered}
+use Rattle.cmark_lines.specs.declared.line_rest.LineRest.{LineRest}
+use Rattle.cmark_lines.specs.declared.container.Container.{Container}
+use Rattle.cmark_lines.specs.declared.container.Container.TheVariants as kept
+use Rattle.cmark_lines.proofs.RestSteps.{in-moved}
+
+-- a blank line ends a bare item
+pub blank-ends : (k : grammar.Container) (r : Row) → r.lazy ≡ false → is_blank_line r ≡ true → None ≡ keeps k true r
+unfolding keeps
+blank-ends k r whole blank =
+    sym (ap (λ z. if z || (true && is_blank_line r) then None else keep_as k r) whole ∙ ap (λ z. if false || (true && z) then None else keep_as k r) blank)
+
+-- else it does not matter whether the line before was bare
+pub bare-kept : (k : grammar.Container) (bare : Bool) (r : Row) → (bare && is_blank_line r) ≡ false → keeps k false r ≡ keeps k bare r
+unfolding keeps
+bare-kept k bare r e = ap (λ z. if r.lazy || z then None else keep_as k r) (sym e)
+
+pub quote-keeps : (r : Row) → r.lazy ≡ false → quote_entered r ≡ keeps grammar.Quote false r
+unfolding keeps enter
+quote-keeps r whole = ap (λ z. if z || (false && is_blank_line r) then None else (if is_quote r then Some (without (quote_width r) r) else None)) (sym whole)
+
+-- the containers that are shown
+pub shows-quote : (s : Container) (k : grammar.Container) → s ≡ kept.Quote → Shows s k → k ≡ grammar.Quote
+shows-quote s k is h = by k (subst (λ x. Shows x k) is h)
+  where
+    by : (k : grammar.Container) → Shows kept.Quote k → k ≡ grammar.Quote
+    by grammar.Quote p = refl
+    by (grammar.Item mark number width) p = absurd p
+
+pub shows-item : (s : Container) (w : ℕ) (k : grammar.Container) → s ≡ kept.Item w → Shows s k → (mark : ℕ) × ((number : Option ℕ) × (k ≡ grammar.Item mark number w))
+shows-item s w k is h = by k (subst (λ x. Shows x k) is h)
+  where
+    by : (k : grammar.Container) → Shows (kept.Item w) k → (mark : ℕ) × ((number : Option ℕ) × (k ≡ grammar.Item mark number w))
+    by grammar.Quote p = absurd p
+    by (grammar.Item mark number width) p = (mark, (number, ap (grammar.Item mark number) (sym p)))
+
+-- what a container leaves of a line of a text stands in the text
+pub kept-in : (text : List ℕ) (rest : LineRest) (k : grammar.Container) (o : Option LineRest) → option_map row_of o ≡ keeps k false (row_of rest) → IsIn text rest → IfSome o (IsIn text)
+kept-in text rest k None is h = tt
+kept-in text rest k (Some moved) is h =
+    let same : strip k false (row_of rest) ≡ row_of moved = ap (λ o. strip_as o (row_of rest)) (sym is) in
+    in-moved text rest moved (strip k false (row_of rest)) (sym same) (strip-past k false (row_of rest)) (strips-good (IsCharBoundary text) k false (row_of rest ∷ []) (h.good, tt)).0 h

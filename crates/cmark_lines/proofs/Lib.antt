@@ -1,0 +1,5 @@
+pub mod ContainerRows
+pub mod LineRows
+pub mod OpeningRows
+pub mod PrefixRows
+pub mod RestSteps

@@ -1,0 +1,118 @@
+-- What a line begins, test by test.
+use Rattle.std.proofs.Common.{◌≡◌, ℕ, ◌-◌, ◌≤◌, Bool, true, false, ◌&&◌, ◌||◌, not, List, [], ◌∷◌, ◌++◌, length, Option, Some, None, refl, sym, ap, ◌∙◌, arith}
+use Rattle.std.specs.Prelude.{if◌then◌else◌, nat_le}
+use Rattle.std.specs.Str.{IsCharBoundary}
+use Rattle.cmark_grammar.specs.Options.{Options, no_options}
+use Rattle.cmark_grammar.specs.Columns.{bytes_of}
+use Rattle.cmark_grammar.specs.Rows.{Row, without, is_blank_line, indent_of, words_of}
+use Rattle.cmark_grammar.specs.Leaves.{Fence, run, is_thematic_break, is_atx_heading, fence_of, counted, code_further}
+use Rattle.cmark_grammar.specs.HtmlBlocks.{html_kind}
+use Rattle.cmark_grammar.specs.LinkDefinitions.{label_in, with_label, definition_in, further_bytes, bytes_over}
+use Rattle.cmark_grammar.specs.Containers.{Container, Item, begins_with, container_of, enter}
+use Rattle.cmark_grammar.specs.Openings.{Opening, Blank, Nests, Takes, Plain, AtxHeading, IndentedCode, or_else, nests_if, is_one, item_interrupts, fenced_if, html_if, break_if, heading_if, defined_if, text_lines, definition_of, leaf_of, whole_opens, opens}
+use Rattle.cmark_grammar.proofs.RowEdges.{enter-good}
+use Rattle.cmark_scan.specs.LeafLines.{atx_level}
+use Rattle.cmark_lines.specs.Rests.{row_of, IsIn}
+use Rattle.cmark_lines.specs.Starts.{begun_container}
+use Rattle.cmark_lines.specs.declared.line_rest.LineRest.{LineRest}
+use Rattle.cmark_lines.proofs.RestSteps.{in-moved}
+
+-- no definition begins without a bracket
+none_in : (bs : List ℕ) → begins_with 91 bs ≡ false → definition_in bs ≡ None
+none_in [] e = refl
+none_in (b ∷ bs) e = ap (λ z. if z then with_label (label_in bs) else None) e
+
+further-no_bracket : (r : Row) (more : List Row) → begins_with 91 (further_bytes r more) ≡ false
+further-no_bracket r [] = refl
+further-no_bracket r (s ∷ more) = go (nat_le 2 (r.past - r.stop))
+  where
+    go : (z : Bool) → begins_with 91 ((if z then 13 ∷ 10 ∷ [] else 10 ∷ []) ++ (bytes_of s.columns ++ further_bytes s more)) ≡ false
+    go true = refl
+    go false = refl
+
+over-no_bracket : (words further : List ℕ) → begins_with 91 words ≡ false → begins_with 91 further ≡ false → begins_with 91 (words ++ further) ≡ false
+over-no_bracket [] further e f = f
+over-no_bracket (b ∷ bs) further e f = e
+
+module _ (options : Options) (r : Row) (ahead : List Row) where
+  pub no-definition : begins_with 91 (words_of r) ≡ false → definition_of options r ahead ≡ Plain
+  no-definition e =
+      ap (defined_if (length (text_lines options ahead)))
+      (none_in (bytes_over r (text_lines options ahead)) (over-no_bracket (words_of r) (further_bytes r (text_lines options ahead)) e (further-no_bracket r (text_lines options ahead))))
+
+  -- the leaves in their order
+  abbrev in_order : Option ℕ → Bool → Bool → ℕ → Option Fence → Opening → Opening
+  in_order kind broken headed level fence other =
+      or_else (html_if r ahead kind) (or_else (break_if broken) (or_else (heading_if headed level) (or_else (fenced_if fence ahead) other)))
+
+  pub leaf-heading : (n : ℕ) → html_kind (words_of r) ≡ None → is_thematic_break (words_of r) ≡ false → Some n ≡ atx_level (words_of r) → leaf_of options r ahead ≡ Takes (AtxHeading n) 0
+  leaf-heading n kind broken level =
+      ap (λ k. in_order k (is_thematic_break (words_of r)) (is_atx_heading (words_of r)) (run 35 (words_of r)) fence other) kind
+      ∙ ap (λ z. in_order None z (is_atx_heading (words_of r)) (run 35 (words_of r)) fence other) broken ∙ go (is_atx_heading (words_of r)) level
+    where
+      fence : Option Fence
+      fence = fence_of (indent_of r) (words_of r)
+
+      other : Opening
+      other = definition_of options r ahead
+
+      go : (z : Bool) → Some n ≡ (if z then Some (run 35 (words_of r)) else None) → in_order None false z (run 35 (words_of r)) fence other ≡ Takes (AtxHeading n) 0
+      go true e = let q : n ≡ run 35 (words_of r) = cc in ap (λ m. Takes (AtxHeading m) 0) (sym q)
+      go false e = absurd (let q : Some n ≡ None = e in cc)
+
+  pub leaf-plain : html_kind (words_of r) ≡ None → is_thematic_break (words_of r) ≡ false → None ≡ atx_level (words_of r) → None ≡ fence_of (indent_of r) (words_of r) → begins_with 91 (words_of r) ≡ false → leaf_of options r ahead ≡ Plain
+  leaf-plain kind broken level fence bracket =
+      ap (λ k. in_order k (is_thematic_break (words_of r)) (is_atx_heading (words_of r)) (run 35 (words_of r)) (fence_of (indent_of r) (words_of r)) (definition_of options r ahead)) kind
+      ∙ ap (λ z. in_order None z (is_atx_heading (words_of r)) (run 35 (words_of r)) (fence_of (indent_of r) (words_of r)) (definition_of options r ahead)) broken
+      ∙ ap (λ f. in_order None false (is_atx_heading (words_of r)) (run 35 (words_of r)) f (definition_of options r ahead)) (sym fence)
+      ∙ ap (λ o. in_order None false (is_atx_heading (words_of r)) (run 35 (words_of r)) None o) (no-definition bracket) ∙ go (is_atx_heading (words_of r)) level
+    where
+      go : (z : Bool) → None ≡ (if z then Some (run 35 (words_of r)) else None) → in_order None false z (run 35 (words_of r)) None Plain ≡ Plain
+      go true e = absurd (let q : None ≡ Some (run 35 (words_of r)) = e in cc)
+      go false e = refl
+
+  -- what a line begins that lacks no prefix
+  module _ (whole : r.lazy ≡ false) where
+    as_whole : opens options r ahead ≡ whole_opens options r ahead
+    unfolding opens
+    as_whole = ap (λ z. if z then Plain else whole_opens options r ahead) whole
+
+    abbrev chosen : (blank deep : Bool) → Opening
+    chosen blank deep =
+        if blank then Blank else if deep then Takes IndentedCode (counted code_further ahead) else or_else (nests_if (container_of r)) (leaf_of options r ahead)
+
+    pub opens-blank : is_blank_line r ≡ true → opens options r ahead ≡ Blank
+    opens-blank blank = as_whole ∙ ap (λ z. chosen z (nat_le 4 (indent_of r))) blank
+
+    pub opens-code : is_blank_line r ≡ false → 4 ≤ indent_of r → opens options r ahead ≡ Takes IndentedCode (counted code_further ahead)
+    opens-code blank deep = as_whole ∙ ap (λ z. chosen z (nat_le 4 (indent_of r))) blank ∙ ap (chosen false) (at_least (indent_of r) deep)
+      where
+        at_least : (n : ℕ) → 4 ≤ n → nat_le 4 n ≡ true
+        at_least n le = grind (arith)
+
+    pub opens-shallow : is_blank_line r ≡ false → indent_of r ≤ 3 → opens options r ahead ≡ or_else (nests_if (begun_container r)) (leaf_of options r ahead)
+    opens-shallow blank le =
+        as_whole ∙ ap (λ z. chosen z (nat_le 4 (indent_of r))) blank ∙ ap (chosen false) (below (indent_of r) le)
+        ∙ ap (λ o. or_else (nests_if o) (leaf_of options r ahead)) (sym (ap (λ z. if z then container_of r else None) (at_most (indent_of r) le)))
+      where
+        below : (n : ℕ) → n ≤ 3 → nat_le 4 n ≡ false
+        below n le = grind (arith)
+
+        at_most : (n : ℕ) → n ≤ 3 → nat_le n 3 ≡ true
+        at_most n le = grind (arith)
+
+entered-past : (k : Container) (r : Row) → (enter k r).past ≡ r.past
+unfolding enter
+entered-past k r = refl
+
+-- the line inside a container that a line of a text begins stands in the text
+pub begun-in : (text : List ℕ) (rest inside : LineRest) (k : Container) → opens no_options (row_of rest) [] ≡ Nests k → row_of inside ≡ enter k (row_of rest) → IsIn text rest → IsIn text inside
+begun-in text rest inside k opened is h =
+    in-moved text rest inside (enter k (row_of rest)) is (entered-past k (row_of rest)) (enter-good (IsCharBoundary text) no_options k (row_of rest) [] opened h.good) h
+
+-- an item of number 1, or a bullet, interrupts a paragraph of its own container where it is not blank behind its marker
+pub item-goes : (r s : Row) (same : Bool) (mark : ℕ) (number : Option ℕ) (width : ℕ) → same ≡ true → is_one number ≡ true → s ≡ enter (Item mark number width) r → not (is_blank_line s) ≡ item_interrupts same r (Some (Item mark number width))
+unfolding enter
+item-goes r s same mark number width is_same one is =
+    ap (λ x. not (is_blank_line x)) is ∙ ap (λ z. z && not (is_blank_line (without width r))) (sym one)
+    ∙ ap (λ z. not z || (is_one number && not (is_blank_line (without width r)))) (sym is_same)

@@ -1,0 +1,55 @@
+-- Places of what is left of a line, in order and between characters.
+use Rattle.std.proofs.Common.{◌≡◌, ℕ, suc, ◌+◌, ◌≤◌, Bool, true, false, ◌==◌, List, [], ◌∷◌, length, refl, sym, ap, ◌∙◌, subst, arith}
+use Rattle.std.specs.Prelude.{if◌then◌else◌}
+use Rattle.std.specs.Str.{IsCharBoundary}
+use Rattle.cmark_grammar.specs.Columns.{Column, expand, indent, without_indent, bytes_of}
+use Rattle.cmark_grammar.specs.Rows.{Row, without, indent_of, begin_of, start_of}
+use Rattle.cmark_grammar.proofs.RowPlaces.{Runs, Runs-le, drop-Runs, expand-Runs}
+use Rattle.cmark_grammar.proofs.RowEdges.{GoodRow, IsAsciiColumn, front-less, indent-front, without-good, start-E}
+use Rattle.cmark_scan.specs.LineStart.{columns_taken}
+use Rattle.cmark_lines.specs.Rests.{row_of, IsIn}
+use Rattle.cmark_lines.specs.declared.line_rest.LineRest.{LineRest}
+
+-- the columns that are left stand one behind the other
+pub rest-runs : (rest : LineRest) → Runs (begin_of (row_of rest)) (row_of rest).columns (row_of rest).stop
+rest-runs rest =
+    (drop-Runs (columns_taken rest.front) rest.start (expand 0 rest.start rest.front.bytes.now) (rest.start + length rest.front.bytes.now) (expand-Runs 0 rest.start rest.front.bytes.now)).0
+
+pub begin-stop : (rest : LineRest) → begin_of (row_of rest) ≤ (row_of rest).stop
+begin-stop rest = Runs-le (begin_of (row_of rest)) (row_of rest).columns (row_of rest).stop (rest-runs rest)
+
+pub begin-start : (rest : LineRest) → begin_of (row_of rest) ≤ start_of (row_of rest)
+begin-start rest = (drop-Runs (indent_of (row_of rest)) (begin_of (row_of rest)) (row_of rest).columns (row_of rest).stop (rest-runs rest)).1
+
+pub start-stop : (rest : LineRest) → start_of (row_of rest) ≤ (row_of rest).stop
+start-stop rest =
+    Runs-le (start_of (row_of rest)) (without_indent (row_of rest).columns) (row_of rest).stop
+    (drop-Runs (indent_of (row_of rest)) (begin_of (row_of rest)) (row_of rest).columns (row_of rest).stop (rest-runs rest)).0
+
+-- columns have as many bytes as there are places from the first to the last
+runs-bytes : (from : ℕ) (cs : List Column) (to : ℕ) → Runs from cs to → from + length (bytes_of cs) ≡ to
+runs-bytes from [] to h = let e : from ≡ to = h in omega (arith, e)
+runs-bytes from (c ∷ cs) to h = go (c.part == 0) refl (runs-bytes (suc c.at) cs to h.1)
+  where
+    go : (z : Bool) → (c.part == 0) ≡ z → suc c.at + length (bytes_of cs) ≡ to → from + length (if z then c.byte ∷ bytes_of cs else bytes_of cs) ≡ to
+    go true e ih = let p : c.at ≡ from = sym (ap (λ z. if z then c.at else suc c.at) e) ∙ h.0 in omega (arith, ih, p)
+    go false e ih = let p : suc c.at ≡ from = sym (ap (λ z. if z then c.at else suc c.at) e) ∙ h.0 in omega (arith, ih, p)
+
+pub bytes-stop : (rest : LineRest) → begin_of (row_of rest) + length (bytes_of (row_of rest).columns) ≡ (row_of rest).stop
+bytes-stop rest = runs-bytes (begin_of (row_of rest)) (row_of rest).columns (row_of rest).stop (rest-runs rest)
+
+-- what is left behind blanks stands in the text, too
+pub in-moved : (text : List ℕ) (rest moved : LineRest) (r : Row) → row_of moved ≡ r → r.past ≡ rest.past → GoodRow (IsCharBoundary text) r → IsIn text rest → IsIn text moved
+in-moved text rest moved r is past good h = record {
+  good = subst (GoodRow (IsCharBoundary text)) (sym is) good;
+  within = subst (λ p. p ≤ length text) (sym (ap (λ x. x.past) is ∙ past)) h.within;
+}
+
+pub in-behind : (text : List ℕ) (n : ℕ) (rest moved : LineRest) → row_of moved ≡ without n (row_of rest) → n ≤ indent_of (row_of rest) → IsIn text rest → IsIn text moved
+in-behind text n rest moved is le h =
+    in-moved text rest moved (without n (row_of rest)) is refl
+    (without-good (IsCharBoundary text) n (row_of rest) h.good (front-less IsAsciiColumn n (indent (row_of rest).columns) (row_of rest).columns le (indent-front (row_of rest).columns)))
+    h
+
+pub start-boundary : (text : List ℕ) (rest : LineRest) → IsIn text rest → IsCharBoundary text (start_of (row_of rest))
+start-boundary text rest h = start-E (IsCharBoundary text) (row_of rest) h.good

@@ -1,0 +1,16 @@
+use Rattle.std.proofs.Common.{ap, ◌∙◌, arith}
+use Rattle.cmark_grammar.specs.Rows.{indent_of}
+use Rattle.cmark_lines.specs.Rests.{row_of}
+use Rattle.cmark_lines.proofs.RestSteps.{in-behind}
+use Rattle.cmark_lines.proofs.line_rest.LineRest.behind_indent.Goals as goal
+
+pub with_front-requires : goal.with_front-requires
+with_front-requires c = let rest = c.args.self in ap (λ r. r.stop) (c.scan_all_space.ensures rest.start rest.past)
+
+pub returns-clause-row : goal.returns-clause-row
+returns-clause-row c = let rest = c.args.self in c.with_front.ensures ∙ c.scan_all_space.ensures rest.start rest.past
+
+pub returns-clause-placed : goal.returns-clause-placed
+returns-clause-placed c text =
+    let rest = c.args.self in
+    in-behind text (indent_of (row_of rest)) rest c.with_front.result (c.with_front.ensures ∙ c.scan_all_space.ensures rest.start rest.past) (omega arith)

@@ -1,0 +1,34 @@
+use Rattle.std.proofs.Common.{◌≡◌, Bool, true, false, ap, ◌∙◌, refl}
+use Rattle.std.specs.Prelude.{if◌then◌else◌}
+use Rattle.cmark_grammar.specs.Rows.{Row, without}
+use Rattle.cmark_grammar.specs.Containers.{quote_width}
+use Rattle.cmark_scan.specs.LineMarkers.{begins_quote, behind_quote}
+use Rattle.cmark_scan.specs.LineStart.{row_from}
+use Rattle.cmark_lines.specs.Rests.{row_of}
+use Rattle.cmark_lines.proofs.PrefixRows.{shallow-is, quote-none, quote-some}
+use Rattle.cmark_lines.proofs.line_rest.LineRest.behind_quote.Goals as goal
+
+pub returns-then-not-scan_blockquote_marker : goal.returns-then-not-scan_blockquote_marker
+returns-then-not-scan_blockquote_marker c =
+    let rest = c.args.self in
+    let is = shallow-is (row_of rest) (row_from rest.start rest.past c.scan_space_upto.new.self) c.scan_space_upto.result (c.scan_space_upto.ensures.count rest.start) (c.scan_space_upto.ensures.rest rest.start rest.past) in
+    quote-none (row_of rest) (c.if-not-scan_blockquote_marker.ensures.found rest.start rest.past ∙ ap begins_quote is)
+
+pub with_front-requires : goal.with_front-requires
+with_front-requires c =
+    let rest = c.args.self in
+    ap (λ r. r.stop) (c.scan_blockquote_marker.ensures.rest rest.start rest.past) ∙ stop_behind (row_from rest.start rest.past c.scan_space_upto.new.self) ∙ ap (λ r. r.stop) (c.scan_space_upto.ensures.rest rest.start rest.past)
+  where
+    stop_behind : (r : Row) → (behind_quote r).stop ≡ r.stop
+    stop_behind r = go (begins_quote r)
+      where
+        go : (z : Bool) → (if z then without (quote_width r) r else r).stop ≡ r.stop
+        go true = refl
+        go false = refl
+
+pub returns : goal.returns
+returns c =
+    let rest = c.args.self in
+    let is = shallow-is (row_of rest) (row_from rest.start rest.past c.scan_space_upto.new.self) c.scan_space_upto.result (c.scan_space_upto.ensures.count rest.start) (c.scan_space_upto.ensures.rest rest.start rest.past) in
+    quote-some (row_of rest) (row_of c.with_front.result) (c.if-not-scan_blockquote_marker.ensures.found rest.start rest.past ∙ ap begins_quote is)
+    (c.with_front.ensures ∙ c.scan_blockquote_marker.ensures.rest rest.start rest.past ∙ ap behind_quote is)

@@ -1,0 +1,26 @@
+use Rattle.std.proofs.Common.{◌≡◌, ◌+◌, ◌≤◌, length, arith, sym, ap, ◌∙◌, subst}
+use Rattle.std.specs.Str.{IsCharBoundary}
+use Rattle.cmark_grammar.specs.Rows.{begin_of, start_of}
+use Rattle.cmark_lines.specs.Rests.{row_of}
+use Rattle.cmark_lines.proofs.RestSteps.{start-stop, bytes-stop}
+use Rattle.cmark_lines.proofs.line_rest.LineRest.stop.Goals as goal
+
+the_stop : (c : goal.After-bytes) → c.begin.result + length c.bytes.result.now ≡ (row_of c.args.self.now).stop
+the_stop c =
+    ap (λ n. n + length c.bytes.result.now) c.begin.ensures.place ∙ ap (λ l. begin_of (row_of c.args.self.now) + length l) c.bytes.ensures ∙ bytes-stop c.args.self.now
+
+pub overflow_add-result : goal.overflow_add-result
+overflow_add-result c =
+    let rest = c.args.self.now in
+    let ends = rest.ends in
+    let is = the_stop c in
+    omega (arith, is, ends)
+
+pub returns-clause-place : goal.returns-clause-place
+returns-clause-place c = the_stop c
+
+pub returns-clause-order : goal.returns-clause-order
+returns-clause-order c = subst (λ n. start_of (row_of c.args.self.now) ≤ n) (sym (the_stop c)) (start-stop c.args.self.now)
+
+pub returns-clause-boundary : goal.returns-clause-boundary
+returns-clause-boundary c text h = subst (IsCharBoundary text) (sym (the_stop c)) h.good.stop

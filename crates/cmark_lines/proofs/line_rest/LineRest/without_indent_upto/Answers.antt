@@ -1,0 +1,19 @@
+use Rattle.std.proofs.Common.{ap, ◌∙◌, arith}
+use Rattle.cmark_grammar.specs.Rows.{without}
+use Rattle.cmark_lines.specs.Rests.{row_of}
+use Rattle.cmark_lines.proofs.RestSteps.{in-behind}
+use Rattle.cmark_lines.proofs.line_rest.LineRest.without_indent_upto.Goals as goal
+
+pub with_front-requires : goal.with_front-requires
+with_front-requires c = let rest = c.args.self in ap (λ r. r.stop) (c.scan_space_upto.ensures.rest rest.start rest.past)
+
+pub returns-clause-row : goal.returns-clause-row
+returns-clause-row c =
+    let rest = c.args.self in
+    c.with_front.ensures ∙ c.scan_space_upto.ensures.rest rest.start rest.past ∙ ap (λ n. without n (row_of rest)) (c.scan_space_upto.ensures.count rest.start)
+
+pub returns-clause-placed : goal.returns-clause-placed
+returns-clause-placed c text =
+    let rest = c.args.self in
+    let count = c.scan_space_upto.ensures.count rest.start in
+    in-behind text c.scan_space_upto.result rest c.with_front.result (c.with_front.ensures ∙ c.scan_space_upto.ensures.rest rest.start rest.past) (omega (arith, count))

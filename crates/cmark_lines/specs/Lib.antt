@@ -1,0 +1,4 @@
+pub mod Opened
+pub mod Rests
+pub mod Starts
+pub mod Verbatims

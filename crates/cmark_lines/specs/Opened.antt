@@ -1,0 +1,68 @@
+-- What a line begins, seen as the opening of the grammar.
+use Rattle.std.specs.Prelude.{◌≡◌, ℕ, Bool, ◌||◌, true, List, Some}
+use Rattle.cmark_grammar.specs.Options.{Options}
+use Rattle.cmark_grammar.specs.Rows.{Row, words_of}
+use Rattle.cmark_grammar.specs.Leaves.{counted, code_further, is_thematic_break, is_atx_heading, fence_of}
+use Rattle.cmark_grammar.specs.HtmlBlocks.{html_kind, html_lines}
+use Rattle.cmark_grammar.specs.Containers.{begins_with}
+use Rattle.cmark_grammar.specs.Openings as grammar
+use Rattle.cmark_grammar.specs.Openings.{definition_of, fenced_if, is_some_fence, html_interrupts}
+use Rattle.cmark_text.specs.Shown.{level_number}
+use Rattle.cmark_scan.specs.HtmlLines.{kind_number}
+use Rattle.cmark_scan.specs.LeafLines.{shown_fence, HasPlace}
+use Rattle.cmark_lines.specs.Rests.{IsIn}
+use Rattle.cmark_lines.specs.Starts.{shown_start, inside_of, Enters}
+use Rattle.cmark_lines.specs.declared.opening.Opening.{Opening}
+use Rattle.cmark_lines.specs.declared.opening.Opening.TheVariants.{Blank, Nests, IndentedCode, Html, ThematicBreak, AtxHeading, FencedCode, Bracket, Plain}
+
+-- what the line begins, with these lines ahead
+abbrev pub opened : Options → Opening → Row → List Row → grammar.Opening
+opened options Blank r ahead = grammar.Blank
+opened options (Nests start) r ahead = grammar.Nests (shown_start start)
+opened options IndentedCode r ahead = grammar.Takes grammar.IndentedCode (counted code_further ahead)
+opened options (Html kind) r ahead = grammar.Takes (grammar.HtmlBlock (kind_number kind)) (html_lines (kind_number kind) r ahead)
+opened options ThematicBreak r ahead = grammar.Takes grammar.ThematicBreak 0
+opened options (AtxHeading level) r ahead = grammar.Takes (grammar.AtxHeading (level_number level)) 0
+opened options (FencedCode indent fence) r ahead = fenced_if (Some (shown_fence indent (words_of r) fence)) ahead
+opened options Bracket r ahead = definition_of options r ahead
+opened options Plain r ahead = grammar.Plain
+
+-- the line inside a container is the one behind the container's marker
+abbrev pub HasInside : Opening → Row → Type 0
+HasInside Blank r = Unit {0}
+HasInside (Nests start) r = Enters r start
+HasInside IndentedCode r = Unit {0}
+HasInside (Html kind) r = Unit {0}
+HasInside ThematicBreak r = Unit {0}
+HasInside (AtxHeading level) r = Unit {0}
+HasInside (FencedCode indent fence) r = Unit {0}
+HasInside Bracket r = Unit {0}
+HasInside Plain r = Unit {0}
+
+-- the info string of a fence stands at its places in the words; a line that may begin a definition has a bracket in front
+abbrev pub HasInfo : Opening → Row → Type 0
+HasInfo Blank r = Unit {0}
+HasInfo (Nests start) r = Unit {0}
+HasInfo IndentedCode r = Unit {0}
+HasInfo (Html kind) r = Unit {0}
+HasInfo ThematicBreak r = Unit {0}
+HasInfo (AtxHeading level) r = Unit {0}
+HasInfo (FencedCode indent fence) r = HasPlace (words_of r) fence
+HasInfo Bracket r = begins_with 91 (words_of r) ≡ true
+HasInfo Plain r = Unit {0}
+
+-- the line inside a container stands in this text
+abbrev pub InsideIsIn : List ℕ → Opening → Type 0
+InsideIsIn text Blank = Unit {0}
+InsideIsIn text (Nests start) = IsIn text (inside_of start)
+InsideIsIn text IndentedCode = Unit {0}
+InsideIsIn text (Html kind) = Unit {0}
+InsideIsIn text ThematicBreak = Unit {0}
+InsideIsIn text (AtxHeading level) = Unit {0}
+InsideIsIn text (FencedCode indent fence) = Unit {0}
+InsideIsIn text Bracket = Unit {0}
+InsideIsIn text Plain = Unit {0}
+
+-- whether the words of a line, which is indented by so many columns, begin a leaf that interrupts a paragraph
+abbrev pub leaf_interrupts : (indent : ℕ) → List ℕ → Bool
+leaf_interrupts indent words = is_thematic_break words || (is_atx_heading words || (is_some_fence (fence_of indent words) || html_interrupts (html_kind words)))

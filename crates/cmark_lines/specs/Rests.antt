@@ -1,0 +1,19 @@
+-- What is left of a line, seen as the row of the grammar that it is.
+use Rattle.std.specs.Prelude.{ℕ, ◌≤◌, false, List, [], length}
+use Rattle.std.specs.Str.{IsCharBoundary}
+use Rattle.cmark_grammar.specs.Rows.{Row}
+use Rattle.cmark_grammar.proofs.RowEdges.{GoodRow}
+use Rattle.cmark_scan.specs.LineStart.{row_from}
+use Rattle.cmark_lines.specs.declared.line_rest.LineRest.{LineRest}
+
+abbrev pub row_of : LineRest → Row
+row_of rest = row_from rest.start rest.past rest.front
+
+-- the line of no byte, and without an ending, at this place
+abbrev pub no_row : ℕ → Row
+no_row at = record { columns = []; stop = at; past = at; lazy = false }
+
+-- the line stands in this text: in order, and cutting no character
+pub record IsIn (text : List ℕ) (rest : LineRest) : Type 0 where
+  pub good : GoodRow (IsCharBoundary text) (row_of rest)
+  pub within : rest.past ≤ length text

@@ -1,0 +1,73 @@
+//! Containers: which lines they keep, and which lines begin them (CommonMark 5).
+
+ghost use Rattle.std.specs.Prelude.{◌≡◌, ℕ, List, option_map, IfSome};
+ghost use Rattle.cmark_grammar.specs.Containers as grammar;
+ghost use Rattle.cmark_grammar.specs.Containers.{keeps};
+ghost use Rattle.cmark_lines.specs.Rests.{row_of, IsIn};
+ghost use Rattle.cmark_lines.specs.Starts.{Shows, shown_start, begun_container, Enters};
+
+use crate::line_rest::LineRest;
+
+/// A container block, as far as it decides which later lines it keeps.
+#[derive(Clone, Copy, Debug, PartialEq, Eq)]
+pub enum Container {
+    /// A block quote (CommonMark 5.1).
+    Quote,
+    /// A list item (CommonMark 5.2).
+    Item {
+        /// How many columns the prefix of its later lines has.
+        width: usize,
+    },
+}
+
+/// A list item, as its first line shows it (CommonMark 5.2).
+#[derive(Clone, Copy, Debug, PartialEq, Eq)]
+pub struct ItemStart {
+    /// The bullet, or what stands behind the number: `.` or `)`.
+    pub mark: u8,
+    /// The number of an ordered item.
+    pub number: Option<u64>,
+    /// How many columns the prefix of its later lines has.
+    pub width: usize,
+}
+
+/// A container that a line begins, and the line behind the container's marker.
+#[derive(Clone, Copy, Debug)]
+pub enum ContainerStart<'a> {
+    /// A block quote.
+    Quote(LineRest<'a>),
+    /// A list item.
+    Item(ItemStart, LineRest<'a>),
+}
+
+impl Container {
+    /// The line behind this container's prefix, if the container keeps the line. A block quote keeps the lines that have its
+    /// marker; an item those that are indented by its width, and blank lines. `bare` says that the line before was the item's
+    /// first one, and blank behind the marker: then a blank line ends the item (CommonMark 5.2).
+    #[inline]
+    pub fn keeps<'a>(self, bare: bool, rest: LineRest<'a>) -> Option<LineRest<'a>>
+        ensures row { (k : grammar.Container) → Shows self k → option_map row_of result ≡ keeps k bare (row_of rest.entry) }
+        ensures placed { (text : List ℕ) → IsIn text rest.entry → IfSome result (IsIn text) }
+    {
+        if bare && rest.is_blank() {
+            return None;
+        }
+        match self {
+            Container::Quote => rest.behind_quote(),
+            Container::Item { width } => rest.behind_width(width),
+        }
+    }
+}
+
+/// The container that the line begins, indented by at most three columns, and the line behind its marker.
+#[inline]
+pub(crate) fn container_start<'a>(rest: LineRest<'a>) -> Option<ContainerStart<'a>>
+    ensures container { option_map shown_start result ≡ begun_container (row_of rest.entry) }
+    ensures inside { IfSome result (Enters (row_of rest.entry)) }
+{
+    if let Some((item, inside)) = rest.behind_item() {
+        return Some(ContainerStart::Item(item, inside));
+    }
+    let inside = rest.behind_quote()?;
+    Some(ContainerStart::Quote(inside))
+}

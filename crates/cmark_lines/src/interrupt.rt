@@ -1,0 +1,109 @@
+//! What ends a paragraph (CommonMark 4.3 and 4.8).
+
+ghost use Rattle.std.specs.Prelude.{◌≡◌, ℕ, List, option_map};
+ghost use Rattle.cmark_grammar.specs.Options.{Options};
+ghost use Rattle.cmark_grammar.specs.Rows.{Row};
+ghost use Rattle.cmark_grammar.specs.Leaves.{is_atx_heading, fence_of, underlines};
+ghost use Rattle.cmark_grammar.specs.Containers.{is_quote};
+ghost use Rattle.cmark_grammar.specs.Openings.{interrupts, is_one, item_interrupts, is_some_fence, html_interrupts};
+ghost use Rattle.cmark_grammar.specs.HtmlBlocks.{html_kind};
+ghost use Rattle.cmark_text.specs.Shown.{level_number};
+ghost use Rattle.cmark_lines.specs.Rests.{row_of};
+ghost use Rattle.cmark_lines.specs.Starts.{begun_item};
+ghost use Rattle.cmark_lines.specs.Opened.{leaf_interrupts};
+
+use crate::line_rest::LineRest;
+use cmark_scan::{
+    HtmlKind, html_kind, scan_atx_heading, scan_code_fence, scan_hrule, scan_setext_heading,
+};
+use cmark_text::HeadingLevel;
+
+/// Whether the line interrupts a paragraph, which stands in the same container (`same`), or further in, so that the line
+/// lacks a prefix there (CommonMark 4.8). An HTML block of kind 7 never does; an item that is blank behind its marker, or
+/// is numbered other than 1, interrupts none in the same container. What the line begins may tell another thing: four columns of
+/// indent and kind 7 begin something, and interrupt nothing.
+pub fn interrupts(rest: LineRest<'_>, same: bool) -> bool
+    ensures { (options : Options) (ahead : List Row) → result ≡ interrupts options same (row_of rest.entry) ahead }
+{
+    rest.is_blank()
+        || (rest.indent_upto(4) < 4
+            && (is_quote(rest) || item_interrupts(rest, same) || leaf_interrupts(rest.words())))
+}
+
+/// Whether the line begins a block quote.
+#[inline]
+fn is_quote(rest: LineRest<'_>) -> bool
+    ensures { result ≡ is_quote (row_of rest.entry) }
+{
+    rest.behind_quote().is_some()
+}
+
+/// Whether the line begins a list item that interrupts a paragraph.
+#[inline]
+fn item_interrupts(rest: LineRest<'_>, same: bool) -> bool
+    ensures { result ≡ item_interrupts same (row_of rest.entry) (begun_item (row_of rest.entry)) }
+{
+    match rest.behind_item() {
+        Some((item, inside)) => !same || (is_one(item.number) && !inside.is_blank()),
+        None => false,
+    }
+}
+
+/// Whether an item of this number begins a list that interrupts a paragraph: a bullet, or number 1.
+#[inline]
+fn is_one(number: Option<u64>) -> bool
+    ensures { result ≡ is_one number }
+{
+    match number {
+        Some(number) => number == 1,
+        None => true,
+    }
+}
+
+/// Whether the words of a line begin a leaf block that interrupts a paragraph.
+fn leaf_interrupts(words: &[u8]) -> bool
+    ensures { (indent : ℕ) → result ≡ leaf_interrupts indent words.now }
+{
+    scan_hrule(words) || is_atx_heading(words) || is_code_fence(words) || html_interrupts(words)
+}
+
+/// Whether the words of a line are an ATX heading.
+#[inline]
+fn is_atx_heading(words: &[u8]) -> bool
+    ensures { result ≡ is_atx_heading words.now }
+{
+    scan_atx_heading(words).is_some()
+}
+
+/// Whether the words of a line are a code fence that opens a block.
+#[inline]
+fn is_code_fence(words: &[u8]) -> bool
+    ensures { (indent : ℕ) → result ≡ is_some_fence (fence_of indent words.now) }
+{
+    scan_code_fence(words).is_some()
+}
+
+/// Whether the words of a line begin an HTML block that interrupts a paragraph: one of kinds 1 to 6.
+#[inline]
+fn html_interrupts(words: &[u8]) -> bool
+    ensures { result ≡ html_interrupts (html_kind words.now) }
+{
+    match html_kind(words) {
+        Some(kind) => kind != HtmlKind::Tag,
+        None => false,
+    }
+}
+
+/// The level of the heading that the line makes of the paragraph before it, if it is a setext heading underline (CommonMark
+/// 4.3): a run of `=` or of `-` behind at most three columns of indent, and blanks. The line must stand in the same container as
+/// the paragraph: one that lacks a prefix underlines nothing.
+#[inline]
+#[tactic(auto, unfolding(cmark_grammar::specs::Leaves::underlines))]
+pub fn underlines(rest: LineRest<'_>) -> Option<HeadingLevel>
+    ensures { option_map level_number result ≡ underlines (row_of rest.entry) }
+{
+    if rest.indent_upto(4) == 4 {
+        return None;
+    }
+    scan_setext_heading(rest.words())
+}

@@ -1,0 +1,186 @@
+//! What is left of a line (CommonMark 2.1 and 2.2).
+
+ghost use Rattle.std.specs.Prelude.{◌≡◌, ◌+◌, ◌≤◌, drop, length};
+ghost use Rattle.cmark_grammar.specs.Lines.{ending_len};
+ghost use Rattle.cmark_scan.specs.LineStart.{row_from};
+
+mod prefixes;
+
+use cmark_scan::LineStart;
+
+/// What is left of a line behind the prefixes of the containers around it. Places are byte offsets of the text; columns are
+/// those of the whole line, in which a tab reaches to the next tab stop, four columns apart.
+#[derive(Clone, Copy, Debug)]
+pub struct LineRest<'a> {
+    /// Where the whole line begins.
+    start: usize,
+    /// Where the next line begins.
+    past: usize,
+    /// The line without its ending, of which the prefixes were taken.
+    front: LineStart<'a>,
+    ghost ends: { (row_from start past front).stop ≤ past },
+}
+
+impl<'a> LineRest<'a> {
+    ghost use Rattle.std.specs.Prelude.{◌<◌, ◌∷◌, ℕ, List, [], false, min};
+    ghost use Rattle.std.specs.Str.{IsCharBoundary, IsUtf8};
+    ghost use Rattle.cmark_grammar.specs.Columns.{bytes_of};
+    ghost use Rattle.cmark_grammar.specs.Lines.{lines};
+    ghost use Rattle.cmark_grammar.specs.Rows.{row_at, rows_from, without, is_blank_line, indent_of, words_of, begin_of, start_of};
+    ghost use Rattle.cmark_scan.specs.LineStart.{cut_columns};
+    ghost use Rattle.cmark_lines.specs.Rests.{row_of, no_row, IsIn};
+
+    /// The whole line of the text that begins at `start`. At the text's end it is an empty one, which has no ending.
+    pub fn new(text: &'a [u8], start: usize) -> LineRest<'a>
+        requires { start ≤ length text.now }
+        ensures line { (line : List ℕ) (more : List (List ℕ)) → lines (drop start text.entry.now) ≡ line ∷ more → row_of result ≡ row_at start line }
+        ensures further { start < length text.entry.now → rows_from start (lines (drop start text.entry.now))
+            ≡ row_of result ∷ rows_from (row_of result).past (lines (drop (row_of result).past text.entry.now)) }
+        ensures none { start ≡ length text.entry.now → row_of result ≡ no_row start }
+        ensures ahead { start < length text.entry.now → start < (row_of result).past }
+        ensures placed { IsUtf8 text.entry.now → IsCharBoundary text.entry.now start → IsIn text.entry.now result }
+    {
+        let bytes = &text[start..];
+        let front = LineStart::new(bytes);
+        let len = front.remaining_bytes().len();
+        LineRest {
+            start,
+            past: start + len + ending_len(bytes, len),
+            front,
+        }
+    }
+
+    /// The same line, of which this is left.
+    #[inline]
+    fn with_front(self, front: LineStart<'a>) -> LineRest<'a>
+        requires { (row_from self.start self.past front).stop ≡ (row_of self).stop }
+        ensures { row_of result ≡ row_from self.entry.start self.entry.past front.entry }
+    {
+        LineRest {
+            start: self.start,
+            past: self.past,
+            front,
+        }
+    }
+
+    /// The place at which the rest begins. Of a tab that was cut by a prefix, it is the place behind the tab.
+    #[inline]
+    pub fn begin(&self) -> usize
+        ensures place { result ≡ begin_of (row_of self.now) }
+        ensures boundary { (text : List ℕ) → IsIn text self.now → IsCharBoundary text result }
+    {
+        self.start + self.front.bytes_scanned()
+    }
+
+    /// The place behind the spaces and tabs in front: that of the words.
+    #[inline]
+    pub fn words_begin(&self) -> usize
+        ensures place { result ≡ start_of (row_of self.now) }
+        ensures order { begin_of (row_of self.now) ≤ result }
+        ensures boundary { (text : List ℕ) → IsIn text self.now → IsCharBoundary text result }
+    {
+        self.behind_indent().begin()
+    }
+
+    /// The place at which the line's ending begins: the text's end, where the last line has none.
+    #[inline]
+    pub fn stop(&self) -> usize
+        ensures place { result ≡ (row_of self.now).stop }
+        ensures order { start_of (row_of self.now) ≤ result }
+        ensures boundary { (text : List ℕ) → IsIn text self.now → IsCharBoundary text result }
+    {
+        self.begin() + self.bytes().len()
+    }
+
+    /// The place at which the next line begins.
+    #[inline]
+    pub fn past(&self) -> usize
+        ensures place { result ≡ (row_of self.now).past }
+        ensures order { (row_of self.now).stop ≤ result }
+        ensures boundary { (text : List ℕ) → IsIn text self.now → IsCharBoundary text result }
+        ensures within { (text : List ℕ) → IsIn text self.now → result ≤ length text }
+    {
+        self.past
+    }
+
+    /// How many columns of spaces and tabs stand in front, `n` at most.
+    #[inline]
+    pub fn indent_upto(&self, n: usize) -> usize
+        ensures { result ≡ min n (indent_of (row_of self.now)) }
+    {
+        let mut front = self.front;
+        front.scan_space_upto(n)
+    }
+
+    /// Whether nothing stands on the line but spaces and tabs.
+    #[inline]
+    pub fn is_blank(&self) -> bool
+        ensures { result ≡ is_blank_line (row_of self.now) }
+    {
+        let mut front = self.front;
+        front.scan_all_space();
+        front.is_at_eol()
+    }
+
+    /// The bytes behind the spaces and tabs in front, up to the line's ending.
+    #[inline]
+    pub fn words(&self) -> &'a [u8]
+        ensures { result.now ≡ words_of (row_of self.now) }
+    {
+        let mut front = self.front;
+        front.scan_all_space();
+        front.remaining_bytes()
+    }
+
+    /// The bytes up to the line's ending. A tab that was cut by a prefix is none of them.
+    #[inline]
+    pub fn bytes(&self) -> &'a [u8]
+        ensures { result.now ≡ bytes_of (row_of self.now).columns }
+    {
+        self.front.remaining_bytes()
+    }
+
+    /// How many columns in front are left of a tab that was cut by a prefix, 0 to 3. They count as spaces.
+    #[inline]
+    pub fn remaining_space(&self) -> usize
+        ensures { result ≡ cut_columns (row_of self.now).columns }
+    {
+        self.front.remaining_space()
+    }
+
+    /// The line without the spaces and tabs in front, `n` columns of them at most.
+    #[inline]
+    pub fn without_indent_upto(self, n: usize) -> LineRest<'a>
+        ensures row { row_of result ≡ without (min n (indent_of (row_of self.entry))) (row_of self.entry) }
+        ensures placed { (text : List ℕ) → IsIn text self.entry → IsIn text result }
+    {
+        let mut front = self.front;
+        front.scan_space_upto(n);
+        self.with_front(front)
+    }
+
+    /// The line without the spaces and tabs in front.
+    #[inline]
+    pub fn behind_indent(self) -> LineRest<'a>
+        ensures row { row_of result ≡ without (indent_of (row_of self.entry)) (row_of self.entry) }
+        ensures placed { (text : List ℕ) → IsIn text self.entry → IsIn text result }
+    {
+        let mut front = self.front;
+        front.scan_all_space();
+        self.with_front(front)
+    }
+}
+
+/// How many bytes the line ending has that stands behind so many of the bytes: LF and CR have one, CR LF two.
+#[inline]
+fn ending_len(bytes: &[u8], len: usize) -> usize
+    requires { len ≤ length bytes.now }
+    ensures value { result ≡ ending_len (drop len bytes.now) }
+    ensures within { len + result ≤ length bytes.now }
+{
+    match &bytes[len..] {
+        [] => 0,
+        [b'\r', b'\n', ..] => 2,
+        [_, ..] => 1,
+    }
+}

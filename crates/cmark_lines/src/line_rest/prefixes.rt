@@ -1,0 +1,65 @@
+//! The prefixes of containers in front of a line (CommonMark 5).
+
+ghost use Rattle.std.specs.Prelude.{◌≡◌, ℕ, Option, false, option_map, IfSome};
+ghost use Rattle.cmark_grammar.specs.Containers.{keeps, Item};
+ghost use Rattle.cmark_lines.specs.Rests.{row_of};
+ghost use Rattle.cmark_lines.specs.Starts.{quote_entered, number_by, shown_begun, begun_item, EntersItem};
+
+use crate::container::ItemStart;
+use crate::line_rest::LineRest;
+
+impl<'a> LineRest<'a> {
+    /// The line behind a block quote's prefix, if it has one.
+    #[inline]
+    pub(crate) fn behind_quote(self) -> Option<LineRest<'a>>
+        ensures { option_map row_of result ≡ quote_entered (row_of self.entry) }
+    {
+        let mut front = self.front;
+        front.scan_space_upto(3);
+        if !front.scan_blockquote_marker() {
+            return None;
+        }
+        Some(self.with_front(front))
+    }
+
+    /// The line behind so many columns of spaces and tabs, or behind fewer if nothing follows them.
+    #[inline]
+    pub(crate) fn behind_width(self, width: usize) -> Option<LineRest<'a>>
+        ensures { (mark : ℕ) (number : Option ℕ) → option_map row_of result ≡ keeps (Item mark number width) false (row_of self.entry) }
+    {
+        let mut front = self.front;
+        if !front.scan_space(width) && !front.is_at_eol() {
+            return None;
+        }
+        Some(self.with_front(front))
+    }
+
+    /// The list item that the line begins, indented by at most three columns, and the line behind the marker.
+    #[inline]
+    pub(crate) fn behind_item(self) -> Option<(ItemStart, LineRest<'a>)>
+        ensures item { option_map shown_begun result ≡ begun_item (row_of self.entry) }
+        ensures inside { IfSome result (EntersItem (row_of self.entry)) }
+    {
+        let mut front = self.front;
+        let indent = front.scan_space_upto(3);
+        let (mark, number, width) = front.scan_list_marker_with_indent(indent)?;
+        let number = item_number(mark, number);
+        let item = ItemStart {
+            mark,
+            number,
+            width,
+        };
+        Some((item, self.with_front(front)))
+    }
+}
+
+/// The number of a list item of this character: a bullet has none.
+#[inline]
+fn item_number(mark: u8, number: u64) -> Option<u64>
+    ensures { result ≡ number_by mark number }
+{
+    match mark {
+        b'.' | b')' => Some(number),
+        _ => None,
+    }
+}

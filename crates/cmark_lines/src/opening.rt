@@ -1,0 +1,101 @@
+//! What a line begins (CommonMark 3 to 5).
+
+ghost use Rattle.std.specs.Prelude.{◌≡◌, ℕ, List};
+ghost use Rattle.cmark_grammar.specs.Options.{Options};
+ghost use Rattle.cmark_grammar.specs.Rows.{Row, words_of, indent_of};
+ghost use Rattle.cmark_grammar.specs.Containers.{begins_with};
+ghost use Rattle.cmark_grammar.specs.Openings.{opens, leaf_of};
+ghost use Rattle.cmark_lines.specs.Rests.{row_of, IsIn};
+ghost use Rattle.cmark_lines.specs.Opened.{opened, HasInside, HasInfo, InsideIsIn};
+
+use crate::container::{ContainerStart, container_start};
+use crate::line_rest::LineRest;
+use cmark_scan::{CodeFence, HtmlKind, html_kind, scan_atx_heading, scan_code_fence, scan_hrule};
+use cmark_text::HeadingLevel;
+
+/// What a line begins that lacks no prefix of the containers around it.
+#[derive(Clone, Copy, Debug)]
+pub enum Opening<'a> {
+    /// Nothing: the line is blank.
+    Blank,
+    /// A container (CommonMark 5).
+    Nests(ContainerStart<'a>),
+    /// An indented code block (CommonMark 4.4).
+    IndentedCode,
+    /// An HTML block (CommonMark 4.6).
+    Html(HtmlKind),
+    /// A thematic break (CommonMark 4.1).
+    ThematicBreak,
+    /// An ATX heading (CommonMark 4.2).
+    AtxHeading(HeadingLevel),
+    /// A fenced code block (CommonMark 4.5).
+    FencedCode {
+        /// How many columns the fence is indented, 0 to 3.
+        indent: usize,
+        /// The fence; its places count from the line's words on.
+        fence: CodeFence,
+    },
+    /// None of the above, and the words begin with `[`: a link reference definition (CommonMark 4.7), if one can be read from
+    /// this line and those ahead, and else a paragraph.
+    Bracket,
+    /// A paragraph (CommonMark 4.8).
+    Plain,
+}
+
+/// What the line begins. A line that is indented by four columns or more begins an indented code block, unless it is blank;
+/// behind up to three columns a container's marker comes first, then the leaf blocks.
+pub fn what_opens<'a>(rest: LineRest<'a>) -> Opening<'a>
+    ensures opens { (options : Options) (ahead : List Row) → opens options (row_of rest.entry) ahead ≡ opened options result (row_of rest.entry) ahead }
+    ensures inside { HasInside result (row_of rest.entry) }
+    ensures info { HasInfo result (row_of rest.entry) }
+    ensures placed { (text : List ℕ) → IsIn text rest.entry → InsideIsIn text result }
+{
+    if rest.is_blank() {
+        return Opening::Blank;
+    }
+    let indent = rest.indent_upto(4);
+    if indent == 4 {
+        return Opening::IndentedCode;
+    }
+    if let Some(start) = container_start(rest) {
+        return Opening::Nests(start);
+    }
+    leaf_opening(rest.words(), indent)
+}
+
+/// What the words of a line begin, indented by so many columns, where they begin no container.
+fn leaf_opening<'a>(words: &[u8], indent: usize) -> Opening<'a>
+    ensures opens { (options : Options) (r : Row) (ahead : List Row) → words_of r ≡ words.now → indent_of r ≡ indent → leaf_of options r ahead ≡ opened options result r ahead }
+    ensures inside { (r : Row) → HasInside result r }
+    ensures info { (r : Row) → words_of r ≡ words.now → HasInfo result r }
+    ensures placed { (text : List ℕ) → InsideIsIn text result }
+{
+    if let Some(kind) = html_kind(words) {
+        return Opening::Html(kind);
+    }
+    if scan_hrule(words) {
+        return Opening::ThematicBreak;
+    }
+    if let Some(level) = scan_atx_heading(words) {
+        return Opening::AtxHeading(level);
+    }
+    if let Some(fence) = scan_code_fence(words) {
+        return Opening::FencedCode { indent, fence };
+    }
+    if begins_with_bracket(words) {
+        Opening::Bracket
+    } else {
+        Opening::Plain
+    }
+}
+
+/// Whether the words of a line begin with an opening bracket.
+#[inline]
+fn begins_with_bracket(words: &[u8]) -> bool
+    ensures { result ≡ begins_with 91 words.now }
+{
+    match words {
+        [first, ..] => *first == b'[',
+        [] => false,
+    }
+}

@@ -1,0 +1,305 @@
+//! Lines of the standard's examples, each call on its happy path.
+
+use crate::{
+    Container, ContainerStart, Further, HtmlKind, ItemStart, LineRest, Opening, Verbatim,
+    ends_at_once, interrupts, underlines, what_opens,
+};
+use cmark_text::HeadingLevel;
+use std::test::Fail;
+
+/// The line behind the marker of the container that it begins; the line itself, where it begins none.
+fn inside<'a>(rest: LineRest<'a>) -> LineRest<'a> {
+    match what_opens(rest) {
+        Opening::Nests(ContainerStart::Quote(inside)) => inside,
+        Opening::Nests(ContainerStart::Item(_, inside)) => inside,
+        _ => rest,
+    }
+}
+
+/// The list item that the line begins, if it begins one.
+fn item(rest: LineRest<'_>) -> Option<ItemStart> {
+    match what_opens(rest) {
+        Opening::Nests(ContainerStart::Item(item, _)) => Some(item),
+        _ => None,
+    }
+}
+
+fn begins_code(rest: LineRest<'_>) -> bool {
+    matches!(what_opens(rest), Opening::IndentedCode)
+}
+
+#[test]
+fn a_line_ends_before_its_ending(rt: HostRuntime) -> Result<(), Fail> {
+    let text = b"one\r\n  two \nlast";
+    let first = LineRest::new(text, 0);
+    assert_eq!(rt; (first.stop(), first.past()), (3, 5));
+    let second = LineRest::new(text, 5);
+    assert_eq!(rt;
+        (
+            second.begin(),
+            second.words_begin(),
+            second.stop(),
+            second.past()
+        ),
+        (5, 7, 11, 12)
+    );
+    assert_eq!(rt; second.words(), b"two ".as_slice());
+    assert_eq!(rt; second.bytes(), b"  two ".as_slice());
+    let last = LineRest::new(text, 12);
+    assert_eq!(rt; (last.stop(), last.past()), (16, 16));
+    let none = LineRest::new(text, 16);
+    assert_eq!(rt; (none.is_blank(), none.past()), (true, 16));
+    Ok(())
+}
+
+#[test]
+fn a_tab_is_indent_up_to_the_next_stop(rt: HostRuntime) -> Result<(), Fail> {
+    let line = LineRest::new(b" \t a", 0);
+    assert_eq!(rt; line.indent_upto(9), 5);
+    assert_eq!(rt; line.indent_upto(4), 4);
+    assert_eq!(rt; line.is_blank(), false);
+    let cut = line.without_indent_upto(2);
+    assert_eq!(rt; (cut.begin(), cut.remaining_space()), (2, 2));
+    assert_eq!(rt; cut.bytes(), b" a".as_slice());
+    assert_eq!(rt; line.behind_indent().begin(), 3);
+    Ok(())
+}
+
+#[test]
+fn a_tab_in_front_of_an_item_s_later_line(rt: HostRuntime) -> Result<(), Fail> {
+    // CommonMark 0.31.2, examples 4 and 5
+    let later = Container::Item { width: 4 }.keeps(false, LineRest::new(b"\tbar", 0));
+    assert_eq!(rt; later.map(|rest| rest.begin()), Some(1));
+    let code = Container::Item { width: 2 }.keeps(false, LineRest::new(b"\t\tbar", 0));
+    assert_eq!(rt; code.map(begins_code), Some(true));
+    assert_eq!(rt;
+        code.map(|rest| rest.without_indent_upto(4).remaining_space()),
+        Some(2)
+    );
+    Ok(())
+}
+
+#[test]
+fn a_tab_behind_a_marker(rt: HostRuntime) -> Result<(), Fail> {
+    // CommonMark 0.31.2, examples 6 and 7
+    let quote = inside(LineRest::new(b">\t\tfoo", 0));
+    assert_eq!(rt; (begins_code(quote), quote.indent_upto(9)), (true, 6));
+    let line = LineRest::new(b"-\t\tfoo", 0);
+    assert_eq!(rt;
+        item(line),
+        Some(ItemStart {
+            mark: b'-',
+            number: None,
+            width: 2
+        })
+    );
+    assert_eq!(rt;
+        (begins_code(inside(line)), inside(line).indent_upto(9)),
+        (true, 6)
+    );
+    Ok(())
+}
+
+#[test]
+fn a_numbered_item_in_a_quote(rt: HostRuntime) -> Result<(), Fail> {
+    // CommonMark 0.31.2, example 259
+    let line = inside(inside(LineRest::new(b"   > > 1.  one", 0)));
+    assert_eq!(rt;
+        item(line),
+        Some(ItemStart {
+            mark: b'.',
+            number: Some(1),
+            width: 4
+        })
+    );
+    assert_eq!(rt; inside(line).begin(), 11);
+    Ok(())
+}
+
+#[test]
+fn a_quote_keeps_lines_with_its_marker(rt: HostRuntime) -> Result<(), Fail> {
+    let kept = Container::Quote.keeps(false, LineRest::new(b"  > bar", 0));
+    assert_eq!(rt; kept.map(|rest| rest.begin()), Some(4));
+    assert_eq!(rt;
+        Container::Quote
+            .keeps(false, LineRest::new(b"bar", 0))
+            .is_none(),
+        true
+    );
+    assert_eq!(rt;
+        Container::Quote
+            .keeps(false, LineRest::new(b"    > bar", 0))
+            .is_none(),
+        true
+    );
+    Ok(())
+}
+
+#[test]
+fn an_item_keeps_blank_lines_but_behind_a_bare_first_one(rt: HostRuntime) -> Result<(), Fail> {
+    // CommonMark 0.31.2, example 280
+    let item = Container::Item { width: 2 };
+    let blank = LineRest::new(b" \nfoo", 0);
+    assert_eq!(rt;
+        item.keeps(false, blank).map(|rest| rest.is_blank()),
+        Some(true)
+    );
+    assert_eq!(rt; item.keeps(true, blank).is_none(), true);
+    assert_eq!(rt;
+        item.keeps(true, LineRest::new(b"  foo", 0))
+            .map(|rest| rest.begin()),
+        Some(2)
+    );
+    assert_eq!(rt;
+        item.keeps(false, LineRest::new(b" foo", 0)).is_none(),
+        true
+    );
+    Ok(())
+}
+
+#[test]
+fn leaf_blocks(rt: HostRuntime) -> Result<(), Fail> {
+    assert_eq!(rt;
+        matches!(what_opens(LineRest::new(b" \t", 0)), Opening::Blank),
+        true
+    );
+    assert_eq!(rt;
+        matches!(
+            what_opens(LineRest::new(b"- - -", 0)),
+            Opening::ThematicBreak
+        ),
+        true
+    );
+    assert_eq!(rt;
+        matches!(
+            what_opens(LineRest::new(b"## a", 0)),
+            Opening::AtxHeading(HeadingLevel::H2)
+        ),
+        true
+    );
+    assert_eq!(rt;
+        matches!(what_opens(LineRest::new(b"#a", 0)), Opening::Plain),
+        true
+    );
+    assert_eq!(rt;
+        matches!(
+            what_opens(LineRest::new(b" <div", 0)),
+            Opening::Html(HtmlKind::Block)
+        ),
+        true
+    );
+    assert_eq!(rt;
+        matches!(
+            what_opens(LineRest::new(b"<a>", 0)),
+            Opening::Html(HtmlKind::Tag)
+        ),
+        true
+    );
+    assert_eq!(rt;
+        matches!(what_opens(LineRest::new(b"[a]: b", 0)), Opening::Bracket),
+        true
+    );
+    assert_eq!(rt;
+        matches!(what_opens(LineRest::new(b"``` a`", 0)), Opening::Plain),
+        true
+    );
+    Ok(())
+}
+
+#[test]
+fn a_fence_with_an_info_string(rt: HostRuntime) -> Result<(), Fail> {
+    let places = match what_opens(LineRest::new(b"  ~~~~ aa  ", 0)) {
+        Opening::FencedCode { indent, fence } => {
+            Some((
+                indent,
+                fence.mark,
+                fence.size,
+                fence.info_start,
+                fence.info_end,
+            ))
+        }
+        _ => None,
+    };
+    assert_eq!(rt; places, Some((2, b'~', 4, 5, 7)));
+    Ok(())
+}
+
+#[test]
+fn what_interrupts_a_paragraph(rt: HostRuntime) -> Result<(), Fail> {
+    // CommonMark 0.31.2, examples 187, 285, 304 and 305
+    assert_eq!(rt;
+        interrupts(LineRest::new(b"14.  The number", 0), true),
+        false
+    );
+    assert_eq!(rt;
+        interrupts(LineRest::new(b"14.  The number", 0), false),
+        true
+    );
+    assert_eq!(rt; interrupts(LineRest::new(b"1.  The number", 0), true), true);
+    assert_eq!(rt; interrupts(LineRest::new(b"*", 0), true), false);
+    assert_eq!(rt; interrupts(LineRest::new(b"<a>", 0), true), false);
+    assert_eq!(rt; interrupts(LineRest::new(b"<div>", 0), true), true);
+    assert_eq!(rt; interrupts(LineRest::new(b"> a", 0), true), true);
+    assert_eq!(rt; interrupts(LineRest::new(b"    > a", 0), true), false);
+    assert_eq!(rt; interrupts(LineRest::new(b"", 0), true), true);
+    assert_eq!(rt; interrupts(LineRest::new(b"a", 0), true), false);
+    Ok(())
+}
+
+#[test]
+fn setext_underlines(rt: HostRuntime) -> Result<(), Fail> {
+    // CommonMark 0.31.2, examples 86 to 88
+    assert_eq!(rt;
+        underlines(LineRest::new(b"   ----      ", 0)),
+        Some(HeadingLevel::H2)
+    );
+    assert_eq!(rt; underlines(LineRest::new(b"=", 0)), Some(HeadingLevel::H1));
+    assert_eq!(rt; underlines(LineRest::new(b"    ---", 0)), None);
+    assert_eq!(rt; underlines(LineRest::new(b"= =", 0)), None);
+    Ok(())
+}
+
+#[test]
+fn further_lines_of_code(rt: HostRuntime) -> Result<(), Fail> {
+    let code = Verbatim::Indented;
+    assert_eq!(rt; code.further(LineRest::new(b"    a", 0)), Further::GoesOn);
+    assert_eq!(rt; code.further(LineRest::new(b"      ", 0)), Further::Waits);
+    assert_eq!(rt; code.further(LineRest::new(b"  a", 0)), Further::Stops);
+    let fenced = Verbatim::Fenced {
+        mark: b'`',
+        size: 4,
+        indent: 0,
+    };
+    assert_eq!(rt; fenced.further(LineRest::new(b"```", 0)), Further::GoesOn);
+    assert_eq!(rt;
+        fenced.further(LineRest::new(b"  ````` ", 0)),
+        Further::Closes
+    );
+    assert_eq!(rt;
+        fenced.further(LineRest::new(b"    ````", 0)),
+        Further::GoesOn
+    );
+    Ok(())
+}
+
+#[test]
+fn further_lines_of_html(rt: HostRuntime) -> Result<(), Fail> {
+    let block = Verbatim::Html(HtmlKind::Block);
+    assert_eq!(rt; block.further(LineRest::new(b"</div>", 0)), Further::GoesOn);
+    assert_eq!(rt; block.further(LineRest::new(b" ", 0)), Further::Stops);
+    let comment = Verbatim::Html(HtmlKind::Comment);
+    assert_eq!(rt; comment.further(LineRest::new(b"", 0)), Further::GoesOn);
+    assert_eq!(rt;
+        comment.further(LineRest::new(b"a --> b", 0)),
+        Further::Closes
+    );
+    assert_eq!(rt;
+        ends_at_once(HtmlKind::Comment, LineRest::new(b"<!-- a -->", 0)),
+        true
+    );
+    assert_eq!(rt;
+        ends_at_once(HtmlKind::Block, LineRest::new(b"<div>", 0)),
+        false
+    );
+    Ok(())
+}
