@@ -1,4 +1,5 @@
 pub mod ContainerRows
+pub mod LazyRows
 pub mod LineRows
 pub mod OpeningRows
 pub mod PrefixRows

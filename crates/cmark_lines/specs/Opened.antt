@@ -29,39 +29,23 @@ opened options Plain r ahead = grammar.Plain
 
 -- the line inside a container is the one behind the container's marker
 abbrev pub HasInside : Opening → Row → Type 0
-HasInside Blank r = Unit {0}
 HasInside (Nests start) r = Enters r start
-HasInside IndentedCode r = Unit {0}
-HasInside (Html kind) r = Unit {0}
-HasInside ThematicBreak r = Unit {0}
-HasInside (AtxHeading level) r = Unit {0}
-HasInside (FencedCode indent fence) r = Unit {0}
-HasInside Bracket r = Unit {0}
-HasInside Plain r = Unit {0}
+HasInside _ r = Unit {0}
 
--- the info string of a fence stands at its places in the words; a line that may begin a definition has a bracket in front
+-- the info string of a fence stands at its places in the words
 abbrev pub HasInfo : Opening → Row → Type 0
-HasInfo Blank r = Unit {0}
-HasInfo (Nests start) r = Unit {0}
-HasInfo IndentedCode r = Unit {0}
-HasInfo (Html kind) r = Unit {0}
-HasInfo ThematicBreak r = Unit {0}
-HasInfo (AtxHeading level) r = Unit {0}
 HasInfo (FencedCode indent fence) r = HasPlace (words_of r) fence
-HasInfo Bracket r = begins_with 91 (words_of r) ≡ true
-HasInfo Plain r = Unit {0}
+HasInfo _ r = Unit {0}
+
+-- a line that may begin a definition has a bracket in front
+abbrev pub HasBracket : Opening → Row → Type 0
+HasBracket Bracket r = begins_with 91 (words_of r) ≡ true
+HasBracket _ r = Unit {0}
 
 -- the line inside a container stands in this text
 abbrev pub InsideIsIn : List ℕ → Opening → Type 0
-InsideIsIn text Blank = Unit {0}
 InsideIsIn text (Nests start) = IsIn text (inside_of start)
-InsideIsIn text IndentedCode = Unit {0}
-InsideIsIn text (Html kind) = Unit {0}
-InsideIsIn text ThematicBreak = Unit {0}
-InsideIsIn text (AtxHeading level) = Unit {0}
-InsideIsIn text (FencedCode indent fence) = Unit {0}
-InsideIsIn text Bracket = Unit {0}
-InsideIsIn text Plain = Unit {0}
+InsideIsIn text _ = Unit {0}
 
 -- whether the words of a line, which is indented by so many columns, begin a leaf that interrupts a paragraph
 abbrev pub leaf_interrupts : (indent : ℕ) → List ℕ → Bool

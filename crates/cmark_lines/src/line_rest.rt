@@ -56,11 +56,8 @@ impl<'a> LineRest<'a> {
         requires { (row_from self.start self.past front).stop ≡ (row_of self).stop }
         ensures { row_of result ≡ row_from self.entry.start self.entry.past front.entry }
     {
-        LineRest {
-            start: self.start,
-            past: self.past,
-            front,
-        }
+        let LineRest { start, past, .. } = self;
+        LineRest { start, past, front }
     }
 
     /// The place at which the rest begins. Of a tab that was cut by a prefix, it is the place behind the tab.
@@ -108,8 +105,8 @@ impl<'a> LineRest<'a> {
     pub fn indent_upto(&self, n: usize) -> usize
         ensures { result ≡ min n (indent_of (row_of self.now)) }
     {
-        let mut front = self.front;
-        front.scan_space_upto(n)
+        let mut ahead = self.front;
+        ahead.scan_space_upto(n)
     }
 
     /// Whether nothing stands on the line but spaces and tabs.
@@ -117,9 +114,9 @@ impl<'a> LineRest<'a> {
     pub fn is_blank(&self) -> bool
         ensures { result ≡ is_blank_line (row_of self.now) }
     {
-        let mut front = self.front;
-        front.scan_all_space();
-        front.is_at_eol()
+        let mut ahead = self.front;
+        ahead.scan_all_space();
+        ahead.is_at_eol()
     }
 
     /// The bytes behind the spaces and tabs in front, up to the line's ending.
@@ -127,9 +124,9 @@ impl<'a> LineRest<'a> {
     pub fn words(&self) -> &'a [u8]
         ensures { result.now ≡ words_of (row_of self.now) }
     {
-        let mut front = self.front;
-        front.scan_all_space();
-        front.remaining_bytes()
+        let mut ahead = self.front;
+        ahead.scan_all_space();
+        ahead.remaining_bytes()
     }
 
     /// The bytes up to the line's ending. A tab that was cut by a prefix is none of them.

@@ -1,0 +1,53 @@
+-- Lines that lack a prefix (CommonMark 5.1), by what they are without looking at that: they begin a paragraph alone, and go
+-- on with one where they do not interrupt one further in.
+use Rattle.std.proofs.Common.{◌≡◌, Bool, true, false, ◌&&◌, ◌||◌, not, List, Option, Some, None, refl, ap, ◌∙◌}
+use Rattle.std.specs.Prelude.{nat_le}
+use Rattle.cmark_grammar.specs.Options.{Options}
+use Rattle.cmark_grammar.specs.Rows.{Row, lazy_row, is_blank_line, indent_of, words_of}
+use Rattle.cmark_grammar.specs.Leaves.{is_thematic_break, is_atx_heading, fence_of, underlines}
+use Rattle.cmark_grammar.specs.HtmlBlocks.{html_kind}
+use Rattle.cmark_grammar.specs.Containers.{Container, Quote, Item, Marker, marker_of, item_with, item_of, is_quote, keeps}
+use Rattle.cmark_grammar.specs.Openings.{Plain, item_interrupts, is_some_fence, html_interrupts, interrupts, texts, lazily, opens}
+
+-- no container keeps a line that lacks an outer prefix
+pub lazy-keeps : (k : Container) (bare : Bool) (r : Row) → keeps k bare (lazy_row r) ≡ None
+unfolding keeps
+lazy-keeps k bare r = refl
+
+pub lazy-underlines : (r : Row) → underlines (lazy_row r) ≡ None
+unfolding underlines
+lazy-underlines r = refl
+
+lazy-item : (r : Row) (m : Option Marker) → item_with (lazy_row r) m ≡ item_with r m
+lazy-item r None = refl
+lazy-item r (Some m) = refl
+
+lazy-item-interrupts : (same : Bool) (r : Row) (o : Option Container) → item_interrupts same (lazy_row r) o ≡ item_interrupts same r o
+lazy-item-interrupts same r None = refl
+lazy-item-interrupts same r (Some Quote) = refl
+lazy-item-interrupts same r (Some (Item mark number width)) = refl
+
+module _ (options : Options) (r : Row) (ahead : List Row) where
+  -- whether a line interrupts does not depend on the prefixes that it lacks
+  pub lazy-interrupts : (same : Bool) → interrupts options same (lazy_row r) ahead ≡ interrupts options same r ahead
+  lazy-interrupts same =
+      ap (λ z. is_blank_line r || (nat_le (indent_of r) 3 && (is_quote r || (z || (is_thematic_break (words_of r)
+      || (is_atx_heading (words_of r) || (is_some_fence (fence_of (indent_of r) (words_of r)) || html_interrupts (html_kind (words_of r)))))))))
+      (lazy-item-interrupts same r (item_of (lazy_row r)) ∙ ap (item_interrupts same r) (lazy-item r (marker_of (words_of r))))
+
+  pub lazy-opens : opens options (lazy_row r) ahead ≡ Plain
+  unfolding opens
+  lazy-opens = refl
+
+  pub lazy-texts : texts options (lazy_row r) ahead ≡ not (interrupts options false r ahead)
+  unfolding texts
+  lazy-texts = ap not (lazy-interrupts false)
+
+  pub lazily-is : lazily options r ahead ≡ not (interrupts options false r ahead)
+  unfolding lazily
+  lazily-is = refl
+
+  -- a line that lacks none goes on with a paragraph where it does not interrupt one of the same container
+  pub whole-texts : r.lazy ≡ false → texts options r ahead ≡ not (interrupts options true r ahead)
+  unfolding texts
+  whole-texts whole = ap (λ z. not (interrupts options (not z) r ahead)) whole
