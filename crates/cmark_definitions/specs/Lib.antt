@@ -1,0 +1,4 @@
+pub mod Rests
+pub mod Shown
+pub mod Steps
+pub mod Titles

@@ -1,0 +1,35 @@
+-- What the values of structs mean.
+use Rattle.std.specs.Prelude.{ℕ, List, drop, option_map, option_copied}
+use Rattle.cmark_grammar.specs.BlockDocument.{Reference}
+use Rattle.cmark_grammar.specs.LinkDefinitions as definitions
+use Rattle.cmark_text.specs.Labelled.{link_text}
+use Rattle.cmark_text.specs.Shown.{text_bytes}
+use Rattle.cmark_text.specs.declared.label.LinkLabel.{LinkLabel}
+use Rattle.cmark_items.specs.declared.definitions.LinkDef.{LinkDef}
+use Rattle.cmark_definitions.specs.declared.definition.Definition.{Definition}
+use Rattle.cmark_definitions.specs.declared.definition.Read.{Read}
+use Rattle.cmark_definitions.specs.declared.part.Part.{Part}
+
+abbrev pub shown_part : Part → definitions.Found
+shown_part part = record { bytes = part.part.now; behind = part.behind.now }
+
+abbrev pub shown_read : Read → definitions.Defined
+shown_read read = definitions.defined read.label.now read.destination.now (option_copied read.title) read.behind.now
+
+-- a definition as it is written
+abbrev pub written : Definition → definitions.Definition
+written definition = record { label = definition.label.now; destination = definition.destination.now; title = option_copied definition.title }
+
+-- with the bytes of the paragraph that stand behind it
+abbrev pub shown_definition : (paragraph : List ℕ) → Definition → definitions.Defined
+shown_definition paragraph definition = record { definition = written definition; behind = drop definition.end paragraph }
+
+-- a definition with its label, as a document has it
+abbrev pub shown_reference : LinkLabel → LinkDef → Reference
+shown_reference label def = record {
+  label = link_text label;
+  destination = text_bytes def.dest;
+  title = option_map text_bytes def.title;
+  start = def.span.start;
+  end = def.span.end;
+}

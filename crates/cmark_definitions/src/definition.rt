@@ -1,0 +1,115 @@
+//! Link reference definitions as they are written.
+
+ghost use Rattle.std.specs.Prelude.{◌≡◌, IfSome, option_map};
+ghost use Rattle.std.specs.Str.{IsCharBoundary};
+ghost use Rattle.cmark_grammar.specs.LinkDefinitions.{behind_separator, destination_in, title_in, untitled, titled, with_destination, definition_in};
+ghost use Rattle.cmark_definitions.specs.Rests.{IsRest, HasLineEnds};
+ghost use Rattle.cmark_definitions.specs.Shown.{shown_part, shown_read, shown_definition};
+
+use crate::blank::{behind_byte, behind_separator, is_line_done};
+use crate::label::label_in;
+use crate::part::{Part, destination_in, title_in};
+
+/// A link reference definition as it is written (CommonMark 4.7).
+#[derive(Clone, Copy, Debug, PartialEq, Eq)]
+pub struct Definition<'a> {
+    /// What stands between the brackets.
+    pub label: &'a str,
+    /// The destination, without pointed brackets.
+    pub destination: &'a str,
+    /// The title without what encloses it, if there is one.
+    pub title: Option<&'a str>,
+    /// How many bytes the definition takes, to behind its title, or else its destination. Only blanks follow on the line.
+    pub end: usize,
+}
+
+/// A definition that was read, and the text behind it.
+#[derive(Clone, Copy)]
+struct Read<'a> {
+    label: &'a str,
+    destination: &'a str,
+    title: Option<&'a str>,
+    behind: &'a str,
+}
+
+/// The text behind a definition.
+fn behind(read: Read<'_>) -> &str
+    ensures { result.now ≡ read.entry.behind.now }
+{
+    read.behind
+}
+
+/// The definition without a title, if the line is done behind the destination.
+fn untitled<'a>(label: &'a str, destination: Part<'a>) -> Option<Read<'a>>
+    ensures value { option_map shown_read result ≡ untitled label.entry.now (shown_part destination.entry) }
+    ensures rest { IfSome result (λ read. IsRest destination.entry.behind.now read.behind.now) }
+{
+    if !is_line_done(destination.behind) {
+        return None;
+    }
+    Some(Read {
+        label,
+        destination: destination.part,
+        title: None,
+        behind: destination.behind,
+    })
+}
+
+/// The definition with the title behind the destination, if one is parted from it and the line is done behind the title; else
+/// the one without a title.
+fn titled<'a>(label: &'a str, destination: Part<'a>) -> Option<Read<'a>>
+    requires { HasLineEnds destination.behind.now }
+    ensures value { option_map shown_read result ≡ titled label.entry.now (shown_part destination.entry) (title_in (behind_separator destination.entry.behind.now)) }
+    ensures rest { IfSome result (λ read. IsRest destination.entry.behind.now read.behind.now) }
+{
+    let behind = behind_separator(destination.behind);
+    let Some(title) = title_in(behind) else {
+        return untitled(label, destination);
+    };
+    if behind.len() < destination.behind.len() && is_line_done(title.behind) {
+        return Some(Read {
+            label,
+            destination: destination.part,
+            title: Some(title.part),
+            behind: title.behind,
+        });
+    }
+    untitled(label, destination)
+}
+
+/// The definition of a label whose colon stands before this text.
+fn with_destination<'a>(label: &'a str, text: &'a str) -> Option<Read<'a>>
+    requires { HasLineEnds text.now }
+    ensures value { option_map shown_read result ≡ with_destination label.entry.now (destination_in (behind_separator text.entry.now)) }
+    ensures rest { IfSome result (λ read. IsRest text.entry.now read.behind.now) }
+{
+    titled(label, destination_in(behind_separator(text))?)
+}
+
+/// The definition in front.
+fn read_definition(paragraph: &str) -> Option<Read<'_>>
+    requires { HasLineEnds paragraph.now }
+    ensures value { option_map shown_read result ≡ definition_in paragraph.entry.now }
+    ensures rest { IfSome result (λ read. IsRest paragraph.entry.now read.behind.now) }
+{
+    let label = label_in(behind_byte(b'[', paragraph)?)?;
+    with_destination(label.part, behind_byte(b':', label.behind)?)
+}
+
+/// The link reference definition that a paragraph begins with, if it does (CommonMark 4.7): a label in brackets, a colon, a
+/// destination, and a title where one follows that the line ends behind. `paragraph` is the text of a paragraph, or a rest of
+/// it from the start of a line, without the prefixes of containers and without the indent of its first line; between its lines
+/// stand their line ends, in which a line feed follows each carriage return.
+pub fn scan_definition(paragraph: &str) -> Option<Definition<'_>>
+    requires line_ends { HasLineEnds paragraph.now }
+    ensures value { option_map (shown_definition paragraph.entry.now) result ≡ definition_in paragraph.entry.now }
+    ensures ends { IfSome result (λ definition. IsCharBoundary paragraph.entry.now definition.end) }
+{
+    let read = read_definition(paragraph)?;
+    Some(Definition {
+        label: read.label,
+        destination: read.destination,
+        title: read.title,
+        end: paragraph.len() - behind(read).len(),
+    })
+}

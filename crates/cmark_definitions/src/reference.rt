@@ -1,0 +1,104 @@
+//! Link reference definitions as a table keeps them.
+
+ghost use Rattle.std.specs.Prelude.{◌≡◌, ◌<◌, ◌==◌, false, length, string_bytes, slice_index, IfOk, option_map, option_copied};
+ghost use Rattle.cmark_grammar.specs.Derivation.{title_of, reference_of};
+ghost use Rattle.cmark_grammar.specs.Labels.{fold};
+ghost use Rattle.cmark_grammar.specs.Letters.{first_is};
+ghost use Rattle.cmark_grammar.specs.LinkDefinitions.{behind_blanks};
+ghost use Rattle.cmark_grammar.specs.Tokens.{resolved, title_lines};
+ghost use Rattle.cmark_text.specs.Labelled.{link_key};
+ghost use Rattle.cmark_text.specs.Shown.{text_bytes};
+ghost use Rattle.cmark_definitions.specs.Shown.{written, shown_reference};
+ghost use Rattle.cmark_definitions.specs.Titles.{line_feed_of, behind_title_line};
+
+use crate::blank::{behind_blanks, behind_byte};
+use crate::definition::Definition;
+use cmark_items::LinkDef;
+use cmark_scan_parts::unescape;
+use cmark_text::{CowStr, EntityLookup, LinkLabel};
+use memchr::memchr2;
+use std::alloc::{AllocError, Global};
+use std::ops::Range;
+
+/// What a title keeps of a part of a line end: a line feed, or nothing of a carriage return.
+fn line_feed_of(text: &str) -> &'static str
+    ensures { result.now ≡ line_feed_of text.now }
+{
+    match text.as_bytes() {
+        [b'\n', ..] => "\n",
+        _ => "",
+    }
+}
+
+/// The title behind a part of a line end: behind the blanks that follow a line feed, or behind a carriage return.
+fn behind_title_line(text: &str) -> &str
+    requires some { 0 < length text.now }
+    requires ascii { slice_index text.now 0 < 128 }
+    ensures { result.now ≡ behind_title_line text.entry.now }
+{
+    match behind_byte(b'\n', text) {
+        Some(line) => behind_blanks(line),
+        None => &text[1..],
+    }
+}
+
+/// The lines of a title: each line end and the blanks behind it are one line feed (this profile's own).
+fn title_lines(alloc: Global, title: &str) -> Result<String, AllocError>
+    ensures { IfOk result (λ lines. string_bytes lines ≡ title_lines false title.now) }
+{
+    let mut lines = String::new(alloc);
+    let mut rest = title;
+    while let Some(at) = memchr2(b'\n', b'\r', rest.as_bytes()) {
+        lines.push_str(&rest[..at])?;
+        let behind = &rest[at..];
+        lines.push_str(line_feed_of(behind))?;
+        rest = behind_title_line(behind);
+    }
+    lines.push_str(rest)?;
+    Ok(lines)
+}
+
+/// A text without its escapes and entities, in a value that borrows nothing.
+fn owned_text<E: EntityLookup>(
+    alloc: Global,
+    text: CowStr<'_>,
+    entities: &E,
+) -> Result<CowStr<'static>, AllocError>
+    ensures { IfOk result (λ made. text_bytes made ≡ resolved (E.replacement entities.now) (text_bytes text.entry)) }
+{
+    unescape(alloc, text, false, entities)?.into_static(alloc)
+}
+
+/// A title with its lines, escapes and entities resolved.
+fn owned_title<E: EntityLookup>(
+    alloc: Global,
+    title: Option<&str>,
+    entities: &E,
+) -> Result<Option<CowStr<'static>>, AllocError>
+    ensures { IfOk result (λ made. option_map text_bytes made ≡ title_of (E.replacement entities.now) (option_copied title.entry)) }
+{
+    let Some(title) = title else {
+        return Ok(None);
+    };
+    let lines = CowStr::from_string(title_lines(alloc, title)?)?;
+    Ok(Some(owned_text(alloc, lines, entities)?))
+}
+
+/// A definition as a table keeps it, with its label: the label in its normal form, and the destination and the title with
+/// escapes and entities resolved; in the title each line end and the blanks behind it are one line feed. `span` are the
+/// definition's bytes in the text, from its opening bracket to before its last line ending. All texts are owned. Fails only
+/// where memory is refused.
+pub fn link_definition<E: EntityLookup>(
+    alloc: Global,
+    definition: &Definition<'_>,
+    span: Range<usize>,
+    entities: &E,
+) -> Result<(LinkLabel, LinkDef<'static>), AllocError>
+    ensures value { IfOk result (λ made. shown_reference made.0 made.1 ≡ reference_of (E.replacement entities.now) (written definition.now) span.start span.end) }
+    ensures key { IfOk result (λ made. link_key made.0 ≡ fold definition.now.label.now) }
+{
+    let label = LinkLabel::new(alloc, definition.label)?;
+    let dest = owned_text(alloc, CowStr::Borrowed(definition.destination), entities)?;
+    let title = owned_title(alloc, definition.title, entities)?;
+    Ok((label, LinkDef { dest, title, span }))
+}

@@ -1,0 +1,86 @@
+//! Tests of link reference definitions, with ample memory. Most examples are of CommonMark 4.7.
+
+use crate::{Definition, link_definition, scan_definition};
+use cmark_text::{BasicEntities, CowStr};
+use std::test::Fail;
+
+#[test]
+fn a_definition_with_a_title(rt: HostRuntime) -> Result<(), Fail> {
+    let found = scan_definition("[foo]: /url \"title\"\nbar");
+    let definition = Definition {
+        label: "foo",
+        destination: "/url",
+        title: Some("title"),
+        end: 19,
+    };
+    assert_eq!(rt; found, Some(definition));
+    Ok(())
+}
+
+#[test]
+fn a_definition_over_lines(rt: HostRuntime) -> Result<(), Fail> {
+    let found = scan_definition("[Foo*bar\\]]:\r\n<my_(url)>\r\n'title (with parens)'\r\n");
+    let definition = Definition {
+        label: "Foo*bar\\]",
+        destination: "my_(url)",
+        title: Some("title (with parens)"),
+        end: 47,
+    };
+    assert_eq!(rt; found, Some(definition));
+    Ok(())
+}
+
+#[test]
+fn a_definition_without_a_title(rt: HostRuntime) -> Result<(), Fail> {
+    let found = scan_definition("[foo]: /url\n\"title\" ok");
+    let definition = Definition {
+        label: "foo",
+        destination: "/url",
+        title: None,
+        end: 11,
+    };
+    assert_eq!(rt; found, Some(definition));
+    Ok(())
+}
+
+#[test]
+fn an_empty_destination_in_brackets(rt: HostRuntime) -> Result<(), Fail> {
+    let found = scan_definition("[\u{e9}]: <>");
+    let definition = Definition {
+        label: "\u{e9}",
+        destination: "",
+        title: None,
+        end: 8,
+    };
+    assert_eq!(rt; found, Some(definition));
+    Ok(())
+}
+
+#[test]
+fn no_definitions(rt: HostRuntime) -> Result<(), Fail> {
+    assert_eq!(rt; scan_definition("[foo]:\n"), None);
+    assert_eq!(rt; scan_definition("[foo]: <bar>(baz)"), None);
+    assert_eq!(rt; scan_definition("[foo]: /url \"title\" ok"), None);
+    assert_eq!(rt; scan_definition("[\n ]: /uri"), None);
+    assert_eq!(rt; scan_definition("[foo"), None);
+    assert_eq!(rt; scan_definition("foo]: /url"), None);
+    Ok(())
+}
+
+#[test]
+fn a_definition_for_a_table(rt: HostRuntime) -> Result<(), Fail> {
+    let written = Definition {
+        label: " Foo\n bar ",
+        destination: "/url\\bar\\*baz&amp;",
+        title: Some("foo\\\"bar\r\n  \\baz&copy;"),
+        end: 40,
+    };
+    let (label, def) = link_definition(rt.alloc(), &written, 3..43, &BasicEntities)?;
+    assert_eq!(rt; label.as_str(), "Foo bar");
+    assert_eq!(rt; def.dest.as_str(), "/url\\bar*baz&");
+    let title = def.title.ok_or("no title")?;
+    assert_eq!(rt; title.as_str(), "foo\"bar\n\\baz\u{a9}");
+    assert_eq!(rt; def.span.start, 3);
+    assert_eq!(rt; def.span.end, 43);
+    Ok(())
+}
