@@ -17,6 +17,7 @@ pub mod DefinitionLists
 pub mod Derivation
 pub mod Destinations
 pub mod Document
+pub mod DrawnDocument
 pub mod Entities
 pub mod Escapes
 pub mod Event

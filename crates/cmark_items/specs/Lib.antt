@@ -1,3 +1,4 @@
 pub mod Definitions
+pub mod ItemNodes
 pub mod Spans
 pub mod Tables

@@ -1,0 +1,259 @@
+-- One more line of the block pass.
+use Rattle.std.specs.Prelude.{ℕ, zero, suc, Bool, true, false, ◌==◌, ◌&&◌, ◌||◌, not, nat_le, if◌then◌else◌, List, [], ◌∷◌, ◌++◌, length, take, Option, Some, None}
+use Rattle.cmark_grammar.specs.Answers.{Lookup}
+use Rattle.cmark_grammar.specs.Attributes.{no_attributes}
+use Rattle.cmark_grammar.specs.Options.{Options}
+use Rattle.cmark_grammar.specs.Rows.{Row, rows, shown, first_place, begin_of, start_of, words_of}
+use Rattle.cmark_grammar.specs.Leaves.{Further, GoesOn, Closes, Waits, Stops, underlines, code_further, closes_fence}
+use Rattle.cmark_grammar.specs.HtmlBlocks.{holds_end, html_further}
+use Rattle.cmark_grammar.specs.Containers.{Container, Quote, Item, enter, keeps, strips}
+use Rattle.cmark_grammar.specs.Openings.{Leaf, ThematicBreak, AtxHeading, IndentedCode, FencedCode, HtmlBlock, LinkDefinition, Opening, Blank, Nests, Takes, Plain, opens, texts, lazily}
+use Rattle.cmark_grammar.specs.Tokens.{Piece, resolved, pieces, line_columns, line_end, broken, heading_tokens, verbatim_line, html_then, code_columns}
+use Rattle.cmark_grammar.specs.Derivation.{stop_of, reference_of}
+use Rattle.cmark_grammar.specs.BlockDocument as document
+use Rattle.cmark_grammar.specs.BlockDocument.{BlockDocument, BlockKind, Reference, Nil, Node, node}
+use Rattle.cmark_block_model.specs.Drawing.{Drawing, drawn, opened, closed_as, closed_at}
+use Rattle.cmark_block_model.specs.CodeLines.{code_line, rest_of, texts_of}
+use Rattle.cmark_block_model.specs.OpenBlocks.{OpenList, Siblings, no_siblings, OpenContainer, OpenLeaf, Closed, InParagraph, InDefinition, InIndented, InFenced, InHtml, takes_lazy, Pass, at_start}
+
+-- the list closed, if one is open
+abbrev pub list_closed : Option OpenList → Drawing → Drawing
+list_closed None d = d
+list_closed (Some l) d = closed_as (document.BlockList l.number (not l.loose)) l.end d
+
+-- a block begins that is no item
+abbrev pub block_begun : Pass → Pass
+block_begun p = record p {
+  drawing = list_closed p.inner.list p.drawing;
+  inner = record { has_block = true; blank = false; parted = p.inner.parted || p.inner.blank; list = None };
+}
+
+-- an item begins a list
+abbrev pub list_begun : (mark : ℕ) → Option ℕ → (start : ℕ) → Pass → Pass
+list_begun mark number start p = let q = block_begun p in record q {
+  drawing = opened start (document.BlockList number false) q.drawing;
+  inner = record q.inner { list = Some (record { mark = mark; number = number; loose = false; end = start }) };
+}
+
+-- an item goes on with a list
+abbrev pub list_goes_on : OpenList → Pass → Pass
+list_goes_on l p = record p {
+  inner = record p.inner { blank = false; list = Some (record l { loose = l.loose || p.inner.blank }) };
+}
+
+abbrev pub item_begun : (mark : ℕ) → Option ℕ → (start : ℕ) → Pass → Option OpenList → Pass
+item_begun mark number start p None = list_begun mark number start p
+item_begun mark number start p (Some l) = if l.mark == mark then list_goes_on l p else list_begun mark number start p
+
+abbrev pub inside_of : Container → Pass → Pass
+inside_of k p = record p { inner = no_siblings; outer = p.outer ++ record { container = k; around = p.inner } ∷ [] }
+
+abbrev pub node_opened : (start : ℕ) → BlockKind → Pass → Pass
+node_opened start kind p = record p { drawing = opened start kind p.drawing }
+
+-- a container begins on a line
+abbrev pub container_begun : Container → Row → Pass → Pass
+container_begun Quote r p = inside_of Quote (node_opened (start_of r) (document.BlockQuote None) (block_begun p))
+container_begun (Item mark number width) r p =
+    inside_of (Item mark number width) (node_opened (begin_of r) document.ListItem (item_begun mark number (begin_of r) p p.inner.list))
+
+-- the siblings that a closed container stands behind
+abbrev pub list_behind : Option OpenList → (parted : Bool) → (end : ℕ) → Option OpenList
+list_behind None parted end = None
+list_behind (Some l) parted end = Some (record l { loose = l.loose || parted; end = end })
+
+abbrev pub behind_container : Container → (end : ℕ) → (inside around : Siblings) → Siblings
+behind_container Quote end inside around = around
+behind_container (Item mark number width) end inside around = record around { blank = inside.blank; list = list_behind around.list inside.parted end }
+
+-- the innermost container closed
+abbrev pub container_closed : OpenContainer → List OpenContainer → Pass → Pass
+container_closed c outer p = record p {
+  drawing = closed_at p.past (list_closed p.inner.list p.drawing);
+  inner = behind_container c.container p.past p.inner c.around;
+  outer = outer;
+}
+
+abbrev pub is_item : Container → Bool
+is_item Quote = false
+is_item (Item mark number width) = true
+
+abbrev pub is_some : List Row → Bool
+is_some [] = false
+is_some (r ∷ rs) = true
+
+abbrev pub with_drawn : BlockDocument → Pass → Pass
+with_drawn document p = record p { drawing = drawn document p.drawing }
+
+abbrev pub node_closed : (end : ℕ) → Pass → Pass
+node_closed end p = record p { drawing = closed_at end p.drawing; leaf = Closed }
+
+module _ (text : List ℕ) (options : Options) (lookup : Lookup) where
+  -- the lines ahead, as they are seen inside the open containers
+  abbrev pub ahead_in : List OpenContainer → List Row → List Row
+  ahead_in [] rs = rs
+  ahead_in (c ∷ cs) rs = ahead_in cs (shown (strips c.container false rs))
+
+  -- the last line of a paragraph
+  abbrev pub last_line : Row → BlockDocument
+  last_line r = texts_of (pieces lookup (line_columns r))
+
+  -- the leaf closed, if one is open
+  abbrev pub close_leaf : OpenLeaf → Pass → Pass
+  close_leaf Closed p = p
+  close_leaf (InParagraph last) p = node_closed p.past (with_drawn (last_line last) p)
+  close_leaf (InDefinition left) p = record p { leaf = Closed }
+  close_leaf (InIndented waits end blank) p =
+      let q = node_closed end (with_drawn (texts_of (rest_of waits)) p) in record q { inner = record q.inner { blank = is_some blank } }
+  close_leaf (InFenced fence waits) p = node_closed p.past (with_drawn (texts_of (rest_of waits)) p)
+  close_leaf (InHtml kind) p = node_closed p.past p
+
+  abbrev pub leaf_closed : Pass → Pass
+  leaf_closed p = close_leaf p.leaf p
+
+  -- all containers closed but the outer ones: these are the others, the outermost first
+  abbrev pub containers_closed : (outer inner : List OpenContainer) → Pass → Pass
+  containers_closed outer [] p = p
+  containers_closed outer (c ∷ cs) p = container_closed c outer (containers_closed (outer ++ c ∷ []) cs p)
+
+  -- a paragraph begins, or goes on
+  abbrev pub paragraph_begun : Row → Pass → Pass
+  paragraph_begun r p = let q = node_opened (start_of r) document.Paragraph (block_begun p) in record q { leaf = InParagraph r }
+
+  abbrev pub paragraph_line : Row → Row → Pass → Pass
+  paragraph_line last r p = let q = with_drawn (broken lookup (line_end last) last Nil) p in record q { leaf = InParagraph r }
+
+  -- a paragraph that an underline makes a heading
+  abbrev pub heading_made : (level : ℕ) → Row → Row → Pass → Pass
+  heading_made level last r p = let q = with_drawn (last_line last) p in record q { drawing = closed_as (document.Heading level no_attributes) r.past q.drawing; leaf = Closed }
+
+  -- a line of code, with the columns of indent that are taken off at most
+  abbrev pub code_drawn : (most : ℕ) → Row → Option Piece → (Option Piece → OpenLeaf) → Pass → Pass
+  code_drawn most r waits leaf p = let run = code_line text most r waits in let q = with_drawn (texts_of run.done) p in record q { leaf = leaf run.waits }
+
+  abbrev pub indented_line : Row → Option Piece → Pass → Pass
+  indented_line r waits p = code_drawn 4 r waits (λ left. InIndented left r.past []) p
+
+  -- blank lines that turn out to belong to indented code
+  abbrev pub indented_lines : List Row → Option Piece → (end : ℕ) → Pass → Pass
+  indented_lines [] waits end p = record p { leaf = InIndented waits end [] }
+  indented_lines (r ∷ rs) waits end p =
+      let run = code_line text 4 r waits in indented_lines rs run.waits r.past (with_drawn (texts_of run.done) p)
+
+  abbrev pub html_line : Row → Pass → Pass
+  html_line r p = with_drawn (html_then (verbatim_line text r.columns r) Nil) p
+
+  abbrev pub html_begun : (at_once : Bool) → (kind : ℕ) → (end : ℕ) → Pass → Pass
+  html_begun true kind end p = node_closed end p
+  html_begun false kind end p = record p { leaf = InHtml kind }
+
+  -- a leaf begins on a line; of a link reference definition so many of the lines ahead are read
+  abbrev pub leaf_begun : Leaf → (more : ℕ) → Row → (ahead : List Row) → Pass → Pass
+  leaf_begun ThematicBreak more r ahead p = with_drawn (Node (node document.ThematicBreak (start_of r) r.past) Nil Nil) (block_begun p)
+  leaf_begun (AtxHeading level) more r ahead p =
+      with_drawn (Node (node (document.Heading level no_attributes) (start_of r) r.past) (heading_tokens lookup level r) Nil) (block_begun p)
+  leaf_begun IndentedCode more r ahead p = indented_line r None (node_opened (first_place r.stop (code_columns 4 r)) document.IndentedCode (block_begun p))
+  leaf_begun (FencedCode fence) more r ahead p =
+      let q = node_opened (start_of r) (document.FencedCode (resolved lookup fence.info)) (block_begun p) in record q { leaf = InFenced fence None }
+  leaf_begun (HtmlBlock kind) more r ahead p =
+      html_begun (nat_le kind 5 && holds_end kind (words_of r)) kind r.past (html_line r (node_opened (begin_of r) document.HtmlBlock (block_begun p)))
+  leaf_begun (LinkDefinition definition) more r ahead p =
+      let q = block_begun p in record q {
+        leaf = InDefinition more;
+        references = q.references ++ reference_of lookup definition (start_of r) (stop_of r (take more ahead)) ∷ [];
+      }
+
+  abbrev pub begin_as : Opening → (Container → Pass) → Row → (ahead : List Row) → (bare : Bool) → Pass → Pass
+  begin_as Blank inside r ahead bare p = record p { inner = record p.inner { blank = p.inner.has_block }; bare = bare }
+  begin_as (Nests k) inside r ahead bare p = inside k
+  begin_as (Takes leaf more) inside r ahead bare p = leaf_begun leaf more r ahead p
+  begin_as Plain inside r ahead bare p = paragraph_begun r p
+
+  -- what a line begins behind the open containers, with these whole lines behind it; each container takes at least a column
+  abbrev pub begin_in : (columns : ℕ) → Row → (next : List Row) → (bare : Bool) → Pass → Pass
+  begin_in zero r next bare p = p
+  begin_in (suc columns) r next bare p =
+      begin_as (opens options r (ahead_in p.outer next)) (λ k. begin_in columns (enter k r) next (is_item k) (container_begun k r p)) r (ahead_in p.outer next) bare p
+
+  abbrev pub begin : Row → (next : List Row) → Pass → Pass
+  begin r next p = begin_in (suc (length r.columns)) r next false p
+
+  abbrev pub underlined_or : Option ℕ → (ℕ → Pass) → Pass → Pass
+  underlined_or (Some level) underlined other = underlined level
+  underlined_or None underlined other = other
+
+  abbrev pub indented_further : Further → Option Piece → (end : ℕ) → List Row → Row → List Row → Pass → Pass
+  indented_further GoesOn waits end blank r next p = indented_lines (blank ++ r ∷ []) waits end p
+  indented_further Closes waits end blank r next p = begin r next (leaf_closed p)
+  indented_further Waits waits end blank r next p = record p { leaf = InIndented waits end (blank ++ r ∷ []) }
+  indented_further Stops waits end blank r next p = begin r next (leaf_closed p)
+
+  abbrev pub html_goes_on : Further → Row → List Row → Pass → Pass
+  html_goes_on GoesOn r next p = html_line r p
+  html_goes_on Closes r next p = node_closed r.past (html_line r p)
+  html_goes_on Waits r next p = html_line r p
+  html_goes_on Stops r next p = begin r next (leaf_closed p)
+
+  -- a line that lacks no prefix, behind the open leaf
+  abbrev pub leaf_fed : OpenLeaf → Row → (next : List Row) → Pass → Pass
+  leaf_fed Closed r next p = begin r next p
+  leaf_fed (InParagraph last) r next p =
+      underlined_or (underlines r) (λ level. heading_made level last r p)
+      (if texts options r (ahead_in p.outer next) then paragraph_line last r p else begin r next (leaf_closed p))
+  leaf_fed (InDefinition zero) r next p = begin r next (leaf_closed p)
+  leaf_fed (InDefinition (suc left)) r next p = record p { leaf = InDefinition left }
+  leaf_fed (InIndented waits end blank) r next p = indented_further (code_further r) waits end blank r next p
+  leaf_fed (InFenced fence waits) r next p =
+      if closes_fence fence r then node_closed r.past (with_drawn (texts_of (rest_of waits)) p) else code_drawn fence.indented r waits (InFenced fence) p
+  leaf_fed (InHtml kind) r next p = html_goes_on (html_further kind r) r next p
+
+  -- a lazy line: it goes on with a paragraph, or begins one behind a definition
+  abbrev pub lazy_fed : OpenLeaf → Row → Pass → Pass
+  lazy_fed (InParagraph last) r p = paragraph_line last r p
+  lazy_fed (InDefinition left) r p = paragraph_begun r p
+  lazy_fed Closed r p = p
+  lazy_fed (InIndented waits end blank) r p = p
+  lazy_fed (InFenced fence waits) r p = p
+  lazy_fed (InHtml kind) r p = p
+
+  -- the containers that keep a line, those that do not, and what is left of the line
+  pub record Kept : Type 0 where
+    pub kept : List OpenContainer
+    pub missed : List OpenContainer
+    pub left : Row
+
+  abbrev pub is_last : List OpenContainer → Bool
+  is_last [] = true
+  is_last (c ∷ cs) = false
+
+  abbrev pub kept_if : Option Row → (Row → Kept) → Kept → Kept
+  kept_if (Some s) on off = on s
+  kept_if None on off = off
+
+  abbrev pub kept_by : (outer : List OpenContainer) → List OpenContainer → (bare : Bool) → Row → Kept
+  kept_by outer [] bare r = record { kept = outer; missed = []; left = r }
+  kept_by outer (c ∷ cs) bare r =
+      kept_if (keeps c.container (bare && is_last cs) r) (λ s. kept_by (outer ++ c ∷ []) cs bare s) (record { kept = outer; missed = c ∷ cs; left = r })
+
+  -- the line where these containers miss it
+  abbrev pub line_with : (missed kept : List OpenContainer) → Row → (next : List Row) → Pass → Pass
+  line_with [] kept r next p = leaf_fed p.leaf r next p
+  line_with (c ∷ cs) kept r next p =
+      if lazily options r (ahead_in kept next) && takes_lazy p.leaf then lazy_fed p.leaf r p
+      else begin r next (containers_closed kept (c ∷ cs) (leaf_closed p))
+
+  -- one more line, with the whole lines behind it
+  abbrev pub line_fed : Row → (next : List Row) → Pass → Pass
+  line_fed r next p = let w = kept_by [] p.outer p.bare r in let q = line_with w.missed w.kept w.left next (record p { bare = false }) in record q { past = r.past }
+
+  abbrev pub lines_fed : List Row → Pass → Pass
+  lines_fed [] p = p
+  lines_fed (r ∷ rs) p = lines_fed rs (line_fed r rs p)
+
+  -- everything closed at the end of the text
+  abbrev pub all_closed : Pass → Pass
+  all_closed p = let q = containers_closed [] p.outer (leaf_closed p) in record q { drawing = list_closed q.inner.list q.drawing }
+
+  -- the pass over a text
+  unfoldable pub pass_over : Pass
+  pass_over = all_closed (lines_fed (rows text) at_start)

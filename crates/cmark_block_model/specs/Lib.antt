@@ -1,0 +1,4 @@
+pub mod BlockPass
+pub mod CodeLines
+pub mod Drawing
+pub mod OpenBlocks

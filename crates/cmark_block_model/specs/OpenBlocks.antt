@@ -1,0 +1,67 @@
+-- What is open in the block pass: the containers, the siblings in each of them, and the leaf.
+use Rattle.std.specs.Prelude.{ℕ, Bool, true, false, List, [], Option, None}
+use Rattle.cmark_grammar.specs.Rows.{Row}
+use Rattle.cmark_grammar.specs.Leaves.{Fence}
+use Rattle.cmark_grammar.specs.Containers.{Container}
+use Rattle.cmark_grammar.specs.Tokens.{Piece}
+use Rattle.cmark_grammar.specs.BlockDocument.{Reference}
+use Rattle.cmark_block_model.specs.Drawing.{Drawing, nothing_drawn}
+
+-- a list to which further items may come: its character, the number of its first item, whether it is known to be loose, and
+-- where its last item ends
+pub record OpenList : Type 0 where
+  pub mark : ℕ
+  pub number : Option ℕ
+  pub loose : Bool
+  pub end : ℕ
+
+-- the blocks of a container so far: whether there is one, whether a blank line stands behind the last one, whether one stands
+-- between two of them, and the list that the last one is an item of
+pub record Siblings : Type 0 where
+  pub has_block : Bool
+  pub blank : Bool
+  pub parted : Bool
+  pub list : Option OpenList
+
+abbrev pub no_siblings : Siblings
+no_siblings = record { has_block = false; blank = false; parted = false; list = None }
+
+-- an open container, with the siblings that it stands behind
+pub record OpenContainer : Type 0 where
+  pub container : Container
+  pub around : Siblings
+
+-- The open leaf, if there is one. A paragraph has its last line, which is drawn when it is seen what follows; a link reference
+-- definition has lines to come; indented code has the stretch of the text that waits, the place where its last line ends,
+-- and the blank lines behind that.
+pub data OpenLeaf : Type 0 where
+  Closed : OpenLeaf
+  InParagraph : (last : Row) → OpenLeaf
+  InDefinition : (left : ℕ) → OpenLeaf
+  InIndented : (waits : Option Piece) → (end : ℕ) → (blank : List Row) → OpenLeaf
+  InFenced : (fence : Fence) → (waits : Option Piece) → OpenLeaf
+  InHtml : (kind : ℕ) → OpenLeaf
+
+-- a lazy line may stand behind the leaf
+abbrev pub takes_lazy : OpenLeaf → Bool
+takes_lazy Closed = false
+takes_lazy (InParagraph last) = true
+takes_lazy (InDefinition left) = true
+takes_lazy (InIndented waits end blank) = false
+takes_lazy (InFenced fence waits) = false
+takes_lazy (InHtml kind) = false
+
+-- what was drawn, the innermost siblings, the containers around them, the outermost first, whether the innermost container
+-- is an item whose first line was blank and came last, the leaf, the place where the next line begins, and the link
+-- reference definitions
+pub record Pass : Type 0 where
+  pub drawing : Drawing
+  pub inner : Siblings
+  pub outer : List OpenContainer
+  pub bare : Bool
+  pub leaf : OpenLeaf
+  pub past : ℕ
+  pub references : List Reference
+
+abbrev pub at_start : Pass
+at_start = record { drawing = nothing_drawn; inner = no_siblings; outer = []; bare = false; leaf = Closed; past = 0; references = [] }

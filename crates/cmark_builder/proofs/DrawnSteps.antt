@@ -1,0 +1,258 @@
+-- What a builder has drawn, after its calls.
+use Rattle.std.proofs.Common.{◌≡◌, ℕ, zero, suc, List, [], ◌∷◌, ◌++◌, map, Option, Some, None, option_map, refl, sym, ap, ◌∙◌, subst}
+use Rattle.std.specs.Prelude.{slice_get}
+use Rattle.std.proofs.lemmas.Option.{same_Some}
+use Rattle.cmark_text.specs.declared.text.CowStr.{CowStr}
+use Rattle.cmark_text.specs.Shown.{text_bytes}
+use Rattle.cmark_tree.specs.Forest as forest
+use Rattle.cmark_tree.specs.Forest.{Forest, one, join as join_forests}
+use Rattle.cmark_tree.specs.Building.{Opened, Is, IsPlaced, closed}
+use Rattle.cmark_grammar.specs.BlockDocument.{BlockKind, BlockNode, BlockDocument, Nil, Node, node, join}
+use Rattle.cmark_items.specs.declared.item.Item.{Item}
+use Rattle.cmark_items.specs.declared.item.ItemBody.{ItemBody}
+use Rattle.cmark_items.specs.ItemNodes.{Shape, Element, Spelt, TextSlice, HtmlSlice, NoNode, shape, kind_of, kind_over, ranged, text_at, shown_element, shown_item, shown_forest, nodes_of}
+use Rattle.cmark_items.specs.Tables.{tables}
+use Rattle.cmark_block_model.specs.Drawing.{OpenNode, Drawing, nothing_drawn, drawn, opened, close_as, closed_as, close_at, closed_at}
+use Rattle.cmark_builder.specs.declared.builder.Builder.{Builder}
+use Rattle.cmark_builder.specs.Drawn.{shown_open, open_node, Draws}
+use Rattle.cmark_builder.specs.Ended.{item_at, ended}
+
+pub nodes_of-join : (a b : BlockDocument) → nodes_of (join a b) ≡ join_forests (nodes_of a) (nodes_of b)
+nodes_of-join Nil b = refl
+nodes_of-join (Node n inside after) b = ap (forest.Node (Some n) (nodes_of inside)) (nodes_of-join after b)
+
+module _ (text : List ℕ) (t : List CowStr) where
+  pub shown_forest-join : (f g : Forest Item) → shown_forest text t (join_forests f g) ≡ join_forests (shown_forest text t f) (shown_forest text t g)
+  shown_forest-join forest.Nil g = refl
+  shown_forest-join (forest.Node item inside after) g = ap (forest.Node (shown_item text t item) (shown_forest text t inside)) (shown_forest-join after g)
+
+-- an element is an item
+pub element-item : (text : List ℕ) (t : List CowStr) (item : Item) (n : BlockNode) → shown_element t item ≡ Some n → shown_item text t item ≡ Some n
+element-item text t item n e = go (shape item.body) e
+  where
+    go : (s : Shape) → option_map (ranged item.start item.end) (kind_of t s) ≡ Some n → option_map (ranged item.start item.end) (kind_over text t item.start item.end s) ≡ Some n
+    go (Element kind) e = e
+    go (Spelt kind index) e = e
+    go TextSlice e = absurd (let q : None ≡ Some n = e in cc)
+    go HtmlSlice e = absurd (let q : None ≡ Some n = e in cc)
+    go NoNode e = absurd (let q : None ≡ Some n = e in cc)
+
+-- its end does not matter to what it is
+pub element-ended : (t : List CowStr) (item : Item) (n : BlockNode) (end : ℕ) → shown_element t item ≡ Some n → shown_element t (item_at item.start end item.body) ≡ Some (node n.kind n.start end)
+element-ended t item n end e = go (kind_of t (shape item.body)) e
+  where
+    go : (k : Option BlockKind) → option_map (ranged item.start item.end) k ≡ Some n → option_map (ranged item.start end) k ≡ Some (node n.kind n.start end)
+    go None e = absurd (let q : None ≡ Some n = e in cc)
+    go (Some kind) e = ap (λ m. Some (node m.kind m.start end)) (same_Some (node kind item.start item.end) n e)
+
+module _ (text : List ℕ) (old new : Builder) where
+  -- a node was added
+  pub draws-add : (item : Item) (n : BlockNode) (d : Drawing) →
+      ((here : Forest Item) (up : List (Opened Item)) → Is old.tree here up → Is new.tree (join_forests here (one item forest.Nil)) up) →
+      new.allocations ≡ old.allocations → shown_item text (tables old.allocations).texts item ≡ Some n →
+      Draws text old d → Draws text new (drawn (Node n Nil Nil) d)
+  draws-add item n d step same shows draws = record {
+    here = join_forests draws.here (one item forest.Nil);
+    up = draws.up;
+    is = step draws.here draws.up draws.is;
+    here_is = subst (λ a. shown_forest text (tables a).texts (join_forests draws.here (one item forest.Nil)) ≡ nodes_of (join d.here (Node n Nil Nil))) (sym same)
+        (shown_forest-join text (tables old.allocations).texts draws.here (one item forest.Nil)
+        ∙ ap (λ f. join_forests f (one (shown_item text (tables old.allocations).texts item) forest.Nil)) draws.here_is
+        ∙ ap (λ x. join_forests (nodes_of d.here) (one x forest.Nil)) shows
+        ∙ sym (nodes_of-join d.here (Node n Nil Nil)));
+    up_is = subst (λ a. map (shown_open text (tables a).texts) draws.up ≡ map open_node d.up) (sym same) draws.up_is;
+  }
+
+  -- a node was opened
+  pub draws-open : (start : ℕ) (body : ItemBody) (kind : BlockKind) (d : Drawing) →
+      ((here : Forest Item) (up : List (Opened Item)) → Is old.tree here up → Is new.tree forest.Nil (record { left = here; item = item_at start start body } ∷ up)) →
+      new.allocations ≡ old.allocations → shown_element (tables old.allocations).texts (item_at start start body) ≡ Some (node kind start start) →
+      Draws text old d → Draws text new (opened start kind d)
+  draws-open start body kind d step same shows draws = record {
+    here = forest.Nil;
+    up = record { left = draws.here; item = item_at start start body } ∷ draws.up;
+    is = step draws.here draws.up draws.is;
+    here_is = refl;
+    up_is = subst (λ a. map (shown_open text (tables a).texts) (record { left = draws.here; item = item_at start start body } ∷ draws.up) ≡ map open_node (record { left = d.here; node = node kind start start } ∷ d.up)) (sym same)
+        (ap (λ x. record { left = shown_forest text (tables old.allocations).texts draws.here; item = x } ∷ map (shown_open text (tables old.allocations).texts) draws.up) shows
+        ∙ ap (λ f. record { left = f; item = Some (node kind start start) } ∷ map (shown_open text (tables old.allocations).texts) draws.up) draws.here_is
+        ∙ ap (λ u. record { left = nodes_of d.here; item = Some (node kind start start) } ∷ u) draws.up_is);
+  }
+
+  Behind : Drawing → Type 0
+  Behind d = Draws text new d
+
+  -- a node was closed: as another one, whose kind is known
+  pub draws-close_as : (end : ℕ) (body : ItemBody) (kind : BlockKind) (d : Drawing) →
+      ((here : Forest Item) (v : Opened Item) (up : List (Opened Item)) → Is old.tree here (v ∷ up) → Is new.tree (closed (ended end body v) here) up) →
+      ((here : Forest Item) → Is old.tree here [] → new.tree ≡ old.tree) →
+      new.allocations ≡ old.allocations → kind_of (tables old.allocations).texts (shape body) ≡ Some kind →
+      Draws text old d → Draws text new (closed_as kind end d)
+  draws-close_as end body kind d step none same shows draws = go draws.here draws.up draws.is draws.here_is d.up draws.up_is
+    where
+      t : List CowStr
+      t = (tables old.allocations).texts
+
+      go : (here : Forest Item) (up : List (Opened Item)) → Is old.tree here up → shown_forest text t here ≡ nodes_of d.here → (levels : List OpenNode) → map (shown_open text t) up ≡ map open_node levels → Draws text new (close_as kind end d.here levels)
+      go here [] is h [] u = record {
+        here = here;
+        up = [];
+        is = subst (λ tree. Is tree here []) (sym (none here is)) is;
+        here_is = subst (λ a. shown_forest text (tables a).texts here ≡ nodes_of d.here) (sym same) h;
+        up_is = refl;
+      }
+      go here [] is h (v ∷ levels) u = absurd (let q : [] ≡ open_node v ∷ map open_node levels = u in cc)
+      go here (v ∷ up) is h [] u = absurd (let q : shown_open text t v ∷ map (shown_open text t) up ≡ [] = u in cc)
+      go here (v ∷ up) is h (w ∷ levels) u =
+          let first : shown_open text t v ≡ open_node w = (let q : shown_open text t v ∷ map (shown_open text t) up ≡ open_node w ∷ map open_node levels = u in cc) in
+          let rest : map (shown_open text t) up ≡ map open_node levels = (let q : shown_open text t v ∷ map (shown_open text t) up ≡ open_node w ∷ map open_node levels = u in cc) in
+          let left : shown_forest text t v.left ≡ nodes_of w.left = ap (λ o. o.left) first in
+          let start : v.item.start ≡ w.node.start = (opens (kind_of t (shape v.item.body)) (ap (λ o. o.item) first)) in
+          let item = item_at v.item.start end body in
+          let element : shown_element t item ≡ Some (node kind w.node.start end) =
+          ap (option_map (ranged v.item.start end)) shows ∙ ap (λ s. Some (node kind s end)) start in
+          record {
+            here = closed (ended end body v) here;
+            up = up;
+            is = step here v up is;
+            here_is = subst (λ a. shown_forest text (tables a).texts (join_forests v.left (one item here)) ≡ nodes_of (join w.left (Node (node kind w.node.start end) d.here Nil))) (sym same)
+                (shown_forest-join text t v.left (one item here)
+                ∙ ap (λ f. join_forests f (shown_forest text t (one item here))) left
+                ∙ ap (λ x. join_forests (nodes_of w.left) (one x (shown_forest text t here))) (element-item text t item (node kind w.node.start end) element)
+                ∙ ap (λ f. join_forests (nodes_of w.left) (one (Some (node kind w.node.start end)) f)) h
+                ∙ sym (nodes_of-join w.left (Node (node kind w.node.start end) d.here Nil)));
+            up_is = subst (λ a. map (shown_open text (tables a).texts) up ≡ map open_node levels) (sym same) rest;
+          }
+        where
+          opens : (k : Option BlockKind) → option_map (ranged v.item.start v.item.end) k ≡ Some w.node → v.item.start ≡ w.node.start
+          opens None e = absurd (let q : None ≡ Some w.node = e in cc)
+          opens (Some k) e = ap (λ m. m.start) (same_Some (node k v.item.start v.item.end) w.node e)
+
+  -- a node was closed
+  pub draws-close : (end : ℕ) (d : Drawing) →
+      ((here : Forest Item) (v : Opened Item) (up : List (Opened Item)) → Is old.tree here (v ∷ up) → Is new.tree (closed (ended end v.item.body v) here) up) →
+      ((here : Forest Item) → Is old.tree here [] → new.tree ≡ old.tree) →
+      new.allocations ≡ old.allocations →
+      Draws text old d → Draws text new (closed_at end d)
+  draws-close end d step none same draws = go draws.here draws.up draws.is draws.here_is d.up draws.up_is
+    where
+      t : List CowStr
+      t = (tables old.allocations).texts
+
+      go : (here : Forest Item) (up : List (Opened Item)) → Is old.tree here up → shown_forest text t here ≡ nodes_of d.here → (levels : List OpenNode) → map (shown_open text t) up ≡ map open_node levels → Draws text new (close_at end d.here levels)
+      go here [] is h [] u = record {
+        here = here;
+        up = [];
+        is = subst (λ tree. Is tree here []) (sym (none here is)) is;
+        here_is = subst (λ a. shown_forest text (tables a).texts here ≡ nodes_of d.here) (sym same) h;
+        up_is = refl;
+      }
+      go here [] is h (v ∷ levels) u = absurd (let q : [] ≡ open_node v ∷ map open_node levels = u in cc)
+      go here (v ∷ up) is h [] u = absurd (let q : shown_open text t v ∷ map (shown_open text t) up ≡ [] = u in cc)
+      go here (v ∷ up) is h (w ∷ levels) u =
+          let first : shown_open text t v ≡ open_node w = (let q : shown_open text t v ∷ map (shown_open text t) up ≡ open_node w ∷ map open_node levels = u in cc) in
+          let rest : map (shown_open text t) up ≡ map open_node levels = (let q : shown_open text t v ∷ map (shown_open text t) up ≡ open_node w ∷ map open_node levels = u in cc) in
+          let left : shown_forest text t v.left ≡ nodes_of w.left = ap (λ o. o.left) first in
+          let item = item_at v.item.start end v.item.body in
+          let n = node w.node.kind w.node.start end in
+          let element : shown_element t item ≡ Some n = element-ended t v.item w.node end (ap (λ o. o.item) first) in
+          record {
+            here = closed (ended end v.item.body v) here;
+            up = up;
+            is = step here v up is;
+            here_is = subst (λ a. shown_forest text (tables a).texts (join_forests v.left (one item here)) ≡ nodes_of (join w.left (Node n d.here Nil))) (sym same)
+                (shown_forest-join text t v.left (one item here)
+                ∙ ap (λ f. join_forests f (shown_forest text t (one item here))) left
+                ∙ ap (λ x. join_forests (nodes_of w.left) (one x (shown_forest text t here))) (element-item text t item n element)
+                ∙ ap (λ f. join_forests (nodes_of w.left) (one (Some n) f)) h
+                ∙ sym (nodes_of-join w.left (Node n d.here Nil)));
+            up_is = subst (λ a. map (shown_open text (tables a).texts) up ≡ map open_node levels) (sym same) rest;
+          }
+
+-- one more text in the tables
+text_at-more : (t : List CowStr) (more : CowStr) (index : ℕ) (bytes : List ℕ) → text_at t index ≡ Some bytes → text_at (t ++ more ∷ []) index ≡ Some bytes
+text_at-more t more index bytes e = go t index e
+  where
+    go : (texts : List CowStr) (i : ℕ) → option_map text_bytes (slice_get texts i) ≡ Some bytes → option_map text_bytes (slice_get (texts ++ more ∷ []) i) ≡ Some bytes
+    go [] i e = absurd (let q : None ≡ Some bytes = e in cc)
+    go (x ∷ xs) zero e = e
+    go (x ∷ xs) (suc i) e = go xs i e
+
+module _ (text : List ℕ) (t : List CowStr) (more : CowStr) where
+  spelt-more : (kind : List ℕ → BlockKind) (index start end : ℕ) (n : BlockNode) → option_map (ranged start end) (option_map kind (text_at t index)) ≡ Some n → option_map (ranged start end) (option_map kind (text_at (t ++ more ∷ []) index)) ≡ Some n
+  spelt-more kind index start end n e = go (text_at t index) refl e
+    where
+      go : (o : Option (List ℕ)) → text_at t index ≡ o → option_map (ranged start end) (option_map kind o) ≡ Some n → option_map (ranged start end) (option_map kind (text_at (t ++ more ∷ []) index)) ≡ Some n
+      go None i e = absurd (let q : None ≡ Some n = e in cc)
+      go (Some bytes) i e = ap (λ o. option_map (ranged start end) (option_map kind o)) (text_at-more t more index bytes i) ∙ e
+
+  -- what is a node stays that node
+  item-more : (item : Item) (n : BlockNode) → shown_item text t item ≡ Some n → shown_item text (t ++ more ∷ []) item ≡ Some n
+  item-more item n e = go (shape item.body) e
+    where
+      go : (s : Shape) → option_map (ranged item.start item.end) (kind_over text t item.start item.end s) ≡ Some n → option_map (ranged item.start item.end) (kind_over text (t ++ more ∷ []) item.start item.end s) ≡ Some n
+      go (Element kind) e = e
+      go (Spelt kind index) e = spelt-more kind index item.start item.end n e
+      go TextSlice e = e
+      go HtmlSlice e = e
+      go NoNode e = e
+
+  element-more : (item : Item) (n : BlockNode) → shown_element t item ≡ Some n → shown_element (t ++ more ∷ []) item ≡ Some n
+  element-more item n e = go (shape item.body) e
+    where
+      go : (s : Shape) → option_map (ranged item.start item.end) (kind_of t s) ≡ Some n → option_map (ranged item.start item.end) (kind_of (t ++ more ∷ []) s) ≡ Some n
+      go (Element kind) e = e
+      go (Spelt kind index) e = spelt-more kind index item.start item.end n e
+      go TextSlice e = e
+      go HtmlSlice e = e
+      go NoNode e = e
+
+  forest-more : (f : Forest Item) (document : BlockDocument) → shown_forest text t f ≡ nodes_of document → shown_forest text (t ++ more ∷ []) f ≡ nodes_of document
+  forest-more forest.Nil Nil e = refl
+  forest-more forest.Nil (Node n inside after) e = absurd (let q : forest.Nil ≡ forest.Node (Some n) (nodes_of inside) (nodes_of after) = e in cc)
+  forest-more (forest.Node item inside after) Nil e = absurd (let q : forest.Node (shown_item text t item) (shown_forest text t inside) (shown_forest text t after) ≡ forest.Nil = e in cc)
+  forest-more (forest.Node item inside after) (Node n i a) e =
+      let here : shown_item text t item ≡ Some n = (let q : forest.Node (shown_item text t item) (shown_forest text t inside) (shown_forest text t after) ≡ forest.Node (Some n) (nodes_of i) (nodes_of a) = e in cc) in
+      let down : shown_forest text t inside ≡ nodes_of i = (let q : forest.Node (shown_item text t item) (shown_forest text t inside) (shown_forest text t after) ≡ forest.Node (Some n) (nodes_of i) (nodes_of a) = e in cc) in
+      let on : shown_forest text t after ≡ nodes_of a = (let q : forest.Node (shown_item text t item) (shown_forest text t inside) (shown_forest text t after) ≡ forest.Node (Some n) (nodes_of i) (nodes_of a) = e in cc) in
+      ap (λ x. forest.Node x (shown_forest text (t ++ more ∷ []) inside) (shown_forest text (t ++ more ∷ []) after)) (item-more item n here)
+      ∙ ap (λ f. forest.Node (Some n) f (shown_forest text (t ++ more ∷ []) after)) (forest-more inside i down)
+      ∙ ap (forest.Node (Some n) (nodes_of i)) (forest-more after a on)
+
+  up-more : (up : List (Opened Item)) (levels : List OpenNode) → map (shown_open text t) up ≡ map open_node levels → map (shown_open text (t ++ more ∷ [])) up ≡ map open_node levels
+  up-more [] levels e = e
+  up-more (v ∷ up) [] e = absurd (let q : shown_open text t v ∷ map (shown_open text t) up ≡ [] = e in cc)
+  up-more (v ∷ up) (w ∷ levels) e =
+      let first : shown_open text t v ≡ open_node w = (let q : shown_open text t v ∷ map (shown_open text t) up ≡ open_node w ∷ map open_node levels = e in cc) in
+      let rest : map (shown_open text t) up ≡ map open_node levels = (let q : shown_open text t v ∷ map (shown_open text t) up ≡ open_node w ∷ map open_node levels = e in cc) in
+      ap (λ f. record { left = f; item = shown_element (t ++ more ∷ []) v.item } ∷ map (shown_open text (t ++ more ∷ [])) up) (forest-more v.left w.left (ap (λ o. o.left) first))
+      ∙ ap (λ x. record { left = nodes_of w.left; item = x } ∷ map (shown_open text (t ++ more ∷ [])) up) (element-more v.item w.node (ap (λ o. o.item) first))
+      ∙ ap (λ u. open_node w ∷ u) (up-more up levels rest)
+
+-- a text was kept
+pub draws-text : (text : List ℕ) (old new : Builder) (more : CowStr) (d : Drawing) → new.tree ≡ old.tree → (tables new.allocations).texts ≡ (tables old.allocations).texts ++ more ∷ [] → Draws text old d → Draws text new d
+draws-text text old new more d same kept draws = record {
+  here = draws.here;
+  up = draws.up;
+  is = subst (λ tree. Is tree draws.here draws.up) (sym same) draws.is;
+  here_is = subst (λ t. shown_forest text t draws.here ≡ nodes_of d.here) (sym kept) (forest-more text (tables old.allocations).texts more draws.here d.here draws.here_is);
+  up_is = subst (λ t. map (shown_open text t) draws.up ≡ map open_node d.up) (sym kept) (up-more text (tables old.allocations).texts more draws.up d.up draws.up_is);
+}
+
+-- nothing was drawn yet
+pub draws-nothing : (text : List ℕ) (b : Builder) → Is b.tree forest.Nil [] → Draws text b nothing_drawn
+draws-nothing text b is = record { here = forest.Nil; up = []; is = is; here_is = refl; up_is = refl }
+
+-- the definitions of links are no part of the drawing
+pub draws-same : (text : List ℕ) (old new : Builder) (d : Drawing) → new.tree ≡ old.tree → (tables new.allocations).texts ≡ (tables old.allocations).texts → Draws text old d → Draws text new d
+draws-same text old new d same kept draws = record {
+  here = draws.here;
+  up = draws.up;
+  is = subst (λ tree. Is tree draws.here draws.up) (sym same) draws.is;
+  here_is = subst (λ t. shown_forest text t draws.here ≡ nodes_of d.here) (sym kept) draws.here_is;
+  up_is = subst (λ t. map (shown_open text t) draws.up ≡ map open_node d.up) (sym kept) draws.up_is;
+}
+
+-- a builder that has drawn something can go on
+pub draws-placed : (text : List ℕ) (b : Builder) (d : Drawing) → Draws text b d → IsPlaced b.tree
+draws-placed text b d draws = (draws.here, draws.up, draws.is)

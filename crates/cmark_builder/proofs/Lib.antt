@@ -1,0 +1,2 @@
+pub mod BuilderSteps
+pub mod DrawnSteps

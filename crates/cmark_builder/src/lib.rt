@@ -1,0 +1,8 @@
+//! A document's tree while it is built: its nodes come in the order of the text, and are closed when their end is seen.
+#![tactic(auto)]
+
+mod builder;
+#[cfg(test)]
+mod tests;
+
+pub use builder::Builder;

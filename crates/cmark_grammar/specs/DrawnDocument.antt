@@ -1,0 +1,58 @@
+-- A document as a tree keeps it, and how much of it is read: link reference definitions stand in a table of their own, and whether
+-- a paragraph stands directly in an item of a tight list is seen from the list around it.
+use Rattle.std.specs.Prelude.{Bool, true, false, if◌then◌else◌}
+use Rattle.cmark_grammar.specs.BlockDocument.{BlockKind, Paragraph, TightParagraph, Heading, ThematicBreak, IndentedCode, FencedCode, HtmlBlock, LinkDefinition, BlockQuote, BlockList, ListItem, Text, OwnedText, Html, SoftBreak, HardBreak, BlockNode, BlockDocument, Nil, Node}
+use Rattle.cmark_grammar.specs.Tightness.{tight_within}
+
+abbrev pub is_definition : BlockKind → Bool
+is_definition (LinkDefinition reference) = true
+is_definition Paragraph = false
+is_definition TightParagraph = false
+is_definition (Heading level attributes) = false
+is_definition ThematicBreak = false
+is_definition IndentedCode = false
+is_definition (FencedCode info) = false
+is_definition HtmlBlock = false
+is_definition (BlockQuote alert) = false
+is_definition (BlockList number tight) = false
+is_definition ListItem = false
+is_definition (Text bytes) = false
+is_definition (OwnedText bytes) = false
+is_definition (Html bytes) = false
+is_definition SoftBreak = false
+is_definition HardBreak = false
+
+abbrev pub node_unless : Bool → BlockNode → (inside after : BlockDocument) → BlockDocument
+node_unless true node inside after = after
+node_unless false node inside after = Node node inside after
+
+-- the document without its link reference definitions, which are not read (CommonMark 4.7)
+abbrev pub without_definitions : BlockDocument → BlockDocument
+without_definitions Nil = Nil
+without_definitions (Node node inside after) =
+    node_unless (is_definition node.kind) node (without_definitions inside) (without_definitions after)
+
+-- a paragraph, where it stands directly in an item of a tight list or does not
+abbrev pub kind_within : (tight : Bool) → BlockKind → BlockKind
+kind_within tight Paragraph = if tight then TightParagraph else Paragraph
+kind_within tight TightParagraph = TightParagraph
+kind_within tight (Heading level attributes) = Heading level attributes
+kind_within tight ThematicBreak = ThematicBreak
+kind_within tight IndentedCode = IndentedCode
+kind_within tight (FencedCode info) = FencedCode info
+kind_within tight HtmlBlock = HtmlBlock
+kind_within tight (LinkDefinition reference) = LinkDefinition reference
+kind_within tight (BlockQuote alert) = BlockQuote alert
+kind_within tight (BlockList number t) = BlockList number t
+kind_within tight ListItem = ListItem
+kind_within tight (Text bytes) = Text bytes
+kind_within tight (OwnedText bytes) = OwnedText bytes
+kind_within tight (Html bytes) = Html bytes
+kind_within tight SoftBreak = SoftBreak
+kind_within tight HardBreak = HardBreak
+
+-- the paragraphs that stand directly in items of tight lists are no elements of their own (CommonMark 5.3)
+abbrev pub settled : (tight : Bool) → BlockDocument → BlockDocument
+settled tight Nil = Nil
+settled tight (Node node inside after) =
+    Node (record node { kind = kind_within tight node.kind }) (settled (tight_within tight node.kind) inside) (settled tight after)

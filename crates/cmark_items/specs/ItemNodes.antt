@@ -1,0 +1,95 @@
+-- The items of a document's blocks as nodes of the grammar's documents.
+use Rattle.std.specs.Char.{encode_utf8}
+use Rattle.std.specs.Prelude.{ℕ, ◌%◌, Bool, true, false, ◌==◌, if◌then◌else◌, List, Option, Some, None, option_map, slice_get}
+use Rattle.cmark_text.specs.Shown.{text_bytes, level_number, shown_block_quote_kind}
+use Rattle.cmark_tree.specs.Forest as forest
+use Rattle.cmark_tree.specs.Forest.{Forest}
+use Rattle.cmark_tree.specs.Building.{Opened}
+use Rattle.cmark_grammar.specs.Attributes.{no_attributes}
+use Rattle.cmark_grammar.specs.Containers.{is_delimiter}
+use Rattle.cmark_grammar.specs.Tokens.{slice}
+use Rattle.cmark_grammar.specs.BlockDocument as document
+use Rattle.cmark_grammar.specs.BlockDocument.{BlockKind, BlockNode, BlockDocument, node}
+use Rattle.cmark_items.specs.declared.heading.HeadingAttributes.{HeadingAttributes}
+use Rattle.cmark_items.specs.declared.item.Item.{Item}
+use Rattle.cmark_items.specs.declared.item.ItemBody.{ItemBody}
+use Rattle.cmark_items.specs.declared.item.ItemBody.TheVariants as body
+use Rattle.cmark_items.specs.declared.list_flags.ListFlags.{ListFlags}
+use Rattle.cmark_text.specs.declared.text.CowStr.{CowStr}
+
+-- the text at an index
+abbrev pub text_at : List CowStr → ℕ → Option (List ℕ)
+text_at texts i = option_map text_bytes (slice_get texts i)
+
+-- the flag of the lowest bit is set
+abbrev pub is_tight : ListFlags → Bool
+is_tight flags = (flags.0 % 2) == 1
+
+-- a list's number, if its character is a delimiter
+abbrev pub list_number : (mark number : ℕ) → Option ℕ
+list_number mark number = if is_delimiter mark then Some number else None
+
+-- how an item of the block pass is a node: as an element, as what is spelt by the text at an index, or as a slice of the text;
+-- other items are none
+pub data Shape : Type 0 where
+  Element : (kind : BlockKind) → Shape
+  Spelt : (kind : List ℕ → BlockKind) → (index : ℕ) → Shape
+  TextSlice : Shape
+  HtmlSlice : Shape
+  NoNode : Shape
+
+abbrev pub shape : ItemBody → Shape
+shape body.Paragraph = Element document.Paragraph
+shape body.TightParagraph = Element document.TightParagraph
+shape (body.Heading level None) = Element (document.Heading (level_number level) no_attributes)
+shape body.Rule = Element document.ThematicBreak
+shape body.IndentCodeBlock = Element document.IndentedCode
+shape (body.FencedCodeBlock index) = Spelt document.FencedCode index.0
+shape body.HtmlBlock = Element document.HtmlBlock
+shape (body.BlockQuote kind) = Element (document.BlockQuote (option_map shown_block_quote_kind kind))
+shape (body.List flags mark number) = Element (document.BlockList (list_number mark number) (is_tight flags))
+shape (body.ListItem width) = Element document.ListItem
+shape (body.Text backslash_escaped) = TextSlice
+shape (body.SynthesizeText index) = Spelt document.OwnedText index.0
+shape (body.SynthesizeChar char) = Element (document.OwnedText (encode_utf8 char))
+shape body.Html = HtmlSlice
+shape body.SoftBreak = Element document.SoftBreak
+shape (body.HardBreak backslash) = Element document.HardBreak
+shape _ = NoNode
+
+-- what it is whatever its range
+abbrev pub kind_of : List CowStr → Shape → Option BlockKind
+kind_of texts (Element kind) = Some kind
+kind_of texts (Spelt kind index) = option_map kind (text_at texts index)
+kind_of texts TextSlice = None
+kind_of texts HtmlSlice = None
+kind_of texts NoNode = None
+
+-- what it is over its range
+abbrev pub kind_over : List ℕ → List CowStr → (start end : ℕ) → Shape → Option BlockKind
+kind_over text texts start end (Element kind) = Some kind
+kind_over text texts start end (Spelt kind index) = option_map kind (text_at texts index)
+kind_over text texts start end TextSlice = Some (document.Text (slice text start end))
+kind_over text texts start end HtmlSlice = Some (document.Html (slice text start end))
+kind_over text texts start end NoNode = None
+
+abbrev pub ranged : (start end : ℕ) → BlockKind → BlockNode
+ranged start end kind = node kind start end
+
+-- an item that may have children
+abbrev pub shown_element : List CowStr → Item → Option BlockNode
+shown_element texts item = option_map (ranged item.start item.end) (kind_of texts (shape item.body))
+
+module _ (text : List ℕ) (texts : List CowStr) where
+  abbrev pub shown_item : Item → Option BlockNode
+  shown_item item = option_map (ranged item.start item.end) (kind_over text texts item.start item.end (shape item.body))
+
+  -- the items of a forest
+  abbrev pub shown_forest : Forest Item → Forest (Option BlockNode)
+  shown_forest forest.Nil = forest.Nil
+  shown_forest (forest.Node item inside after) = forest.Node (shown_item item) (shown_forest inside) (shown_forest after)
+
+-- the nodes of a document, in the same form
+abbrev pub nodes_of : BlockDocument → Forest (Option BlockNode)
+nodes_of document.Nil = forest.Nil
+nodes_of (document.Node node inside after) = forest.Node (Some node) (nodes_of inside) (nodes_of after)
