@@ -1,5 +1,5 @@
 -- What a line begins, seen as the opening of the grammar.
-use Rattle.std.specs.Prelude.{◌≡◌, ℕ, Bool, ◌||◌, true, List, Some}
+use Rattle.std.specs.Prelude.{◌≡◌, ℕ, ◌<◌, Bool, ◌||◌, true, List, length, Some}
 use Rattle.cmark_grammar.specs.Options.{Options}
 use Rattle.cmark_grammar.specs.Rows.{Row, words_of}
 use Rattle.cmark_grammar.specs.Leaves.{counted, code_further, is_thematic_break, is_atx_heading, fence_of}
@@ -10,7 +10,7 @@ use Rattle.cmark_grammar.specs.Openings.{definition_of, fenced_if, is_some_fence
 use Rattle.cmark_text.specs.Shown.{level_number}
 use Rattle.cmark_scan.specs.HtmlLines.{kind_number}
 use Rattle.cmark_scan.specs.LeafLines.{shown_fence, HasPlace}
-use Rattle.cmark_lines.specs.Rests.{IsIn}
+use Rattle.cmark_lines.specs.Rests.{row_of, IsIn}
 use Rattle.cmark_lines.specs.Starts.{shown_start, inside_of, Enters}
 use Rattle.cmark_lines.specs.declared.opening.Opening.{Opening}
 use Rattle.cmark_lines.specs.declared.opening.Opening.TheVariants.{Blank, Nests, IndentedCode, Html, ThematicBreak, AtxHeading, FencedCode, Bracket, Plain}
@@ -31,6 +31,11 @@ opened options Plain r ahead = grammar.Plain
 abbrev pub HasInside : Opening → Row → Type 0
 HasInside (Nests start) r = Enters r start
 HasInside _ r = Unit {0}
+
+-- and it has fewer columns
+abbrev pub InsideIsShorter : Opening → Row → Type 0
+InsideIsShorter (Nests start) r = length (row_of (inside_of start)).columns < length r.columns
+InsideIsShorter _ r = Unit {0}
 
 -- the info string of a fence stands at its places in the words
 abbrev pub HasInfo : Opening → Row → Type 0

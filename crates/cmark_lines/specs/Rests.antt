@@ -13,8 +13,8 @@ row_of rest = row_from rest.start rest.past rest.front
 abbrev pub no_row : ℕ → Row
 no_row at = record { columns = []; stop = at; past = at; lazy = false }
 
--- the line stands in this text: its columns in order up to its ending, and no character is cut where it begins, where it
--- ends, or at an ASCII byte of it
+-- the line stands in this text: its columns in order up to its ending, and no character is cut where it begins, at an ASCII
+-- byte of it, at its ending, or where the next line begins
 pub record IsIn (text : List ℕ) (rest : LineRest) : Type 0 where
   pub good : GoodRow (IsCharBoundary text) (row_of rest)
   pub within : (row_of rest).past ≤ length text
