@@ -51,6 +51,9 @@ returns-clause-further c lt =
 pub returns-clause-none : goal.returns-clause-none
 returns-clause-none c end = the_row c ∙ row-none c.args.text.now c.args.start (length c.remaining_bytes-len.result.now) c.ending_len.result (the_len c) (the_ending c) end
 
+pub returns-clause-within : goal.returns-clause-within
+returns-clause-within c = omega (arith, c.ending_len.ensures.within, ap length (rest_of c.args.text.now c.args.start), length-drop c.args.start c.args.text.now, c.requires)
+
 pub returns-clause-placed : goal.returns-clause-placed
 returns-clause-placed c utf8 boundary = record {
   good = subst (GoodRow (IsCharBoundary text)) (sym (the_row c)) (⊎_elim at_end within (eq-or-lt_of_le c.requires));
