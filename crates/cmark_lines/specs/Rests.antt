@@ -6,7 +6,7 @@ use Rattle.cmark_grammar.proofs.RowEdges.{GoodRow}
 use Rattle.cmark_scan.specs.LineStart.{row_from}
 use Rattle.cmark_lines.specs.declared.line_rest.LineRest.{LineRest}
 
-abbrev pub row_of : LineRest → Row
+unfoldable pub row_of : LineRest → Row
 row_of rest = row_from rest.start rest.past rest.front
 
 -- the line of no byte, and without an ending, at this place

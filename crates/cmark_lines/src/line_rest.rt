@@ -1,4 +1,5 @@
 //! What is left of a line (CommonMark 2.1 and 2.2).
+#![tactic(auto, unfolding(crate::specs::Rests::row_of))]
 
 ghost use Rattle.std.specs.Prelude.{◌≡◌, ◌+◌, ◌≤◌, drop, length};
 ghost use Rattle.cmark_grammar.specs.Lines.{ending_len};
