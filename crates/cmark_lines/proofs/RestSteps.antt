@@ -40,7 +40,7 @@ unfolding row_of
 whole rest = refl
 
 -- columns have as many bytes as there are places from the first to the last
-runs-bytes : (from : ℕ) (cs : List Column) (to : ℕ) → Runs from cs to → from + length (bytes_of cs) ≡ to
+pub runs-bytes : (from : ℕ) (cs : List Column) (to : ℕ) → Runs from cs to → from + length (bytes_of cs) ≡ to
 runs-bytes from [] to h = let e : from ≡ to = h in omega (arith, e)
 runs-bytes from (c ∷ cs) to h = go (c.part == 0) refl (runs-bytes (suc c.at) cs to h.1)
   where

@@ -13,8 +13,12 @@ row_of rest = row_from rest.start rest.past rest.front
 abbrev pub no_row : ℕ → Row
 no_row at = record { columns = []; stop = at; past = at; lazy = false }
 
--- the line stands in this text: its columns in order up to its ending, and no character is cut where it begins, at an ASCII
--- byte of it, at its ending, or where the next line begins
+-- the columns of a line stand in order up to its ending, and no character of this text is cut where the line begins, at an
+-- ASCII byte of it, at its ending, or where the next line begins
+abbrev pub CutsNoCharacter : List ℕ → Row → Type 0
+CutsNoCharacter text r = GoodRow (IsCharBoundary text) r
+
+-- the line stands in this text
 pub record IsIn (text : List ℕ) (rest : LineRest) : Type 0 where
-  pub good : GoodRow (IsCharBoundary text) (row_of rest)
+  pub good : CutsNoCharacter text (row_of rest)
   pub within : (row_of rest).past ≤ length text

@@ -5,8 +5,8 @@ ghost use Rattle.cmark_grammar.specs.Options.{Options};
 ghost use Rattle.cmark_grammar.specs.Rows.{Row, words_of, indent_of};
 ghost use Rattle.cmark_grammar.specs.Containers.{begins_with};
 ghost use Rattle.cmark_grammar.specs.Openings.{opens, leaf_of};
-ghost use Rattle.cmark_lines.specs.Rests.{row_of, IsIn};
-ghost use Rattle.cmark_lines.specs.Opened.{opened, HasInside, InsideIsShorter, HasInfo, HasBracket, InsideIsIn};
+ghost use Rattle.cmark_lines.specs.Rests.{row_of, CutsNoCharacter, IsIn};
+ghost use Rattle.cmark_lines.specs.Opened.{opened, HasInside, InsideIsShorter, HasInfo, HasBracket, InsideIsIn, InfoIsIn};
 
 use crate::container::{ContainerStart, container_start};
 use crate::line_rest::LineRest;
@@ -51,6 +51,7 @@ pub fn what_opens<'a>(rest: LineRest<'a>) -> Opening<'a>
     ensures info { HasInfo result (row_of rest.entry) }
     ensures bracket { HasBracket result (row_of rest.entry) }
     ensures placed { (text : List ℕ) → IsIn text rest.entry → InsideIsIn text result }
+    ensures info_placed { (text : List ℕ) → IsIn text rest.entry → InfoIsIn text result (row_of rest.entry) }
 {
     if rest.is_blank() {
         return Opening::Blank;
@@ -72,6 +73,7 @@ fn leaf_opening<'a>(words: &[u8], indent: usize) -> Opening<'a>
     ensures info { (r : Row) → words_of r ≡ words.now → HasInfo result r }
     ensures bracket { (r : Row) → words_of r ≡ words.now → HasBracket result r }
     ensures placed { (text : List ℕ) → InsideIsIn text result }
+    ensures info_placed { (text : List ℕ) (r : Row) → words_of r ≡ words.now → CutsNoCharacter text r → InfoIsIn text result r }
 {
     if let Some(kind) = html_kind(words) {
         return Opening::Html(kind);
