@@ -1,4 +1,5 @@
 pub mod ContainerRows
+pub mod InfoEdges
 pub mod LazyRows
 pub mod LineRows
 pub mod OpeningRows

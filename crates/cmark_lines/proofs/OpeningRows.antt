@@ -1,5 +1,5 @@
 -- What a line begins, test by test.
-use Rattle.std.proofs.Common.{◌≡◌, ℕ, ◌-◌, ◌≤◌, Bool, true, false, ◌&&◌, ◌||◌, not, List, [], ◌∷◌, ◌++◌, length, Option, Some, None, refl, sym, ap, ◌∙◌, arith}
+use Rattle.std.proofs.Common.{◌≡◌, ℕ, ◌-◌, ◌<◌, ◌≤◌, Bool, true, false, ◌&&◌, ◌||◌, not, List, [], ◌∷◌, ◌++◌, length, Option, Some, None, refl, sym, ap, ◌∙◌, subst, arith}
 use Rattle.std.specs.Prelude.{if◌then◌else◌, nat_le}
 use Rattle.std.specs.Str.{IsCharBoundary}
 use Rattle.cmark_grammar.specs.Options.{Options, no_options}
@@ -10,6 +10,7 @@ use Rattle.cmark_grammar.specs.HtmlBlocks.{html_kind}
 use Rattle.cmark_grammar.specs.LinkDefinitions.{label_in, with_label, definition_in, further_bytes, bytes_over}
 use Rattle.cmark_grammar.specs.Containers.{Container, Item, begins_with, container_of, enter}
 use Rattle.cmark_grammar.specs.Openings.{Opening, Blank, Nests, Takes, Plain, AtxHeading, IndentedCode, or_else, nests_if, is_one, item_interrupts, fenced_if, html_if, break_if, heading_if, defined_if, text_lines, definition_of, leaf_of, whole_opens, opens}
+use Rattle.cmark_grammar.proofs.BlockLaws.{enter_len}
 use Rattle.cmark_grammar.proofs.RowEdges.{enter-good}
 use Rattle.cmark_scan.specs.LeafLines.{atx_level}
 use Rattle.cmark_lines.specs.Rests.{row_of, IsIn}
@@ -109,6 +110,10 @@ entered-past k r = refl
 pub begun-in : (text : List ℕ) (rest inside : LineRest) (k : Container) → opens no_options (row_of rest) [] ≡ Nests k → row_of inside ≡ enter k (row_of rest) → IsIn text rest → IsIn text inside
 begun-in text rest inside k opened is h =
     in-moved text rest inside (enter k (row_of rest)) is (entered-past k (row_of rest)) (enter-good (IsCharBoundary text) no_options k (row_of rest) [] opened h.good) h
+
+-- and it has fewer columns
+pub begun-shorter : (rest inside : LineRest) (k : Container) → opens no_options (row_of rest) [] ≡ Nests k → row_of inside ≡ enter k (row_of rest) → length (row_of inside).columns < length (row_of rest).columns
+begun-shorter rest inside k opened is = subst (λ x. length x.columns < length (row_of rest).columns) (sym is) (enter_len no_options k (row_of rest) [] opened)
 
 -- an item of number 1, or a bullet, interrupts a paragraph of its own container where it is not blank behind its marker
 pub item-goes : (r s : Row) (same : Bool) (mark : ℕ) (number : Option ℕ) (width : ℕ) → same ≡ true → is_one number ≡ true → s ≡ enter (Item mark number width) r → not (is_blank_line s) ≡ item_interrupts same r (Some (Item mark number width))

@@ -4,7 +4,7 @@ use Rattle.std.specs.Prelude.{if◌then◌else◌}
 use Rattle.std.specs.Str.{IsCharBoundary}
 use Rattle.cmark_grammar.specs.Columns.{Column, expand, indent, without_indent, bytes_of}
 use Rattle.cmark_grammar.specs.Rows.{Row, without, indent_of, begin_of, start_of}
-use Rattle.cmark_grammar.proofs.RowPlaces.{Runs, Runs-le, drop-Runs, expand-Runs}
+use Rattle.cmark_grammar.proofs.RowPlaces.{Runs, Runs-le, drop-Runs, expand-Runs, Lies}
 use Rattle.cmark_grammar.proofs.RowEdges.{GoodRow, IsAsciiColumn, front-less, indent-front, without-good, start-E}
 use Rattle.cmark_scan.specs.LineStart.{columns_taken}
 use Rattle.cmark_lines.specs.Rests.{row_of, IsIn}
@@ -12,6 +12,7 @@ use Rattle.cmark_lines.specs.declared.line_rest.LineRest.{LineRest}
 
 -- the columns that are left stand one behind the other
 pub rest-runs : (rest : LineRest) → Runs (begin_of (row_of rest)) (row_of rest).columns (row_of rest).stop
+unfolding row_of
 rest-runs rest =
     (drop-Runs (columns_taken rest.front) rest.start (expand 0 rest.start rest.front.bytes.now) (rest.start + length rest.front.bytes.now) (expand-Runs 0 rest.start rest.front.bytes.now)).0
 
@@ -26,8 +27,20 @@ start-stop rest =
     Runs-le (start_of (row_of rest)) (without_indent (row_of rest).columns) (row_of rest).stop
     (drop-Runs (indent_of (row_of rest)) (begin_of (row_of rest)) (row_of rest).columns (row_of rest).stop (rest-runs rest)).0
 
+pub stop-past : (rest : LineRest) → (row_of rest).stop ≤ (row_of rest).past
+unfolding row_of
+stop-past rest = rest.ends
+
+pub rest-lies : (from : ℕ) (rest : LineRest) → from ≤ begin_of (row_of rest) → Lies from (row_of rest)
+rest-lies from rest le = (le, rest-runs rest, stop-past rest)
+
+-- it lacks no prefix
+pub whole : (rest : LineRest) → (row_of rest).lazy ≡ false
+unfolding row_of
+whole rest = refl
+
 -- columns have as many bytes as there are places from the first to the last
-runs-bytes : (from : ℕ) (cs : List Column) (to : ℕ) → Runs from cs to → from + length (bytes_of cs) ≡ to
+pub runs-bytes : (from : ℕ) (cs : List Column) (to : ℕ) → Runs from cs to → from + length (bytes_of cs) ≡ to
 runs-bytes from [] to h = let e : from ≡ to = h in omega (arith, e)
 runs-bytes from (c ∷ cs) to h = go (c.part == 0) refl (runs-bytes (suc c.at) cs to h.1)
   where
@@ -39,7 +52,7 @@ pub bytes-stop : (rest : LineRest) → begin_of (row_of rest) + length (bytes_of
 bytes-stop rest = runs-bytes (begin_of (row_of rest)) (row_of rest).columns (row_of rest).stop (rest-runs rest)
 
 -- what is left behind blanks stands in the text, too
-pub in-moved : (text : List ℕ) (rest moved : LineRest) (r : Row) → row_of moved ≡ r → r.past ≡ rest.past → GoodRow (IsCharBoundary text) r → IsIn text rest → IsIn text moved
+pub in-moved : (text : List ℕ) (rest moved : LineRest) (r : Row) → row_of moved ≡ r → r.past ≡ (row_of rest).past → GoodRow (IsCharBoundary text) r → IsIn text rest → IsIn text moved
 in-moved text rest moved r is past good h = record {
   good = subst (GoodRow (IsCharBoundary text)) (sym is) good;
   within = subst (λ p. p ≤ length text) (sym (ap (λ x. x.past) is ∙ past)) h.within;

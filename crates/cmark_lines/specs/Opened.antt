@@ -1,7 +1,8 @@
 -- What a line begins, seen as the opening of the grammar.
-use Rattle.std.specs.Prelude.{◌≡◌, ℕ, Bool, ◌||◌, true, List, Some}
+use Rattle.std.specs.Prelude.{◌≡◌, ℕ, ◌+◌, ◌<◌, ◌≤◌, Bool, ◌||◌, true, List, length, Some}
+use Rattle.std.specs.Str.{IsCharBoundary}
 use Rattle.cmark_grammar.specs.Options.{Options}
-use Rattle.cmark_grammar.specs.Rows.{Row, words_of}
+use Rattle.cmark_grammar.specs.Rows.{Row, words_of, start_of}
 use Rattle.cmark_grammar.specs.Leaves.{counted, code_further, is_thematic_break, is_atx_heading, fence_of}
 use Rattle.cmark_grammar.specs.HtmlBlocks.{html_kind, html_lines}
 use Rattle.cmark_grammar.specs.Containers.{begins_with}
@@ -10,7 +11,8 @@ use Rattle.cmark_grammar.specs.Openings.{definition_of, fenced_if, is_some_fence
 use Rattle.cmark_text.specs.Shown.{level_number}
 use Rattle.cmark_scan.specs.HtmlLines.{kind_number}
 use Rattle.cmark_scan.specs.LeafLines.{shown_fence, HasPlace}
-use Rattle.cmark_lines.specs.Rests.{IsIn}
+use Rattle.cmark_scan.specs.declared.leaf.CodeFence.{CodeFence}
+use Rattle.cmark_lines.specs.Rests.{row_of, IsIn}
 use Rattle.cmark_lines.specs.Starts.{shown_start, inside_of, Enters}
 use Rattle.cmark_lines.specs.declared.opening.Opening.{Opening}
 use Rattle.cmark_lines.specs.declared.opening.Opening.TheVariants.{Blank, Nests, IndentedCode, Html, ThematicBreak, AtxHeading, FencedCode, Bracket, Plain}
@@ -32,10 +34,24 @@ abbrev pub HasInside : Opening → Row → Type 0
 HasInside (Nests start) r = Enters r start
 HasInside _ r = Unit {0}
 
+-- and it has fewer columns
+abbrev pub InsideIsShorter : Opening → Row → Type 0
+InsideIsShorter (Nests start) r = length (row_of (inside_of start)).columns < length r.columns
+InsideIsShorter _ r = Unit {0}
+
 -- the info string of a fence stands at its places in the words
 abbrev pub HasInfo : Opening → Row → Type 0
 HasInfo (FencedCode indent fence) r = HasPlace (words_of r) fence
 HasInfo _ r = Unit {0}
+
+-- in order, and cutting no character of this text
+abbrev pub InfoStands : List ℕ → Row → CodeFence → Type 0
+InfoStands text r fence =
+    (fence.info_start ≤ fence.info_end) × (start_of r + fence.info_end ≤ r.stop) × IsCharBoundary text (start_of r + fence.info_start) × IsCharBoundary text (start_of r + fence.info_end)
+
+abbrev pub InfoIsIn : List ℕ → Opening → Row → Type 0
+InfoIsIn text (FencedCode indent fence) r = InfoStands text r fence
+InfoIsIn text _ r = Unit {0}
 
 -- a line that may begin a definition has a bracket in front
 abbrev pub HasBracket : Opening → Row → Type 0

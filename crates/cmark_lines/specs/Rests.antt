@@ -6,15 +6,19 @@ use Rattle.cmark_grammar.proofs.RowEdges.{GoodRow}
 use Rattle.cmark_scan.specs.LineStart.{row_from}
 use Rattle.cmark_lines.specs.declared.line_rest.LineRest.{LineRest}
 
-abbrev pub row_of : LineRest → Row
+unfoldable pub row_of : LineRest → Row
 row_of rest = row_from rest.start rest.past rest.front
 
 -- the line of no byte, and without an ending, at this place
 abbrev pub no_row : ℕ → Row
 no_row at = record { columns = []; stop = at; past = at; lazy = false }
 
--- the line stands in this text: its columns in order up to its ending, and no character is cut where it begins, where it
--- ends, or at an ASCII byte of it
+-- the columns of a line stand in order up to its ending, and no character of this text is cut where the line begins, at an
+-- ASCII byte of it, at its ending, or where the next line begins
+abbrev pub CutsNoCharacter : List ℕ → Row → Type 0
+CutsNoCharacter text r = GoodRow (IsCharBoundary text) r
+
+-- the line stands in this text
 pub record IsIn (text : List ℕ) (rest : LineRest) : Type 0 where
-  pub good : GoodRow (IsCharBoundary text) (row_of rest)
+  pub good : CutsNoCharacter text (row_of rest)
   pub within : (row_of rest).past ≤ length text

@@ -98,7 +98,7 @@ fn html_interrupts(words: &[u8]) -> bool
 /// 4.3): a run of `=` or of `-` behind at most three columns of indent, and blanks. The line must stand in the same container as
 /// the paragraph: one that lacks a prefix underlines nothing.
 #[inline]
-#[tactic(auto, unfolding(cmark_grammar::specs::Leaves::underlines))]
+#[tactic(auto, unfolding(cmark_grammar::specs::Leaves::underlines, crate::specs::Rests::row_of))]
 pub fn underlines(rest: LineRest<'_>) -> Option<HeadingLevel>
     ensures { option_map level_number result ≡ underlines (row_of rest.entry) }
 {

@@ -1,4 +1,5 @@
 //! What is left of a line (CommonMark 2.1 and 2.2).
+#![tactic(auto, unfolding(crate::specs::Rests::row_of))]
 
 ghost use Rattle.std.specs.Prelude.{◌≡◌, ◌+◌, ◌≤◌, drop, length};
 ghost use Rattle.cmark_grammar.specs.Lines.{ending_len};
@@ -38,6 +39,7 @@ impl<'a> LineRest<'a> {
             ≡ row_of result ∷ rows_from (row_of result).past (lines (drop (row_of result).past text.entry.now)) }
         ensures none { start ≡ length text.entry.now → row_of result ≡ no_row start }
         ensures ahead { start < length text.entry.now → start < (row_of result).past }
+        ensures within { (row_of result).past ≤ length text.entry.now }
         ensures placed { IsUtf8 text.entry.now → IsCharBoundary text.entry.now start → IsIn text.entry.now result }
     {
         let bytes = &text[start..];

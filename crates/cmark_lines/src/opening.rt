@@ -5,8 +5,8 @@ ghost use Rattle.cmark_grammar.specs.Options.{Options};
 ghost use Rattle.cmark_grammar.specs.Rows.{Row, words_of, indent_of};
 ghost use Rattle.cmark_grammar.specs.Containers.{begins_with};
 ghost use Rattle.cmark_grammar.specs.Openings.{opens, leaf_of};
-ghost use Rattle.cmark_lines.specs.Rests.{row_of, IsIn};
-ghost use Rattle.cmark_lines.specs.Opened.{opened, HasInside, HasInfo, HasBracket, InsideIsIn};
+ghost use Rattle.cmark_lines.specs.Rests.{row_of, CutsNoCharacter, IsIn};
+ghost use Rattle.cmark_lines.specs.Opened.{opened, HasInside, InsideIsShorter, HasInfo, HasBracket, InsideIsIn, InfoIsIn};
 
 use crate::container::{ContainerStart, container_start};
 use crate::line_rest::LineRest;
@@ -47,9 +47,11 @@ pub enum Opening<'a> {
 pub fn what_opens<'a>(rest: LineRest<'a>) -> Opening<'a>
     ensures opens { (options : Options) (ahead : List Row) → opens options (row_of rest.entry) ahead ≡ opened options result (row_of rest.entry) ahead }
     ensures inside { HasInside result (row_of rest.entry) }
+    ensures shorter { InsideIsShorter result (row_of rest.entry) }
     ensures info { HasInfo result (row_of rest.entry) }
     ensures bracket { HasBracket result (row_of rest.entry) }
     ensures placed { (text : List ℕ) → IsIn text rest.entry → InsideIsIn text result }
+    ensures info_placed { (text : List ℕ) → IsIn text rest.entry → InfoIsIn text result (row_of rest.entry) }
 {
     if rest.is_blank() {
         return Opening::Blank;
@@ -67,10 +69,11 @@ pub fn what_opens<'a>(rest: LineRest<'a>) -> Opening<'a>
 /// What the words of a line begin, indented by so many columns, where they begin no container.
 fn leaf_opening<'a>(words: &[u8], indent: usize) -> Opening<'a>
     ensures opens { (options : Options) (r : Row) (ahead : List Row) → words_of r ≡ words.now → indent_of r ≡ indent → leaf_of options r ahead ≡ opened options result r ahead }
-    ensures inside { (r : Row) → HasInside result r }
+    ensures inside { (r : Row) → HasInside result r × InsideIsShorter result r }
     ensures info { (r : Row) → words_of r ≡ words.now → HasInfo result r }
     ensures bracket { (r : Row) → words_of r ≡ words.now → HasBracket result r }
     ensures placed { (text : List ℕ) → InsideIsIn text result }
+    ensures info_placed { (text : List ℕ) (r : Row) → words_of r ≡ words.now → CutsNoCharacter text r → InfoIsIn text result r }
 {
     if let Some(kind) = html_kind(words) {
         return Opening::Html(kind);

@@ -5,6 +5,7 @@ use Rattle.cmark_grammar.specs.HtmlBlocks.{html_kind}
 use Rattle.cmark_grammar.specs.Containers.{begins_with}
 use Rattle.cmark_text.specs.Shown.{level_number}
 use Rattle.cmark_scan.specs.LeafLines.{atx_level}
+use Rattle.cmark_lines.proofs.InfoEdges.{info-stands}
 use Rattle.cmark_lines.proofs.OpeningRows.{leaf-heading, leaf-plain}
 use Rattle.cmark_lines.proofs.opening.leaf_opening.Goals as goal
 
@@ -19,3 +20,8 @@ returns-else-begins_with_bracket-clause-opens c options r ahead words indent =
     (c.in_default-scan_atx_heading.ensures ∙ sym (ap atx_level words))
     (c.in_default-scan_code_fence.ensures.fence c.args.indent ∙ ap (fence_of c.args.indent) (sym words) ∙ ap (λ n. fence_of n (words_of r)) (sym indent))
     (ap (begins_with 91) words ∙ sym c.begins_with_bracket.ensures ∙ c.if-begins_with_bracket.false)
+
+pub returns-in-Some-scan_code_fence-clause-info_placed : goal.returns-in-Some-scan_code_fence-clause-info_placed
+returns-in-Some-scan_code_fence-clause-info_placed c text r words good =
+    let found = c.in-Some-scan_code_fence in
+    info-stands text 0 c.args.words.now r found.fence words (found.ensures.fence 0) found.ensures.place good

@@ -1,43 +1,48 @@
-use Rattle.std.proofs.Common.{◌≤◌, [], refl, sym, ap, ◌∙◌, arith}
+use Rattle.std.proofs.Common.{◌≡◌, ◌≤◌, [], sym, ap, ◌∙◌, arith}
 use Rattle.cmark_grammar.specs.Options.{no_options}
 use Rattle.cmark_grammar.specs.Rows.{indent_of}
-use Rattle.cmark_grammar.specs.Openings.{or_else, nests_if, leaf_of}
+use Rattle.cmark_grammar.specs.Openings.{Nests, or_else, nests_if, leaf_of, opens}
 use Rattle.cmark_lines.specs.Rests.{row_of}
 use Rattle.cmark_lines.specs.Starts.{shown_start, inside_of}
-use Rattle.cmark_lines.proofs.OpeningRows.{opens-blank, opens-code, opens-shallow, begun-in}
+use Rattle.cmark_lines.proofs.RestSteps.{whole}
+use Rattle.cmark_lines.proofs.OpeningRows.{opens-blank, opens-code, opens-shallow, begun-in, begun-shorter}
 use Rattle.cmark_lines.proofs.opening.what_opens.Goals as goal
 
 pub returns-then-is_blank-clause-opens : goal.returns-then-is_blank-clause-opens
-returns-then-is_blank-clause-opens c options ahead = opens-blank options (row_of c.args.rest) ahead refl (sym c.if-is_blank.ensures)
+returns-then-is_blank-clause-opens c options ahead = opens-blank options (row_of c.args.rest) ahead (whole c.args.rest) (sym c.if-is_blank.ensures)
 
 pub returns-then-indent-eq4-clause-opens : goal.returns-then-indent-eq4-clause-opens
 returns-then-indent-eq4-clause-opens c options ahead =
     let count = c.indent_upto-indent.ensures in
     let four = c.if-indent-eq4.true in
-    opens-code options (row_of c.args.rest) ahead refl (sym c.if-is_blank.ensures) (omega (arith, count, four))
+    opens-code options (row_of c.args.rest) ahead (whole c.args.rest) (sym c.if-is_blank.ensures) (omega (arith, count, four))
 
 pub returns-in-Some-clause-opens : goal.returns-in-Some-clause-opens
 returns-in-Some-clause-opens c options ahead =
     let count = c.indent_upto-indent.ensures in
     let other = c.if-indent-eq4.false in
-    opens-shallow options (row_of c.args.rest) ahead refl (sym c.if-is_blank.ensures) (omega (arith, count, other))
+    opens-shallow options (row_of c.args.rest) ahead (whole c.args.rest) (sym c.if-is_blank.ensures) (omega (arith, count, other))
     ∙ ap (λ o. or_else (nests_if o) (leaf_of options (row_of c.args.rest) ahead)) (sym c.in-Some.ensures.container)
 
-pub returns-in-Some-clause-placed : goal.returns-in-Some-clause-placed
-returns-in-Some-clause-placed c text =
+begun : (c : goal.In-Some) → opens no_options (row_of c.args.rest) [] ≡ Nests (shown_start c.in-Some.start)
+begun c =
     let count = c.indent_upto-indent.ensures in
     let other = c.if-indent-eq4.false in
-    begun-in text c.args.rest (inside_of c.in-Some.start) (shown_start c.in-Some.start)
-    (opens-shallow no_options (row_of c.args.rest) [] refl (sym c.if-is_blank.ensures) (omega (arith, count, other))
-    ∙ ap (λ o. or_else (nests_if o) (leaf_of no_options (row_of c.args.rest) [])) (sym c.in-Some.ensures.container))
-    c.in-Some.ensures.inside
+    opens-shallow no_options (row_of c.args.rest) [] (whole c.args.rest) (sym c.if-is_blank.ensures) (omega (arith, count, other))
+    ∙ ap (λ o. or_else (nests_if o) (leaf_of no_options (row_of c.args.rest) [])) (sym c.in-Some.ensures.container)
+
+pub returns-in-Some-clause-placed : goal.returns-in-Some-clause-placed
+returns-in-Some-clause-placed c text = begun-in text c.args.rest (inside_of c.in-Some.start) (shown_start c.in-Some.start) (begun c) c.in-Some.ensures.inside
+
+pub returns-in-Some-clause-shorter : goal.returns-in-Some-clause-shorter
+returns-in-Some-clause-shorter c = begun-shorter c.args.rest (inside_of c.in-Some.start) (shown_start c.in-Some.start) (begun c) c.in-Some.ensures.inside
 
 pub returns-clause-opens : goal.returns-clause-opens
 returns-clause-opens c options ahead =
     let count = c.indent_upto-indent.ensures in
     let other = c.if-indent-eq4.false in
     let le : indent_of (row_of c.args.rest) ≤ 3 = omega (arith, count, other) in
-    opens-shallow options (row_of c.args.rest) ahead refl (sym c.if-is_blank.ensures) le
+    opens-shallow options (row_of c.args.rest) ahead (whole c.args.rest) (sym c.if-is_blank.ensures) le
     ∙ ap (λ o. or_else (nests_if o) (leaf_of options (row_of c.args.rest) ahead)) (sym c.in_default.ensures.container)
     ∙ c.leaf_opening.ensures.opens options (row_of c.args.rest) ahead (sym c.words.ensures) (omega (arith, count, le))
 

@@ -1,8 +1,9 @@
-use Rattle.std.proofs.Common.{◌≡◌, false, ◌&&◌, None, refl, sym, ap, ◌∙◌}
+use Rattle.std.proofs.Common.{◌≡◌, false, ◌&&◌, None, sym, ap, ◌∙◌}
 use Rattle.cmark_grammar.specs.Rows.{is_blank_line}
 use Rattle.cmark_grammar.specs.Containers as grammar
 use Rattle.cmark_grammar.specs.Containers.{keeps}
 use Rattle.cmark_lines.specs.Rests.{row_of}
+use Rattle.cmark_lines.proofs.RestSteps.{whole}
 use Rattle.cmark_lines.proofs.ContainerRows.{blank-ends, bare-kept, quote-keeps, shows-quote, shows-item, kept-in}
 use Rattle.cmark_lines.proofs.container.Container.keeps.Goals.{else-bare-via-then-bare+else-is_blank, else-bare-via-else-bare}
 use Rattle.cmark_lines.proofs.container.Container.keeps.Goals as goal
@@ -10,7 +11,7 @@ use Rattle.cmark_lines.proofs.container.Container.keeps.Goals as goal
 pub returns-then-is_blank-clause-row : goal.returns-then-is_blank-clause-row
 returns-then-is_blank-clause-row c k shows =
     let r = row_of c.args.rest in
-    blank-ends k r refl (sym c.is_blank.ensures ∙ c.if-is_blank.true) ∙ ap (λ b. keeps k b r) (sym c.if-bare.true)
+    blank-ends k r (whole c.args.rest) (sym c.is_blank.ensures ∙ c.if-is_blank.true) ∙ ap (λ b. keeps k b r) (sym c.if-bare.true)
 
 pub returns-in-Quote-clause-row : goal.returns-in-Quote-clause-row
 returns-in-Quote-clause-row c k shows =
@@ -21,10 +22,10 @@ returns-in-Quote-clause-row c k shows =
       | else-bare-via-else-bare w ↦ ap (λ z. z && is_blank_line r) w.if-bare.false
     ]
     in
-    c.behind_quote.ensures ∙ quote-keeps r refl ∙ bare-kept grammar.Quote c.args.bare r test ∙ ap (λ x. keeps x c.args.bare r) (sym (shows-quote c.args.self k c.in-Quote.is shows))
+    c.behind_quote.ensures ∙ quote-keeps r (whole c.args.rest) ∙ bare-kept grammar.Quote c.args.bare r test ∙ ap (λ x. keeps x c.args.bare r) (sym (shows-quote c.args.self k c.in-Quote.is shows))
 
 pub returns-in-Quote-clause-placed : goal.returns-in-Quote-clause-placed
-returns-in-Quote-clause-placed c text = kept-in text c.args.rest grammar.Quote c.behind_quote.result (c.behind_quote.ensures ∙ quote-keeps (row_of c.args.rest) refl)
+returns-in-Quote-clause-placed c text = kept-in text c.args.rest grammar.Quote c.behind_quote.result (c.behind_quote.ensures ∙ quote-keeps (row_of c.args.rest) (whole c.args.rest))
 
 pub returns-in-Item-clause-row : goal.returns-in-Item-clause-row
 returns-in-Item-clause-row c k shows =

@@ -9,6 +9,7 @@ use Rattle.cmark_lines.proofs.PrefixRows.{shallow-is, numbers-is, stop_entered, 
 use Rattle.cmark_lines.proofs.line_rest.LineRest.behind_item.Goals as goal
 
 pub returns-in_err-mark-clause-item : goal.returns-in_err-mark-clause-item
+unfolding row_of
 returns-in_err-mark-clause-item c =
     let rest = c.args.self in
     let step = c.scan_space_upto-indent in
@@ -18,12 +19,14 @@ returns-in_err-mark-clause-item c =
     ∙ numbers-is (row_of rest) (row_from rest.start rest.past step.new.self) step.result (step.ensures.count rest.start) (step.ensures.rest rest.start rest.past))
 
 pub with_front-requires : goal.with_front-requires
+unfolding row_of
 with_front-requires c =
     let rest = c.args.self in
     let step = c.scan_space_upto-indent in
     ap (λ r. r.stop) (c.scan_list_marker_with_indent.ensures.rest rest.start rest.past) ∙ stop_entered (row_from rest.start rest.past step.new.self) ∙ ap (λ r. r.stop) (step.ensures.rest rest.start rest.past)
 
 pub returns-clause-item : goal.returns-clause-item
+unfolding row_of
 returns-clause-item c =
     let rest = c.args.self in
     let step = c.scan_space_upto-indent in
@@ -33,6 +36,7 @@ returns-clause-item c =
     ∙ numbers-is (row_of rest) (row_from rest.start rest.past step.new.self) step.result (step.ensures.count rest.start) (step.ensures.rest rest.start rest.past))
 
 pub returns-clause-inside : goal.returns-clause-inside
+unfolding row_of
 returns-clause-inside c =
     let rest = c.args.self in
     let step = c.scan_space_upto-indent in

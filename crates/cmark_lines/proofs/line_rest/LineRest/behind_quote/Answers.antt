@@ -9,12 +9,14 @@ use Rattle.cmark_lines.proofs.PrefixRows.{shallow-is, quote-none, quote-some}
 use Rattle.cmark_lines.proofs.line_rest.LineRest.behind_quote.Goals as goal
 
 pub returns-then-not-scan_blockquote_marker : goal.returns-then-not-scan_blockquote_marker
+unfolding row_of
 returns-then-not-scan_blockquote_marker c =
     let rest = c.args.self in
     let is = shallow-is (row_of rest) (row_from rest.start rest.past c.scan_space_upto.new.self) c.scan_space_upto.result (c.scan_space_upto.ensures.count rest.start) (c.scan_space_upto.ensures.rest rest.start rest.past) in
     quote-none (row_of rest) (c.if-not-scan_blockquote_marker.ensures.found rest.start rest.past ∙ ap begins_quote is)
 
 pub with_front-requires : goal.with_front-requires
+unfolding row_of
 with_front-requires c =
     let rest = c.args.self in
     ap (λ r. r.stop) (c.scan_blockquote_marker.ensures.rest rest.start rest.past) ∙ stop_behind (row_from rest.start rest.past c.scan_space_upto.new.self) ∙ ap (λ r. r.stop) (c.scan_space_upto.ensures.rest rest.start rest.past)
@@ -27,6 +29,7 @@ with_front-requires c =
         go false = refl
 
 pub returns : goal.returns
+unfolding row_of
 returns c =
     let rest = c.args.self in
     let is = shallow-is (row_of rest) (row_from rest.start rest.past c.scan_space_upto.new.self) c.scan_space_upto.result (c.scan_space_upto.ensures.count rest.start) (c.scan_space_upto.ensures.rest rest.start rest.past) in

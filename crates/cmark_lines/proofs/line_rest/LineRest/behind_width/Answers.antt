@@ -8,6 +8,7 @@ use Rattle.cmark_lines.proofs.line_rest.LineRest.behind_width.Goals.{else-not-sc
 use Rattle.cmark_lines.proofs.line_rest.LineRest.behind_width.Goals as goal
 
 pub returns-then-not-is_at_eol : goal.returns-then-not-is_at_eol
+unfolding row_of
 returns-then-not-is_at_eol c =
     let rest = c.args.self in
     let enough : nat_le c.args.width (indent_of (row_of rest)) ≡ false = sym (c.scan_space.ensures.enough rest.start rest.past) ∙ c.if-not-scan_space.true in
@@ -16,9 +17,11 @@ returns-then-not-is_at_eol c =
     (ap (λ z. z || is_bare (row_from rest.start rest.past c.scan_space.new.self).columns) enough ∙ bare)
 
 pub with_front-requires : goal.with_front-requires
+unfolding row_of
 with_front-requires c = let rest = c.args.self in ap (λ r. r.stop) (c.scan_space.ensures.rest rest.start rest.past)
 
 pub returns : goal.returns
+unfolding row_of
 returns c =
     let rest = c.args.self in
     let after = row_from rest.start rest.past c.scan_space.new.self in

@@ -1,3 +1,4 @@
+use Rattle.cmark_lines.specs.Rests.{row_of}
 use Rattle.std.proofs.Common.{◌≡◌, ℕ, List, ◌∷◌, ◌<◌, ◌+◌, length, drop, sym, ap, ◌∙◌, subst, arith, ⊎_elim, length-drop}
 use Rattle.std.proofs.Math.Nat.{eq-or-lt_of_le}
 use Rattle.std.specs.Str.{IsCharBoundary}
@@ -11,6 +12,7 @@ use Rattle.cmark_lines.proofs.LineRows.{whole-line, line-len, content-len, rows-
 use Rattle.cmark_lines.proofs.line_rest.LineRest.new.Goals as goal
 
 pub ending_len-requires : goal.ending_len-requires
+unfolding row_of
 ending_len-requires c =
     let text = c.args.text.now in
     let start = c.args.start in
@@ -20,6 +22,7 @@ ending_len-requires c =
     omega (arith, len, le, same)
 
 pub invariant_of-result : goal.invariant_of-result
+unfolding row_of
 invariant_of-result c =
     let text = c.args.text.now in
     let start = c.args.start in
@@ -28,30 +31,41 @@ invariant_of-result c =
     record { ends = omega (arith, len, stop) }
 
 the_len : (c : goal.After-result-1) → length c.remaining_bytes-len.result.now ≡ length (content (drop c.args.start c.args.text.now))
+unfolding row_of
 the_len c = line-len c.args.text.now c.args.start c.new-front.result c.new-front.ensures c.remaining_bytes-len.result.now c.remaining_bytes-len.ensures
 
 the_ending : (c : goal.After-result-1) → c.ending_len.result ≡ ending_len (drop (length c.remaining_bytes-len.result.now) (drop c.args.start c.args.text.now))
+unfolding row_of
 the_ending c = c.ending_len.ensures.value ∙ ap (λ l. ending_len (drop (length c.remaining_bytes-len.result.now) l)) (rest_of c.args.text.now c.args.start)
 
 abbrev the_past : goal.After-result-1 → ℕ
 the_past c = c.args.start + length c.remaining_bytes-len.result.now + c.ending_len.result
 
 the_row : (c : goal.After-result-1) → row_from c.args.start (the_past c) c.new-front.result ≡ line_of c.args.start (the_past c) (drop c.args.start c.args.text.now)
+unfolding row_of
 the_row c = whole-line c.args.text.now c.args.start c.new-front.result c.new-front.ensures c.args.start (the_past c)
 
 pub returns-clause-line : goal.returns-clause-line
+unfolding row_of
 returns-clause-line c line more is =
     the_row c ∙ row-line c.args.text.now c.args.start (length c.remaining_bytes-len.result.now) c.ending_len.result (the_len c) (the_ending c) c.requires line more is
 
 pub returns-clause-further : goal.returns-clause-further
+unfolding row_of
 returns-clause-further c lt =
     rows-further c.args.text.now c.args.start (length c.remaining_bytes-len.result.now) c.ending_len.result (the_len c) (the_ending c) lt
     ∙ ap (λ r. r ∷ rows_from (the_past c) (lines (drop (the_past c) c.args.text.now))) (sym (the_row c))
 
 pub returns-clause-none : goal.returns-clause-none
+unfolding row_of
 returns-clause-none c end = the_row c ∙ row-none c.args.text.now c.args.start (length c.remaining_bytes-len.result.now) c.ending_len.result (the_len c) (the_ending c) end
 
+pub returns-clause-within : goal.returns-clause-within
+unfolding row_of
+returns-clause-within c = omega (arith, c.ending_len.ensures.within, ap length (rest_of c.args.text.now c.args.start), length-drop c.args.start c.args.text.now, c.requires)
+
 pub returns-clause-placed : goal.returns-clause-placed
+unfolding row_of
 returns-clause-placed c utf8 boundary = record {
   good = subst (GoodRow (IsCharBoundary text)) (sym (the_row c)) (⊎_elim at_end within (eq-or-lt_of_le c.requires));
   within = omega (arith, c.ending_len.ensures.within, ap length (rest_of text start), length-drop start text, c.requires);

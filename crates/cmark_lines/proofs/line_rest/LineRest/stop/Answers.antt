@@ -6,10 +6,12 @@ use Rattle.cmark_lines.proofs.RestSteps.{start-stop, bytes-stop}
 use Rattle.cmark_lines.proofs.line_rest.LineRest.stop.Goals as goal
 
 the_stop : (c : goal.After-bytes) → c.begin.result + length c.bytes.result.now ≡ (row_of c.args.self.now).stop
+unfolding row_of
 the_stop c =
     ap (λ n. n + length c.bytes.result.now) c.begin.ensures.place ∙ ap (λ l. begin_of (row_of c.args.self.now) + length l) c.bytes.ensures ∙ bytes-stop c.args.self.now
 
 pub overflow_add-result : goal.overflow_add-result
+unfolding row_of
 overflow_add-result c =
     let rest = c.args.self.now in
     let ends = rest.ends in
@@ -17,10 +19,13 @@ overflow_add-result c =
     omega (arith, is, ends)
 
 pub returns-clause-place : goal.returns-clause-place
+unfolding row_of
 returns-clause-place c = the_stop c
 
 pub returns-clause-order : goal.returns-clause-order
+unfolding row_of
 returns-clause-order c = subst (λ n. start_of (row_of c.args.self.now) ≤ n) (sym (the_stop c)) (start-stop c.args.self.now)
 
 pub returns-clause-boundary : goal.returns-clause-boundary
+unfolding row_of
 returns-clause-boundary c text h = subst (IsCharBoundary text) (sym (the_stop c)) h.good.stop

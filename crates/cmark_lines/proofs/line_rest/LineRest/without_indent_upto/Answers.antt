@@ -5,14 +5,17 @@ use Rattle.cmark_lines.proofs.RestSteps.{in-behind}
 use Rattle.cmark_lines.proofs.line_rest.LineRest.without_indent_upto.Goals as goal
 
 pub with_front-requires : goal.with_front-requires
+unfolding row_of
 with_front-requires c = let rest = c.args.self in ap (λ r. r.stop) (c.scan_space_upto.ensures.rest rest.start rest.past)
 
 pub returns-clause-row : goal.returns-clause-row
+unfolding row_of
 returns-clause-row c =
     let rest = c.args.self in
     c.with_front.ensures ∙ c.scan_space_upto.ensures.rest rest.start rest.past ∙ ap (λ n. without n (row_of rest)) (c.scan_space_upto.ensures.count rest.start)
 
 pub returns-clause-placed : goal.returns-clause-placed
+unfolding row_of
 returns-clause-placed c text =
     let rest = c.args.self in
     let count = c.scan_space_upto.ensures.count rest.start in

@@ -5,6 +5,7 @@ use Rattle.cmark_lines.proofs.RestSteps.{begin-start}
 use Rattle.cmark_lines.proofs.line_rest.LineRest.words_begin.Goals as goal
 
 pub returns-clause-order : goal.returns-clause-order
+unfolding row_of
 returns-clause-order c =
     let rest = c.args.self.now in
     subst (λ n. begin_of (row_of rest) ≤ n) (sym (c.begin.ensures.place ∙ ap begin_of c.behind_indent.ensures.row)) (begin-start rest)
