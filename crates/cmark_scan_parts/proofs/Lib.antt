@@ -5,5 +5,6 @@ pub mod Links
 pub mod Lists
 pub mod OwnedSteps
 pub mod PartSteps
+pub mod PipeSteps
 pub mod TagSteps
 pub mod Unescaping

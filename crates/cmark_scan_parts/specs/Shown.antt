@@ -7,7 +7,6 @@ use Rattle.cmark_scan_parts.specs.declared.link.Cut.{Cut}
 use Rattle.cmark_text.specs.Shown.{text_bytes}
 use Rattle.cmark_grammar.specs.Tokens as tokens
 use Rattle.cmark_scan_parts.specs.declared.entity.Entity.{Entity}
-use Rattle.cmark_scan_parts.specs.declared.label.LabelRead.{LabelRead}
 use Rattle.cmark_scan_parts.specs.declared.label.LinkLabelRest.{LinkLabelRest}
 use Rattle.cmark_scan_parts.specs.declared.inline_html.HtmlFind.{HtmlFind}
 
@@ -43,7 +42,4 @@ pub record Closes (bs : List ℕ) (front size : ℕ) : Type 0 where
   pub semicolon : slice_index bs (size - front - 1) ≡ 59
 
 abbrev pub shown_label : LinkLabelRest → Part
-shown_label label = record { end = label.end; bytes = label.text.items }
-
-abbrev pub shown_read : LabelRead → Found
-shown_read read = record { bytes = read.text.items; behind = read.behind.now }
+shown_label label = record { end = label.end; bytes = text_bytes label.text }
