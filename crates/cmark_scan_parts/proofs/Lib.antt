@@ -1,4 +1,6 @@
+pub mod Boundaries
 pub mod Closers
+pub mod Endings
 pub mod EntitySteps
 pub mod LabelSteps
 pub mod Links

@@ -9,11 +9,8 @@ use Rattle.cmark_grammar.specs.Unescaped.{escaped_pipe}
 use Rattle.cmark_grammar.specs.LabelsOverLines.{piped, with_literal_pipes}
 use Rattle.cmark_scan_parts.specs.Pipes.{Drops}
 use Rattle.cmark_scan_parts.specs.declared.pipes.Backslashes.{Backslashes}
+use Rattle.cmark_scan_parts.proofs.Boundaries.{ascii_boundary}
 use Rattle.cmark_scan_parts.proofs.Closers.{starts_here, here_starts, onward, back}
-
--- a character begins at an ASCII byte
-pub ascii_boundary : (bs : List ℕ) (i b : ℕ) → i < length bs → get_or bs i 0 ≡ b → b < 128 → IsCharBoundary bs i
-ascii_boundary bs i b lt is small = (omega arith, λ inside high. omega arith)
 
 some_pipe : 0 < length piped
 some_pipe = omega arith

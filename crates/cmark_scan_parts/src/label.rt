@@ -102,7 +102,7 @@ fn read_label<'t, H: Fn(&[u8]) -> Option<usize>>(
     requires callable { H.IsAlwaysCallable handler.now }
     requires within { LabelsWithin H.Fn handler.now }
     ensures value { ForLabels H.Fn handler.now (λ prefix. IfOk result (λ found. option_map shown_label found ≡ option_map (cut_behind text.now) (label_over_lines prefix false text.now))) }
-    ensures whole { IfOk result (λ found. IfSome found (λ label. IsCharBoundary text.now label.end)) }
+    ensures boundary { IfOk result (λ found. IfSome found (λ label. IsCharBoundary text.now label.end)) }
 {
     let bytes = text.as_bytes();
     let mut copied = String::new(alloc);
@@ -161,7 +161,7 @@ pub fn scan_link_label_rest<'t, H: Fn(&[u8]) -> Option<usize>>(
     requires callable { H.IsAlwaysCallable linebreak_handler.now }
     requires within { LabelsWithin H.Fn linebreak_handler.now }
     ensures value { ForLabels H.Fn linebreak_handler.now (λ prefix. IfOk result (λ found. option_map shown_label found ≡ option_map (cut_behind text.now) (label_over_lines prefix is_in_table text.now))) }
-    ensures whole { IfOk result (λ found. IfSome found (λ label. IsCharBoundary text.now label.end)) }
+    ensures boundary { IfOk result (λ found. IfSome found (λ label. IsCharBoundary text.now label.end)) }
 {
     let Some(label) = read_label(alloc, text, linebreak_handler)? else {
         return Ok(None);

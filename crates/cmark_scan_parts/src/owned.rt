@@ -1,6 +1,7 @@
 //! The text of a tag that takes several lines.
 
 ghost use Rattle.std.specs.Prelude.{◌≡◌, ◌<◌, ◌≤◌, ◌-◌, ◌++◌, length, drop, IfOk, OnOk, IfSome, option_map};
+ghost use Rattle.std.specs.Str.{IsUtf8, IsCharBoundary};
 ghost use Rattle.cmark_grammar.specs.Lines.{ends_line};
 ghost use Rattle.cmark_grammar.specs.InlineHtml.{takes_lines, without_prefixes, owned_tag, owned_tag_in};
 ghost use Rattle.cmark_grammar.specs.Tags.{prefix_behind};
@@ -106,6 +107,7 @@ pub fn scan_html_block_inner<H: Fn(&[u8]) -> usize>(
     requires within { AnswersWithin H.Fn newline_handler.now }
     ensures value { ForAnswers H.Fn newline_handler.now (λ prefix. IfOk result (λ found. option_map shown_tag found ≡ owned_tag_in prefix bytes.now)) }
     ensures within { IfOk result (λ found. IfSome found (λ tag. tag.end ≤ length bytes.now)) }
+    ensures boundary { IsUtf8 bytes.now → ForAnswers H.Fn newline_handler.now (λ prefix. IfOk result (λ found. IfSome found (λ tag. IsCharBoundary bytes.now tag.end))) }
 {
     let Some(rest) = behind_tag(bytes, newline_handler) else {
         return Ok(None);

@@ -1,14 +1,13 @@
 use Rattle.std.proofs.Common.{◌≡◌, ◌+◌, ◌-◌, ◌<◌, ◌||◌, ◌++◌, ◌∷◌, [], true, false, not, List, ℕ, Some, length, take, drop, get_or, string_bytes, sym, ap, subst, ◌∙◌, arith}
 use Rattle.std.specs.Prelude.{option_map}
-use Rattle.std.specs.Str.{IsCharBoundary, IsUtf8}
 use Rattle.std.proofs.Math.ListN.{drop_of_length-le}
-use Rattle.std.proofs.lemmas.Str.{IsCharBoundary-start, IsCharBoundary-after_ascii, IsCharBoundary-from_rest, IsUtf8-drop}
+use Rattle.std.proofs.lemmas.Str.{IsCharBoundary-start, IsCharBoundary-after_ascii}
 use Rattle.cmark_grammar.specs.LinkDefinitions.{characters, is_white}
 use Rattle.cmark_grammar.specs.LabelsOverLines.{label_prefix, up_to_bracket}
 use Rattle.cmark_scan_parts.specs.Shown.{Part}
 use Rattle.cmark_scan_parts.proofs.Lists.{rest_of}
 use Rattle.cmark_scan_parts.proofs.PartSteps.{puts}
-use Rattle.cmark_scan_parts.proofs.PipeSteps.{ascii_boundary}
+use Rattle.cmark_scan_parts.proofs.Boundaries.{ascii_boundary, next_boundary}
 use Rattle.cmark_scan_parts.proofs.LabelSteps.{has_words, characters_more, words_more, label_fails, label_cut, label_ends, too_long, so_far, so_far-more, so_far-copied, byte-cut, label_onward, no_rest, rest_found}
 use Rattle.cmark_scan_parts.proofs.label.read_label.Goals as goal
 
@@ -53,8 +52,8 @@ returns-in-Ends-clause-value g c = λ prefix answers.
     (label_ends _ _ read (drop (at + 1) text) c.loop-at.count c.loop-at.has_words true (inv.reads prefix answers)
     (ap (up_to_bracket prefix c.loop-at.escaped 0) cut ∙ c.in-Ends.ensures.value (drop (at + 1) text) _) inv.counts inv.words c.if-not-is_label.ensures)
 
-pub returns-in-Ends-clause-whole : goal.returns-in-Ends-clause-whole
-returns-in-Ends-clause-whole g c =
+pub returns-in-Ends-clause-boundary : goal.returns-in-Ends-clause-boundary
+returns-in-Ends-clause-boundary g c =
     let value = c.as_bytes-bytes.ensures.value in
     let lt : c.loop-at.at < length c.args.text.now = let l = c.loop-at-test.true in let e = ap length value in omega (arith, l, e) in
     let bracket : get_or c.args.text.now c.loop-at.at 0 ≡ 93 = ap (λ (l : List ℕ). get_or l c.loop-at.at 0) (sym value) ∙ c.in-Ends.ensures.ends in
@@ -94,11 +93,6 @@ range-requires-then-size-gt0-clause-end_boundary g c =
     let lt : at < length text = let l = c.loop-at-test.true in let e = ap length value in omega (arith, l, e) in
     let small = c.in-Some.ensures.line c.if-size-gt0.true in
     IsCharBoundary-after_ascii text at c.utf8.text lt (subst (λ (l : List ℕ). get_or l at 0 < 128) value small)
-
-next_boundary : (bytes text : List ℕ) (at size : ℕ) → bytes ≡ text → IsUtf8 text → IsCharBoundary text at → (IsUtf8 (take (length bytes - at) (drop at bytes)) → IsCharBoundary (take (length bytes - at) (drop at bytes)) size) → IsCharBoundary text (at + size)
-next_boundary bytes text at size same utf8 here within =
-    let rest : take (length bytes - at) (drop at bytes) ≡ drop at text = rest_of bytes at ∙ ap (drop at) same in
-    IsCharBoundary-from_rest text at size here.0 (subst (λ (l : List ℕ). IsCharBoundary l size) rest (within (subst (λ (l : List ℕ). IsUtf8 l) (sym rest) (IsUtf8-drop text at utf8 here))))
 
 pub overflow_add-at-then-size-gt0 : goal.overflow_add-at-then-size-gt0
 overflow_add-at-then-size-gt0 g c =
