@@ -1,12 +1,15 @@
 -- A label read from byte to byte.
-use Rattle.std.proofs.Common.{◌≡◌, ℕ, zero, suc, ◌+◌, ◌-◌, ◌<◌, ◌≤◌, Bool, true, false, ◌&&◌, ◌||◌, not, nat_lt, nat_le, if◌then◌else◌, List, [], ◌∷◌, ◌++◌, length, take, drop, get_or, Option, None, Some, refl, sym, ap, ◌∙◌, arith, append-nil, append_assoc, drop-cons, drop-drop, length-drop}
-use Rattle.std.specs.Prelude.{count_by, fold, option_map, slice_range}
+use Rattle.std.proofs.Common.{◌≡◌, ℕ, zero, suc, ◌+◌, ◌-◌, ◌<◌, ◌≤◌, Bool, true, false, ◌&&◌, ◌||◌, not, nat_lt, nat_le, if◌then◌else◌, List, [], ◌∷◌, ◌++◌, length, take, drop, get_or, Option, None, Some, refl, sym, ap, subst, ◌∙◌, arith, append-nil, append_assoc, drop-cons, drop-drop, length-drop}
+use denote.Ref.{Bor}
+use Rattle.std.specs.Prelude.{Result, Ok, count_by, fold, option_map, slice_range}
 use Rattle.std.proofs.lemmas.Bool.{lt-leb, le-leb}
 use Rattle.std.proofs.lemmas.List.{take_more, get_or-drop}
 use Rattle.cmark_grammar.specs.Letters.{and_then}
 use Rattle.cmark_grammar.specs.LinkDefinitions.{Found, put, up_to_byte, escapes_next, characters, is_white, label_if}
 use Rattle.cmark_grammar.specs.LabelsOverLines.{as_in_cell, label_prefix, up_to_bracket, label_over_lines}
-use Rattle.cmark_scan_parts.specs.Shown.{Part, cut_behind}
+use Rattle.cmark_text.specs.declared.text.CowStr.{CowStr}
+use Rattle.cmark_text.specs.declared.text.CowStr.TheVariants.{Borrowed}
+use Rattle.cmark_scan_parts.specs.Shown.{Part, cut_behind, IsBorrowed}
 use Rattle.cmark_scan_parts.proofs.PartSteps.{puts, puts-more, puts-none, puts-done}
 
 -- some byte is no white space
@@ -141,3 +144,10 @@ label_onward prefix all text at size b e e' read read' reads cut step line is es
     (ap Some (sym (drop-drop size (at + 1) text)) ∙ ap (option_map (λ n. drop n (drop (at + 1) text))) line)
     ∙ ap (λ l. puts l (up_to_bracket prefix (escapes_next e b) 0 (drop (at + 1 + size) text))) (sym is)
     ∙ ap (λ t. puts read' (up_to_bracket prefix t 0 (drop (at + 1 + size) text))) (sym escapes)
+
+-- a text that is borrowed
+pub ok_borrowed : {E : Type 0} (text : CowStr) (last : Bor (List ℕ)) → ◌≡◌ {A = Result CowStr E} (Ok text) (Ok (Borrowed last)) → IsBorrowed text
+ok_borrowed text last is = let e : text ≡ Borrowed last = cc in subst IsBorrowed (sym e) tt
+
+pub ok_same : {E : Type 0} (text one : CowStr) → ◌≡◌ {A = Result CowStr E} (Ok text) (Ok one) → text ≡ one
+ok_same text one is = cc

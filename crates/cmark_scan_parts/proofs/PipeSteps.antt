@@ -157,3 +157,13 @@ push_to_backslashes start end out one rest next front all first behind cut d e =
     ∙ ap (λ l. (out ++ take start rest) ++ with_literal_pipes l) behind
     ∙ append_assoc out (take start rest) (with_literal_pipes (drop end rest))
     ∙ ap (λ l. out ++ l) (sym d.same) ∙ e
+
+-- as many bytes are the same ones
+pub none_left_out : (bs : List ℕ) → length bs ≤ length (with_literal_pipes bs) → with_literal_pipes bs ≡ bs
+none_left_out [] le = refl
+none_left_out (b ∷ bs) le = go (starts piped (b ∷ bs) || starts escaped_pipe (b ∷ bs)) le (shorter bs) (none_left_out bs)
+  where
+    go : (z : Bool) → suc (length bs) ≤ length (if z then with_literal_pipes bs else b ∷ with_literal_pipes bs) → length (with_literal_pipes bs) ≤ length bs → (length bs ≤ length (with_literal_pipes bs) → with_literal_pipes bs ≡ bs)
+        → (if z then with_literal_pipes bs else b ∷ with_literal_pipes bs) ≡ b ∷ bs
+    go true le short ih = absurd (omega arith)
+    go false le short ih = ap (λ l. b ∷ l) (ih (omega arith))

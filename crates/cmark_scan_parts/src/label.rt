@@ -1,12 +1,13 @@
 //! Labels of links behind their opening bracket (CommonMark 4.7).
 
-ghost use Rattle.std.specs.Prelude.{◌≡◌, ◌<◌, ◌≤◌, ◌&&◌, ◌||◌, ◌++◌, true, false, ℕ, List, Option, not, nat_lt, nat_le, IfOk, IfSome, option_map, if◌then◌else◌, string_bytes};
+ghost use Rattle.std.specs.Prelude.{◌≡◌, ◌<◌, ◌≤◌, ◌&&◌, ◌||◌, ◌++◌, [], Ok, true, false, ℕ, length, List, Option, not, nat_lt, nat_le, IfOk, IfSome, option_map, if◌then◌else◌, string_bytes};
 ghost use Rattle.std.specs.Str.{IsUtf8, IsCharBoundary};
 ghost use Rattle.cmark_grammar.specs.LinkDefinitions.{Found, up_to_byte, is_white};
 ghost use Rattle.cmark_grammar.specs.LabelsOverLines.{label_prefix, label_over_lines};
 ghost use Rattle.cmark_text.specs.Shown.{text_bytes};
+ghost use Rattle.cmark_text.specs.declared.text.CowStr.TheVariants.{Borrowed};
 ghost use Rattle.cmark_scan_parts.specs.Handled.{LabelsWithin, ForLabels};
-ghost use Rattle.cmark_scan_parts.specs.Shown.{shown_label, cut_behind};
+ghost use Rattle.cmark_scan_parts.specs.Shown.{shown_label, cut_behind, IsBorrowed, IsWhole};
 ghost use Rattle.cmark_scan_parts.specs.Steps.{read_closed, OnEnds};
 
 use crate::destination::{Step, escapes_next};
@@ -83,10 +84,11 @@ fn prefix_size<H: Fn(&[u8]) -> Option<usize>>(byte: u8, rest: &[u8], handler: &H
 
 /// The stretches that were copied, and the last one behind them; the last one as it stands where none was copied.
 fn joined<'t>(copied: String, last: &'t str) -> Result<CowStr<'t>, AllocError>
-    ensures { IfOk result (λ text. text_bytes text ≡ string_bytes copied ++ last.now) }
+    ensures value { IfOk result (λ text. text_bytes text ≡ string_bytes copied ++ last.now) }
+    ensures kept { string_bytes copied ≡ [] → result ≡ Ok (Borrowed last.entry) }
 {
     if copied.is_empty() {
-        return Ok(CowStr::from(last));
+        return Ok(CowStr::Borrowed(last));
     }
     let mut text = copied;
     text.push_str(last)?;
@@ -103,6 +105,8 @@ fn read_label<'t, H: Fn(&[u8]) -> Option<usize>>(
     requires within { LabelsWithin H.Fn handler.now }
     ensures value { ForLabels H.Fn handler.now (λ prefix. IfOk result (λ found. option_map shown_label found ≡ option_map (cut_behind text.now) (label_over_lines prefix false text.now))) }
     ensures boundary { IfOk result (λ found. IfSome found (λ label. IsCharBoundary text.now label.end)) }
+    ensures short { IfOk result (λ found. IfSome found (λ label. length (text_bytes label.text) < label.end)) }
+    ensures borrowed { IfOk result (λ found. IfSome found (λ label. IsWhole label → IsBorrowed label.text)) }
 {
     let bytes = text.as_bytes();
     let mut copied = String::new(alloc);
@@ -162,6 +166,7 @@ pub fn scan_link_label_rest<'t, H: Fn(&[u8]) -> Option<usize>>(
     requires within { LabelsWithin H.Fn linebreak_handler.now }
     ensures value { ForLabels H.Fn linebreak_handler.now (λ prefix. IfOk result (λ found. option_map shown_label found ≡ option_map (cut_behind text.now) (label_over_lines prefix is_in_table text.now))) }
     ensures boundary { IfOk result (λ found. IfSome found (λ label. IsCharBoundary text.now label.end)) }
+    ensures borrowed { IfOk result (λ found. IfSome found (λ label. IsWhole label → IsBorrowed label.text)) }
 {
     let Some(label) = read_label(alloc, text, linebreak_handler)? else {
         return Ok(None);

@@ -1,4 +1,4 @@
-use Rattle.std.proofs.Common.{◌≡◌, ◌+◌, ◌-◌, ◌<◌, ◌||◌, ◌++◌, ◌∷◌, [], true, false, not, List, ℕ, Some, length, take, drop, get_or, string_bytes, sym, ap, subst, ◌∙◌, arith}
+use Rattle.std.proofs.Common.{◌≡◌, ◌+◌, ◌-◌, ◌<◌, ◌||◌, ◌++◌, ◌∷◌, [], true, false, not, List, ℕ, Some, length, take, drop, get_or, string_bytes, sym, ap, subst, ◌∙◌, arith, length-append}
 use Rattle.std.specs.Prelude.{option_map}
 use Rattle.std.proofs.Math.ListN.{drop_of_length-le}
 use Rattle.std.proofs.lemmas.Str.{IsCharBoundary-start, IsCharBoundary-after_ascii}
@@ -8,7 +8,7 @@ use Rattle.cmark_scan_parts.specs.Shown.{Part}
 use Rattle.cmark_scan_parts.proofs.Lists.{rest_of}
 use Rattle.cmark_scan_parts.proofs.PartSteps.{puts}
 use Rattle.cmark_scan_parts.proofs.Boundaries.{ascii_boundary, next_boundary}
-use Rattle.cmark_scan_parts.proofs.LabelSteps.{has_words, characters_more, words_more, label_fails, label_cut, label_ends, too_long, so_far, so_far-more, so_far-copied, byte-cut, label_onward, no_rest, rest_found}
+use Rattle.cmark_scan_parts.proofs.LabelSteps.{has_words, characters_more, words_more, label_fails, label_cut, label_ends, too_long, so_far, so_far-more, so_far-copied, byte-cut, label_onward, no_rest, rest_found, ok_borrowed}
 use Rattle.cmark_scan_parts.proofs.label.read_label.Goals as goal
 
 pub loop-at-init : goal.loop-at-init
@@ -21,6 +21,8 @@ loop-at-init g c =
       few = omega arith;
       ordered = omega arith;
       within = omega arith;
+      short = let n = ap length none in let l = length-append (string_bytes c.new-copied.result) [] in omega arith;
+      kept = λ same. none;
       whole = IsCharBoundary-start c.args.text.now c.utf8.text;
     }
 
@@ -47,7 +49,7 @@ returns-in-Ends-clause-value g c = λ prefix answers.
     let lt : at < length text = let l = c.loop-at-test.true in let e = ap length c.as_bytes-bytes.ensures.value in omega (arith, l, e) in
     let cut = byte-cut c.as_bytes-bytes.result.now text at c.as_bytes-bytes.ensures.value lt in
     let read : List ℕ = so_far (string_bytes c.loop-at.copied) text c.loop-at.mark at in
-    ap (λ bytes. let part : Part = record { end = at + 1; bytes = bytes } in Some part) (c.in_ok-joined-in-Ends.ensures ∙ ap (λ (l : List ℕ). string_bytes c.loop-at.copied ++ l) c.range.ensures.value)
+    ap (λ bytes. let part : Part = record { end = at + 1; bytes = bytes } in Some part) (c.in_ok-joined-in-Ends.ensures.value ∙ ap (λ (l : List ℕ). string_bytes c.loop-at.copied ++ l) c.range.ensures.value)
     ∙ rest_found prefix text read at lt
     (label_ends _ _ read (drop (at + 1) text) c.loop-at.count c.loop-at.has_words true (inv.reads prefix answers)
     (ap (up_to_bracket prefix c.loop-at.escaped 0) cut ∙ c.in-Ends.ensures.value (drop (at + 1) text) _) inv.counts inv.words c.if-not-is_label.ensures)
@@ -58,6 +60,18 @@ returns-in-Ends-clause-boundary g c =
     let lt : c.loop-at.at < length c.args.text.now = let l = c.loop-at-test.true in let e = ap length value in omega (arith, l, e) in
     let bracket : get_or c.args.text.now c.loop-at.at 0 ≡ 93 = ap (λ (l : List ℕ). get_or l c.loop-at.at 0) (sym value) ∙ c.in-Ends.ensures.ends in
     IsCharBoundary-after_ascii c.args.text.now c.loop-at.at c.utf8.text lt (omega (arith, bracket))
+
+pub returns-in-Ends-clause-short : goal.returns-in-Ends-clause-short
+returns-in-Ends-clause-short g c =
+    let read = ap length (c.in_ok-joined-in-Ends.ensures.value ∙ ap (λ (l : List ℕ). string_bytes c.loop-at.copied ++ l) c.range.ensures.value) in
+    let short = c.loop-at.invariant.short in
+    omega (arith, read, short)
+
+pub returns-in-Ends-clause-borrowed : goal.returns-in-Ends-clause-borrowed
+returns-in-Ends-clause-borrowed g c whole =
+    let read = ap length (c.in_ok-joined-in-Ends.ensures.value ∙ ap (λ (l : List ℕ). string_bytes c.loop-at.copied ++ l) c.range.ensures.value) in
+    let none = c.loop-at.invariant.kept (omega (arith, read, whole)) in
+    ok_borrowed _ _ (c.in_ok-joined-in-Ends.ensures.kept none)
 
 pub returns-in-Fails-clause-value : goal.returns-in-Fails-clause-value
 returns-in-Fails-clause-value g c = λ prefix answers.
@@ -135,6 +149,8 @@ loop-at-preserved-then-size-gt0 g c =
       few = let s = c.begun.ensures.small in let f = c.if-count-gt999.false in omega (arith, s, f);
       ordered = omega arith;
       within = next.0;
+      short = let n = ap length is in let l = length-append read (byte ∷ []) in let s = inv.short in omega (arith, n, l, s);
+      kept = λ same. let n = ap length is in let l = length-append read (byte ∷ []) in let s = inv.short in let z = c.if-size-gt0.true in absurd (omega (arith, n, l, s, z, same));
       whole = next;
     }
 
@@ -164,6 +180,8 @@ loop-at-preserved g c =
       few = let s = c.begun.ensures.small in let f = c.if-count-gt999.false in omega (arith, s, f);
       ordered = let o = inv.ordered in omega (arith, o);
       within = omega (arith, lt);
+      short = let n = ap length is in let l = length-append read (byte ∷ []) in let s = inv.short in omega (arith, n, l, s);
+      kept = λ same. inv.kept (let n = ap length is in let l = length-append read (byte ∷ []) in omega (arith, n, l, same));
       whole = inv.whole;
     }
 
