@@ -9,4 +9,5 @@ pub mod OwnedSteps
 pub mod PartSteps
 pub mod PipeSteps
 pub mod TagSteps
+pub mod TagTexts
 pub mod Unescaping

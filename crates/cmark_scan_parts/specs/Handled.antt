@@ -4,6 +4,10 @@ use Rattle.std.specs.Fn.{Shared}
 use Rattle.std.specs.Str.{IsUtf8, IsCharBoundary}
 use denote.Ref.{Bor}
 
+-- such an answer cuts no character
+abbrev pub CutsNoCharacter : (prefix : List ℕ → ℕ) → Type 0
+CutsNoCharacter prefix = (bs : List ℕ) → IsUtf8 bs → IsCharBoundary bs (prefix bs)
+
 module _ {H : Type 0} (f : Shared H (Bor (List ℕ) × Unit {0}) ℕ) (handler : H) where
   -- no more than there are
   abbrev pub AnswersWithin : Type 0

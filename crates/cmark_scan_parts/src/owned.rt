@@ -5,7 +5,7 @@ ghost use Rattle.std.specs.Str.{IsUtf8, IsCharBoundary};
 ghost use Rattle.cmark_grammar.specs.Lines.{ends_line};
 ghost use Rattle.cmark_grammar.specs.InlineHtml.{takes_lines, without_prefixes, owned_tag, owned_tag_in};
 ghost use Rattle.cmark_grammar.specs.Tags.{prefix_behind};
-ghost use Rattle.cmark_scan_parts.specs.Handled.{AnswersWithin, ForAnswers};
+ghost use Rattle.cmark_scan_parts.specs.Handled.{AnswersWithin, ForAnswers, CutsNoCharacter};
 ghost use Rattle.cmark_scan_parts.specs.Shown.{shown_tag};
 
 use crate::tag::{behind_tag, without_prefix};
@@ -108,6 +108,7 @@ pub fn scan_html_block_inner<H: Fn(&[u8]) -> usize>(
     ensures value { ForAnswers H.Fn newline_handler.now (λ prefix. IfOk result (λ found. option_map shown_tag found ≡ owned_tag_in prefix bytes.now)) }
     ensures within { IfOk result (λ found. IfSome found (λ tag. tag.end ≤ length bytes.now)) }
     ensures boundary { IsUtf8 bytes.now → ForAnswers H.Fn newline_handler.now (λ prefix. IfOk result (λ found. IfSome found (λ tag. IsCharBoundary bytes.now tag.end))) }
+    ensures utf8 { IsUtf8 bytes.now → ForAnswers H.Fn newline_handler.now (λ prefix. CutsNoCharacter prefix → IfOk result (λ found. IfSome found (λ tag. IsUtf8 tag.buffer.items))) }
 {
     let Some(rest) = behind_tag(bytes, newline_handler) else {
         return Ok(None);
