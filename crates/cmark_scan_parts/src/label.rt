@@ -154,8 +154,9 @@ fn read_label<'t, H: Fn(&[u8]) -> Option<usize>>(
 /// `\\|` stand for `|` in it (GFM 4.10).
 ///
 /// `linebreak_handler` is asked about the bytes behind each line ending in the label, and answers how many of them are
-/// prefixes of containers, or `None` where the label ends there; it answers the same each time it is asked about the same
-/// bytes. No more than 1000 characters are read. Where nothing is left out, the text is borrowed; memory is taken for others.
+/// prefixes of containers, whole characters, or `None` where the label ends there; it answers the same each
+/// time it is asked about the same bytes. No more than 1000 characters are read. Where nothing is left out, the text is
+/// borrowed; memory is taken for others.
 pub fn scan_link_label_rest<'t, H: Fn(&[u8]) -> Option<usize>>(
     alloc: Global,
     text: &'t str,

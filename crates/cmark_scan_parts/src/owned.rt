@@ -97,7 +97,8 @@ fn own_text<H: Fn(&[u8]) -> usize>(
 
 /// The open or closing tag in front, if one stands there (CommonMark 6.6). White space in it has at most one line ending.
 /// `newline_handler` is asked about the bytes behind each line ending in the tag, and answers how many of them are prefixes
-/// of containers; it answers the same each time it is asked about the same bytes.
+/// of containers; it answers the same each time it is asked about the same bytes. Where the bytes are UTF-8, `end` is a
+/// character boundary, and where the answers cut no character either, `buffer` is UTF-8.
 pub fn scan_html_block_inner<H: Fn(&[u8]) -> usize>(
     alloc: Global,
     bytes: &[u8],
