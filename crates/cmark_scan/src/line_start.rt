@@ -31,7 +31,7 @@ pub struct LineStart<'a> {
 }
 
 impl<'a> LineStart<'a> {
-    ghost use Rattle.std.specs.Prelude.{ℕ, ◌≢◌, ◌&&◌, IsTrue, nat_le, min, true, false, drop, slice_index, MatchOption};
+    ghost use Rattle.std.specs.Prelude.{ℕ, ◌≢◌, ◌==◌, ◌&&◌, IsTrue, not, nat_lt, nat_le, min, true, false, drop, slice_index, MatchOption};
     ghost use Rattle.cmark_grammar.specs.Columns.{indent, tab, bytes_of};
     ghost use Rattle.cmark_grammar.specs.Containers.{begins_with};
     ghost use Rattle.cmark_grammar.specs.Rows.{without, indent_of, words_of, is_bare, begin_of};
@@ -84,7 +84,8 @@ impl<'a> LineStart<'a> {
     /// Whether a byte still to come is known, by an earlier search, that stops a thematic break of this mark.
     #[inline]
     fn has_stop(&self, mark: u8) -> bool
-        ensures { IsTrue result → is_break_of mark (drop self.now.taken self.now.bytes.now) ≡ false }
+        ensures known { result ≡ (nat_le self.now.taken self.now.break_stop && (nat_lt self.now.break_stop (length self.now.bytes.now) && not (slice_index self.now.bytes.now self.now.break_stop == mark))) }
+        ensures none { IsTrue result → is_break_of mark (drop self.now.taken self.now.bytes.now) ≡ false }
     {
         self.taken <= self.break_stop
             && self.break_stop < self.bytes.len()

@@ -9,8 +9,8 @@ off : (z : Bool) → IsTrue (not z) → z ≡ false
 off true h = absurd (true≢false (sym h))
 off false h = refl
 
-pub returns-then-self-2 : goal.returns-then-self-2
-returns-then-self-2 c other =
+pub returns-then-self-2-clause-none : goal.returns-then-self-2-clause-none
+returns-then-self-2-clause-none c other =
     let line = c.args.self.now in
     let no_mark = off (nat_eq (slice_index_or line.bytes.now line.break_stop 0) c.args.mark) other in
     elim c.if-self.branch [

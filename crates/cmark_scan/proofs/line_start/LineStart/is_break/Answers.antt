@@ -20,7 +20,7 @@ returns-then-not-is_break_mark-clause-found c =
     let here = break-here line.bytes.now line.taken mark c.in-Some.ensures.0 c.in-Some.ensures.1 c.requires in
     elim c.then-not-is_break_mark.branch [
       | then-not-is_break_mark-via-then-not-is_break_mark w ↦ ap (λ t. t && is_break_of mark (drop line.taken line.bytes.now)) w.if-not-is_break_mark.ensures ∙ here
-      | then-not-is_break_mark-via-else-not-is_break_mark+then-has_stop w ↦ sym (never (is_break_mark mark)) ∙ ap (λ t. is_break_mark mark && t) (sym (w.has_stop.ensures w.if-has_stop.true)) ∙ here
+      | then-not-is_break_mark-via-else-not-is_break_mark+then-has_stop w ↦ sym (never (is_break_mark mark)) ∙ ap (λ t. is_break_mark mark && t) (sym (w.has_stop.ensures.none w.if-has_stop.true)) ∙ here
     ]
 
 pub returns-in_default-break_stop-clause-found : goal.returns-in_default-break_stop-clause-found
