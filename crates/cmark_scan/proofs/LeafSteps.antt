@@ -1,5 +1,5 @@
 -- Thematic breaks and fences, as they are looked for.
-use Rattle.std.proofs.Common.{◌≡◌, ◌≢◌, ℕ, zero, suc, ◌+◌, ◌-◌, ◌<◌, ◌≤◌, Bool, true, false, cond, ◌==◌, ◌&&◌, ◌||◌, nat_le, List, [], ◌∷◌, length, take, drop, get_or, Option, Some, None, refl, sym, ap, ◌∙◌, arith, eqb-true, eq-eqb, ne_eqb, true≢false, not, length-drop}
+use Rattle.std.proofs.Common.{◌≡◌, ◌≢◌, ℕ, zero, suc, ◌+◌, ◌-◌, ◌<◌, ◌≤◌, Bool, true, false, cond, ◌==◌, ◌&&◌, ◌||◌, nat_le, nat_lt, List, [], ◌∷◌, length, take, drop, get_or, Option, Some, None, refl, sym, ap, ◌∙◌, arith, eqb-true, eq-eqb, ne_eqb, true≢false, not, length-drop}
 use Rattle.std.specs.Prelude.{count_by, is_some, if◌then◌else◌, slice_range}
 use Rattle.std.proofs.lemmas.Bool.{le-leb}
 use Rattle.std.proofs.lemmas.List.{drop-drop, get_or-drop}
@@ -10,6 +10,7 @@ use Rattle.std.proofs.lemmas.List.Sums.{sum_by-cons}
 use Rattle.memchr.specs.Find.{IsFirstByte, is_byte}
 use Rattle.cmark_grammar.specs.Columns.{is_blank_byte, put_before, drop_end}
 use Rattle.cmark_grammar.specs.Leaves.{all_pass, run, trimmed, fence_with, is_break_of, is_thematic_break}
+use Rattle.cmark_text.proofs.Escaping.{all_kept-position}
 use Rattle.cmark_scan.specs.LeafLines.{is_break_mark, stops_break, long_fence, backtick_fence}
 
 pub all_pass-each : (p : ℕ → Bool) (bs : List ℕ) → ((k : ℕ) → k < length bs → p (get_or bs k 0) ≡ true) → all_pass p bs ≡ true
@@ -200,3 +201,21 @@ break-here bs taken mark lt is no_blank =
     first : (cs : List ℕ) → 0 < length cs → mark ≡ get_or cs 0 0 → is_blank_byte (get_or cs 0 0) ≡ false → (is_break_mark mark && is_break_of mark cs) ≡ is_thematic_break cs
     first [] some is no_blank = absurd (omega arith)
     first (c ∷ cs) some is no_blank = ap (λ m. is_break_mark m && is_break_of m (c ∷ cs)) is ∙ break-first c cs no_blank
+
+-- where none stands, all bytes are the mark or blanks
+pub no-stop : (mark : ℕ) (bs : List ℕ) → None ≡ position (stops_break mark) bs → all_pass (λ c. (c == mark) || is_blank_byte c) bs ≡ true
+no-stop mark bs is = all_pass-each (λ c. (c == mark) || is_blank_byte c) bs (λ k lt. on _ (all_kept-position (stops_break mark) bs None is refl k lt))
+  where
+    on : (z : Bool) → not z ≡ false → z ≡ true
+    on true e = refl
+    on false e = absurd (true≢false e)
+
+-- and one that was found is known from then on
+pub stop-learned : (bs : List ℕ) (taken size mark : ℕ) → size < length (drop taken bs) → (get_or (drop taken bs) size 0 == mark) ≡ false → (nat_le taken (taken + size) && (nat_lt (taken + size) (length bs) && not (get_or bs (taken + size) 0 == mark))) ≡ true
+stop-learned bs taken size mark lt other =
+    ap (λ t. t && (nat_lt (taken + size) (length bs) && not (get_or bs (taken + size) 0 == mark))) (le-leb taken (taken + size) (omega arith))
+    ∙ ap (λ t. t && not (get_or bs (taken + size) 0 == mark)) (le-leb (suc (taken + size)) (length bs) (let l = length-drop taken bs in omega arith))
+    ∙ ap not (ap (λ b. b == mark) (sym (get_or-drop taken bs size 0)) ∙ other)
+
+pub mark-here : (bs : List ℕ) (taken b mark : ℕ) → b ≡ get_or bs taken 0 → get_or (drop taken bs) 0 0 ≡ mark → b ≡ mark
+mark-here bs taken b mark is e = is ∙ ap (λ n. get_or bs n 0) (let s : taken ≡ taken + 0 = omega arith in s) ∙ sym (get_or-drop taken bs 0 0) ∙ e

@@ -31,13 +31,14 @@ pub struct LineStart<'a> {
 }
 
 impl<'a> LineStart<'a> {
-    ghost use Rattle.std.specs.Prelude.{ℕ, ◌≢◌, ◌==◌, ◌&&◌, IsTrue, not, nat_lt, nat_le, min, true, false, drop, slice_index, MatchOption};
+    ghost use Rattle.std.specs.Prelude.{ℕ, ◌≢◌, ◌==◌, ◌&&◌, ◌||◌, IsTrue, nat_le, min, true, false, drop, slice_index, MatchOption};
     ghost use Rattle.cmark_grammar.specs.Columns.{indent, tab, bytes_of};
     ghost use Rattle.cmark_grammar.specs.Containers.{begins_with};
     ghost use Rattle.cmark_grammar.specs.Rows.{without, indent_of, words_of, is_bare, begin_of};
-    ghost use Rattle.cmark_grammar.specs.Leaves.{is_parted, is_break_of, is_thematic_break};
+    ghost use Rattle.cmark_grammar.specs.Leaves.{all_pass, is_parted, is_break_of, is_thematic_break};
     ghost use Rattle.cmark_scan.specs.LineMarkers.{is_flush};
-    ghost use Rattle.cmark_scan.specs.LineStart.{columns_taken, columns_from, row_from, line_of, cut_columns};
+    ghost use Rattle.cmark_scan.specs.LeafLines.{is_break_mark};
+    ghost use Rattle.cmark_scan.specs.LineStart.{columns_taken, columns_from, row_from, line_of, cut_columns, knows_stop};
 
     /// The line that the bytes begin with, of which nothing was taken: the bytes up to the first LF or CR, or all.
     #[inline]
@@ -84,7 +85,7 @@ impl<'a> LineStart<'a> {
     /// Whether a byte still to come is known, by an earlier search, that stops a thematic break of this mark.
     #[inline]
     fn has_stop(&self, mark: u8) -> bool
-        ensures known { result ≡ (nat_le self.now.taken self.now.break_stop && (nat_lt self.now.break_stop (length self.now.bytes.now) && not (slice_index self.now.bytes.now self.now.break_stop == mark))) }
+        ensures known { result ≡ knows_stop mark self.now }
         ensures none { IsTrue result → is_break_of mark (drop self.now.taken self.now.bytes.now) ≡ false }
     {
         self.taken <= self.break_stop
@@ -100,6 +101,7 @@ impl<'a> LineStart<'a> {
     fn is_break(&mut self) -> bool
         requires { is_blank_byte (slice_index (drop self.old.taken self.old.bytes.now) 0) ≡ false }
         ensures found { result ≡ is_thematic_break (drop self.old.taken self.old.bytes.now) }
+        ensures learns { (mark : ℕ) → slice_index (drop self.old.taken self.old.bytes.now) 0 ≡ mark → is_break_mark mark ≡ true → all_pass (λ b. (b == mark) || is_blank_byte b) (drop self.old.taken self.old.bytes.now) ≡ false → knows_stop mark self.new ≡ true }
         ensures stays { IsTrue result → self.new ≡ self.old }
         ensures rest { (at past : ℕ) → row_from at past self.new ≡ row_from at past self.old }
         ensures line { self.new.bytes ≡ self.old.bytes }
