@@ -1,8 +1,21 @@
--- The labels of links on lines with prefixes (CommonMark 4.7 and 6.3).
-use Rattle.std.specs.Prelude.{ℕ, zero, suc, Bool, true, false, if◌then◌else◌, List, [], ◌∷◌, Option, Some, None}
-use Rattle.cmark_grammar.specs.Letters.{and_then}
+-- The labels of links on lines with prefixes (CommonMark 4.7 and 6.3), and in cells of tables (GFM 4.10).
+use Rattle.std.specs.Prelude.{ℕ, zero, suc, Bool, true, false, ◌||◌, if◌then◌else◌, List, [], ◌∷◌, Option, Some, None, option_map}
+use Rattle.cmark_grammar.specs.Letters.{and_then, starts}
 use Rattle.cmark_grammar.specs.Lines.{ends_line}
+use Rattle.cmark_grammar.specs.Unescaped.{escaped_pipe}
 use Rattle.cmark_grammar.specs.LinkDefinitions.{Found, up_to_byte, escapes_next, label_if}
+
+-- a backslash and a pipe, which are a literal pipe in a table (GFM 4.10)
+abbrev pub piped : List ℕ
+piped = 92 ∷ 124 ∷ []
+
+-- without the backslash of each `\|`, and without both of each `\\|`
+abbrev pub with_literal_pipes : List ℕ → List ℕ
+with_literal_pipes [] = []
+with_literal_pipes (b ∷ bs) = if starts piped (b ∷ bs) || starts escaped_pipe (b ∷ bs) then with_literal_pipes bs else b ∷ with_literal_pipes bs
+
+abbrev pub as_in_cell : (is_in_table : Bool) → Found → Found
+as_in_cell is_in_table found = if is_in_table then record { bytes = with_literal_pipes found.bytes; behind = found.behind } else found
 
 module _ (prefix : List ℕ → Option ℕ) where
   -- how many bytes of prefixes stand behind this byte; none where the label ends there
@@ -15,6 +28,7 @@ module _ (prefix : List ℕ → Option ℕ) where
   up_to_bracket escaped (suc skip) (b ∷ bs) = up_to_bracket escaped skip bs
   up_to_bracket escaped zero (b ∷ bs) = up_to_byte escaped 93 91 true b bs (and_then (label_prefix b bs) (λ n. up_to_bracket (escapes_next escaped b) n bs))
 
-  -- a label behind its opening bracket, without prefixes, and the bytes behind its closing one
-  abbrev pub label_over_lines : List ℕ → Option Found
-  label_over_lines bs = label_if (up_to_bracket false 0 bs)
+  -- a label behind its opening bracket, without prefixes, and the bytes behind its closing one; what counts as a label's
+  -- characters are those written, also in a table
+  abbrev pub label_over_lines : (is_in_table : Bool) → List ℕ → Option Found
+  label_over_lines is_in_table bs = option_map (as_in_cell is_in_table) (label_if (up_to_bracket false 0 bs))

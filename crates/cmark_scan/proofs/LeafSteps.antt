@@ -1,15 +1,17 @@
 -- Thematic breaks and fences, as they are looked for.
-use Rattle.std.proofs.Common.{◌≡◌, ◌≢◌, ℕ, zero, suc, ◌+◌, ◌-◌, ◌<◌, ◌≤◌, Bool, true, false, cond, ◌==◌, ◌&&◌, ◌||◌, nat_le, List, [], ◌∷◌, length, take, drop, get_or, Option, Some, None, refl, sym, ap, ◌∙◌, arith, eqb-true, eq-eqb, ne_eqb, true≢false}
+use Rattle.std.proofs.Common.{◌≡◌, ◌≢◌, ℕ, zero, suc, ◌+◌, ◌-◌, ◌<◌, ◌≤◌, Bool, true, false, cond, ◌==◌, ◌&&◌, ◌||◌, nat_le, nat_lt, List, [], ◌∷◌, length, take, drop, get_or, Option, Some, None, refl, sym, ap, ◌∙◌, arith, eqb-true, eq-eqb, ne_eqb, true≢false, not, length-drop}
 use Rattle.std.specs.Prelude.{count_by, is_some, if◌then◌else◌, slice_range}
 use Rattle.std.proofs.lemmas.Bool.{le-leb}
-use Rattle.std.proofs.lemmas.List.{drop-drop}
+use Rattle.std.proofs.lemmas.List.{drop-drop, get_or-drop}
+use Rattle.std.proofs.lemmas.List.Quantifiers.{position-Some}
 use Rattle.std.proofs.lemmas.List.Folds.{length-prefix_len}
-use Rattle.std.specs.List.{prefix_len}
+use Rattle.std.specs.List.{prefix_len, position}
 use Rattle.std.proofs.lemmas.List.Sums.{sum_by-cons}
 use Rattle.memchr.specs.Find.{IsFirstByte, is_byte}
 use Rattle.cmark_grammar.specs.Columns.{is_blank_byte, put_before, drop_end}
 use Rattle.cmark_grammar.specs.Leaves.{all_pass, run, trimmed, fence_with, is_break_of, is_thematic_break}
-use Rattle.cmark_scan.specs.LeafLines.{is_break_mark, long_fence, backtick_fence}
+use Rattle.cmark_text.proofs.Escaping.{all_kept-position}
+use Rattle.cmark_scan.specs.LeafLines.{is_break_mark, stops_break, long_fence, backtick_fence}
 
 pub all_pass-each : (p : ℕ → Bool) (bs : List ℕ) → ((k : ℕ) → k < length bs → p (get_or bs k 0) ≡ true) → all_pass p bs ≡ true
 all_pass-each p [] each = refl
@@ -172,3 +174,48 @@ backticks-found indent bs size cs found is rest first none =
     and-true : (z : Bool) → z ≡ (z && true)
     and-true true = refl
     and-true false = refl
+
+-- a byte that is neither a break's nor a blank stops it
+pub stop-known : (mark : ℕ) (bs : List ℕ) (taken stop : ℕ) → taken ≤ stop → stop < length bs → (get_or bs stop 0 == mark) ≡ false → is_blank_byte (get_or bs stop 0) ≡ false → is_break_of mark (drop taken bs) ≡ false
+stop-known mark bs taken stop le lt other no_blank =
+    let at : get_or (drop taken bs) (stop - taken) 0 ≡ get_or bs stop 0 = get_or-drop taken bs (stop - taken) 0 ∙ ap (λ n. get_or bs n 0) (let e : taken + (stop - taken) ≡ stop = omega arith in e) in
+    sym (break-fails mark (drop taken bs) (stop - taken) (let l = length-drop taken bs in omega arith)
+    (ap (λ t. t || is_blank_byte (get_or (drop taken bs) (stop - taken) 0)) (ap (λ b. b == mark) at ∙ other) ∙ ap is_blank_byte at ∙ no_blank))
+
+pub stop-found : (mark : ℕ) (bs : List ℕ) (n : ℕ) → Some n ≡ position (stops_break mark) bs → (n < length bs) × (is_blank_byte (get_or bs n 0) ≡ false) × ((get_or bs n 0 == mark) ≡ false)
+stop-found mark bs n is =
+    let found = position-Some (stops_break mark) bs n 0 (sym is) in
+    let apart = neither (get_or bs n 0 == mark) (is_blank_byte (get_or bs n 0)) found.1 in
+    (found.0, apart.1, apart.0)
+  where
+    neither : (x y : Bool) → not (x || y) ≡ true → (x ≡ false) × (y ≡ false)
+    neither true y e = absurd (true≢false (sym e))
+    neither false true e = absurd (true≢false (sym e))
+    neither false false e = (refl, refl)
+
+-- behind some bytes, where no blank stands in front
+pub break-here : (bs : List ℕ) (taken mark : ℕ) → taken < length bs → mark ≡ get_or bs taken 0 → is_blank_byte (get_or (drop taken bs) 0 0) ≡ false → (is_break_mark mark && is_break_of mark (drop taken bs)) ≡ is_thematic_break (drop taken bs)
+break-here bs taken mark lt is no_blank =
+    first (drop taken bs) (let l = length-drop taken bs in omega arith) (is ∙ sym (get_or-drop taken bs 0 0 ∙ ap (λ n. get_or bs n 0) (let e : taken + 0 ≡ taken = omega arith in e))) no_blank
+  where
+    first : (cs : List ℕ) → 0 < length cs → mark ≡ get_or cs 0 0 → is_blank_byte (get_or cs 0 0) ≡ false → (is_break_mark mark && is_break_of mark cs) ≡ is_thematic_break cs
+    first [] some is no_blank = absurd (omega arith)
+    first (c ∷ cs) some is no_blank = ap (λ m. is_break_mark m && is_break_of m (c ∷ cs)) is ∙ break-first c cs no_blank
+
+-- where none stands, all bytes are the mark or blanks
+pub no-stop : (mark : ℕ) (bs : List ℕ) → None ≡ position (stops_break mark) bs → all_pass (λ c. (c == mark) || is_blank_byte c) bs ≡ true
+no-stop mark bs is = all_pass-each (λ c. (c == mark) || is_blank_byte c) bs (λ k lt. on _ (all_kept-position (stops_break mark) bs None is refl k lt))
+  where
+    on : (z : Bool) → not z ≡ false → z ≡ true
+    on true e = refl
+    on false e = absurd (true≢false e)
+
+-- and one that was found is known from then on
+pub stop-learned : (bs : List ℕ) (taken size mark : ℕ) → size < length (drop taken bs) → (get_or (drop taken bs) size 0 == mark) ≡ false → (nat_le taken (taken + size) && (nat_lt (taken + size) (length bs) && not (get_or bs (taken + size) 0 == mark))) ≡ true
+stop-learned bs taken size mark lt other =
+    ap (λ t. t && (nat_lt (taken + size) (length bs) && not (get_or bs (taken + size) 0 == mark))) (le-leb taken (taken + size) (omega arith))
+    ∙ ap (λ t. t && not (get_or bs (taken + size) 0 == mark)) (le-leb (suc (taken + size)) (length bs) (let l = length-drop taken bs in omega arith))
+    ∙ ap not (ap (λ b. b == mark) (sym (get_or-drop taken bs size 0)) ∙ other)
+
+pub mark-here : (bs : List ℕ) (taken b mark : ℕ) → b ≡ get_or bs taken 0 → get_or (drop taken bs) 0 0 ≡ mark → b ≡ mark
+mark-here bs taken b mark is e = is ∙ ap (λ n. get_or bs n 0) (let s : taken ≡ taken + 0 = omega arith in s) ∙ sym (get_or-drop taken bs 0 0) ∙ e

@@ -1,5 +1,5 @@
 -- The bytes that are left of a line.
-use Rattle.std.proofs.Common.{◌≡◌, ℕ, zero, suc, ◌+◌, ◌-◌, ◌<◌, ◌≤◌, List, ◌++◌, length, take, drop, sym, ap, ◌∙◌, refl, arith, ne_eqb, if◌then◌else◌, ◌∷◌}
+use Rattle.std.proofs.Common.{◌≡◌, ℕ, zero, suc, ◌+◌, ◌-◌, ◌<◌, ◌≤◌, List, ◌++◌, length, take, drop, ap, ◌∙◌, refl, arith, ne_eqb, if◌then◌else◌, ◌∷◌}
 use Rattle.cmark_grammar.specs.Columns.{Column, tab_columns, bytes_of}
 use Rattle.cmark_scan.specs.Places.{column_behind}
 use Rattle.cmark_grammar.proofs.ColumnSteps.{bytes_of-expand}

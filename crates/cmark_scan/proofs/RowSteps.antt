@@ -14,7 +14,7 @@ use Rattle.cmark_grammar.specs.Alerts.{alert_of}
 use Rattle.cmark_grammar.specs.TaskMarkers.{task_of}
 use Rattle.cmark_grammar.proofs.ColumnSteps.{drop-prefix}
 use Rattle.cmark_scan.specs.LineMarkers.{is_flush, flush, begins_quote, behind_quote, item_in, entered, definition_in, behind_definition}
-use Rattle.cmark_scan.specs.Markers.{begun}
+use Rattle.cmark_scan.specs.Markers.{parted, begun}
 
 blank_cases : (b : ℕ) → is_blank_byte b ≡ true → (b ≡ 32) ⊎ (b ≡ 9)
 blank_cases b e = go (b == 32) refl e
@@ -43,6 +43,54 @@ begun_in bs = begun (marker_of bs) bs
 
 pub marker-none : (bs : List ℕ) → is_parted bs ≡ true → begun_in bs ≡ None
 marker-none = parted_none begun_in refl (λ bs. refl) (λ bs. refl)
+
+-- no marker begins an item where a thematic break stands
+pub begun-break : (bs : List ℕ) → true ≡ is_thematic_break bs → None ≡ begun_in bs
+begun-break bs e = go (marker_of bs)
+  where
+    go : (o : Option Marker) → None ≡ begun o bs
+    go None = refl
+    go (Some m) = sym (ap (λ t. if is_parted (drop m.size bs) && not t then Some m else None) (sym e) ∙ off (is_parted (drop m.size bs)))
+      where
+        off : (z : Bool) → (if z && false then Some m else None) ≡ None
+        off true = refl
+        off false = refl
+
+pub begun-parted : (bs : List ℕ) → false ≡ is_thematic_break bs → parted (marker_of bs) bs ≡ begun_in bs
+begun-parted bs e = go (marker_of bs)
+  where
+    go : (o : Option Marker) → parted o bs ≡ begun o bs
+    go None = refl
+    go (Some m) = on (is_parted (drop m.size bs)) ∙ ap (λ t. if is_parted (drop m.size bs) && not t then Some m else None) e
+      where
+        on : (z : Bool) → (if z then Some m else None) ≡ (if z && true then Some m else None)
+        on true = refl
+        on false = refl
+
+pub begun-none : (bs : List ℕ) → None ≡ parted (marker_of bs) bs → None ≡ begun_in bs
+begun-none bs e = go (marker_of bs) e
+  where
+    go : (o : Option Marker) → None ≡ parted o bs → None ≡ begun o bs
+    go None e = refl
+    go (Some m) e = test (is_parted (drop m.size bs)) e
+      where
+        test : (z : Bool) → None ≡ (if z then Some m else None) → None ≡ (if z && not (is_thematic_break bs) then Some m else None)
+        test true e = cc
+        test false e = refl
+
+-- a marker has a byte
+pub marker-some : (bs : List ℕ) (m : Marker) → Some m ≡ parted (marker_of bs) bs → 0 < length bs
+marker-some [] m e = let q : Some m ≡ None = e in absurd (cc)
+marker-some (b ∷ bs) m e = omega arith
+
+-- no marker begins with a blank
+pub marker-front : (bs : List ℕ) (m : Marker) → Some m ≡ parted (marker_of bs) bs → is_blank_byte (get_or bs 0 0) ≡ false
+marker-front [] m e = refl
+marker-front (b ∷ bs) m e = go (is_blank_byte b) refl
+  where
+    go : (z : Bool) → is_blank_byte b ≡ z → z ≡ false
+    go true f = let none = parted_none (λ cs. parted (marker_of cs) cs) refl (λ cs. refl) (λ cs. refl) (b ∷ bs) f in let q : Some m ≡ None = e ∙ none in absurd (cc)
+    go false f = refl
 
 -- the item that a marker in front begins
 abbrev pub item_at : Row → Marker → Container

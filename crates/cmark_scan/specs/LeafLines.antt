@@ -1,5 +1,5 @@
 -- Lines of leaf blocks as the scanners find them.
-use Rattle.std.specs.Prelude.{◌≡◌, ℕ, ◌+◌, Bool, ◌==◌, ◌&&◌, ◌||◌, nat_lt, nat_le, if◌then◌else◌, List, length, drop, slice_range, count_by, Option, Some, None}
+use Rattle.std.specs.Prelude.{◌≡◌, ℕ, ◌+◌, Bool, ◌==◌, ◌&&◌, ◌||◌, not, nat_lt, nat_le, if◌then◌else◌, List, length, drop, slice_range, count_by, Option, Some, None}
 use Rattle.std.specs.List.{prefix_len}
 use Rattle.cmark_grammar.specs.Columns.{is_blank_byte}
 use Rattle.cmark_grammar.specs.Leaves.{Fence, are_blank, run, trimmed, is_atx_heading, fence_with}
@@ -8,6 +8,10 @@ use Rattle.cmark_scan.specs.declared.leaf.CodeFence.{CodeFence}
 -- `*`, `-` and `_`
 abbrev pub is_break_mark : ℕ → Bool
 is_break_mark b = (b == 42) || ((b == 45) || (b == 95))
+
+-- neither this byte nor a blank, so that no thematic break of it goes on here
+abbrev pub stops_break : (mark : ℕ) → ℕ → Bool
+stops_break mark b = not ((b == mark) || is_blank_byte b)
 
 -- the level that so many `#` open, if they open a heading
 abbrev pub level_at : ℕ → Option ℕ

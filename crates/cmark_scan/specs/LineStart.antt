@@ -1,5 +1,5 @@
 -- What is left of a line, seen as the row of the grammar that it is.
-use Rattle.std.specs.Prelude.{ℕ, suc, ◌+◌, ◌-◌, ◌==◌, false, if◌then◌else◌, List, [], ◌∷◌, length, drop, take}
+use Rattle.std.specs.Prelude.{ℕ, suc, ◌+◌, ◌-◌, Bool, ◌==◌, ◌&&◌, not, nat_le, nat_lt, slice_index, false, if◌then◌else◌, List, [], ◌∷◌, length, drop, take}
 use Rattle.cmark_grammar.specs.Columns.{Column, expand}
 use Rattle.cmark_grammar.specs.Lines.{content}
 use Rattle.cmark_grammar.specs.Rows.{Row}
@@ -26,3 +26,7 @@ line_of at past bytes = record { columns = expand 0 at (content bytes); stop = a
 abbrev pub cut_columns : List Column → ℕ
 cut_columns [] = 0
 cut_columns (c ∷ cs) = if c.part == 0 then 0 else suc (cut_columns cs)
+
+-- a byte still to come is known that stops a thematic break of this mark
+abbrev pub knows_stop : (mark : ℕ) → LineStart → Bool
+knows_stop mark line = nat_le line.taken line.break_stop && (nat_lt line.break_stop (length line.bytes.now) && not (slice_index line.bytes.now line.break_stop == mark))

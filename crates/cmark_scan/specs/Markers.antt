@@ -7,6 +7,11 @@ use Rattle.cmark_scan.specs.declared.marker.ListMarker.{ListMarker}
 abbrev pub shown_marker : ListMarker → Marker
 shown_marker marker = record { mark = marker.mark; number = marker.number; size = marker.size }
 
+-- the marker, where nothing or a blank stands behind it
+abbrev pub parted : Option Marker → List ℕ → Option Marker
+parted None bs = None
+parted (Some m) bs = if is_parted (drop m.size bs) then Some m else None
+
 -- the marker, where nothing or a blank stands behind it, and the line is no thematic break
 abbrev pub begun : Option Marker → List ℕ → Option Marker
 begun None bs = None

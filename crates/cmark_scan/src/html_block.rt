@@ -45,7 +45,8 @@ fn kind_behind(line: &[u8], behind: &[u8]) -> Option<HtmlKind>
     requires { line.now ≡ 60 ∷ behind.now }
     ensures { option_map kind_number result ≡ kind_behind behind.now }
 {
-    if begins_verbatim(behind) {
+    let size = count_alphanumeric(behind);
+    if begins_verbatim(behind, size) {
         Some(HtmlKind::Verbatim)
     } else if starts(behind, b"!--") {
         Some(HtmlKind::Comment)
@@ -55,7 +56,7 @@ fn kind_behind(line: &[u8], behind: &[u8]) -> Option<HtmlKind>
         Some(HtmlKind::Cdata)
     } else if begins_declaration(behind) {
         Some(HtmlKind::Declaration)
-    } else if begins_block(behind_slash(behind)) {
+    } else if begins_block_tag(behind, size) {
         Some(HtmlKind::Block)
     } else if scan_html_type_7(line) {
         Some(HtmlKind::Tag)
@@ -87,20 +88,34 @@ fn behind_slash(bytes: &[u8]) -> &[u8]
 }
 
 /// Whether a tag begins behind `<` whose content is taken as it is: one of those names in any case, and a blank, `>` or the
-/// line's end.
-fn begins_verbatim(behind: &[u8]) -> bool
+/// line's end. So many letters and digits stand in front.
+fn begins_verbatim(behind: &[u8], size: usize) -> bool
+    requires count { size ≡ prefix_len is_alphanumeric behind.now }
+    requires within { size ≤ length behind.now }
     ensures { result ≡ begins_verbatim (map lower behind.now) }
 {
-    let size = count_alphanumeric(behind);
     is_verbatim_name(&behind[..size]) && ends_name(&behind[size..])
 }
 
+/// Whether an open or a closing tag of a block's name begins behind `<`, where so many letters and digits stand in front.
+fn begins_block_tag(behind: &[u8], size: usize) -> bool
+    requires count { size ≡ prefix_len is_alphanumeric behind.now }
+    requires within { size ≤ length behind.now }
+    ensures { result ≡ begins_block (map lower (behind_slash behind.now)) }
+{
+    match behind {
+        [b'/', rest @ ..] => begins_block(rest, count_alphanumeric(rest)),
+        _ => begins_block(behind, size),
+    }
+}
+
 /// Whether a tag of a block's name begins behind `<` or `</`: one of those names in any case, and a blank, `>`, `/>` or the
-/// line's end.
-fn begins_block(behind: &[u8]) -> bool
+/// line's end. So many letters and digits stand in front.
+fn begins_block(behind: &[u8], size: usize) -> bool
+    requires count { size ≡ prefix_len is_alphanumeric behind.now }
+    requires within { size ≤ length behind.now }
     ensures { result ≡ begins_block (map lower behind.now) }
 {
-    let size = count_alphanumeric(behind);
     is_html_tag(&behind[..size]) && ends_block_name(&behind[size..])
 }
 

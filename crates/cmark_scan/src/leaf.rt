@@ -2,9 +2,10 @@
 //! before its ending.
 
 ghost use Rattle.std.specs.Prelude.{◌≡◌, ℕ, IfSome, option_map};
+ghost use Rattle.std.specs.List.{position};
 ghost use Rattle.cmark_grammar.specs.Leaves.{run, is_break_of, is_thematic_break, is_run_of, underline_of, fence_of};
 ghost use Rattle.cmark_text.specs.Shown.{level_number};
-ghost use Rattle.cmark_scan.specs.LeafLines.{is_break_mark, level_at, atx_level, shown_fence, HasPlace, long_fence, backtick_fence, closes_with};
+ghost use Rattle.cmark_scan.specs.LeafLines.{is_break_mark, stops_break, level_at, atx_level, shown_fence, HasPlace, long_fence, backtick_fence, closes_with};
 
 use crate::bytes::{are_blank, count_blanks, count_leading, is_blank, is_parted, trimmed};
 use cmark_text::HeadingLevel;
@@ -38,14 +39,23 @@ pub fn scan_hrule(line: &[u8]) -> bool
 
 /// Whether thematic breaks are made of this byte.
 #[inline]
-fn is_break_mark(byte: u8) -> bool
+pub(crate) fn is_break_mark(byte: u8) -> bool
     ensures { result ≡ is_break_mark byte }
 {
     byte == b'*' || byte == b'-' || byte == b'_'
 }
 
+/// Where the first byte stands that is neither this one nor a blank.
+#[inline]
+pub(crate) fn break_stop(line: &[u8], mark: u8) -> Option<usize>
+    ensures { result ≡ position (stops_break mark) line.now }
+{
+    line.iter()
+        .position(|byte| *byte != mark && !is_blank(*byte))
+}
+
 /// Whether the byte stands there three times at least, and else blanks alone.
-fn is_break_of(line: &[u8], mark: u8) -> bool
+pub(crate) fn is_break_of(line: &[u8], mark: u8) -> bool
     ensures { result ≡ is_break_of mark line.now }
 {
     let mut count: usize = 0;

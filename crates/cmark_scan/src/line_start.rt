@@ -1,10 +1,12 @@
 //! The front of a line, as the prefixes of containers are read off it (CommonMark 2.2 and 5).
 
-ghost use Rattle.std.specs.Prelude.{◌≡◌, ◌+◌, ◌-◌, ◌%◌, ◌<◌, ◌≤◌, length, take};
+ghost use Rattle.std.specs.Prelude.{◌≡◌, ◌+◌, ◌-◌, ◌%◌, ◌<◌, ◌≤◌, false, length, take, slice_index};
+ghost use Rattle.cmark_grammar.specs.Columns.{is_blank_byte};
 ghost use Rattle.cmark_scan.specs.Places.{column_behind};
 
 mod markers;
 
+use crate::leaf::{break_stop, is_break_mark, is_break_of};
 use memchr::memchr2;
 
 /// A line, of which some columns in front were taken. A tab stands for the columns up to the next tab stop, four columns
@@ -19,20 +21,24 @@ pub struct LineStart<'a> {
     behind_tab: usize,
     /// How many columns are left of the tab that was taken last.
     pending: usize,
+    /// The place of a byte that is no blank, or the line's length: where the last search for a thematic break stopped.
+    break_stop: usize,
     ghost inside: { taken ≤ length bytes.now },
     ghost behind: { behind_tab ≤ taken },
     ghost aligned: { (taken - behind_tab) % 4 ≡ column_behind 0 (take taken bytes.now) % 4 },
+    ghost stop: { break_stop < length bytes.now → is_blank_byte (slice_index bytes.now break_stop) ≡ false },
     ghost cut: { 0 < pending → column_behind 0 (take (taken - 1) bytes.now) + pending < column_behind 0 (take taken bytes.now) },
 }
 
 impl<'a> LineStart<'a> {
-    ghost use Rattle.std.specs.Prelude.{ℕ, ◌≢◌, ◌&&◌, IsTrue, nat_le, min, true, false, drop, slice_index, MatchOption};
-    ghost use Rattle.cmark_grammar.specs.Columns.{indent, tab, is_blank_byte, bytes_of};
+    ghost use Rattle.std.specs.Prelude.{ℕ, ◌≢◌, ◌==◌, ◌&&◌, ◌||◌, IsTrue, nat_le, min, true, false, drop, slice_index, MatchOption};
+    ghost use Rattle.cmark_grammar.specs.Columns.{indent, tab, bytes_of};
     ghost use Rattle.cmark_grammar.specs.Containers.{begins_with};
     ghost use Rattle.cmark_grammar.specs.Rows.{without, indent_of, words_of, is_bare, begin_of};
-    ghost use Rattle.cmark_grammar.specs.Leaves.{is_parted};
+    ghost use Rattle.cmark_grammar.specs.Leaves.{all_pass, is_parted, is_break_of, is_thematic_break};
     ghost use Rattle.cmark_scan.specs.LineMarkers.{is_flush};
-    ghost use Rattle.cmark_scan.specs.LineStart.{columns_taken, columns_from, row_from, line_of, cut_columns};
+    ghost use Rattle.cmark_scan.specs.LeafLines.{is_break_mark};
+    ghost use Rattle.cmark_scan.specs.LineStart.{columns_taken, columns_from, row_from, line_of, cut_columns, knows_stop};
 
     /// The line that the bytes begin with, of which nothing was taken: the bytes up to the first LF or CR, or all.
     #[inline]
@@ -45,6 +51,7 @@ impl<'a> LineStart<'a> {
             taken: 0,
             behind_tab: 0,
             pending: 0,
+            break_stop: len,
         }
     }
 
@@ -73,6 +80,46 @@ impl<'a> LineStart<'a> {
         } else {
             &self.bytes[self.bytes.len()..]
         }
+    }
+
+    /// Whether a byte still to come is known, by an earlier search, that stops a thematic break of this mark.
+    #[inline]
+    fn has_stop(&self, mark: u8) -> bool
+        ensures known { result ≡ knows_stop mark self.now }
+        ensures none { IsTrue result → is_break_of mark (drop self.now.taken self.now.bytes.now) ≡ false }
+    {
+        self.taken <= self.break_stop
+            && self.break_stop < self.bytes.len()
+            && self.bytes[self.break_stop] != mark
+    }
+
+    /// Whether a thematic break stands from here on (CommonMark 4.1), where the byte in front is no blank.
+    ///
+    /// A search that fails leaves its stop behind. In `- - - x` the one at the first `-` reads up to `x`, and at the next
+    /// two the known stop answers. A new search begins at the last stop or behind it, so that each byte is read a few times
+    /// at most, however many markers the line has.
+    fn is_break(&mut self) -> bool
+        requires { is_blank_byte (slice_index (drop self.old.taken self.old.bytes.now) 0) ≡ false }
+        ensures found { result ≡ is_thematic_break (drop self.old.taken self.old.bytes.now) }
+        ensures learns { (mark : ℕ) → slice_index (drop self.old.taken self.old.bytes.now) 0 ≡ mark → is_break_mark mark ≡ true → all_pass (λ b. (b == mark) || is_blank_byte b) (drop self.old.taken self.old.bytes.now) ≡ false → knows_stop mark self.new ≡ true }
+        ensures stays { IsTrue result → self.new ≡ self.old }
+        ensures rest { (at past : ℕ) → row_from at past self.new ≡ row_from at past self.old }
+        ensures line { self.new.bytes ≡ self.old.bytes }
+        ensures taken { self.new.taken ≡ self.old.taken }
+        ensures pending { self.new.pending ≡ self.old.pending }
+    {
+        let rest = &self.bytes[self.taken..];
+        let Some(mark) = self.next_byte() else {
+            return false;
+        };
+        if !is_break_mark(mark) || self.has_stop(mark) {
+            return false;
+        }
+        let Some(size) = break_stop(rest, mark) else {
+            return is_break_of(rest, mark);
+        };
+        self.break_stop = self.taken + size;
+        false
     }
 
     /// Takes this many bytes, none of which is a tab.

@@ -70,6 +70,16 @@ fn bullets(rt: HostRuntime) -> Result<(), Fail> {
 }
 
 #[test]
+fn a_thematic_break_behind_bullets(rt: HostRuntime) -> Result<(), Fail> {
+    let mut line = LineStart::new(b"- - * * *");
+    assert_eq!(rt; line.scan_list_marker_with_indent(0), Some((b'-', 0, 2)));
+    assert_eq!(rt; line.scan_list_marker_with_indent(0), Some((b'-', 0, 2)));
+    assert_eq!(rt; line.scan_list_marker_with_indent(0), None);
+    assert_eq!(rt; line.bytes_scanned(), 4);
+    Ok(())
+}
+
+#[test]
 fn a_numbered_item(rt: HostRuntime) -> Result<(), Fail> {
     let mut line = LineStart::new(b"10) x");
     assert_eq!(rt; line.scan_list_marker_with_indent(0), Some((b')', 10, 4)));

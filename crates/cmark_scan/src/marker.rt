@@ -8,10 +8,9 @@ ghost use Rattle.cmark_grammar.specs.Leaves.{are_blank};
 ghost use Rattle.cmark_grammar.specs.Alerts.{is_tag, alert_of};
 ghost use Rattle.cmark_grammar.specs.TaskMarkers.{is_parted_text, task_of};
 ghost use Rattle.cmark_text.specs.Shown.{shown_block_quote_kind};
-ghost use Rattle.cmark_scan.specs.Markers.{shown_marker, begun};
+ghost use Rattle.cmark_scan.specs.Markers.{shown_marker, parted};
 
 use crate::bytes::{are_blank, is_blank, is_parted, starts_lower};
-use crate::leaf::scan_hrule;
 use cmark_text::BlockQuoteKind;
 
 /// The marker of a list item.
@@ -25,16 +24,16 @@ pub(crate) struct ListMarker {
     pub size: usize,
 }
 
-/// The marker of the list item that begins in front, if one does: a bullet, or one to nine digits and `.` or `)`, then a
-/// blank or the line's end; not where the line is a thematic break.
+/// The marker of the list item that begins in front, if one does where the line is no thematic break: a bullet, or one to
+/// nine digits and `.` or `)`, then a blank or the line's end.
 #[inline]
 pub(crate) fn scan_listitem(line: &[u8]) -> Option<ListMarker>
-    ensures value { option_map shown_marker result ≡ begun (marker_of line.now) line.now }
+    ensures value { option_map shown_marker result ≡ parted (marker_of line.now) line.now }
     ensures within { IfSome result (λ marker. marker.size ≤ length line.now) }
     ensures plain { IfSome result (λ marker. (k : ℕ) → k < marker.size → slice_index line.now k ≢ tab) }
 {
     let marker = scan_marker(line)?;
-    if is_parted(&line[marker.size..]) && !scan_hrule(line) {
+    if is_parted(&line[marker.size..]) {
         Some(marker)
     } else {
         None

@@ -117,3 +117,14 @@ closes_behind (Some entity) bs rest digits h e le is =
     let k = behind_some (λ b. b == 38) bs rest e in
     let m = one_in_front rest digits le is in
     numeric_closes bs digits k.0 m.0 entity.len (k.1 ∙ ap (λ cs. k.0 ∷ cs) m.1) h
+
+pub named_behind : (r : Option Entity) (bs rest : List ℕ) → IfSome r (λ entity. Closes rest 1 entity.len) → behind_if (λ b. b == 38) bs ≡ Some rest → IfSome r (λ entity. Closes bs 0 entity.len)
+named_behind None bs rest h e = tt
+named_behind (Some entity) bs rest h e =
+    let k = behind_some (λ b. b == 38) bs rest e in record {
+      low = let l = h.low in omega arith;
+      high = let l = h.high in let n = ap length k.1 in omega arith;
+      semicolon =
+          ap (λ n. get_or bs n 0) (let l = h.low in let e : entity.len - 0 - 1 ≡ suc (entity.len - 1 - 1) = omega arith in e)
+          ∙ ap (λ cs. get_or cs (suc (entity.len - 1 - 1)) 0) k.1 ∙ h.semicolon;
+    }

@@ -1,10 +1,15 @@
 -- A label read from byte to byte.
-use Rattle.std.proofs.Common.{◌≡◌, ℕ, zero, suc, ◌+◌, ◌<◌, ◌≤◌, Bool, true, false, ◌&&◌, ◌||◌, not, nat_lt, nat_le, if◌then◌else◌, List, [], ◌∷◌, ◌++◌, drop, Option, None, Some, refl, sym, ap, ◌∙◌, arith}
-use Rattle.std.specs.Prelude.{count_by, fold, option_map}
+use Rattle.std.proofs.Common.{◌≡◌, ℕ, zero, suc, ◌+◌, ◌-◌, ◌<◌, ◌≤◌, Bool, true, false, ◌&&◌, ◌||◌, not, nat_lt, nat_le, if◌then◌else◌, List, [], ◌∷◌, ◌++◌, length, take, drop, get_or, Option, None, Some, refl, sym, ap, subst, ◌∙◌, arith, append-nil, append_assoc, drop-cons, drop-drop, length-drop}
+use denote.Ref.{Bor}
+use Rattle.std.specs.Prelude.{Result, Ok, count_by, fold, option_map, slice_range}
 use Rattle.std.proofs.lemmas.Bool.{lt-leb, le-leb}
+use Rattle.std.proofs.lemmas.List.{take_more, get_or-drop}
 use Rattle.cmark_grammar.specs.Letters.{and_then}
 use Rattle.cmark_grammar.specs.LinkDefinitions.{Found, put, up_to_byte, escapes_next, characters, is_white, label_if}
-use Rattle.cmark_grammar.specs.LabelsOverLines.{label_prefix, up_to_bracket}
+use Rattle.cmark_grammar.specs.LabelsOverLines.{as_in_cell, label_prefix, up_to_bracket, label_over_lines}
+use Rattle.cmark_text.specs.declared.text.CowStr.{CowStr}
+use Rattle.cmark_text.specs.declared.text.CowStr.TheVariants.{Borrowed}
+use Rattle.cmark_scan_parts.specs.Shown.{Part, cut_behind, IsBorrowed}
 use Rattle.cmark_scan_parts.proofs.PartSteps.{puts, puts-more, puts-none, puts-done}
 
 -- some byte is no white space
@@ -94,3 +99,55 @@ too_long all (Some found) text n reads count lt =
     sym (ap label_if (reads ∙ puts-some text found)
     ∙ ap (λ t. if t && has_words (text ++ found.bytes) then Some (let f : Found = record { bytes = text ++ found.bytes; behind = found.behind } in f) else None)
     (lt-leb (characters (text ++ found.bytes)) 999 (let m = longer text found.bytes in omega arith)))
+
+-- what was read of a text up to a place: the stretches that were copied, and the bytes behind a mark
+abbrev pub so_far : (copied text : List ℕ) (mark at : ℕ) → List ℕ
+so_far copied text mark at = copied ++ slice_range text mark at
+
+pub so_far-more : (copied text : List ℕ) (mark at : ℕ) → mark ≤ at → at < length text → so_far copied text mark (at + 1) ≡ so_far copied text mark at ++ get_or text at 0 ∷ []
+so_far-more copied text mark at le lt =
+    let inside : at - mark < length (drop mark text) = let l = length-drop mark text in omega arith in
+    ap (λ n. copied ++ take n (drop mark text)) (let e : at + 1 - mark ≡ at - mark + 1 = omega arith in e)
+    ∙ ap (λ l. copied ++ l) (take_more (drop mark text) (at - mark) 0 inside)
+    ∙ ap (λ b. copied ++ (take (at - mark) (drop mark text) ++ b ∷ [])) (get_or-drop mark text (at - mark) 0 ∙ ap (λ n. get_or text n 0) (let e : mark + (at - mark) ≡ at = omega arith in e))
+    ∙ sym (append_assoc copied (slice_range text mark at) (get_or text at 0 ∷ []))
+
+-- where all that was read was copied
+pub so_far-copied : (copied read text : List ℕ) (at : ℕ) → copied ≡ read → so_far copied text at at ≡ read
+so_far-copied copied read text at is = ap (λ n. copied ++ take n (drop at text)) (let e : at - at ≡ 0 = omega arith in e) ∙ append-nil copied ∙ is
+
+-- the byte at a place
+pub byte-cut : (bytes text : List ℕ) (at : ℕ) → bytes ≡ text → at < length text → drop at text ≡ get_or bytes at 0 ∷ drop (at + 1) text
+byte-cut bytes text at same lt = drop-cons text at 0 lt ∙ ap (λ (l : List ℕ). get_or l at 0 ∷ drop (suc at) text) (sym same) ∙ ap (λ n. get_or bytes at 0 ∷ drop n text) (let e : suc at ≡ at + 1 = omega arith in e)
+
+-- a label that stands in no table
+in_no_cell : (o : Option Found) → option_map (as_in_cell false) o ≡ o
+in_no_cell None = refl
+in_no_cell (Some found) = refl
+
+module _ (prefix : List ℕ → Option ℕ) (text : List ℕ) where
+  pub no_rest : None ≡ label_if (up_to_bracket prefix false 0 text) → None ≡ option_map (cut_behind text) (label_over_lines prefix false text)
+  no_rest e = ap (λ (o : Option Found). option_map (cut_behind text) (option_map (as_in_cell false) o)) e
+
+  pub rest_found : (bytes : List ℕ) (at : ℕ) → at < length text → label_if (up_to_bracket prefix false 0 text) ≡ Some (record { bytes = bytes; behind = drop (at + 1) text })
+      → Some (let part : Part = record { end = at + 1; bytes = bytes } in part) ≡ option_map (cut_behind text) (label_over_lines prefix false text)
+  rest_found bytes at lt e =
+      ap (λ n. let part : Part = record { end = n; bytes = bytes } in Some part) (let l = length-drop (at + 1) text in let s : at + 1 ≡ length text - length (drop (at + 1) text) = omega arith in s)
+      ∙ ap (option_map (cut_behind text)) (sym e ∙ sym (in_no_cell _))
+
+-- one byte more of a label, and the prefixes behind it
+pub label_onward : (prefix : List ℕ → Option ℕ) (all : Option Found) (text : List ℕ) (at size b : ℕ) (e e' : Bool) (read read' : List ℕ) → all ≡ puts read (up_to_bracket prefix e 0 (drop at text)) → drop at text ≡ b ∷ drop (at + 1) text
+    → ((bs : List ℕ) (found : Option Found) → up_to_byte e 93 91 true b bs found ≡ put b found) → Some size ≡ label_prefix prefix b (drop (at + 1) text) → read' ≡ read ++ b ∷ [] → e' ≡ escapes_next e b
+    → all ≡ puts read' (up_to_bracket prefix e' 0 (drop (at + 1 + size) text))
+label_onward prefix all text at size b e e' read read' reads cut step line is escapes =
+    label_more prefix all read (drop at text) (drop (at + 1) text) (drop (at + 1 + size) text) e b reads cut step
+    (ap Some (sym (drop-drop size (at + 1) text)) ∙ ap (option_map (λ n. drop n (drop (at + 1) text))) line)
+    ∙ ap (λ l. puts l (up_to_bracket prefix (escapes_next e b) 0 (drop (at + 1 + size) text))) (sym is)
+    ∙ ap (λ t. puts read' (up_to_bracket prefix t 0 (drop (at + 1 + size) text))) (sym escapes)
+
+-- a text that is borrowed
+pub ok_borrowed : {E : Type 0} (text : CowStr) (last : Bor (List ℕ)) → ◌≡◌ {A = Result CowStr E} (Ok text) (Ok (Borrowed last)) → IsBorrowed text
+ok_borrowed text last is = let e : text ≡ Borrowed last = cc in subst IsBorrowed (sym e) tt
+
+pub ok_same : {E : Type 0} (text one : CowStr) → ◌≡◌ {A = Result CowStr E} (Ok text) (Ok one) → text ≡ one
+ok_same text one is = cc

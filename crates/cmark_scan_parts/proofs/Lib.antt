@@ -1,9 +1,13 @@
+pub mod Boundaries
 pub mod Closers
+pub mod Endings
 pub mod EntitySteps
 pub mod LabelSteps
 pub mod Links
 pub mod Lists
 pub mod OwnedSteps
 pub mod PartSteps
+pub mod PipeSteps
 pub mod TagSteps
+pub mod TagTexts
 pub mod Unescaping

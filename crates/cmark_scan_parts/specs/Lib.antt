@@ -1,5 +1,6 @@
 pub mod Classes
 pub mod Handled
+pub mod Pipes
 pub mod Resolved
 pub mod Shown
 pub mod Steps

@@ -121,6 +121,7 @@ fn pointed_dest(text: &str, start_ix: usize) -> Option<Cut<'_>>
     requires opens { slice_index text.now start_ix ≡ 60 }
     ensures value { option_map shown_cut result ≡ option_map (cut_behind text.entry.now) (up_to false 62 60 false (drop (start_ix + 1) text.entry.now)) }
     ensures within { IfSome result (λ dest. dest.end ≤ length text.entry.now) }
+    ensures boundary { IfSome result (λ dest. IsCharBoundary text.entry.now dest.end) }
 {
     let start = start_ix + 1;
     let size = pointed_size(&text.as_bytes()[start..])?;
@@ -135,6 +136,7 @@ fn bare_dest(text: &str, start_ix: usize) -> Option<Cut<'_>>
     requires { IsCharBoundary text.now start_ix }
     ensures value { option_map shown_cut result ≡ option_map (cut_behind text.entry.now) (bare_in false 0 (drop start_ix text.entry.now)) }
     ensures within { IfSome result (λ dest. dest.end ≤ length text.entry.now) }
+    ensures boundary { IfSome result (λ dest. IsCharBoundary text.entry.now dest.end) }
 {
     let size = bare_size(&text.as_bytes()[start_ix..])?;
     Some(Cut {
@@ -151,6 +153,7 @@ pub fn scan_link_dest(text: &str, start_ix: usize) -> Option<Cut<'_>>
     requires { IsCharBoundary text.now start_ix }
     ensures value { option_map shown_cut result ≡ option_map (cut_behind text.entry.now) (link_destination_in (drop start_ix text.entry.now)) }
     ensures within { IfSome result (λ dest. dest.end ≤ length text.entry.now) }
+    ensures boundary { IfSome result (λ dest. IsCharBoundary text.entry.now dest.end) }
 {
     if begins_with(&text.as_bytes()[start_ix..], b'<') {
         pointed_dest(text, start_ix)

@@ -2,6 +2,7 @@
 
 ghost use Rattle.std.specs.Prelude.{◌≡◌, ◌<◌, ◌≤◌, ◌==◌, ◌&&◌, true, nat_lt, nat_le, length, drop, slice_index, EachIndex, encode_utf8, IfSome, option_map};
 ghost use Rattle.std.specs.List.{prefix_len};
+ghost use Rattle.std.specs.Str.{IsUtf8, IsCharBoundary};
 ghost use Rattle.cmark_grammar.specs.Letters.{is_number, first_is, behind_if, and_then};
 ghost use Rattle.cmark_grammar.specs.Tokens.{is_hexadecimal, digit_of, value_of, character, decimal_in, hexadecimal_in, numeric_in, named_in, entity_in};
 ghost use Rattle.cmark_scan_parts.specs.Shown.{Closes, shown_entity};
@@ -145,6 +146,7 @@ fn named_in<'e, E: EntityLookup>(bytes: &[u8], entities: &'e E) -> Option<Entity
 /// numbers that no character has stand for U+FFFD. No memory is taken.
 pub fn scan_entity<'e, E: EntityLookup>(bytes: &[u8], entities: &'e E) -> Option<Entity<'e>>
     ensures closed { IfSome result (λ entity. Closes bytes.entry.now 0 entity.len) }
+    ensures boundary { IsUtf8 bytes.entry.now → IfSome result (λ entity. IsCharBoundary bytes.entry.now entity.len) }
     ensures value { option_map shown_entity result ≡ and_then (behind_if (λ b. b == 38) bytes.entry.now) (entity_in (E.replacement entities.now)) }
 {
     match behind_byte(b'&', bytes)? {

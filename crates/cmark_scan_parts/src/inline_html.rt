@@ -1,6 +1,7 @@
 //! Finds of comments, declarations, CDATA sections and processing instructions (CommonMark 6.6).
 
 ghost use Rattle.std.specs.Prelude.{◌≡◌, ◌-◌, ◌≤◌, length, codes, Some, IfSome, option_copied, option_map};
+ghost use Rattle.std.specs.Str.{IsUtf8, IsCharBoundary};
 ghost use Rattle.cmark_grammar.specs.InlineHtml.{behind_comment, declaration_in, cdata_in, opened_in, find_with, comment_find, processing_find};
 ghost use Rattle.cmark_scan_parts.specs.Shown.{shown_find};
 
@@ -80,6 +81,7 @@ pub fn scan_inline_html_comment(bytes: &[u8], ix: usize) -> HtmlFind
     requires { ix ≤ length bytes.now }
     ensures value { shown_find result ≡ comment_find bytes.now ix }
     ensures within { IfSome result.end (λ end. (ix ≤ end) × (end ≤ length bytes.now)) }
+    ensures boundary { IsUtf8 bytes.now → IfSome result.end (IsCharBoundary bytes.now) }
 {
     find_with(bytes, ix, opened(&bytes[ix..]))
 }
@@ -89,6 +91,7 @@ pub fn scan_inline_html_processing(bytes: &[u8], ix: usize) -> HtmlFind
     requires { ix ≤ length bytes.now }
     ensures value { shown_find result ≡ processing_find bytes.now ix }
     ensures within { IfSome result.end (λ end. (ix ≤ end) × (end ≤ length bytes.now)) }
+    ensures boundary { IsUtf8 bytes.now → IfSome result.end (IsCharBoundary bytes.now) }
 {
     find_with(bytes, ix, Some(behind_first(b"?>", &bytes[ix..])))
 }

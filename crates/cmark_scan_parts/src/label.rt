@@ -1,35 +1,34 @@
 //! Labels of links behind their opening bracket (CommonMark 4.7).
 
-ghost use Rattle.std.specs.Prelude.{◌≡◌, ◌≤◌, ◌&&◌, ◌||◌, true, ℕ, List, Option, not, nat_lt, nat_le, length, drop, IfOk, IfSome, option_map, option_copied, if◌then◌else◌};
+ghost use Rattle.std.specs.Prelude.{◌≡◌, ◌<◌, ◌≤◌, ◌&&◌, ◌||◌, ◌++◌, [], Ok, true, false, ℕ, length, List, Option, not, nat_lt, nat_le, IfOk, IfSome, option_map, if◌then◌else◌, string_bytes};
+ghost use Rattle.std.specs.Str.{IsUtf8, IsCharBoundary};
 ghost use Rattle.cmark_grammar.specs.LinkDefinitions.{Found, up_to_byte, is_white};
 ghost use Rattle.cmark_grammar.specs.LabelsOverLines.{label_prefix, label_over_lines};
+ghost use Rattle.cmark_text.specs.Shown.{text_bytes};
+ghost use Rattle.cmark_text.specs.declared.text.CowStr.TheVariants.{Borrowed};
 ghost use Rattle.cmark_scan_parts.specs.Handled.{LabelsWithin, ForLabels};
-ghost use Rattle.cmark_scan_parts.specs.Shown.{shown_label, shown_read, cut_behind};
-ghost use Rattle.cmark_scan_parts.specs.Steps.{read_closed};
+ghost use Rattle.cmark_scan_parts.specs.Shown.{shown_label, cut_behind, IsBorrowed, IsWhole};
+ghost use Rattle.cmark_scan_parts.specs.Steps.{read_closed, OnEnds};
 
 use crate::destination::{Step, escapes_next};
 use crate::owned::ends_line;
+use crate::pipes::with_literal_pipes;
+use cmark_text::CowStr;
 use std::alloc::{AllocError, Global};
 
 /// A label of a link behind its opening bracket.
 #[derive(Debug, Drop)]
-pub struct LinkLabelRest {
+pub struct LinkLabelRest<'t> {
     /// How many bytes it takes, to behind its closing bracket.
     pub end: usize,
-    /// Its bytes without the prefixes of its later lines.
-    pub text: Vec<u8>,
-}
-
-/// A label that was read, and the bytes behind its closing bracket.
-#[derive(Drop)]
-struct LabelRead<'a> {
-    text: Vec<u8>,
-    behind: &'a [u8],
+    /// What is written in it, without the prefixes of its later lines.
+    pub text: CowStr<'t>,
 }
 
 /// What a byte does to a label: `]` ends it and `[` refuses it, but for escaped brackets.
 fn label_step(escaped: bool, byte: u8) -> Step
-    ensures { (bs : List ℕ) (found : Option Found) → up_to_byte escaped 93 91 true byte bs found ≡ read_closed result byte bs found }
+    ensures value { (bs : List ℕ) (found : Option Found) → up_to_byte escaped 93 91 true byte bs found ≡ read_closed result byte bs found }
+    ensures ends { OnEnds result (byte ≡ 93) }
 {
     match byte {
         b']' if !escaped => Step::Ends,
@@ -67,49 +66,65 @@ fn is_label(count: usize, has_words: bool) -> bool
     count <= 999 && has_words
 }
 
-/// The bytes behind this one, without the prefixes that stand there where a line ends; none where the label ends there.
-fn behind_line<'a, H: Fn(&[u8]) -> Option<usize>>(
-    byte: u8,
-    rest: &'a [u8],
-    handler: &H,
-) -> Option<&'a [u8]>
+/// How many bytes of prefixes stand behind this byte, in front of `rest`: none where no line ends, and `None` where the label
+/// ends there.
+fn prefix_size<H: Fn(&[u8]) -> Option<usize>>(byte: u8, rest: &[u8], handler: &H) -> Option<usize>
     requires callable { H.IsAlwaysCallable handler.now }
     requires within { LabelsWithin H.Fn handler.now }
-    ensures value { ForLabels H.Fn handler.now (λ prefix. option_copied result ≡ option_map (λ n. drop n rest.now) (label_prefix prefix byte rest.now)) }
-    ensures within { IfSome result (λ next. length next.now ≤ length rest.now) }
+    ensures value { ForLabels H.Fn handler.now (λ prefix. result ≡ label_prefix prefix byte rest.now) }
+    ensures line { IfSome result (λ size. 0 < size → byte < 128) }
+    ensures within { IsUtf8 rest.now → IfSome result (λ size. IsCharBoundary rest.now size) }
 {
-    if !ends_line(byte, rest) {
-        return Some(rest);
+    if ends_line(byte, rest) {
+        handler(rest)
+    } else {
+        Some(0)
     }
-    let count = handler(rest)?;
-    Some(&rest[count..])
 }
 
-/// The label behind its opening bracket, and the bytes behind it.
-fn read_label<'a, H: Fn(&[u8]) -> Option<usize>>(
+/// The stretches that were copied, and the last one behind them; the last one as it stands where none was copied.
+fn joined<'t>(copied: String, last: &'t str) -> Result<CowStr<'t>, AllocError>
+    ensures value { IfOk result (λ text. text_bytes text ≡ string_bytes copied ++ last.now) }
+    ensures kept { string_bytes copied ≡ [] → result ≡ Ok (Borrowed last.entry) }
+{
+    if copied.is_empty() {
+        return Ok(CowStr::Borrowed(last));
+    }
+    let mut text = copied;
+    text.push_str(last)?;
+    CowStr::from_string(text)
+}
+
+/// The label behind its opening bracket, which stands in no table.
+fn read_label<'t, H: Fn(&[u8]) -> Option<usize>>(
     alloc: Global,
-    bytes: &'a [u8],
+    text: &'t str,
     handler: &H,
-) -> Result<Option<LabelRead<'a>>, AllocError>
+) -> Result<Option<LinkLabelRest<'t>>, AllocError>
     requires callable { H.IsAlwaysCallable handler.now }
     requires within { LabelsWithin H.Fn handler.now }
-    ensures value { ForLabels H.Fn handler.now (λ prefix. IfOk result (λ found. option_map shown_read found ≡ label_over_lines prefix bytes.now)) }
-    ensures within { IfOk result (λ found. IfSome found (λ label. length label.behind.now ≤ length bytes.now)) }
+    ensures value { ForLabels H.Fn handler.now (λ prefix. IfOk result (λ found. option_map shown_label found ≡ option_map (cut_behind text.now) (label_over_lines prefix false text.now))) }
+    ensures boundary { IfOk result (λ found. IfSome found (λ label. IsCharBoundary text.now label.end)) }
+    ensures short { IfOk result (λ found. IfSome found (λ label. length (text_bytes label.text) < label.end)) }
+    ensures borrowed { IfOk result (λ found. IfSome found (λ label. IsWhole label → IsBorrowed label.text)) }
 {
-    let mut text = Vec::new(alloc);
+    let bytes = text.as_bytes();
+    let mut copied = String::new(alloc);
+    let mut mark = 0;
     let mut count = 0;
     let mut has_words = false;
     let mut escaped = false;
-    let mut rest = bytes;
-    while let Some((first, others)) = rest.split_first() {
-        match label_step(escaped, *first) {
+    let mut at = 0;
+    while at < bytes.len() {
+        let byte = bytes[at];
+        match label_step(escaped, byte) {
             Step::Ends => {
                 if !is_label(count, has_words) {
                     return Ok(None);
                 }
-                return Ok(Some(LabelRead {
-                    text,
-                    behind: others,
+                return Ok(Some(LinkLabelRest {
+                    end: at + 1,
+                    text: joined(copied, &text[mark..at])?,
                 }));
             }
             Step::Fails => return Ok(None),
@@ -118,39 +133,50 @@ fn read_label<'a, H: Fn(&[u8]) -> Option<usize>>(
         if 999 < count {
             return Ok(None);
         }
-        text.push(*first)?;
-        count += begun(*first);
-        has_words = finds_word(has_words, *first);
-        let Some(next) = behind_line(*first, others, handler) else {
+        count += begun(byte);
+        has_words = finds_word(has_words, byte);
+        escaped = escapes_next(escaped, byte);
+        at += 1;
+        let Some(size) = prefix_size(byte, &bytes[at..], handler) else {
             return Ok(None);
         };
-        escaped = escapes_next(escaped, *first);
-        rest = next;
+        if 0 < size {
+            copied.push_str(&text[mark..at])?;
+            at += size;
+            mark = at;
+        }
     }
     Ok(None)
 }
 
-/// The label of a link whose `[` stands before `bytes`, if it is one (CommonMark 4.7): up to the first `]` that no backslash
-/// escapes, 1 to 999 characters, at least one of them no white space, and without unescaped brackets.
+/// The label of a link whose `[` stands before `text`, if it is one (CommonMark 4.7): up to the first `]` that no backslash
+/// escapes, 1 to 999 characters, at least one of them no white space, and without unescaped brackets. In a table `\|` and
+/// `\\|` stand for `|` in it (GFM 4.10).
+///
 /// `linebreak_handler` is asked about the bytes behind each line ending in the label, and answers how many of them are
-/// prefixes of containers, or `None` where the label ends there; it answers the same each time it is asked about the same
-/// bytes. No more than 1000 characters are read.
-pub fn scan_link_label_rest<H: Fn(&[u8]) -> Option<usize>>(
+/// prefixes of containers, whole characters, or `None` where the label ends there; it answers the same each
+/// time it is asked about the same bytes. No more than 1000 characters are read. Where nothing is left out, the text is
+/// borrowed; memory is taken for others.
+pub fn scan_link_label_rest<'t, H: Fn(&[u8]) -> Option<usize>>(
     alloc: Global,
-    bytes: &[u8],
+    text: &'t str,
     linebreak_handler: &H,
-) -> Result<Option<LinkLabelRest>, AllocError>
+    is_in_table: bool,
+) -> Result<Option<LinkLabelRest<'t>>, AllocError>
     requires callable { H.IsAlwaysCallable linebreak_handler.now }
     requires within { LabelsWithin H.Fn linebreak_handler.now }
-    ensures value { ForLabels H.Fn linebreak_handler.now (λ prefix. IfOk result (λ found. option_map shown_label found ≡ option_map (cut_behind bytes.now) (label_over_lines prefix bytes.now))) }
-    ensures within { IfOk result (λ found. IfSome found (λ label. label.end ≤ length bytes.now)) }
+    ensures value { ForLabels H.Fn linebreak_handler.now (λ prefix. IfOk result (λ found. option_map shown_label found ≡ option_map (cut_behind text.now) (label_over_lines prefix is_in_table text.now))) }
+    ensures boundary { IfOk result (λ found. IfSome found (λ label. IsCharBoundary text.now label.end)) }
+    ensures borrowed { IfOk result (λ found. IfSome found (λ label. IsWhole label → IsBorrowed label.text)) }
 {
-    let Some(label) = read_label(alloc, bytes, linebreak_handler)? else {
+    let Some(label) = read_label(alloc, text, linebreak_handler)? else {
         return Ok(None);
     };
-    let end = bytes.len() - label.behind.len();
+    if !is_in_table {
+        return Ok(Some(label));
+    }
     Ok(Some(LinkLabelRest {
-        end,
-        text: label.text,
+        end: label.end,
+        text: with_literal_pipes(alloc, label.text)?,
     }))
 }

@@ -11,6 +11,7 @@ mod inline_html;
 mod label;
 mod link;
 mod owned;
+mod pipes;
 mod tag;
 #[cfg(test)]
 mod tests;

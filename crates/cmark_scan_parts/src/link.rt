@@ -52,6 +52,7 @@ pub fn scan_autolink(text: &str, start_ix: usize) -> Option<Cut<'_>>
     requires { IsCharBoundary text.now start_ix }
     ensures value { option_map shown_cut result ≡ cut_at start_ix (autolink_in (drop start_ix text.entry.now)) }
     ensures within { IfSome result (λ link. link.end ≤ length text.entry.now) }
+    ensures boundary { IfSome result (λ link. IsCharBoundary text.entry.now link.end) }
 {
     let size = uri_size(&text.as_bytes()[start_ix..])?;
     Some(Cut {
@@ -67,6 +68,7 @@ pub fn scan_wikilink_pipe(text: &str, start_ix: usize, len: usize) -> Option<Cut
     requires within { start_ix + len ≤ length text.now }
     ensures value { option_map shown_cut result ≡ cut_at start_ix (piped_name_in (take len (drop start_ix text.entry.now))) }
     ensures within { IfSome result (λ name. name.end ≤ start_ix + len) }
+    ensures boundary { IfSome result (λ name. IsCharBoundary text.entry.now name.end) }
 {
     let size = memchr(b'|', &text.as_bytes()[start_ix..start_ix + len])?;
     Some(Cut {

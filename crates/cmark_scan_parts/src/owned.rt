@@ -1,10 +1,11 @@
 //! The text of a tag that takes several lines.
 
 ghost use Rattle.std.specs.Prelude.{◌≡◌, ◌<◌, ◌≤◌, ◌-◌, ◌++◌, length, drop, IfOk, OnOk, IfSome, option_map};
+ghost use Rattle.std.specs.Str.{IsUtf8, IsCharBoundary};
 ghost use Rattle.cmark_grammar.specs.Lines.{ends_line};
 ghost use Rattle.cmark_grammar.specs.InlineHtml.{takes_lines, without_prefixes, owned_tag, owned_tag_in};
 ghost use Rattle.cmark_grammar.specs.Tags.{prefix_behind};
-ghost use Rattle.cmark_scan_parts.specs.Handled.{AnswersWithin, ForAnswers};
+ghost use Rattle.cmark_scan_parts.specs.Handled.{AnswersWithin, ForAnswers, CutsNoCharacter};
 ghost use Rattle.cmark_scan_parts.specs.Shown.{shown_tag};
 
 use crate::tag::{behind_tag, without_prefix};
@@ -96,7 +97,8 @@ fn own_text<H: Fn(&[u8]) -> usize>(
 
 /// The open or closing tag in front, if one stands there (CommonMark 6.6). White space in it has at most one line ending.
 /// `newline_handler` is asked about the bytes behind each line ending in the tag, and answers how many of them are prefixes
-/// of containers; it answers the same each time it is asked about the same bytes.
+/// of containers; it answers the same each time it is asked about the same bytes. Where the bytes are UTF-8, `end` is a
+/// character boundary, and where the answers cut no character either, `buffer` is UTF-8.
 pub fn scan_html_block_inner<H: Fn(&[u8]) -> usize>(
     alloc: Global,
     bytes: &[u8],
@@ -106,6 +108,8 @@ pub fn scan_html_block_inner<H: Fn(&[u8]) -> usize>(
     requires within { AnswersWithin H.Fn newline_handler.now }
     ensures value { ForAnswers H.Fn newline_handler.now (λ prefix. IfOk result (λ found. option_map shown_tag found ≡ owned_tag_in prefix bytes.now)) }
     ensures within { IfOk result (λ found. IfSome found (λ tag. tag.end ≤ length bytes.now)) }
+    ensures boundary { IsUtf8 bytes.now → ForAnswers H.Fn newline_handler.now (λ prefix. IfOk result (λ found. IfSome found (λ tag. IsCharBoundary bytes.now tag.end))) }
+    ensures utf8 { IsUtf8 bytes.now → ForAnswers H.Fn newline_handler.now (λ prefix. CutsNoCharacter prefix → IfOk result (λ found. IfSome found (λ tag. IsUtf8 tag.buffer.items))) }
 {
     let Some(rest) = behind_tag(bytes, newline_handler) else {
         return Ok(None);

@@ -3,7 +3,8 @@
 //! A tag may take several lines, behind each of which stand the prefixes of the containers around it. A handler is asked
 //! about the bytes behind a line ending, and answers how many of them are prefixes.
 
-ghost use Rattle.std.specs.Prelude.{◌≡◌, ◌<◌, ◌≤◌, length, true, option_copied, IfSome};
+ghost use Rattle.std.specs.Prelude.{◌≡◌, ◌-◌, ◌<◌, ◌≤◌, length, true, option_copied, IfSome};
+ghost use Rattle.std.specs.Str.{IsUtf8, IsCharBoundary};
 ghost use Rattle.cmark_grammar.specs.Lines.{is_content};
 ghost use Rattle.cmark_grammar.specs.Tags.{without_prefix, behind_space, behind_tag_name, behind_attribute_name, behind_bare_value, behind_greater, behind_open_end, behind_closing_tag, behind_quote, behind_value, behind_assigned, behind_attribute, behind_attributes, behind_open_tag, behind_tag_start, behind_tag, no_prefix};
 ghost use Rattle.cmark_scan_parts.specs.Handled.{AnswersWithin, ForAnswers};
@@ -210,6 +211,7 @@ pub fn behind_tag<'a, H: Fn(&[u8]) -> usize>(bytes: &'a [u8], handler: &H) -> Op
 pub fn scan_tag(bytes: &[u8]) -> Option<&[u8]>
     ensures value { option_copied result ≡ behind_tag no_prefix bytes.now }
     ensures within { IfSome result (λ rest. length rest.now ≤ length bytes.now) }
+    ensures boundary { IsUtf8 bytes.now → IfSome result (λ rest. IsCharBoundary bytes.now (length bytes.now - length rest.now)) }
 {
     behind_tag(bytes, &|_: &[u8]| 0)
 }

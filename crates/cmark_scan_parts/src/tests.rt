@@ -1,4 +1,5 @@
-ghost use Rattle.std.specs.Prelude.{◌≡◌, length, min, IfOk, option_map};
+ghost use Rattle.std.specs.Prelude.{◌≡◌, length, min, IfOk, IfSome, option_map};
+ghost use Rattle.std.specs.Str.{IsUtf8, IsCharBoundary};
 ghost use Rattle.cmark_grammar.specs.InlineHtml.{owned_tag_in};
 ghost use Rattle.cmark_scan_parts.specs.Shown.{shown_tag};
 
@@ -182,15 +183,44 @@ fn unescapes_pipes_in_a_table(rt: HostRuntime) -> Result<(), Fail> {
     Ok(())
 }
 
+/// The size of the block quote's prefix in front, if it stands there.
+fn quote_prefix(rest: &[u8]) -> Option<usize>
+    ensures { IsUtf8 rest.now → IfSome result (λ size. IsCharBoundary rest.now size) }
+{
+    match rest {
+        [b'>', blank, ..] if *blank == b' ' => Some(2),
+        _ => None,
+    }
+}
+
 #[test]
 fn scans_a_label_over_lines(rt: HostRuntime) -> Result<(), Fail> {
     let found = scan_link_label_rest(
         rt.alloc(),
-        b"a\\]\n> b]c",
-        &|rest: &[u8]| Some(rest.len().min(2)),
+        "a\\]\n> b]c",
+        &|rest: &[u8]| quote_prefix(rest),
+        false,
     )?;
     let label = found.ok_or("no label")?;
     assert_eq!(rt; label.end, 8);
-    assert_eq!(rt; label.text.as_slice(), b"a\\]\nb".as_slice());
+    assert_eq!(rt; label.text.as_str(), "a\\]\nb");
+    Ok(())
+}
+
+#[test]
+fn a_label_on_one_line_is_borrowed(rt: HostRuntime) -> Result<(), Fail> {
+    let found = scan_link_label_rest(rt.alloc(), "\u{e9}\\|b]", &|_: &[u8]| None, false)?;
+    let label = found.ok_or("no label")?;
+    assert_eq!(rt; label.end, 6);
+    assert!(rt; matches!(label.text, CowStr::Borrowed("\u{e9}\\|b")));
+    Ok(())
+}
+
+#[test]
+fn pipes_in_a_label_in_a_table(rt: HostRuntime) -> Result<(), Fail> {
+    let found = scan_link_label_rest(rt.alloc(), "p\\|q\\\\|r\\\\\\|]", &|_: &[u8]| None, true)?;
+    let label = found.ok_or("no label")?;
+    assert_eq!(rt; label.end, 13);
+    assert_eq!(rt; label.text.as_str(), "p|q|r\\|");
     Ok(())
 }

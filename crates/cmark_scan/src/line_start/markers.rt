@@ -55,6 +55,9 @@ impl<'a> LineStart<'a> {
         ensures stays { result ≡ None → self.new ≡ self.old }
     {
         let marker = scan_listitem(self.ahead())?;
+        if self.is_break() {
+            return None;
+        }
         self.take_bytes(marker.size);
         let width = marker.size + self.scan_padding();
         Some((

@@ -7,11 +7,11 @@ use Rattle.cmark_scan.proofs.html_block.begins_verbatim.Goals as goal
 pub returns-then-is_verbatim_name : goal.returns-then-is_verbatim_name
 returns-then-is_verbatim_name c =
     let bs = c.args.behind.now in
-    let n = c.count_alphanumeric-size.result in
-    c.ends_name.ensures ∙ ap ends_name (rest_of bs n) ∙ ap (λ t. t && ends_name (drop n bs)) (sym c.if-is_verbatim_name.true ∙ c.is_verbatim_name.ensures) ∙ verbatim-is bs n c.count_alphanumeric-size.ensures.value
+    let n = c.args.size in
+    c.ends_name.ensures ∙ ap ends_name (rest_of bs n) ∙ ap (λ t. t && ends_name (drop n bs)) (sym c.if-is_verbatim_name.true ∙ c.is_verbatim_name.ensures) ∙ verbatim-is bs n c.requires.count
 
 pub returns-else-is_verbatim_name : goal.returns-else-is_verbatim_name
 returns-else-is_verbatim_name c =
     let bs = c.args.behind.now in
-    let n = c.count_alphanumeric-size.result in
-    c.if-is_verbatim_name.false ∙ ap (λ t. t && ends_name (drop n bs)) (sym c.if-is_verbatim_name.false ∙ c.is_verbatim_name.ensures) ∙ verbatim-is bs n c.count_alphanumeric-size.ensures.value
+    let n = c.args.size in
+    c.if-is_verbatim_name.false ∙ ap (λ t. t && ends_name (drop n bs)) (sym c.if-is_verbatim_name.false ∙ c.is_verbatim_name.ensures) ∙ verbatim-is bs n c.requires.count

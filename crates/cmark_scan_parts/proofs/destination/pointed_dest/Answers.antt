@@ -5,6 +5,7 @@ use Rattle.cmark_grammar.specs.LinkDefinitions.{Found, up_to}
 use Rattle.cmark_scan_parts.specs.Shown.{Part, cut_behind}
 use Rattle.cmark_scan_parts.proofs.Lists.{rest_of}
 use Rattle.cmark_scan_parts.proofs.Links.{cut_out}
+use Rattle.cmark_scan_parts.proofs.Boundaries.{boundary_behind}
 use Rattle.cmark_scan_parts.proofs.destination.pointed_dest.Goals as goal
 
 FindsPointed : (size : ℕ) → List ℕ → Type 0
@@ -25,3 +26,9 @@ returns-clause-value c =
     ap (λ bs. let part : Part = record { end = start + size + 1; bytes = bs } in Some part) (c.range.ensures.value ∙ cut_out text start size)
     ∙ ap (λ n. let part : Part = record { end = n; bytes = take size (drop start text) } in Some part) end
     ∙ ap (option_map (cut_behind text)) (subst (FindsPointed size) cut c.in_ok-size.ensures.value)
+
+pub returns-clause-boundary : goal.returns-clause-boundary
+returns-clause-boundary c =
+    let start : ℕ = c.args.start_ix + 1 in
+    let rest = rest_of c.as_bytes.result.now start ∙ ap (drop start) c.as_bytes.ensures.value in
+    boundary_behind c.args.text.now _ start c.in_ok-size.size 62 c.utf8.text rest c.in_ok-size.ensures.within c.in_ok-size.ensures.closed (omega arith)

@@ -1,8 +1,18 @@
 use Rattle.std.proofs.Common.{sym}
-use Rattle.cmark_scan_parts.proofs.EntitySteps.{closes_behind}
+use Rattle.cmark_scan_parts.proofs.EntitySteps.{closes_behind, named_behind}
 use Rattle.cmark_scan_parts.proofs.Lists.{rest_of}
+use Rattle.cmark_scan_parts.proofs.Boundaries.{entity_boundary}
 use Rattle.cmark_scan_parts.proofs.entity.scan_entity.Goals as goal
 
 pub returns-in-35-clause-closed : goal.returns-in-35-clause-closed
 returns-in-35-clause-closed g c =
     closes_behind c.numeric_in.result c.args.bytes.now c.in_ok-rest.rest.now _ c.numeric_in.ensures.closed (sym c.in_ok-rest.ensures.value) c.in-35.len_at_least (rest_of c.in_ok-rest.rest.now 1)
+
+pub returns-in-35-clause-boundary : goal.returns-in-35-clause-boundary
+returns-in-35-clause-boundary g c =
+    entity_boundary c.numeric_in.result c.args.bytes.now
+    (closes_behind c.numeric_in.result c.args.bytes.now c.in_ok-rest.rest.now _ c.numeric_in.ensures.closed (sym c.in_ok-rest.ensures.value) c.in-35.len_at_least (rest_of c.in_ok-rest.rest.now 1))
+
+pub returns-in_default-clause-boundary : goal.returns-in_default-clause-boundary
+returns-in_default-clause-boundary g c =
+    entity_boundary c.named_in.result c.args.bytes.now (named_behind c.named_in.result c.args.bytes.now c.in_ok-rest.rest.now c.named_in.ensures.closed (sym c.in_ok-rest.ensures.value))

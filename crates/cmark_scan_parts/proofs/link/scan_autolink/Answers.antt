@@ -1,9 +1,10 @@
-use Rattle.std.proofs.Common.{◌≡◌, ◌-◌, ◌<◌, ℕ, suc, List, Some, length, take, drop, ap, subst, ◌∙◌}
+use Rattle.std.proofs.Common.{◌≡◌, ◌-◌, ◌<◌, ℕ, suc, List, Some, length, take, drop, ap, subst, ◌∙◌, arith}
 use Rattle.cmark_grammar.specs.Autolinks.{autolink_in}
 use Rattle.cmark_grammar.specs.LinkDefinitions.{Found}
 use Rattle.cmark_scan_parts.specs.Shown.{cut_at}
 use Rattle.cmark_scan_parts.proofs.Lists.{rest_of}
 use Rattle.cmark_scan_parts.proofs.Links.{part_is, cut_out}
+use Rattle.cmark_scan_parts.proofs.Boundaries.{boundary_behind}
 use Rattle.cmark_scan_parts.proofs.link.scan_autolink.Goals as goal
 
 FindsUri : (size : ℕ) → List ℕ → Type 0
@@ -18,3 +19,8 @@ returns-clause-value c =
     part_is (drop start c.args.text.now) c.range.result.now (drop (suc size) (drop start c.args.text.now)) start size (c.range.ensures.value ∙ cut_out c.args.text.now start size)
     (subst (λ (bs : List ℕ). size < length bs) cut c.in_ok-size.ensures.within)
     ∙ ap (cut_at start) (subst (FindsUri size) cut c.in_ok-size.ensures.value)
+
+pub returns-clause-boundary : goal.returns-clause-boundary
+returns-clause-boundary c =
+    let rest = rest_of c.as_bytes.result.now c.args.start_ix ∙ ap (drop c.args.start_ix) c.as_bytes.ensures.value in
+    boundary_behind c.args.text.now _ c.args.start_ix c.in_ok-size.size 62 c.utf8.text rest c.in_ok-size.ensures.within c.in_ok-size.ensures.closed (omega arith)

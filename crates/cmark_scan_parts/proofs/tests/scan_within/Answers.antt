@@ -1,4 +1,4 @@
-use Rattle.std.proofs.Common.{rules, ◌≡◌, ◌≤◌, length, min, arith}
+use Rattle.std.proofs.Common.{rules, length, min}
 use Rattle.cmark_scan_parts.proofs.tests.scan_within.Goals as goal
 
 pub returns : goal.returns

@@ -11,6 +11,7 @@ invariant_of-self c =
       inside = omega arith;
       behind = omega arith;
       aligned = aligned-space line.bytes.now line.taken line.behind_tab some.0 line.behind (sym some.1 ∙ c.in-Some-eq32.field-0-test) line.aligned;
+      stop = line.stop;
       cut = λ h. absurd (omega arith);
     }
 
@@ -22,6 +23,7 @@ invariant_of-self-in-Some-eq9 c =
       inside = omega arith;
       behind = omega arith;
       aligned = aligned-tab line.bytes.now line.taken line.behind_tab some.0 (sym some.1 ∙ c.in-Some-eq9.field-0-test) line.aligned;
+      stop = line.stop;
       cut = λ h. absurd (omega arith);
     }
 

@@ -13,6 +13,7 @@ invariant_of-self c =
       inside = let i = line.inside in omega arith;
       behind = let b = line.behind in omega arith;
       aligned = plain-aligned line.bytes.now line.taken c.args.n line.behind_tab within c.requires.plain line.behind line.aligned;
+      stop = line.stop;
       cut = λ h. absurd (omega arith);
     }
 

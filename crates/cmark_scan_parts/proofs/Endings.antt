@@ -1,0 +1,249 @@
+-- Tags and other pieces of inline HTML end behind a `>`, so that no character is cut there.
+use Rattle.std.proofs.Common.{◌≡◌, ◌⊎◌, inl, inr, ⊎_elim, ℕ, zero, suc, ◌+◌, ◌-◌, ◌<◌, ◌≤◌, Bool, true, false, ◌==◌, ◌||◌, if◌then◌else◌, List, [], ◌∷◌, length, drop, get_or, Option, None, Some, refl, sym, ap, subst, ◌∙◌, arith, eqb-true, length-drop, drop-drop}
+use denote.Ref.{Bor}
+use Rattle.std.specs.Prelude.{codes, option_map, option_copied}
+use Rattle.std.specs.Option.{IfSome, option_or}
+use Rattle.std.specs.Str.{IsCharBoundary, IsUtf8}
+use Rattle.std.proofs.lemmas.List.{get_or-drop}
+use Rattle.std.proofs.lemmas.Str.{IsCharBoundary-after_ascii}
+use Rattle.cmark_grammar.specs.Columns.{is_blank_byte}
+use Rattle.cmark_grammar.specs.Letters.{is_letter, first_is, starts, behind_all, behind_if, behind_start, behind_first, and_then}
+use Rattle.cmark_grammar.specs.Tags.{is_name_byte, is_attribute_start, is_attribute_byte, is_value_byte, is_space_byte, behind_line_feed, behind_ending, behind_tag_name, behind_attribute_name, behind_bare_value, behind_greater, behind_open_end, behind_closing_tag, without_prefix, on_next_line, behind_space, prefix_behind, behind_quote, behind_value, behind_assigned, behind_attribute, behind_attributes, behind_open_tag, behind_tag_start, behind_tag}
+use Rattle.cmark_grammar.specs.InlineHtml.{behind_comment, declaration_in, cdata_in, opened_in, find_with}
+use Rattle.cmark_scan_parts.proofs.Closers.{here_starts}
+
+-- what stands behind some bytes
+abbrev pub IsRest : (bs r : List ℕ) → Type 0
+IsRest bs r = (k : ℕ) × (r ≡ drop k bs)
+
+-- and this byte is the last of them
+pub record IsBehind (b : ℕ) (bs r : List ℕ) : Type 0 where
+  pub place : ℕ
+  pub inside : place < length bs
+  pub byte : get_or bs place 0 ≡ b
+  pub rest : r ≡ drop (suc place) bs
+
+onward : (bs s r : List ℕ) → IsRest bs s → IsRest s r → IsRest bs r
+onward bs s r h i = (h.0 + i.0, i.1 ∙ ap (drop i.0) h.1 ∙ drop-drop i.0 h.0 bs)
+
+pub behind-rest : (b : ℕ) (bs s r : List ℕ) → IsRest bs s → IsBehind b s r → IsBehind b bs r
+behind-rest b bs s r h i =
+    let n = ap length h.1 in let l = length-drop h.0 bs in record {
+      place = h.0 + i.place;
+      inside = let lt = i.inside in omega arith;
+      byte = sym (get_or-drop h.0 bs i.place 0) ∙ ap (λ (l : List ℕ). get_or l i.place 0) (sym h.1) ∙ i.byte;
+      rest = i.rest ∙ ap (drop (suc i.place)) h.1 ∙ drop-drop (suc i.place) h.0 bs ∙ ap (λ n. drop n bs) (let e : h.0 + suc i.place ≡ suc (h.0 + i.place) = omega arith in e);
+    }
+
+pub behind-boundary : (b : ℕ) (bs r : List ℕ) → b < 128 → IsUtf8 bs → IsBehind b bs r → IsCharBoundary bs (length bs - length r)
+behind-boundary b bs r small utf8 h =
+    let inside = h.inside in let byte = h.byte in let n = ap length h.rest in let l = length-drop (suc h.place) bs in
+    subst (IsCharBoundary bs) (let e : h.place + 1 ≡ length bs - length r = omega arith in e) (IsCharBoundary-after_ascii bs h.place utf8 inside (omega (arith, small, byte)))
+
+-- what was answered came from one of the branches, or from the part in front
+branch : {A : Type 0} (z : Bool) (x y : Option A) (r : A) → (if z then x else y) ≡ Some r → (x ≡ Some r) ⊎ (y ≡ Some r)
+branch true x y r e = inl e
+branch false x y r e = inr e
+
+either : {A : Type 0} (x y : Option A) (r : A) → option_or x y ≡ Some r → (x ≡ Some r) ⊎ (y ≡ Some r)
+either None y r e = inr e
+either (Some x) y r e = inl e
+
+after : {A B : Type 0} (o : Option A) (next : A → Option B) (r : B) → and_then o next ≡ Some r → (x : A) × (o ≡ Some x) × (next x ≡ Some r)
+after None next r e = cc
+after (Some x) next r e = (x, refl, e)
+
+mapped : {A B : Type 0} (o : Option A) (f : A → B) (r : B) → option_map f o ≡ Some r → (x : A) × (o ≡ Some x) × (f x ≡ r)
+mapped None f r e = cc
+mapped (Some x) f r e = (x, refl, cc)
+
+same : (x r : List ℕ) → Some x ≡ Some r → r ≡ x
+same x r e = cc
+
+-- parts of tags
+if-rest : (p : ℕ → Bool) (bs r : List ℕ) → behind_if p bs ≡ Some r → IsRest bs r
+if-rest p [] r e = cc
+if-rest p (b ∷ bs) r e = ⊎_elim (λ s. (1, same bs r s)) (λ n. cc) (branch (p b) (Some bs) None r e)
+
+all-rest : (p : ℕ → Bool) (bs : List ℕ) → IsRest bs (behind_all p bs)
+all-rest p bs = (_, refl)
+
+then-all : (p q : ℕ → Bool) (bs r : List ℕ) → and_then (behind_if p bs) (λ rest. Some (behind_all q rest)) ≡ Some r → IsRest bs r
+then-all p q bs r e =
+    let h = after (behind_if p bs) (λ rest. Some (behind_all q rest)) r e in
+    onward bs h.0 r (if-rest p bs h.0 h.1) (subst (IsRest h.0) (sym (same (behind_all q h.0) r h.2)) (all-rest q h.0))
+
+feed-rest : (bs : List ℕ) → IsRest bs (behind_line_feed bs)
+feed-rest [] = (0, refl)
+feed-rest (b ∷ bs) = go (b == 10)
+  where
+    go : (z : Bool) → IsRest (b ∷ bs) (if z then bs else b ∷ bs)
+    go true = (1, refl)
+    go false = (0, refl)
+
+ending-rest : (bs r : List ℕ) → behind_ending bs ≡ Some r → IsRest bs r
+ending-rest [] r e = cc
+ending-rest (b ∷ bs) r e =
+    ⊎_elim (λ s. (1, same bs r s))
+    (λ f. ⊎_elim (λ s. onward (b ∷ bs) bs r (1, refl) (subst (IsRest bs) (sym (same (behind_line_feed bs) r s)) (feed-rest bs))) (λ n. cc) (branch (b == 13) (Some (behind_line_feed bs)) None r f))
+    (branch (b == 10) (Some bs) (if b == 13 then Some (behind_line_feed bs) else None) r e)
+
+module _ (prefix : List ℕ → ℕ) where
+  line-rest : (bs : List ℕ) (o : Option (List ℕ)) → ((r : List ℕ) → o ≡ Some r → IsRest bs r) → IsRest bs (on_next_line prefix bs o)
+  line-rest bs None h = (0, refl)
+  line-rest bs (Some r) h = onward bs r _ (h r refl) (onward r (without_prefix prefix r) _ (_, refl) (all-rest is_blank_byte (without_prefix prefix r)))
+
+  space-rest : (bs : List ℕ) → IsRest bs (behind_space prefix bs)
+  space-rest bs =
+      let blanks : List ℕ = behind_all is_blank_byte bs in
+      onward bs blanks _ (all-rest is_blank_byte bs) (line-rest blanks (behind_ending blanks) (ending-rest blanks))
+
+  quote-rest : (quote skip : ℕ) (bs r : List ℕ) → behind_quote prefix quote skip bs ≡ Some r → IsRest bs r
+  quote-rest quote skip [] r e = cc
+  quote-rest quote (suc skip) (b ∷ bs) r e = onward (b ∷ bs) bs r (1, refl) (quote-rest quote skip bs r e)
+  quote-rest quote zero (b ∷ bs) r e =
+      ⊎_elim (λ s. (1, same bs r s)) (λ f. onward (b ∷ bs) bs r (1, refl) (quote-rest quote (prefix_behind prefix b bs) bs r f))
+      (branch (b == quote) (Some bs) (behind_quote prefix quote (prefix_behind prefix b bs) bs) r e)
+
+  value-rest : (bs r : List ℕ) → behind_value prefix bs ≡ Some r → IsRest bs r
+  value-rest [] r e = cc
+  value-rest (b ∷ bs) r e =
+      ⊎_elim (λ f. onward (b ∷ bs) bs r (1, refl) (quote-rest b 0 bs r f)) (λ f. then-all is_value_byte is_value_byte (b ∷ bs) r f)
+      (branch ((b == 34) || (b == 39)) (behind_quote prefix b 0 bs) (behind_bare_value (b ∷ bs)) r e)
+
+  assigned-rest : (name bs r : List ℕ) → IsRest name bs → behind_assigned prefix name bs ≡ Some r → IsRest name r
+  assigned-rest name [] r h e = (0, same name r e)
+  assigned-rest name (b ∷ bs) r h e =
+      ⊎_elim (λ f. onward name (b ∷ bs) r h (onward (b ∷ bs) bs r (1, refl) (onward bs (behind_space prefix bs) r (space-rest bs) (value-rest (behind_space prefix bs) r f)))) (λ s. (0, same name r s))
+      (branch (b == 61) (behind_value prefix (behind_space prefix bs)) (Some name) r e)
+
+  named-rest : (bs r : List ℕ) → and_then (behind_attribute_name (behind_space prefix bs)) (λ name. behind_assigned prefix name (behind_space prefix name)) ≡ Some r → IsRest bs r
+  named-rest bs r e =
+      let spaced : List ℕ = behind_space prefix bs in
+      let h = after (behind_attribute_name spaced) (λ name. behind_assigned prefix name (behind_space prefix name)) r e in
+      onward bs spaced r (space-rest bs) (onward spaced h.0 r (then-all is_attribute_start is_attribute_byte spaced h.0 h.1) (assigned-rest h.0 (behind_space prefix h.0) r (space-rest h.0) h.2))
+
+  attribute-rest : (bs r : List ℕ) → behind_attribute prefix bs ≡ Some r → IsRest bs r
+  attribute-rest bs r e =
+      ⊎_elim (λ f. named-rest bs r f) (λ n. cc)
+      (branch (first_is is_space_byte bs) (and_then (behind_attribute_name (behind_space prefix bs)) (λ name. behind_assigned prefix name (behind_space prefix name))) None r e)
+
+  attributes-rest : (most : ℕ) (bs : List ℕ) → IsRest bs (behind_attributes prefix most bs)
+  attributes-rest zero bs = (0, refl)
+  attributes-rest (suc most) bs = go (behind_attribute prefix bs) refl (attributes-rest most)
+    where
+      go : (o : Option (List ℕ)) → behind_attribute prefix bs ≡ o → ((rest : List ℕ) → IsRest rest (behind_attributes prefix most rest)) → IsRest bs (elim o [ None ↦ bs | Some rest ↦ behind_attributes prefix most rest ])
+      go None e further = (0, refl)
+      go (Some rest) e further = onward bs rest _ (attribute-rest bs rest e) (further rest)
+
+-- and their ends
+greater-behind : (bs r : List ℕ) → behind_greater bs ≡ Some r → IsBehind 62 bs r
+greater-behind [] r e = cc
+greater-behind (b ∷ bs) r e = go (b == 62) refl e
+  where
+    go : (z : Bool) → (b == 62) ≡ z → (if z then Some bs else None) ≡ Some r → IsBehind 62 (b ∷ bs) r
+    go true f e = record { place = 0; inside = omega arith; byte = eqb-true b 62 f; rest = same bs r e }
+    go false f e = cc
+
+open_end-behind : (bs r : List ℕ) → behind_open_end bs ≡ Some r → IsBehind 62 bs r
+open_end-behind [] r e = cc
+open_end-behind (b ∷ bs) r e =
+    ⊎_elim (λ f. behind-rest 62 (b ∷ bs) bs r (1, refl) (greater-behind bs r f)) (λ f. greater-behind (b ∷ bs) r f) (branch (b == 47) (behind_greater bs) (behind_greater (b ∷ bs)) r e)
+
+closing-behind : (bs r : List ℕ) → behind_closing_tag bs ≡ Some r → IsBehind 62 bs r
+closing-behind bs r e =
+    let h = after (behind_tag_name bs) (λ rest. behind_greater (behind_all is_blank_byte rest)) r e in
+    behind-rest 62 bs h.0 r (then-all is_letter is_name_byte bs h.0 h.1) (behind-rest 62 h.0 (behind_all is_blank_byte h.0) r (all-rest is_blank_byte h.0) (greater-behind (behind_all is_blank_byte h.0) r h.2))
+
+module _ (prefix : List ℕ → ℕ) where
+  open-behind : (bs r : List ℕ) → behind_open_tag prefix bs ≡ Some r → IsBehind 62 bs r
+  open-behind bs r e =
+      let h = after (behind_tag_name bs) (λ rest. behind_open_end (behind_space prefix (behind_attributes prefix (length rest) rest))) r e in
+      let attributes : List ℕ = behind_attributes prefix (length h.0) h.0 in
+      behind-rest 62 bs h.0 r (then-all is_letter is_name_byte bs h.0 h.1)
+      (behind-rest 62 h.0 attributes r (attributes-rest prefix (length h.0) h.0)
+      (behind-rest 62 attributes (behind_space prefix attributes) r (space-rest prefix attributes) (open_end-behind (behind_space prefix attributes) r h.2)))
+
+  start-behind : (bs r : List ℕ) → behind_tag_start prefix bs ≡ Some r → IsBehind 62 bs r
+  start-behind bs r e =
+      ⊎_elim (λ f. behind-rest 62 bs (drop 1 bs) r (1, refl) (closing-behind (drop 1 bs) r f)) (λ f. open-behind bs r f)
+      (branch (first_is (λ b. b == 47) bs) (behind_closing_tag (drop 1 bs)) (behind_open_tag prefix bs) r e)
+
+  pub tag-behind : (bs r : List ℕ) → behind_tag prefix bs ≡ Some r → IsBehind 62 bs r
+  tag-behind bs r e =
+      let h = after (behind_if (λ b. b == 60) bs) (behind_tag_start prefix) r e in
+      behind-rest 62 bs h.0 r (if-rest (λ b. b == 60) bs h.0 h.1) (start-behind h.0 r h.2)
+
+-- closers that end with this byte
+module _ (closer : List ℕ) (some : 0 < length closer) (b : ℕ) (last : get_or closer (length closer - 1) 0 ≡ b) where
+  here-behind : (bs : List ℕ) → starts closer bs ≡ true → IsBehind b bs (drop (length closer) bs)
+  here-behind bs e =
+      let h = here_starts closer some bs e in record {
+        place = length closer - 1;
+        inside = let f : 0 + length closer ≤ length bs = h.fits in omega arith;
+        byte = ap (λ k. get_or bs k 0) (let s : length closer - 1 ≡ 0 + (length closer - 1) = omega arith in s) ∙ h.reads (length closer - 1) (omega arith) ∙ last;
+        rest = ap (λ k. drop k bs) (let s : length closer ≡ suc (length closer - 1) = omega arith in s);
+      }
+
+  start_closer-behind : (bs r : List ℕ) → behind_start closer bs ≡ Some r → IsBehind b bs r
+  start_closer-behind bs r e = go (starts closer bs) refl e
+    where
+      go : (z : Bool) → starts closer bs ≡ z → (if z then Some (drop (length closer) bs) else None) ≡ Some r → IsBehind b bs r
+      go true f e = subst (IsBehind b bs) (sym (same (drop (length closer) bs) r e)) (here-behind bs f)
+      go false f e = cc
+
+  first_closer-behind : (bs r : List ℕ) → behind_first closer bs ≡ Some r → IsBehind b bs r
+  first_closer-behind [] r e = cc
+  first_closer-behind (c ∷ bs) r e = go (starts closer (c ∷ bs)) refl e (first_closer-behind bs r)
+    where
+      go : (z : Bool) → starts closer (c ∷ bs) ≡ z → (if z then Some (drop (length closer) (c ∷ bs)) else behind_first closer bs) ≡ Some r → (behind_first closer bs ≡ Some r → IsBehind b bs r) → IsBehind b (c ∷ bs) r
+      go true f e further = subst (IsBehind b (c ∷ bs)) (sym (same (drop (length closer) (c ∷ bs)) r e)) (here-behind (c ∷ bs) f)
+      go false f e further = behind-rest b (c ∷ bs) bs r (1, refl) (further e)
+
+start-rest : (prefix bs r : List ℕ) → behind_start prefix bs ≡ Some r → IsRest bs r
+start-rest prefix bs r e = ⊎_elim (λ s. (length prefix, same (drop (length prefix) bs) r s)) (λ n. cc) (branch (starts prefix bs) (Some (drop (length prefix) bs)) None r e)
+
+comment-behind : (bs r : List ℕ) → behind_comment bs ≡ Some r → IsBehind 62 bs r
+comment-behind bs r e =
+    ⊎_elim (λ f. start_closer-behind (codes ">") (omega arith) 62 refl bs r f)
+    (λ f. ⊎_elim (λ g. start_closer-behind (codes "->") (omega arith) 62 refl bs r g) (λ g. first_closer-behind (codes "-->") (omega arith) 62 refl bs r g)
+    (either (behind_start (codes "->") bs) (behind_first (codes "-->") bs) r f))
+    (either (behind_start (codes ">") bs) (option_or (behind_start (codes "->") bs) (behind_first (codes "-->") bs)) r e)
+
+pub opened-behind : (bs r : List ℕ) → opened_in bs ≡ Some (Some r) → IsBehind 62 bs r
+opened-behind bs r e =
+    ⊎_elim comment
+    (λ f. ⊎_elim declaration cdata (either (declaration_in bs) (cdata_in bs) (Some r) f))
+    (either (option_map behind_comment (behind_start (codes "--") bs)) (option_or (declaration_in bs) (cdata_in bs)) (Some r) e)
+  where
+    comment : option_map behind_comment (behind_start (codes "--") bs) ≡ Some (Some r) → IsBehind 62 bs r
+    comment f =
+        let h = mapped (behind_start (codes "--") bs) behind_comment (Some r) f in
+        behind-rest 62 bs h.0 r (start-rest (codes "--") bs h.0 h.1) (comment-behind h.0 r h.2)
+
+    declaration : declaration_in bs ≡ Some (Some r) → IsBehind 62 bs r
+    declaration f =
+        let h = mapped (behind_if is_letter bs) (behind_first (codes ">")) (Some r) f in
+        behind-rest 62 bs h.0 r (if-rest is_letter bs h.0 h.1) (first_closer-behind (codes ">") (omega arith) 62 refl h.0 r h.2)
+
+    cdata : cdata_in bs ≡ Some (Some r) → IsBehind 62 bs r
+    cdata f =
+        let h = mapped (behind_start (codes "[CDATA[") bs) (behind_first (codes "]]>")) (Some r) f in
+        behind-rest 62 bs h.0 r (start-rest (codes "[CDATA[") bs h.0 h.1) (first_closer-behind (codes "]]>") (omega arith) 62 refl h.0 r h.2)
+
+pub processing-behind : (bs r : List ℕ) → behind_first (codes "?>") bs ≡ Some r → IsBehind 62 bs r
+processing-behind bs r e = first_closer-behind (codes "?>") (omega arith) 62 refl bs r e
+
+-- where a find ends
+pub find-boundary : (bytes : List ℕ) (at : ℕ) (o : Option (Option (List ℕ))) (end : Option ℕ) → end ≡ (find_with bytes at o).end → IsUtf8 bytes → ((r : List ℕ) → o ≡ Some (Some r) → IsBehind 62 (drop at bytes) r) → IfSome end (IsCharBoundary bytes)
+find-boundary bytes at o end is utf8 h = subst (λ (e : Option ℕ). IfSome e (IsCharBoundary bytes)) (sym is) (go o h)
+  where
+    go : (o : Option (Option (List ℕ))) → ((r : List ℕ) → o ≡ Some (Some r) → IsBehind 62 (drop at bytes) r) → IfSome (find_with bytes at o).end (IsCharBoundary bytes)
+    go None h = tt
+    go (Some None) h = tt
+    go (Some (Some r)) h = behind-boundary 62 bytes r (omega arith) utf8 (behind-rest 62 bytes (drop at bytes) r (at, refl) (h r refl))
+
+-- where a tag ends
+pub tag-boundary : (prefix : List ℕ → ℕ) (bs : List ℕ) (r : Option (Bor (List ℕ))) → option_copied r ≡ behind_tag prefix bs → IsUtf8 bs → IfSome r (λ rest. IsCharBoundary bs (length bs - length rest.now))
+tag-boundary prefix bs None is utf8 = tt
+tag-boundary prefix bs (Some rest) is utf8 = behind-boundary 62 bs rest.now (omega arith) utf8 (tag-behind prefix bs rest.now (sym is))

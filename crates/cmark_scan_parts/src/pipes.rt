@@ -1,0 +1,64 @@
+//! Literal pipes in cells of tables (GFM 4.10).
+
+ghost use Rattle.std.specs.Prelude.{◌≡◌, ◌<◌, ◌++◌, Ok, string_bytes, IfOk, OnOk, MatchOption};
+ghost use Rattle.std.specs.Str.{IsCharBoundary};
+ghost use Rattle.memchr.specs.Find.{FindsNeedle};
+ghost use Rattle.cmark_grammar.specs.LabelsOverLines.{piped, with_literal_pipes};
+ghost use Rattle.cmark_text.specs.Shown.{text_bytes};
+ghost use Rattle.cmark_scan_parts.specs.Pipes.{Drops};
+
+use cmark_text::CowStr;
+use memchr::memmem;
+use std::alloc::{AllocError, Global};
+
+/// The backslashes of a literal pipe.
+#[derive(Clone, Copy)]
+struct Backslashes {
+    /// Where they begin.
+    start: usize,
+    /// Where the pipe stands.
+    end: usize,
+}
+
+/// The one or two backslashes directly before the first pipe that has some.
+fn find_backslashes(text: &str) -> Option<Backslashes>
+    ensures { MatchOption result (with_literal_pipes text.now ≡ text.now) (λ found. Drops text.now found.start found.end) }
+{
+    let bytes = text.as_bytes();
+    let last = memmem::find(bytes, b"\\|")?;
+    let start = if 0 < last && bytes[last - 1] == b'\\' {
+        last - 1
+    } else {
+        last
+    };
+    Some(Backslashes {
+        start,
+        end: last + 1,
+    })
+}
+
+/// Appends the text without the backslashes of its literal pipes.
+fn push_with_literal_pipes(out: &mut String, text: &str) -> Result<(), AllocError>
+    ensures { OnOk result (string_bytes out.new ≡ string_bytes out.old ++ with_literal_pipes text.now) }
+{
+    let mut rest = text;
+    while let Some(found) = find_backslashes(rest) {
+        out.push_str(&rest[..found.start])?;
+        rest = &rest[found.end..];
+    }
+    out.push_str(rest)?;
+    Ok(())
+}
+
+/// The text with `|` in the place of each `\|` and `\\|`; the very text where there is none.
+pub fn with_literal_pipes<'a>(alloc: Global, text: CowStr<'a>) -> Result<CowStr<'a>, AllocError>
+    ensures value { IfOk result (λ made. text_bytes made ≡ with_literal_pipes (text_bytes text.entry)) }
+    ensures kept { with_literal_pipes (text_bytes text.entry) ≡ text_bytes text.entry → result ≡ Ok text.entry }
+{
+    if find_backslashes(text.as_str()).is_none() {
+        return Ok(text);
+    }
+    let mut out = String::new(alloc);
+    push_with_literal_pipes(&mut out, text.as_str())?;
+    CowStr::from_string(out)
+}
