@@ -1,1 +1,5 @@
+pub mod Flags
 pub mod PassSamples
+pub mod PlainTokens
+pub mod Replay
+pub mod Standing
