@@ -1,5 +1,7 @@
+pub mod Draws
 pub mod Flags
 pub mod PassSamples
 pub mod PlainTokens
 pub mod Replay
+pub mod Split
 pub mod Standing
