@@ -70,7 +70,7 @@ drawn-twice a b d = ap (λ h. record { here = h; up = d.up }) (join-assoc d.here
 drawn-done : (s : Stand) (v : OpenNode) (here : BlockDocument) (up : List OpenNode) (d : BlockDocument) → drawn d (list_closed (list_of s) (drawing_at s v here up)) ≡ completed s v here up false (lone d)
 drawn-done s v here up d = ap (drawn d) (list-done s v here up) ∙ drawn-behind s v here up d
 
-other-mark : (a b : ℕ) (z : Bool) → (a == b) ≡ z → (b == a) ≡ z
+pub other-mark : (a b : ℕ) (z : Bool) → (a == b) ≡ z → (b == a) ≡ z
 other-mark a b true e = grind (arith)
 other-mark a b false e = grind (arith)
 
