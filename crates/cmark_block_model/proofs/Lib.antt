@@ -1,3 +1,4 @@
+pub mod Defines
 pub mod Draws
 pub mod Flags
 pub mod PassSamples
