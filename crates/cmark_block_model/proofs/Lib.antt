@@ -1,5 +1,6 @@
 pub mod Defines
 pub mod Draws
+pub mod Filled
 pub mod Flags
 pub mod PassSamples
 pub mod PlainTokens
@@ -7,3 +8,4 @@ pub mod Replay
 pub mod Settles
 pub mod Split
 pub mod Standing
+pub mod Tells
