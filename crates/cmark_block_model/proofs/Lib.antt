@@ -1,3 +1,4 @@
+pub mod CodeRuns
 pub mod Defines
 pub mod Draws
 pub mod Filled
