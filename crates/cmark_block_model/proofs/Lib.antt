@@ -1,8 +1,11 @@
+pub mod Beginning
+pub mod Closing
 pub mod CodeRuns
 pub mod Defines
 pub mod Draws
 pub mod Filled
 pub mod Flags
+pub mod Mirror
 pub mod PassSamples
 pub mod PlainTokens
 pub mod Replay
