@@ -11,12 +11,12 @@ use Rattle.cmark_grammar.specs.Blocks.{Blocks, Nil as NoBlocks, BlankLine, join 
 use Rattle.cmark_grammar.specs.BlocksModel.{within}
 use Rattle.cmark_grammar.specs.BlocksByLine.{OpenLines, Between, InParagraph, InLeaf, InVerbatim, InContainer, html_begun as html_lines_begun, leaf_begun as leaf_lines_begun, lines_begin_as, lines_begin_in, lines_begin}
 use Rattle.cmark_grammar.specs.BlockDocument as document
-use Rattle.cmark_grammar.proofs.BlockLaws.{enter_len, opens-len}
-use Rattle.cmark_block_model.specs.OpenBlocks.{OpenList, OpenContainer, OpenLeaf, Closed, Pass}
-use Rattle.cmark_block_model.specs.BlockPass.{item_begun, list_begun, list_goes_on, container_begun, inside_of, node_opened, is_item, ahead_in, html_begun, leaf_begun, begin_as, begin_in, begin}
+use Rattle.cmark_grammar.proofs.BlockLaws.{enter_len, enter-lazy, opens-len}
+use Rattle.cmark_block_model.specs.OpenBlocks.{OpenList, OpenContainer, OpenLeaf, Closed, InParagraph as InParagraphLeaf, Pass}
+use Rattle.cmark_block_model.specs.BlockPass.{item_begun, list_begun, list_goes_on, container_begun, inside_of, node_opened, paragraph_begun, is_item, ahead_in, html_begun, leaf_begun, begin_as, begin_in, begin}
 use Rattle.cmark_block_model.proofs.Replay.{Level, begun, item_if, item_level, level_opened, standing, entered, leaf_level, replay, replay-join}
 use Rattle.cmark_block_model.proofs.Tells.{Tells, tells}
-use Rattle.cmark_block_model.proofs.Mirror.{whole, whole-same, pass_with, bare_at, Fits, FitsVerbatim, inner_at, leaf_at, container_at, containers_at, pass_at}
+use Rattle.cmark_block_model.proofs.Mirror.{whole, whole-same, pass_with, bare_at, Fits, FitsVerbatim, inner_at, leaf_at, container_at, containers_at, pass_at, paragraph_open}
 
 module _ (text : List ℕ) (options : Options) (lookup : Lookup) where
   -- the lines ahead inside one more container
@@ -55,6 +55,10 @@ module _ (text : List ℕ) (options : Options) (lookup : Lookup) where
   bare-none Quote r e b = refl
   bare-none (Item mark number width) r e b = absurd (true≢false (sym b ∙ e))
 
+  pub enter-past : (k : Container) (r : Row) → (enter k r).past ≡ r.past
+  unfolding enter
+  enter-past k r = refl
+
   -- a leaf that begins
   html-begins : (z : Bool) (kind : ℕ) (closed : Blocks) (r : Row) (ahead : List Row) (l : Level) (outer : List OpenContainer) (b : Bool) (n : ℕ)
       → html_begun text options lookup z kind r.past (pass_with (record (replay text lookup closed l) { drawing = (inner_at text lookup (html_lines_begun false closed kind r) ahead l).drawing; inner = (begun (replay text lookup closed l)).inner }) outer false Closed n)
@@ -73,3 +77,153 @@ module _ (text : List ℕ) (options : Options) (lookup : Lookup) where
   leaf-begins (FencedCode fence) more closed r ahead l outer b n t = refl
   leaf-begins (HtmlBlock kind) more closed r ahead l outer b n t = html-begins (nat_le kind 5 && holds_end kind (words_of r)) kind closed r ahead l outer b n
   leaf-begins (LinkDefinition definition) more closed r ahead l outer b n t = refl
+
+  leaf-alone : (leaf : Leaf) (more : ℕ) (closed : Blocks) (r : Row) (l : Level) → containers_at text lookup (leaf_lines_begun leaf more closed r) l ≡ []
+  leaf-alone ThematicBreak more closed r l = refl
+  leaf-alone (AtxHeading level) more closed r l = refl
+  leaf-alone IndentedCode more closed r l = refl
+  leaf-alone (FencedCode fence) more closed r l = refl
+  leaf-alone (HtmlBlock kind) more closed r l = go (nat_le kind 5 && holds_end kind (words_of r))
+    where
+      go : (z : Bool) → containers_at text lookup (html_lines_begun z closed kind r) l ≡ []
+      go true = refl
+      go false = refl
+  leaf-alone (LinkDefinition definition) more closed r l = refl
+
+  leaf-bare : (leaf : Leaf) (more : ℕ) (closed : Blocks) (r : Row) (a b : Bool) → bare_at a (leaf_lines_begun leaf more closed r) ≡ bare_at b (leaf_lines_begun leaf more closed r)
+  leaf-bare ThematicBreak more closed r a b = refl
+  leaf-bare (AtxHeading level) more closed r a b = refl
+  leaf-bare IndentedCode more closed r a b = refl
+  leaf-bare (FencedCode fence) more closed r a b = refl
+  leaf-bare (HtmlBlock kind) more closed r a b = go (nat_le kind 5 && holds_end kind (words_of r))
+    where
+      go : (z : Bool) → bare_at a (html_lines_begun z closed kind r) ≡ bare_at b (html_lines_begun z closed kind r)
+      go true = refl
+      go false = refl
+  leaf-bare (LinkDefinition definition) more closed r a b = refl
+
+  -- what the first line begins inside a container
+  abbrev pub inside_begun : ℕ → Container → Row → List Row → OpenLines
+  inside_begun m k r ahead = lines_begin_in options m NoBlocks (enter k r) ahead
+
+  blank-begins : (m : ℕ) (k : Container) (r : Row) (ahead : List Row) → r.lazy ≡ false → is_blank_line (enter k r) ≡ true → inside_begun (suc m) k r ahead ≡ Between (BlankLine (enter k r) NoBlocks)
+  blank-begins m k r ahead l b =
+      ap (λ o. lines_begin_as o (λ j. lines_begin_in options m NoBlocks (enter j (enter k r)) (within j (is_bare_start j (enter k r)) ahead)) NoBlocks (enter k r))
+      (opens-blank (enter k r) ahead (enter-lazy options k r ∙ l) b)
+
+  bare-begins : (m : ℕ) (k : Container) (r : Row) (ahead : List Row) → is_bare_start k r ≡ false → bare_at (is_item k) (inside_begun (suc m) k r ahead) ≡ bare_at false (inside_begun (suc m) k r ahead)
+  bare-begins m k r ahead e = go (opens options (enter k r) ahead) (tells options (enter k r) ahead)
+    where
+      inside : Container → OpenLines
+      inside j = lines_begin_in options m NoBlocks (enter j (enter k r)) (within j (is_bare_start j (enter k r)) ahead)
+
+      go : (o : Opening) → Tells (enter k r) o → bare_at (is_item k) (lines_begin_as o inside NoBlocks (enter k r)) ≡ bare_at false (lines_begin_as o inside NoBlocks (enter k r))
+      go Blank t = bare-none k r e t.1
+      go (Nests j) t = refl
+      go (Takes leaf more) t = leaf-bare leaf more NoBlocks (enter k r) (is_item k) false
+      go Plain t = refl
+
+  inside-same : (m : ℕ) (k : Container) (r : Row) (ahead : List Row) (l : Level) (outer : List OpenContainer) (n : ℕ) → r.lazy ≡ false → length (enter k r).columns < m
+      → pass_at text lookup (inside_begun m k r (within k false ahead)) (within k false ahead) l outer (is_item k) n
+      ≡ pass_at text lookup (inside_begun m k r (within k (is_bare_start k r) ahead)) (within k (is_bare_start k r) ahead) l outer (is_bare_start k r) n
+  inside-same zero k r ahead l outer n e f = absurd (omega (arith, f))
+  inside-same (suc m) k r ahead l outer n e f = go (is_bare_start k r) refl
+    where
+      go : (z : Bool) → is_bare_start k r ≡ z → pass_at text lookup (inside_begun (suc m) k r (within k false ahead)) (within k false ahead) l outer (is_item k) n
+          ≡ pass_at text lookup (inside_begun (suc m) k r (within k (is_bare_start k r) ahead)) (within k (is_bare_start k r) ahead) l outer (is_bare_start k r) n
+      go true b =
+          ap (λ o. pass_at text lookup o (within k false ahead) l outer (is_item k) n) (blank-begins m k r (within k false ahead) e (bare-start k r b))
+          ∙ ap (λ z. pass_at text lookup (Between (BlankLine (enter k r) NoBlocks)) [] l outer z n) (bare-item k r b ∙ sym b)
+          ∙ ap (λ o. pass_at text lookup o (within k (is_bare_start k r) ahead) l outer (is_bare_start k r) n) (sym (blank-begins m k r (within k (is_bare_start k r) ahead) e (bare-start k r b)))
+      go false b =
+          let o = inside_begun (suc m) k r (within k false ahead) in
+          ap (λ z. pass_with (inner_at text lookup o (within k false ahead) l) (outer ++ containers_at text lookup o l) z (leaf_at text lookup o) n) (bare-begins m k r (within k false ahead) b)
+          ∙ ap (λ z. pass_at text lookup (inside_begun (suc m) k r (within k z ahead)) (within k z ahead) l outer z n) (sym b)
+
+  pub begins : (m : ℕ) (closed : Blocks) (r : Row) (next ahead : List Row) (l : Level) (outer : List OpenContainer) (b : Bool) (n : ℕ) → r.lazy ≡ false → length r.columns < m → ahead_in text options lookup outer next ≡ ahead
+      → begin_in text options lookup m r next b (pass_with (replay text lookup closed l) outer false Closed n) ≡ pass_at text lookup (lines_begin_in options m closed r ahead) ahead l outer b n
+  begins zero closed r next ahead l outer b n e f a = absurd (omega (arith, f))
+  begins (suc m) closed r next ahead l outer b n e f a =
+      ap (λ x. begin_as text options lookup (opens options r x) (λ k. begin_in text options lookup m (enter k r) next (is_item k) (container_begun k r p)) r x b p) a
+      ∙ go (opens options r ahead) refl (tells options r ahead)
+      (λ k o. let le : length (enter k r).columns < length r.columns = enter_len options k r ahead o in
+          begins m NoBlocks (enter k r) next (within k false ahead) (entered k r c) (outer ++ container_at text lookup k r c ∷ []) (is_item k) n (enter-lazy options k r ∙ e) (omega (arith, f, le))
+          (ahead-inside outer (container_at text lookup k r c) next ∙ ap (within k false) a))
+    where
+      c : Level
+      c = replay text lookup closed l
+
+      p : Pass
+      p = pass_with (replay text lookup closed l) outer false Closed n
+
+      inside : Container → OpenLines
+      inside k = lines_begin_in options m NoBlocks (enter k r) (within k (is_bare_start k r) ahead)
+
+      Inside : Container → Type 0
+      Inside k = begin_in text options lookup m (enter k r) next (is_item k) (pass_with (entered k r (replay text lookup closed l)) (outer ++ container_at text lookup k r (replay text lookup closed l) ∷ []) false Closed n)
+          ≡ pass_at text lookup (inside_begun m k r (within k false ahead)) (within k false ahead) (entered k r (replay text lookup closed l)) (outer ++ container_at text lookup k r (replay text lookup closed l) ∷ []) (is_item k) n
+
+      go : (o : Opening) → opens options r ahead ≡ o → Tells r o → ((k : Container) → opens options r ahead ≡ Nests k → Inside k)
+          → begin_as text options lookup o (λ k. begin_in text options lookup m (enter k r) next (is_item k) (container_begun k r (pass_with (replay text lookup closed l) outer false Closed n))) r ahead b (pass_with (replay text lookup closed l) outer false Closed n)
+          ≡ pass_at text lookup (lines_begin_as o (λ k. lines_begin_in options m NoBlocks (enter k r) (within k (is_bare_start k r) ahead)) closed r) ahead l outer b n
+      go Blank q t ih =
+          ap (λ x. pass_with x outer b Closed n) (sym (replay-join text lookup closed (BlankLine r NoBlocks) l))
+          ∙ ap (λ o. pass_with (replay text lookup (join_blocks closed (BlankLine r NoBlocks)) l) o b Closed n) (sym (append-nil outer))
+      go (Nests k) q t ih =
+          let v = container_at text lookup k r c in
+          let i = inside_begun m k r (within k (is_bare_start k r) ahead) in
+          let le : length (enter k r).columns < length r.columns = enter_len options k r ahead q in
+          ap (begin_in text options lookup m (enter k r) next (is_item k)) (container-begins k r c outer n)
+          ∙ ih k q
+          ∙ inside-same m k r ahead (entered k r c) (outer ++ v ∷ []) n e (omega (arith, f, le))
+          ∙ ap (λ o. pass_with (inner_at text lookup i (within k (is_bare_start k r) ahead) (entered k r c)) o (bare_at (is_bare_start k r) i) (leaf_at text lookup i) n) (append_assoc outer (v ∷ []) (containers_at text lookup i (entered k r c)))
+      go (Takes leaf more) q t ih =
+          let i = leaf_lines_begun leaf more closed r in
+          leaf-begins leaf more closed r ahead l outer b n t
+          ∙ ap (λ o. pass_with (inner_at text lookup i ahead l) o (bare_at b i) (leaf_at text lookup i) n) (sym (ap (λ x. outer ++ x) (leaf-alone leaf more closed r l) ∙ append-nil outer))
+      go Plain q t ih =
+          ap (λ x. pass_with (paragraph_open text lookup r [] (replay text lookup closed l)) outer false (InParagraphLeaf x) n) (sym (whole-same r e))
+          ∙ ap (λ o. pass_with (paragraph_open text lookup r [] (replay text lookup closed l)) o false (InParagraphLeaf (whole r)) n) (sym (append-nil outer))
+
+  -- where nothing but a blank line may begin, no line that is bare begins something
+  not-bare : (b : Bool) (r : Row) (ahead : List Row) → r.lazy ≡ false → (b ≡ true → is_blank_line r ≡ true) → (opens options r ahead ≡ Blank → ⊥) → b ≡ false
+  not-bare false r ahead e h ne = refl
+  not-bare true r ahead e h ne = absurd (ne (opens-blank r ahead e (h refl)))
+
+  -- what has begun fits
+  pub begins-fit : (m : ℕ) (closed : Blocks) (r : Row) (ahead : List Row) (b : Bool) (n : ℕ) → r.lazy ≡ false → length r.columns < m → (b ≡ true → is_blank_line r ≡ true) → r.past ≡ n
+      → Fits b (lines_begin_in options m closed r ahead) ahead n
+  begins-fit zero closed r ahead b n e f h q = absurd (omega (arith, f))
+  begins-fit (suc m) closed r ahead b n e f h q =
+      go (opens options r ahead) refl (tells options r ahead)
+      (λ k o. let le : length (enter k r).columns < length r.columns = enter_len options k r ahead o in
+          begins-fit m NoBlocks (enter k r) (within k (is_bare_start k r) ahead) (is_bare_start k r) n (enter-lazy options k r ∙ e) (omega (arith, f, le)) (bare-start k r) (enter-past k r ∙ q))
+    where
+      html : (z : Bool) (kind : ℕ) → b ≡ false → Fits b (html_lines_begun z closed kind r) ahead n
+      html true kind nb = (nb, omega arith, λ never. refl)
+      html false kind nb = (nb, (refl, q))
+
+      leaf-fits : (leaf : Leaf) (more : ℕ) → b ≡ false → more ≤ length ahead → Tells r (Takes leaf more) → Fits b (leaf_lines_begun leaf more closed r) ahead n
+      leaf-fits ThematicBreak more nb le t = (nb, le, λ never. t)
+      leaf-fits (AtxHeading level) more nb le t = (nb, le, λ never. t)
+      leaf-fits IndentedCode more nb le t = (nb, tt)
+      leaf-fits (FencedCode fence) more nb le t = (nb, (refl, q, tt))
+      leaf-fits (HtmlBlock kind) more nb le t = html (nat_le kind 5 && holds_end kind (words_of r)) kind nb
+      leaf-fits (LinkDefinition definition) more nb le t = (nb, le, λ never. absurd (true≢false never))
+
+      go : (o : Opening) → opens options r ahead ≡ o → Tells r o → ((k : Container) → opens options r ahead ≡ Nests k → Fits (is_bare_start k r) (inside_begun m k r (within k (is_bare_start k r) ahead)) (within k (is_bare_start k r) ahead) n)
+          → Fits b (lines_begin_as o (λ k. lines_begin_in options m NoBlocks (enter k r) (within k (is_bare_start k r) ahead)) closed r) ahead n
+      go Blank o t ih = tt
+      go (Nests k) o t ih = (not-bare b r ahead e h (λ x. let y : Nests k ≡ Blank = sym o ∙ x in cc), q, ih k o)
+      go (Takes leaf more) o t ih = leaf-fits leaf more (not-bare b r ahead e h (λ x. let y : Takes leaf more ≡ Blank = sym o ∙ x in cc)) (opens-len options r ahead leaf more o) t
+      go Plain o t ih = (not-bare b r ahead e h (λ x. let y : Plain ≡ Blank = sym o ∙ x in cc), q)
+
+  -- behind closed blocks
+  pub starts : (closed : Blocks) (r : Row) (next ahead : List Row) (l : Level) (outer : List OpenContainer) (n : ℕ) → r.lazy ≡ false → ahead_in text options lookup outer next ≡ ahead
+      → begin text options lookup r next (pass_with (replay text lookup closed l) outer false Closed n) ≡ pass_at text lookup (lines_begin options closed r ahead) ahead l outer false n
+  unfolding lines_begin
+  starts closed r next ahead l outer n e a = begins (suc (length r.columns)) closed r next ahead l outer false n e (omega arith) a
+
+  pub starts-fit : (closed : Blocks) (r : Row) (ahead : List Row) → r.lazy ≡ false → Fits false (lines_begin options closed r ahead) ahead r.past
+  unfolding lines_begin
+  starts-fit closed r ahead e = begins-fit (suc (length r.columns)) closed r ahead false r.past e (omega arith) (λ never. absurd (true≢false (sym never))) refl

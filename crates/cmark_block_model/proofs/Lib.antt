@@ -3,6 +3,7 @@ pub mod Closing
 pub mod CodeRuns
 pub mod Defines
 pub mod Draws
+pub mod Feeding
 pub mod Filled
 pub mod Flags
 pub mod Mirror
