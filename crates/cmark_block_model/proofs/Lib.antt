@@ -14,3 +14,4 @@ pub mod Settles
 pub mod Split
 pub mod Standing
 pub mod Tells
+pub mod VerbatimLines
