@@ -38,7 +38,7 @@ module _ (text : List ℕ) (options : Options) (lookup : Lookup) where
       (sym (ap whole (last_push first more s) ∙ e))
       ∙ ap (λ d. pass_with (level_drawn d (level_opened (start_of first) document.Paragraph (begun l))) outer false (InParagraphLeaf (whole (last_of first (more ++ s ∷ [])))) n) (sym (drawn-push text lookup first more s))
 
-  paragraph-feeds : (closed : Blocks) (first : Row) (more : List Row) (r : Row) (next ahead : List Row) (l : Level) (outer : List OpenContainer) (b : Bool) (n : ℕ) → r.lazy ≡ false → ahead_in text options lookup outer next ≡ ahead
+  pub paragraph-feeds : (closed : Blocks) (first : Row) (more : List Row) (r : Row) (next ahead : List Row) (l : Level) (outer : List OpenContainer) (b : Bool) (n : ℕ) → r.lazy ≡ false → ahead_in text options lookup outer next ≡ ahead
       → Fits b (InParagraph closed first more) (r ∷ ahead) n
       → leaf_fed text options lookup (leaf_at text lookup (InParagraph closed first more)) r next (pass_with (inner_at text lookup (InParagraph closed first more) (r ∷ ahead) l) outer false (leaf_at text lookup (InParagraph closed first more)) n)
       ≡ pass_at text lookup (lines_feed options (InParagraph closed first more) r ahead) ahead l outer false n
@@ -73,7 +73,7 @@ module _ (text : List ℕ) (options : Options) (lookup : Lookup) where
           ap (λ x. if texts options r x then paragraph_line text options lookup (whole (last_of first more)) r p else begin text options lookup r next (leaf_closed text options lookup p)) a
           ∙ text-goes (texts options r ahead)
 
-  leaf-feeds : (closed : Blocks) (leaf : Leaf) (first : Row) (had : List Row) (left : ℕ) (r : Row) (next ahead : List Row) (l : Level) (outer : List OpenContainer) (b : Bool) (n : ℕ) → r.lazy ≡ false → ahead_in text options lookup outer next ≡ ahead
+  pub leaf-feeds : (closed : Blocks) (leaf : Leaf) (first : Row) (had : List Row) (left : ℕ) (r : Row) (next ahead : List Row) (l : Level) (outer : List OpenContainer) (b : Bool) (n : ℕ) → r.lazy ≡ false → ahead_in text options lookup outer next ≡ ahead
       → Fits b (InLeaf closed leaf first had left) (r ∷ ahead) n
       → leaf_fed text options lookup (leaf_left leaf left) r next (pass_with (inner_at text lookup (InLeaf closed leaf first had left) (r ∷ ahead) l) outer false (leaf_left leaf left) n)
       ≡ pass_at text lookup (lines_feed options (InLeaf closed leaf first had left) r ahead) ahead l outer false n

@@ -15,3 +15,7 @@ pub mod Split
 pub mod Standing
 pub mod Tells
 pub mod VerbatimLines
+pub mod LazyLines
+pub mod Keeping
+pub mod Simulation
+pub mod Theorem

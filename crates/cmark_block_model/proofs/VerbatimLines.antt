@@ -40,7 +40,7 @@ module _ (text : List ℕ) (options : Options) (lookup : Lookup) where
       ∙ ap (λ h. pass_with (verbatim_level text lookup Indented first h c) outer false (verbatim_leaf text lookup Indented first h []) n) (append_assoc had (r ∷ []) rs)
 
   -- lines that do not wait
-  had-more : (had waiting : List Row) (r : Row) → waiting ≡ [] → ((had ++ waiting) ++ r ∷ []) ≡ (had ++ r ∷ [])
+  pub had-more : (had waiting : List Row) (r : Row) → waiting ≡ [] → ((had ++ waiting) ++ r ∷ []) ≡ (had ++ r ∷ [])
   had-more had waiting r e = ap (λ w. (had ++ w) ++ r ∷ []) e ∙ ap (λ h. h ++ r ∷ []) (append-nil had)
 
   had-all : (had waiting : List Row) (r : Row) → waiting ≡ [] → (((had ++ waiting) ++ r ∷ []) ++ []) ≡ (had ++ r ∷ [])
@@ -58,7 +58,7 @@ module _ (text : List ℕ) (options : Options) (lookup : Lookup) where
       go false true f = cc
       go false false f = cc
 
-  never-waits : (kind : ℕ) (r : Row) → html_further kind r ≡ Waits → ⊥
+  pub never-waits : (kind : ℕ) (r : Row) → html_further kind r ≡ Waits → ⊥
   never-waits kind r = html _ _ _
     where
       html : (a b c : Bool) → (if a then if b then Stops else GoesOn else if c then Closes else GoesOn) ≡ Waits → ⊥
