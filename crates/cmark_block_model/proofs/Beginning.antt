@@ -1,22 +1,22 @@
 -- What a line begins: the pass begins what the model does.
-use Rattle.std.proofs.Common.{◌≡◌, ℕ, zero, suc, ◌≤◌, ◌<◌, ◌==◌, ◌&&◌, Bool, true, false, List, [], ◌∷◌, ◌++◌, length, take, refl, ap, ◌∙◌, sym, subst, append_assoc, append-nil, Option, Some, None, arith, true≢false}
+use Rattle.std.proofs.Common.{◌≡◌, ℕ, zero, suc, ◌≤◌, ◌<◌, ◌==◌, ◌&&◌, Bool, true, false, List, [], ◌∷◌, ◌++◌, length, take, refl, ap, ◌∙◌, sym, append_assoc, append-nil, Option, Some, None, arith, true≢false}
 use Rattle.std.specs.Prelude.{nat_le, if◌then◌else◌}
 use Rattle.cmark_grammar.specs.Answers.{Lookup}
 use Rattle.cmark_grammar.specs.Options.{Options}
-use Rattle.cmark_grammar.specs.Rows.{Row, start_of, begin_of, past_of, first_place, words_of, is_blank_line, shown}
+use Rattle.cmark_grammar.specs.Rows.{Row, begin_of, words_of, is_blank_line, shown}
 use Rattle.cmark_grammar.specs.HtmlBlocks.{holds_end}
-use Rattle.cmark_grammar.specs.Containers.{Container, Quote, Item, enter, strips, is_bare_start, bare_after}
+use Rattle.cmark_grammar.specs.Containers.{Container, Quote, Item, enter, strips, is_bare_start}
 use Rattle.cmark_grammar.specs.Openings.{Leaf, ThematicBreak, AtxHeading, IndentedCode, FencedCode, HtmlBlock, LinkDefinition, Opening, Blank, Nests, Takes, Plain, opens}
-use Rattle.cmark_grammar.specs.Blocks.{Blocks, Nil as NoBlocks, BlankLine, join as join_blocks, may_lazy}
+use Rattle.cmark_grammar.specs.Blocks.{Blocks, Nil as NoBlocks, BlankLine, join as join_blocks}
 use Rattle.cmark_grammar.specs.BlocksModel.{within}
-use Rattle.cmark_grammar.specs.BlocksByLine.{OpenLines, Between, InParagraph, InLeaf, InVerbatim, InContainer, html_begun as html_lines_begun, leaf_begun as leaf_lines_begun, lines_begin_as, lines_begin_in, lines_begin}
+use Rattle.cmark_grammar.specs.BlocksByLine.{OpenLines, Between, html_begun as html_lines_begun, leaf_begun as leaf_lines_begun, lines_begin_as, lines_begin_in, lines_begin}
 use Rattle.cmark_grammar.specs.BlockDocument as document
 use Rattle.cmark_grammar.proofs.BlockLaws.{enter_len, enter-lazy, opens-len}
-use Rattle.cmark_block_model.specs.OpenBlocks.{OpenList, OpenContainer, OpenLeaf, Closed, InParagraph as InParagraphLeaf, Pass}
-use Rattle.cmark_block_model.specs.BlockPass.{item_begun, list_begun, list_goes_on, container_begun, inside_of, node_opened, paragraph_begun, is_item, ahead_in, html_begun, leaf_begun, begin_as, begin_in, begin}
-use Rattle.cmark_block_model.proofs.Replay.{Level, begun, item_if, item_level, level_opened, standing, entered, leaf_level, replay, replay-join}
+use Rattle.cmark_block_model.specs.OpenBlocks.{OpenList, OpenContainer, Closed, InParagraph as InParagraphLeaf, Pass}
+use Rattle.cmark_block_model.specs.BlockPass.{item_begun, list_begun, list_goes_on, container_begun, inside_of, node_opened, is_item, ahead_in, html_begun, leaf_begun, begin_as, begin_in, begin}
+use Rattle.cmark_block_model.proofs.Replay.{Level, begun, item_if, item_level, level_opened, entered, leaf_level, replay, replay-join}
 use Rattle.cmark_block_model.proofs.Tells.{Tells, tells}
-use Rattle.cmark_block_model.proofs.Mirror.{whole, whole-same, pass_with, bare_at, Fits, FitsVerbatim, inner_at, leaf_at, container_at, containers_at, pass_at, paragraph_open}
+use Rattle.cmark_block_model.proofs.Mirror.{whole, whole-same, pass_with, bare_at, Fits, inner_at, leaf_at, container_at, containers_at, pass_at, paragraph_open}
 
 module _ (text : List ℕ) (options : Options) (lookup : Lookup) where
   -- the lines ahead inside one more container
@@ -147,8 +147,8 @@ module _ (text : List ℕ) (options : Options) (lookup : Lookup) where
       ap (λ x. begin_as text options lookup (opens options r x) (λ k. begin_in text options lookup m (enter k r) next (is_item k) (container_begun k r p)) r x b p) a
       ∙ go (opens options r ahead) refl (tells options r ahead)
       (λ k o. let le : length (enter k r).columns < length r.columns = enter_len options k r ahead o in
-          begins m NoBlocks (enter k r) next (within k false ahead) (entered k r c) (outer ++ container_at text lookup k r c ∷ []) (is_item k) n (enter-lazy options k r ∙ e) (omega (arith, f, le))
-          (ahead-inside outer (container_at text lookup k r c) next ∙ ap (within k false) a))
+      begins m NoBlocks (enter k r) next (within k false ahead) (entered k r c) (outer ++ container_at text lookup k r c ∷ []) (is_item k) n (enter-lazy options k r ∙ e) (omega (arith, f, le))
+      (ahead-inside outer (container_at text lookup k r c) next ∙ ap (within k false) a))
     where
       c : Level
       c = replay text lookup closed l
@@ -197,7 +197,7 @@ module _ (text : List ℕ) (options : Options) (lookup : Lookup) where
   begins-fit (suc m) closed r ahead b n e f h q =
       go (opens options r ahead) refl (tells options r ahead)
       (λ k o. let le : length (enter k r).columns < length r.columns = enter_len options k r ahead o in
-          begins-fit m NoBlocks (enter k r) (within k (is_bare_start k r) ahead) (is_bare_start k r) n (enter-lazy options k r ∙ e) (omega (arith, f, le)) (bare-start k r) (enter-past k r ∙ q))
+      begins-fit m NoBlocks (enter k r) (within k (is_bare_start k r) ahead) (is_bare_start k r) n (enter-lazy options k r ∙ e) (omega (arith, f, le)) (bare-start k r) (enter-past k r ∙ q))
     where
       html : (z : Bool) (kind : ℕ) → b ≡ false → Fits b (html_lines_begun z closed kind r) ahead n
       html true kind nb = (nb, omega arith, λ never. refl)

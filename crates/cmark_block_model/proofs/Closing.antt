@@ -1,24 +1,22 @@
 -- What is open closed: the leaf, and the containers.
-use Rattle.std.proofs.Common.{◌≡◌, ℕ, zero, suc, ◌≤◌, Bool, true, false, List, [], ◌∷◌, ◌++◌, length, take, refl, ap, ◌∙◌, sym, subst, append_assoc, append-nil, Option, Some, None, arith}
+use Rattle.std.proofs.Common.{◌≡◌, ℕ, zero, suc, ◌≤◌, Bool, true, false, List, [], ◌∷◌, ◌++◌, take, refl, ap, ◌∙◌, sym, append_assoc, append-nil, arith}
 use Rattle.cmark_grammar.specs.Answers.{Lookup}
 use Rattle.cmark_grammar.specs.Options.{Options}
 use Rattle.cmark_grammar.specs.Rows.{Row, start_of, begin_of, past_of, first_place}
-use Rattle.cmark_grammar.specs.Leaves.{Fence, closes_fence}
-use Rattle.cmark_grammar.specs.Containers.{Container, Quote, Item, is_bare_start, bare_after}
+use Rattle.cmark_grammar.specs.Leaves.{Fence}
+use Rattle.cmark_grammar.specs.Containers.{is_bare_start, bare_after}
 use Rattle.cmark_grammar.specs.Openings.{Leaf, ThematicBreak, AtxHeading, IndentedCode, FencedCode, HtmlBlock, LinkDefinition}
-use Rattle.cmark_grammar.specs.Blocks.{Blocks, Nil as NoBlocks, BlankLine, Paragraph, LeafBlock, ContainerBlock, join as join_blocks, may_lazy}
-use Rattle.cmark_grammar.specs.BlocksModel.{within}
+use Rattle.cmark_grammar.specs.Blocks.{Blocks, Nil as NoBlocks, Paragraph, LeafBlock, ContainerBlock, join as join_blocks}
 use Rattle.cmark_grammar.specs.BlocksByLine.{Verbatim, Indented, Fenced, HtmlLines, leaf_in, OpenLines, Between, InParagraph, InLeaf, InVerbatim, InContainer, blank_lines, close_lines}
-use Rattle.cmark_grammar.specs.Tokens.{resolved, pieces, line_columns, stop_at, html_tokens, fenced_lines, paragraph_tokens, code_tokens, code_columns}
+use Rattle.cmark_grammar.specs.Tokens.{resolved, pieces, line_columns, stop_at, html_tokens, fenced_lines, code_tokens, code_columns}
 use Rattle.cmark_grammar.specs.BlockDocument as document
 use Rattle.cmark_grammar.specs.BlockDocument.{BlockDocument, BlockKind, Nil, Node, node, join}
-use Rattle.cmark_block_model.specs.CodeLines.{no_run, texts_of, rest_of}
-use Rattle.cmark_block_model.specs.Drawing.{Drawing, drawn}
-use Rattle.cmark_block_model.specs.OpenBlocks.{OpenContainer, OpenLeaf, Closed, InParagraph as InParagraphLeaf, InDefinition, InIndented, InFenced, InHtml, Pass}
-use Rattle.cmark_block_model.specs.BlockPass.{list_closed, close_leaf, is_some, containers_closed, container_closed}
-use Rattle.cmark_block_model.proofs.CodeRuns.{code_run, run-tokens}
-use Rattle.cmark_block_model.proofs.Replay.{Level, begun, level_opened, level_drawn, standing, entered, leaf_level, paragraph_level, left_by, blank_level, replay, replay-join}
-use Rattle.cmark_block_model.proofs.Mirror.{whole, last_of, pass_with, leaf_left, AreCode, FitsVerbatim, Fits, lines_drawn, drawn-tokens, paragraph_open, verbatim_level, verbatim_leaf, inner_at, leaf_at, container_at, containers_at}
+use Rattle.cmark_block_model.specs.CodeLines.{texts_of}
+use Rattle.cmark_block_model.specs.OpenBlocks.{OpenContainer, Closed}
+use Rattle.cmark_block_model.specs.BlockPass.{close_leaf, is_some, containers_closed, container_closed}
+use Rattle.cmark_block_model.proofs.CodeRuns.{run-tokens}
+use Rattle.cmark_block_model.proofs.Replay.{Level, begun, level_drawn, standing, entered, leaf_level, left_by, blank_level, replay, replay-join}
+use Rattle.cmark_block_model.proofs.Mirror.{last_of, pass_with, leaf_left, AreCode, FitsVerbatim, Fits, lines_drawn, drawn-tokens, verbatim_level, verbatim_leaf, inner_at, leaf_at, container_at, containers_at}
 
 no-more : {A : Type 0} (n : ℕ) → n ≤ 0 → (P : ℕ → A) → P n ≡ P 0
 no-more n le P = let e : n ≡ 0 = omega (arith, le) in ap P e

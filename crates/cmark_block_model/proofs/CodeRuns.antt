@@ -2,9 +2,9 @@
 use Rattle.std.proofs.Common.{◌≡◌, ℕ, Bool, true, false, ◌==◌, ◌&&◌, not, List, [], ◌∷◌, ◌++◌, refl, ap, ◌∙◌, sym, append_assoc, append-nil, Option, Some, None, true≢false}
 use Rattle.std.specs.Prelude.{if◌then◌else◌}
 use Rattle.cmark_grammar.specs.Rows.{Row}
-use Rattle.cmark_grammar.specs.BlockDocument.{BlockDocument, Nil, join}
+use Rattle.cmark_grammar.specs.BlockDocument.{Nil, join}
 use Rattle.cmark_grammar.specs.Tokens.{Piece, touches, merge, merge_all, texts_then, verbatim_line, code_columns, code_pieces, code_tokens}
-use Rattle.cmark_block_model.specs.CodeLines.{Run, no_run, longer, put_behind, touch, add_to, add_piece, add_pieces, code_line, rest_of, texts_of}
+use Rattle.cmark_block_model.specs.CodeLines.{Run, no_run, longer, put_behind, touch, add_pieces, code_line, rest_of, texts_of}
 use Rattle.cmark_block_model.proofs.PlainTokens.{texts-append, texts-join}
 
 abbrev pub merge_waits : Option Piece → List Piece → List Piece

@@ -2,9 +2,8 @@
 use Rattle.std.proofs.Common.{◌≡◌, ◌==◌, ℕ, Bool, true, false, List, [], ◌∷◌, ◌++◌, refl, ap, ◌∙◌, sym, append_assoc, append-nil, Option, Some, None}
 use Rattle.cmark_grammar.specs.Answers.{Lookup}
 use Rattle.cmark_grammar.specs.Rows.{Row, past_of, begin_of, start_of}
-use Rattle.cmark_grammar.specs.Containers.{Container, Quote, Item}
+use Rattle.cmark_grammar.specs.Containers.{Quote, Item}
 use Rattle.cmark_grammar.specs.Openings.{Leaf, ThematicBreak, AtxHeading, IndentedCode, FencedCode, HtmlBlock, LinkDefinition}
-use Rattle.cmark_grammar.specs.Leaves.{Fence}
 use Rattle.cmark_grammar.specs.Blocks.{Blocks, Nil as NoBlocks, BlankLine, Paragraph, SetextHeading, LeafBlock, ContainerBlock}
 use Rattle.cmark_grammar.specs.Lists.{ListBefore, tight_behind, goes_on}
 use Rattle.cmark_grammar.specs.Tokens.{fenced_lines}
@@ -15,7 +14,7 @@ use Rattle.cmark_grammar.specs.References.{references}
 use Rattle.cmark_block_model.specs.OpenBlocks.{OpenList}
 use Rattle.cmark_block_model.proofs.PlainTokens.{IsPlain, paragraph_plain, heading_plain, code_plain, html_tokens_plain}
 use Rattle.cmark_block_model.proofs.Split.{Split, split}
-use Rattle.cmark_block_model.proofs.Settles.{GoesOn, Joins, settles}
+use Rattle.cmark_block_model.proofs.Settles.{Joins, settles}
 use Rattle.cmark_block_model.proofs.Replay.{Level, standing, entered, left_by, item_if, item_level, leaf_references, leaf_level, paragraph_level, heading_level, blank_level, replay}
 
 paragraph-references : (direct : Bool) (start end : ℕ) (t d : BlockDocument) → IsPlain t → references (Node (node (paragraph_kind direct) start end) t d) ≡ references d

@@ -1,24 +1,23 @@
 -- Closed blocks draw their document: one behind the other, the same as from the last one on.
-use Rattle.std.proofs.Common.{◌≡◌, ℕ, Bool, true, false, ◌==◌, ◌||◌, ◌&&◌, not, List, ◌∷◌, refl, ap, ◌∙◌, sym, subst, Option, Some, None, arith}
+use Rattle.std.proofs.Common.{◌≡◌, ℕ, Bool, true, false, ◌==◌, ◌||◌, ◌&&◌, not, List, ◌∷◌, refl, ap, ◌∙◌, sym, Option, Some, None, arith}
 use Rattle.cmark_grammar.specs.Answers.{Lookup}
 use Rattle.cmark_grammar.specs.Attributes.{no_attributes}
 use Rattle.cmark_grammar.specs.Rows.{Row, past_of, begin_of, start_of}
-use Rattle.cmark_grammar.specs.Containers.{Container, Quote, Item}
+use Rattle.cmark_grammar.specs.Containers.{Quote, Item}
 use Rattle.cmark_grammar.specs.Openings.{Leaf, ThematicBreak, AtxHeading, IndentedCode, FencedCode, HtmlBlock, LinkDefinition}
 use Rattle.cmark_grammar.specs.Blocks.{Blocks, Nil as NoBlocks, BlankLine, Paragraph, SetextHeading, LeafBlock, ContainerBlock}
-use Rattle.cmark_grammar.specs.Lists.{ends_blank, is_parted_item, loose_from, is_tight, parted}
+use Rattle.cmark_grammar.specs.Lists.{ends_blank, is_parted_item, loose_from, is_tight}
 use Rattle.cmark_grammar.specs.Tokens.{paragraph_tokens}
-use Rattle.cmark_grammar.specs.Derivation.{leaf_then}
 use Rattle.cmark_grammar.specs.BlockDocument as document
 use Rattle.cmark_grammar.specs.BlockDocument.{Reference, BlockKind, BlockDocument, Nil, Node, node, join}
 use Rattle.cmark_block_model.specs.Drawing.{Drawing, OpenNode, drawn, opened, closed_at}
-use Rattle.cmark_block_model.specs.OpenBlocks.{OpenList, Siblings, no_siblings}
+use Rattle.cmark_block_model.specs.OpenBlocks.{OpenList, no_siblings}
 use Rattle.cmark_block_model.specs.BlockPass.{list_closed}
 use Rattle.cmark_block_model.proofs.PlainTokens.{join-nil, join-assoc}
-use Rattle.cmark_block_model.proofs.Replay.{Level, begun, list_level, same_list, item_if, item_level, level_opened, level_drawn, standing, entered, left_by, blank_level, leaf_drawing, leaf_references, leaf_level, paragraph_level, heading_level, replay}
-use Rattle.cmark_block_model.proofs.Standing.{Stand, First, FirstBlank, Behind, InList, has_of, front_of, list_of, before_of, mark_of, level_of, IsFilled, IsFilledBehind, IsNearlyFilled, HasFilledItems}
-use Rattle.cmark_block_model.proofs.Flags.{or-false, or-assoc, same-mark, fresh, longer, item_list, in_item, behind_item, blank_behind, parted_behind}
-use Rattle.cmark_block_model.proofs.Split.{Split, end_or, is_mark, lone, item_split, leaf_raw, split}
+use Rattle.cmark_block_model.proofs.Replay.{Level, item_if, level_opened, left_by, leaf_drawing, leaf_references, replay}
+use Rattle.cmark_block_model.proofs.Standing.{Stand, First, FirstBlank, Behind, InList, list_of, mark_of, level_of, IsNearlyFilled, HasFilledItems}
+use Rattle.cmark_block_model.proofs.Flags.{or-false, same-mark, fresh, longer, item_list, in_item, behind_item, blank_behind, parted_behind}
+use Rattle.cmark_block_model.proofs.Split.{Split, end_or, lone, item_split, leaf_raw, split}
 
 -- the drawing of a level: where a list is open, its node is
 abbrev pub drawing_at : Stand → OpenNode → BlockDocument → List OpenNode → Drawing

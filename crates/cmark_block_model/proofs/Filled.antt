@@ -10,7 +10,7 @@ use Rattle.cmark_grammar.specs.Openings.{opens, Blank}
 use Rattle.cmark_grammar.specs.Blocks.{Blocks, Nil, BlankLine, Paragraph, SetextHeading, LeafBlock, ContainerBlock, may_lazy, Body}
 use Rattle.cmark_grammar.specs.BlocksModel.{blocks}
 use Rattle.cmark_grammar.proofs.BlocksSound.{blocks-body}
-use Rattle.cmark_block_model.proofs.Standing.{IsFilled, IsNearlyFilled, HasFilledItems}
+use Rattle.cmark_block_model.proofs.Standing.{IsNearlyFilled, HasFilledItems}
 use Rattle.cmark_block_model.proofs.Tells.{Tells, tells}
 
 -- columns are blank, where they are without some of their indent

@@ -1,16 +1,16 @@
 -- What is known of the siblings at hand, as of the blocks that stand there.
-use Rattle.std.proofs.Common.{◌≡◌, ℕ, Bool, true, false, ◌==◌, ◌||◌, ◌&&◌, not, List, refl, ap, ◌∙◌, sym, Option, Some, None, arith}
+use Rattle.std.proofs.Common.{◌≡◌, ℕ, Bool, true, false, ◌==◌, ◌||◌, ◌&&◌, not, List, refl, ap, ◌∙◌, sym, Option, arith}
 use Rattle.cmark_grammar.specs.Answers.{Lookup}
-use Rattle.cmark_grammar.specs.Rows.{Row, past_of, begin_of, start_of}
-use Rattle.cmark_grammar.specs.Containers.{Container, Quote, Item}
+use Rattle.cmark_grammar.specs.Rows.{past_of, begin_of}
+use Rattle.cmark_grammar.specs.Containers.{Quote, Item}
 use Rattle.cmark_grammar.specs.Blocks.{Blocks, Nil, BlankLine, Paragraph, SetextHeading, LeafBlock, ContainerBlock}
-use Rattle.cmark_grammar.specs.Lists.{ends_blank, Before, NoBlock, Other, ItemWith, is_list_of, is_block, parted}
+use Rattle.cmark_grammar.specs.Lists.{ends_blank, ItemWith, parted}
 use Rattle.cmark_grammar.specs.BlockDocument as document
 use Rattle.cmark_grammar.specs.BlockDocument.{Reference, BlockDocument}
-use Rattle.cmark_block_model.specs.Drawing.{Drawing, OpenNode, opened, closed_at}
-use Rattle.cmark_block_model.specs.OpenBlocks.{OpenList, Siblings, no_siblings}
-use Rattle.cmark_block_model.proofs.Replay.{Level, begun, list_level, same_list, item_if, item_level, level_opened, level_drawn, standing, entered, left_by, blank_level, leaf_level, paragraph_level, heading_level, replay}
-use Rattle.cmark_block_model.proofs.Standing.{Stand, First, FirstBlank, Behind, InList, has_of, front_of, list_of, before_of, level_of, IsFilled, IsFilledBehind, IsNearlyFilled, HasFilledItems}
+use Rattle.cmark_block_model.specs.Drawing.{Drawing, opened, closed_at}
+use Rattle.cmark_block_model.specs.OpenBlocks.{OpenList, no_siblings}
+use Rattle.cmark_block_model.proofs.Replay.{Level, item_if, level_opened, left_by, replay}
+use Rattle.cmark_block_model.proofs.Standing.{Stand, First, FirstBlank, Behind, InList, front_of, list_of, before_of, level_of, IsFilledBehind, HasFilledItems}
 use Rattle.cmark_block_model.specs.BlockPass.{list_closed}
 
 pub or-false : (a : Bool) → (a || false) ≡ a

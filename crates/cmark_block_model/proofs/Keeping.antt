@@ -1,18 +1,18 @@
 -- What is known of what is open stays true, line by line.
-use Rattle.std.proofs.Common.{◌≡◌, ℕ, zero, suc, ◌≤◌, ◌&&◌, Bool, true, false, List, [], ◌∷◌, ◌++◌, length, refl, ap, ◌∙◌, sym, subst, append-nil, Option, Some, None, arith, true≢false}
+use Rattle.std.proofs.Common.{◌≡◌, ℕ, zero, suc, ◌≤◌, ◌&&◌, Bool, true, false, List, [], ◌∷◌, ◌++◌, length, refl, ap, ◌∙◌, sym, subst, Option, Some, None, arith, true≢false}
 use Rattle.std.specs.Prelude.{if◌then◌else◌}
 use Rattle.cmark_grammar.specs.Answers.{Lookup}
 use Rattle.cmark_grammar.specs.Options.{Options}
-use Rattle.cmark_grammar.specs.Rows.{Row, lazy_row, past_of, show_as}
+use Rattle.cmark_grammar.specs.Rows.{Row, lazy_row, show_as}
 use Rattle.cmark_grammar.specs.Leaves.{Fence, Further, GoesOn, Closes, Waits, Stops, underlines, code_further, closes_fence}
 use Rattle.cmark_grammar.specs.HtmlBlocks.{html_further}
-use Rattle.cmark_grammar.specs.Containers.{Container, keeps, strip, strip_as, is_bare_start, bare_after}
-use Rattle.cmark_grammar.specs.Openings.{Leaf, LinkDefinition, texts, lazily}
-use Rattle.cmark_grammar.specs.Blocks.{Blocks, Nil as NoBlocks, Paragraph, SetextHeading, LeafBlock, ContainerBlock, join as join_blocks, may_lazy}
+use Rattle.cmark_grammar.specs.Containers.{Container, keeps, strip, is_bare_start, bare_after}
+use Rattle.cmark_grammar.specs.Openings.{texts, lazily}
+use Rattle.cmark_grammar.specs.Blocks.{Blocks, Nil as NoBlocks, Paragraph, SetextHeading, LeafBlock, ContainerBlock, join as join_blocks}
 use Rattle.cmark_grammar.specs.BlocksModel.{within}
-use Rattle.cmark_grammar.specs.BlocksByLine.{Verbatim, Indented, Fenced, HtmlLines, leaf_in, further_in, further_if, OpenLines, Between, InParagraph, InLeaf, InVerbatim, InContainer, close_lines, lines_take_lazy, lines_underline_or, lines_go_on_or, lines_kept_or, verbatim_line, lines_begin, lines_feed}
+use Rattle.cmark_grammar.specs.BlocksByLine.{Verbatim, Indented, Fenced, HtmlLines, further_in, further_if, OpenLines, Between, InParagraph, InLeaf, InVerbatim, InContainer, close_lines, lines_take_lazy, lines_underline_or, lines_go_on_or, lines_kept_or, verbatim_line, lines_begin, lines_feed}
 use Rattle.cmark_grammar.proofs.BlockLaws.{strip_lazy, strip_whole}
-use Rattle.cmark_grammar.proofs.BlocksSound.{bare_push, within_row, is_both}
+use Rattle.cmark_grammar.proofs.BlocksSound.{bare_push, is_both}
 use Rattle.cmark_grammar.proofs.RowPlaces.{strip-past}
 use Rattle.cmark_block_model.proofs.Mirror.{past_push, AreCode, FitsVerbatim, Fits}
 use Rattle.cmark_block_model.proofs.Beginning.{starts-fit}

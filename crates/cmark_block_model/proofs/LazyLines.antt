@@ -1,20 +1,19 @@
 -- A lazy line goes on with the paragraph that is open, or begins one behind a definition.
-use Rattle.std.proofs.Common.{◌≡◌, ℕ, zero, suc, ◌≤◌, ◌&&◌, Bool, true, false, List, [], ◌∷◌, ◌++◌, length, take, refl, ap, ◌∙◌, sym, subst, append_assoc, append-nil, Option, Some, None, arith, true≢false}
+use Rattle.std.proofs.Common.{◌≡◌, ℕ, zero, suc, ◌≤◌, ◌&&◌, Bool, true, false, List, [], ◌∷◌, ◌++◌, length, refl, ap, ◌∙◌, sym, append_assoc, append-nil, None, arith, true≢false}
 use Rattle.cmark_grammar.specs.Answers.{Lookup}
 use Rattle.cmark_grammar.specs.Options.{Options}
-use Rattle.cmark_grammar.specs.Rows.{Row, lazy_row, past_of}
-use Rattle.cmark_grammar.specs.Leaves.{underlines}
-use Rattle.cmark_grammar.specs.Containers.{Container, enter, keeps, strip, is_bare_start, bare_after}
-use Rattle.cmark_grammar.specs.Openings.{Leaf, ThematicBreak, AtxHeading, IndentedCode, FencedCode, HtmlBlock, LinkDefinition, Plain, opens, texts, lazily}
+use Rattle.cmark_grammar.specs.Rows.{Row, lazy_row}
+use Rattle.cmark_grammar.specs.Containers.{Container, enter, strip, is_bare_start, bare_after}
+use Rattle.cmark_grammar.specs.Openings.{Leaf, ThematicBreak, AtxHeading, IndentedCode, FencedCode, HtmlBlock, LinkDefinition, texts, lazily}
 use Rattle.cmark_grammar.specs.Blocks.{Blocks, Nil as NoBlocks, Paragraph, SetextHeading, LeafBlock, ContainerBlock, join as join_blocks, may_lazy}
 use Rattle.cmark_grammar.specs.BlocksModel.{within}
 use Rattle.cmark_grammar.specs.BlocksByLine.{OpenLines, Between, InParagraph, InLeaf, InVerbatim, InContainer, close_lines, lines_take_lazy, lines_underline_or, lines_go_on_or, lines_kept_or, lines_begin_as, lines_begin_in, lines_begin, lines_feed}
 use Rattle.cmark_grammar.proofs.BlockLaws.{opens-lazy, underlines-lazy, keeps-lazy, strip_lazy, lazily-texts}
 use Rattle.cmark_grammar.proofs.BlocksSound.{bare_push}
-use Rattle.cmark_block_model.specs.OpenBlocks.{OpenContainer, OpenLeaf, Closed, InParagraph as InParagraphLeaf, InDefinition}
+use Rattle.cmark_block_model.specs.OpenBlocks.{OpenContainer, InParagraph as InParagraphLeaf}
 use Rattle.cmark_block_model.specs.BlockPass.{lazy_fed}
 use Rattle.cmark_block_model.proofs.Replay.{Level, entered, leaf_level, replay, replay-join}
-use Rattle.cmark_block_model.proofs.Mirror.{whole, whole-same, last_of, past_push, pass_with, Fits, paragraph_open, inner_at, leaf_at, container_at, containers_at, pass_at, bare_at}
+use Rattle.cmark_block_model.proofs.Mirror.{whole, whole-same, last_of, pass_with, Fits, paragraph_open, inner_at, leaf_at, container_at, containers_at, pass_at, bare_at}
 use Rattle.cmark_block_model.proofs.Feeding.{paragraph-goes}
 
 module _ (options : Options) where

@@ -1,10 +1,10 @@
 -- Tokens are neither settled nor left out, and define nothing.
-use Rattle.std.proofs.Common.{◌≡◌, ℕ, Bool, true, false, List, [], ◌∷◌, ◌++◌, refl, ap, ◌∙◌}
+use Rattle.std.proofs.Common.{◌≡◌, ℕ, Bool, true, false, List, [], ◌∷◌, ◌++◌, refl, ap}
 use Rattle.std.specs.Prelude.{if◌then◌else◌}
 use Rattle.cmark_grammar.specs.Answers.{Lookup}
 use Rattle.cmark_grammar.specs.Rows.{Row, start_of}
 use Rattle.cmark_grammar.specs.Tokens.{Piece, LineEnd, Soft, Spaces, Backslash, line_end, line_columns, end_place, pieces, texts_then, broken, paragraph_tokens, html_then, html_tokens, text_kind_of, html_kind_of, verbatim_line, heading_columns, heading_tokens, code_pieces, code_tokens, without_last}
-use Rattle.cmark_grammar.specs.BlockDocument.{BlockKind, Text, OwnedText, Html, SoftBreak, HardBreak, BlockDocument, Reference, Nil, Node, node, join}
+use Rattle.cmark_grammar.specs.BlockDocument.{Text, OwnedText, Html, SoftBreak, HardBreak, BlockDocument, Nil, Node, node, join}
 use Rattle.cmark_grammar.specs.DrawnDocument.{settled, without_definitions}
 use Rattle.cmark_grammar.specs.References.{references}
 

@@ -1,12 +1,11 @@
 -- The drawn document, settled, is the document of the grammar without its definitions; the references are its definitions.
-use Rattle.std.proofs.Common.{◌≡◌, ℕ, Bool, true, false, ◌==◌, ◌||◌, ◌&&◌, not, List, [], ◌∷◌, ◌++◌, refl, ap, ◌∙◌, sym, subst, append_assoc, append-nil, Option, Some, None}
+use Rattle.std.proofs.Common.{◌≡◌, ℕ, Bool, true, false, ◌==◌, List, ◌∷◌, refl, ap, ◌∙◌, sym, subst, Option, Some, None}
 use Rattle.std.specs.Prelude.{if◌then◌else◌}
 use Rattle.cmark_grammar.specs.Answers.{Lookup}
 use Rattle.cmark_grammar.specs.Attributes.{no_attributes}
 use Rattle.cmark_grammar.specs.Rows.{Row, past_of, begin_of, start_of}
-use Rattle.cmark_grammar.specs.Containers.{Container, Quote, Item}
+use Rattle.cmark_grammar.specs.Containers.{Quote, Item}
 use Rattle.cmark_grammar.specs.Openings.{Leaf, ThematicBreak, AtxHeading, IndentedCode, FencedCode, HtmlBlock, LinkDefinition}
-use Rattle.cmark_grammar.specs.Leaves.{Fence}
 use Rattle.cmark_grammar.specs.Blocks.{Blocks, Nil as NoBlocks, BlankLine, Paragraph, SetextHeading, LeafBlock, ContainerBlock}
 use Rattle.cmark_grammar.specs.Lists.{ListBefore, is_tight, tight_behind, goes_on}
 use Rattle.cmark_grammar.specs.Tokens.{paragraph_tokens, fenced_lines}
@@ -14,11 +13,9 @@ use Rattle.cmark_grammar.specs.Derivation.{paragraph_kind, leaf_then, item_then,
 use Rattle.cmark_grammar.specs.BlockDocument as document
 use Rattle.cmark_grammar.specs.BlockDocument.{Reference, BlockKind, BlockNode, BlockDocument, Nil, Node, node, join}
 use Rattle.cmark_grammar.specs.DrawnDocument.{settled, without_definitions}
-use Rattle.cmark_grammar.specs.References.{references}
-use Rattle.cmark_block_model.proofs.PlainTokens.{IsPlain, nil_plain, paragraph_plain, heading_plain, code_plain, html_tokens_plain}
-use Rattle.cmark_block_model.proofs.Split.{Split, end_or, is_mark, lone, item_split, leaf_raw, split}
+use Rattle.cmark_block_model.proofs.PlainTokens.{IsPlain, paragraph_plain, heading_plain, code_plain, html_tokens_plain}
+use Rattle.cmark_block_model.proofs.Split.{Split, end_or, lone, item_split, leaf_raw, split}
 use Rattle.cmark_block_model.proofs.Draws.{other-mark}
-use Rattle.cmark_block_model.proofs.Replay.{Level, level_opened, left_by, item_if, item_level, leaf_references, replay}
 
 -- what goes on with the list before: the document begins with it
 pub record GoesOn (direct tight : Bool) (s : Split) (d : BlockDocument) : Type 0 where

@@ -3,19 +3,19 @@ use Rattle.std.proofs.Common.{◌≡◌, ℕ, ◌&&◌, Bool, true, false, List,
 use Rattle.std.specs.Prelude.{if◌then◌else◌}
 use Rattle.cmark_grammar.specs.Answers.{Lookup}
 use Rattle.cmark_grammar.specs.Options.{Options}
-use Rattle.cmark_grammar.specs.Rows.{Row, past_of}
-use Rattle.cmark_grammar.specs.Containers.{Container, keeps, strip, strip_as, is_bare_start, bare_after}
+use Rattle.cmark_grammar.specs.Rows.{Row}
+use Rattle.cmark_grammar.specs.Containers.{keeps, strip, strip_as, is_bare_start, bare_after}
 use Rattle.cmark_grammar.specs.Openings.{Leaf, ThematicBreak, AtxHeading, IndentedCode, FencedCode, HtmlBlock, LinkDefinition, lazily}
-use Rattle.cmark_grammar.specs.Blocks.{Blocks, Nil as NoBlocks, ContainerBlock, join as join_blocks, may_lazy}
+use Rattle.cmark_grammar.specs.Blocks.{Nil as NoBlocks, ContainerBlock, join as join_blocks, may_lazy}
 use Rattle.cmark_grammar.specs.BlocksModel.{within}
 use Rattle.cmark_grammar.specs.BlocksByLine.{Verbatim, Indented, Fenced, HtmlLines, further_if, OpenLines, Between, InParagraph, InLeaf, InVerbatim, InContainer, close_lines, lines_take_lazy, lines_kept_or, verbatim_line, lines_begin, lines_feed}
 use Rattle.cmark_grammar.proofs.BlockLaws.{strip_lazy, strip_whole}
 use Rattle.cmark_grammar.proofs.BlocksSound.{is_both}
-use Rattle.cmark_block_model.specs.OpenBlocks.{OpenContainer, OpenLeaf, Closed, takes_lazy, Pass}
+use Rattle.cmark_block_model.specs.OpenBlocks.{OpenContainer, Closed, takes_lazy, Pass}
 use Rattle.cmark_block_model.specs.BlockPass.{ahead_in, begin, leaf_closed, leaf_fed, lazy_fed, containers_closed, Kept, is_last, kept_if, kept_by, line_with}
 use Rattle.cmark_block_model.proofs.Replay.{Level, entered, replay}
 use Rattle.cmark_block_model.proofs.Mirror.{pass_with, leaf_left, verbatim_leaf, Fits, inner_at, leaf_at, container_at, containers_at, pass_at, bare_at}
-use Rattle.cmark_block_model.proofs.Closing.{inner_closed, leaf-closes, containers-close}
+use Rattle.cmark_block_model.proofs.Closing.{leaf-closes, containers-close}
 use Rattle.cmark_block_model.proofs.Beginning.{ahead-inside, starts}
 use Rattle.cmark_block_model.proofs.Feeding.{paragraph-feeds, leaf-feeds}
 use Rattle.cmark_block_model.proofs.VerbatimLines.{verbatim-feeds}
@@ -84,7 +84,7 @@ module _ (text : List ℕ) (options : Options) (lookup : Lookup) where
       ap (λ z. fed (kept_if text options lookup (keeps k z r) (λ s. kept_by text options lookup (outer ++ v ∷ []) cs (bare_at bare inside) s) (record { kept = outer; missed = v ∷ cs; left = r })) next p)
       (bare-flag inside bare (within k bare (r ∷ ahead)) n (entered k first c) f.2)
       ∙ go (keeps k bare r) refl (λ s q. simulates inside bare (strip k bare r) next (within k false ahead) (entered k first c) (outer ++ v ∷ []) n (strip_whole options k bare r s q)
-          (ahead-inside text options lookup outer v next ∙ ap (within k false) a) (subst (λ x. Fits bare inside x n) (kept-ahead options k bare r s ahead e q) inner))
+      (ahead-inside text options lookup outer v next ∙ ap (within k false) a) (subst (λ x. Fits bare inside x n) (kept-ahead options k bare r s ahead e q) inner))
     where
       bare : Bool
       bare = bare_after (is_bare_start k first) more

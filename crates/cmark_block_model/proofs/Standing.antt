@@ -1,11 +1,11 @@
 -- A level behind no block, behind a blank line alone, behind a block that is no item, or behind an item of a list that is open.
-use Rattle.std.specs.Prelude.{ℕ, Bool, true, false, ◌==◌, ◌||◌, not, List, ◌∷◌, Option, Some, None}
-use Rattle.cmark_grammar.specs.BlockDocument.{BlockDocument, Reference}
+use Rattle.std.specs.Prelude.{ℕ, Bool, true, false, List, Option, Some, None}
+use Rattle.cmark_grammar.specs.BlockDocument.{Reference}
 use Rattle.cmark_grammar.specs.Blocks.{Blocks, Nil, BlankLine, Paragraph, SetextHeading, LeafBlock, ContainerBlock}
 use Rattle.cmark_grammar.specs.Containers.{Quote, Item}
 use Rattle.cmark_grammar.specs.Lists.{Before, NoBlock, Other, ItemWith}
-use Rattle.cmark_block_model.specs.Drawing.{Drawing, OpenNode}
-use Rattle.cmark_block_model.specs.OpenBlocks.{OpenList, Siblings}
+use Rattle.cmark_block_model.specs.Drawing.{Drawing}
+use Rattle.cmark_block_model.specs.OpenBlocks.{OpenList}
 use Rattle.cmark_block_model.proofs.Replay.{Level}
 
 pub data Stand : Type 0 where

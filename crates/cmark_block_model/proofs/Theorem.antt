@@ -1,9 +1,9 @@
 -- The pass draws the document of the text.
-use Rattle.std.proofs.Common.{◌≡◌, ℕ, Bool, true, false, List, [], ◌∷◌, ◌++◌, refl, ap, ◌∙◌, sym, subst, Option, Some, None}
+use Rattle.std.proofs.Common.{◌≡◌, ℕ, Bool, false, List, [], ◌∷◌, refl, ap, ◌∙◌, sym, subst, None}
 use Rattle.cmark_grammar.specs.Answers.{Lookup}
 use Rattle.cmark_grammar.specs.Options.{Options}
 use Rattle.cmark_grammar.specs.Rows.{Row, rows, shown, show_as}
-use Rattle.cmark_grammar.specs.Blocks.{Blocks, Nil as NoBlocks}
+use Rattle.cmark_grammar.specs.Blocks.{Nil as NoBlocks}
 use Rattle.cmark_grammar.specs.BlocksModel.{blocks}
 use Rattle.cmark_grammar.specs.BlocksByLine.{OpenLines, Between, close_lines, lines_feed, lines_feed_all, blocks_by_line}
 use Rattle.cmark_grammar.specs.Derivation.{document}
@@ -13,9 +13,9 @@ use Rattle.cmark_grammar.specs.BlockDocument as document
 use Rattle.cmark_grammar.specs.BlockDocument.{node}
 use Rattle.cmark_grammar.proofs.BlocksSound.{AreWhole, rows-whole}
 use Rattle.cmark_grammar.proofs.BlocksByLine.{by_line-same}
-use Rattle.cmark_block_model.specs.Drawing.{Drawing, nothing_drawn, OpenNode}
-use Rattle.cmark_block_model.specs.OpenBlocks.{Closed, no_siblings, Pass, at_start}
-use Rattle.cmark_block_model.specs.BlockPass.{list_closed, leaf_closed, containers_closed, line_fed, lines_fed, all_closed, pass_over}
+use Rattle.cmark_block_model.specs.Drawing.{nothing_drawn}
+use Rattle.cmark_block_model.specs.OpenBlocks.{Closed, no_siblings, Pass}
+use Rattle.cmark_block_model.specs.BlockPass.{list_closed, containers_closed, line_fed, lines_fed, all_closed, pass_over}
 use Rattle.cmark_block_model.proofs.Replay.{Level, replay}
 use Rattle.cmark_block_model.proofs.Standing.{First}
 use Rattle.cmark_block_model.proofs.Split.{split}
@@ -23,7 +23,7 @@ use Rattle.cmark_block_model.proofs.Draws.{finished, draws}
 use Rattle.cmark_block_model.proofs.Settles.{settles}
 use Rattle.cmark_block_model.proofs.Defines.{defines}
 use Rattle.cmark_block_model.proofs.Filled.{blocks-filled}
-use Rattle.cmark_block_model.proofs.Mirror.{pass_with, Fits, containers_at, leaf_at, bare_at, pass_at}
+use Rattle.cmark_block_model.proofs.Mirror.{pass_with, Fits, containers_at, bare_at, pass_at}
 use Rattle.cmark_block_model.proofs.Closing.{leaf-closes, containers-close}
 use Rattle.cmark_block_model.proofs.Keeping.{feed-fits}
 use Rattle.cmark_block_model.proofs.Simulation.{simulates}
@@ -79,11 +79,13 @@ module _ (text : List ℕ) (options : Options) (lookup : Lookup) where
   pass-done =
       let o = lines_feed_all options (Between NoBlocks) (rows text) in
       let n = end_behind 0 (rows text) in
-      let h = rows-whole options text in
-      (bare_at false o, n,
-      ap (all_closed text options lookup) (all-fed (rows text) (Between NoBlocks) 0 h tt)
-      ∙ all-closes o n (all-fit (rows text) (Between NoBlocks) 0 h tt)
-      ∙ ap (λ b. done (replay text lookup b bottom) (bare_at false o) n) (by_line-same options text))
+      let h = rows-whole options text in (
+        bare_at false o,
+        n,
+        ap (all_closed text options lookup) (all-fed (rows text) (Between NoBlocks) 0 h tt)
+            ∙ all-closes o n (all-fit (rows text) (Between NoBlocks) 0 h tt)
+            ∙ ap (λ b. done (replay text lookup b bottom) (bare_at false o) n) (by_line-same options text),
+      )
 
   drawn-all : finished (replay text lookup (blocks options text) bottom) ≡ record { here = (split text lookup None (blocks options text)).after; up = [] }
   drawn-all = draws text lookup (blocks options text) (blocks-filled options text) First (record { left = document.Nil; node = node document.Paragraph 0 0 }) document.Nil [] false false []
@@ -93,7 +95,8 @@ module _ (text : List ℕ) (options : Options) (lookup : Lookup) where
       × ((pass_over text options lookup).drawing.up ≡ [])
       × ((pass_over text options lookup).references ≡ references (document text options lookup))
   pass-draws =
-      let p = pass-done in
-      (ap (λ x. settled false x.drawing.here) p.2 ∙ ap (λ d. settled false d.here) drawn-all ∙ settles text lookup (blocks options text) false None,
-      ap (λ x. x.drawing.up) p.2 ∙ ap (λ d. d.up) drawn-all,
-      ap (λ x. x.references) p.2 ∙ defines text lookup (blocks options text) false None bottom)
+      let p = pass-done in (
+        ap (λ x. settled false x.drawing.here) p.2 ∙ ap (λ d. settled false d.here) drawn-all ∙ settles text lookup (blocks options text) false None,
+        ap (λ x. x.drawing.up) p.2 ∙ ap (λ d. d.up) drawn-all,
+        ap (λ x. x.references) p.2 ∙ defines text lookup (blocks options text) false None bottom,
+      )

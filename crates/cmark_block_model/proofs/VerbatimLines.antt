@@ -1,25 +1,24 @@
 -- One more line of code or HTML.
-use Rattle.std.proofs.Common.{◌≡◌, ℕ, zero, suc, ◌≤◌, Bool, true, false, List, [], ◌∷◌, ◌++◌, length, take, refl, ap, ◌∙◌, sym, subst, append_assoc, append-nil, Option, Some, None, arith, true≢false}
+use Rattle.std.proofs.Common.{◌≡◌, ℕ, Bool, true, false, List, [], ◌∷◌, ◌++◌, refl, ap, ◌∙◌, sym, append_assoc, append-nil}
 use Rattle.std.specs.Prelude.{nat_le, if◌then◌else◌}
 use Rattle.cmark_grammar.specs.Answers.{Lookup}
-use Rattle.cmark_grammar.specs.Attributes.{no_attributes}
 use Rattle.cmark_grammar.specs.Options.{Options}
 use Rattle.cmark_grammar.specs.Rows.{Row, start_of, begin_of, past_of, first_place, is_blank_line, indent_of}
-use Rattle.cmark_grammar.specs.Leaves.{Fence, Further, GoesOn, Closes, Waits, Stops, underlines, code_further, fence_further, closes_fence}
+use Rattle.cmark_grammar.specs.Leaves.{Fence, Further, GoesOn, Closes, Waits, Stops, code_further, closes_fence}
 use Rattle.cmark_grammar.specs.HtmlBlocks.{html_further}
-use Rattle.cmark_grammar.specs.Openings.{Leaf, ThematicBreak, AtxHeading, IndentedCode, FencedCode, HtmlBlock, LinkDefinition, texts}
-use Rattle.cmark_grammar.specs.Blocks.{Blocks, Nil as NoBlocks, Paragraph, SetextHeading, LeafBlock, join as join_blocks, may_lazy}
-use Rattle.cmark_grammar.specs.BlocksByLine.{Verbatim, Indented, Fenced, HtmlLines, leaf_in, further_in, further_if, OpenLines, Between, InParagraph, InLeaf, InVerbatim, InContainer, blank_lines, close_lines, lines_underline_or, lines_go_on_or, verbatim_line, lines_begin, lines_feed}
-use Rattle.cmark_grammar.specs.Tokens.{LineEnd, Soft, Spaces, Backslash, resolved, pieces, line_columns, line_end, broken, paragraph_tokens, code_tokens, code_columns, fenced_lines, html_tokens, stop_at}
+use Rattle.cmark_grammar.specs.Openings.{FencedCode, HtmlBlock}
+use Rattle.cmark_grammar.specs.Blocks.{Blocks}
+use Rattle.cmark_grammar.specs.BlocksByLine.{Verbatim, Indented, Fenced, HtmlLines, further_in, InVerbatim, close_lines, verbatim_line, lines_begin}
+use Rattle.cmark_grammar.specs.Tokens.{resolved, code_tokens, code_columns, fenced_lines, html_tokens, stop_at}
 use Rattle.cmark_grammar.specs.BlockDocument as document
 use Rattle.cmark_grammar.specs.BlockDocument.{BlockDocument, Nil, Node, node, join}
 use Rattle.cmark_block_model.specs.CodeLines.{no_run, code_line, texts_of, rest_of}
-use Rattle.cmark_block_model.specs.OpenBlocks.{OpenContainer, OpenLeaf, Closed, InParagraph as InParagraphLeaf, InDefinition, InIndented, InFenced, InHtml, Pass}
-use Rattle.cmark_block_model.specs.BlockPass.{node_closed, with_drawn, code_drawn, ahead_in, begin, leaf_closed, leaf_fed, underlined_or, heading_made, paragraph_line, indented_lines, indented_further, html_goes_on}
+use Rattle.cmark_block_model.specs.OpenBlocks.{OpenContainer, OpenLeaf, Closed, InFenced, InHtml, Pass}
+use Rattle.cmark_block_model.specs.BlockPass.{node_closed, with_drawn, code_drawn, ahead_in, begin, leaf_closed, leaf_fed, indented_lines, indented_further, html_goes_on}
 use Rattle.cmark_block_model.proofs.CodeRuns.{code_run, code_run-append, run-tokens, run-line, run-waits}
-use Rattle.cmark_block_model.proofs.Replay.{Level, begun, level_opened, level_drawn, leaf_level, replay, replay-join}
-use Rattle.cmark_block_model.proofs.Mirror.{whole, whole-same, last_of, last_push, past_push, pass_with, leaf_left, AreCode, FitsVerbatim, Fits, lines_drawn, drawn-tokens, drawn-push, html-push, paragraph_open, verbatim_level, verbatim_leaf, inner_at, leaf_at, containers_at, pass_at, bare_at}
-use Rattle.cmark_block_model.proofs.Closing.{noded, leaf-closes, code-lines}
+use Rattle.cmark_block_model.proofs.Replay.{Level, begun, level_opened, level_drawn, leaf_level, replay}
+use Rattle.cmark_block_model.proofs.Mirror.{past_push, pass_with, AreCode, Fits, html-push, verbatim_level, verbatim_leaf, pass_at}
+use Rattle.cmark_block_model.proofs.Closing.{noded, leaf-closes}
 use Rattle.cmark_block_model.proofs.Beginning.{starts}
 
 module _ (text : List ℕ) (options : Options) (lookup : Lookup) where
@@ -111,7 +110,7 @@ module _ (text : List ℕ) (options : Options) (lookup : Lookup) where
       go true q =
           let kind = document.FencedCode (resolved lookup fence.info) in
           ap (λ t. pass_with (noded text options lookup kind (start_of first) r.past t (begun c)) outer false Closed n)
-              (sym (run-tokens text fence.indented had) ∙ ap (code_tokens text fence.indented) (sym (fence-ends fence had r f.1.2 q)))
+          (sym (run-tokens text fence.indented had) ∙ ap (code_tokens text fence.indented) (sym (fence-ends fence had r f.1.2 q)))
           ∙ ap (λ m. pass_with (noded text options lookup kind (start_of first) m (code_tokens text fence.indented (fenced_lines fence (had ++ r ∷ []))) (begun c)) outer false Closed n) (sym (past_push first had r))
           ∙ ap (λ h. pass_with (leaf_level text lookup (FencedCode fence) first h c) outer false Closed n) (sym (had-all had waiting r f.1.0))
           ∙ alone outer (leaf_level text lookup (FencedCode fence) first (((had ++ waiting) ++ r ∷ []) ++ []) c) Closed n
