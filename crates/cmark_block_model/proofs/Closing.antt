@@ -1,5 +1,5 @@
 -- What is open closed: the leaf, and the containers.
-use Rattle.std.proofs.Common.{◌≡◌, ℕ, zero, suc, ◌≤◌, Bool, true, false, List, [], ◌∷◌, ◌++◌, take, refl, ap, ◌∙◌, sym, append_assoc, append-nil, arith}
+use Rattle.std.proofs.Common.{◌≡◌, ℕ, zero, suc, Bool, true, false, List, [], ◌∷◌, ◌++◌, take, refl, ap, ◌∙◌, sym, append_assoc, append-nil}
 use Rattle.cmark_grammar.specs.Answers.{Lookup}
 use Rattle.cmark_grammar.specs.Options.{Options}
 use Rattle.cmark_grammar.specs.Rows.{Row, start_of, begin_of, past_of, first_place}
@@ -17,9 +17,6 @@ use Rattle.cmark_block_model.specs.BlockPass.{close_leaf, is_some, containers_cl
 use Rattle.cmark_block_model.proofs.CodeRuns.{run-tokens}
 use Rattle.cmark_block_model.proofs.Replay.{Level, begun, level_drawn, standing, entered, leaf_level, left_by, blank_level, replay, replay-join}
 use Rattle.cmark_block_model.proofs.Mirror.{last_of, pass_with, leaf_left, AreCode, FitsVerbatim, Fits, lines_drawn, drawn-tokens, verbatim_level, verbatim_leaf, inner_at, leaf_at, container_at, containers_at}
-
-no-more : {A : Type 0} (n : ℕ) → n ≤ 0 → (P : ℕ → A) → P n ≡ P 0
-no-more n le P = let e : n ≡ 0 = omega (arith, le) in ap P e
 
 pub take-none : (n : ℕ) → take {A = Row} n [] ≡ []
 take-none zero = refl

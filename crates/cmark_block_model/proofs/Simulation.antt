@@ -15,20 +15,13 @@ use Rattle.cmark_block_model.specs.OpenBlocks.{OpenContainer, Closed, takes_lazy
 use Rattle.cmark_block_model.specs.BlockPass.{ahead_in, begin, leaf_closed, leaf_fed, lazy_fed, containers_closed, Kept, is_last, kept_if, kept_by, line_with}
 use Rattle.cmark_block_model.proofs.Replay.{Level, entered, replay}
 use Rattle.cmark_block_model.proofs.Mirror.{pass_with, leaf_left, verbatim_leaf, Fits, inner_at, leaf_at, container_at, containers_at, pass_at, bare_at}
+use Rattle.cmark_block_model.proofs.Flags.{and-true, and-false}
 use Rattle.cmark_block_model.proofs.Closing.{leaf-closes, containers-close}
 use Rattle.cmark_block_model.proofs.Beginning.{ahead-inside, starts}
 use Rattle.cmark_block_model.proofs.Feeding.{paragraph-feeds, leaf-feeds}
 use Rattle.cmark_block_model.proofs.VerbatimLines.{verbatim-feeds}
 use Rattle.cmark_block_model.proofs.LazyLines.{container-goes, lazy-feeds}
 use Rattle.cmark_block_model.proofs.Keeping.{kept-ahead, off-ahead}
-
-and-true : (a : Bool) → (a && true) ≡ a
-and-true true = refl
-and-true false = refl
-
-and-false : (a : Bool) → (a && false) ≡ false
-and-false true = refl
-and-false false = refl
 
 module _ (text : List ℕ) (options : Options) (lookup : Lookup) where
   takes-lazy : (o : OpenLines) → takes_lazy (leaf_at text lookup o) ≡ lines_take_lazy o
