@@ -1,0 +1,229 @@
+-- What a line begins: the pass begins what the model does.
+use Rattle.std.proofs.Common.{◌≡◌, ℕ, zero, suc, ◌≤◌, ◌<◌, ◌==◌, ◌&&◌, Bool, true, false, List, [], ◌∷◌, ◌++◌, length, take, refl, ap, ◌∙◌, sym, append_assoc, append-nil, Option, Some, None, arith, true≢false}
+use Rattle.std.specs.Prelude.{nat_le, if◌then◌else◌}
+use Rattle.cmark_grammar.specs.Answers.{Lookup}
+use Rattle.cmark_grammar.specs.Options.{Options}
+use Rattle.cmark_grammar.specs.Rows.{Row, begin_of, words_of, is_blank_line, shown}
+use Rattle.cmark_grammar.specs.HtmlBlocks.{holds_end}
+use Rattle.cmark_grammar.specs.Containers.{Container, Quote, Item, enter, strips, is_bare_start}
+use Rattle.cmark_grammar.specs.Openings.{Leaf, ThematicBreak, AtxHeading, IndentedCode, FencedCode, HtmlBlock, LinkDefinition, Opening, Blank, Nests, Takes, Plain, opens}
+use Rattle.cmark_grammar.specs.Blocks.{Blocks, Nil as NoBlocks, BlankLine, join as join_blocks}
+use Rattle.cmark_grammar.specs.BlocksModel.{within}
+use Rattle.cmark_grammar.specs.BlocksByLine.{OpenLines, Between, html_begun as html_lines_begun, leaf_begun as leaf_lines_begun, lines_begin_as, lines_begin_in, lines_begin}
+use Rattle.cmark_grammar.specs.BlockDocument as document
+use Rattle.cmark_grammar.proofs.BlockLaws.{enter_len, enter-lazy, opens-len}
+use Rattle.cmark_block_model.specs.OpenBlocks.{OpenList, OpenContainer, Closed, InParagraph as InParagraphLeaf, Pass}
+use Rattle.cmark_block_model.specs.BlockPass.{item_begun, list_begun, list_goes_on, container_begun, inside_of, node_opened, is_item, ahead_in, html_begun, leaf_begun, begin_as, begin_in, begin}
+use Rattle.cmark_block_model.proofs.Replay.{Level, begun, item_if, item_level, level_opened, entered, leaf_level, replay, replay-join}
+use Rattle.cmark_block_model.proofs.Tells.{Tells, tells}
+use Rattle.cmark_block_model.proofs.Mirror.{whole, whole-same, pass_with, bare_at, Fits, inner_at, leaf_at, container_at, containers_at, pass_at, paragraph_open}
+
+module _ (text : List ℕ) (options : Options) (lookup : Lookup) where
+  -- the lines ahead inside one more container
+  pub ahead-inside : (outer : List OpenContainer) (c : OpenContainer) (next : List Row) → ahead_in text options lookup (outer ++ c ∷ []) next ≡ within c.container false (ahead_in text options lookup outer next)
+  ahead-inside [] c next = refl
+  ahead-inside (o ∷ outer) c next = ahead-inside outer c (shown (strips o.container false next))
+
+  container-begins : (k : Container) (r : Row) (l : Level) (outer : List OpenContainer) (n : ℕ) → container_begun k r (pass_with l outer false Closed n) ≡ pass_with (entered k r l) (outer ++ container_at text lookup k r l ∷ []) false Closed n
+  container-begins Quote r l outer n = refl
+  container-begins (Item mark number width) r l outer n = go l.inner.list
+    where
+      same : (z : Bool) (o : OpenList) → inside_of (Item mark number width) (node_opened (begin_of r) document.ListItem (if z then list_goes_on o (pass_with l outer false Closed n) else list_begun mark number (begin_of r) (pass_with l outer false Closed n)))
+          ≡ pass_with (record (level_opened (begin_of r) document.ListItem (item_if z mark number (begin_of r) o l)) { inner = record { has_block = false; blank = false; parted = false; list = None } }) (outer ++ record { container = Item mark number width; around = (item_if z mark number (begin_of r) o l).inner } ∷ []) false Closed n
+      same true o = refl
+      same false o = refl
+
+      go : (o : Option OpenList) → inside_of (Item mark number width) (node_opened (begin_of r) document.ListItem (item_begun mark number (begin_of r) (pass_with l outer false Closed n) o))
+          ≡ pass_with (record (level_opened (begin_of r) document.ListItem (item_level mark number (begin_of r) l o)) { inner = record { has_block = false; blank = false; parted = false; list = None } }) (outer ++ record { container = Item mark number width; around = (item_level mark number (begin_of r) l o).inner } ∷ []) false Closed n
+      go None = refl
+      go (Some o) = same (o.mark == mark) o
+
+  -- a blank line begins nothing, whatever is ahead
+  opens-blank : (r : Row) (ahead : List Row) → r.lazy ≡ false → is_blank_line r ≡ true → opens options r ahead ≡ Blank
+  unfolding opens
+  opens-blank r ahead l b = rw (l, b) refl
+
+  bare-start : (k : Container) (r : Row) → is_bare_start k r ≡ true → is_blank_line (enter k r) ≡ true
+  bare-start Quote r e = absurd (true≢false (sym e))
+  bare-start (Item mark number width) r e = e
+
+  bare-item : (k : Container) (r : Row) → is_bare_start k r ≡ true → is_item k ≡ true
+  bare-item Quote r e = absurd (true≢false (sym e))
+  bare-item (Item mark number width) r e = refl
+
+  bare-none : (k : Container) (r : Row) → is_bare_start k r ≡ false → is_blank_line (enter k r) ≡ true → is_item k ≡ false
+  bare-none Quote r e b = refl
+  bare-none (Item mark number width) r e b = absurd (true≢false (sym b ∙ e))
+
+  pub enter-past : (k : Container) (r : Row) → (enter k r).past ≡ r.past
+  unfolding enter
+  enter-past k r = refl
+
+  -- a leaf that begins
+  html-begins : (z : Bool) (kind : ℕ) (closed : Blocks) (r : Row) (ahead : List Row) (l : Level) (outer : List OpenContainer) (b : Bool) (n : ℕ)
+      → html_begun text options lookup z kind r.past (pass_with (record (replay text lookup closed l) { drawing = (inner_at text lookup (html_lines_begun false closed kind r) ahead l).drawing; inner = (begun (replay text lookup closed l)).inner }) outer false Closed n)
+      ≡ pass_with (inner_at text lookup (html_lines_begun z closed kind r) ahead l) outer (bare_at b (html_lines_begun z closed kind r)) (leaf_at text lookup (html_lines_begun z closed kind r)) n
+  html-begins true kind closed r ahead l outer b n = refl
+  html-begins false kind closed r ahead l outer b n = refl
+
+  leaf-begins : (leaf : Leaf) (more : ℕ) (closed : Blocks) (r : Row) (ahead : List Row) (l : Level) (outer : List OpenContainer) (b : Bool) (n : ℕ) → Tells r (Takes leaf more)
+      → leaf_begun text options lookup leaf more r ahead (pass_with (replay text lookup closed l) outer false Closed n)
+      ≡ pass_with (inner_at text lookup (leaf_lines_begun leaf more closed r) ahead l) outer (bare_at b (leaf_lines_begun leaf more closed r)) (leaf_at text lookup (leaf_lines_begun leaf more closed r)) n
+  leaf-begins ThematicBreak more closed r ahead l outer b n t =
+      ap (λ m. pass_with (leaf_level text lookup ThematicBreak r (take m ahead) (replay text lookup closed l)) outer false Closed n) (sym t)
+  leaf-begins (AtxHeading level) more closed r ahead l outer b n t =
+      ap (λ m. pass_with (leaf_level text lookup (AtxHeading level) r (take m ahead) (replay text lookup closed l)) outer false Closed n) (sym t)
+  leaf-begins IndentedCode more closed r ahead l outer b n t = refl
+  leaf-begins (FencedCode fence) more closed r ahead l outer b n t = refl
+  leaf-begins (HtmlBlock kind) more closed r ahead l outer b n t = html-begins (nat_le kind 5 && holds_end kind (words_of r)) kind closed r ahead l outer b n
+  leaf-begins (LinkDefinition definition) more closed r ahead l outer b n t = refl
+
+  leaf-alone : (leaf : Leaf) (more : ℕ) (closed : Blocks) (r : Row) (l : Level) → containers_at text lookup (leaf_lines_begun leaf more closed r) l ≡ []
+  leaf-alone ThematicBreak more closed r l = refl
+  leaf-alone (AtxHeading level) more closed r l = refl
+  leaf-alone IndentedCode more closed r l = refl
+  leaf-alone (FencedCode fence) more closed r l = refl
+  leaf-alone (HtmlBlock kind) more closed r l = go (nat_le kind 5 && holds_end kind (words_of r))
+    where
+      go : (z : Bool) → containers_at text lookup (html_lines_begun z closed kind r) l ≡ []
+      go true = refl
+      go false = refl
+  leaf-alone (LinkDefinition definition) more closed r l = refl
+
+  leaf-bare : (leaf : Leaf) (more : ℕ) (closed : Blocks) (r : Row) (a b : Bool) → bare_at a (leaf_lines_begun leaf more closed r) ≡ bare_at b (leaf_lines_begun leaf more closed r)
+  leaf-bare ThematicBreak more closed r a b = refl
+  leaf-bare (AtxHeading level) more closed r a b = refl
+  leaf-bare IndentedCode more closed r a b = refl
+  leaf-bare (FencedCode fence) more closed r a b = refl
+  leaf-bare (HtmlBlock kind) more closed r a b = go (nat_le kind 5 && holds_end kind (words_of r))
+    where
+      go : (z : Bool) → bare_at a (html_lines_begun z closed kind r) ≡ bare_at b (html_lines_begun z closed kind r)
+      go true = refl
+      go false = refl
+  leaf-bare (LinkDefinition definition) more closed r a b = refl
+
+  -- what the first line begins inside a container
+  abbrev pub inside_begun : ℕ → Container → Row → List Row → OpenLines
+  inside_begun m k r ahead = lines_begin_in options m NoBlocks (enter k r) ahead
+
+  blank-begins : (m : ℕ) (k : Container) (r : Row) (ahead : List Row) → r.lazy ≡ false → is_blank_line (enter k r) ≡ true → inside_begun (suc m) k r ahead ≡ Between (BlankLine (enter k r) NoBlocks)
+  blank-begins m k r ahead l b =
+      ap (λ o. lines_begin_as o (λ j. lines_begin_in options m NoBlocks (enter j (enter k r)) (within j (is_bare_start j (enter k r)) ahead)) NoBlocks (enter k r))
+      (opens-blank (enter k r) ahead (enter-lazy options k r ∙ l) b)
+
+  bare-begins : (m : ℕ) (k : Container) (r : Row) (ahead : List Row) → is_bare_start k r ≡ false → bare_at (is_item k) (inside_begun (suc m) k r ahead) ≡ bare_at false (inside_begun (suc m) k r ahead)
+  bare-begins m k r ahead e = go (opens options (enter k r) ahead) (tells options (enter k r) ahead)
+    where
+      inside : Container → OpenLines
+      inside j = lines_begin_in options m NoBlocks (enter j (enter k r)) (within j (is_bare_start j (enter k r)) ahead)
+
+      go : (o : Opening) → Tells (enter k r) o → bare_at (is_item k) (lines_begin_as o inside NoBlocks (enter k r)) ≡ bare_at false (lines_begin_as o inside NoBlocks (enter k r))
+      go Blank t = bare-none k r e t.1
+      go (Nests j) t = refl
+      go (Takes leaf more) t = leaf-bare leaf more NoBlocks (enter k r) (is_item k) false
+      go Plain t = refl
+
+  inside-same : (m : ℕ) (k : Container) (r : Row) (ahead : List Row) (l : Level) (outer : List OpenContainer) (n : ℕ) → r.lazy ≡ false → length (enter k r).columns < m
+      → pass_at text lookup (inside_begun m k r (within k false ahead)) (within k false ahead) l outer (is_item k) n
+      ≡ pass_at text lookup (inside_begun m k r (within k (is_bare_start k r) ahead)) (within k (is_bare_start k r) ahead) l outer (is_bare_start k r) n
+  inside-same zero k r ahead l outer n e f = absurd (omega (arith, f))
+  inside-same (suc m) k r ahead l outer n e f = go (is_bare_start k r) refl
+    where
+      go : (z : Bool) → is_bare_start k r ≡ z → pass_at text lookup (inside_begun (suc m) k r (within k false ahead)) (within k false ahead) l outer (is_item k) n
+          ≡ pass_at text lookup (inside_begun (suc m) k r (within k (is_bare_start k r) ahead)) (within k (is_bare_start k r) ahead) l outer (is_bare_start k r) n
+      go true b =
+          ap (λ o. pass_at text lookup o (within k false ahead) l outer (is_item k) n) (blank-begins m k r (within k false ahead) e (bare-start k r b))
+          ∙ ap (λ z. pass_at text lookup (Between (BlankLine (enter k r) NoBlocks)) [] l outer z n) (bare-item k r b ∙ sym b)
+          ∙ ap (λ o. pass_at text lookup o (within k (is_bare_start k r) ahead) l outer (is_bare_start k r) n) (sym (blank-begins m k r (within k (is_bare_start k r) ahead) e (bare-start k r b)))
+      go false b =
+          let o = inside_begun (suc m) k r (within k false ahead) in
+          ap (λ z. pass_with (inner_at text lookup o (within k false ahead) l) (outer ++ containers_at text lookup o l) z (leaf_at text lookup o) n) (bare-begins m k r (within k false ahead) b)
+          ∙ ap (λ z. pass_at text lookup (inside_begun (suc m) k r (within k z ahead)) (within k z ahead) l outer z n) (sym b)
+
+  pub begins : (m : ℕ) (closed : Blocks) (r : Row) (next ahead : List Row) (l : Level) (outer : List OpenContainer) (b : Bool) (n : ℕ) → r.lazy ≡ false → length r.columns < m → ahead_in text options lookup outer next ≡ ahead
+      → begin_in text options lookup m r next b (pass_with (replay text lookup closed l) outer false Closed n) ≡ pass_at text lookup (lines_begin_in options m closed r ahead) ahead l outer b n
+  begins zero closed r next ahead l outer b n e f a = absurd (omega (arith, f))
+  begins (suc m) closed r next ahead l outer b n e f a =
+      ap (λ x. begin_as text options lookup (opens options r x) (λ k. begin_in text options lookup m (enter k r) next (is_item k) (container_begun k r p)) r x b p) a
+      ∙ go (opens options r ahead) refl (tells options r ahead)
+      (λ k o. let le : length (enter k r).columns < length r.columns = enter_len options k r ahead o in
+      begins m NoBlocks (enter k r) next (within k false ahead) (entered k r c) (outer ++ container_at text lookup k r c ∷ []) (is_item k) n (enter-lazy options k r ∙ e) (omega (arith, f, le))
+      (ahead-inside outer (container_at text lookup k r c) next ∙ ap (within k false) a))
+    where
+      c : Level
+      c = replay text lookup closed l
+
+      p : Pass
+      p = pass_with (replay text lookup closed l) outer false Closed n
+
+      inside : Container → OpenLines
+      inside k = lines_begin_in options m NoBlocks (enter k r) (within k (is_bare_start k r) ahead)
+
+      Inside : Container → Type 0
+      Inside k = begin_in text options lookup m (enter k r) next (is_item k) (pass_with (entered k r (replay text lookup closed l)) (outer ++ container_at text lookup k r (replay text lookup closed l) ∷ []) false Closed n)
+          ≡ pass_at text lookup (inside_begun m k r (within k false ahead)) (within k false ahead) (entered k r (replay text lookup closed l)) (outer ++ container_at text lookup k r (replay text lookup closed l) ∷ []) (is_item k) n
+
+      go : (o : Opening) → opens options r ahead ≡ o → Tells r o → ((k : Container) → opens options r ahead ≡ Nests k → Inside k)
+          → begin_as text options lookup o (λ k. begin_in text options lookup m (enter k r) next (is_item k) (container_begun k r (pass_with (replay text lookup closed l) outer false Closed n))) r ahead b (pass_with (replay text lookup closed l) outer false Closed n)
+          ≡ pass_at text lookup (lines_begin_as o (λ k. lines_begin_in options m NoBlocks (enter k r) (within k (is_bare_start k r) ahead)) closed r) ahead l outer b n
+      go Blank q t ih =
+          ap (λ x. pass_with x outer b Closed n) (sym (replay-join text lookup closed (BlankLine r NoBlocks) l))
+          ∙ ap (λ o. pass_with (replay text lookup (join_blocks closed (BlankLine r NoBlocks)) l) o b Closed n) (sym (append-nil outer))
+      go (Nests k) q t ih =
+          let v = container_at text lookup k r c in
+          let i = inside_begun m k r (within k (is_bare_start k r) ahead) in
+          let le : length (enter k r).columns < length r.columns = enter_len options k r ahead q in
+          ap (begin_in text options lookup m (enter k r) next (is_item k)) (container-begins k r c outer n)
+          ∙ ih k q
+          ∙ inside-same m k r ahead (entered k r c) (outer ++ v ∷ []) n e (omega (arith, f, le))
+          ∙ ap (λ o. pass_with (inner_at text lookup i (within k (is_bare_start k r) ahead) (entered k r c)) o (bare_at (is_bare_start k r) i) (leaf_at text lookup i) n) (append_assoc outer (v ∷ []) (containers_at text lookup i (entered k r c)))
+      go (Takes leaf more) q t ih =
+          let i = leaf_lines_begun leaf more closed r in
+          leaf-begins leaf more closed r ahead l outer b n t
+          ∙ ap (λ o. pass_with (inner_at text lookup i ahead l) o (bare_at b i) (leaf_at text lookup i) n) (sym (ap (λ x. outer ++ x) (leaf-alone leaf more closed r l) ∙ append-nil outer))
+      go Plain q t ih =
+          ap (λ x. pass_with (paragraph_open text lookup r [] (replay text lookup closed l)) outer false (InParagraphLeaf x) n) (sym (whole-same r e))
+          ∙ ap (λ o. pass_with (paragraph_open text lookup r [] (replay text lookup closed l)) o false (InParagraphLeaf (whole r)) n) (sym (append-nil outer))
+
+  -- where nothing but a blank line may begin, no line that is bare begins something
+  not-bare : (b : Bool) (r : Row) (ahead : List Row) → r.lazy ≡ false → (b ≡ true → is_blank_line r ≡ true) → (opens options r ahead ≡ Blank → ⊥) → b ≡ false
+  not-bare false r ahead e h ne = refl
+  not-bare true r ahead e h ne = absurd (ne (opens-blank r ahead e (h refl)))
+
+  -- what has begun fits
+  pub begins-fit : (m : ℕ) (closed : Blocks) (r : Row) (ahead : List Row) (b : Bool) (n : ℕ) → r.lazy ≡ false → length r.columns < m → (b ≡ true → is_blank_line r ≡ true) → r.past ≡ n
+      → Fits b (lines_begin_in options m closed r ahead) ahead n
+  begins-fit zero closed r ahead b n e f h q = absurd (omega (arith, f))
+  begins-fit (suc m) closed r ahead b n e f h q =
+      go (opens options r ahead) refl (tells options r ahead)
+      (λ k o. let le : length (enter k r).columns < length r.columns = enter_len options k r ahead o in
+      begins-fit m NoBlocks (enter k r) (within k (is_bare_start k r) ahead) (is_bare_start k r) n (enter-lazy options k r ∙ e) (omega (arith, f, le)) (bare-start k r) (enter-past k r ∙ q))
+    where
+      html : (z : Bool) (kind : ℕ) → b ≡ false → Fits b (html_lines_begun z closed kind r) ahead n
+      html true kind nb = (nb, omega arith, λ never. refl)
+      html false kind nb = (nb, (refl, q))
+
+      leaf-fits : (leaf : Leaf) (more : ℕ) → b ≡ false → more ≤ length ahead → Tells r (Takes leaf more) → Fits b (leaf_lines_begun leaf more closed r) ahead n
+      leaf-fits ThematicBreak more nb le t = (nb, le, λ never. t)
+      leaf-fits (AtxHeading level) more nb le t = (nb, le, λ never. t)
+      leaf-fits IndentedCode more nb le t = (nb, tt)
+      leaf-fits (FencedCode fence) more nb le t = (nb, (refl, q, tt))
+      leaf-fits (HtmlBlock kind) more nb le t = html (nat_le kind 5 && holds_end kind (words_of r)) kind nb
+      leaf-fits (LinkDefinition definition) more nb le t = (nb, le, λ never. absurd (true≢false never))
+
+      go : (o : Opening) → opens options r ahead ≡ o → Tells r o → ((k : Container) → opens options r ahead ≡ Nests k → Fits (is_bare_start k r) (inside_begun m k r (within k (is_bare_start k r) ahead)) (within k (is_bare_start k r) ahead) n)
+          → Fits b (lines_begin_as o (λ k. lines_begin_in options m NoBlocks (enter k r) (within k (is_bare_start k r) ahead)) closed r) ahead n
+      go Blank o t ih = tt
+      go (Nests k) o t ih = (not-bare b r ahead e h (λ x. let y : Nests k ≡ Blank = sym o ∙ x in cc), q, ih k o)
+      go (Takes leaf more) o t ih = leaf-fits leaf more (not-bare b r ahead e h (λ x. let y : Takes leaf more ≡ Blank = sym o ∙ x in cc)) (opens-len options r ahead leaf more o) t
+      go Plain o t ih = (not-bare b r ahead e h (λ x. let y : Plain ≡ Blank = sym o ∙ x in cc), q)
+
+  -- behind closed blocks
+  pub starts : (closed : Blocks) (r : Row) (next ahead : List Row) (l : Level) (outer : List OpenContainer) (n : ℕ) → r.lazy ≡ false → ahead_in text options lookup outer next ≡ ahead
+      → begin text options lookup r next (pass_with (replay text lookup closed l) outer false Closed n) ≡ pass_at text lookup (lines_begin options closed r ahead) ahead l outer false n
+  unfolding lines_begin
+  starts closed r next ahead l outer n e a = begins (suc (length r.columns)) closed r next ahead l outer false n e (omega arith) a
+
+  pub starts-fit : (closed : Blocks) (r : Row) (ahead : List Row) → r.lazy ≡ false → Fits false (lines_begin options closed r ahead) ahead r.past
+  unfolding lines_begin
+  starts-fit closed r ahead e = begins-fit (suc (length r.columns)) closed r ahead false r.past e (omega arith) (λ never. absurd (true≢false (sym never))) refl

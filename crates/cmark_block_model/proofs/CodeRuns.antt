@@ -1,0 +1,133 @@
+-- Lines of code: pieces that are drawn from left to right are those that are merged from right to left.
+use Rattle.std.proofs.Common.{◌≡◌, ℕ, Bool, true, false, ◌==◌, ◌&&◌, not, List, [], ◌∷◌, ◌++◌, refl, ap, ◌∙◌, sym, append_assoc, append-nil, Option, Some, None, true≢false}
+use Rattle.std.specs.Prelude.{if◌then◌else◌}
+use Rattle.cmark_grammar.specs.Rows.{Row}
+use Rattle.cmark_grammar.specs.BlockDocument.{Nil, join}
+use Rattle.cmark_grammar.specs.Tokens.{Piece, touches, merge, merge_all, texts_then, verbatim_line, code_columns, code_pieces, code_tokens}
+use Rattle.cmark_block_model.specs.CodeLines.{Run, no_run, longer, put_behind, touch, add_pieces, code_line, rest_of, texts_of}
+use Rattle.cmark_block_model.proofs.PlainTokens.{texts-append, texts-join}
+
+abbrev pub merge_waits : Option Piece → List Piece → List Piece
+merge_waits None ps = ps
+merge_waits (Some p) ps = merge p ps
+
+abbrev pub run_with : List Piece → Option Piece → Run
+run_with done waits = record { done = done; waits = waits }
+
+merge-apart : (p : Piece) (ps : List Piece) → p.owned ≡ true → merge p ps ≡ p ∷ ps
+merge-apart p [] e = refl
+merge-apart p (q ∷ ps) e = ap (λ z. if not z && (not q.owned && (p.end == q.start)) then record { owned = false; bytes = p.bytes ++ q.bytes; start = p.start; end = q.end } ∷ ps else p ∷ q ∷ ps) e
+
+-- a piece before one that does not touch it, and before what that begins
+apart : (p q : Piece) (ps : List Piece) → q.owned ≡ false → touches p q ≡ false → merge p (merge q ps) ≡ p ∷ merge q ps
+apart p q [] f e = ap (λ z. if z then record { owned = false; bytes = p.bytes ++ q.bytes; start = p.start; end = q.end } ∷ [] else p ∷ q ∷ []) e
+apart p q (x ∷ ps) f e = go (touches q x)
+  where
+    both : Piece
+    both = record { owned = false; bytes = q.bytes ++ x.bytes; start = q.start; end = x.end }
+
+    go : (z : Bool) → merge p (if z then record { owned = false; bytes = q.bytes ++ x.bytes; start = q.start; end = x.end } ∷ ps else q ∷ x ∷ ps) ≡ p ∷ (if z then record { owned = false; bytes = q.bytes ++ x.bytes; start = q.start; end = x.end } ∷ ps else q ∷ x ∷ ps)
+    go true =
+        ap (λ z. if z then record { owned = false; bytes = p.bytes ++ both.bytes; start = p.start; end = both.end } ∷ ps else p ∷ both ∷ ps)
+        (ap (λ o. not p.owned && (not o && (p.end == q.start))) (sym f) ∙ e)
+    go false = ap (λ z. if z then record { owned = false; bytes = p.bytes ++ q.bytes; start = p.start; end = q.end } ∷ x ∷ ps else p ∷ q ∷ x ∷ ps) e
+
+together : (p q : Piece) (ps : List Piece) → q.owned ≡ false → touches p q ≡ true → merge (longer p q) ps ≡ merge p (merge q ps)
+together p q [] f e = sym (ap (λ z. if z then longer p q ∷ [] else p ∷ q ∷ []) e)
+together p q (x ∷ ps) f e =
+    ap (λ o. if not o && (not x.owned && (q.end == x.start)) then longer (longer p q) x ∷ ps else longer p q ∷ x ∷ ps) (sym f) ∙ go (touches q x)
+  where
+    go : (z : Bool) → (if z then longer (longer p q) x ∷ ps else longer p q ∷ x ∷ ps) ≡ merge p (if z then record { owned = false; bytes = q.bytes ++ x.bytes; start = q.start; end = x.end } ∷ ps else q ∷ x ∷ ps)
+    go true =
+        ap (λ b. record { owned = false; bytes = b; start = p.start; end = x.end } ∷ ps) (append_assoc p.bytes q.bytes x.bytes)
+        ∙ sym (ap (λ z. if z then longer p (longer q x) ∷ ps else p ∷ longer q x ∷ ps) (ap (λ o. not p.owned && (not o && (p.end == q.start))) (sym f) ∙ e))
+    go false = sym (ap (λ z. if z then longer p q ∷ x ∷ ps else p ∷ q ∷ x ∷ ps) e)
+
+touched-plain : (p q : Piece) → touches p q ≡ true → q.owned ≡ false
+touched-plain p q e = go p.owned q.owned e
+  where
+    go : (a b : Bool) → (not a && (not b && (p.end == q.start))) ≡ true → b ≡ false
+    go true b f = absurd (true≢false (sym f))
+    go false true f = absurd (true≢false (sym f))
+    go false false f = refl
+
+-- all pieces, with those behind them
+add-merges : (ps : List Piece) (done : List Piece) (waits : Option Piece) (behind : List Piece) → ((add_pieces (run_with done waits) ps).done ++ merge_waits (add_pieces (run_with done waits) ps).waits behind) ≡ (done ++ merge_waits waits (merge_all ps behind))
+add-merges [] done waits behind = refl
+add-merges (q ∷ ps) done None behind = go q.owned refl (λ d w. add-merges ps d w behind)
+  where
+    l : List Piece
+    l = merge_all ps behind
+
+    go : (z : Bool) → q.owned ≡ z → ((d : List Piece) (w : Option Piece) → ((add_pieces (run_with d w) ps).done ++ merge_waits (add_pieces (run_with d w) ps).waits behind) ≡ (d ++ merge_waits w (merge_all ps behind))) → ((add_pieces (put_behind z done q) ps).done ++ merge_waits (add_pieces (put_behind z done q) ps).waits behind) ≡ (done ++ merge q (merge_all ps behind))
+    go true e ih = ih (done ++ q ∷ []) None ∙ append_assoc done (q ∷ []) l ∙ ap (λ x. done ++ x) (sym (merge-apart q l e))
+    go false e ih = ih done (Some q)
+add-merges (q ∷ ps) done (Some p) behind = touching (touches p q) refl (λ d w. add-merges ps d w behind)
+  where
+    l : List Piece
+    l = merge_all ps behind
+
+    go : (z : Bool) → q.owned ≡ z → touches p q ≡ false → ((d : List Piece) (w : Option Piece) → ((add_pieces (run_with d w) ps).done ++ merge_waits (add_pieces (run_with d w) ps).waits behind) ≡ (d ++ merge_waits w (merge_all ps behind))) → ((add_pieces (put_behind z (done ++ p ∷ []) q) ps).done ++ merge_waits (add_pieces (put_behind z (done ++ p ∷ []) q) ps).waits behind) ≡ (done ++ merge p (merge q (merge_all ps behind)))
+    go true e f ih =
+        ih ((done ++ p ∷ []) ++ q ∷ []) None ∙ append_assoc (done ++ p ∷ []) (q ∷ []) l ∙ append_assoc done (p ∷ []) (q ∷ l)
+        ∙ ap (λ x. done ++ x) (sym (ap (merge p) (merge-apart q l e) ∙ ap (λ z. if z then longer p q ∷ l else p ∷ q ∷ l) f))
+    go false e f ih = ih (done ++ p ∷ []) (Some q) ∙ append_assoc done (p ∷ []) (merge q l) ∙ ap (λ x. done ++ x) (sym (apart p q l e f))
+
+    touching : (z : Bool) → touches p q ≡ z → ((d : List Piece) (w : Option Piece) → ((add_pieces (run_with d w) ps).done ++ merge_waits (add_pieces (run_with d w) ps).waits behind) ≡ (d ++ merge_waits w (merge_all ps behind))) → ((add_pieces (touch z done p q) ps).done ++ merge_waits (add_pieces (touch z done p q) ps).waits behind) ≡ (done ++ merge p (merge q (merge_all ps behind)))
+    touching true e ih = ih done (Some (longer p q)) ∙ ap (λ x. done ++ x) (together p q l (touched-plain p q e) e)
+    touching false e ih = go q.owned refl e ih
+
+-- what was done stays in front
+add-front : (ps : List Piece) (ds es : List Piece) (waits : Option Piece) → add_pieces (run_with (ds ++ es) waits) ps ≡ run_with (ds ++ (add_pieces (run_with es waits) ps).done) (add_pieces (run_with es waits) ps).waits
+add-front [] ds es waits = refl
+add-front (q ∷ ps) ds es None = go q.owned (λ e w. add-front ps ds e w)
+  where
+    go : (z : Bool) → ((e : List Piece) (w : Option Piece) → add_pieces (run_with (ds ++ e) w) ps ≡ run_with (ds ++ (add_pieces (run_with e w) ps).done) (add_pieces (run_with e w) ps).waits) → add_pieces (put_behind z (ds ++ es) q) ps ≡ run_with (ds ++ (add_pieces (put_behind z es q) ps).done) (add_pieces (put_behind z es q) ps).waits
+    go true ih = ap (λ d. add_pieces (run_with d None) ps) (append_assoc ds es (q ∷ [])) ∙ ih (es ++ q ∷ []) None
+    go false ih = ih es (Some q)
+add-front (q ∷ ps) ds es (Some p) = touching (touches p q) (λ e w. add-front ps ds e w)
+  where
+    go : (z : Bool) → ((e : List Piece) (w : Option Piece) → add_pieces (run_with (ds ++ e) w) ps ≡ run_with (ds ++ (add_pieces (run_with e w) ps).done) (add_pieces (run_with e w) ps).waits) → add_pieces (put_behind z ((ds ++ es) ++ p ∷ []) q) ps ≡ run_with (ds ++ (add_pieces (put_behind z (es ++ p ∷ []) q) ps).done) (add_pieces (put_behind z (es ++ p ∷ []) q) ps).waits
+    go true ih =
+        ap (λ d. add_pieces (run_with (d ++ q ∷ []) None) ps) (append_assoc ds es (p ∷ [])) ∙ ap (λ d. add_pieces (run_with d None) ps) (append_assoc ds (es ++ p ∷ []) (q ∷ []))
+        ∙ ih ((es ++ p ∷ []) ++ q ∷ []) None
+    go false ih = ap (λ d. add_pieces (run_with d (Some q)) ps) (append_assoc ds es (p ∷ [])) ∙ ih (es ++ p ∷ []) (Some q)
+
+    touching : (z : Bool) → ((e : List Piece) (w : Option Piece) → add_pieces (run_with (ds ++ e) w) ps ≡ run_with (ds ++ (add_pieces (run_with e w) ps).done) (add_pieces (run_with e w) ps).waits) → add_pieces (touch z (ds ++ es) p q) ps ≡ run_with (ds ++ (add_pieces (touch z es p q) ps).done) (add_pieces (touch z es p q) ps).waits
+    touching true ih = ih es (Some (longer p q))
+    touching false ih = go q.owned ih
+
+module _ (text : List ℕ) (most : ℕ) where
+  -- the run of these lines
+  abbrev pub code_run : Run → List Row → Run
+  code_run run [] = run
+  code_run run (r ∷ rs) = code_run (add_pieces run (verbatim_line text (code_columns most r) r)) rs
+
+  pub code_run-append : (run : Run) (a b : List Row) → code_run run (a ++ b) ≡ code_run (code_run run a) b
+  code_run-append run [] b = refl
+  code_run-append run (r ∷ a) b = code_run-append (add_pieces run (verbatim_line text (code_columns most r) r)) a b
+
+  run-merges : (rs : List Row) (done : List Piece) (waits : Option Piece) → ((code_run (run_with done waits) rs).done ++ rest_of (code_run (run_with done waits) rs).waits) ≡ (done ++ merge_waits waits (code_pieces text most rs))
+  run-merges [] done None = refl
+  run-merges [] done (Some p) = refl
+  run-merges (r ∷ rs) done waits =
+      let ps = verbatim_line text (code_columns most r) r in
+      run-merges rs (add_pieces (run_with done waits) ps).done (add_pieces (run_with done waits) ps).waits ∙ add-merges ps done waits (code_pieces text most rs)
+
+  -- the tokens of lines of code: what was drawn, and the stretch that waits
+  pub run-tokens : (rs : List Row) → code_tokens text most rs ≡ join (texts_of (code_run no_run rs).done) (texts_of (rest_of (code_run no_run rs).waits))
+  run-tokens rs =
+      ap (λ ps. texts_then ps Nil) (sym (run-merges rs [] None))
+      ∙ texts-append (code_run no_run rs).done (rest_of (code_run no_run rs).waits) Nil ∙ sym (texts-join (code_run no_run rs).done Nil (texts_of (rest_of (code_run no_run rs).waits)))
+
+  -- one line more
+  pub run-line : (run : Run) (r : Row) → texts_of (code_run run (r ∷ [])).done ≡ join (texts_of run.done) (texts_of (code_line text most r run.waits).done)
+  run-line run r =
+      let ps = verbatim_line text (code_columns most r) r in
+      ap (λ d. texts_of (add_pieces (run_with d run.waits) ps).done) (sym (append-nil run.done)) ∙ ap (λ x. texts_of x.done) (add-front ps run.done [] run.waits)
+      ∙ texts-append run.done (code_line text most r run.waits).done Nil ∙ sym (texts-join run.done Nil (texts_of (code_line text most r run.waits).done))
+
+  pub run-waits : (run : Run) (r : Row) → (code_run run (r ∷ [])).waits ≡ (code_line text most r run.waits).waits
+  run-waits run r =
+      let ps = verbatim_line text (code_columns most r) r in
+      ap (λ d. (add_pieces (run_with d run.waits) ps).waits) (sym (append-nil run.done)) ∙ ap (λ x. x.waits) (add-front ps run.done [] run.waits)

@@ -1,0 +1,70 @@
+-- The references of closed blocks are the definitions of their document.
+use Rattle.std.proofs.Common.{◌≡◌, ◌==◌, ℕ, Bool, true, false, List, [], ◌∷◌, ◌++◌, refl, ap, ◌∙◌, sym, append_assoc, append-nil, Option, Some, None}
+use Rattle.cmark_grammar.specs.Answers.{Lookup}
+use Rattle.cmark_grammar.specs.Rows.{Row, past_of, begin_of, start_of}
+use Rattle.cmark_grammar.specs.Containers.{Quote, Item}
+use Rattle.cmark_grammar.specs.Openings.{Leaf, ThematicBreak, AtxHeading, IndentedCode, FencedCode, HtmlBlock, LinkDefinition}
+use Rattle.cmark_grammar.specs.Blocks.{Blocks, Nil as NoBlocks, BlankLine, Paragraph, SetextHeading, LeafBlock, ContainerBlock}
+use Rattle.cmark_grammar.specs.Lists.{ListBefore, tight_behind, goes_on}
+use Rattle.cmark_grammar.specs.Tokens.{fenced_lines}
+use Rattle.cmark_grammar.specs.Derivation.{paragraph_kind, leaf_then, item_then, document_of, reference_of, stop_of}
+use Rattle.cmark_grammar.specs.BlockDocument as document
+use Rattle.cmark_grammar.specs.BlockDocument.{Reference, BlockKind, BlockNode, BlockDocument, Nil, Node, node}
+use Rattle.cmark_grammar.specs.References.{references}
+use Rattle.cmark_block_model.specs.OpenBlocks.{OpenList}
+use Rattle.cmark_block_model.proofs.PlainTokens.{IsPlain, paragraph_plain, heading_plain, code_plain, html_tokens_plain}
+use Rattle.cmark_block_model.proofs.Split.{Split, split}
+use Rattle.cmark_block_model.proofs.Settles.{Joins, settles}
+use Rattle.cmark_block_model.proofs.Replay.{Level, standing, entered, left_by, item_if, item_level, leaf_references, leaf_level, paragraph_level, heading_level, blank_level, replay}
+
+paragraph-references : (direct : Bool) (start end : ℕ) (t d : BlockDocument) → IsPlain t → references (Node (node (paragraph_kind direct) start end) t d) ≡ references d
+paragraph-references true start end t d h = ap (λ r. r ++ references d) h.defines
+paragraph-references false start end t d h = ap (λ r. r ++ references d) h.defines
+
+item-references : (joins direct tight : Bool) (number : Option ℕ) (start past : ℕ) (inner : BlockDocument) (s : Split) (d : BlockDocument) → Joins joins direct tight s d → references (item_then joins number tight (node document.ListItem start past) inner d) ≡ (references inner ++ references d)
+item-references false direct tight number start past inner s d j = ap (λ r. r ++ references d) (append-nil (references inner))
+item-references true direct tight number start past inner s d j =
+    ap (λ x. references (item_then true number tight (node document.ListItem start past) inner x)) j.is
+    ∙ append_assoc (references inner) (references j.items) (references j.after) ∙ ap (λ x. references inner ++ references x) (sym j.is)
+
+item-keeps : (mark : ℕ) (number : Option ℕ) (start : ℕ) (l : Level) (o : Option OpenList) → (item_level mark number start l o).references ≡ l.references
+item-keeps mark number start l None = refl
+item-keeps mark number start l (Some o) = go (o.mark == mark)
+  where
+    go : (z : Bool) → (item_if z mark number start o l).references ≡ l.references
+    go true = refl
+    go false = refl
+
+module _ (text : List ℕ) (lookup : Lookup) where
+  leaf-references : (leaf : Leaf) (first : Row) (more : List Row) (rs : List Reference) (d : BlockDocument) → (leaf_references text lookup leaf first more rs ++ references d) ≡ (rs ++ references (leaf_then text lookup leaf first more d))
+  leaf-references ThematicBreak first more rs d = refl
+  leaf-references (AtxHeading level) first more rs d = ap (λ r. rs ++ (r ++ references d)) (sym (heading_plain lookup level first).defines)
+  leaf-references IndentedCode first more rs d = ap (λ r. rs ++ (r ++ references d)) (sym (code_plain text 4 (first ∷ more)).defines)
+  leaf-references (FencedCode fence) first more rs d = ap (λ r. rs ++ (r ++ references d)) (sym (code_plain text fence.indented (fenced_lines fence more)).defines)
+  leaf-references (HtmlBlock kind) first more rs d = ap (λ r. rs ++ (r ++ references d)) (sym (html_tokens_plain text (first ∷ more)).defines)
+  leaf-references (LinkDefinition definition) first more rs d = append_assoc rs (reference_of lookup definition (start_of first) (stop_of first more) ∷ []) (references d)
+
+  pub defines : (b : Blocks) (direct : Bool) (before : Option ListBefore) (l : Level) → (replay text lookup b l).references ≡ (l.references ++ references (document_of text lookup direct before b))
+  defines NoBlocks direct before l = sym (append-nil l.references)
+  defines (BlankLine line after) direct before l = defines after direct before (blank_level l)
+  defines (Paragraph first more after) direct before l =
+      defines after direct None (paragraph_level text lookup first more l)
+      ∙ ap (λ r. l.references ++ r) (sym (paragraph-references direct (start_of first) (past_of first more) _ (document_of text lookup direct None after) (paragraph_plain lookup first more)))
+  defines (SetextHeading level first more underline after) direct before l =
+      defines after direct None (heading_level text lookup level first more underline l)
+      ∙ ap (λ r. l.references ++ (r ++ references (document_of text lookup direct None after))) (sym (paragraph_plain lookup first more).defines)
+  defines (LeafBlock leaf first more after) direct before l =
+      defines after direct None (leaf_level text lookup leaf first more l) ∙ leaf-references leaf first more l.references (document_of text lookup direct None after)
+  defines (ContainerBlock Quote first more inside after) direct before l =
+      defines after direct None (left_by Quote (standing Quote first l).inner (past_of first more) (replay text lookup inside (entered Quote first l)))
+      ∙ ap (λ r. r ++ references (document_of text lookup direct None after)) (defines inside false None (entered Quote first l))
+      ∙ append_assoc l.references (references (document_of text lookup false None inside)) (references (document_of text lookup direct None after))
+  defines (ContainerBlock (Item mark number width) first more inside after) direct before l =
+      let k = Item mark number width in
+      let t = tight_behind before mark inside after in
+      let d = document_of text lookup direct (Some (record { mark = mark; tight = t })) after in
+      let i = document_of text lookup t None inside in
+      defines after direct (Some (record { mark = mark; tight = t })) (left_by k (standing k first l).inner (past_of first more) (replay text lookup inside (entered k first l)))
+      ∙ ap (λ r. r ++ references d) (defines inside t None (entered k first l) ∙ ap (λ r. r ++ references i) (item-keeps mark number (begin_of first) l l.inner.list))
+      ∙ append_assoc l.references (references i) (references d)
+      ∙ ap (λ r. l.references ++ r) (sym (item-references (goes_on mark after) direct t number (begin_of first) (past_of first more) i (split text lookup (Some mark) after) d (settles text lookup after direct (Some (record { mark = mark; tight = t })))))

@@ -1,0 +1,104 @@
+-- One more line behind what is open in the innermost container.
+use Rattle.std.proofs.Common.{◌≡◌, ℕ, zero, suc, Bool, true, false, List, [], ◌∷◌, ◌++◌, take, refl, ap, ◌∙◌, sym, append_assoc, append-nil, Option, Some, None, arith}
+use Rattle.std.specs.Prelude.{if◌then◌else◌}
+use Rattle.cmark_grammar.specs.Answers.{Lookup}
+use Rattle.cmark_grammar.specs.Attributes.{no_attributes}
+use Rattle.cmark_grammar.specs.Options.{Options}
+use Rattle.cmark_grammar.specs.Rows.{Row, start_of}
+use Rattle.cmark_grammar.specs.Leaves.{underlines}
+use Rattle.cmark_grammar.specs.Openings.{Leaf, ThematicBreak, AtxHeading, IndentedCode, FencedCode, HtmlBlock, LinkDefinition, texts}
+use Rattle.cmark_grammar.specs.Blocks.{Blocks, Nil as NoBlocks, Paragraph, SetextHeading, LeafBlock, join as join_blocks, may_lazy}
+use Rattle.cmark_grammar.specs.BlocksByLine.{Between, InParagraph, InLeaf, lines_underline_or, lines_go_on_or, lines_begin, lines_feed}
+use Rattle.cmark_grammar.specs.Tokens.{LineEnd, Soft, Spaces, Backslash, line_end, broken}
+use Rattle.cmark_grammar.specs.BlockDocument as document
+use Rattle.cmark_grammar.specs.BlockDocument.{BlockDocument, Nil, Node, node, join}
+use Rattle.cmark_block_model.specs.OpenBlocks.{OpenContainer, OpenLeaf, Closed, InParagraph as InParagraphLeaf, InDefinition, Pass}
+use Rattle.cmark_block_model.specs.BlockPass.{ahead_in, begin, leaf_closed, leaf_fed, underlined_or, heading_made, paragraph_line}
+use Rattle.cmark_block_model.proofs.Replay.{Level, begun, level_opened, level_drawn, leaf_level, replay, replay-join}
+use Rattle.cmark_block_model.proofs.Mirror.{whole, whole-same, last_of, last_push, pass_with, leaf_left, Fits, lines_drawn, drawn-tokens, drawn-push, paragraph_open, inner_at, leaf_at, pass_at}
+use Rattle.cmark_block_model.proofs.Closing.{noded, leaf-closes}
+use Rattle.cmark_block_model.proofs.Beginning.{starts}
+
+module _ (text : List ℕ) (options : Options) (lookup : Lookup) where
+  broken-whole : (e : LineEnd) (r : Row) → broken lookup e (whole r) Nil ≡ broken lookup e r Nil
+  broken-whole Soft r = refl
+  broken-whole Spaces r = refl
+  broken-whole Backslash r = refl
+
+  -- a paragraph goes on
+  pub paragraph-goes : (first : Row) (more : List Row) (r s : Row) (l : Level) (outer : List OpenContainer) (leaf : OpenLeaf) (n : ℕ) → whole s ≡ r
+      → paragraph_line text options lookup (whole (last_of first more)) r (pass_with (paragraph_open text lookup first more l) outer false leaf n)
+      ≡ pass_with (paragraph_open text lookup first (more ++ s ∷ []) l) outer false (InParagraphLeaf (whole (last_of first (more ++ s ∷ [])))) n
+  paragraph-goes first more r s l outer leaf n e =
+      ap (λ t. pass_with (level_drawn (join (lines_drawn text lookup first more) t) (level_opened (start_of first) document.Paragraph (begun l))) outer false (InParagraphLeaf r) n) (broken-whole (line_end (last_of first more)) (last_of first more)) ∙
+      ap (λ x. pass_with (level_drawn (join (lines_drawn text lookup first more) (broken lookup (line_end (last_of first more)) (last_of first more) Nil)) (level_opened (start_of first) document.Paragraph (begun l))) outer false (InParagraphLeaf x) n)
+      (sym (ap whole (last_push first more s) ∙ e))
+      ∙ ap (λ d. pass_with (level_drawn d (level_opened (start_of first) document.Paragraph (begun l))) outer false (InParagraphLeaf (whole (last_of first (more ++ s ∷ [])))) n) (sym (drawn-push text lookup first more s))
+
+  pub paragraph-feeds : (closed : Blocks) (first : Row) (more : List Row) (r : Row) (next ahead : List Row) (l : Level) (outer : List OpenContainer) (b : Bool) (n : ℕ) → r.lazy ≡ false → ahead_in text options lookup outer next ≡ ahead
+      → Fits b (InParagraph closed first more) (r ∷ ahead) n
+      → leaf_fed text options lookup (leaf_at text lookup (InParagraph closed first more)) r next (pass_with (inner_at text lookup (InParagraph closed first more) (r ∷ ahead) l) outer false (leaf_at text lookup (InParagraph closed first more)) n)
+      ≡ pass_at text lookup (lines_feed options (InParagraph closed first more) r ahead) ahead l outer false n
+  paragraph-feeds closed first more r next ahead l outer b n e a f = go (underlines r)
+    where
+      c : Level
+      c = replay text lookup closed l
+
+      last : Row
+      last = whole (last_of first more)
+
+      p : Pass
+      p = pass_with (paragraph_open text lookup first more (replay text lookup closed l)) outer false (InParagraphLeaf (whole (last_of first more))) n
+
+      end : (o : List OpenContainer) (x : Level) (leaf : OpenLeaf) → pass_with x o false leaf n ≡ pass_with x (o ++ []) false leaf n
+      end o x leaf = ap (λ y. pass_with x y false leaf n) (sym (append-nil o))
+
+      text-goes : (z : Bool) → (if z then paragraph_line text options lookup (whole (last_of first more)) r p else begin text options lookup r next (leaf_closed text options lookup p))
+          ≡ pass_at text lookup (lines_go_on_or z (InParagraph closed first (more ++ r ∷ [])) (lines_begin options (join_blocks closed (Paragraph first more NoBlocks)) r ahead)) ahead l outer false n
+      text-goes true = paragraph-goes first more r r c outer (InParagraphLeaf (whole (last_of first more))) n (whole-same r e) ∙ end outer (paragraph_open text lookup first (more ++ r ∷ []) c) (InParagraphLeaf (whole (last_of first (more ++ r ∷ []))))
+      text-goes false =
+          ap (begin text options lookup r next) (leaf-closes text options lookup (InParagraph closed first more) b n l outer false f)
+          ∙ starts text options lookup (join_blocks closed (Paragraph first more NoBlocks)) r next ahead l outer n e a
+
+      go : (u : Option ℕ) → underlined_or text options lookup u (λ level. heading_made text options lookup level (whole (last_of first more)) r p) (if texts options r (ahead_in text options lookup outer next) then paragraph_line text options lookup (whole (last_of first more)) r p else begin text options lookup r next (leaf_closed text options lookup p))
+          ≡ pass_at text lookup (lines_underline_or u (λ level. Between (join_blocks closed (SetextHeading level first more r NoBlocks))) (lines_go_on_or (texts options r ahead) (InParagraph closed first (more ++ r ∷ [])) (lines_begin options (join_blocks closed (Paragraph first more NoBlocks)) r ahead))) ahead l outer false n
+      go (Some level) =
+          ap (λ t. pass_with (noded text options lookup (document.Heading level no_attributes) (start_of first) r.past t (begun c)) outer false Closed n) (sym (drawn-tokens text lookup first more))
+          ∙ ap (λ q. pass_with q outer false Closed n) (sym (replay-join text lookup closed (SetextHeading level first more r NoBlocks) l))
+          ∙ end outer (replay text lookup (join_blocks closed (SetextHeading level first more r NoBlocks)) l) Closed
+      go None =
+          ap (λ x. if texts options r x then paragraph_line text options lookup (whole (last_of first more)) r p else begin text options lookup r next (leaf_closed text options lookup p)) a
+          ∙ text-goes (texts options r ahead)
+
+  pub leaf-feeds : (closed : Blocks) (leaf : Leaf) (first : Row) (had : List Row) (left : ℕ) (r : Row) (next ahead : List Row) (l : Level) (outer : List OpenContainer) (b : Bool) (n : ℕ) → r.lazy ≡ false → ahead_in text options lookup outer next ≡ ahead
+      → Fits b (InLeaf closed leaf first had left) (r ∷ ahead) n
+      → leaf_fed text options lookup (leaf_left leaf left) r next (pass_with (inner_at text lookup (InLeaf closed leaf first had left) (r ∷ ahead) l) outer false (leaf_left leaf left) n)
+      ≡ pass_at text lookup (lines_feed options (InLeaf closed leaf first had left) r ahead) ahead l outer false n
+  leaf-feeds closed leaf first had zero r next ahead l outer b n e a f =
+      done leaf (leaf_level text lookup leaf first (had ++ []) (replay text lookup closed l))
+      ∙ ap (λ h. begin text options lookup r next (pass_with (leaf_level text lookup leaf first h (replay text lookup closed l)) outer false Closed n)) (append-nil had)
+      ∙ ap (λ q. begin text options lookup r next (pass_with q outer false Closed n)) (sym (replay-join text lookup closed (LeafBlock leaf first had NoBlocks) l))
+      ∙ starts text options lookup (join_blocks closed (LeafBlock leaf first had NoBlocks)) r next ahead l outer n e a
+    where
+      done : (leaf : Leaf) (q : Level) → leaf_fed text options lookup (leaf_left leaf zero) r next (pass_with q outer false (leaf_left leaf zero) n) ≡ begin text options lookup r next (pass_with q outer false Closed n)
+      done ThematicBreak q = refl
+      done (AtxHeading level) q = refl
+      done IndentedCode q = refl
+      done (FencedCode fence) q = refl
+      done (HtmlBlock kind) q = refl
+      done (LinkDefinition definition) q = refl
+  leaf-feeds closed leaf first had (suc left) r next ahead l outer b n e a f = go leaf f.2
+    where
+      none : {A : Type 0} → suc left ≡ 0 → A
+      none q = absurd (omega (arith, q))
+
+      go : (leaf : Leaf) → (may_lazy leaf ≡ false → suc left ≡ 0) → leaf_fed text options lookup (leaf_left leaf (suc left)) r next (pass_with (leaf_level text lookup leaf first (had ++ take (suc left) (r ∷ ahead)) (replay text lookup closed l)) outer false (leaf_left leaf (suc left)) n)
+          ≡ pass_with (leaf_level text lookup leaf first ((had ++ r ∷ []) ++ take left ahead) (replay text lookup closed l)) (outer ++ []) false (leaf_left leaf left) n
+      go ThematicBreak h = none (h refl)
+      go (AtxHeading level) h = none (h refl)
+      go IndentedCode h = none (h refl)
+      go (FencedCode fence) h = none (h refl)
+      go (HtmlBlock kind) h = none (h refl)
+      go (LinkDefinition definition) h =
+          ap (λ x. pass_with (leaf_level text lookup (LinkDefinition definition) first x (replay text lookup closed l)) outer false (InDefinition left) n) (sym (append_assoc had (r ∷ []) (take left ahead)))
+          ∙ ap (λ o. pass_with (leaf_level text lookup (LinkDefinition definition) first ((had ++ r ∷ []) ++ take left ahead) (replay text lookup closed l)) o false (InDefinition left) n) (sym (append-nil outer))

@@ -1,0 +1,84 @@
+-- No item begins with two blank lines (CommonMark 5.2).
+use Rattle.std.proofs.Common.{◌≡◌, ℕ, zero, suc, ◌≤◌, Bool, true, false, ◌||◌, ◌&&◌, List, [], ◌∷◌, length, take_while, drop, cond, refl, ap, ◌∙◌, sym, subst, Option, Some, None, true≢false, arith}
+use Rattle.std.specs.Prelude.{if◌then◌else◌, nat_le}
+use Rattle.std.proofs.lemmas.List.Sums.{take_while-cons}
+use Rattle.cmark_grammar.specs.Options.{Options}
+use Rattle.cmark_grammar.specs.Columns.{Column, is_blank, indent, without_indent}
+use Rattle.cmark_grammar.specs.Rows.{Row, rows, shown, is_bare, is_blank_line, indent_of, without}
+use Rattle.cmark_grammar.specs.Containers.{Container, Quote, Item, enter, keeps, strip, strip_as, strips, is_bare_start, insides}
+use Rattle.cmark_grammar.specs.Openings.{opens, Blank}
+use Rattle.cmark_grammar.specs.Blocks.{Blocks, Nil, BlankLine, Paragraph, SetextHeading, LeafBlock, ContainerBlock, may_lazy, Body}
+use Rattle.cmark_grammar.specs.BlocksModel.{blocks}
+use Rattle.cmark_grammar.proofs.BlocksSound.{blocks-body}
+use Rattle.cmark_block_model.proofs.Standing.{IsNearlyFilled, HasFilledItems}
+use Rattle.cmark_block_model.proofs.Tells.{Tells, tells}
+
+-- columns are blank, where they are without some of their indent
+still-blank : (n : ℕ) (cs : List Column) → n ≤ indent cs → is_bare (without_indent (drop n cs)) ≡ true → is_bare (without_indent cs) ≡ true
+still-blank zero cs le e = e
+still-blank (suc n) [] le e = refl
+still-blank (suc n) (d ∷ cs) le e =
+    subst (λ l. is_bare (drop (length l) (d ∷ cs)) ≡ true) (sym (take_while-cons is_blank d cs)) (go (is_blank d) (subst (λ l. suc n ≤ length l) (take_while-cons is_blank d cs) le) (λ f. still-blank n cs f e))
+  where
+    go : (z : Bool) → suc n ≤ length (cond z (d ∷ take_while is_blank cs) []) → (n ≤ indent cs → is_bare (without_indent cs) ≡ true) → is_bare (drop (length (cond z (d ∷ take_while is_blank cs) [])) (d ∷ cs)) ≡ true
+    go true f ih = ih (omega (arith, f))
+    go false f ih = absurd (omega (arith, f))
+
+two-blanks : (mark : ℕ) (number : Option ℕ) (width : ℕ) (r : Row) → (strip (Item mark number width) true r).lazy ≡ false → is_blank_line (strip (Item mark number width) true r) ≡ true → ⊥
+unfolding keeps
+two-blanks mark number width r = go r.lazy (is_blank_line r) refl (nat_le width (indent_of r)) refl
+  where
+    go : (a b : Bool) → is_blank_line r ≡ b → (c : Bool) → nat_le width (indent_of r) ≡ c
+        → (strip_as (if a || (true && b) then None else if b || c then Some (without width r) else None) r).lazy ≡ false
+        → is_blank_line (strip_as (if a || (true && b) then None else if b || c then Some (without width r) else None) r) ≡ true → ⊥
+    go true b e c f l h = true≢false l
+    go false true e c f l h = true≢false l
+    go false false e false f l h = true≢false l
+    go false false e true f l h = let le : width ≤ indent_of r = grind (arith) in true≢false (sym (still-blank width r.columns le h) ∙ e)
+
+module _ (options : Options) where
+  blank-tells : (r : Row) (ahead : List Row) → opens options r ahead ≡ Blank → (r.lazy ≡ false) × (is_blank_line r ≡ true)
+  blank-tells r ahead e = subst (Tells r) e (tells options r ahead)
+
+  nearly : (mark : ℕ) (number : Option ℕ) (width : ℕ) (first : Row) (more : List Row) (inside : Blocks) → Body options false (insides (Item mark number width) first more) inside → IsNearlyFilled inside
+  nearly mark number width first more Nil h = tt
+  nearly mark number width first more (Paragraph a b c) h = tt
+  nearly mark number width first more (SetextHeading l a b u c) h = tt
+  nearly mark number width first more (LeafBlock l a b c) h = tt
+  nearly mark number width first more (ContainerBlock k a b i c) h = tt
+  nearly mark number width first more (BlankLine line Nil) h = tt
+  nearly mark number width first more (BlankLine line (Paragraph a b c)) h = tt
+  nearly mark number width first more (BlankLine line (SetextHeading l a b u c)) h = tt
+  nearly mark number width first more (BlankLine line (LeafBlock l a b c)) h = tt
+  nearly mark number width first more (BlankLine line (ContainerBlock k a b i c)) h = tt
+  nearly mark number width first more (BlankLine line (BlankLine other after)) h = go more h.rest (rest-is h.cut) (line-is h.cut) h.after
+    where
+      k : Container
+      k = Item mark number width
+
+      rest-is : insides k first more ≡ line ∷ h.rest → strips k (is_bare_start k first) more ≡ h.rest
+      rest-is e = cc
+
+      line-is : insides k first more ≡ line ∷ h.rest → enter k first ≡ line
+      line-is e = cc
+
+      go : (more : List Row) (rest : List Row) → strips k (is_bare_start k first) more ≡ rest → enter k first ≡ line → Body options false rest (BlankLine other after) → ⊥
+      go [] rest e f b = absurd (let q : [] ≡ other ∷ b.rest = e ∙ b.cut in cc)
+      go (r ∷ more) rest e f b =
+          let bare : is_bare_start k first ≡ true = ap is_blank_line f ∙ (blank-tells line (shown h.rest) h.opened).1 in
+          let same : strip k true r ≡ other = let q : strip k (is_bare_start k first) r ∷ strips k false more ≡ other ∷ b.rest = e ∙ b.cut in ap (λ z. strip k z r) (sym bare) ∙ cc in
+          let t = blank-tells other (shown b.rest) b.opened in
+          two-blanks mark number width r (ap (λ s. s.lazy) same ∙ t.0) (ap is_blank_line same ∙ t.1)
+
+  filled : (b : Blocks) (behind : Bool) (all : List Row) → Body options behind all b → HasFilledItems b
+  filled Nil behind all h = tt
+  filled (BlankLine line after) behind all h = filled after false h.rest h.after
+  filled (Paragraph first more after) behind all h = filled after false h.rest h.after
+  filled (SetextHeading level first more underline after) behind all h = filled after false h.rest h.after
+  filled (LeafBlock leaf first more after) behind all h = filled after (may_lazy leaf) h.rest h.after
+  filled (ContainerBlock Quote first more inside after) behind all h = (filled inside false (insides Quote first more) h.contents, filled after false h.rest h.after)
+  filled (ContainerBlock (Item mark number width) first more inside after) behind all h =
+      (nearly mark number width first more inside h.contents, filled inside false (insides (Item mark number width) first more) h.contents, filled after false h.rest h.after)
+
+  pub blocks-filled : (text : List ℕ) → HasFilledItems (blocks options text)
+  blocks-filled text = filled (blocks options text) false (rows text) (blocks-body options text)

@@ -1,0 +1,145 @@
+-- The pass as what is open in the model: each field as a function of the open lines, with the lines ahead.
+use Rattle.std.proofs.Common.{◌≡◌, ℕ, ◌≤◌, Bool, false, List, [], ◌∷◌, ◌++◌, length, take, refl, ap, ◌∙◌, sym}
+use Rattle.cmark_grammar.specs.Answers.{Lookup}
+use Rattle.cmark_grammar.specs.Rows.{Row, start_of, begin_of, past_of, first_place}
+use Rattle.cmark_grammar.specs.Leaves.{Fence, closes_fence}
+use Rattle.cmark_grammar.specs.Containers.{Container, is_bare_start, bare_after}
+use Rattle.cmark_grammar.specs.Openings.{Leaf, ThematicBreak, AtxHeading, IndentedCode, FencedCode, HtmlBlock, LinkDefinition}
+use Rattle.cmark_grammar.specs.Blocks.{may_lazy}
+use Rattle.cmark_grammar.specs.BlocksModel.{within}
+use Rattle.cmark_grammar.specs.BlocksByLine.{Verbatim, Indented, Fenced, HtmlLines, OpenLines, Between, InParagraph, InLeaf, InVerbatim, InContainer}
+use Rattle.cmark_grammar.specs.Tokens.{resolved, pieces, line_columns, line_end, broken, paragraph_tokens, html_tokens, html_then, verbatim_line, code_columns}
+use Rattle.cmark_grammar.specs.BlockDocument as document
+use Rattle.cmark_grammar.specs.BlockDocument.{BlockDocument, Nil, join}
+use Rattle.cmark_block_model.specs.CodeLines.{no_run, texts_of}
+use Rattle.cmark_block_model.specs.OpenBlocks.{OpenContainer, OpenLeaf, Closed, InParagraph as InParagraphLeaf, InDefinition, InIndented, InFenced, InHtml, Pass}
+use Rattle.cmark_block_model.proofs.PlainTokens.{broken-join, html-join}
+use Rattle.cmark_block_model.proofs.CodeRuns.{code_run}
+use Rattle.cmark_block_model.proofs.Replay.{Level, begun, level_opened, level_drawn, standing, entered, leaf_level, replay}
+
+-- a line that lacks no prefix
+abbrev pub whole : Row → Row
+whole r = record r { lazy = false }
+
+pub whole-same : (r : Row) → r.lazy ≡ false → whole r ≡ r
+whole-same r e = ap (λ z. record { columns = r.columns; stop = r.stop; past = r.past; lazy = z }) (sym e)
+
+abbrev pub last_of : Row → List Row → Row
+last_of first [] = first
+last_of first (r ∷ more) = last_of r more
+
+pub last_push : (first : Row) (more : List Row) (r : Row) → last_of first (more ++ r ∷ []) ≡ r
+last_push first [] r = refl
+last_push first (s ∷ more) r = last_push s more r
+
+pub past_push : (first : Row) (more : List Row) (r : Row) → past_of first (more ++ r ∷ []) ≡ r.past
+past_push first [] r = refl
+past_push first (s ∷ more) r = past_push s more r
+
+abbrev pub pass_with : Level → List OpenContainer → Bool → OpenLeaf → ℕ → Pass
+pass_with l outer bare leaf past = record { drawing = l.drawing; inner = l.inner; outer = outer; bare = bare; leaf = leaf; past = past; references = l.references }
+
+abbrev pub leaf_left : Leaf → ℕ → OpenLeaf
+leaf_left ThematicBreak left = Closed
+leaf_left (AtxHeading level) left = Closed
+leaf_left IndentedCode left = Closed
+leaf_left (FencedCode fence) left = Closed
+leaf_left (HtmlBlock kind) left = Closed
+leaf_left (LinkDefinition definition) left = InDefinition left
+
+-- the bare flag: of the container around, where nothing is open
+abbrev pub bare_at : Bool → OpenLines → Bool
+bare_at bare (Between closed) = bare
+bare_at bare (InParagraph closed first more) = false
+bare_at bare (InLeaf closed leaf first had left) = false
+bare_at bare (InVerbatim closed verbatim first had waiting) = false
+bare_at bare (InContainer closed k first more inside) = bare_at (bare_after (is_bare_start k first) more) inside
+
+-- none of these lines closes the fence
+abbrev pub AreCode : Fence → List Row → Type 0
+AreCode fence [] = Unit {0}
+AreCode fence (r ∷ rs) = (closes_fence fence r ≡ false) × AreCode fence rs
+
+-- what is known of what is open: bare of the container around, where the last line ended, and the lines ahead
+abbrev pub FitsVerbatim : Verbatim → Row → (had waiting : List Row) → ℕ → Type 0
+FitsVerbatim Indented first had waiting n = Unit {0}
+FitsVerbatim (Fenced fence) first had waiting n = (waiting ≡ []) × (past_of first had ≡ n) × AreCode fence had
+FitsVerbatim (HtmlLines kind) first had waiting n = (waiting ≡ []) × (past_of first had ≡ n)
+
+abbrev pub Fits : Bool → OpenLines → List Row → ℕ → Type 0
+Fits bare (Between closed) ahead n = Unit {0}
+Fits bare (InParagraph closed first more) ahead n = (bare ≡ false) × (past_of first more ≡ n)
+Fits bare (InLeaf closed leaf first had left) ahead n = (bare ≡ false) × (left ≤ length ahead) × (may_lazy leaf ≡ false → left ≡ 0)
+Fits bare (InVerbatim closed verbatim first had waiting) ahead n = (bare ≡ false) × FitsVerbatim verbatim first had waiting n
+Fits bare (InContainer closed k first more inside) ahead n =
+    (bare ≡ false) × (past_of first more ≡ n) × Fits (bare_after (is_bare_start k first) more) inside (within k (bare_after (is_bare_start k first) more) ahead) n
+
+module _ (text : List ℕ) (lookup : Lookup) where
+  -- the lines of a paragraph but the last
+  abbrev pub lines_drawn : Row → List Row → BlockDocument
+  lines_drawn first [] = Nil
+  lines_drawn first (r ∷ more) = broken lookup (line_end first) first (lines_drawn r more)
+
+  pub drawn-tokens : (first : Row) (more : List Row) → paragraph_tokens lookup first more ≡ join (lines_drawn first more) (texts_of (pieces lookup (line_columns (last_of first more))))
+  drawn-tokens first [] = refl
+  drawn-tokens first (r ∷ more) =
+      ap (broken lookup (line_end first) first) (drawn-tokens r more)
+      ∙ sym (broken-join lookup (line_end first) first (lines_drawn r more) (texts_of (pieces lookup (line_columns (last_of r more)))))
+
+  pub drawn-push : (first : Row) (more : List Row) (r : Row) → lines_drawn first (more ++ r ∷ []) ≡ join (lines_drawn first more) (broken lookup (line_end (last_of first more)) (last_of first more) Nil)
+  drawn-push first [] r = refl
+  drawn-push first (s ∷ more) r =
+      ap (broken lookup (line_end first) first) (drawn-push s more r)
+      ∙ sym (broken-join lookup (line_end first) first (lines_drawn s more) (broken lookup (line_end (last_of s more)) (last_of s more) Nil))
+
+  pub html-push : (rs : List Row) (r : Row) → html_tokens text (rs ++ r ∷ []) ≡ join (html_tokens text rs) (html_then (verbatim_line text r.columns r) Nil)
+  html-push [] r = refl
+  html-push (s ∷ rs) r =
+      ap (html_then (verbatim_line text s.columns s)) (html-push rs r)
+      ∙ sym (html-join (verbatim_line text s.columns s) (html_tokens text rs) (html_then (verbatim_line text r.columns r) Nil))
+
+  abbrev pub paragraph_open : Row → List Row → Level → Level
+  paragraph_open first more l = level_drawn (lines_drawn first more) (level_opened (start_of first) document.Paragraph (begun l))
+
+  abbrev pub verbatim_level : Verbatim → Row → List Row → Level → Level
+  verbatim_level Indented first had l =
+      level_drawn (texts_of (code_run text 4 no_run (first ∷ had)).done) (level_opened (first_place first.stop (code_columns 4 first)) document.IndentedCode (begun l))
+  verbatim_level (Fenced fence) first had l =
+      level_drawn (texts_of (code_run text fence.indented no_run had).done) (level_opened (start_of first) (document.FencedCode (resolved lookup fence.info)) (begun l))
+  verbatim_level (HtmlLines kind) first had l =
+      level_drawn (html_tokens text (first ∷ had)) (level_opened (begin_of first) document.HtmlBlock (begun l))
+
+  abbrev pub verbatim_leaf : Verbatim → Row → (had waiting : List Row) → OpenLeaf
+  verbatim_leaf Indented first had waiting = InIndented (code_run text 4 no_run (first ∷ had)).waits (past_of first had) waiting
+  verbatim_leaf (Fenced fence) first had waiting = InFenced fence (code_run text fence.indented no_run had).waits
+  verbatim_leaf (HtmlLines kind) first had waiting = InHtml kind
+
+  -- the innermost level
+  abbrev pub inner_at : OpenLines → List Row → Level → Level
+  inner_at (Between closed) ahead l = replay text lookup closed l
+  inner_at (InParagraph closed first more) ahead l = paragraph_open first more (replay text lookup closed l)
+  inner_at (InLeaf closed leaf first had left) ahead l = leaf_level text lookup leaf first (had ++ take left ahead) (replay text lookup closed l)
+  inner_at (InVerbatim closed verbatim first had waiting) ahead l = verbatim_level verbatim first had (replay text lookup closed l)
+  inner_at (InContainer closed k first more inside) ahead l =
+      inner_at inside (within k (bare_after (is_bare_start k first) more) ahead) (entered k first (replay text lookup closed l))
+
+  abbrev pub leaf_at : OpenLines → OpenLeaf
+  leaf_at (Between closed) = Closed
+  leaf_at (InParagraph closed first more) = InParagraphLeaf (whole (last_of first more))
+  leaf_at (InLeaf closed leaf first had left) = leaf_left leaf left
+  leaf_at (InVerbatim closed verbatim first had waiting) = verbatim_leaf verbatim first had waiting
+  leaf_at (InContainer closed k first more inside) = leaf_at inside
+
+  abbrev pub container_at : Container → Row → Level → OpenContainer
+  container_at k first l = record { container = k; around = (standing k first l).inner }
+
+  abbrev pub containers_at : OpenLines → Level → List OpenContainer
+  containers_at (Between closed) l = []
+  containers_at (InParagraph closed first more) l = []
+  containers_at (InLeaf closed leaf first had left) l = []
+  containers_at (InVerbatim closed verbatim first had waiting) l = []
+  containers_at (InContainer closed k first more inside) l =
+      container_at k first (replay text lookup closed l) ∷ containers_at inside (entered k first (replay text lookup closed l))
+
+  abbrev pub pass_at : OpenLines → List Row → Level → List OpenContainer → Bool → ℕ → Pass
+  pass_at o ahead l outer bare n = pass_with (inner_at o ahead l) (outer ++ containers_at o l) (bare_at bare o) (leaf_at o) n

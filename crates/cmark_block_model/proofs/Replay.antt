@@ -1,0 +1,118 @@
+-- What closed blocks leave of a level: what is drawn there, its siblings' flags and the references, block by block.
+use Rattle.std.specs.Prelude.{ℕ, Bool, true, false, ◌==◌, ◌||◌, List, [], ◌∷◌, ◌++◌, Option, Some, None}
+use Rattle.cmark_grammar.specs.Answers.{Lookup}
+use Rattle.cmark_grammar.specs.Attributes.{no_attributes}
+use Rattle.cmark_grammar.specs.Rows.{Row, start_of, begin_of, past_of}
+use Rattle.cmark_grammar.specs.Containers.{Container, Quote, Item}
+use Rattle.cmark_grammar.specs.Openings.{Leaf, ThematicBreak, AtxHeading, IndentedCode, FencedCode, HtmlBlock, LinkDefinition}
+use Rattle.cmark_grammar.specs.Blocks.{Blocks, Nil, BlankLine, Paragraph, SetextHeading, LeafBlock, ContainerBlock, join}
+use Rattle.cmark_grammar.specs.Tokens.{paragraph_tokens}
+use Rattle.cmark_grammar.specs.Derivation.{stop_of, reference_of, leaf_then}
+use Rattle.cmark_grammar.specs.BlockDocument as document
+use Rattle.cmark_grammar.specs.BlockDocument.{BlockDocument, BlockKind, Reference, Node, node}
+use Rattle.cmark_block_model.specs.Drawing.{Drawing, drawn, opened, closed_at}
+use Rattle.cmark_block_model.specs.OpenBlocks.{OpenList, Siblings, no_siblings}
+use Rattle.cmark_block_model.specs.BlockPass.{list_closed, behind_container}
+use Rattle.std.proofs.Common.{◌≡◌, refl}
+
+-- the innermost level
+pub record Level : Type 0 where
+  pub drawing : Drawing
+  pub inner : Siblings
+  pub references : List Reference
+
+-- a block begins that is no item
+abbrev pub begun : Level → Level
+begun l = record l {
+  drawing = list_closed l.inner.list l.drawing;
+  inner = record { has_block = true; blank = false; parted = l.inner.parted || l.inner.blank; list = None };
+}
+
+abbrev pub list_level : (mark : ℕ) → Option ℕ → (start : ℕ) → Level → Level
+list_level mark number start l = let q = begun l in record q {
+  drawing = opened start (document.BlockList number false) q.drawing;
+  inner = record q.inner { list = Some (record { mark = mark; number = number; loose = false; end = start }) };
+}
+
+abbrev pub same_list : OpenList → Level → Level
+same_list o l = record l { inner = record l.inner { blank = false; list = Some (record o { loose = o.loose || l.inner.blank }) } }
+
+abbrev pub item_if : Bool → (mark : ℕ) → Option ℕ → (start : ℕ) → OpenList → Level → Level
+item_if true mark number start o l = same_list o l
+item_if false mark number start o l = list_level mark number start l
+
+abbrev pub item_level : (mark : ℕ) → Option ℕ → (start : ℕ) → Level → Option OpenList → Level
+item_level mark number start l None = list_level mark number start l
+item_level mark number start l (Some o) = item_if (o.mark == mark) mark number start o l
+
+abbrev pub level_opened : (start : ℕ) → BlockKind → Level → Level
+level_opened start kind l = record l { drawing = opened start kind l.drawing }
+
+abbrev pub level_drawn : BlockDocument → Level → Level
+level_drawn d l = record l { drawing = drawn d l.drawing }
+
+-- a container begins: its node is open, and these are the siblings that it stands behind
+abbrev pub standing : Container → Row → Level → Level
+standing Quote r l = level_opened (start_of r) (document.BlockQuote None) (begun l)
+standing (Item mark number width) r l = level_opened (begin_of r) document.ListItem (item_level mark number (begin_of r) l l.inner.list)
+
+abbrev pub entered : Container → Row → Level → Level
+entered k r l = record (standing k r l) { inner = no_siblings }
+
+-- the container closed
+abbrev pub left_by : Container → (around : Siblings) → (end : ℕ) → Level → Level
+left_by k around end l = record l {
+  drawing = closed_at end (list_closed l.inner.list l.drawing);
+  inner = behind_container k end l.inner around;
+}
+
+abbrev pub blank_level : Level → Level
+blank_level l = record l { inner = record l.inner { blank = l.inner.has_block } }
+
+module _ (text : List ℕ) (lookup : Lookup) where
+  abbrev pub paragraph_level : Row → List Row → Level → Level
+  paragraph_level first more l =
+      level_drawn (Node (node document.Paragraph (start_of first) (past_of first more)) (paragraph_tokens lookup first more) document.Nil) (begun l)
+
+  abbrev pub heading_level : (level : ℕ) → Row → List Row → Row → Level → Level
+  heading_level level first more underline l =
+      level_drawn (Node (node (document.Heading level no_attributes) (start_of first) underline.past) (paragraph_tokens lookup first more) document.Nil) (begun l)
+
+  abbrev pub leaf_drawing : Leaf → Row → List Row → Drawing → Drawing
+  leaf_drawing ThematicBreak first more d = drawn (leaf_then text lookup ThematicBreak first more document.Nil) d
+  leaf_drawing (AtxHeading level) first more d = drawn (leaf_then text lookup (AtxHeading level) first more document.Nil) d
+  leaf_drawing IndentedCode first more d = drawn (leaf_then text lookup IndentedCode first more document.Nil) d
+  leaf_drawing (FencedCode fence) first more d = drawn (leaf_then text lookup (FencedCode fence) first more document.Nil) d
+  leaf_drawing (HtmlBlock kind) first more d = drawn (leaf_then text lookup (HtmlBlock kind) first more document.Nil) d
+  leaf_drawing (LinkDefinition definition) first more d = d
+
+  abbrev pub leaf_references : Leaf → Row → List Row → List Reference → List Reference
+  leaf_references ThematicBreak first more rs = rs
+  leaf_references (AtxHeading level) first more rs = rs
+  leaf_references IndentedCode first more rs = rs
+  leaf_references (FencedCode fence) first more rs = rs
+  leaf_references (HtmlBlock kind) first more rs = rs
+  leaf_references (LinkDefinition definition) first more rs = rs ++ reference_of lookup definition (start_of first) (stop_of first more) ∷ []
+
+  abbrev pub leaf_level : Leaf → Row → List Row → Level → Level
+  leaf_level leaf first more l =
+      let q = begun l in record q { drawing = leaf_drawing leaf first more q.drawing; references = leaf_references leaf first more q.references }
+
+  -- the level behind these blocks
+  abbrev pub replay : Blocks → Level → Level
+  replay Nil l = l
+  replay (BlankLine line after) l = replay after (blank_level l)
+  replay (Paragraph first more after) l = replay after (paragraph_level first more l)
+  replay (SetextHeading level first more underline after) l = replay after (heading_level level first more underline l)
+  replay (LeafBlock leaf first more after) l = replay after (leaf_level leaf first more l)
+  replay (ContainerBlock k first more inside after) l =
+      replay after (left_by k (standing k first l).inner (past_of first more) (replay inside (entered k first l)))
+
+  pub replay-join : (a b : Blocks) (l : Level) → replay (join a b) l ≡ replay b (replay a l)
+  replay-join Nil b l = refl
+  replay-join (BlankLine line after) b l = replay-join after b (blank_level l)
+  replay-join (Paragraph first more after) b l = replay-join after b (paragraph_level first more l)
+  replay-join (SetextHeading level first more underline after) b l = replay-join after b (heading_level level first more underline l)
+  replay-join (LeafBlock leaf first more after) b l = replay-join after b (leaf_level leaf first more l)
+  replay-join (ContainerBlock k first more inside after) b l =
+      replay-join after b (left_by k (standing k first l).inner (past_of first more) (replay inside (entered k first l)))

@@ -1,0 +1,59 @@
+-- The document of blocks before its paragraphs are settled, without definitions: what goes on with the list before, and what
+-- stands behind that.
+use Rattle.std.specs.Prelude.{ℕ, Bool, true, false, ◌==◌, List, Option, Some, None}
+use Rattle.cmark_grammar.specs.Answers.{Lookup}
+use Rattle.cmark_grammar.specs.Attributes.{no_attributes}
+use Rattle.cmark_grammar.specs.Rows.{Row, start_of, begin_of, past_of}
+use Rattle.cmark_grammar.specs.Containers.{Quote, Item}
+use Rattle.cmark_grammar.specs.Openings.{Leaf, ThematicBreak, AtxHeading, IndentedCode, FencedCode, HtmlBlock, LinkDefinition}
+use Rattle.cmark_grammar.specs.Blocks.{Blocks, Nil as NoBlocks, BlankLine, Paragraph, SetextHeading, LeafBlock, ContainerBlock}
+use Rattle.cmark_grammar.specs.Lists.{is_tight}
+use Rattle.cmark_grammar.specs.Tokens.{paragraph_tokens}
+use Rattle.cmark_grammar.specs.Derivation.{leaf_then}
+use Rattle.cmark_grammar.specs.BlockDocument as document
+use Rattle.cmark_grammar.specs.BlockDocument.{BlockDocument, Nil, Node, node}
+
+-- the items that go on with a list, where the last one ends, and the document behind them
+pub record Split : Type 0 where
+  pub items : BlockDocument
+  pub end : Option ℕ
+  pub after : BlockDocument
+
+abbrev pub end_or : ℕ → Option ℕ → ℕ
+end_or end None = end
+end_or end (Some other) = other
+
+abbrev pub is_mark : Option ℕ → ℕ → Bool
+is_mark None mark = false
+is_mark (Some other) mark = other == mark
+
+abbrev pub lone : BlockDocument → Split
+lone d = record { items = Nil; end = None; after = d }
+
+abbrev pub item_split : (joins : Bool) → Option ℕ → (tight : Bool) → (start past : ℕ) → (inside : BlockDocument) → Split → Split
+item_split true number tight start past inside s =
+    record { items = Node (node document.ListItem start past) inside s.items; end = Some (end_or past s.end); after = s.after }
+item_split false number tight start past inside s =
+    lone (Node (node (document.BlockList number tight) start (end_or past s.end)) (Node (node document.ListItem start past) inside s.items) s.after)
+
+module _ (text : List ℕ) (lookup : Lookup) where
+  abbrev pub leaf_raw : Leaf → Row → List Row → BlockDocument → BlockDocument
+  leaf_raw ThematicBreak first more after = leaf_then text lookup ThematicBreak first more after
+  leaf_raw (AtxHeading level) first more after = leaf_then text lookup (AtxHeading level) first more after
+  leaf_raw IndentedCode first more after = leaf_then text lookup IndentedCode first more after
+  leaf_raw (FencedCode fence) first more after = leaf_then text lookup (FencedCode fence) first more after
+  leaf_raw (HtmlBlock kind) first more after = leaf_then text lookup (HtmlBlock kind) first more after
+  leaf_raw (LinkDefinition definition) first more after = after
+
+  abbrev pub split : Option ℕ → Blocks → Split
+  split mark NoBlocks = lone Nil
+  split mark (BlankLine line after) = split mark after
+  split mark (Paragraph first more after) =
+      lone (Node (node document.Paragraph (start_of first) (past_of first more)) (paragraph_tokens lookup first more) (split None after).after)
+  split mark (SetextHeading level first more underline after) =
+      lone (Node (node (document.Heading level no_attributes) (start_of first) underline.past) (paragraph_tokens lookup first more) (split None after).after)
+  split mark (LeafBlock leaf first more after) = lone (leaf_raw leaf first more (split None after).after)
+  split mark (ContainerBlock Quote first more inside after) =
+      lone (Node (node (document.BlockQuote None) (start_of first) (past_of first more)) (split None inside).after (split None after).after)
+  split mark (ContainerBlock (Item m number width) first more inside after) =
+      item_split (is_mark mark m) number (is_tight m inside after) (begin_of first) (past_of first more) (split None inside).after (split (Some m) after)

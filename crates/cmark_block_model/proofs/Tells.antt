@@ -1,0 +1,71 @@
+-- What is known of a line by what it begins.
+use Rattle.std.proofs.Common.{◌≡◌, ℕ, Bool, true, false, List, length, refl, Option, Some, None}
+use Rattle.std.specs.Prelude.{if◌then◌else◌, nat_le}
+use Rattle.cmark_grammar.specs.Options.{Options}
+use Rattle.cmark_grammar.specs.Rows.{Row, words_of, is_blank_line, indent_of}
+use Rattle.cmark_grammar.specs.Leaves.{Fence, counted, is_thematic_break, is_atx_heading, run, fence_of, code_further}
+use Rattle.cmark_grammar.specs.HtmlBlocks.{html_kind}
+use Rattle.cmark_grammar.specs.LinkDefinitions.{Defined, definition_in, bytes_over}
+use Rattle.cmark_grammar.specs.Containers.{Container, container_of}
+use Rattle.cmark_grammar.specs.Openings.{ThematicBreak, AtxHeading, IndentedCode, FencedCode, HtmlBlock, LinkDefinition, Opening, Blank, Nests, Takes, Plain, or_else, nests_if, fenced_if, html_if, break_if, heading_if, text_lines, defined_if, definition_of, leaf_of, opens}
+
+-- one that begins nothing is blank, and a break or heading takes no further line
+abbrev pub Tells : Row → Opening → Type 0
+Tells r Blank = (r.lazy ≡ false) × (is_blank_line r ≡ true)
+Tells r (Nests k) = Unit {0}
+Tells r Plain = Unit {0}
+Tells r (Takes ThematicBreak n) = n ≡ 0
+Tells r (Takes (AtxHeading level) n) = n ≡ 0
+Tells r (Takes IndentedCode n) = Unit {0}
+Tells r (Takes (FencedCode fence) n) = Unit {0}
+Tells r (Takes (HtmlBlock kind) n) = Unit {0}
+Tells r (Takes (LinkDefinition definition) n) = Unit {0}
+
+tells-or : (r : Row) (x y : Opening) → Tells r x → Tells r y → Tells r (or_else x y)
+tells-or r Blank y p q = p
+tells-or r (Nests k) y p q = p
+tells-or r (Takes leaf n) y p q = p
+tells-or r Plain y p q = q
+
+tells-nests : (r : Row) (o : Option Container) → Tells r (nests_if o)
+tells-nests r (Some k) = tt
+tells-nests r None = tt
+
+tells-html : (r : Row) (ahead : List Row) (o : Option ℕ) → Tells r (html_if r ahead o)
+tells-html r ahead (Some kind) = tt
+tells-html r ahead None = tt
+
+tells-break : (r : Row) (z : Bool) → Tells r (break_if z)
+tells-break r true = refl
+tells-break r false = tt
+
+tells-heading : (r : Row) (z : Bool) (level : ℕ) → Tells r (heading_if z level)
+tells-heading r true level = refl
+tells-heading r false level = tt
+
+tells-fenced : (r : Row) (ahead : List Row) (o : Option Fence) → Tells r (fenced_if o ahead)
+tells-fenced r ahead (Some fence) = tt
+tells-fenced r ahead None = tt
+
+tells-defined : (r : Row) (lines : ℕ) (o : Option Defined) → Tells r (defined_if lines o)
+tells-defined r lines (Some found) = tt
+tells-defined r lines None = tt
+
+module _ (options : Options) where
+  tells-leaf : (r : Row) (ahead : List Row) → Tells r (leaf_of options r ahead)
+  tells-leaf r ahead =
+      tells-or r (html_if r ahead (html_kind (words_of r))) _ (tells-html r ahead (html_kind (words_of r)))
+      (tells-or r (break_if (is_thematic_break (words_of r))) _ (tells-break r (is_thematic_break (words_of r)))
+      (tells-or r (heading_if (is_atx_heading (words_of r)) (run 35 (words_of r))) _ (tells-heading r (is_atx_heading (words_of r)) (run 35 (words_of r)))
+      (tells-or r (fenced_if (fence_of (indent_of r) (words_of r)) ahead) (definition_of options r ahead) (tells-fenced r ahead (fence_of (indent_of r) (words_of r)))
+      (tells-defined r (length (text_lines options ahead)) (definition_in (bytes_over r (text_lines options ahead)))))))
+
+  pub tells : (r : Row) (ahead : List Row) → Tells r (opens options r ahead)
+  unfolding opens
+  tells r ahead = go r.lazy refl (is_blank_line r) refl (nat_le 4 (indent_of r))
+    where
+      go : (a : Bool) → r.lazy ≡ a → (b : Bool) → is_blank_line r ≡ b → (c : Bool) → Tells r (if a then Plain else if b then Blank else if c then Takes IndentedCode (counted code_further ahead) else or_else (nests_if (container_of r)) (leaf_of options r ahead))
+      go true l b e c = tt
+      go false l true e c = (l, e)
+      go false l false e true = tt
+      go false l false e false = tells-or r (nests_if (container_of r)) (leaf_of options r ahead) (tells-nests r (container_of r)) (tells-leaf r ahead)
