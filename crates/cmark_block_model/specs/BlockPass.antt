@@ -21,12 +21,23 @@ abbrev pub list_closed : Option OpenList → Drawing → Drawing
 list_closed None d = d
 list_closed (Some l) d = closed_as (document.BlockList l.number (not l.loose)) l.end d
 
+-- one more block that is no item, one more item of a list, and an item that has ended with these blocks in it
+abbrev pub siblings_with_block : Siblings → Siblings
+siblings_with_block s = record { has_block = true; blank = false; parted = s.parted || s.blank; list = None }
+
+abbrev pub siblings_with_item : OpenList → Siblings → Siblings
+siblings_with_item l s = record s { blank = false; list = Some (record l { loose = l.loose || s.blank }) }
+
+abbrev pub list_behind : Option OpenList → (parted : Bool) → (end : ℕ) → Option OpenList
+list_behind None parted end = None
+list_behind (Some l) parted end = Some (record l { loose = l.loose || parted; end = end })
+
+abbrev pub siblings_behind_item : (end : ℕ) → (inside around : Siblings) → Siblings
+siblings_behind_item end inside around = record around { blank = inside.blank; list = list_behind around.list inside.parted end }
+
 -- a block begins that is no item
 abbrev pub block_begun : Pass → Pass
-block_begun p = record p {
-  drawing = list_closed p.inner.list p.drawing;
-  inner = record { has_block = true; blank = false; parted = p.inner.parted || p.inner.blank; list = None };
-}
+block_begun p = record p { drawing = list_closed p.inner.list p.drawing; inner = siblings_with_block p.inner }
 
 -- an item begins a list
 abbrev pub list_begun : (mark : ℕ) → Option ℕ → (start : ℕ) → Pass → Pass
@@ -37,9 +48,7 @@ list_begun mark number start p = let q = block_begun p in record q {
 
 -- an item goes on with a list
 abbrev pub list_goes_on : OpenList → Pass → Pass
-list_goes_on l p = record p {
-  inner = record p.inner { blank = false; list = Some (record l { loose = l.loose || p.inner.blank }) };
-}
+list_goes_on l p = record p { inner = siblings_with_item l p.inner }
 
 abbrev pub item_begun : (mark : ℕ) → Option ℕ → (start : ℕ) → Pass → Option OpenList → Pass
 item_begun mark number start p None = list_begun mark number start p
@@ -51,20 +60,22 @@ inside_of k p = record p { inner = no_siblings; outer = p.outer ++ record { cont
 abbrev pub node_opened : (start : ℕ) → BlockKind → Pass → Pass
 node_opened start kind p = record p { drawing = opened start kind p.drawing }
 
+-- a container begins at a place
+abbrev pub quote_begun : (start : ℕ) → Pass → Pass
+quote_begun start p = inside_of Quote (node_opened start (document.BlockQuote None) (block_begun p))
+
+abbrev pub item_begun_in : (mark : ℕ) → Option ℕ → (width start : ℕ) → Pass → Pass
+item_begun_in mark number width start p = inside_of (Item mark number width) (node_opened start document.ListItem (item_begun mark number start p p.inner.list))
+
 -- a container begins on a line
 abbrev pub container_begun : Container → Row → Pass → Pass
-container_begun Quote r p = inside_of Quote (node_opened (start_of r) (document.BlockQuote None) (block_begun p))
-container_begun (Item mark number width) r p =
-    inside_of (Item mark number width) (node_opened (begin_of r) document.ListItem (item_begun mark number (begin_of r) p p.inner.list))
+container_begun Quote r p = quote_begun (start_of r) p
+container_begun (Item mark number width) r p = item_begun_in mark number width (begin_of r) p
 
 -- the siblings that a closed container stands behind
-abbrev pub list_behind : Option OpenList → (parted : Bool) → (end : ℕ) → Option OpenList
-list_behind None parted end = None
-list_behind (Some l) parted end = Some (record l { loose = l.loose || parted; end = end })
-
 abbrev pub behind_container : Container → (end : ℕ) → (inside around : Siblings) → Siblings
 behind_container Quote end inside around = around
-behind_container (Item mark number width) end inside around = record around { blank = inside.blank; list = list_behind around.list inside.parted end }
+behind_container (Item mark number width) end inside around = siblings_behind_item end inside around
 
 -- the innermost container closed
 abbrev pub container_closed : OpenContainer → List OpenContainer → Pass → Pass

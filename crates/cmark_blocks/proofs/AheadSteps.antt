@@ -1,0 +1,88 @@
+-- A line ahead, inside the containers that keep it.
+use Rattle.std.proofs.Common.{◌≡◌, ℕ, Bool, true, false, not, ◌&&◌, List, [], ◌∷◌, ◌++◌, Option, Some, None, refl, sym, ap, ◌∙◌, subst, zero, suc, ◌≤◌, drop, length, arith}
+use Rattle.std.specs.Prelude.{MatchOption}
+use Rattle.cmark_grammar.specs.Lines.{lines}
+use Rattle.cmark_grammar.specs.Answers.{Lookup}
+use Rattle.cmark_grammar.specs.Options.{Options}
+use Rattle.cmark_grammar.specs.Rows.{Row, rows_from, shown, show_as}
+use Rattle.cmark_lines.specs.Rests.{row_of}
+use Rattle.cmark_lines.specs.declared.line_rest.LineRest.{LineRest}
+use Rattle.cmark_blocks.specs.Ahead.{lines_at}
+use Rattle.cmark_grammar.specs.Containers.{keeps, strip_as, strips}
+use Rattle.cmark_grammar.specs.Leaves.{underlines}
+use Rattle.cmark_grammar.specs.Openings.{interrupts, text_lines, put_if, is_none}
+use Rattle.cmark_lines.proofs.LazyRows.{whole-texts}
+use Rattle.cmark_grammar.proofs.RowPlaces.{kept-without}
+use Rattle.cmark_block_model.specs.BlockPass.{Kept, kept_by, kept_if, ahead_in}
+use Rattle.cmark_block_model.specs.OpenBlocks.{OpenContainer}
+
+module _ (text : List ℕ) (options : Options) (lookup : Lookup) where
+  pub ahead-none : (cs : List OpenContainer) → ahead_in text options lookup cs [] ≡ []
+  ahead-none [] = refl
+  ahead-none (c ∷ cs) = ahead-none cs
+
+  -- what is known of a line ahead, where it is known which containers keep it
+  pub record Sees (cs : List OpenContainer) (r : Row) (more : List Row) (w : Kept text options lookup) : Type 0 where
+    pub kept : w.missed ≡ [] → ahead_in text options lookup cs (r ∷ more) ≡ w.left ∷ ahead_in text options lookup cs more
+    pub missed : (c : OpenContainer) (others : List OpenContainer) → w.missed ≡ c ∷ others → ahead_in text options lookup cs (r ∷ more) ≡ []
+    pub whole : w.left.lazy ≡ false
+    pub same : w.left.past ≡ r.past
+
+  pub sees : (outer cs : List OpenContainer) (r : Row) (more : List Row) → r.lazy ≡ false → Sees cs r more (kept_by text options lookup outer cs false r)
+  sees outer [] r more whole = record { kept = λ e. refl; missed = λ c others e. absurd (let q : [] ≡ c ∷ others = e in cc); whole = whole; same = refl }
+  sees outer (c ∷ cs) r more whole = go (keeps c.container false r) refl (λ s rest ws. sees (outer ++ c ∷ []) cs s rest ws)
+    where
+      Later : Type 0
+      Later = (s : Row) (rest : List Row) → s.lazy ≡ false → Sees cs s rest (kept_by text options lookup (outer ++ c ∷ []) cs false s)
+
+      go : (o : Option Row) → keeps c.container false r ≡ o → Later → Sees (c ∷ cs) r more (kept_if text options lookup o (λ s. kept_by text options lookup (outer ++ c ∷ []) cs false s) (record { kept = outer; missed = c ∷ cs; left = r }))
+      go (Some s) e later =
+          let n = kept-without c.container false r s e in
+          let whole_s : s.lazy ≡ false = ap (λ t. t.lazy) (sym n.1) ∙ whole in
+          let ih = later s (shown (strips c.container false more)) whole_s in
+          let inside : ahead_in text options lookup (c ∷ cs) (r ∷ more) ≡ ahead_in text options lookup cs (s ∷ shown (strips c.container false more)) =
+          ap (λ o. ahead_in text options lookup cs (shown (strip_as o r ∷ strips c.container false more))) e
+          ∙ ap (λ l. ahead_in text options lookup cs (show_as l s (shown (strips c.container false more)))) whole_s in
+          record {
+            kept = λ none. inside ∙ ih.kept none;
+            missed = λ d others some. inside ∙ ih.missed d others some;
+            whole = ih.whole;
+            same = ih.same ∙ sym (ap (λ t. t.past) n.1);
+          }
+      go None e later = record {
+        kept = λ none. absurd (let q : c ∷ cs ≡ [] = none in cc);
+        missed = λ d others some. ap (λ o. ahead_in text options lookup cs (shown (strip_as o r ∷ strips c.container false more))) e ∙ ahead-none cs;
+        whole = whole;
+        same = refl;
+      }
+
+  -- whether a line goes on with a paragraph as its text, in front of others
+  pub text-if : (r : Row) (ahead : List Row) → r.lazy ≡ false → (is : Bool) → is ≡ (not (interrupts options true r ahead) && is_none (underlines r)) → text_lines options (r ∷ ahead) ≡ put_if is r (text_lines options ahead)
+  text-if r ahead whole is e = ap (λ t. put_if (t && is_none (underlines r)) r (text_lines options ahead)) (whole-texts options r ahead whole) ∙ ap (λ b. put_if b r (text_lines options ahead)) (sym e)
+
+  -- the next whole line of the text, in front of those behind it
+  pub next-line : (T : List ℕ) (start place : ℕ) (line : LineRest) (cs : List OpenContainer) (seen : Option LineRest) → T ≡ text → start ≡ place →
+      rows_from start (lines (drop start T)) ≡ row_of line ∷ rows_from (row_of line).past (lines (drop (row_of line).past T)) →
+      ((more : List Row) → MatchOption seen (ahead_in text options lookup cs (row_of line ∷ more) ≡ []) (λ rest. ((row_of rest).past ≡ (row_of line).past) × (ahead_in text options lookup cs (row_of line ∷ more) ≡ row_of rest ∷ ahead_in text options lookup cs more))) →
+      MatchOption seen (ahead_in text options lookup cs (lines_at text place) ≡ []) (λ rest. ahead_in text options lookup cs (lines_at text place) ≡ row_of rest ∷ ahead_in text options lookup cs (lines_at text (row_of rest).past))
+  next-line T start place line cs seen is at first sees =
+      go seen (sees (lines_at text (row_of line).past))
+    where
+      there : lines_at text place ≡ row_of line ∷ lines_at text (row_of line).past
+      there = subst (λ p. lines_at text p ≡ row_of line ∷ lines_at text (row_of line).past) at (subst (λ t. lines_at t start ≡ row_of line ∷ lines_at t (row_of line).past) is first)
+
+      go : (seen : Option LineRest) → MatchOption seen (ahead_in text options lookup cs (row_of line ∷ lines_at text (row_of line).past) ≡ []) (λ rest. ((row_of rest).past ≡ (row_of line).past) × (ahead_in text options lookup cs (row_of line ∷ lines_at text (row_of line).past) ≡ row_of rest ∷ ahead_in text options lookup cs (lines_at text (row_of line).past))) →
+          MatchOption seen (ahead_in text options lookup cs (lines_at text place) ≡ []) (λ rest. ahead_in text options lookup cs (lines_at text place) ≡ row_of rest ∷ ahead_in text options lookup cs (lines_at text (row_of rest).past))
+      go None e = ap (ahead_in text options lookup cs) there ∙ e
+      go (Some rest) e = ap (ahead_in text options lookup cs) there ∙ e.1 ∙ ap (λ p. row_of rest ∷ ahead_in text options lookup cs (lines_at text p)) (sym e.0)
+
+  -- at the end of the text no line is left
+  pub no-line : (start place : ℕ) (cs : List OpenContainer) → start ≡ place → start ≡ length text → ahead_in text options lookup cs (lines_at text place) ≡ []
+  no-line start place cs at end =
+      ap (λ l. ahead_in text options lookup cs (rows_from place (lines l))) (drop-all text place (omega (arith, at, end))) ∙ ahead-none cs
+    where
+      drop-all : (xs : List ℕ) (n : ℕ) → length xs ≤ n → drop n xs ≡ []
+      drop-all [] zero le = refl
+      drop-all [] (suc n) le = refl
+      drop-all (x ∷ xs) zero le = absurd (omega (arith, le))
+      drop-all (x ∷ xs) (suc n) le = drop-all xs n (omega (arith, le))

@@ -1,0 +1,83 @@
+-- The containers that keep a line, one after the other.
+use Rattle.std.proofs.Common.{◌≡◌, ℕ, zero, suc, ◌<◌, ◌≤◌, Bool, ◌&&◌, List, [], ◌∷◌, ◌++◌, take, drop, length, Some, None, refl, sym, ap, ◌∙◌, subst, arith}
+use Rattle.std.specs.Prelude.{slice_get, ◌==◌}
+use Rattle.std.proofs.lemmas.Option.{same_Some}
+use Rattle.cmark_grammar.specs.Answers.{Lookup}
+use Rattle.cmark_grammar.specs.Options.{Options}
+use Rattle.cmark_grammar.specs.Containers.{keeps}
+use Rattle.cmark_grammar.specs.Containers as grammar
+use Rattle.cmark_lines.specs.Rests.{row_of}
+use Rattle.cmark_lines.specs.Starts.{Shows}
+use Rattle.cmark_lines.specs.declared.line_rest.LineRest.{LineRest}
+use Rattle.cmark_block_model.specs.BlockPass.{Kept, kept_by, kept_if, is_last}
+use Rattle.cmark_block_model.specs.OpenBlocks as model
+use Rattle.cmark_blocks.specs.declared.state.OpenContainer.{OpenContainer}
+use Rattle.cmark_blocks.specs.Shown.{ShowsContainer, ShowsContainers}
+
+-- the container at a place, with those before it and behind it
+pub record At (c : OpenContainer) (k : ℕ) (ms : List model.OpenContainer) : Type 0 where
+  pub m : model.OpenContainer
+  pub shows : ShowsContainer c m
+  pub behind : drop k ms ≡ m ∷ drop (suc k) ms
+  pub before : take (suc k) ms ≡ take k ms ++ m ∷ []
+
+pub shows-at : (cs : List OpenContainer) (ms : List model.OpenContainer) (k : ℕ) (c : OpenContainer) → ShowsContainers cs ms → slice_get cs k ≡ Some c → At c k ms
+shows-at [] ms k c s e = absurd (let q : None ≡ Some c = e in cc)
+shows-at (b ∷ cs) [] k c s e = absurd s
+shows-at (b ∷ cs) (m ∷ ms) zero c s e = record { m = m; shows = subst (λ x. ShowsContainer x m) (same_Some b c e) s.0; behind = refl; before = refl }
+shows-at (b ∷ cs) (m ∷ ms) (suc k) c s e =
+    let r = shows-at cs ms k c s.1 e in
+    record { m = r.m; shows = r.shows; behind = r.behind; before = ap (λ l. m ∷ l) r.before }
+
+pub shows-all : (cs : List OpenContainer) (ms : List model.OpenContainer) (k : ℕ) → ShowsContainers cs ms → length cs ≤ k → (take k ms ≡ ms) × (drop k ms ≡ [])
+shows-all [] [] zero s le = (refl, refl)
+shows-all [] [] (suc k) s le = (refl, refl)
+shows-all [] (m ∷ ms) k s le = absurd s
+shows-all (b ∷ cs) [] k s le = absurd s
+shows-all (b ∷ cs) (m ∷ ms) zero s le = absurd (omega (arith, le))
+shows-all (b ∷ cs) (m ∷ ms) (suc k) s le = let r = shows-all cs ms k s.1 (omega (arith, le)) in (ap (λ l. m ∷ l) r.0, r.1)
+
+pub shows-some : (cs : List OpenContainer) (ms : List model.OpenContainer) (k : ℕ) → ShowsContainers cs ms → k < length cs → (m : model.OpenContainer) × (others : List model.OpenContainer) × (drop k ms ≡ m ∷ others)
+shows-some [] ms k s lt = absurd (omega (arith, lt))
+shows-some (b ∷ cs) [] k s lt = absurd s
+shows-some (b ∷ cs) (m ∷ ms) zero s lt = (m, ms, refl)
+shows-some (b ∷ cs) (m ∷ ms) (suc k) s lt = shows-some cs ms k s.1 (omega (arith, lt))
+
+module _ (text : List ℕ) (options : Options) (lookup : Lookup) where
+  last-is : (cs : List OpenContainer) (ms : List model.OpenContainer) (k : ℕ) → ShowsContainers cs ms → k < length cs → is_last text options lookup (drop (suc k) ms) ≡ (suc k == length cs)
+  last-is [] ms k s lt = absurd (omega (arith, lt))
+  last-is (b ∷ cs) [] k s lt = absurd s
+  last-is (b ∷ []) (m ∷ []) zero s lt = refl
+  last-is (b ∷ []) (m ∷ (n ∷ ms)) zero s lt = absurd s.1
+  last-is (b ∷ (d ∷ cs)) (m ∷ []) zero s lt = absurd s.1
+  last-is (b ∷ (d ∷ cs)) (m ∷ (n ∷ ms)) zero s lt = sym (let ne : suc zero ≡ suc (suc (length cs)) → ⊥ = (λ e. omega (arith, e)) in grind (arith))
+  last-is (b ∷ cs) (m ∷ ms) (suc k) s lt = last-is cs ms k s.1 (omega (arith, lt)) ∙ grind (arith)
+
+  -- one more container keeps the line, or misses it
+  pub keeps-on : (cs : List OpenContainer) (ms : List model.OpenContainer) (k : ℕ) (c : OpenContainer) (bare : Bool) (rest inside : LineRest) → ShowsContainers cs ms → slice_get cs k ≡ Some c → k < length cs →
+      ((g : grammar.Container) → Shows c.container g → Some (row_of inside) ≡ keeps g (bare && (suc k == length cs)) (row_of rest)) → (n : ℕ) → n ≡ suc k →
+      kept_by text options lookup (take k ms) (drop k ms) bare (row_of rest) ≡ kept_by text options lookup (take n ms) (drop n ms) bare (row_of inside)
+  keeps-on cs ms k c bare rest inside s e lt keep n next =
+      subst (λ n. kept_by text options lookup (take k ms) (drop k ms) bare (row_of rest) ≡ kept_by text options lookup (take n ms) (drop n ms) bare (row_of inside)) (sym next)
+      (let at = shows-at cs ms k c s e in
+      ap (λ l. kept_by text options lookup (take k ms) l bare (row_of rest)) at.behind
+      ∙ ap (λ o. kept_if text options lookup o (λ t. kept_by text options lookup (take k ms ++ at.m ∷ []) (drop (suc k) ms) bare t) (record { kept = take k ms; missed = at.m ∷ drop (suc k) ms; left = row_of rest }))
+      (ap (λ b. keeps at.m.container (bare && b) (row_of rest)) (last-is cs ms k s lt) ∙ sym (keep at.m.container at.shows.0))
+      ∙ ap (λ l. kept_by text options lookup l (drop (suc k) ms) bare (row_of inside)) (sym at.before))
+
+  pub keeps-not : (cs : List OpenContainer) (ms : List model.OpenContainer) (k : ℕ) (c : OpenContainer) (bare : Bool) (rest : LineRest) → ShowsContainers cs ms → slice_get cs k ≡ Some c → k < length cs →
+      ((g : grammar.Container) → Shows c.container g → None ≡ keeps g (bare && (suc k == length cs)) (row_of rest)) →
+      kept_by text options lookup (take k ms) (drop k ms) bare (row_of rest) ≡ record { kept = take k ms; missed = drop k ms; left = row_of rest }
+  keeps-not cs ms k c bare rest s e lt keep =
+      let at = shows-at cs ms k c s e in
+      ap (λ l. kept_by text options lookup (take k ms) l bare (row_of rest)) at.behind
+      ∙ ap (λ o. kept_if text options lookup o (λ t. kept_by text options lookup (take k ms ++ at.m ∷ []) (drop (suc k) ms) bare t) (record { kept = take k ms; missed = at.m ∷ drop (suc k) ms; left = row_of rest }))
+      (ap (λ b. keeps at.m.container (bare && b) (row_of rest)) (last-is cs ms k s lt) ∙ sym (keep at.m.container at.shows.0))
+      ∙ ap {A = List model.OpenContainer} {B = Kept text options lookup} (λ l. record { kept = take k ms; missed = l; left = row_of rest }) (sym at.behind)
+
+  pub keeps-all : (cs : List OpenContainer) (ms : List model.OpenContainer) (k : ℕ) (bare : Bool) (rest : LineRest) → ShowsContainers cs ms → length cs ≤ k →
+      kept_by text options lookup (take k ms) (drop k ms) bare (row_of rest) ≡ record { kept = take k ms; missed = drop k ms; left = row_of rest }
+  keeps-all cs ms k bare rest s le =
+      let e = (shows-all cs ms k s le).1 in
+      ap (λ l. kept_by text options lookup (take k ms) l bare (row_of rest)) e
+      ∙ ap {A = List model.OpenContainer} {B = Kept text options lookup} (λ l. record { kept = take k ms; missed = l; left = row_of rest }) (sym e)

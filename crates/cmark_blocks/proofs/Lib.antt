@@ -1,0 +1,4 @@
+pub mod AheadSteps
+pub mod ClosingSteps
+pub mod KeptSteps
+pub mod RunSteps

@@ -1,0 +1,114 @@
+-- The pass in another state, where one part of it has changed.
+use Rattle.std.proofs.Common.{◌≡◌, ℕ, Bool, true, false, List, [], ◌∷◌, ◌++◌, Option, Some, None, option_map, refl, ap, ◌∙◌, Vec, Global, ◌==◌}
+use Rattle.cmark_grammar.specs.Answers.{Lookup}
+use Rattle.cmark_items.specs.Definitions.{definition, shown_definition}
+use Rattle.cmark_items.specs.Tables.{tables}
+use Rattle.cmark_block_model.specs.Drawing.{Drawing}
+use Rattle.cmark_block_model.specs.OpenBlocks as model
+use Rattle.cmark_builder.specs.declared.builder.Builder.{Builder}
+use Rattle.cmark_builder.specs.Drawn.{Draws}
+use Rattle.cmark_blocks.specs.declared.siblings.Siblings.{Siblings}
+use Rattle.cmark_blocks.specs.declared.state.Pass.{Pass}
+use Rattle.cmark_blocks.specs.declared.state.OpenContainer.{OpenContainer}
+use Rattle.cmark_blocks.specs.Shown.{shown_list, shown_siblings, ShowsContainer, ShowsContainers, list_of}
+use Rattle.cmark_block_model.specs.BlockPass.{item_begun, list_begun, list_goes_on}
+use Rattle.std.specs.Prelude.{if◌then◌else◌}
+use Rattle.std.proofs.lemmas.Option.{same_Some}
+use Rattle.cmark_blocks.specs.declared.state.OpenLeaf.{OpenLeaf}
+use Rattle.cmark_blocks.specs.Runs.{Runs, ShowsLeaf}
+
+pub shows-snoc : (cs : List OpenContainer) (ms : List model.OpenContainer) (c : OpenContainer) (m : model.OpenContainer) → ShowsContainers cs ms → ShowsContainer c m → ShowsContainers (cs ++ c ∷ []) (ms ++ m ∷ [])
+shows-snoc [] [] c m s t = (t, tt)
+shows-snoc [] (n ∷ ms) c m s t = absurd s
+shows-snoc (b ∷ cs) [] c m s t = absurd s
+shows-snoc (b ∷ cs) (n ∷ ms) c m s t = (s.0, shows-snoc cs ms c m s.1 t)
+
+pub shows-unsnoc : (cs : List OpenContainer) (ms : List model.OpenContainer) (c : OpenContainer) (m : model.OpenContainer) → ShowsContainers (cs ++ c ∷ []) (ms ++ m ∷ []) → ShowsContainers cs ms × ShowsContainer c m
+shows-unsnoc [] [] c m s = (tt, s.0)
+shows-unsnoc [] (n ∷ []) c m s = absurd s.1
+shows-unsnoc [] (n ∷ (o ∷ ms)) c m s = absurd s.1
+shows-unsnoc (b ∷ []) [] c m s = absurd s.1
+shows-unsnoc (b ∷ (d ∷ cs)) [] c m s = absurd s.1
+shows-unsnoc (b ∷ cs) (n ∷ ms) c m s = let rest = shows-unsnoc cs ms c m s.1 in ((s.0, rest.0), rest.1)
+
+pub shows-none : (ms : List model.OpenContainer) (m : model.OpenContainer) → ShowsContainers [] (ms ++ m ∷ []) → ⊥
+shows-none [] m s = s
+shows-none (n ∷ ms) m s = s
+
+-- an item goes on with a list of its character, and else begins one
+module _ (mark : ℕ) (number : Option ℕ) (start : ℕ) (p : model.Pass) where
+  pub goes-on : (o : Option model.OpenList) (l : model.OpenList) → list_of mark o ≡ Some l → item_begun mark number start p o ≡ list_goes_on l p
+  goes-on None l e = absurd (let q : None ≡ Some l = e in cc)
+  goes-on (Some k) l e = go (k.mark == mark) e
+    where
+      go : (b : Bool) → (if b then Some k else None) ≡ Some l → (if b then list_goes_on k p else list_begun mark number start p) ≡ list_goes_on l p
+      go true e = ap (λ x. list_goes_on x p) (same_Some k l e)
+      go false e = absurd (let q : None ≡ Some l = e in cc)
+
+  pub begins : (o : Option model.OpenList) → list_of mark o ≡ None → item_begun mark number start p o ≡ list_begun mark number start p
+  begins None e = refl
+  begins (Some k) e = go (k.mark == mark) e
+    where
+      go : (b : Bool) → (if b then Some k else None) ≡ None → (if b then list_goes_on k p else list_begun mark number start p) ≡ list_begun mark number start p
+      go true e = absurd (let q : Some k ≡ None = e in cc)
+      go false e = refl
+
+module _ {E : Type 0} (replacement : E → Lookup) (text : List ℕ) (lookup : Lookup) (m : model.Pass) (pass : Pass E) where
+  -- something was drawn
+  pub runs-builder : (b : Builder) (d : Drawing) → Runs replacement text lookup m pass → Draws text b d → (tables b.allocations).references ≡ (tables pass.builder.allocations).references → Runs replacement text lookup (record m { drawing = d }) (record pass { builder = b })
+  runs-builder b d runs draws same = record {
+    text_is = runs.text_is;
+    lookup_is = runs.lookup_is;
+    drawing = draws;
+    inner = runs.inner;
+    outer = runs.outer;
+    bare = runs.bare;
+    leaf = runs.leaf;
+    past = runs.past;
+    references = λ folded. ap (λ r. option_map shown_definition (definition r folded)) same ∙ runs.references folded;
+  }
+
+  -- the innermost siblings
+  pub runs-inner : (s : Siblings) (t : model.Siblings) → Runs replacement text lookup m pass → shown_siblings s ≡ t → Runs replacement text lookup (record m { inner = t }) (record pass { inner = s })
+  runs-inner s t runs e = record {
+    text_is = runs.text_is;
+    lookup_is = runs.lookup_is;
+    drawing = runs.drawing;
+    inner = e;
+    outer = runs.outer;
+    bare = runs.bare;
+    leaf = runs.leaf;
+    past = runs.past;
+    references = runs.references;
+  }
+
+  pub list_is : Runs replacement text lookup m pass → option_map shown_list pass.inner.list ≡ m.inner.list
+  list_is runs = ap (λ s. s.list) runs.inner
+
+  -- the open containers
+  pub runs-outer : (outer : Vec OpenContainer Global) (ms : List model.OpenContainer) → Runs replacement text lookup m pass → ShowsContainers outer.items ms → Runs replacement text lookup (record m { outer = ms }) (record pass { outer = outer })
+  runs-outer outer ms runs shows = record {
+    text_is = runs.text_is;
+    lookup_is = runs.lookup_is;
+    drawing = runs.drawing;
+    inner = runs.inner;
+    outer = shows;
+    bare = runs.bare;
+    leaf = runs.leaf;
+    past = runs.past;
+    references = runs.references;
+  }
+
+  -- the open leaf
+  pub runs-leaf : (leaf : OpenLeaf) (l : model.OpenLeaf) → Runs replacement text lookup m pass → ShowsLeaf text leaf pass.blank_lines.items l → Runs replacement text lookup (record m { leaf = l }) (record pass { leaf = leaf })
+  runs-leaf leaf l runs shows = record {
+    text_is = runs.text_is;
+    lookup_is = runs.lookup_is;
+    drawing = runs.drawing;
+    inner = runs.inner;
+    outer = runs.outer;
+    bare = runs.bare;
+    leaf = shows;
+    past = runs.past;
+    references = runs.references;
+  }

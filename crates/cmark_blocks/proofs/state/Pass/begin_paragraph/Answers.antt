@@ -1,0 +1,30 @@
+use Rattle.std.proofs.Common.{refl, sym, ap, ◌∙◌, subst}
+use Rattle.cmark_grammar.specs.BlockDocument.{Paragraph}
+use Rattle.cmark_lines.specs.Rests.{IsIn, row_of}
+use Rattle.cmark_block_model.specs.BlockPass.{block_begun}
+use Rattle.cmark_block_model.specs.Drawing.{opened}
+use Rattle.cmark_block_model.specs.OpenBlocks as model
+use Rattle.cmark_builder.specs.Drawn.{Draws}
+use Rattle.cmark_builder.proofs.DrawnSteps.{draws-open}
+use Rattle.cmark_blocks.proofs.RunSteps.{runs-builder, runs-leaf}
+use Rattle.cmark_blocks.proofs.state.Pass.begin_paragraph.Goals as goal
+
+pub returns-clause-good : goal.returns-clause-good
+returns-clause-good g c = record {
+  placed = c.open.ensures.placed;
+  begins = c.begin_block.ensures.good.begins;
+  leaf = subst (λ t. IsIn t.now c.args.rest) (sym c.begin_block.ensures.text) c.requires.placed;
+  blanks = c.begin_block.ensures.good.blanks;
+}
+
+pub returns-clause-runs : goal.returns-clause-runs
+returns-clause-runs g c text options lookup m runs =
+    let replacement = g.E.EntityLookup.replacement in
+    let before = c.begin_block.new.self in
+    let p = block_begun m in
+    let r = c.begin_block.ensures.runs text lookup m runs in
+    let draws = subst (λ at. Draws text c.open.new.self (opened at Paragraph p.drawing)) c.words_begin.ensures.place
+    (draws-open text before.builder c.open.new.self c.words_begin.result _ Paragraph p.drawing c.in_ok-open.ensures.ok c.in_ok-open.ensures.tables refl r.drawing) in
+    runs-leaf replacement text lookup _ _ _ (model.InParagraph (row_of c.args.rest))
+    (runs-builder replacement text lookup p before c.open.new.self _ r draws (ap (λ a. a.refdefs) c.in_ok-open.ensures.tables))
+    (refl, ap (λ b. b.items) c.begin_block.ensures.blank_lines ∙ c.requires.alone)

@@ -1,0 +1,16 @@
+use Rattle.std.proofs.Common.{None, refl, ap}
+use Rattle.cmark_grammar.specs.BlockDocument.{BlockQuote}
+use Rattle.cmark_grammar.specs.Containers.{Quote}
+use Rattle.cmark_block_model.specs.BlockPass.{block_begun}
+use Rattle.cmark_block_model.specs.Drawing.{opened}
+use Rattle.cmark_builder.proofs.DrawnSteps.{draws-open}
+use Rattle.cmark_blocks.proofs.RunSteps.{runs-builder}
+use Rattle.cmark_blocks.proofs.state.Pass.begin_quote.Goals as goal
+
+pub returns-clause-runs : goal.returns-clause-runs
+returns-clause-runs g c text lookup m runs =
+    let before = c.begin_block.new.self in
+    let r = c.begin_block.ensures.runs text lookup m runs in
+    let draws = draws-open text before.builder c.open.new.self c.args.start _ (BlockQuote None) (block_begun m).drawing c.in_ok-open.ensures.ok c.in_ok-open.ensures.tables refl r.drawing in
+    c.in_ok-enter.ensures.runs Quote tt text lookup _
+    (runs-builder g.E.EntityLookup.replacement text lookup (block_begun m) before c.open.new.self (opened c.args.start (BlockQuote None) (block_begun m).drawing) r draws (ap (λ a. a.refdefs) c.in_ok-open.ensures.tables))

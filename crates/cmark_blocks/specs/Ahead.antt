@@ -1,0 +1,32 @@
+-- The lines ahead, as they are seen inside the open containers.
+use Rattle.std.specs.Prelude.{◌≡◌, ℕ, List, [], ◌∷◌, Option, MatchOption, drop}
+use Rattle.cmark_grammar.specs.Answers.{Lookup}
+use Rattle.cmark_grammar.specs.Lines.{lines}
+use Rattle.cmark_grammar.specs.Options.{Options}
+use Rattle.cmark_grammar.specs.Rows.{Row, rows_from}
+use Rattle.cmark_grammar.specs.Openings.{text_lines}
+use Rattle.cmark_lines.specs.Rests.{row_of}
+use Rattle.cmark_lines.specs.declared.line_rest.LineRest.{LineRest}
+use Rattle.cmark_block_model.specs.BlockPass.{ahead_in}
+use Rattle.cmark_block_model.specs.OpenBlocks as model
+use Rattle.cmark_blocks.specs.declared.state.Pass.{Pass}
+use Rattle.cmark_blocks.specs.Runs.{Runs}
+
+-- the whole lines of a text from this place on
+abbrev pub lines_at : List ℕ → ℕ → List Row
+lines_at text at = rows_from at (lines (drop at text))
+
+module _ {E : Type 0} (replacement : E → Lookup) where
+  -- a line, in front of others, is seen inside the containers as this; where one of them misses it, nothing is seen
+  abbrev pub SeenInside : Pass E → LineRest → Option LineRest → Type 0
+  SeenInside pass line seen =
+      (text : List ℕ) (options : Options) (lookup : Lookup) (m : model.Pass) (more : List Row) → Runs replacement text lookup m pass →
+      MatchOption seen (ahead_in text options lookup m.outer (row_of line ∷ more) ≡ [])
+      (λ rest. ((row_of rest).past ≡ (row_of line).past) × (ahead_in text options lookup m.outer (row_of line ∷ more) ≡ row_of rest ∷ ahead_in text options lookup m.outer more))
+
+  -- the paragraph that this line is in goes on with that one, or ends
+  abbrev pub GoesOnWith : Pass E → LineRest → Option LineRest → Type 0
+  GoesOnWith pass last next =
+      (text : List ℕ) (options : Options) (lookup : Lookup) (m : model.Pass) → Runs replacement text lookup m pass →
+      let texts_at = λ (at : ℕ). text_lines options (ahead_in text options lookup m.outer (lines_at text at)) in
+      MatchOption next (texts_at (row_of last).past ≡ []) (λ rest. texts_at (row_of last).past ≡ row_of rest ∷ texts_at (row_of rest).past)

@@ -1,0 +1,5 @@
+pub mod Ahead
+pub mod Kept
+pub mod Runs
+pub mod Shown
+pub mod Steps

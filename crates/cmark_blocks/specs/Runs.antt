@@ -1,0 +1,72 @@
+-- Which state of its model the block pass is in.
+use Rattle.std.specs.Prelude.{◌≡◌, ℕ, List, [], option_map, map, false, All}
+use Rattle.std.specs.Str.{IsCharBoundary}
+use Rattle.cmark_tree.specs.Building.{IsPlaced}
+use Rattle.cmark_grammar.specs.Answers.{Lookup}
+use Rattle.cmark_grammar.specs.Labels.{fold}
+use Rattle.cmark_grammar.specs.References.{first_with}
+use Rattle.cmark_grammar.specs.BlockDocument.{Reference}
+use Rattle.cmark_items.specs.Definitions.{definition, ShownDefinition, shown_definition}
+use Rattle.cmark_items.specs.Tables.{tables}
+use Rattle.cmark_builder.specs.Drawn.{Draws}
+use Rattle.cmark_lines.specs.Rests.{row_of, IsIn}
+use Rattle.cmark_lines.specs.declared.line_rest.LineRest.{LineRest}
+use Rattle.cmark_scan.specs.HtmlLines.{kind_number}
+use Rattle.cmark_grammar.specs.Leaves.{Fence}
+use Rattle.cmark_grammar.specs.Tokens.{Piece, slice}
+use Rattle.cmark_block_model.specs.OpenBlocks as model
+use Rattle.cmark_blocks.specs.declared.state.OpenLeaf.{OpenLeaf}
+use Rattle.cmark_blocks.specs.declared.state.OpenLeaf.TheVariants as leaf
+use Rattle.cmark_blocks.specs.declared.state.Stretch.{Stretch}
+use Rattle.cmark_blocks.specs.declared.state.Pass.{Pass}
+use Rattle.cmark_blocks.specs.Shown.{shown_siblings, ShowsContainers}
+
+-- a stretch of the text as a piece of it
+abbrev pub shown_stretch : List ℕ → Stretch → Piece
+shown_stretch text s = record { owned = false; bytes = slice text s.start s.end; start = s.start; end = s.end }
+
+abbrev pub IsFence : Fence → (mark size indent : ℕ) → Type 0
+IsFence fence mark size indent = (fence.mark ≡ mark) × (fence.size ≡ size) × (fence.indented ≡ indent)
+
+-- the open leaf, with the blank lines behind indented code
+abbrev pub ShowsLeaf : List ℕ → OpenLeaf → List LineRest → model.OpenLeaf → Type 0
+ShowsLeaf text leaf.Closed blanks m = (m ≡ model.Closed) × (blanks ≡ [])
+ShowsLeaf text (leaf.Paragraph last) blanks m = (m ≡ model.InParagraph (row_of last)) × (blanks ≡ [])
+ShowsLeaf text (leaf.Definition left) blanks m = (m ≡ model.InDefinition left) × (blanks ≡ [])
+ShowsLeaf text (leaf.Indented waits end) blanks m = m ≡ model.InIndented (option_map (shown_stretch text) waits) end (map row_of blanks)
+ShowsLeaf text (leaf.Fenced mark size indent waits) blanks m =
+    (fence : Fence) × IsFence fence mark size indent × (m ≡ model.InFenced fence (option_map (shown_stretch text) waits)) × (blanks ≡ [])
+ShowsLeaf text (leaf.Html kind) blanks m = (m ≡ model.InHtml (kind_number kind)) × (blanks ≡ [])
+
+-- the lines of the open leaf stand in the text
+abbrev pub LeafIsIn : List ℕ → OpenLeaf → Type 0
+LeafIsIn text leaf.Closed = Unit {0}
+LeafIsIn text (leaf.Paragraph last) = IsIn text last
+LeafIsIn text (leaf.Definition left) = Unit {0}
+LeafIsIn text (leaf.Indented waits end) = Unit {0}
+LeafIsIn text (leaf.Fenced mark size indent waits) = Unit {0}
+LeafIsIn text (leaf.Html kind) = Unit {0}
+
+module _ {E : Type 0} where
+  -- what holds of the pass whatever happens, want of memory too: nodes can be added, and its lines stand in the text
+  pub record IsGood (pass : Pass E) : Type 0 where
+    pub placed : IsPlaced pass.builder.tree
+    pub begins : IsCharBoundary pass.text.now pass.past
+    pub leaf : LeafIsIn pass.text.now pass.leaf
+    pub blanks : All (IsIn pass.text.now) pass.blank_lines.items
+
+abbrev pub shown_reference : Reference → ShownDefinition
+shown_reference r = record { destination = r.destination; title = r.title; start = r.start; end = r.end }
+
+module _ {E : Type 0} (replacement : E → Lookup) where
+  -- the pass over this text, with this meaning of entity names, is in this state
+  pub record Runs (text : List ℕ) (lookup : Lookup) (m : model.Pass) (pass : Pass E) : Type 0 where
+    pub text_is : pass.text.now ≡ text
+    pub lookup_is : replacement pass.entities.now ≡ lookup
+    pub drawing : Draws text pass.builder m.drawing
+    pub inner : shown_siblings pass.inner ≡ m.inner
+    pub outer : ShowsContainers pass.outer.items m.outer
+    pub bare : pass.bare ≡ m.bare
+    pub leaf : ShowsLeaf text pass.leaf pass.blank_lines.items m.leaf
+    pub past : pass.past ≡ m.past
+    pub references : (folded : List ℕ) → option_map shown_definition (definition (tables pass.builder.allocations).references folded) ≡ option_map shown_reference (first_with fold folded m.references)

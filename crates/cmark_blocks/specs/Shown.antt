@@ -1,0 +1,28 @@
+-- What is open in the block pass, seen as in its model.
+use Rattle.std.specs.Prelude.{◌≡◌, ℕ, List, [], ◌∷◌, Option, Some, None, option_map, ◌==◌, if◌then◌else◌}
+use Rattle.cmark_items.specs.ItemNodes.{list_number}
+use Rattle.cmark_lines.specs.Starts.{Shows}
+use Rattle.cmark_block_model.specs.OpenBlocks as model
+use Rattle.cmark_blocks.specs.declared.siblings.OpenList.{OpenList}
+use Rattle.cmark_blocks.specs.declared.siblings.Siblings.{Siblings}
+use Rattle.cmark_blocks.specs.declared.state.OpenContainer.{OpenContainer}
+
+abbrev pub shown_list : OpenList → model.OpenList
+shown_list l = record { mark = l.mark; number = list_number l.mark l.number; loose = l.loose; end = l.end }
+
+abbrev pub shown_siblings : Siblings → model.Siblings
+shown_siblings s = record { has_block = s.has_block; blank = s.blank; parted = s.parted; list = option_map shown_list s.list }
+
+-- the list, if it has this character
+abbrev pub list_of : (mark : ℕ) → Option model.OpenList → Option model.OpenList
+list_of mark None = None
+list_of mark (Some l) = if l.mark == mark then Some l else None
+
+abbrev pub ShowsContainer : OpenContainer → model.OpenContainer → Type 0
+ShowsContainer c m = Shows c.container m.container × (shown_siblings c.around ≡ m.around)
+
+abbrev pub ShowsContainers : List OpenContainer → List model.OpenContainer → Type 0
+ShowsContainers [] [] = Unit {0}
+ShowsContainers [] (m ∷ ms) = ⊥
+ShowsContainers (c ∷ cs) [] = ⊥
+ShowsContainers (c ∷ cs) (m ∷ ms) = ShowsContainer c m × ShowsContainers cs ms

@@ -1,0 +1,43 @@
+-- What a call of the block pass does to the state of its model.
+use Rattle.std.specs.Prelude.{◌≡◌, ℕ, List, [], ◌∷◌, ◌++◌, length}
+use Rattle.cmark_block_model.specs.BlockPass.{container_closed, containers_closed, paragraph_begun}
+use Rattle.cmark_lines.specs.Rests.{row_of}
+use Rattle.cmark_lines.specs.declared.line_rest.LineRest.{LineRest}
+use Rattle.cmark_grammar.specs.Answers.{Lookup}
+use Rattle.cmark_grammar.specs.Options.{Options}
+use Rattle.cmark_block_model.specs.OpenBlocks as model
+use Rattle.cmark_blocks.specs.declared.state.Pass.{Pass}
+use Rattle.cmark_blocks.specs.Runs.{Runs}
+
+module _ {E : Type 0} (replacement : E → Lookup) where
+  -- from whichever state of the model it was in, over whichever text, it makes this step
+  abbrev pub StepsOver : Pass E → Pass E → (List ℕ → Lookup → model.Pass → model.Pass) → Type 0
+  StepsOver old new step = (text : List ℕ) (lookup : Lookup) (m : model.Pass) → Runs replacement text lookup m old → Runs replacement text lookup (step text lookup m) new
+
+  abbrev pub Steps : Pass E → Pass E → (model.Pass → model.Pass) → Type 0
+  Steps old new step = StepsOver old new (λ text lookup. step)
+
+  -- the innermost container was closed
+  abbrev pub ClosesLast : Pass E → Pass E → Type 0
+  ClosesLast old new =
+      (text : List ℕ) (lookup : Lookup) (m : model.Pass) (outer : List model.OpenContainer) (c : model.OpenContainer) →
+      m.outer ≡ outer ++ c ∷ [] → Runs replacement text lookup m old → Runs replacement text lookup (container_closed c outer m) new
+
+  -- the containers but the outermost ones, of this number, were closed
+  abbrev pub ClosesAll : ℕ → Pass E → Pass E → Type 0
+  ClosesAll kept old new =
+      (text : List ℕ) (options : Options) (lookup : Lookup) (m : model.Pass) (outer inner : List model.OpenContainer) →
+      m.outer ≡ outer ++ inner → length outer ≡ kept → Runs replacement text lookup m old → Runs replacement text lookup (containers_closed text options lookup outer inner m) new
+
+  -- the containers but the outermost ones, of this number, are being closed: some of them are left
+  abbrev pub ClosesTowards : ℕ → Pass E → Pass E → Type 0
+  ClosesTowards kept old now =
+      (text : List ℕ) (options : Options) (lookup : Lookup) (m : model.Pass) (outer inner : List model.OpenContainer) →
+      m.outer ≡ outer ++ inner → length outer ≡ kept → Runs replacement text lookup m old →
+      (left : List model.OpenContainer) × (p : model.Pass) × (p.outer ≡ outer ++ left) × Runs replacement text lookup p now
+      × (containers_closed text options lookup outer inner m ≡ containers_closed text options lookup outer left p)
+
+  -- a paragraph was begun on a line
+  abbrev pub BeginsParagraph : LineRest → Pass E → Pass E → Type 0
+  BeginsParagraph rest old new =
+      (text : List ℕ) (options : Options) (lookup : Lookup) (m : model.Pass) → Runs replacement text lookup m old → Runs replacement text lookup (paragraph_begun text options lookup (row_of rest) m) new

@@ -1,0 +1,60 @@
+//! The lines ahead, as they are seen inside the open containers.
+
+ghost use Rattle.std.specs.Prelude.{◌≡◌, ℕ, List, false, MatchOption, IfSome, not, true, ◌&&◌};
+ghost use Rattle.cmark_grammar.specs.Leaves.{underlines};
+ghost use Rattle.cmark_grammar.specs.Openings.{interrupts, is_none};
+ghost use Rattle.cmark_grammar.specs.Options.{Options};
+ghost use Rattle.cmark_grammar.specs.Rows.{Row};
+ghost use Rattle.cmark_lines.specs.Rests.{IsIn, row_of};
+
+use crate::state::Pass;
+use cmark_lines::{LineRest, interrupts, underlines};
+use cmark_text::EntityLookup;
+
+impl<'a, E: EntityLookup> Pass<'a, E> {
+    ghost use Rattle.cmark_blocks.specs.Ahead.{SeenInside, GoesOnWith};
+
+    /// What all open containers leave of a line, if they keep it.
+    fn inside(&self, line: LineRest<'a>) -> Option<LineRest<'a>>
+        requires { self.now.bare ≡ false }
+        ensures seen { SeenInside E.replacement self.now line.entry result }
+        ensures placed { (text : List ℕ) → IsIn text line.entry → IfSome result (IsIn text) }
+    {
+        let (kept, rest) = self.kept_by(line);
+        if kept < self.outer.len() {
+            return None;
+        }
+        Some(rest)
+    }
+
+    /// The line behind this one, inside all open containers, if it goes on with a paragraph there.
+    pub(crate) fn text_ahead(&self, last: LineRest<'a>) -> Option<LineRest<'a>>
+        requires bare { self.now.bare ≡ false }
+        requires within { IsIn self.now.text.now last }
+        ensures next { GoesOnWith E.replacement self.now last.entry result }
+        ensures placed { IfSome result (IsIn self.now.text.now) }
+    {
+        let start = last.past();
+        if start == self.text.len() {
+            return None;
+        }
+        let line = LineRest::new(self.text.as_bytes(), start);
+        let Some(rest) = self.inside(line) else {
+            return None;
+        };
+        if is_text(rest) { Some(rest) } else { None }
+    }
+}
+
+/// Whether the line, which lacks no prefix, goes on with a paragraph as its text.
+fn is_text(rest: LineRest<'_>) -> bool
+    ensures { (options : Options) (ahead : List Row) → result ≡ (not (interrupts options true (row_of rest.entry) ahead) && is_none (underlines (row_of rest.entry))) }
+{
+    if interrupts(rest, true) {
+        return false;
+    }
+    match underlines(rest) {
+        Some(_) => false,
+        None => true,
+    }
+}

@@ -1,0 +1,94 @@
+//! The state of the block pass.
+
+ghost use Rattle.std.specs.Prelude.{◌≡◌, List, ℕ, IfOk};
+
+use crate::siblings::Siblings;
+use cmark_builder::Builder;
+use cmark_lines::{Container, LineRest};
+use cmark_text::EntityLookup;
+use std::alloc::{AllocError, Global};
+
+/// A stretch of the text, from one byte offset to before another, that is no node yet.
+#[derive(Clone, Copy, Debug, PartialEq, Eq)]
+pub struct Stretch {
+    /// Where it begins.
+    pub start: usize,
+    /// Behind its last byte.
+    pub end: usize,
+}
+
+/// The leaf that is open, if one is.
+#[derive(Clone, Copy, Debug)]
+pub(crate) enum OpenLeaf<'a> {
+    /// None.
+    Closed,
+    /// A paragraph: its last line becomes nodes when it is seen what follows.
+    Paragraph(LineRest<'a>),
+    /// A link reference definition, with so many lines to come.
+    Definition(usize),
+    /// Indented code: the stretch of the text that waits, and where its last line ends.
+    Indented(Option<Stretch>, usize),
+    /// Fenced code: its fence's character, size and indent, and the stretch of the text that waits.
+    Fenced(u8, usize, usize, Option<Stretch>),
+    /// HTML.
+    Html(cmark_lines::HtmlKind),
+}
+
+/// An open container, with the siblings that it stands behind.
+#[derive(Clone, Copy, Debug)]
+pub(crate) struct OpenContainer {
+    pub container: Container,
+    pub around: Siblings,
+}
+
+/// The block pass between two lines.
+#[derive(Drop)]
+pub(crate) struct Pass<'a, E> {
+    pub alloc: Global,
+    pub text: &'a str,
+    pub entities: &'a E,
+    /// The tree so far, and its tables.
+    pub builder: Builder<'a>,
+    /// The blocks of the innermost container.
+    pub inner: Siblings,
+    /// The open containers, the outermost first.
+    pub outer: Vec<OpenContainer>,
+    /// The innermost container is an item whose first line was blank, and came last.
+    pub bare: bool,
+    pub leaf: OpenLeaf<'a>,
+    /// The blank lines behind indented code.
+    pub blank_lines: Vec<LineRest<'a>>,
+    /// Where the next line begins.
+    pub past: usize,
+    /// The text of the paragraph in which link reference definitions are looked for.
+    pub gathered: String,
+}
+
+impl<'a, E: EntityLookup> Pass<'a, E> {
+    ghost use Rattle.cmark_block_model.specs.OpenBlocks.{at_start};
+    ghost use Rattle.cmark_blocks.specs.Runs.{Runs, IsGood};
+
+    /// Before the first line of this text.
+    pub(crate) fn new(
+        alloc: Global,
+        text: &'a str,
+        entities: &'a E,
+    ) -> Result<Pass<'a, E>, AllocError>
+        ensures good { IfOk result IsGood }
+        ensures runs { IfOk result (Runs E.replacement text.entry.now (E.replacement entities.entry.now) at_start) }
+    {
+        Ok(Pass {
+            alloc,
+            text,
+            entities,
+            builder: Builder::new(alloc)?,
+            inner: Siblings::none(),
+            outer: Vec::new(alloc),
+            bare: false,
+            leaf: OpenLeaf::Closed,
+            blank_lines: Vec::new(alloc),
+            past: 0,
+            gathered: String::new(alloc),
+        })
+    }
+}
