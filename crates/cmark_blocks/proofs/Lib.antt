@@ -1,4 +1,5 @@
 pub mod AheadSteps
 pub mod ClosingSteps
 pub mod KeptSteps
+pub mod LeafSteps
 pub mod RunSteps

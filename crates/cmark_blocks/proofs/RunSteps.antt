@@ -15,6 +15,8 @@ use Rattle.cmark_block_model.specs.BlockPass.{item_begun, list_begun, list_goes_
 use Rattle.std.specs.Prelude.{if◌then◌else◌}
 use Rattle.std.proofs.lemmas.Option.{same_Some}
 use Rattle.cmark_blocks.specs.declared.state.OpenLeaf.{OpenLeaf}
+use Rattle.cmark_blocks.specs.declared.state.OpenLeaf.TheVariants as leaf
+use Rattle.cmark_lines.specs.declared.line_rest.LineRest.{LineRest}
 use Rattle.cmark_blocks.specs.Runs.{Runs, ShowsLeaf}
 
 pub shows-snoc : (cs : List OpenContainer) (ms : List model.OpenContainer) (c : OpenContainer) (m : model.OpenContainer) → ShowsContainers cs ms → ShowsContainer c m → ShowsContainers (cs ++ c ∷ []) (ms ++ m ∷ [])
@@ -100,8 +102,8 @@ module _ {E : Type 0} (replacement : E → Lookup) (text : List ℕ) (lookup : L
   }
 
   -- the open leaf
-  pub runs-leaf : (leaf : OpenLeaf) (l : model.OpenLeaf) → Runs replacement text lookup m pass → ShowsLeaf text leaf pass.blank_lines.items l → Runs replacement text lookup (record m { leaf = l }) (record pass { leaf = leaf })
-  runs-leaf leaf l runs shows = record {
+  pub runs-leaf : (open_leaf : OpenLeaf) (l : model.OpenLeaf) → Runs replacement text lookup m pass → ShowsLeaf text open_leaf pass.blank_lines.items l → Runs replacement text lookup (record m { leaf = l }) (record pass { leaf = open_leaf })
+  runs-leaf open_leaf l runs shows = record {
     text_is = runs.text_is;
     lookup_is = runs.lookup_is;
     drawing = runs.drawing;
@@ -109,6 +111,20 @@ module _ {E : Type 0} (replacement : E → Lookup) (text : List ℕ) (lookup : L
     outer = runs.outer;
     bare = runs.bare;
     leaf = shows;
+    past = runs.past;
+    references = runs.references;
+  }
+
+  -- no leaf is open, and no blank lines wait
+  pub runs-closed : (blanks : Vec LineRest Global) → Runs replacement text lookup m pass → blanks.items ≡ [] → Runs replacement text lookup (record m { leaf = model.Closed }) (record pass { leaf = leaf.Closed; blank_lines = blanks })
+  runs-closed blanks runs none = record {
+    text_is = runs.text_is;
+    lookup_is = runs.lookup_is;
+    drawing = runs.drawing;
+    inner = runs.inner;
+    outer = runs.outer;
+    bare = runs.bare;
+    leaf = (refl, none);
     past = runs.past;
     references = runs.references;
   }

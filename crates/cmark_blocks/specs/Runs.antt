@@ -1,5 +1,5 @@
 -- Which state of its model the block pass is in.
-use Rattle.std.specs.Prelude.{◌≡◌, ℕ, List, [], option_map, map, false, All}
+use Rattle.std.specs.Prelude.{◌≡◌, ℕ, List, [], option_map, map, All, Option, None}
 use Rattle.std.specs.Str.{IsCharBoundary}
 use Rattle.cmark_tree.specs.Building.{IsPlaced}
 use Rattle.cmark_grammar.specs.Answers.{Lookup}
@@ -13,17 +13,19 @@ use Rattle.cmark_lines.specs.Rests.{row_of, IsIn}
 use Rattle.cmark_lines.specs.declared.line_rest.LineRest.{LineRest}
 use Rattle.cmark_scan.specs.HtmlLines.{kind_number}
 use Rattle.cmark_grammar.specs.Leaves.{Fence}
-use Rattle.cmark_grammar.specs.Tokens.{Piece, slice}
+use Rattle.cmark_leaves.specs.Stretches.{shown_waits}
+use Rattle.cmark_leaves.specs.declared.stretch.Stretch.{Stretch}
+use Rattle.cmark_leaves.specs.Told.{AreTold}
 use Rattle.cmark_block_model.specs.OpenBlocks as model
 use Rattle.cmark_blocks.specs.declared.state.OpenLeaf.{OpenLeaf}
 use Rattle.cmark_blocks.specs.declared.state.OpenLeaf.TheVariants as leaf
-use Rattle.cmark_blocks.specs.declared.state.Stretch.{Stretch}
 use Rattle.cmark_blocks.specs.declared.state.Pass.{Pass}
 use Rattle.cmark_blocks.specs.Shown.{shown_siblings, ShowsContainers}
 
--- a stretch of the text as a piece of it
-abbrev pub shown_stretch : List ℕ → Stretch → Piece
-shown_stretch text s = record { owned = false; bytes = slice text s.start s.end; start = s.start; end = s.end }
+-- the line stands in the text, and tells its bytes
+pub record IsRead (text : List ℕ) (rest : LineRest) : Type 0 where
+  pub placed : IsIn text rest
+  pub told : AreTold text (row_of rest).columns
 
 abbrev pub IsFence : Fence → (mark size indent : ℕ) → Type 0
 IsFence fence mark size indent = (fence.mark ≡ mark) × (fence.size ≡ size) × (fence.indented ≡ indent)
@@ -33,15 +35,24 @@ abbrev pub ShowsLeaf : List ℕ → OpenLeaf → List LineRest → model.OpenLea
 ShowsLeaf text leaf.Closed blanks m = (m ≡ model.Closed) × (blanks ≡ [])
 ShowsLeaf text (leaf.Paragraph last) blanks m = (m ≡ model.InParagraph (row_of last)) × (blanks ≡ [])
 ShowsLeaf text (leaf.Definition left) blanks m = (m ≡ model.InDefinition left) × (blanks ≡ [])
-ShowsLeaf text (leaf.Indented waits end) blanks m = m ≡ model.InIndented (option_map (shown_stretch text) waits) end (map row_of blanks)
+ShowsLeaf text (leaf.Indented waits end) blanks m = m ≡ model.InIndented (shown_waits text waits) end (map row_of blanks)
 ShowsLeaf text (leaf.Fenced mark size indent waits) blanks m =
-    (fence : Fence) × IsFence fence mark size indent × (m ≡ model.InFenced fence (option_map (shown_stretch text) waits)) × (blanks ≡ [])
+    (fence : Fence) × IsFence fence mark size indent × (m ≡ model.InFenced fence (shown_waits text waits)) × (blanks ≡ [])
 ShowsLeaf text (leaf.Html kind) blanks m = (m ≡ model.InHtml (kind_number kind)) × (blanks ≡ [])
+
+-- fenced code with this stretch that waits, or HTML, where none does
+abbrev pub IsVerbatim : OpenLeaf → Option Stretch → Type 0
+IsVerbatim leaf.Closed waits = ⊥
+IsVerbatim (leaf.Paragraph last) waits = ⊥
+IsVerbatim (leaf.Definition left) waits = ⊥
+IsVerbatim (leaf.Indented others end) waits = ⊥
+IsVerbatim (leaf.Fenced mark size indent others) waits = waits ≡ others
+IsVerbatim (leaf.Html kind) waits = waits ≡ None
 
 -- the lines of the open leaf stand in the text
 abbrev pub LeafIsIn : List ℕ → OpenLeaf → Type 0
 LeafIsIn text leaf.Closed = Unit {0}
-LeafIsIn text (leaf.Paragraph last) = IsIn text last
+LeafIsIn text (leaf.Paragraph last) = IsRead text last
 LeafIsIn text (leaf.Definition left) = Unit {0}
 LeafIsIn text (leaf.Indented waits end) = Unit {0}
 LeafIsIn text (leaf.Fenced mark size indent waits) = Unit {0}
@@ -53,7 +64,7 @@ module _ {E : Type 0} where
     pub placed : IsPlaced pass.builder.tree
     pub begins : IsCharBoundary pass.text.now pass.past
     pub leaf : LeafIsIn pass.text.now pass.leaf
-    pub blanks : All (IsIn pass.text.now) pass.blank_lines.items
+    pub blanks : All (IsRead pass.text.now) pass.blank_lines.items
 
 abbrev pub shown_reference : Reference → ShownDefinition
 shown_reference r = record { destination = r.destination; title = r.title; start = r.start; end = r.end }

@@ -1,6 +1,6 @@
 -- What a call of the block pass does to the state of its model.
 use Rattle.std.specs.Prelude.{◌≡◌, ℕ, List, [], ◌∷◌, ◌++◌, length}
-use Rattle.cmark_block_model.specs.BlockPass.{container_closed, containers_closed, paragraph_begun}
+use Rattle.cmark_block_model.specs.BlockPass.{container_closed, containers_closed, paragraph_begun, leaf_closed}
 use Rattle.cmark_lines.specs.Rests.{row_of}
 use Rattle.cmark_lines.specs.declared.line_rest.LineRest.{LineRest}
 use Rattle.cmark_grammar.specs.Answers.{Lookup}
@@ -41,3 +41,8 @@ module _ {E : Type 0} (replacement : E → Lookup) where
   abbrev pub BeginsParagraph : LineRest → Pass E → Pass E → Type 0
   BeginsParagraph rest old new =
       (text : List ℕ) (options : Options) (lookup : Lookup) (m : model.Pass) → Runs replacement text lookup m old → Runs replacement text lookup (paragraph_begun text options lookup (row_of rest) m) new
+
+  -- the leaf was closed
+  abbrev pub ClosesLeaf : Pass E → Pass E → Type 0
+  ClosesLeaf old new =
+      (text : List ℕ) (options : Options) (lookup : Lookup) (m : model.Pass) → Runs replacement text lookup m old → Runs replacement text lookup (leaf_closed text options lookup m) new

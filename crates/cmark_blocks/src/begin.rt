@@ -16,13 +16,13 @@ use std::alloc::AllocError;
 
 impl<'a, E: EntityLookup> Pass<'a, E> {
     ghost use Rattle.std.specs.Prelude.{[]};
-    ghost use Rattle.cmark_blocks.specs.Runs.{Runs, IsGood};
+    ghost use Rattle.cmark_blocks.specs.Runs.{Runs, IsGood, IsRead};
     ghost use Rattle.cmark_blocks.specs.Steps.{BeginsParagraph};
 
     /// A paragraph begins on a line, with no leaf open.
     pub(crate) fn begin_paragraph(&mut self, rest: LineRest<'a>) -> Result<(), AllocError>
         requires good { IsGood self.old }
-        requires placed { IsIn self.old.text.now rest }
+        requires placed { IsRead self.old.text.now rest }
         requires alone { self.old.blank_lines.items ≡ [] }
         ensures good { IsGood self.new }
         ensures runs { OnOk result (BeginsParagraph E.replacement rest.entry self.old self.new) }

@@ -5,6 +5,7 @@
 mod ahead;
 mod begin;
 mod containers;
+mod leaf;
 mod pass;
 mod siblings;
 mod state;

@@ -4,18 +4,10 @@ ghost use Rattle.std.specs.Prelude.{◌≡◌, List, ℕ, IfOk};
 
 use crate::siblings::Siblings;
 use cmark_builder::Builder;
-use cmark_lines::{Container, LineRest};
+use cmark_leaves::Stretch;
+use cmark_lines::{Container, HtmlKind, LineRest};
 use cmark_text::EntityLookup;
 use std::alloc::{AllocError, Global};
-
-/// A stretch of the text, from one byte offset to before another, that is no node yet.
-#[derive(Clone, Copy, Debug, PartialEq, Eq)]
-pub struct Stretch {
-    /// Where it begins.
-    pub start: usize,
-    /// Behind its last byte.
-    pub end: usize,
-}
 
 /// The leaf that is open, if one is.
 #[derive(Clone, Copy, Debug)]
@@ -31,7 +23,7 @@ pub(crate) enum OpenLeaf<'a> {
     /// Fenced code: its fence's character, size and indent, and the stretch of the text that waits.
     Fenced(u8, usize, usize, Option<Stretch>),
     /// HTML.
-    Html(cmark_lines::HtmlKind),
+    Html(HtmlKind),
 }
 
 /// An open container, with the siblings that it stands behind.

@@ -1,6 +1,7 @@
 use Rattle.std.proofs.Common.{refl, sym, ap, ◌∙◌, subst}
 use Rattle.cmark_grammar.specs.BlockDocument.{Paragraph}
-use Rattle.cmark_lines.specs.Rests.{IsIn, row_of}
+use Rattle.cmark_lines.specs.Rests.{row_of}
+use Rattle.cmark_blocks.specs.Runs.{IsRead}
 use Rattle.cmark_block_model.specs.BlockPass.{block_begun}
 use Rattle.cmark_block_model.specs.Drawing.{opened}
 use Rattle.cmark_block_model.specs.OpenBlocks as model
@@ -13,7 +14,7 @@ pub returns-clause-good : goal.returns-clause-good
 returns-clause-good g c = record {
   placed = c.open.ensures.placed;
   begins = c.begin_block.ensures.good.begins;
-  leaf = subst (λ t. IsIn t.now c.args.rest) (sym c.begin_block.ensures.text) c.requires.placed;
+  leaf = subst (λ t. IsRead t.now c.args.rest) (sym c.begin_block.ensures.text) c.requires.placed;
   blanks = c.begin_block.ensures.good.blanks;
 }
 

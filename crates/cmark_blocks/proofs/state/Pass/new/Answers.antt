@@ -2,7 +2,7 @@ use Rattle.std.proofs.Common.{[], sym, subst, arith}
 use Rattle.std.specs.Prelude.{All}
 use Rattle.std.proofs.lemmas.Str.{IsCharBoundary-start}
 use Rattle.cmark_tree.specs.Forest.{Nil}
-use Rattle.cmark_lines.specs.Rests.{IsIn}
+use Rattle.cmark_blocks.specs.Runs.{IsRead}
 use Rattle.cmark_builder.proofs.BuilderSteps.{at-place}
 use Rattle.cmark_blocks.proofs.state.Pass.new.Goals as goal
 
@@ -11,5 +11,5 @@ returns-clause-good g c = record {
   placed = at-place c.in_ok-new.field-0.tree Nil [] c.in_ok-new.ensures.tree;
   begins = IsCharBoundary-start c.args.text.now c.utf8.text;
   leaf = tt;
-  blanks = subst (All (IsIn c.args.text.now)) (sym c.new-3.ensures.items) (λ k d lt. absurd (omega (arith, lt)));
+  blanks = subst (All (IsRead c.args.text.now)) (sym c.new-3.ensures.items) (λ k d lt. absurd (omega (arith, lt)));
 }

@@ -1,0 +1,95 @@
+//! The open leaf, and the lines that go on with it (CommonMark 4).
+
+ghost use Rattle.std.specs.Prelude.{◌≡◌, List, ℕ, OnOk, map};
+ghost use Rattle.cmark_block_model.specs.BlockPass.{is_some};
+ghost use Rattle.cmark_lines.specs.Rests.{row_of};
+
+use crate::state::{OpenLeaf, Pass};
+use cmark_leaves::{Stretch, draw_last_line, draw_stretch};
+use cmark_lines::LineRest;
+use cmark_text::EntityLookup;
+use std::alloc::AllocError;
+
+/// Whether there is a line.
+fn has_lines(lines: &[LineRest<'_>]) -> bool
+    ensures { result ≡ is_some (map row_of lines.now) }
+{
+    match lines {
+        [] => false,
+        [_, ..] => true,
+    }
+}
+
+impl<'a, E: EntityLookup> Pass<'a, E> {
+    ghost use Rattle.std.specs.Prelude.{[]};
+    ghost use Rattle.cmark_blocks.specs.declared.state.OpenLeaf.TheVariants as leaf;
+    ghost use Rattle.cmark_blocks.specs.Runs.{IsGood, IsRead, IsVerbatim};
+    ghost use Rattle.cmark_blocks.specs.Steps.{ClosesLeaf};
+
+    /// Closes a paragraph, whose last line this is.
+    fn close_paragraph(&mut self, last: LineRest<'a>) -> Result<(), AllocError>
+        requires good { IsGood self.old }
+        requires line { IsRead self.old.text.now last }
+        requires is { self.old.leaf ≡ leaf.Paragraph last }
+        ensures good { IsGood self.new }
+        ensures runs { OnOk result (ClosesLeaf E.replacement self.old self.new) }
+    {
+        draw_last_line(
+            &mut self.builder,
+            self.alloc,
+            self.text,
+            last,
+            self.entities,
+        )?;
+        self.builder.close(self.past);
+        self.leaf = OpenLeaf::Closed;
+        Ok(())
+    }
+
+    /// Closes indented code at the end of its last line. Blank lines behind it are none of it.
+    fn close_indented(&mut self, waits: Option<Stretch>, end: usize) -> Result<(), AllocError>
+        requires good { IsGood self.old }
+        requires is { self.old.leaf ≡ leaf.Indented waits end }
+        ensures good { IsGood self.new }
+        ensures runs { OnOk result (ClosesLeaf E.replacement self.old self.new) }
+    {
+        draw_stretch(&mut self.builder, waits)?;
+        self.builder.close(end);
+        self.inner.blank = has_lines(&self.blank_lines);
+        self.blank_lines.clear();
+        self.leaf = OpenLeaf::Closed;
+        Ok(())
+    }
+
+    /// Closes fenced code, or HTML, where the last line ended.
+    fn close_verbatim(&mut self, waits: Option<Stretch>) -> Result<(), AllocError>
+        requires good { IsGood self.old }
+        requires is { IsVerbatim self.old.leaf waits }
+        ensures good { IsGood self.new }
+        ensures runs { OnOk result (ClosesLeaf E.replacement self.old self.new) }
+    {
+        draw_stretch(&mut self.builder, waits)?;
+        self.builder.close(self.past);
+        self.leaf = OpenLeaf::Closed;
+        Ok(())
+    }
+
+    /// Closes the leaf, if one is open.
+    pub(crate) fn close_leaf(&mut self) -> Result<(), AllocError>
+        requires { IsGood self.old }
+        ensures good { IsGood self.new }
+        ensures runs { OnOk result (ClosesLeaf E.replacement self.old self.new) }
+    {
+        match self.leaf {
+            OpenLeaf::Closed => Ok(()),
+            OpenLeaf::Paragraph(last) => self.close_paragraph(last),
+            OpenLeaf::Definition(_) => {
+                self.leaf = OpenLeaf::Closed;
+                Ok(())
+            }
+            OpenLeaf::Indented(waits, end) => self.close_indented(waits, end),
+            OpenLeaf::Fenced(_, _, _, waits) => self.close_verbatim(waits),
+            OpenLeaf::Html(_) => self.close_verbatim(None),
+        }
+    }
+}

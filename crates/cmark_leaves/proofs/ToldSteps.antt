@@ -1,0 +1,67 @@
+-- The lines of a text tell its bytes, also without their prefixes.
+use Rattle.std.proofs.Common.{◌≡◌, ℕ, zero, suc, ◌+◌, ◌-◌, ◌≤◌, Bool, true, false, ◌==◌, List, [], ◌∷◌, ◌++◌, length, length-drop, drop, refl, sym, ap, ◌∙◌, subst, arith, append_assoc, drop-drop, Some}
+use Rattle.std.specs.Prelude.{if◌then◌else◌}
+use Rattle.cmark_grammar.specs.Columns.{Column, tab, expand, tab_columns, to_tab_stop}
+use Rattle.cmark_grammar.specs.Containers.{Container, keeps, enter, width_of}
+use Rattle.cmark_grammar.specs.Lines.{lines, content}
+use Rattle.cmark_grammar.specs.Rows.{Row, row_at, without}
+use Rattle.cmark_grammar.proofs.BoundaryLaws.{joined, lines-ended, content-cut}
+use Rattle.cmark_grammar.proofs.RowPlaces.{kept-without}
+use Rattle.cmark_leaves.specs.Told.{AreTold}
+use Rattle.cmark_leaves.proofs.ColumnCuts.{drop-told}
+
+tab-told : (text : List ℕ) (at part n : ℕ) (rest : List Column) → drop at text ≡ tab ∷ drop (suc at) text → AreTold text rest → AreTold text (tab_columns at part n ++ rest)
+tab-told text at part zero rest e t = t
+tab-told text at part (suc n) rest e t = ((λ q. e), tab-told text at (suc part) n rest e t)
+
+pub expand-told : (text : List ℕ) (column at : ℕ) (bs after : List ℕ) → drop at text ≡ bs ++ after → AreTold text (expand column at bs)
+expand-told text column at [] after e = tt
+expand-told text column at (b ∷ bs) after e =
+    go (b == tab) refl (expand-told text (column + to_tab_stop column) (suc at) bs after next) (expand-told text (suc column) (suc at) bs after next)
+  where
+    next : drop (suc at) text ≡ bs ++ after
+    next = ap (λ n. drop n text) (let s : suc at ≡ at + 1 = omega arith in s) ∙ sym (drop-drop 1 at text) ∙ ap (drop 1) e
+
+    is : drop at text ≡ b ∷ drop (suc at) text
+    is = e ∙ ap (λ l. b ∷ l) (sym next)
+
+    same : (a b : ℕ) → (a == b) ≡ true → a ≡ b
+    same a b e = grind (arith)
+
+    go : (z : Bool) → (b == tab) ≡ z → AreTold text (expand (column + to_tab_stop column) (suc at) bs) → AreTold text (expand (suc column) (suc at) bs) →
+        AreTold text (if z then tab_columns at 0 (to_tab_stop column) ++ expand (column + to_tab_stop column) (suc at) bs else record { byte = b; at = at; part = 0 } ∷ expand (suc column) (suc at) bs)
+    go true q p r = tab-told text at 0 (to_tab_stop column) (expand (column + to_tab_stop column) (suc at) bs) (is ∙ ap (λ c. c ∷ drop (suc at) text) (same b tab q)) p
+    go false q p r = ((λ x. is), r)
+
+-- a whole line
+pub row-told : (text : List ℕ) (at : ℕ) (line : List ℕ) (more : List (List ℕ)) → lines (drop at text) ≡ line ∷ more → AreTold text (row_at at line).columns
+row-told text at line more is =
+    expand-told text 0 at (content line) (drop (length (content line)) line ++ joined more)
+    (sym (lines-ended (drop at text)).1 ∙ ap joined is ∙ ap (λ l. l ++ joined more) (sym (content-cut line)) ∙ append_assoc (content line) (drop (length (content line)) line) (joined more))
+
+-- without columns in front
+pub without-told : (text : List ℕ) (n : ℕ) (r : Row) → AreTold text r.columns → AreTold text (without n r).columns
+without-told text n r t = drop-told text n r.columns t
+
+-- behind the prefix of a container that keeps the line, or that begins on it
+pub keeps-told : (text : List ℕ) (k : Container) (bare : Bool) (r s : Row) → keeps k bare r ≡ Some s → AreTold text r.columns → AreTold text s.columns
+keeps-told text k bare r s is t =
+    let w = kept-without k bare r s is in
+    let n : ℕ = w.0 in
+    let q : without n r ≡ s = w.1 in
+    subst (λ x. AreTold text x.columns) q (drop-told text n r.columns t)
+
+pub enter-told : (text : List ℕ) (k : Container) (r : Row) → AreTold text r.columns → AreTold text (enter k r).columns
+unfolding enter
+enter-told text k r t = drop-told text (width_of k r) r.columns t
+
+-- the line that begins at a place of the text
+pub line-told : (text : List ℕ) (at : ℕ) (r : Row) → at ≤ length text → ((line : List ℕ) (more : List (List ℕ)) → lines (drop at text) ≡ line ∷ more → r ≡ row_at at line) → (at ≡ length text → r.columns ≡ []) → AreTold text r.columns
+line-told text at r le line none = go (lines (drop at text)) refl
+  where
+    go : (ls : List (List ℕ)) → lines (drop at text) ≡ ls → AreTold text r.columns
+    go [] e =
+        let bare : drop at text ≡ [] = sym (lines-ended (drop at text)).1 ∙ ap joined e in
+        let len : length text - at ≡ 0 = sym (length-drop at text) ∙ ap length bare in
+        subst (AreTold text) (sym (none (omega (arith, le, len)))) tt
+    go (l ∷ ls) e = subst (λ x. AreTold text x.columns) (sym (line l ls e)) (row-told text at l ls e)

@@ -1,0 +1,4 @@
+pub mod Breaks
+pub mod Closings
+pub mod Stretches
+pub mod Told

@@ -1,0 +1,83 @@
+//! The text of ATX headings (CommonMark 4.2).
+
+ghost use Rattle.std.specs.Prelude.{◌≡◌, ◌≤◌, length, OnOk};
+ghost use Rattle.std.specs.List.{take_while};
+ghost use Rattle.cmark_tree.specs.Building.{IsPlaced};
+ghost use Rattle.cmark_items.specs.Tables.{tables};
+ghost use Rattle.cmark_grammar.specs.Columns.{is_blank_byte};
+ghost use Rattle.cmark_grammar.specs.Leaves.{run};
+ghost use Rattle.cmark_grammar.specs.Rows.{words_of};
+ghost use Rattle.cmark_grammar.specs.Tokens.{heading_tokens};
+ghost use Rattle.cmark_block_model.specs.Drawing.{Drawing, drawn};
+ghost use Rattle.cmark_builder.specs.Drawn.{Draws};
+ghost use Rattle.cmark_lines.specs.Rests.{row_of, IsIn};
+ghost use Rattle.cmark_leaves.specs.Closings.{behind_opening, without_closing_bytes};
+ghost use Rattle.cmark_leaves.specs.Told.{AreTold};
+
+use crate::pieces::draw_pieces;
+use crate::trailing::{is_blank, without_trailing, without_trailing_blanks};
+use cmark_builder::Builder;
+use cmark_lines::LineRest;
+use cmark_text::EntityLookup;
+use std::alloc::{AllocError, Global};
+
+/// How many `#` stand in front.
+fn count_hashes(bytes: &[u8]) -> usize
+    ensures value { result ≡ run 35 bytes.now }
+    ensures within { result ≤ length bytes.now }
+{
+    bytes.iter().take_while(|byte| **byte == b'#').count()
+}
+
+/// How many spaces and tabs stand in front.
+fn count_blanks(bytes: &[u8]) -> usize
+    ensures value { result ≡ length (take_while is_blank_byte bytes.now) }
+    ensures within { result ≤ length bytes.now }
+{
+    bytes.iter().take_while(|byte| is_blank(**byte)).count()
+}
+
+/// What stands behind an opening sequence and the blanks there.
+fn behind_opening(words: &[u8]) -> &[u8]
+    ensures { result.now ≡ behind_opening words.now }
+{
+    let behind = &words[count_hashes(words)..];
+    &behind[count_blanks(behind)..]
+}
+
+/// Without a closing sequence: `#` at the end, alone or behind a blank.
+fn without_closing(bytes: &[u8]) -> &[u8]
+    ensures value { result.now ≡ without_closing_bytes bytes.now }
+    ensures within { length result.now ≤ length bytes.now }
+{
+    let before = without_trailing(bytes, b'#');
+    let trimmed = without_trailing_blanks(before);
+    if before.is_empty() || trimmed.len() < before.len() {
+        trimmed
+    } else {
+        bytes
+    }
+}
+
+/// The text of an ATX heading, without the opening sequence, the closing one and the blanks at both ends, as nodes behind the last
+/// sibling. Escapes and entities are resolved. Where memory is refused, a part of the nodes may stand there.
+pub fn draw_heading<'a, E: EntityLookup>(
+    builder: &mut Builder<'a>,
+    alloc: Global,
+    text: &'a str,
+    rest: LineRest<'a>,
+    entities: &'a E,
+) -> Result<(), AllocError>
+    requires placed { IsPlaced builder.old.tree }
+    requires line { IsIn text.now rest }
+    requires told { AreTold text.now (row_of rest).columns }
+    ensures placed { IsPlaced builder.new.tree }
+    ensures drawn { OnOk result ((d : Drawing) → Draws text.now builder.old d
+        → Draws text.now builder.new (drawn (heading_tokens (E.replacement entities.now) (run 35 (words_of (row_of rest.entry))) (row_of rest.entry)) d)) }
+    ensures references { (tables builder.new.allocations).references ≡ (tables builder.old.allocations).references }
+{
+    let behind = behind_opening(rest.words());
+    let content = without_closing(without_trailing_blanks(behind));
+    let from = rest.stop() - behind.len();
+    draw_pieces(builder, alloc, text, from, from + content.len(), entities)
+}

@@ -1,0 +1,81 @@
+//! Lines as they are in the text: stretches of it, and the spaces that are left of a tab.
+
+ghost use Rattle.std.specs.Prelude.{◌≡◌, ◌≤◌, ◌<◌, ℕ, List, [], replicate, OnOk};
+ghost use Rattle.cmark_tree.specs.Building.{IsPlaced};
+ghost use Rattle.cmark_items.specs.Tables.{tables};
+ghost use Rattle.cmark_grammar.specs.BlockDocument.{OwnedText, Nil, Node, node};
+ghost use Rattle.cmark_grammar.specs.Rows.{begin_of};
+ghost use Rattle.cmark_grammar.specs.Tokens.{piece_if, plain_line};
+ghost use Rattle.cmark_block_model.specs.Drawing.{Drawing, drawn};
+ghost use Rattle.cmark_builder.specs.Drawn.{Draws};
+ghost use Rattle.cmark_lines.specs.Rests.{row_of};
+
+use cmark_builder::Builder;
+use cmark_items::ItemBody;
+use cmark_lines::LineRest;
+use cmark_text::CowStr;
+use std::alloc::AllocError;
+
+/// A stretch of the text, from one byte offset to before another.
+#[derive(Clone, Copy, Debug, PartialEq, Eq)]
+pub struct Stretch {
+    /// Where it begins.
+    pub start: usize,
+    /// Behind its last byte.
+    pub end: usize,
+    ghost ordered: { start ≤ end },
+}
+
+/// The bytes of a line as they are, in two stretches, either of which may be empty: of a line ending of CR LF the CR is in neither.
+pub(crate) fn stretches_of(rest: LineRest<'_>) -> (Stretch, Stretch)
+    ensures { (text : List ℕ) → piece_if text result.0.start result.0.end (piece_if text result.1.start result.1.end [])
+        ≡ plain_line text (begin_of (row_of rest.entry)) (row_of rest.entry) }
+{
+    let (start, stop, past) = (rest.begin(), rest.stop(), rest.past());
+    if past - stop == 2 {
+        let content = Stretch { start, end: stop };
+        let line_feed = Stretch {
+            start: stop + 1,
+            end: past,
+        };
+        return (content, line_feed);
+    }
+    let line = Stretch { start, end: past };
+    let none = Stretch {
+        start: past,
+        end: past,
+    };
+    (line, none)
+}
+
+/// So many spaces, 3 at most.
+fn spaces(count: usize) -> &'static str
+    requires { count ≤ 3 }
+    ensures { result.now ≡ replicate count 32 }
+{
+    match count {
+        0 => "",
+        1 => " ",
+        2 => "  ",
+        _ => "   ",
+    }
+}
+
+/// Spaces that stand for the columns left of a tab, as a node behind the last sibling: 1 to 3 of them, at this place.
+pub(crate) fn draw_spaces(
+    builder: &mut Builder<'_>,
+    count: usize,
+    at: usize,
+) -> Result<(), AllocError>
+    requires placed { IsPlaced builder.old.tree }
+    requires count { count ≤ 3 }
+    ensures placed { IsPlaced builder.new.tree }
+    ensures drawn { OnOk result ((text : List ℕ) (d : Drawing) → Draws text builder.old d
+        → Draws text builder.new (drawn (Node (node (OwnedText (replicate count 32)) at at) Nil Nil) d)) }
+    ensures references { (tables builder.new.allocations).references ≡ (tables builder.old.allocations).references }
+{
+    let spaces = builder
+        .allocations
+        .allocate_cow(CowStr::Borrowed(spaces(count)))?;
+    builder.add(at, at, ItemBody::SynthesizeText(spaces))
+}

@@ -1,0 +1,118 @@
+// Lines of leaves, drawn from the beginning of a document: what the last node is then. The texts are of CommonMark 2.2, 2.5, 4.6
+// and 6.7.
+
+ghost use Rattle.cmark_lines.specs.Rests.{row_of, IsIn};
+ghost use Rattle.cmark_tree.specs.Building.{IsPlaced};
+ghost use Rattle.cmark_leaves.specs.Told.{AreTold};
+
+use crate::{
+    Stretch, draw_code_line, draw_heading, draw_html_line, draw_last_line, draw_line, draw_stretch,
+};
+use cmark_builder::Builder;
+use cmark_items::{Item, ItemBody};
+use cmark_lines::LineRest;
+use cmark_text::BasicEntities;
+use std::test::Fail;
+
+/// The first line of a text.
+fn first_line(text: &str) -> LineRest<'_>
+    ensures line { IsIn text.entry.now result }
+    ensures told { AreTold text.entry.now (row_of result).columns }
+{
+    LineRest::new(text.as_bytes(), 0)
+}
+
+/// The node that was drawn last.
+fn last_item(builder: Builder<'_>) -> Option<Item>
+    requires { IsPlaced builder.tree }
+{
+    let (tree, _) = builder.finish();
+    let ix = tree.cur()?;
+    Some(*tree.item(ix))
+}
+
+fn item(start: usize, end: usize, body: ItemBody) -> Option<Item> {
+    Some(Item { start, end, body })
+}
+
+const TEXT: ItemBody = ItemBody::Text {
+    backslash_escaped: false,
+};
+
+#[test]
+fn an_entity_parts_the_text(rt: HostRuntime) -> Result<(), Fail> {
+    let mut builder = Builder::new(rt.alloc())?;
+    let text = " a\\* &amp; b \n";
+    draw_last_line(
+        &mut builder,
+        rt.alloc(),
+        text,
+        first_line(text),
+        &BasicEntities,
+    )?;
+    assert_eq!(rt; last_item(builder), item(10, 12, TEXT));
+    Ok(())
+}
+
+#[test]
+fn two_spaces_break_a_line(rt: HostRuntime) -> Result<(), Fail> {
+    let mut builder = Builder::new(rt.alloc())?;
+    let text = "foo  \nbaz";
+    draw_line(
+        &mut builder,
+        rt.alloc(),
+        text,
+        first_line(text),
+        &BasicEntities,
+    )?;
+    assert_eq!(rt; last_item(builder), item(3, 6, ItemBody::HardBreak(false)));
+    Ok(())
+}
+
+#[test]
+fn a_backslash_breaks_a_line(rt: HostRuntime) -> Result<(), Fail> {
+    let mut builder = Builder::new(rt.alloc())?;
+    let text = "foo\\\nbaz";
+    draw_line(
+        &mut builder,
+        rt.alloc(),
+        text,
+        first_line(text),
+        &BasicEntities,
+    )?;
+    assert_eq!(rt; last_item(builder), item(3, 5, ItemBody::HardBreak(true)));
+    Ok(())
+}
+
+#[test]
+fn a_closing_sequence_is_no_text(rt: HostRuntime) -> Result<(), Fail> {
+    let mut builder = Builder::new(rt.alloc())?;
+    let text = "## foo \\# ##  \n";
+    draw_heading(
+        &mut builder,
+        rt.alloc(),
+        text,
+        first_line(text),
+        &BasicEntities,
+    )?;
+    assert_eq!(rt; last_item(builder), item(8, 9, TEXT));
+    Ok(())
+}
+
+#[test]
+fn a_line_of_code_waits(rt: HostRuntime) -> Result<(), Fail> {
+    let mut builder = Builder::new(rt.alloc())?;
+    let waits = draw_code_line(&mut builder, first_line("\tfoo\r\n"), 2, None)?;
+    assert_eq!(rt; waits, Some(Stretch { start: 5, end: 6 }));
+    draw_stretch(&mut builder, waits)?;
+    assert_eq!(rt; last_item(builder), item(5, 6, TEXT));
+    Ok(())
+}
+
+#[test]
+fn a_line_of_html_is_a_node(rt: HostRuntime) -> Result<(), Fail> {
+    let mut builder = Builder::new(rt.alloc())?;
+    draw_html_line(&mut builder, first_line("<table>\n"))?;
+    assert_eq!(rt; last_item(builder), item(0, 8, ItemBody::Html));
+    Ok(())
+}

@@ -1,0 +1,44 @@
+//! What stands at the end of bytes.
+
+ghost use Rattle.std.specs.Prelude.{◌≡◌, ◌==◌, ◌≤◌, length, reverse};
+ghost use Rattle.cmark_grammar.specs.Columns.{is_blank_byte, drop_end};
+ghost use Rattle.cmark_grammar.specs.Leaves.{run};
+
+/// Whether a byte is a space or a tab.
+#[inline]
+pub(crate) fn is_blank(byte: u8) -> bool
+    ensures { result ≡ is_blank_byte byte }
+{
+    byte == b' ' || byte == b'\t'
+}
+
+/// Without the spaces and tabs at the end.
+pub(crate) fn without_trailing_blanks(bytes: &[u8]) -> &[u8]
+    ensures value { result.now ≡ drop_end is_blank_byte bytes.now }
+    ensures within { length result.now ≤ length bytes.now }
+{
+    let mut len = bytes.len();
+    while len > 0 && is_blank(bytes[len - 1]) {
+        len -= 1;
+    }
+    &bytes[..len]
+}
+
+/// Without the bytes at the end that are this one.
+pub(crate) fn without_trailing(bytes: &[u8], one: u8) -> &[u8]
+    ensures value { result.now ≡ drop_end (λ byte. byte == one) bytes.now }
+    ensures within { length result.now ≤ length bytes.now }
+{
+    let mut len = bytes.len();
+    while len > 0 && bytes[len - 1] == one {
+        len -= 1;
+    }
+    &bytes[..len]
+}
+
+/// How many times this byte stands at the end.
+pub(crate) fn count_trailing(bytes: &[u8], one: u8) -> usize
+    ensures { result ≡ run one (reverse bytes.now) }
+{
+    bytes.len() - without_trailing(bytes, one).len()
+}
