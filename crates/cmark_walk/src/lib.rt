@@ -1,0 +1,8 @@
+//! From the tree of a document to its events, in preorder.
+#![tactic(auto)]
+
+mod reading;
+mod walk;
+
+pub use reading::Ranged;
+pub use walk::Walk;
