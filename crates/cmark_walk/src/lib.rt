@@ -2,6 +2,8 @@
 #![tactic(auto)]
 
 mod reading;
+#[cfg(test)]
+mod tests;
 mod walk;
 
 pub use reading::Ranged;
