@@ -1,0 +1,160 @@
+-- A step of a walk from behind the last sibling past the parent.
+use Rattle.std.proofs.Common.{◌≡◌, ℕ, List, [], ◌∷◌, ◌++◌, Option, Some, None, refl, sym, ap, ◌∙◌, subst}
+use Rattle.std.proofs.lemmas.Option.{same_Some}
+use Rattle.cmark_tree.specs.declared.tree.Tree.{Tree}
+use Rattle.cmark_tree.specs.declared.tree_index.TreeIndex.{TreeIndex}
+use Rattle.cmark_tree.specs.Forest.{Forest, Nil, Node}
+use Rattle.cmark_tree.specs.Arena.{first, Placed}
+use Rattle.cmark_tree.specs.Zip.{Level, Zip, siblings, popped, pop_to, past, Sibling}
+use Rattle.cmark_tree.specs.Tree.{entry_at, Holds, HasNode, IsAtSibling, focus_of, parent_of}
+use Rattle.cmark_tree.proofs.Steps.{in_right}
+use Rattle.cmark_tree.proofs.Entries.{node_at-within}
+use Rattle.cmark_text.specs.declared.event.Event.TheVariants as text_event
+use Rattle.cmark_text.specs.declared.event.TagEnd.{TagEnd as TextEnd}
+use Rattle.cmark_text.specs.Shown.{shown_end}
+use Rattle.cmark_grammar.specs.TagEnd.{TagEnd, end_of}
+use Rattle.cmark_grammar.specs.Event as event
+use Rattle.cmark_grammar.specs.BlockDocument as document
+use Rattle.cmark_grammar.specs.BlockDocument.{BlockNode, BlockDocument}
+use Rattle.cmark_grammar.specs.BlockReading as reads
+use Rattle.cmark_grammar.specs.BlockReading.{Reads, read_as, over, block_reading}
+use Rattle.cmark_grammar.specs.DrawnDocument.{kind_within}
+use Rattle.cmark_items.specs.declared.item.Item.{Item}
+use Rattle.cmark_walk.specs.declared.walk.Walk.{Walk}
+use Rattle.cmark_walk.specs.declared.reading.Step.{Step}
+use Rattle.cmark_walk.specs.Reads.{end_in}
+use Rattle.cmark_walk.specs.Walking.{Drawn, Draws, DrawsAbove, Outer, StandsBelow, StandsAt, Remains, Goes, GivesStep, GivesRanged, left_from, leaving, tight_below, texts_of}
+use Rattle.cmark_walk.proofs.WalkSteps.{moved, over-range, gives-step, IsItem}
+
+-- behind the last of the siblings, with a parent
+pub record Behind (walk : Walk) (ix : TreeIndex) (z : Zip Item) (here : BlockDocument) (above : List Outer) : Type 0 where
+  pub level : Level Item
+  pub up : List (Level Item)
+  pub parent : Outer
+  pub outer : List Outer
+  pub up_is : z.up ≡ level ∷ up
+  pub here_is : here ≡ document.Nil
+  pub above_is : above ≡ parent ∷ outer
+  pub at : level.place.ix ≡ ix.ix
+  pub drawn : Drawn walk.text.now (texts_of walk) level.place.item parent.node
+  pub draws : Draws walk.text.now (texts_of walk) level.right parent.after
+  pub draws_above : DrawsAbove walk.text.now (texts_of walk) up outer
+
+here-none : (text : List ℕ) (texts : _) (right : Forest (Placed Item)) (here : BlockDocument) → Draws text texts right here → focus_of right ≡ None → here ≡ document.Nil
+here-none text texts Nil document.Nil d e = refl
+here-none text texts Nil (document.Node node inside after) d e = absurd d
+here-none text texts (Node p f g) here d e = absurd (let q : Some (record { ix = p.ix }) ≡ None = e in cc)
+
+behind-split : (walk : Walk) (ix : TreeIndex) (z : Zip Item) (here : BlockDocument) (ups : List (Level Item)) (above : List Outer) → z.up ≡ ups → here ≡ document.Nil → DrawsAbove walk.text.now (texts_of walk) ups above → Some ix ≡ parent_of ups → Behind walk ix z here above
+behind-split walk ix z here [] above u h d p = absurd (let q : Some ix ≡ None = p in cc)
+behind-split walk ix z here (v ∷ up) [] u h d p = absurd d
+behind-split walk ix z here (v ∷ up) (o ∷ outer) u h d p = record {
+  level = v;
+  up = up;
+  parent = o;
+  outer = outer;
+  up_is = u;
+  here_is = h;
+  above_is = refl;
+  at = sym (ap (λ k. k.ix) (same_Some ix (record { ix = v.place.ix }) p));
+  drawn = d.0;
+  draws = d.1;
+  draws_above = d.2;
+}
+
+abbrev pub IsNone-at : Walk → Type 0
+IsNone-at walk = (z : Zip Item) → Holds walk.tree z → focus_of z.right ≡ None
+
+abbrev pub IsParent-at : Walk → TreeIndex → Type 0
+IsParent-at walk ix = (z : Zip Item) → Holds walk.tree z → Some ix ≡ parent_of z.up
+
+pub behind : (walk : Walk) (ix : TreeIndex) (z : Zip Item) (here : BlockDocument) (above : List Outer) → StandsAt walk z here above → IsNone-at walk → IsParent-at walk ix → Behind walk ix z here above
+behind walk ix z here above s n p =
+    behind-split walk ix z here z.up above refl (here-none walk.text.now (texts_of walk) z.right here s.draws (n z s.below.holds)) s.below.draws_above (p z s.below.holds)
+
+-- the end of a node
+leaving-some : (end : TagEnd) (R : Reads) (node : BlockNode) → Some end ≡ end_in R → leaving R node ≡ over node (event.End end) ∷ []
+leaving-some end (reads.Around tag) node e = ap (λ x. over node (event.End x) ∷ []) (sym (same_Some end (end_of tag) e))
+leaving-some end reads.Inside node e = absurd (let q : Some end ≡ None = e in cc)
+leaving-some end (reads.Alone ev) node e = absurd (let q : Some end ≡ None = e in cc)
+leaving-some end reads.Silent node e = absurd (let q : Some end ≡ None = e in cc)
+
+leaving-none : (R : Reads) (node : BlockNode) → None ≡ end_in R → leaving R node ≡ []
+leaving-none (reads.Around tag) node e = absurd (let q : None ≡ Some (end_of tag) = e in cc)
+leaving-none reads.Inside node e = refl
+leaving-none (reads.Alone ev) node e = refl
+leaving-none reads.Silent node e = refl
+
+abbrev pub EndsAs : Walk → Item → Option TagEnd → Type 0
+EndsAs walk item end = (z : Zip Item) (above : List Outer) (node : BlockNode) → StandsBelow walk z above → Drawn walk.text.now (texts_of walk) item node → end ≡ end_in (read_as (kind_within (tight_below above) node.kind))
+
+module _ (walk : Walk) (ix : TreeIndex) (t : Tree Item) (none : IsNone-at walk) (parent : IsParent-at walk ix) (pop : (z : Zip Item) → Holds walk.tree z → Holds t (popped z)) where
+  abbrev pub over-parent : (z : Zip Item) (here : BlockDocument) (above : List Outer) → Behind walk ix z here above → Zip Item
+  over-parent z here above b = record { left = b.level.left; right = Node b.level.place (siblings z) b.level.right; up = b.up }
+
+  pub at-parent : (z : Zip Item) (here : BlockDocument) (above : List Outer) → StandsAt walk z here above → (b : Behind walk ix z here above) → StandsBelow (moved walk t) (over-parent z here above b) b.outer
+  at-parent z here above s b = record { holds = subst (λ u. Holds t (pop_to z u)) b.up_is (pop z s.below.holds); draws_above = b.draws_above }
+
+  parent-read : (z : Zip Item) (here : BlockDocument) (above : List Outer) → StandsAt walk z here above → (b : Behind walk ix z here above) → entry_at t ix.ix ≡ Some (record { item = b.level.place.item; child = first (siblings z); next = first b.level.right })
+  parent-read z here above s b =
+      let h = at-parent z here above s b in
+      let st = in_right t.nodes t.first (over-parent z here above b) h.holds.forest in
+      subst (λ k. entry_at t k ≡ Some (record { item = b.level.place.item; child = first (siblings z); next = first b.level.right })) b.at st.0
+
+  pub parent-number : Goes walk → HasNode t ix.ix
+  parent-number g =
+      let b = behind walk ix g.1.z g.1.here g.1.above g.1.stands none parent in
+      node_at-within t.nodes ix.ix _ (parent-read g.1.z g.1.here g.1.above g.1.stands b)
+
+  pub parent-below : Goes walk → (z : Zip Item) × (above : List Outer) × StandsBelow (moved walk t) z above
+  parent-below g =
+      let b = behind walk ix g.1.z g.1.here g.1.above g.1.stands none parent in
+      (over-parent g.1.z g.1.here g.1.above b, b.outer, at-parent g.1.z g.1.here g.1.above g.1.stands b)
+
+  abbrev parent-sibling : (z : Zip Item) (here : BlockDocument) (above : List Outer) (b : Behind walk ix z here above) → Sibling (over-parent z here above b) ix.ix
+  parent-sibling z here above b = record { left = b.level.left; place = b.level.place; inside = siblings z; after = b.level.right; split = refl; at = b.at }
+
+  pub parent-here : Goes walk → IsAtSibling t ix.ix
+  parent-here g =
+      let b = behind walk ix g.1.z g.1.here g.1.above g.1.stands none parent in
+      (over-parent g.1.z g.1.here g.1.above b, (at-parent g.1.z g.1.here g.1.above g.1.stands b).holds, parent-sibling g.1.z g.1.here g.1.above b)
+
+  module _ (item : Item) (t2 : Tree Item) (is : IsItem t ix item) (next : (z : Zip Item) (s : Sibling z ix.ix) → Holds t z → Holds t2 (past z ix.ix s)) where
+    drawn-item : (z : Zip Item) (here : BlockDocument) (above : List Outer) → StandsAt walk z here above → (b : Behind walk ix z here above) → Drawn walk.text.now (texts_of walk) item b.parent.node
+    drawn-item z here above s b = subst (λ k. Drawn walk.text.now (texts_of walk) k b.parent.node) (sym (is _ (parent-read z here above s b))) b.drawn
+
+    after-parent : (z : Zip Item) (here : BlockDocument) (above : List Outer) → StandsAt walk z here above → (b : Behind walk ix z here above) → Remains (moved walk t2) (left_from b.parent.after b.outer)
+    after-parent z here above s b = record {
+      z = past (over-parent z here above b) ix.ix (parent-sibling z here above b);
+      here = b.parent.after;
+      above = b.outer;
+      stands = record {
+        below = record { holds = next (over-parent z here above b) (parent-sibling z here above b) (at-parent z here above s b).holds; draws_above = b.draws_above };
+        draws = b.draws;
+      };
+      are = refl;
+    }
+
+    left-behind : (here : BlockDocument) (above : List Outer) (z : Zip Item) (b : Behind walk ix z here above) → left_from here above ≡ leaving (read_as (kind_within (tight_below b.outer) b.parent.node.kind)) b.parent.node ++ left_from b.parent.after b.outer
+    left-behind here above z b = ap (λ h. left_from h above) b.here_is ∙ ap (λ a. left_from document.Nil a) b.above_is
+
+    pub leaves-some : (end : TextEnd) (s : Step) → EndsAs (moved walk t) item (Some (shown_end end)) → GivesRanged (text_event.End end) item s → (events : List event.Ranged) → Remains walk events → GivesStep events s (moved walk t2)
+    leaves-some end s ends g events r =
+        let b = behind walk ix r.z r.here r.above r.stands none parent in
+        let d = drawn-item r.z r.here r.above r.stands b in
+        let e = ends (over-parent r.z r.here r.above b) b.outer b.parent.node (at-parent r.z r.here r.above r.stands b) d in
+        gives-step (text_event.End end) item s events (left_from b.parent.after b.outer) (moved walk t2) g
+        (r.are ∙ left-behind r.here r.above r.z b
+        ∙ ap (λ l. l ++ left_from b.parent.after b.outer) (leaving-some (shown_end end) (read_as (kind_within (tight_below b.outer) b.parent.node.kind)) b.parent.node e)
+        ∙ ap (λ x. x ∷ left_from b.parent.after b.outer) (over-range walk.text.now (texts_of walk) item b.parent.node (event.End (shown_end end)) d))
+        (after-parent r.z r.here r.above r.stands b)
+
+    pub leaves-none : EndsAs (moved walk t) item None → (events : List event.Ranged) → Remains walk events → Remains (moved walk t2) events
+    leaves-none ends events r =
+        let b = behind walk ix r.z r.here r.above r.stands none parent in
+        let d = drawn-item r.z r.here r.above r.stands b in
+        let e = ends (over-parent r.z r.here r.above b) b.outer b.parent.node (at-parent r.z r.here r.above r.stands b) d in
+        subst (Remains (moved walk t2))
+        (sym (r.are ∙ left-behind r.here r.above r.z b
+        ∙ ap (λ l. l ++ left_from b.parent.after b.outer) (leaving-none (read_as (kind_within (tight_below b.outer) b.parent.node.kind)) b.parent.node e)))
+        (after-parent r.z r.here r.above r.stands b)

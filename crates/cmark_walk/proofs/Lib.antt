@@ -1,0 +1,4 @@
+pub mod LeaveSteps
+pub mod NewSteps
+pub mod Paths
+pub mod WalkSteps

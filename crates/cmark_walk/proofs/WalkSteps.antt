@@ -1,0 +1,235 @@
+-- One step of a walk over a document's tree.
+use Rattle.std.proofs.Common.{◌≡◌, ℕ, List, [], ◌∷◌, ◌++◌, Option, Some, None, Result, Ok, Err, OnErr, option_map, refl, sym, ap, ◌∙◌, subst, append_assoc}
+use Rattle.std.proofs.lemmas.Option.{same_Some}
+use Rattle.cmark_tree.specs.declared.tree.Tree.{Tree}
+use Rattle.cmark_tree.specs.declared.tree_index.TreeIndex.{TreeIndex}
+use Rattle.cmark_tree.specs.Forest.{Forest, Nil, Node, join, one}
+use Rattle.cmark_tree.specs.Arena.{Entry, first, Stands, Placed}
+use Rattle.cmark_tree.specs.Zip.{Zip, pushed, push_to, past, Sibling, HasFocus, IsFocus}
+use Rattle.cmark_tree.specs.Tree.{entry_at, Holds, HasNode, IsUnchanged, focus_of}
+use Rattle.cmark_tree.proofs.Building.{Holds-unchanged}
+use Rattle.cmark_tree.proofs.Steps.{in_right}
+use Rattle.cmark_tree.proofs.Entries.{node_at-within}
+use Rattle.cmark_text.specs.declared.text.CowStr.{CowStr}
+use Rattle.cmark_text.specs.declared.event.Event.{Event as TextEvent}
+use Rattle.cmark_text.specs.declared.event.Event.TheVariants as text_event
+use Rattle.cmark_text.specs.declared.event.Tag.{Tag as TextTag}
+use Rattle.cmark_text.specs.Shown.{shown, shown_tag}
+use Rattle.cmark_grammar.specs.TagEnd.{end_of}
+use Rattle.cmark_grammar.specs.Event as event
+use Rattle.cmark_grammar.specs.BlockDocument as document
+use Rattle.cmark_grammar.specs.BlockDocument.{BlockKind, BlockNode, BlockDocument}
+use Rattle.cmark_grammar.specs.BlockReading as reads
+use Rattle.cmark_grammar.specs.BlockReading.{Reads, read_as, over, node_events, block_reading}
+use Rattle.cmark_grammar.specs.DrawnDocument.{kind_within, settled}
+use Rattle.cmark_grammar.specs.Tightness.{tight_within}
+use Rattle.cmark_items.specs.declared.item.Item.{Item}
+use Rattle.cmark_items.specs.ItemNodes.{ranged, kind_over, shape}
+use Rattle.cmark_walk.specs.declared.walk.Walk.{Walk}
+use Rattle.cmark_walk.specs.declared.reading.Step.{Step}
+use Rattle.cmark_walk.specs.declared.reading.Step.TheVariants as step
+use Rattle.cmark_walk.specs.Reads.{tag_in}
+use Rattle.cmark_walk.specs.Walking.{Drawn, Draws, Outer, StandsBelow, StandsAt, Remains, Goes, GivesStep, GivesRanged, IsAt, left_from, left_above, leaving, tight_below, texts_of, definitions_of}
+
+-- the walk with its tree in another place
+abbrev pub moved : Walk → Tree Item → Walk
+moved walk t = record { text = walk.text; tree = t; allocations = walk.allocations; alloc = walk.alloc }
+
+abbrev pub at_range : event.Event → Item → event.Ranged
+at_range e item = record { event = e; start = item.start; end = item.end }
+
+range-of : (start end : ℕ) (kind : Option BlockKind) (node : BlockNode) → option_map (ranged start end) kind ≡ Some node → (node.start ≡ start) × (node.end ≡ end)
+range-of start end None node e = absurd (let q : None ≡ Some node = e in cc)
+range-of start end (Some k) node e = let q = same_Some (ranged start end k) node e in (sym (ap (λ n. n.start) q), sym (ap (λ n. n.end) q))
+
+pub over-range : (text : List ℕ) (texts : List CowStr) (item : Item) (node : BlockNode) (e : event.Event) → Drawn text texts item node → over node e ≡ at_range e item
+over-range text texts item node e d =
+    let r = range-of item.start item.end (kind_over text texts item.start item.end (shape item.body)) node d.shown in
+    ap (λ s. record { event = e; start = s; end = node.end }) r.0 ∙ ap (λ s. record { event = e; start = item.start; end = s }) r.1
+
+-- before a node of the document
+pub record Focus (walk : Walk) (item : Item) (ix : TreeIndex) (z : Zip Item) (here : BlockDocument) : Type 0 where
+  pub place : Placed Item
+  pub inner : Forest (Placed Item)
+  pub later : Forest (Placed Item)
+  pub node : BlockNode
+  pub inside : BlockDocument
+  pub after : BlockDocument
+  pub right_is : z.right ≡ Node place inner later
+  pub here_is : here ≡ document.Node node inside after
+  pub at : place.ix ≡ ix.ix
+  pub drawn_place : Drawn walk.text.now (texts_of walk) place.item node
+  pub drawn : Drawn walk.text.now (texts_of walk) item node
+  pub draws_inside : Draws walk.text.now (texts_of walk) inner inside
+  pub draws_after : Draws walk.text.now (texts_of walk) later after
+
+abbrev pub IsItem : Tree Item → TreeIndex → Item → Type 0
+IsItem t ix item = (e : Entry Item) → entry_at t ix.ix ≡ Some e → item ≡ e.item
+
+focus-split : (walk : Walk) (item : Item) (ix : TreeIndex) (z : Zip Item) (right : Forest (Placed Item)) (here : BlockDocument) → z.right ≡ right → Stands (entry_at walk.tree) right → Draws walk.text.now (texts_of walk) right here → focus_of right ≡ Some ix → IsItem walk.tree ix item → Focus walk item ix z here
+focus-split walk item ix z Nil here r st d f i = absurd (let q : None ≡ Some ix = f in cc)
+focus-split walk item ix z (Node p f g) document.Nil r st d fo i = absurd d
+focus-split walk item ix z (Node p f g) (document.Node node inside after) r st d fo i =
+    let same = ap (λ k. k.ix) (same_Some (record { ix = p.ix }) ix fo) in
+    let read = i (record { item = p.item; child = first f; next = first g }) (subst (λ k. entry_at walk.tree k ≡ Some (record { item = p.item; child = first f; next = first g })) same st.0) in
+    record {
+      place = p;
+      inner = f;
+      later = g;
+      node = node;
+      inside = inside;
+      after = after;
+      right_is = r;
+      here_is = refl;
+      at = same;
+      drawn_place = d.0;
+      drawn = subst (λ k. Drawn walk.text.now (texts_of walk) k node) (sym read) d.0;
+      draws_inside = d.1;
+      draws_after = d.2;
+    }
+
+pub focus : (walk : Walk) (item : Item) (ix : TreeIndex) (z : Zip Item) (here : BlockDocument) (above : List Outer) → StandsAt walk z here above → focus_of z.right ≡ Some ix → IsItem walk.tree ix item → Focus walk item ix z here
+focus walk item ix z here above s f i = focus-split walk item ix z z.right here refl (in_right walk.tree.nodes walk.tree.first z s.below.holds.forest) s.draws f i
+
+abbrev as_kind : BlockKind → BlockNode → BlockNode
+as_kind kind node = record node { kind = kind }
+
+-- what is read at a node, and then
+read-around : (tag : _) (k : BlockKind) (node : BlockNode) (I A L : List event.Ranged) → (node_events (reads.Around tag) (as_kind k node) I ++ A) ++ L ≡ over node (event.Start tag) ∷ (I ++ (leaving (reads.Around tag) node ++ (A ++ L)))
+read-around tag k node I A L = ap (λ l. over node (event.Start tag) ∷ l) (append_assoc (I ++ (over node (event.End (end_of tag)) ∷ [])) A L ∙ append_assoc I (over node (event.End (end_of tag)) ∷ []) (A ++ L))
+
+pub left-around : (tag : _) (R : Reads) (k : BlockKind) (node : BlockNode) (I A L : List event.Ranged) → reads.Around tag ≡ R → (node_events R (as_kind k node) I ++ A) ++ L ≡ over node (event.Start tag) ∷ (I ++ (leaving R node ++ (A ++ L)))
+left-around tag R k node I A L e = subst (λ r. (node_events r (as_kind k node) I ++ A) ++ L ≡ over node (event.Start tag) ∷ (I ++ (leaving r node ++ (A ++ L)))) e (read-around tag k node I A L)
+
+pub left-inside : (R : Reads) (k : BlockKind) (node : BlockNode) (I A L : List event.Ranged) → reads.Inside ≡ R → (node_events R (as_kind k node) I ++ A) ++ L ≡ I ++ (leaving R node ++ (A ++ L))
+left-inside R k node I A L e = subst (λ r. (node_events r (as_kind k node) I ++ A) ++ L ≡ I ++ (leaving r node ++ (A ++ L))) e (append_assoc I A L)
+
+pub left-alone : (ev : event.Event) (R : Reads) (k : BlockKind) (node : BlockNode) (I A L : List event.Ranged) → reads.Alone ev ≡ R → (node_events R (as_kind k node) I ++ A) ++ L ≡ over node ev ∷ (A ++ L)
+left-alone ev R k node I A L e = subst (λ r. (node_events r (as_kind k node) I ++ A) ++ L ≡ over node ev ∷ (A ++ L)) e refl
+
+module _ (walk : Walk) (item : Item) (ix : TreeIndex) (t : Tree Item) where
+  abbrev pub down : (z : Zip Item) (here : BlockDocument) → Focus walk item ix z here → Zip Item
+  down z here f = record { left = Nil; right = f.inner; up = record { left = z.left; place = f.place; right = f.later } ∷ z.up }
+
+  -- into the node
+  pub into : (z : Zip Item) (here : BlockDocument) (above : List Outer) → StandsAt walk z here above → IsItem walk.tree ix item → (f : Focus walk item ix z here) → ((z : Zip Item) → Holds walk.tree z → HasFocus z → Holds t (pushed z)) → StandsAt (moved walk t) (down z here f) f.inside (record { node = f.node; after = f.after } ∷ above)
+  into z here above s i f push = record {
+    below = record {
+      holds = subst (λ r. Holds t (push_to z.left r z.up)) f.right_is (push z s.below.holds (subst IsFocus (sym f.right_is) tt));
+      draws_above = (f.drawn_place, f.draws_after, s.below.draws_above);
+    };
+    draws = f.draws_inside;
+  }
+
+  abbrev pub beyond : (z : Zip Item) (here : BlockDocument) → Focus walk item ix z here → Zip Item
+  beyond z here f = record { left = join z.left (one f.place f.inner); right = f.later; up = z.up }
+
+  -- past the node
+  pub passed : (z : Zip Item) (here : BlockDocument) (above : List Outer) → StandsAt walk z here above → (f : Focus walk item ix z here) → ((z : Zip Item) (s : Sibling z ix.ix) → Holds walk.tree z → Holds t (past z ix.ix s)) → StandsAt (moved walk t) (beyond z here f) f.after above
+  passed z here above s f next = record {
+    below = record {
+      holds = next z (record { left = z.left; place = f.place; inside = f.inner; after = f.later; split = ap (join z.left) f.right_is; at = f.at }) s.below.holds;
+      draws_above = s.below.draws_above;
+    };
+    draws = f.draws_after;
+  }
+
+-- what a step gives, and what remains
+pub gives-step : (e : TextEvent) (item : Item) (s : Step) (events others : List event.Ranged) (walk : Walk) → GivesRanged e item s → events ≡ at_range (shown e) item ∷ others → Remains walk others → GivesStep events s walk
+gives-step e item (step.Event given) events others walk g eq r = (others, eq ∙ ap (λ x. x ∷ others) (sym g), r)
+gives-step e item step.Silent events others walk g eq r = absurd g
+gives-step e item step.Over events others walk g eq r = absurd g
+
+pub goes-after : (events : List event.Ranged) (s : Step) (walk : Walk) → GivesStep events s walk → Goes walk
+goes-after events (step.Event given) walk g = (g.0, g.2)
+goes-after events step.Silent walk g = (events, g)
+goes-after events step.Over walk g = ([], g.1)
+
+abbrev pub Reads-at : Walk → Item → Reads → Type 0
+Reads-at walk item R = (z : Zip Item) (above : List Outer) (node : BlockNode) → StandsBelow walk z above → Drawn walk.text.now (texts_of walk) item node → R ≡ read_as (kind_within (tight_below above) node.kind)
+
+abbrev pub IsFocusAt : Walk → TreeIndex → Type 0
+IsFocusAt walk ix = (z : Zip Item) → Holds walk.tree z → focus_of z.right ≡ Some ix
+
+module _ (walk : Walk) (item : Item) (ix : TreeIndex) (t : Tree Item) (at : IsFocusAt walk ix) (is : IsItem walk.tree ix item) where
+  at-focus : (z : Zip Item) (here : BlockDocument) (above : List Outer) → StandsAt walk z here above → Focus walk item ix z here
+  at-focus z here above s = focus walk item ix z here above s (at z s.below.holds) is
+
+  pub enters-around : (tag : TextTag) (s : Step) → Reads-at walk item (reads.Around (shown_tag tag)) → ((z : Zip Item) → Holds walk.tree z → HasFocus z → Holds t (pushed z)) → GivesRanged (text_event.Start tag) item s → (events : List event.Ranged) → Remains walk events → GivesStep events s (moved walk t)
+  enters-around tag s read push g events r =
+      let f = at-focus r.z r.here r.above r.stands in
+      let at-node = read r.z r.above f.node r.stands.below f.drawn in
+      let into-z = into walk item ix t r.z r.here r.above r.stands is f push in
+      gives-step (text_event.Start tag) item s events (left_from f.inside (record { node = f.node; after = f.after } ∷ r.above)) (moved walk t) g
+      (r.are ∙ ap (λ h. left_from h r.above) f.here_is
+      ∙ left-around (shown_tag tag) (read_as (kind_within (tight_below r.above) f.node.kind)) (kind_within (tight_below r.above) f.node.kind) f.node
+      (block_reading (settled (tight_within (tight_below r.above) f.node.kind) f.inside)) (block_reading (settled (tight_below r.above) f.after)) (left_above r.above) at-node
+      ∙ ap (λ x. x ∷ left_from f.inside (record { node = f.node; after = f.after } ∷ r.above)) (over-range walk.text.now (texts_of walk) item f.node (event.Start (shown_tag tag)) f.drawn))
+      (record { z = down walk item ix t r.z r.here f; here = f.inside; above = record { node = f.node; after = f.after } ∷ r.above; stands = into-z; are = refl })
+
+  pub enters-inside : Reads-at walk item reads.Inside → ((z : Zip Item) → Holds walk.tree z → HasFocus z → Holds t (pushed z)) → (events : List event.Ranged) → Remains walk events → Remains (moved walk t) events
+  enters-inside read push events r =
+      let f = at-focus r.z r.here r.above r.stands in
+      let at-node = read r.z r.above f.node r.stands.below f.drawn in
+      record {
+        z = down walk item ix t r.z r.here f;
+        here = f.inside;
+        above = record { node = f.node; after = f.after } ∷ r.above;
+        stands = into walk item ix t r.z r.here r.above r.stands is f push;
+        are = r.are ∙ ap (λ h. left_from h r.above) f.here_is
+            ∙ left-inside (read_as (kind_within (tight_below r.above) f.node.kind)) (kind_within (tight_below r.above) f.node.kind) f.node
+            (block_reading (settled (tight_within (tight_below r.above) f.node.kind) f.inside)) (block_reading (settled (tight_below r.above) f.after)) (left_above r.above) at-node;
+      }
+
+  pub passes-alone : (e : TextEvent) (s : Step) → Reads-at walk item (reads.Alone (shown e)) → ((z : Zip Item) (s : Sibling z ix.ix) → Holds walk.tree z → Holds t (past z ix.ix s)) → GivesRanged e item s → (events : List event.Ranged) → Remains walk events → GivesStep events s (moved walk t)
+  passes-alone e s read next g events r =
+      let f = at-focus r.z r.here r.above r.stands in
+      let at-node = read r.z r.above f.node r.stands.below f.drawn in
+      gives-step e item s events (left_from f.after r.above) (moved walk t) g
+      (r.are ∙ ap (λ h. left_from h r.above) f.here_is
+      ∙ left-alone (shown e) (read_as (kind_within (tight_below r.above) f.node.kind)) (kind_within (tight_below r.above) f.node.kind) f.node
+      (block_reading (settled (tight_within (tight_below r.above) f.node.kind) f.inside)) (block_reading (settled (tight_below r.above) f.after)) (left_above r.above) at-node
+      ∙ ap (λ x. x ∷ left_from f.after r.above) (over-range walk.text.now (texts_of walk) item f.node (shown e) f.drawn))
+      (record { z = beyond walk item ix t r.z r.here f; here = f.after; above = r.above; stands = passed walk item ix t r.z r.here r.above r.stands f next; are = refl })
+
+  -- what the calls of a step ask
+  pub is-drawn : Goes walk → (node : BlockNode) × Drawn walk.text.now (texts_of walk) item node
+  is-drawn g = let f = at-focus g.1.z g.1.here g.1.above g.1.stands in (f.node, f.drawn)
+
+  pub has-focus : Goes walk → (z : Zip Item) × Holds walk.tree z × HasFocus z
+  has-focus g = let f = at-focus g.1.z g.1.here g.1.above g.1.stands in (g.1.z, g.1.stands.below.holds, subst IsFocus (sym f.right_is) tt)
+
+-- the focus is a node of the tree
+focus-number : (walk : Walk) (ix : TreeIndex) (right : Forest (Placed Item)) → Stands (entry_at walk.tree) right → focus_of right ≡ Some ix → HasNode walk.tree ix.ix
+focus-number walk ix Nil st f = absurd (let q : None ≡ Some ix = f in cc)
+focus-number walk ix (Node p inner later) st f =
+    subst (λ k. HasNode walk.tree k) (ap (λ k. k.ix) (same_Some (record { ix = p.ix }) ix f)) (node_at-within walk.tree.nodes p.ix (record { item = p.item; child = first inner; next = first later }) st.0)
+
+pub focus-node : (walk : Walk) (ix : TreeIndex) → IsAt walk ix → HasNode walk.tree ix.ix
+focus-node walk ix a = focus-number walk ix a.0.1.z.right (in_right walk.tree.nodes walk.tree.first a.0.1.z a.0.1.stands.below.holds.forest) (a.1 a.0.1.z a.0.1.stands.below.holds)
+
+pub on-err : {A E : Type 0} (r : Result A E) (P : Type 0) → P → OnErr r P
+on-err (Ok a) P p = tt
+on-err (Err e) P p = p
+
+-- a walk whose tree did not change
+pub unchanged-remains : (walk : Walk) (t : Tree Item) → IsUnchanged walk.tree t → (events : List event.Ranged) → Remains walk events → Remains (moved walk t) events
+unchanged-remains walk t u events r = record {
+  z = r.z;
+  here = r.here;
+  above = r.above;
+  stands = record { below = record { holds = Holds-unchanged walk.tree t r.z u r.stands.below.holds; draws_above = r.stands.below.draws_above }; draws = r.stands.draws };
+  are = r.are;
+}
+
+pub tag-around : (tag : _) (R : Reads) → Some tag ≡ tag_in R → reads.Around tag ≡ R
+tag-around tag (reads.Around t) e = ap reads.Around (same_Some tag t e)
+tag-around tag reads.Inside e = absurd (let q : Some tag ≡ None = e in cc)
+tag-around tag (reads.Alone ev) e = absurd (let q : Some tag ≡ None = e in cc)
+tag-around tag reads.Silent e = absurd (let q : Some tag ≡ None = e in cc)
+
+-- what lasts while steps give no event
+pub record Lasts (old walk : Walk) : Type 0 where
+  pub remains : (events : List event.Ranged) → Remains old events → Remains walk events
+  pub goes : Goes walk
+  pub definitions : definitions_of walk ≡ definitions_of old

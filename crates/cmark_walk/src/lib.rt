@@ -1,0 +1,10 @@
+//! From the tree of a document to its events, in preorder.
+#![tactic(auto)]
+
+mod reading;
+#[cfg(test)]
+mod tests;
+mod walk;
+
+pub use reading::Ranged;
+pub use walk::Walk;

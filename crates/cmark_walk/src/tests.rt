@@ -1,0 +1,68 @@
+// A walk over a tree that is made by hand.
+
+ghost use Rattle.std.specs.Prelude.{IfOk};
+ghost use Rattle.cmark_walk.specs.Walking.{Goes};
+
+use crate::Walk;
+use cmark_items::{Allocations, Item, ItemBody, ListFlags};
+use cmark_text::{CowStr, Event, Tag, TagEnd};
+use cmark_tree::Tree;
+use std::alloc::{AllocError, Global};
+use std::test::Fail;
+
+// A list of one item of one paragraph of the text `a`.
+fn list(alloc: Global) -> Result<Walk<'static>, AllocError>
+    ensures { IfOk result Goes }
+{
+    let mut tree: Tree<Item> = Tree::with_capacity(alloc, 4)?;
+    tree.open(Item {
+        start: 0,
+        end: 1,
+        body: ItemBody::List(ListFlags::IS_TIGHT, b'-', 0),
+    })?;
+    tree.open(Item {
+        start: 0,
+        end: 1,
+        body: ItemBody::ListItem(2),
+    })?;
+    tree.open(Item {
+        start: 0,
+        end: 1,
+        body: ItemBody::Paragraph,
+    })?;
+    tree.add(Item {
+        start: 0,
+        end: 1,
+        body: ItemBody::Text {
+            backslash_escaped: false,
+        },
+    })?;
+    tree.close();
+    tree.close();
+    tree.close();
+    Ok(Walk::new(alloc, "a", tree, Allocations::new(alloc)))
+}
+
+// Whether the next event is this one, over the whole text.
+fn gives(walk: &mut Walk<'static>, event: Event<'static>) -> Result<bool, AllocError>
+    requires { Goes walk.old }
+    ensures { Goes walk.new }
+{
+    match walk.next()? {
+        Some(given) => Ok(given.event == event && given.range.start == 0 && given.range.end == 1),
+        None => Ok(false),
+    }
+}
+
+#[test]
+fn a_tight_paragraph_is_read_as_its_text(rt: HostRuntime) -> Result<(), Fail> {
+    let mut walk = list(rt.alloc())?;
+    assert!(rt; gives(&mut walk, Event::Start(Tag::List(None)))?);
+    assert!(rt; gives(&mut walk, Event::Start(Tag::Item))?);
+    assert!(rt; gives(&mut walk, Event::Text(CowStr::Borrowed("a")))?);
+    assert!(rt; gives(&mut walk, Event::End(TagEnd::Item))?);
+    assert!(rt; gives(&mut walk, Event::End(TagEnd::List(false)))?);
+    assert!(rt; walk.next()?.is_none());
+    assert!(rt; walk.definitions().get("a")?.is_none());
+    Ok(())
+}
