@@ -1,10 +1,12 @@
 -- What a call of the block pass does to the state of its model.
 use Rattle.std.specs.Prelude.{◌≡◌, ℕ, List, [], ◌∷◌, ◌++◌, length}
-use Rattle.cmark_block_model.specs.BlockPass.{container_closed, containers_closed, paragraph_begun, leaf_closed}
+use Rattle.cmark_block_model.specs.BlockPass.{container_closed, containers_closed, paragraph_begun, paragraph_line, heading_made, leaf_begun, leaf_closed}
 use Rattle.cmark_lines.specs.Rests.{row_of}
 use Rattle.cmark_lines.specs.declared.line_rest.LineRest.{LineRest}
 use Rattle.cmark_grammar.specs.Answers.{Lookup}
+use Rattle.cmark_grammar.specs.Openings.{Leaf}
 use Rattle.cmark_grammar.specs.Options.{Options}
+use Rattle.cmark_grammar.specs.Rows.{Row}
 use Rattle.cmark_block_model.specs.OpenBlocks as model
 use Rattle.cmark_blocks.specs.declared.state.Pass.{Pass}
 use Rattle.cmark_blocks.specs.Runs.{Runs}
@@ -46,3 +48,21 @@ module _ {E : Type 0} (replacement : E → Lookup) where
   abbrev pub ClosesLeaf : Pass E → Pass E → Type 0
   ClosesLeaf old new =
       (text : List ℕ) (options : Options) (lookup : Lookup) (m : model.Pass) → Runs replacement text lookup m old → Runs replacement text lookup (leaf_closed text options lookup m) new
+
+  -- a leaf was begun on a line, whatever is ahead
+  abbrev pub BeginsLeaf : Leaf → (more : ℕ) → LineRest → Pass E → Pass E → Type 0
+  BeginsLeaf leaf more rest old new =
+      (text : List ℕ) (options : Options) (lookup : Lookup) (m : model.Pass) (ahead : List Row) → Runs replacement text lookup m old →
+      Runs replacement text lookup (leaf_begun text options lookup leaf more (row_of rest) ahead m) new
+
+  -- one more line of a paragraph, behind this last one
+  abbrev pub AddsLine : (last rest : LineRest) → Pass E → Pass E → Type 0
+  AddsLine last rest old new =
+      (text : List ℕ) (options : Options) (lookup : Lookup) (m : model.Pass) → Runs replacement text lookup m old →
+      Runs replacement text lookup (paragraph_line text options lookup (row_of last) (row_of rest) m) new
+
+  -- a paragraph with this last line was underlined
+  abbrev pub MakesHeading : (level : ℕ) → (last rest : LineRest) → Pass E → Pass E → Type 0
+  MakesHeading level last rest old new =
+      (text : List ℕ) (options : Options) (lookup : Lookup) (m : model.Pass) → Runs replacement text lookup m old →
+      Runs replacement text lookup (heading_made text options lookup level (row_of last) (row_of rest) m) new

@@ -6,6 +6,7 @@ mod ahead;
 mod begin;
 mod containers;
 mod leaf;
+mod paragraph;
 mod pass;
 mod siblings;
 mod state;
