@@ -1,5 +1,5 @@
 # make builds bin/mdhtml. make test passes everything; its last line is the gate's count.
-.PHONY: all test gate
+.PHONY: all test edits gate
 .NOTPARALLEL:
 
 all:
@@ -7,10 +7,13 @@ all:
 	mkdir -p bin
 	cp crates/mdhtml/out/mdhtml bin/mdhtml
 
-test: gate all
+test: edits gate all
 	tests/refusals
 	tests/vectors
 	@tail -n 1 bin/gate.log
+
+edits:
+	tests/edits
 
 gate:
 	mkdir -p bin
