@@ -9,6 +9,12 @@ use Rattle.cmark_grammar.specs.Containers as grammar
 use Rattle.cmark_lines.specs.Rests.{row_of}
 use Rattle.cmark_lines.specs.Starts.{Shows}
 use Rattle.cmark_lines.specs.declared.line_rest.LineRest.{LineRest}
+use Rattle.cmark_lines.specs.declared.container.Container.{Container}
+use Rattle.cmark_lines.specs.declared.container.Container.TheVariants as kept
+use Rattle.cmark_grammar.specs.Rows.{Row}
+use Rattle.cmark_grammar.proofs.RowPlaces.{kept-without}
+use Rattle.cmark_leaves.specs.Told.{AreTold}
+use Rattle.cmark_leaves.proofs.ToldSteps.{keeps-told}
 use Rattle.cmark_block_model.specs.BlockPass.{Kept, kept_by, kept_if, is_last}
 use Rattle.cmark_block_model.specs.OpenBlocks as model
 use Rattle.cmark_blocks.specs.declared.state.OpenContainer.{OpenContainer}
@@ -81,3 +87,15 @@ module _ (text : List ℕ) (options : Options) (lookup : Lookup) where
       let e = (shows-all cs ms k s le).1 in
       ap (λ l. kept_by text options lookup (take k ms) l bare (row_of rest)) e
       ∙ ap {A = List model.OpenContainer} {B = Kept text options lookup} (λ l. record { kept = take k ms; missed = l; left = row_of rest }) (sym e)
+
+-- what a container leaves of a line
+shown-as : (c : Container) → (k : grammar.Container) × Shows c k
+shown-as kept.Quote = (grammar.Quote, tt)
+shown-as (kept.Item width) = (grammar.Item 0 None width, refl)
+
+module _ (c : Container) (bare : Bool) (rest inside : LineRest) (keeps : (k : grammar.Container) → Shows c k → Some (row_of inside) ≡ grammar.keeps k bare (row_of rest)) where
+  pub kept-told : (text : List ℕ) → AreTold text (row_of rest).columns → AreTold text (row_of inside).columns
+  kept-told text told = let k = shown-as c in keeps-told text k.0 bare (row_of rest) (row_of inside) (sym (keeps k.0 k.1)) told
+
+  pub kept-past : (row_of inside).past ≡ (row_of rest).past
+  kept-past = let k = shown-as c in ap (λ (r : Row). r.past) (sym (kept-without k.0 bare (row_of rest) (row_of inside) (sym (keeps k.0 k.1))).1)

@@ -1,5 +1,9 @@
 pub mod AheadSteps
 pub mod ClosingSteps
+pub mod FeedSteps
 pub mod KeptSteps
 pub mod LeafSteps
+pub mod LineSteps
+pub mod OpeningSteps
+pub mod PassSteps
 pub mod RunSteps

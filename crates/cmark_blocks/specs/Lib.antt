@@ -1,4 +1,7 @@
 pub mod Ahead
+pub mod Entered
+pub mod Fed
+pub mod FirstPass
 pub mod Kept
 pub mod Runs
 pub mod Shown

@@ -5,8 +5,14 @@
 mod ahead;
 mod begin;
 mod containers;
+mod feed;
+mod first_pass;
 mod leaf;
+mod line;
 mod paragraph;
 mod pass;
 mod siblings;
+mod standins;
 mod state;
+
+pub use first_pass::{FirstPass, run_first_pass};
