@@ -1,5 +1,5 @@
 -- The pass in another state, where one part of it has changed.
-use Rattle.std.proofs.Common.{◌≡◌, ℕ, Bool, true, false, List, [], ◌∷◌, ◌++◌, Option, Some, None, option_map, refl, ap, ◌∙◌, Vec, Global, ◌==◌}
+use Rattle.std.proofs.Common.{◌≡◌, ℕ, Bool, true, false, List, [], ◌∷◌, ◌++◌, Option, Some, None, option_map, refl, ap, subst, ◌∙◌, Vec, Global, ◌==◌}
 use Rattle.cmark_grammar.specs.Answers.{Lookup}
 use Rattle.cmark_items.specs.Definitions.{definition, shown_definition}
 use Rattle.cmark_items.specs.Tables.{tables}
@@ -114,6 +114,13 @@ module _ {E : Type 0} (replacement : E → Lookup) (text : List ℕ) (lookup : L
     past = runs.past;
     references = runs.references;
   }
+
+  -- blank lines wait behind indented code alone
+  pub none_behind_closed : pass.leaf ≡ leaf.Closed → Runs replacement text lookup m pass → pass.blank_lines.items ≡ []
+  none_behind_closed is runs = (subst (λ l. ShowsLeaf text l pass.blank_lines.items m.leaf) is runs.leaf).1
+
+  pub none_behind_paragraph : (last : LineRest) → pass.leaf ≡ leaf.Paragraph last → Runs replacement text lookup m pass → pass.blank_lines.items ≡ []
+  none_behind_paragraph last is runs = (subst (λ l. ShowsLeaf text l pass.blank_lines.items m.leaf) is runs.leaf).1
 
   -- no leaf is open, and no blank lines wait
   pub runs-closed : (blanks : Vec LineRest Global) → Runs replacement text lookup m pass → blanks.items ≡ [] → Runs replacement text lookup (record m { leaf = model.Closed }) (record pass { leaf = leaf.Closed; blank_lines = blanks })

@@ -1,14 +1,16 @@
 -- What a call of the block pass does to the state of its model.
-use Rattle.std.specs.Prelude.{◌≡◌, ℕ, List, [], ◌∷◌, ◌++◌, length}
-use Rattle.cmark_block_model.specs.BlockPass.{container_closed, containers_closed, paragraph_begun, paragraph_line, heading_made, leaf_begun, leaf_closed}
+use Rattle.std.specs.Prelude.{◌≡◌, ℕ, Bool, List, [], ◌∷◌, ◌++◌, length}
+use Rattle.cmark_block_model.specs.BlockPass.{container_closed, containers_closed, paragraph_begun, paragraph_line, heading_made, leaf_begun, leaf_closed, ahead_in, begin, begin_as, leaf_fed, lazy_fed}
 use Rattle.cmark_lines.specs.Rests.{row_of}
 use Rattle.cmark_lines.specs.declared.line_rest.LineRest.{LineRest}
 use Rattle.cmark_grammar.specs.Answers.{Lookup}
-use Rattle.cmark_grammar.specs.Openings.{Leaf}
+use Rattle.cmark_grammar.specs.Containers.{Container}
+use Rattle.cmark_grammar.specs.Openings.{Leaf, definition_of}
 use Rattle.cmark_grammar.specs.Options.{Options}
 use Rattle.cmark_grammar.specs.Rows.{Row}
 use Rattle.cmark_block_model.specs.OpenBlocks as model
 use Rattle.cmark_blocks.specs.declared.state.Pass.{Pass}
+use Rattle.cmark_blocks.specs.Ahead.{lines_at}
 use Rattle.cmark_blocks.specs.Runs.{Runs}
 
 module _ {E : Type 0} (replacement : E → Lookup) where
@@ -66,3 +68,34 @@ module _ {E : Type 0} (replacement : E → Lookup) where
   MakesHeading level last rest old new =
       (text : List ℕ) (options : Options) (lookup : Lookup) (m : model.Pass) → Runs replacement text lookup m old →
       Runs replacement text lookup (heading_made text options lookup level (row_of last) (row_of rest) m) new
+
+  -- a line that may begin a link reference definition began one, or else a paragraph
+  abbrev pub BeginsBracket : LineRest → Pass E → Pass E → Type 0
+  BeginsBracket rest old new =
+      (text : List ℕ) (options : Options) (lookup : Lookup) (m : model.Pass) (inside : Container → model.Pass) (bare : Bool) → Runs replacement text lookup m old →
+      let ahead = ahead_in text options lookup m.outer (lines_at text (row_of rest).past) in
+      Runs replacement text lookup (begin_as text options lookup (definition_of options (row_of rest) ahead) inside (row_of rest) ahead bare m) new
+
+  -- all that a line begins was begun
+  abbrev pub Begins : LineRest → Pass E → Pass E → Type 0
+  Begins rest old new =
+      (text : List ℕ) (options : Options) (lookup : Lookup) (m : model.Pass) → Runs replacement text lookup m old →
+      Runs replacement text lookup (begin text options lookup (row_of rest) (lines_at text (row_of rest).past) m) new
+
+  -- the leaf was closed, and all that a line begins was begun
+  abbrev pub BeginsAnew : LineRest → Pass E → Pass E → Type 0
+  BeginsAnew rest old new =
+      (text : List ℕ) (options : Options) (lookup : Lookup) (m : model.Pass) → Runs replacement text lookup m old →
+      Runs replacement text lookup (begin text options lookup (row_of rest) (lines_at text (row_of rest).past) (leaf_closed text options lookup m)) new
+
+  -- a line that lacks no prefix was fed to the open leaf
+  abbrev pub FeedsLeaf : LineRest → Pass E → Pass E → Type 0
+  FeedsLeaf rest old new =
+      (text : List ℕ) (options : Options) (lookup : Lookup) (m : model.Pass) → Runs replacement text lookup m old →
+      Runs replacement text lookup (leaf_fed text options lookup m.leaf (row_of rest) (lines_at text (row_of rest).past) m) new
+
+  -- a lazy line was fed to the open leaf
+  abbrev pub FeedsLazily : LineRest → Pass E → Pass E → Type 0
+  FeedsLazily rest old new =
+      (text : List ℕ) (options : Options) (lookup : Lookup) (m : model.Pass) → Runs replacement text lookup m old →
+      Runs replacement text lookup (lazy_fed text options lookup m.leaf (row_of rest) m) new

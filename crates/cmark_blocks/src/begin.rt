@@ -21,7 +21,7 @@ use cmark_text::{EntityLookup, HeadingLevel};
 use std::alloc::AllocError;
 
 impl<'a, E: EntityLookup> Pass<'a, E> {
-    ghost use Rattle.std.specs.Prelude.{[]};
+    ghost use Rattle.cmark_blocks.specs.declared.state.OpenLeaf.TheVariants as leaf;
     ghost use Rattle.cmark_blocks.specs.Runs.{Runs, IsGood, IsRead};
     ghost use Rattle.cmark_blocks.specs.Steps.{BeginsParagraph, BeginsLeaf};
 
@@ -29,9 +29,10 @@ impl<'a, E: EntityLookup> Pass<'a, E> {
     pub(crate) fn begin_paragraph(&mut self, rest: LineRest<'a>) -> Result<(), AllocError>
         requires good { IsGood self.old }
         requires placed { IsRead self.old.text.now rest }
-        requires alone { self.old.blank_lines.items ≡ [] }
+        requires closed { self.old.leaf ≡ leaf.Closed }
         ensures good { IsGood self.new }
         ensures runs { OnOk result (BeginsParagraph E.replacement rest.entry self.old self.new) }
+        ensures text { self.new.text ≡ self.old.text }
     {
         self.begin_block();
         self.builder.open(rest.words_begin(), ItemBody::Paragraph)?;
@@ -44,6 +45,7 @@ impl<'a, E: EntityLookup> Pass<'a, E> {
         requires { IsGood self.old }
         ensures good { IsGood self.new }
         ensures runs { OnOk result (BeginsLeaf E.replacement ThematicBreak 0 rest.entry self.old self.new) }
+        ensures text { self.new.text ≡ self.old.text }
     {
         self.begin_block();
         self.builder
@@ -62,6 +64,7 @@ impl<'a, E: EntityLookup> Pass<'a, E> {
         requires level { level_number level ≡ run 35 (words_of (row_of rest)) }
         ensures good { IsGood self.new }
         ensures runs { OnOk result (BeginsLeaf E.replacement (AtxHeading (level_number level)) 0 rest.entry self.old self.new) }
+        ensures text { self.new.text ≡ self.old.text }
     {
         self.begin_block();
         let body = ItemBody::Heading(level, None);
@@ -84,9 +87,10 @@ impl<'a, E: EntityLookup> Pass<'a, E> {
         rest: LineRest<'a>,
     ) -> Result<(), AllocError>
         requires good { IsGood self.old }
-        requires alone { self.old.blank_lines.items ≡ [] }
+        requires closed { self.old.leaf ≡ leaf.Closed }
         ensures good { IsGood self.new }
         ensures runs { OnOk result ((more : ℕ) → BeginsLeaf E.replacement (HtmlBlock (kind_number kind)) more rest.entry self.old self.new) }
+        ensures text { self.new.text ≡ self.old.text }
     {
         self.begin_block();
         self.builder.open(rest.begin(), ItemBody::HtmlBlock)?;

@@ -40,6 +40,8 @@ impl<'a, E: EntityLookup> Pass<'a, E> {
         ensures outer { self.new.outer ≡ self.old.outer }
         ensures text { self.new.text ≡ self.old.text }
         ensures blank_lines { self.new.blank_lines ≡ self.old.blank_lines }
+        ensures leaf { self.new.leaf ≡ self.old.leaf }
+        ensures bare { self.new.bare ≡ self.old.bare }
     {
         if let Some(list) = self.inner.list {
             let body = ItemBody::List(list_flags(list.loose), list.mark, list.number);
@@ -54,6 +56,8 @@ impl<'a, E: EntityLookup> Pass<'a, E> {
         ensures runs { Steps E.replacement self.old self.new block_begun }
         ensures text { self.new.text ≡ self.old.text }
         ensures blank_lines { self.new.blank_lines ≡ self.old.blank_lines }
+        ensures leaf { self.new.leaf ≡ self.old.leaf }
+        ensures bare { self.new.bare ≡ self.old.bare }
     {
         self.close_list();
         self.inner = self.inner.with_block();
@@ -65,6 +69,9 @@ impl<'a, E: EntityLookup> Pass<'a, E> {
         requires number { list_number item.mark (unwrap_or item.number 0) ≡ item.number }
         ensures good { IsGood self.new }
         ensures runs { OnOk result (Steps E.replacement self.old self.new (list_begun item.mark item.number start)) }
+        ensures text { self.new.text ≡ self.old.text }
+        ensures leaf { self.new.leaf ≡ self.old.leaf }
+        ensures bare { self.new.bare ≡ self.old.bare }
     {
         self.begin_block();
         let number = item.number.unwrap_or(0);
@@ -85,6 +92,9 @@ impl<'a, E: EntityLookup> Pass<'a, E> {
         requires number { list_number item.mark (unwrap_or item.number 0) ≡ item.number }
         ensures good { IsGood self.new }
         ensures runs { OnOk result (Steps E.replacement self.old self.new (λ p. item_begun item.mark item.number start p p.inner.list)) }
+        ensures text { self.new.text ≡ self.old.text }
+        ensures leaf { self.new.leaf ≡ self.old.leaf }
+        ensures bare { self.new.bare ≡ self.old.bare }
     {
         match self.inner.list_of(item.mark) {
             Some(list) => {
@@ -103,6 +113,9 @@ impl<'a, E: EntityLookup> Pass<'a, E> {
         requires { IsGood self.old }
         ensures good { IsGood self.new }
         ensures runs { OnOk result ((k : grammar.Container) → Shows container k → Steps E.replacement self.old self.new (inside_of k)) }
+        ensures text { self.new.text ≡ self.old.text }
+        ensures leaf { self.new.leaf ≡ self.old.leaf }
+        ensures bare { self.new.bare ≡ self.old.bare }
     {
         self.outer.push(OpenContainer {
             container,
@@ -117,6 +130,9 @@ impl<'a, E: EntityLookup> Pass<'a, E> {
         requires { IsGood self.old }
         ensures good { IsGood self.new }
         ensures runs { OnOk result (Steps E.replacement self.old self.new (quote_begun start)) }
+        ensures text { self.new.text ≡ self.old.text }
+        ensures leaf { self.new.leaf ≡ self.old.leaf }
+        ensures bare { self.new.bare ≡ self.old.bare }
     {
         self.begin_block();
         self.builder.open(start, ItemBody::BlockQuote(None))?;
@@ -130,6 +146,9 @@ impl<'a, E: EntityLookup> Pass<'a, E> {
         requires number { list_number item.mark (unwrap_or item.number 0) ≡ item.number }
         ensures good { IsGood self.new }
         ensures runs { OnOk result (Steps E.replacement self.old self.new (item_begun_in item.mark item.number item.width start)) }
+        ensures text { self.new.text ≡ self.old.text }
+        ensures leaf { self.new.leaf ≡ self.old.leaf }
+        ensures bare { self.new.bare ≡ self.old.bare }
     {
         self.join_list(item, start)?;
         self.builder.open(start, ItemBody::ListItem(item.width))?;
@@ -142,6 +161,9 @@ impl<'a, E: EntityLookup> Pass<'a, E> {
         requires { IsGood self.old }
         ensures good { IsGood self.new }
         ensures runs { ClosesLast E.replacement self.old self.new }
+        ensures text { self.new.text ≡ self.old.text }
+        ensures leaf { self.new.leaf ≡ self.old.leaf }
+        ensures bare { self.new.bare ≡ self.old.bare }
         ensures fewer { length self.new.outer.items ≡ length self.old.outer.items - 1 }
     {
         self.close_list();
@@ -156,6 +178,9 @@ impl<'a, E: EntityLookup> Pass<'a, E> {
         requires { IsGood self.old }
         ensures good { IsGood self.new }
         ensures runs { ClosesAll E.replacement kept self.old self.new }
+        ensures text { self.new.text ≡ self.old.text }
+        ensures leaf { self.new.leaf ≡ self.old.leaf }
+        ensures bare { self.new.bare ≡ self.old.bare }
     {
         while self.outer.len() > kept {
             self.close_container();

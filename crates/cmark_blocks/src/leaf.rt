@@ -33,6 +33,9 @@ impl<'a, E: EntityLookup> Pass<'a, E> {
         requires is { self.old.leaf ≡ leaf.Paragraph last }
         ensures good { IsGood self.new }
         ensures runs { OnOk result (ClosesLeaf E.replacement self.old self.new) }
+        ensures closed { OnOk result (self.new.leaf ≡ leaf.Closed) }
+        ensures text { self.new.text ≡ self.old.text }
+        ensures bare { self.new.bare ≡ self.old.bare }
     {
         draw_last_line(
             &mut self.builder,
@@ -52,6 +55,9 @@ impl<'a, E: EntityLookup> Pass<'a, E> {
         requires is { self.old.leaf ≡ leaf.Indented waits end }
         ensures good { IsGood self.new }
         ensures runs { OnOk result (ClosesLeaf E.replacement self.old self.new) }
+        ensures closed { OnOk result (self.new.leaf ≡ leaf.Closed) }
+        ensures text { self.new.text ≡ self.old.text }
+        ensures bare { self.new.bare ≡ self.old.bare }
     {
         draw_stretch(&mut self.builder, waits)?;
         self.builder.close(end);
@@ -67,6 +73,9 @@ impl<'a, E: EntityLookup> Pass<'a, E> {
         requires is { IsVerbatim self.old.leaf waits }
         ensures good { IsGood self.new }
         ensures runs { OnOk result (ClosesLeaf E.replacement self.old self.new) }
+        ensures closed { OnOk result (self.new.leaf ≡ leaf.Closed) }
+        ensures text { self.new.text ≡ self.old.text }
+        ensures bare { self.new.bare ≡ self.old.bare }
     {
         draw_stretch(&mut self.builder, waits)?;
         self.builder.close(self.past);
@@ -79,6 +88,9 @@ impl<'a, E: EntityLookup> Pass<'a, E> {
         requires { IsGood self.old }
         ensures good { IsGood self.new }
         ensures runs { OnOk result (ClosesLeaf E.replacement self.old self.new) }
+        ensures closed { OnOk result (self.new.leaf ≡ leaf.Closed) }
+        ensures text { self.new.text ≡ self.old.text }
+        ensures bare { self.new.bare ≡ self.old.bare }
     {
         match self.leaf {
             OpenLeaf::Closed => Ok(()),

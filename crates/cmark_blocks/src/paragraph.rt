@@ -11,7 +11,7 @@ use cmark_text::{EntityLookup, HeadingLevel};
 use std::alloc::AllocError;
 
 impl<'a, E: EntityLookup> Pass<'a, E> {
-    ghost use Rattle.std.specs.Prelude.{[]};
+    ghost use Rattle.cmark_blocks.specs.declared.state.OpenLeaf.TheVariants as leaf;
     ghost use Rattle.cmark_blocks.specs.Runs.{IsGood, IsRead};
     ghost use Rattle.cmark_blocks.specs.Steps.{AddsLine, MakesHeading};
 
@@ -24,9 +24,10 @@ impl<'a, E: EntityLookup> Pass<'a, E> {
         requires good { IsGood self.old }
         requires last { IsRead self.old.text.now last }
         requires line { IsRead self.old.text.now rest }
-        requires alone { self.old.blank_lines.items ≡ [] }
+        requires is { self.old.leaf ≡ leaf.Paragraph last }
         ensures good { IsGood self.new }
         ensures runs { OnOk result (AddsLine E.replacement last.entry rest.entry self.old self.new) }
+        ensures text { self.new.text ≡ self.old.text }
     {
         draw_line(
             &mut self.builder,
@@ -48,9 +49,10 @@ impl<'a, E: EntityLookup> Pass<'a, E> {
     ) -> Result<(), AllocError>
         requires good { IsGood self.old }
         requires last { IsRead self.old.text.now last }
-        requires alone { self.old.blank_lines.items ≡ [] }
+        requires is { self.old.leaf ≡ leaf.Paragraph last }
         ensures good { IsGood self.new }
         ensures runs { OnOk result (MakesHeading E.replacement (level_number level) last.entry rest.entry self.old self.new) }
+        ensures text { self.new.text ≡ self.old.text }
     {
         draw_last_line(
             &mut self.builder,

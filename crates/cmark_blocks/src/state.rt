@@ -52,8 +52,6 @@ pub(crate) struct Pass<'a, E> {
     pub blank_lines: Vec<LineRest<'a>>,
     /// Where the next line begins.
     pub past: usize,
-    /// The text of the paragraph in which link reference definitions are looked for.
-    pub gathered: String,
 }
 
 impl<'a, E: EntityLookup> Pass<'a, E> {
@@ -80,7 +78,6 @@ impl<'a, E: EntityLookup> Pass<'a, E> {
             leaf: OpenLeaf::Closed,
             blank_lines: Vec::new(alloc),
             past: 0,
-            gathered: String::new(alloc),
         })
     }
 }

@@ -11,7 +11,7 @@ use Rattle.cmark_builder.specs.Drawn.{Draws}
 use Rattle.cmark_builder.proofs.DrawnSteps.{draws-open, draws-close}
 use Rattle.cmark_blocks.specs.declared.state.OpenLeaf.TheVariants as leaf
 use Rattle.cmark_blocks.specs.Runs.{Runs}
-use Rattle.cmark_blocks.proofs.RunSteps.{runs-builder, runs-leaf}
+use Rattle.cmark_blocks.proofs.RunSteps.{runs-builder, runs-leaf, none_behind_closed}
 use Rattle.cmark_blocks.proofs.state.Pass.begin_html.Goals as goal
 
 pub returns-then-ends_at_once-clause-runs : goal.returns-then-ends_at_once-clause-runs
@@ -33,7 +33,7 @@ returns-then-ends_at_once-clause-runs g c more text options lookup m ahead runs 
     (runs-leaf replacement text lookup _ _ leaf.Closed model.Closed
     (runs-builder replacement text lookup (block_begun m) before c.close.new.self (closed_at row.past line) r draws
     (ap (λ a. a.refdefs) c.close.ensures.tables ∙ c.in_ok-draw_html_line.ensures.references ∙ ap (λ a. a.refdefs) c.in_ok-open.ensures.tables))
-    (refl, ap (λ b. b.items) c.begin_block.ensures.blank_lines ∙ c.requires.alone))
+    (refl, ap (λ b. b.items) c.begin_block.ensures.blank_lines ∙ none_behind_closed replacement text lookup m c.args.self.now c.requires.closed runs))
 
 pub returns-else-ends_at_once-clause-runs : goal.returns-else-ends_at_once-clause-runs
 returns-else-ends_at_once-clause-runs g c more text options lookup m ahead runs =
@@ -52,4 +52,4 @@ returns-else-ends_at_once-clause-runs g c more text options lookup m ahead runs 
     (runs-leaf replacement text lookup _ _ (leaf.Html c.args.kind) (model.InHtml kind)
     (runs-builder replacement text lookup (block_begun m) before c.draw_html_line.new.builder line r (c.in_ok-draw_html_line.ensures.drawn text begun first)
     (c.in_ok-draw_html_line.ensures.references ∙ ap (λ a. a.refdefs) c.in_ok-open.ensures.tables))
-    (refl, ap (λ b. b.items) c.begin_block.ensures.blank_lines ∙ c.requires.alone))
+    (refl, ap (λ b. b.items) c.begin_block.ensures.blank_lines ∙ none_behind_closed replacement text lookup m c.args.self.now c.requires.closed runs))

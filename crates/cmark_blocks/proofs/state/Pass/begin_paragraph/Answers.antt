@@ -7,7 +7,7 @@ use Rattle.cmark_block_model.specs.Drawing.{opened}
 use Rattle.cmark_block_model.specs.OpenBlocks as model
 use Rattle.cmark_builder.specs.Drawn.{Draws}
 use Rattle.cmark_builder.proofs.DrawnSteps.{draws-open}
-use Rattle.cmark_blocks.proofs.RunSteps.{runs-builder, runs-leaf}
+use Rattle.cmark_blocks.proofs.RunSteps.{runs-builder, runs-leaf, none_behind_closed}
 use Rattle.cmark_blocks.proofs.state.Pass.begin_paragraph.Goals as goal
 
 pub returns-clause-good : goal.returns-clause-good
@@ -28,4 +28,4 @@ returns-clause-runs g c text options lookup m runs =
     (draws-open text before.builder c.open.new.self c.words_begin.result _ Paragraph p.drawing c.in_ok-open.ensures.ok c.in_ok-open.ensures.tables refl r.drawing) in
     runs-leaf replacement text lookup _ _ _ (model.InParagraph (row_of c.args.rest))
     (runs-builder replacement text lookup p before c.open.new.self _ r draws (ap (λ a. a.refdefs) c.in_ok-open.ensures.tables))
-    (refl, ap (λ b. b.items) c.begin_block.ensures.blank_lines ∙ c.requires.alone)
+    (refl, ap (λ b. b.items) c.begin_block.ensures.blank_lines ∙ none_behind_closed replacement text lookup m c.args.self.now c.requires.closed runs)

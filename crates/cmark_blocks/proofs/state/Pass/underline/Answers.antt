@@ -10,7 +10,7 @@ use Rattle.cmark_block_model.specs.OpenBlocks as model
 use Rattle.cmark_builder.specs.Drawn.{Draws}
 use Rattle.cmark_builder.proofs.DrawnSteps.{draws-close_as}
 use Rattle.cmark_blocks.specs.declared.state.OpenLeaf.TheVariants as leaf
-use Rattle.cmark_blocks.proofs.RunSteps.{runs-builder, runs-leaf}
+use Rattle.cmark_blocks.proofs.RunSteps.{runs-builder, runs-leaf, none_behind_paragraph}
 use Rattle.cmark_blocks.proofs.state.Pass.underline.Goals as goal
 
 pub returns-clause-runs : goal.returns-clause-runs
@@ -28,4 +28,4 @@ returns-clause-runs g c text options lookup m runs =
     (draws-close_as text built c.close_as.new.self c.past.result _ kind d c.close_as.ensures.closed c.close_as.ensures.none c.close_as.ensures.tables refl read) in
     runs-leaf replacement text lookup _ _ leaf.Closed model.Closed
     (runs-builder replacement text lookup m before c.close_as.new.self (closed_as kind (row_of c.args.rest).past d) runs draws (ap (λ a. a.refdefs) c.close_as.ensures.tables ∙ c.in_ok-draw_last_line.ensures.references))
-    (refl, c.requires.alone)
+    (refl, none_behind_paragraph replacement text lookup m before c.args.last c.requires.is runs)
