@@ -1,5 +1,6 @@
 pub mod AheadSteps
 pub mod ClosingSteps
+pub mod CodeSteps
 pub mod KeptSteps
 pub mod LeafSteps
 pub mod RunSteps

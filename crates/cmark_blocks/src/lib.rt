@@ -4,6 +4,7 @@
 
 mod ahead;
 mod begin;
+mod begin_code;
 mod containers;
 mod leaf;
 mod paragraph;
