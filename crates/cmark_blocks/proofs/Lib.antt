@@ -1,6 +1,8 @@
 pub mod AheadSteps
 pub mod ClosingSteps
 pub mod CodeSteps
+pub mod HtmlSteps
+pub mod IndentedSteps
 pub mod InfoSteps
 pub mod KeptSteps
 pub mod LeafSteps

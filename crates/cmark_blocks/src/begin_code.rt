@@ -32,8 +32,7 @@ impl<'a, E: EntityLookup> Pass<'a, E> {
     {
         self.begin_block();
         let code = rest.without_indent_upto(4);
-        self.builder
-            .open(code.begin(), ItemBody::IndentCodeBlock)?;
+        self.builder.open(code.begin(), ItemBody::IndentCodeBlock)?;
         let waits = draw_code_line(&mut self.builder, rest, 4, None)?;
         self.leaf = OpenLeaf::Indented(waits, rest.past());
         Ok(())

@@ -3,9 +3,12 @@
 #![tactic(auto)]
 
 mod ahead;
+mod anew;
 mod begin;
 mod begin_code;
+mod code;
 mod containers;
+mod html;
 mod leaf;
 mod paragraph;
 mod pass;

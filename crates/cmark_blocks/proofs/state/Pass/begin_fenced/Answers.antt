@@ -1,4 +1,4 @@
-use Rattle.std.proofs.Common.{None, slice_range, refl, ap, ◌∙◌, subst}
+use Rattle.std.proofs.Common.{None, refl, ap, ◌∙◌, subst}
 use Rattle.cmark_grammar.specs.BlockDocument.{FencedCode}
 use Rattle.cmark_grammar.specs.Rows.{start_of, words_of}
 use Rattle.cmark_grammar.specs.Tokens.{resolved}
