@@ -1,6 +1,10 @@
 pub mod AheadSteps
 pub mod ClosingSteps
+pub mod CodeSteps
 pub mod FeedSteps
+pub mod HtmlSteps
+pub mod IndentedSteps
+pub mod InfoSteps
 pub mod KeptSteps
 pub mod LeafSteps
 pub mod LineSteps

@@ -2,6 +2,7 @@ pub mod Ahead
 pub mod Entered
 pub mod Fed
 pub mod FirstPass
+pub mod IndentedLines
 pub mod Kept
 pub mod Runs
 pub mod Shown

@@ -4,9 +4,12 @@
 
 mod ahead;
 mod begin;
+mod begin_code;
+mod code;
 mod containers;
 mod feed;
 mod first_pass;
+mod html;
 mod leaf;
 mod line;
 mod paragraph;

@@ -2,7 +2,7 @@
 
 ghost use Rattle.std.specs.Prelude.{◌≡◌, ◌<◌, Bool, ℕ, List, false, length, OnOk, IfOk, IfSome};
 ghost use Rattle.cmark_block_model.specs.BlockPass.{container_begun, is_item};
-ghost use Rattle.cmark_lines.specs.Opened.{HasInfo, InfoIsIn};
+ghost use Rattle.cmark_lines.specs.Opened.{InfoIsIn};
 ghost use Rattle.cmark_lines.specs.Rests.{row_of};
 ghost use Rattle.cmark_lines.specs.Starts.{shown_start, inside_of};
 ghost use Rattle.cmark_blocks.specs.Entered.{OpensAs, IsNoContainer, HasNumber};
@@ -79,7 +79,6 @@ impl<'a, E: EntityLookup> Pass<'a, E> {
         requires bare { self.old.bare ≡ false }
         requires opens { OpensAs opening (row_of rest) }
         requires leaf { IsNoContainer opening }
-        requires info { HasInfo opening (row_of rest) }
         requires info_placed { InfoIsIn self.old.text.now opening (row_of rest) }
         ensures good { IsGood self.new }
         ensures runs { OnOk result (BeginsAs E.replacement opening.entry bare rest.entry self.old self.new) }
