@@ -1,4 +1,5 @@
 pub mod Ahead
+pub mod Gathered
 pub mod Kept
 pub mod Runs
 pub mod Shown

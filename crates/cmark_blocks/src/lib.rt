@@ -5,6 +5,7 @@
 mod ahead;
 mod begin;
 mod containers;
+mod gathered;
 mod leaf;
 mod paragraph;
 mod pass;
