@@ -1,9 +1,10 @@
 -- The text of a paragraph, gathered line by line.
-use Rattle.std.proofs.Common.{◌≡◌, ℕ, ◌+◌, List, [], ◌∷◌, ◌++◌, refl, sym, ap, ◌∙◌, subst, append_assoc, append-nil, length-append, String, Global}
+use Rattle.std.proofs.Common.{◌≡◌, ℕ, zero, suc, ◌+◌, ◌-◌, ◌<◌, List, [], ◌∷◌, ◌++◌, take, arith, refl, sym, ap, ◌∙◌, subst, append_assoc, append-nil, length-append, String, Global}
 use Rattle.std.specs.Prelude.{string_bytes}
 use Rattle.cmark_grammar.specs.Answers.{Lookup}
 use Rattle.cmark_grammar.specs.Columns.{expand, bytes_of, indent, without_indent}
 use Rattle.cmark_grammar.specs.LinkDefinitions.{line_end_of, further_bytes, bytes_over}
+use Rattle.cmark_grammar.specs.Derivation.{stop_of}
 use Rattle.cmark_grammar.specs.Options.{Options}
 use Rattle.cmark_grammar.specs.Rows.{Row, words_of, begin_of, start_of}
 use Rattle.cmark_grammar.specs.Tokens.{slice}
@@ -74,3 +75,12 @@ module _ (text : List ℕ) (options : Options) (lookup : Lookup) (m : model.Pass
     count = length-append h.lines (row_of rest ∷ []) ∙ ap (λ n. n + 1) h.count ∙ sym more;
     last = last-more (row_of first) h.lines (row_of rest);
   }
+
+-- where lines end
+pub stop-none : (r : Row) (n : ℕ) → stop_of r (take n []) ≡ r.stop
+stop-none r zero = refl
+stop-none r (suc n) = refl
+
+pub stop-next : (r s : Row) (rs : List Row) (n : ℕ) → 0 < n → stop_of r (take n (s ∷ rs)) ≡ stop_of s (take (n - 1) rs)
+stop-next r s rs zero lt = absurd (omega (arith, lt))
+stop-next r s rs (suc n) lt = ap (λ k. stop_of s (take k rs)) (let e : n ≡ suc n - 1 = omega arith in e)

@@ -1,4 +1,5 @@
 pub mod Ahead
+pub mod Found
 pub mod Gathered
 pub mod Kept
 pub mod Runs

@@ -5,6 +5,7 @@
 mod ahead;
 mod begin;
 mod containers;
+mod definition;
 mod gathered;
 mod leaf;
 mod paragraph;
