@@ -1,7 +1,9 @@
 pub mod AheadSteps
 pub mod ClosingSteps
 pub mod CodeSteps
+pub mod DefinitionSteps
 pub mod FeedSteps
+pub mod GatherSteps
 pub mod HtmlSteps
 pub mod IndentedSteps
 pub mod InfoSteps
@@ -10,4 +12,5 @@ pub mod LeafSteps
 pub mod LineSteps
 pub mod OpeningSteps
 pub mod PassSteps
+pub mod ReferenceSteps
 pub mod RunSteps

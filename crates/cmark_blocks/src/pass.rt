@@ -1,15 +1,14 @@
 //! The lines of the block pass, one after the other.
 
 ghost use Rattle.std.specs.Prelude.{◌≡◌, ◌≤◌, ◌<◌, ◌&&◌, ◌==◌, suc, ℕ, List, length};
-ghost use Rattle.cmark_lines.specs.Rests.{IsIn, row_of};
-ghost use Rattle.cmark_leaves.specs.Told.{AreTold};
+ghost use Rattle.cmark_lines.specs.Rests.{IsIn};
 
 use crate::state::Pass;
 use cmark_lines::LineRest;
 use cmark_text::EntityLookup;
 
 impl<'a, E: EntityLookup> Pass<'a, E> {
-    ghost use Rattle.cmark_blocks.specs.Kept.{KeepsOf};
+    ghost use Rattle.cmark_blocks.specs.Kept.{IsBehind, KeepsOf};
 
     /// Whether this container is an item whose first line was blank, and came last.
     fn is_bare(&self, index: usize) -> bool
@@ -24,8 +23,7 @@ impl<'a, E: EntityLookup> Pass<'a, E> {
         ensures kept { KeepsOf E.replacement self.now line.entry result.0 result.1 }
         ensures few { result.0 ≤ length self.now.outer.items }
         ensures placed { (text : List ℕ) → IsIn text line.entry → IsIn text result.1 }
-        ensures told { (text : List ℕ) → AreTold text (row_of line.entry).columns → AreTold text (row_of result.1).columns }
-        ensures past { (row_of result.1).past ≡ (row_of line.entry).past }
+        ensures behind { IsBehind line.entry result.1 }
     {
         let mut kept = 0;
         let mut rest = line;

@@ -1,10 +1,10 @@
-use Rattle.std.proofs.Common.{◌≡◌, suc, ◌<◌, ◌&&◌, Some, None, option_map, sym, ap, ◌∙◌, length, arith, refl}
+use Rattle.std.proofs.Common.{◌≡◌, suc, ◌<◌, ◌&&◌, None, option_map, sym, ap, ◌∙◌, length, arith, refl}
 use Rattle.std.specs.Prelude.{◌==◌}
 use Rattle.std.proofs.lemmas.Option.{slice_get_read}
 use Rattle.cmark_grammar.specs.Containers as grammar
 use Rattle.cmark_lines.specs.Rests.{row_of}
 use Rattle.cmark_lines.specs.Starts.{Shows}
-use Rattle.cmark_blocks.proofs.KeptSteps.{keeps-on, keeps-not, keeps-all, kept-told, kept-past}
+use Rattle.cmark_blocks.proofs.KeptSteps.{keeps-on, keeps-not, keeps-all, behind-more}
 use Rattle.cmark_blocks.proofs.state.Pass.kept_by.Goals as goal
 
 pub returns-in_default-clause-kept : goal.returns-in_default-clause-kept
@@ -23,8 +23,6 @@ pub loop-kept-preserved : goal.loop-kept-preserved
 loop-kept-preserved g c =
     let k = c.loop-kept.kept in
     let rest = c.loop-kept.rest in
-    let keeps : (g : grammar.Container) → Shows c.index.result.now.container g → Some (row_of c.in-Some.inside) ≡ grammar.keeps g c.is_bare-bare.result (row_of rest) =
-    λ k shows. ap (option_map row_of) (sym c.in-Some.is) ∙ c.keeps.ensures.row k shows in
     let cs = c.args.self.now.outer.items in
     let within : k < length cs = omega (arith, c.loop-kept-test.true, c.len.ensures, c.args.self.now.outer.ok.0) in (
       λ text options lookup m runs.
@@ -35,8 +33,8 @@ loop-kept-preserved g c =
           _ (omega arith),
       omega (arith, within),
       λ text is. c.in-Some.ensures.placed text (c.loop-kept.invariant.2 text is),
-      λ text told. kept-told c.index.result.now.container _ rest c.in-Some.inside keeps text (c.loop-kept.invariant.3 text told),
-      kept-past c.index.result.now.container _ rest c.in-Some.inside keeps ∙ c.loop-kept.invariant.4,
+      behind-more c.args.line rest c.in-Some.inside c.index.result.now.container c.is_bare-bare.result
+          (λ k shows. ap (option_map row_of) (sym c.in-Some.is) ∙ c.keeps.ensures.row k shows) c.loop-kept.invariant.3,
     )
 
 pub returns-clause-kept : goal.returns-clause-kept
