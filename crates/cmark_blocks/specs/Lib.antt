@@ -1,4 +1,5 @@
 pub mod Ahead
+pub mod FirstPass
 pub mod Kept
 pub mod Runs
 pub mod Shown

@@ -5,8 +5,11 @@
 mod ahead;
 mod begin;
 mod containers;
+mod first_pass;
 mod leaf;
 mod paragraph;
 mod pass;
 mod siblings;
 mod state;
+
+pub use first_pass::{FirstPass, run_first_pass};
