@@ -20,7 +20,7 @@ pub struct FirstPass<'a> {
 
 /// The tree of a text's blocks, and its tables. `entities` says what the entity names stand for. Fails where memory is refused.
 pub fn run_first_pass<'a, E: EntityLookup>(
-    _alloc: Global,
+    alloc: Global,
     text: &'a str,
     options: Options,
     entities: &'a E,

@@ -1,12 +1,12 @@
 -- What a run did.
 use Rattle.std.specs.Prelude.{◌≡◌, ℕ, List, ◌++◌, map, Option, Result, Ok, Err, IsUtf8}
 use Rattle.std.specs.Io.KnownBytes.{Appends, Consumes, IsAtEnd, Keeps}
-use Rattle.cmark_grammar.specs.Answers.{Absent, Lookup}
-use Rattle.cmark_grammar.specs.Document.{Document}
+use Rattle.cmark_grammar.specs.Answers.{Lookup}
+use Rattle.cmark_grammar.specs.BlockDocument.{BlockDocument}
+use Rattle.cmark_grammar.specs.BlockReading.{block_reading}
+use Rattle.cmark_grammar.specs.Derivation.{Derives}
 use Rattle.cmark_grammar.specs.Html.{html}
 use Rattle.cmark_grammar.specs.Options.{no_options}
-use Rattle.cmark_grammar.specs.Outline.{Derives}
-use Rattle.cmark_grammar.specs.Reading.{reading}
 use Rattle.mdhtml.specs.Faults.{ReadStops, WriteStops}
 use Rattle.mdhtml.specs.declared.fault.RunFault.{RunFault}
 use Rattle.mdhtml.specs.declared.fault.RunFault.TheVariants.{Memory, Read, NotUtf8, Write}
@@ -15,9 +15,9 @@ use Rattle.mdhtml.specs.declared.watched.Notes.{Notes}
 
 -- the output is the HTML of a document that the text derives
 pub record Renders (text : List ℕ) (lookup : Lookup) (output : List ℕ) : Type 0 where
-  pub document : Document
-  pub derives : Derives text no_options lookup Absent document
-  pub output_is : output ≡ html (map (λ ranged. ranged.event) (reading document))
+  pub document : BlockDocument
+  pub derives : Derives text no_options lookup document
+  pub output_is : output ≡ html (map (λ ranged. ranged.event) (block_reading document))
 
 -- a reader gave these bytes and is at its end: the bytes are all that it had, where it tells what it has left
 abbrev pub ReadsAll : Option (List ℕ) → Option (List ℕ) → List ℕ → Type 0
