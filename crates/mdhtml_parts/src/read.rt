@@ -2,8 +2,8 @@
 
 ghost use Rattle.std.specs.Prelude.{◌≡◌, ◌≤◌, IfOk, IfErr, OnOk, vec_len};
 ghost use Rattle.std.specs.Io.KnownBytes.{Consumes, IsAtEnd};
-ghost use Rattle.mdhtml.specs.Ends.{watched_end, watched_notes};
-ghost use Rattle.mdhtml.specs.Faults.{ReadStops};
+ghost use Rattle.mdhtml_parts.specs.Ends.{watched_end, watched_notes};
+ghost use Rattle.mdhtml_parts.specs.Faults.{ReadStops};
 
 use crate::fault::RunFault;
 use crate::watched::{PATIENCE, Watched};

@@ -1,8 +1,8 @@
 use Rattle.std.proofs.Common.{◌≡◌, ◌<◌, ◌≤◌, ◌+◌, ◌-◌, ◌*◌, false, vec_len, length}
 use Rattle.std.specs.Io.KnownBytes.{Consumes}
-use Rattle.mdhtml.specs.declared.read.TheConstants.{CHUNK}
-use Rattle.mdhtml.specs.declared.watched.TheConstants.{PATIENCE}
-use Rattle.mdhtml.proofs.read.read_all.Given as goal
+use Rattle.mdhtml_parts.specs.declared.read.TheConstants.{CHUNK}
+use Rattle.mdhtml_parts.specs.declared.watched.TheConstants.{PATIENCE}
+use Rattle.mdhtml_parts.proofs.read.read_all.Given as goal
 
 abbrev pub invariant-loop-bytes : goal.invariant-loop-bytes
 invariant-loop-bytes g l = record {

@@ -4,7 +4,7 @@ use Rattle.std.proofs.lemmas.List.{take_rest}
 use lib.Seq.{take-add}
 use Rattle.std.specs.Io.KnownBytes.{Appends}
 use Rattle.std.proofs.KnownBytes.{Appends-trans}
-use Rattle.mdhtml.specs.Runs.{AppendsFrontOf}
+use Rattle.mdhtml_parts.specs.Runs.{AppendsFrontOf}
 
 -- the first n bytes are a beginning
 pub front_at : (a b : Option (List ℕ)) (text : List ℕ) (n : ℕ) → Appends a b (take n text) → AppendsFrontOf a b text

@@ -4,7 +4,7 @@ use Rattle.std.specs.IoError.{error_kind}
 use Rattle.std.specs.declared.io.Error.{Error}
 use Rattle.std.specs.declared.io.ErrorKind.{ErrorKind}
 use Rattle.std.specs.declared.io.ErrorKind.TheVariants.{Interrupted}
-use Rattle.mdhtml.specs.declared.watched.Notes.{Notes}
+use Rattle.mdhtml_parts.specs.declared.watched.Notes.{Notes}
 
 -- no call yet
 abbrev pub no_notes : Notes

@@ -1,9 +1,9 @@
 -- The exit status of a fault, and what the notes show where a fault is answered.
 use Rattle.std.specs.Prelude.{◌≡◌, ◌⊎◌, ◌≤◌, ◌<◌, ℕ, true}
-use Rattle.mdhtml.specs.declared.fault.RunFault.{RunFault}
-use Rattle.mdhtml.specs.declared.fault.RunFault.TheVariants.{Memory, Read, NotUtf8, Write}
-use Rattle.mdhtml.specs.declared.watched.Notes.{Notes}
-use Rattle.mdhtml.specs.declared.watched.TheConstants.{PATIENCE}
+use Rattle.mdhtml_parts.specs.declared.fault.RunFault.{RunFault}
+use Rattle.mdhtml_parts.specs.declared.fault.RunFault.TheVariants.{Memory, Read, NotUtf8, Write}
+use Rattle.mdhtml_parts.specs.declared.watched.Notes.{Notes}
+use Rattle.mdhtml_parts.specs.declared.watched.TheConstants.{PATIENCE}
 
 abbrev pub status_of : RunFault → ℕ
 status_of Memory = 1

@@ -1,6 +1,6 @@
 -- What a watched end shows.
-use Rattle.mdhtml.specs.declared.watched.Watched.{Watched}
-use Rattle.mdhtml.specs.declared.watched.Notes.{Notes}
+use Rattle.mdhtml_parts.specs.declared.watched.Watched.{Watched}
+use Rattle.mdhtml_parts.specs.declared.watched.Notes.{Notes}
 
 -- the reader or writer that is watched
 abbrev pub watched_end : {E : Type 0} → Watched E → E

@@ -1,7 +1,7 @@
 use Rattle.std.proofs.Common.{◌≡◌, ◌<◌, ◌≤◌, ◌+◌, ◌-◌, ◌*◌, false, take, length}
 use Rattle.std.specs.Io.KnownBytes.{Appends}
-use Rattle.mdhtml.specs.declared.watched.TheConstants.{PATIENCE}
-use Rattle.mdhtml.proofs.write.write_text.Given as goal
+use Rattle.mdhtml_parts.specs.declared.watched.TheConstants.{PATIENCE}
+use Rattle.mdhtml_parts.proofs.write.write_text.Given as goal
 
 abbrev pub invariant-loop-at : goal.invariant-loop-at
 invariant-loop-at g l = record {

@@ -2,8 +2,8 @@ use Rattle.std.proofs.Common.{◌+◌, length, arith, ap, length-drop}
 use Rattle.std.proofs.lemmas.List.{take_rest}
 use Rattle.std.proofs.lemmas.Grind.{common_steps}
 use Rattle.std.proofs.KnownBytes.{Appends-kept}
-use Rattle.mdhtml.proofs.FrontSteps.{front_at, written_more}
-use Rattle.mdhtml.proofs.write.write_text.Goals as goal
+use Rattle.mdhtml_parts.proofs.FrontSteps.{front_at, written_more}
+use Rattle.mdhtml_parts.proofs.write.write_text.Goals as goal
 
 pub returns-in-Ok-eq0-clause-front : goal.returns-in-Ok-eq0-clause-front
 returns-in-Ok-eq0-clause-front g c =

@@ -3,8 +3,8 @@
 ghost use Rattle.std.specs.Prelude.{◌≡◌};
 ghost use Rattle.std.specs.Io.{ReadsAtMost, WritesAtMost};
 ghost use Rattle.std.specs.Io.KnownBytes.{ReadConsumes, WriteAppends, Keeps};
-ghost use Rattle.mdhtml.specs.Ends.{watched_end, watched_notes};
-ghost use Rattle.mdhtml.specs.Notes.{no_notes, noted_moved, noted_failed, noted_error, noted_read, noted_write, noted_flush};
+ghost use Rattle.mdhtml_parts.specs.Ends.{watched_end, watched_notes};
+ghost use Rattle.mdhtml_parts.specs.Notes.{no_notes, noted_moved, noted_failed, noted_error, noted_read, noted_write, noted_flush};
 
 use std::io;
 use std::io::{ErrorKind, Read, Write};

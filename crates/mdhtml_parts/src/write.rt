@@ -2,9 +2,9 @@
 
 ghost use Rattle.std.specs.Prelude.{IfErr, OnOk, OnErr};
 ghost use Rattle.std.specs.Io.KnownBytes.{Appends};
-ghost use Rattle.mdhtml.specs.Ends.{watched_end, watched_notes};
-ghost use Rattle.mdhtml.specs.Faults.{WriteStops};
-ghost use Rattle.mdhtml.specs.Runs.{AppendsFrontOf};
+ghost use Rattle.mdhtml_parts.specs.Ends.{watched_end, watched_notes};
+ghost use Rattle.mdhtml_parts.specs.Faults.{WriteStops};
+ghost use Rattle.mdhtml_parts.specs.Runs.{AppendsFrontOf};
 
 use crate::fault::RunFault;
 use crate::watched::{PATIENCE, Watched};
