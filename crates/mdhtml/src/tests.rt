@@ -11,7 +11,10 @@ fn writes_the_html(rt: HostRuntime) -> Result<(), Fail> {
         (b"# a\nb\nc\n", b"<h1>a</h1>\n<p>b\nc</p>\n"),
         (b"a\r\n\r\nb", b"<p>a</p>\n<p>b</p>\n"),
         (b"###\n", b"<h3></h3>\n"),
-        (b"> - a\n", b"<blockquote>\n<ul>\n<li>a</li>\n</ul>\n</blockquote>\n"),
+        (
+            b"> - a\n",
+            b"<blockquote>\n<ul>\n<li>a</li>\n</ul>\n</blockquote>\n",
+        ),
     ];
     for (input, html) in cases {
         let mut reader = Watched::new(input);

@@ -12,8 +12,8 @@ use Rattle.cmark_walk.specs.Walking as walking
 use Rattle.cmark_walk.specs.Walking.{shown_ranged}
 use Rattle.cmark_walk.proofs.OneRemainder.{one-remainder}
 use Rattle.pulldown_cmark.specs.declared.parse.Parser.{Parser}
-use Rattle.pulldown_cmark.specs.Walking.{before}
-use Rattle.pulldown_cmark.specs.Parsing.{CanGo, GivesStep, IsLeft, Reads, Remains, definitions}
+use Rattle.pulldown_cmark.specs.Walking.{GoesOn, before}
+use Rattle.pulldown_cmark.specs.Parsing.{CanGo, IsOver, GivesStep, IsLeft, Reads, Remains, Shows, definitions}
 
 some-none : {A : Type 0} (x : A) → Some x ≡ None → ⊥
 some-none x e = let q : Some x ≡ None = e in cc
@@ -30,8 +30,11 @@ module _ {E : Type 0} where
   going-left parser events some (inr r) = r
 
   pub going : (parser : Parser E) → (parser.budget ≡ 0 → ⊥) → CanGo parser → Going parser
-  going parser some (inl over) = absurd (some over)
-  going parser some (inr l) = let r = going-left parser l.1 some l.2.left in record { events = l.1; remains = r.0; few = r.1 }
+  going parser some can = go can.goes
+    where
+      go : GoesOn Remains IsOver Shows parser → Going parser
+      go (inl over) = absurd (some over)
+      go (inr l) = let r = going-left parser l.1 some l.2.left in record { events = l.1; remains = r.0; few = r.1 }
 
   not-over : (parser : Parser E) → Going parser → parser.budget ≡ 0 → ⊥
   not-over parser g e = let f = g.few in omega (arith, f, e)
@@ -79,3 +82,7 @@ module _ {E : Type 0} where
           let w = going-left parser events (λ z. omega (arith, z, most)) r.left in
           (document text options lookup, derived text options lookup, tt, one-remainder parser.walk events (block_reading (document text options lookup)) w.0 remains)
       reads (Given later) events r = absurd (let q : Given later ≡ Absent = r.silent in cc)
+
+  -- at its start a parser can go
+  pub can-begin : (parser : Parser E) (text : List ℕ) (options : Options) (lookup : Lookup) → Reads text options lookup parser → CanGo parser
+  can-begin parser text options lookup r = record { goes = inr (Absent, r.some.0, r.some.1) }

@@ -52,8 +52,9 @@ module _ {E : Type 0} where
     pub silent : answers ≡ Absent
     pub left : IsLeft parser events
 
-  abbrev pub CanGo : Parser E → Type 0
-  CanGo parser = GoesOn Remains IsOver Shows parser
+  -- a call may be made: the walk is over, or some events are left
+  pub record CanGo (parser : Parser E) : Type 0 where
+    pub goes : GoesOn Remains IsOver Shows parser
 
   -- one call: the first event of what was left, and the same definitions
   pub record Gives (old : Parser E) (given : Option (Result Event AllocError)) (new : Parser E) : Type 0 where
@@ -75,6 +76,9 @@ module _ {E : Type 0} where
       (folded : List ℕ) → option_map shown_definition (definition (definitions parser) folded) ≡ option_map shown_reference (first_with fold folded (references (document text options lookup)))
 
   -- the same of a walk that gives ranges
+  abbrev pub walk_of : OffsetIter E → Parser E
+  walk_of iter = iter.parser
+
   abbrev pub ranged_left : OffsetIter E → ℕ
   ranged_left iter = events_left iter.parser
 
@@ -88,7 +92,7 @@ module _ {E : Type 0} where
   IsRangedOver iter = IsOver iter.parser
 
   abbrev pub CanGoRanged : OffsetIter E → Type 0
-  CanGoRanged iter = GoesOn RemainsRanged IsRangedOver ShowsRanged iter
+  CanGoRanged iter = CanGo iter.parser
 
   pub record GivesRanged (old : OffsetIter E) (given : Option (Result (Event × Range ℕ) AllocError)) (new : OffsetIter E) : Type 0 where
     pub next : GivesNext RemainsRanged IsRangedOver ShowsRanged old given new

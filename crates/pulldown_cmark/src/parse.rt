@@ -1,9 +1,7 @@
 //! The parser: iterators over the events of a text's document.
 
-ghost use Rattle.std.specs.Prelude.{◌≡◌, ◌↔◌, List, IfOk};
+ghost use Rattle.std.specs.Prelude.{◌≡◌, IfOk};
 ghost use Rattle.std.specs.Iterator.{at_most};
-ghost use Rattle.cmark_grammar.specs.Answers.{Answers};
-ghost use Rattle.cmark_grammar.specs.Event.{Ranged as Shown};
 ghost use Rattle.cmark_grammar.specs.Options.{no_options};
 ghost use Rattle.cmark_text.specs.Shown.{shown_options};
 
@@ -37,7 +35,7 @@ pub struct Parser<'input, E> {
 const EVENTS_A_BYTE: u128 = 8;
 
 impl<'input, E: EntityLookup> Parser<'input, E> {
-    ghost use Rattle.pulldown_cmark.specs.Parsing.{Reads, Defines, Remains, IsOver, RemainsRanged, IsRangedOver, CanGo, GivesStep, definitions, ranged_definitions};
+    ghost use Rattle.pulldown_cmark.specs.Parsing.{Reads, Defines, CanGo, CanGoRanged, GivesStep, definitions, walk_of};
 
     /// A parser of `text`, with no extension. `entities` says what the entity names stand for. Where memory is refused
     /// there is no parser.
@@ -48,6 +46,7 @@ impl<'input, E: EntityLookup> Parser<'input, E> {
     ) -> Result<Parser<'input, E>, AllocError>
         ensures reads { IfOk result (Reads text.entry.now no_options (E.replacement entities.entry.now)) }
         ensures definitions { IfOk result (Defines text.entry.now no_options (E.replacement entities.entry.now)) }
+        ensures goes { IfOk result CanGo }
     {
         let parser = Parser::new_ext(alloc, text, Options::empty(), entities)?;
         Ok(parser)
@@ -63,6 +62,7 @@ impl<'input, E: EntityLookup> Parser<'input, E> {
     ) -> Result<Parser<'input, E>, AllocError>
         ensures reads { IfOk result (Reads text.entry.now (shown_options options) (E.replacement entities.entry.now)) }
         ensures definitions { IfOk result (Defines text.entry.now (shown_options options) (E.replacement entities.entry.now)) }
+        ensures goes { IfOk result CanGo }
     {
         let FirstPass { tree, allocations } = run_first_pass(alloc, text, options, entities)?;
         let budget = text.len() as u128 * EVENTS_A_BYTE + 1;
@@ -83,9 +83,8 @@ impl<'input, E: EntityLookup> Parser<'input, E> {
 
     /// The same walk, from where it stands, with the range of each event.
     pub fn into_offset_iter(self) -> OffsetIter<'input, E>
-        ensures remains { (answers : Answers) (events : List Shown) → Remains self.entry answers events ↔ RemainsRanged result answers events }
-        ensures over { IsOver self.entry ↔ IsRangedOver result }
-        ensures definitions { ranged_definitions result ≡ definitions self.entry }
+        ensures walk { walk_of result ≡ self.entry }
+        ensures goes { CanGo self.entry → CanGoRanged result }
     {
         OffsetIter { parser: self }
     }
