@@ -4,5 +4,6 @@ pub mod DefinitionSteps
 pub mod GatherSteps
 pub mod KeptSteps
 pub mod LeafSteps
+pub mod LineFeeds
 pub mod ReferenceSteps
 pub mod RunSteps

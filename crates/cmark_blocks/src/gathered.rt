@@ -8,6 +8,7 @@ ghost use Rattle.cmark_lines.specs.Rests.{row_of};
 ghost use Rattle.cmark_blocks.specs.Runs.{IsRead};
 
 use crate::state::Pass;
+use cmark_definitions::is_settled;
 use cmark_lines::LineRest;
 use cmark_text::EntityLookup;
 use std::alloc::AllocError;
@@ -53,7 +54,7 @@ fn line_end_of(rest: LineRest<'_>) -> &'static str
 impl<'a, E: EntityLookup> Pass<'a, E> {
     ghost use Rattle.std.specs.Prelude.{false};
     ghost use Rattle.cmark_blocks.specs.Runs.{IsRead};
-    ghost use Rattle.cmark_blocks.specs.Gathered.{IsGathered, Gathers, GathersLine, IsWhole};
+    ghost use Rattle.cmark_blocks.specs.Gathered.{IsGathered, Gathers, GathersLine, GathersMore, Decides};
 
     /// The first line.
     fn gather_first(&self, rest: LineRest<'a>) -> Result<Gathered<'a>, AllocError>
@@ -87,16 +88,41 @@ impl<'a, E: EntityLookup> Pass<'a, E> {
         Ok(true)
     }
 
-    /// The whole text of the paragraph that this line may begin.
+    /// One more line, and further ones until the text has this size. Answers whether the paragraph may go on with more.
+    fn gather_lines(&self, gathered: &mut Gathered<'a>, size: usize) -> Result<bool, AllocError>
+        requires bare { self.now.bare ≡ false }
+        requires gathered { IsGathered self.now.text.now gathered.old }
+        ensures gathered { IfOk result (λ more. IsGathered self.now.text.now gathered.new) }
+        ensures lines { IfOk result (λ more. GathersMore E.replacement self.now gathered.old more gathered.new) }
+    {
+        if !self.gather_line(gathered)? {
+            return Ok(false);
+        }
+        while gathered.text.len() < size {
+            if !self.gather_line(gathered)? {
+                return Ok(false);
+            }
+        }
+        Ok(true)
+    }
+
+    /// The text of the paragraph that this line may begin, as far as it is needed to know whether a link reference definition
+    /// stands in front of it. The text is searched only when it is twice as long as at the last search, so that it is read a few
+    /// times, however many lines it has.
     pub(crate) fn gather(&self, rest: LineRest<'a>) -> Result<Gathered<'a>, AllocError>
         requires line { IsRead self.now.text.now rest }
         requires bare { self.now.bare ≡ false }
         ensures gathered { IfOk result (IsGathered self.now.text.now) }
         ensures holds { IfOk result (Gathers E.replacement self.now rest.entry) }
-        ensures whole { IfOk result (IsWhole E.replacement self.now) }
+        ensures decides { IfOk result (Decides E.replacement self.now) }
     {
         let mut gathered = self.gather_first(rest)?;
-        while self.gather_line(&mut gathered)? {}
+        while !is_settled(gathered.text.as_str()) {
+            let size = gathered.text.len().saturating_mul(2);
+            if !self.gather_lines(&mut gathered, size)? {
+                return Ok(gathered);
+            }
+        }
         Ok(gathered)
     }
 }
