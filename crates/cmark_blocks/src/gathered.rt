@@ -56,13 +56,14 @@ impl<'a, E: EntityLookup> Pass<'a, E> {
     ghost use Rattle.cmark_blocks.specs.Runs.{IsRead};
     ghost use Rattle.cmark_blocks.specs.Gathered.{IsGathered, Gathers, GathersLine, GathersMore, Decides};
 
-    /// The first line.
-    fn gather_first(&self, rest: LineRest<'a>) -> Result<Gathered<'a>, AllocError>
+    /// The first line, in this memory.
+    fn gather_first(&self, rest: LineRest<'a>, room: String) -> Result<Gathered<'a>, AllocError>
         requires line { IsRead self.now.text.now rest }
         ensures gathered { IfOk result (IsGathered self.now.text.now) }
         ensures holds { IfOk result (Gathers E.replacement self.now rest.entry) }
     {
-        let mut text = String::new(self.alloc);
+        let mut text = room;
+        text.clear();
         text.push_str(words_in(self.text, rest))?;
         Ok(Gathered {
             text,
@@ -108,15 +109,19 @@ impl<'a, E: EntityLookup> Pass<'a, E> {
 
     /// The text of the paragraph that this line may begin, as far as it is needed to know whether a link reference definition
     /// stands in front of it. The text is searched only when it is twice as long as at the last search, so that it is read a few
-    /// times, however many lines it has.
-    pub(crate) fn gather(&self, rest: LineRest<'a>) -> Result<Gathered<'a>, AllocError>
+    /// times, however many lines it has. It stands in this memory.
+    pub(crate) fn gather(
+        &self,
+        rest: LineRest<'a>,
+        room: String,
+    ) -> Result<Gathered<'a>, AllocError>
         requires line { IsRead self.now.text.now rest }
         requires bare { self.now.bare ≡ false }
         ensures gathered { IfOk result (IsGathered self.now.text.now) }
         ensures holds { IfOk result (Gathers E.replacement self.now rest.entry) }
         ensures decides { IfOk result (Decides E.replacement self.now) }
     {
-        let mut gathered = self.gather_first(rest)?;
+        let mut gathered = self.gather_first(rest, room)?;
         while !is_settled(gathered.text.as_str()) {
             let size = gathered.text.len().saturating_mul(2);
             if !self.gather_lines(&mut gathered, size)? {
