@@ -2,6 +2,7 @@ pub mod Beginning
 pub mod Closing
 pub mod CodeRuns
 pub mod Defines
+pub mod Drawings
 pub mod Draws
 pub mod Feeding
 pub mod Filled

@@ -1,10 +1,13 @@
 //! Theorems over the block pass, each the contract of a function that does nothing.
 
-ghost use Rattle.std.specs.Prelude.{◌≡◌, ℕ, false, List, []};
+ghost use Rattle.std.specs.Prelude.{◌≡◌, ℕ, false, ◌*◌, ◌≤◌, List, [], length, IsUtf8, IsCharBoundary};
 ghost use Rattle.cmark_grammar.specs.Answers.{Lookup};
-ghost use Rattle.cmark_grammar.specs.Derivation.{document};
+ghost use Rattle.cmark_grammar.specs.BlockDocument.{BlockDocument};
+ghost use Rattle.cmark_grammar.specs.BlockReading.{block_reading};
+ghost use Rattle.cmark_grammar.specs.Derivation.{Derives, document};
 ghost use Rattle.cmark_grammar.specs.DrawnDocument.{settled, without_definitions};
 ghost use Rattle.cmark_grammar.specs.Options.{Options};
+ghost use Rattle.cmark_grammar.specs.Ranges.{AllAt, InOrder};
 ghost use Rattle.cmark_grammar.specs.References.{references};
 ghost use Rattle.cmark_block_model.specs.BlockPass.{pass_over};
 
@@ -17,4 +20,26 @@ pub fn pass_draws_the_document()
     ensures closed { (text : List ℕ) (options : Options) (lookup : Lookup) → (pass_over text options lookup).drawing.up ≡ [] }
     ensures referred { (text : List ℕ) (options : Options) (lookup : Lookup)
         → (pass_over text options lookup).references ≡ references (document text options lookup) }
+{}
+
+/// A document without its link reference definitions is read as the document is (CommonMark 4.7).
+pub fn definitions_are_not_read()
+    ensures { (document : BlockDocument) → block_reading (without_definitions document) ≡ block_reading document }
+{}
+
+/// What the pass over a text draws is read as the document that the text derives, where the paragraphs of tight lists are
+/// settled; its ranges lie in order in the text, and cut no character of it.
+pub fn drawing_is_read_as_the_document()
+    ensures read { (text : List ℕ) (options : Options) (lookup : Lookup)
+        → block_reading (settled false (pass_over text options lookup).drawing.here) ≡ block_reading (document text options lookup) }
+    ensures in_order { (text : List ℕ) (options : Options) (lookup : Lookup)
+        → InOrder 0 (pass_over text options lookup).drawing.here (length text) }
+    ensures uncut { (text : List ℕ) (options : Options) (lookup : Lookup)
+        → IsUtf8 text → AllAt (IsCharBoundary text) (pass_over text options lookup).drawing.here }
+{}
+
+/// A document is read as eight events at most a byte of its text.
+pub fn events_are_few()
+    ensures { (text : List ℕ) (options : Options) (lookup : Lookup) (document : BlockDocument)
+        → Derives text options lookup document → length (block_reading document) ≤ 8 * length text }
 {}

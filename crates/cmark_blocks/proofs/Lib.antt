@@ -1,9 +1,17 @@
 pub mod AheadSteps
 pub mod ClosingSteps
+pub mod CodeSteps
 pub mod DefinitionSteps
+pub mod FeedSteps
 pub mod GatherSteps
+pub mod HtmlSteps
+pub mod IndentedSteps
+pub mod InfoSteps
 pub mod KeptSteps
 pub mod LeafSteps
 pub mod LineFeeds
+pub mod LineSteps
+pub mod OpeningSteps
+pub mod PassSteps
 pub mod ReferenceSteps
 pub mod RunSteps

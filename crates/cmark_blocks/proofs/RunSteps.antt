@@ -136,6 +136,34 @@ module _ {E : Type 0} (replacement : E → Lookup) (text : List ℕ) (lookup : L
     references = runs.references;
   }
 
+  -- whether the innermost container is a bare item
+  pub runs-bare : (bare : Bool) → Runs replacement text lookup m pass → Runs replacement text lookup (record m { bare = bare }) (record pass { bare = bare })
+  runs-bare bare runs = record {
+    text_is = runs.text_is;
+    lookup_is = runs.lookup_is;
+    drawing = runs.drawing;
+    inner = runs.inner;
+    outer = runs.outer;
+    bare = refl;
+    leaf = runs.leaf;
+    past = runs.past;
+    references = runs.references;
+  }
+
+  -- where the next line begins
+  pub runs-past : (past there : ℕ) → Runs replacement text lookup m pass → past ≡ there → Runs replacement text lookup (record m { past = there }) (record pass { past = past })
+  runs-past past there runs same = record {
+    text_is = runs.text_is;
+    lookup_is = runs.lookup_is;
+    drawing = runs.drawing;
+    inner = runs.inner;
+    outer = runs.outer;
+    bare = runs.bare;
+    leaf = runs.leaf;
+    past = same;
+    references = runs.references;
+  }
+
   -- what stands in the memory for a paragraph's text does not matter
   pub runs-room : (room : String Global) → Runs replacement text lookup m pass → Runs replacement text lookup m (record pass { room = room })
   runs-room room runs = record {

@@ -1,6 +1,10 @@
 pub mod Ahead
+pub mod Entered
+pub mod Fed
+pub mod FirstPass
 pub mod Found
 pub mod Gathered
+pub mod IndentedLines
 pub mod Kept
 pub mod Runs
 pub mod Shown

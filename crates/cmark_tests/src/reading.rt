@@ -34,18 +34,61 @@ fn renders(rt: HostRuntime) -> Result<(), Fail> {
         ("a\rb", "<p>a\nb</p>\n"),
         ("####### a\n", "<p>####### a</p>\n"),
         ("   ## a ##  \n", "<h2>a</h2>\n"),
-        ("    # a\n", "<p># a</p>\n"),
-        (" \t# a\n", "<p># a</p>\n"),
-        (
-            "  \t x \t\n\t\n<&>\"'",
-            "<p>x</p>\n<p>&lt;&amp;&gt;\"'</p>\n",
-        ),
+        ("    # a\n", "<pre><code># a\n</code></pre>\n"),
+        (" \t# a\n", "<pre><code># a\n</code></pre>\n"),
+        ("x \t\n\t\n<&>\"'", "<p>x</p>\n<p>&lt;&amp;&gt;\"'</p>\n"),
         ("a\n# #\nb", "<p>a</p>\n<h1></h1>\n<p>b</p>\n"),
         ("# a#\n#b\n", "<h1>a#</h1>\n<p>#b</p>\n"),
         ("###### \u{e9}\n", "<h6>\u{e9}</h6>\n"),
+        ("a\n===\n", "<h1>a</h1>\n"),
+        ("***\n", "<hr />\n"),
+        ("a  \nb\\\nc\n", "<p>a<br />\nb<br />\nc</p>\n"),
+        ("a \\# &lt; b\n", "<p>a # &lt; b</p>\n"),
+        (
+            "```rust x\na<b\n```\n",
+            "<pre><code class=\"language-rust\">a&lt;b\n</code></pre>\n",
+        ),
+        ("<div>\n*a*\n", "<div>\n*a*\n"),
+        ("[a]: /b 'c'\n\nd\n", "<p>d</p>\n"),
     ] {
         assert_eq!(rt; html_of(rt.alloc(), text)?.as_str(), html, "of {text:?}");
     }
+    Ok(())
+}
+
+#[test]
+fn renders_containers(rt: HostRuntime) -> Result<(), Fail> {
+    for (text, html) in [
+        ("> a\nb\n", "<blockquote>\n<p>a\nb</p>\n</blockquote>\n"),
+        ("- a\n- b\n", "<ul>\n<li>a</li>\n<li>b</li>\n</ul>\n"),
+        (
+            "- a\n\n- b\n",
+            "<ul>\n<li>\n<p>a</p>\n</li>\n<li>\n<p>b</p>\n</li>\n</ul>\n",
+        ),
+        ("3. a\n", "<ol start=\"3\">\n<li>a</li>\n</ol>\n"),
+        (
+            "> - # a\n",
+            "<blockquote>\n<ul>\n<li>\n<h1>a</h1>\n</li>\n</ul>\n</blockquote>\n",
+        ),
+    ] {
+        assert_eq!(rt; html_of(rt.alloc(), text)?.as_str(), html, "of {text:?}");
+    }
+    Ok(())
+}
+
+#[test]
+fn keeps_the_definitions(rt: HostRuntime) -> Result<(), Fail> {
+    let text = "[Foo]: /a 'b'\n[foo]: /c\n\nd\n";
+    let mut parser = Parser::new(rt.alloc(), text, &BasicEntities)?;
+    for _ in 0..4 {
+        let found = parser.reference_definitions().get("FOO")?;
+        assert!(rt; found.is_some_and(|def| def.dest.as_str() == "/a"));
+        assert!(rt; parser.reference_definitions().get("d")?.is_none());
+        let _given = parser.next();
+    }
+    let iter = parser.into_offset_iter();
+    let found = iter.reference_definitions().get("foo")?;
+    assert!(rt; found.is_some_and(|def| def.title.is_some()));
     Ok(())
 }
 
@@ -75,6 +118,11 @@ fn gives_ranges(rt: HostRuntime) -> Result<(), Fail> {
     );
     let bare = ranges_of(rt.alloc(), "###\n")?;
     assert_eq!(rt; bare.as_slice(), [(0, 4), (0, 4)].as_slice());
+    let nested = ranges_of(rt.alloc(), "> - a\n")?;
+    assert_eq!(rt;
+        nested.as_slice(),
+        [(0, 6), (2, 6), (2, 6), (4, 5), (2, 6), (2, 6), (0, 6)].as_slice()
+    );
     let none = ranges_of(rt.alloc(), "")?;
     assert_eq!(rt; none.len(), 0);
     Ok(())

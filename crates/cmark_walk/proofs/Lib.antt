@@ -1,4 +1,5 @@
 pub mod LeaveSteps
 pub mod NewSteps
+pub mod OneRemainder
 pub mod Paths
 pub mod WalkSteps

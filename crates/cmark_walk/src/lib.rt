@@ -1,6 +1,7 @@
 //! From the tree of a document to its events, in preorder.
 #![tactic(auto)]
 
+pub mod laws;
 mod reading;
 #[cfg(test)]
 mod tests;

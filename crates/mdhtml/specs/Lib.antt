@@ -1,4 +1,1 @@
-pub mod Ends
-pub mod Faults
-pub mod Notes
-pub mod Runs
+pub mod Renders

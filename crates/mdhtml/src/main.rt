@@ -1,19 +1,12 @@
 //! Markdown on standard input, HTML on standard output.
 #![tactic(auto)]
 
-mod fault;
-mod read;
 mod run;
 #[cfg(test)]
-mod scripted;
-#[cfg(test)]
 mod tests;
-mod watched;
-mod write;
 
-use crate::fault::status;
 use crate::run::run;
-use crate::watched::Watched;
+use mdhtml_parts::{Watched, status};
 use pulldown_cmark::BasicEntities;
 use std::process::ExitCode;
 
@@ -24,7 +17,7 @@ fn main(rt: HostRuntime) -> ExitCode {
         Ok(()) => ExitCode::SUCCESS,
         Err(fault) => {
             // Where standard error is closed too, the status alone tells of the fault.
-            let _ = eprintln!(rt; "{fault}");
+            let _ = eprintln!(rt; "mdhtml: {fault}");
             ExitCode::from(status(&fault))
         }
     }

@@ -1,195 +1,37 @@
-use crate::fault::{RunFault, status};
-use crate::read::read_all;
 use crate::run::run;
-use crate::scripted::{Answer, Scripted};
-use crate::watched::{PATIENCE, Watched};
+use mdhtml_parts::{RunFault, Watched};
 use pulldown_cmark::BasicEntities;
-use std::alloc::{AllocError, Global};
 use std::test::Fail;
-
-const HELLO: &[u8] = b"hello world";
-
-const HELLO_HTML: &[u8] = b"<p>hello world</p>\n";
-
-/// What a run ended with, and what it wrote.
-#[derive(Drop)]
-struct Outcome {
-    result: Result<(), RunFault>,
-    written: Vec<u8>,
-}
-
-/// A run whose reads and writes go as the answers say.
-fn run_on(
-    alloc: Global,
-    input: &[u8],
-    reads: &[Answer],
-    writes: &[Answer],
-) -> Result<Outcome, AllocError> {
-    let mut reader = Watched::new(Scripted::new(alloc, input, reads));
-    let mut writer = Watched::new(Scripted::new(alloc, b"", writes));
-    let result = run(alloc, &mut reader, &mut writer, &BasicEntities);
-    let written = writer.end().held.clone()?;
-    Ok(Outcome { result, written })
-}
-
-/// So many times the same answer, and then another one.
-fn after(
-    alloc: Global,
-    count: usize,
-    answer: Answer,
-    last: Answer,
-) -> Result<Vec<Answer>, AllocError> {
-    let mut answers = vec![in alloc; answer; count]?;
-    answers.push(last)?;
-    Ok(answers)
-}
 
 #[test]
 fn writes_the_html(rt: HostRuntime) -> Result<(), Fail> {
-    let cases: [(&[u8], &[u8]); 5] = [
-        (HELLO, HELLO_HTML),
+    let cases: [(&[u8], &[u8]); 6] = [
+        (b"hello world", b"<p>hello world</p>\n"),
         (b"", b""),
         (b"# a\nb\nc\n", b"<h1>a</h1>\n<p>b\nc</p>\n"),
         (b"a\r\n\r\nb", b"<p>a</p>\n<p>b</p>\n"),
         (b"###\n", b"<h3></h3>\n"),
-    ];
-    let pieces = [
-        Answer::Interrupted,
-        Answer::Bytes(3),
-        Answer::Interrupted,
-        Answer::Bytes(4),
+        (
+            b"> - a\n",
+            b"<blockquote>\n<ul>\n<li>a</li>\n</ul>\n</blockquote>\n",
+        ),
     ];
     for (input, html) in cases {
-        let outcome = run_on(rt.alloc(), input, &[], &[])?;
-        assert_eq!(rt; outcome.result, Ok(()));
-        assert_eq!(rt; outcome.written.as_slice(), html);
-        let outcome = run_on(rt.alloc(), input, &pieces, &pieces)?;
-        assert_eq!(rt; outcome.written.as_slice(), html, "in pieces");
+        let mut reader = Watched::new(input);
+        let mut writer = Watched::new(Vec::new(rt.alloc()));
+        let result = run(rt.alloc(), &mut reader, &mut writer, &BasicEntities);
+        assert_eq!(rt; result, Ok(()));
+        assert_eq!(rt; writer.end().as_slice(), html);
     }
     Ok(())
 }
 
 #[test]
 fn refuses_what_is_no_text(rt: HostRuntime) -> Result<(), Fail> {
-    let inputs: [&[u8]; 3] = [b"\xff", b"hello\xff", b"hello\xc3"];
-    for input in inputs {
-        let outcome = run_on(rt.alloc(), input, &[], &[])?;
-        assert_eq!(rt; outcome.result, Err(RunFault::NotUtf8));
-        assert_eq!(rt; outcome.written.as_slice(), b"".as_slice());
-    }
-    assert_eq!(rt; status(&RunFault::NotUtf8), 4);
-    Ok(())
-}
-
-#[test]
-fn writes_nothing_after_a_failed_read(rt: HostRuntime) -> Result<(), Fail> {
-    // Eleven bytes in threes are four reads, and one more at the end.
-    for reads in 0..6 {
-        let answers = after(rt.alloc(), reads, Answer::Bytes(3), Answer::Failed)?;
-        let outcome = run_on(rt.alloc(), HELLO, answers.as_slice(), &[])?;
-        if reads < 5 {
-            assert_eq!(rt; outcome.result, Err(RunFault::Read), "after {reads} reads");
-            assert_eq!(rt; outcome.written.as_slice(), b"".as_slice());
-        } else {
-            assert_eq!(rt; outcome.result, Ok(()));
-            assert_eq!(rt; outcome.written.as_slice(), HELLO_HTML);
-        }
-    }
-    Ok(())
-}
-
-#[test]
-fn writes_a_beginning_before_a_failed_write(rt: HostRuntime) -> Result<(), Fail> {
-    // Nineteen bytes in threes are seven writes, and then comes the flush.
-    for writes in 0..9 {
-        let answers = after(rt.alloc(), writes, Answer::Bytes(3), Answer::Failed)?;
-        let outcome = run_on(rt.alloc(), HELLO, &[], answers.as_slice())?;
-        let written = (3 * writes).min(19);
-        assert_eq!(rt;
-            outcome.written.as_slice(),
-            &HELLO_HTML[..written],
-            "after {writes} writes"
-        );
-        let result = if writes < 8 {
-            Err(RunFault::Write)
-        } else {
-            Ok(())
-        };
-        assert_eq!(rt; outcome.result, result, "after {writes} writes");
-    }
-    Ok(())
-}
-
-#[test]
-fn takes_no_empty_write_for_progress(rt: HostRuntime) -> Result<(), Fail> {
-    let answers = [Answer::Bytes(3), Answer::Bytes(0)];
-    let outcome = run_on(rt.alloc(), HELLO, &[], &answers)?;
-    assert_eq!(rt; outcome.result, Err(RunFault::Write));
-    assert_eq!(rt; outcome.written.as_slice(), b"<p>".as_slice());
-    Ok(())
-}
-
-#[test]
-fn takes_an_interrupted_flush_for_a_failure(rt: HostRuntime) -> Result<(), Fail> {
-    let answers = [Answer::Bytes(19), Answer::Interrupted];
-    let outcome = run_on(rt.alloc(), HELLO, &[], &answers)?;
-    assert_eq!(rt; outcome.result, Err(RunFault::Write));
-    assert_eq!(rt; outcome.written.as_slice(), HELLO_HTML);
-    Ok(())
-}
-
-#[test]
-fn has_patience(rt: HostRuntime) -> Result<(), Fail> {
-    let most = PATIENCE as usize;
-    let enough = after(rt.alloc(), most - 1, Answer::Interrupted, Answer::Bytes(2))?;
-    let outcome = run_on(rt.alloc(), HELLO, enough.as_slice(), enough.as_slice())?;
-    assert_eq!(rt; outcome.result, Ok(()));
-    assert_eq!(rt; outcome.written.as_slice(), HELLO_HTML);
-    let too_many = after(rt.alloc(), most, Answer::Interrupted, Answer::Bytes(2))?;
-    let outcome = run_on(rt.alloc(), HELLO, too_many.as_slice(), &[])?;
-    assert_eq!(rt; outcome.result, Err(RunFault::Read));
-    let outcome = run_on(rt.alloc(), HELLO, &[], too_many.as_slice())?;
-    assert_eq!(rt; outcome.result, Err(RunFault::Write));
-    assert_eq!(rt; outcome.written.as_slice(), b"".as_slice());
-    Ok(())
-}
-
-#[test]
-fn reads_up_to_the_limit(rt: HostRuntime) -> Result<(), Fail> {
-    let mut reader = Watched::new(Scripted::new(rt.alloc(), b"abc", &[]));
-    let bytes = read_all(rt.alloc(), &mut reader, 3)?;
-    assert_eq!(rt; bytes.as_slice(), b"abc".as_slice());
-    assert_eq!(rt; reader.notes().moved, 3);
-    let pieces = [Answer::Bytes(2), Answer::Bytes(1), Answer::Bytes(1)];
-    let mut reader = Watched::new(Scripted::new(rt.alloc(), b"abcd", &pieces));
-    assert!(rt; read_all(rt.alloc(), &mut reader, 3).is_err());
-    assert!(rt; !reader.notes().failed);
-    assert_eq!(rt; reader.notes().moved, 4);
-    Ok(())
-}
-
-#[test]
-fn reads_more_than_one_chunk(rt: HostRuntime) -> Result<(), Fail> {
-    let input = vec![in rt.alloc(); b'a'; 200_000]?;
-    let mut reader = Watched::new(Scripted::new(rt.alloc(), input.as_slice(), &[]));
-    let bytes = read_all(rt.alloc(), &mut reader, 200_000)?;
-    assert_eq!(rt; bytes.as_slice(), input.as_slice());
-    Ok(())
-}
-
-#[test]
-fn says_each_fault(rt: HostRuntime) -> Result<(), Fail> {
-    let cases = [
-        (RunFault::Memory, 1, "mdhtml: out of memory", 1),
-        (RunFault::Read, 2, "mdhtml: read failed", 1),
-        (RunFault::NotUtf8, 3, "mdhtml: input is not UTF-8", 4),
-        (RunFault::Write, 5, "mdhtml: write failed", 1),
-    ];
-    for (fault, number, line, wanted) in cases {
-        let shown = format!(in rt.alloc(); "{fault}")?;
-        assert_eq!(rt; shown.as_str(), line);
-        assert_eq!(rt; status(&fault), wanted);
-        assert_eq!(rt; fault as u8, number);
-    }
+    let mut reader = Watched::new(b"hello\xc3".as_slice());
+    let mut writer = Watched::new(Vec::new(rt.alloc()));
+    let result = run(rt.alloc(), &mut reader, &mut writer, &BasicEntities);
+    assert_eq!(rt; result, Err(RunFault::NotUtf8));
+    assert_eq!(rt; writer.end().len(), 0);
     Ok(())
 }

@@ -1,10 +1,5 @@
-pub mod BuildSteps
 pub mod FrontSteps
 pub mod HtmlSteps
-pub mod IndentSteps
-pub mod LineSteps
-pub mod OpeningSteps
 pub mod ParseSteps
-pub mod ScanSteps
 pub mod WalkSteps
 pub mod WordSteps

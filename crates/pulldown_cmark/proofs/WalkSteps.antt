@@ -1,12 +1,13 @@
 -- A walk to its end gives the reading of a document.
-use Rattle.std.proofs.Common.{◌≡◌, ℕ, List, [], ◌∷◌, map, None, Some, Ok, refl, sym, ap, ◌∙◌, subst}
+use Rattle.std.proofs.Common.{◌≡◌, ℕ, List, [], ◌∷◌, map, Option, None, Some, Result, Ok, refl, sym, ap, ◌∙◌, subst}
 use Rattle.std.specs.Iterator.{Yields, Drains}
-use Rattle.cmark_grammar.specs.Answers.{Answers, Absent, Lookup}
-use Rattle.cmark_grammar.specs.Document.{Document}
+use Rattle.std.specs.declared.alloc.AllocError.{AllocError}
+use Rattle.cmark_grammar.specs.Answers.{Answers, Lookup}
+use Rattle.cmark_grammar.specs.BlockDocument.{BlockDocument}
+use Rattle.cmark_grammar.specs.BlockReading.{block_reading}
+use Rattle.cmark_grammar.specs.Derivation.{Derives}
 use Rattle.cmark_grammar.specs.Event.{Ranged}
 use Rattle.cmark_grammar.specs.Options.{Options}
-use Rattle.cmark_grammar.specs.Outline.{Derives}
-use Rattle.cmark_grammar.specs.Reading.{reading}
 use Rattle.cmark_text.specs.declared.event.Event.{Event}
 use Rattle.cmark_text.specs.Shown.{shown}
 use Rattle.pulldown_cmark.specs.declared.parse.Parser.{Parser}
@@ -34,13 +35,15 @@ module _ {S T : Type 0} (Remains : S → Answers → List Ranged → Type 0) (Is
   left_some : (s t : S) (x : T) (xs : List T) → GivesNext Remains IsOver Shows s (Some (Ok x)) t → Left t xs → Left s (x ∷ xs)
   left_some s t x xs g l = (before g.taken l.0, g.first.0 ∷ l.1, g.first.2 l.0 l.1 l.2, (g.first.1, l.3))
 
-  left_all : (s t u : S) (items : List T) → Yields (GivesNext Remains IsOver Shows) s (map Ok items) t → GivesNext Remains IsOver Shows t None u → Left s items
-  left_all s t u [] same g = subst (λ v. Left v []) (sym same) (left_none t u g)
-  left_all s t u (x ∷ xs) run g = left_some s run.0 x xs run.1 (left_all run.0 t u xs run.2 g)
+  -- calls that are such steps
+  module _ (steps : S → Option (Result T AllocError) → S → Type 0) (step : (s : S) (given : Option (Result T AllocError)) (t : S) → steps s given t → GivesNext Remains IsOver Shows s given t) where
+    left_all : (s t u : S) (items : List T) → Yields steps s (map Ok items) t → steps t None u → Left s items
+    left_all s t u [] same g = subst (λ v. Left v []) (sym same) (left_none t u (step t None u g))
+    left_all s t u (x ∷ xs) run g = left_some s run.0 x xs (step s (Some (Ok x)) run.0 run.1) (left_all run.0 t u xs run.2 g)
 
-  -- the items that a walk gave to its end show the events that were left
-  pub drained_left : (s : S) (items : List T) → Drains (GivesNext Remains IsOver Shows) s (map Ok items) → Left s items
-  drained_left s items d = left_all s d.1.0 d.0 items d.1.1 d.1.2
+    -- the items that a walk gave to its end show the events that were left
+    pub drained_left : (s : S) (items : List T) → Drains steps s (map Ok items) → Left s items
+    drained_left s items d = left_all s d.1.0 d.0 items d.1.1 d.1.2
 
 shown_each : (events : List Event) (rs : List Ranged) → EachShows Shows events rs → map shown events ≡ map (λ r. r.event) rs
 shown_each [] [] each = refl
@@ -49,11 +52,14 @@ shown_each (x ∷ xs) [] each = absurd each
 shown_each (x ∷ xs) (r ∷ rs) each = ap (λ e. e ∷ map shown xs) each.0 ∙ ap (λ es. r.event ∷ es) (shown_each xs rs each.1)
 
 module _ {E : Type 0} where
+  one_call : (old : Parser E) (given : Option (Result Event AllocError)) (new : Parser E) → Gives old given new → GivesNext Remains IsOver Shows old given new
+  one_call old given new g = g.next
+
   -- the events that a parser at its start gave to its end are the reading of a document that the text derives
   pub drained_reading : (parser : Parser E) (text : List ℕ) (options : Options) (lookup : Lookup) (events : List Event)
       → Reads text options lookup parser → Drains Gives parser (map Ok events)
-      → (document : Document) × Derives text options lookup Absent document × (map shown events ≡ map (λ r. r.event) (reading document))
+      → (document : BlockDocument) × Derives text options lookup document × (map shown events ≡ map (λ r. r.event) (block_reading document))
   drained_reading parser text options lookup events reads drains =
-      let l : Left Remains IsOver Shows parser events = drained_left Remains IsOver Shows parser events drains in
+      let l : Left Remains IsOver Shows parser events = drained_left Remains IsOver Shows Gives one_call parser events drains in
       let r = reads.reads l.0 l.1 l.2 in
-      (r.0, subst (λ answers. Derives text options lookup answers r.0) l.2.0 r.1, shown_each events l.1 l.3 ∙ ap (map (λ ranged. ranged.event)) r.2)
+      (r.0, r.1, shown_each events l.1 l.3 ∙ ap (map (λ ranged. ranged.event)) r.3)

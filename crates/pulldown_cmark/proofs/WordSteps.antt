@@ -1,11 +1,14 @@
 -- The first word of a text.
-use Rattle.std.proofs.Common.{◌≡◌, ℕ, Bool, true, false, not, List, length, take, take_while, Some, None, refl, sym, ap, ◌∙◌, subst, arith}
+use Rattle.std.proofs.Common.{◌≡◌, ℕ, ◌-◌, Bool, true, false, not, List, length, take, take_while, Some, None, refl, sym, ap, ◌∙◌, subst, arith}
 use Rattle.std.specs.Prelude.{slice_range}
 use Rattle.std.proofs.lemmas.List.{take_all}
 use Rattle.std.proofs.lemmas.List.Sums.{prefix_len_is}
 use Rattle.memchr.specs.Find.{IsFirstByte, is_byte}
 use Rattle.cmark_grammar.specs.Html.{is_within_word}
-use Rattle.pulldown_cmark.proofs.ScanSteps.{front_of}
+
+-- a front of some bytes
+front_of : (bs : List ℕ) (n : ℕ) → slice_range bs 0 n ≡ take n bs
+front_of bs n = ap (λ m. take m bs) (let z : n - 0 ≡ n = omega arith in z)
 
 not_space : (t : Bool) → (t ≡ true → ⊥) → not t ≡ true
 not_space true never = absurd (never refl)

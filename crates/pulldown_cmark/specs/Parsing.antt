@@ -1,52 +1,89 @@
--- What a parser still has to give.
-use Rattle.std.specs.Prelude.{◌≡◌, ℕ, List, [], map, Option, Result}
+-- What a parser still has to give, and the definitions that it found.
+use Rattle.std.specs.Prelude.{◌≡◌, ◌⊎◌, ◌<◌, ℕ, List, [], length, OnSome, Option, option_map, Result}
 use Rattle.std.specs.declared.alloc.AllocError.{AllocError}
 use Rattle.std.specs.declared.ops.Range.{Range}
-use Rattle.std.specs.Vec.Iter.{into_iter_items, into_iter_len}
+use Rattle.cmark_blocks.specs.Runs.{shown_reference}
 use Rattle.cmark_grammar.specs.Answers.{Answers, Absent, Lookup}
+use Rattle.cmark_grammar.specs.Derivation.{document}
 use Rattle.cmark_grammar.specs.Event.{Ranged}
+use Rattle.cmark_grammar.specs.Labels.{fold}
 use Rattle.cmark_grammar.specs.Options.{Options}
+use Rattle.cmark_grammar.specs.References.{first_with, references}
+use Rattle.cmark_items.specs.Definitions.{definition, shown_definition}
+use Rattle.cmark_items.specs.declared.definitions.RefDefs.{RefDefs}
 use Rattle.cmark_text.specs.declared.event.Event.{Event}
 use Rattle.cmark_text.specs.Shown.{shown}
+use Rattle.cmark_walk.specs.declared.reading.Ranged.{Ranged as Given}
+use Rattle.cmark_walk.specs.Walking as walking
+use Rattle.cmark_walk.specs.Walking.{definitions_of, shown_ranged}
 use Rattle.pulldown_cmark.specs.declared.parse.Parser.{Parser}
 use Rattle.pulldown_cmark.specs.declared.parse.OffsetIter.{OffsetIter}
-use Rattle.pulldown_cmark.specs.Building.{event_at, ranged}
 use Rattle.pulldown_cmark.specs.Walking.{GoesOn, GivesNext, ReadsFrom}
 
 -- an item is the event, or the event with its range
 abbrev pub Shows : Event → Ranged → Type 0
 Shows event r = shown event ≡ r.event
 
+abbrev pub ShowsStep : Given → Ranged → Type 0
+ShowsStep given r = shown_ranged given ≡ r
+
 abbrev pub ShowsRanged : Event × Range ℕ → Ranged → Type 0
-ShowsRanged item r = event_at (shown item.0) item.1.start item.1.end ≡ r
+ShowsRanged item r = record { event = shown item.0; start = item.1.start; end = item.1.end } ≡ r
 
 module _ {E : Type 0} where
-  -- the events that a parser has left, and how many
-  abbrev pub left : Parser E → List Ranged
-  left parser = map ranged (into_iter_items parser.steps)
-
+  -- how many events are left at most
   abbrev pub events_left : Parser E → ℕ
-  events_left parser = into_iter_len parser.steps
+  events_left parser = parser.budget
 
-  abbrev pub Remains : Parser E → Answers → List Ranged → Type 0
-  Remains parser answers events = (answers ≡ Absent) × (left parser ≡ events)
+  -- the link reference definitions
+  abbrev pub definitions : Parser E → RefDefs
+  definitions parser = definitions_of parser.walk
 
+  -- nothing is given any more
   abbrev pub IsOver : Parser E → Type 0
-  IsOver parser = left parser ≡ []
+  IsOver parser = parser.budget ≡ 0
 
-  abbrev pub CanGo : Parser E → Type 0
-  CanGo parser = GoesOn Remains IsOver Shows parser
+  -- nothing is left, or what remains of the walk
+  abbrev pub IsLeft : Parser E → List Ranged → Type 0
+  IsLeft parser events = (IsOver parser × (events ≡ [])) ⊎ (walking.Remains parser.walk events × (length events < parser.budget))
 
-  abbrev pub Gives : Parser E → Option (Result Event AllocError) → Parser E → Type 0
-  Gives old given new = GivesNext Remains IsOver Shows old given new
+  -- these events are left to give, where no question is answered
+  pub record Remains (parser : Parser E) (answers : Answers) (events : List Ranged) : Type 0 where
+    pub silent : answers ≡ Absent
+    pub left : IsLeft parser events
+
+  -- a call may be made: the walk is over, or some events are left
+  pub record CanGo (parser : Parser E) : Type 0 where
+    pub goes : GoesOn Remains IsOver Shows parser
+
+  -- one call: the first event of what was left, and the same definitions
+  pub record Gives (old : Parser E) (given : Option (Result Event AllocError)) (new : Parser E) : Type 0 where
+    pub next : GivesNext Remains IsOver Shows old given new
+    pub definitions : definitions new ≡ definitions old
+
+  pub record GivesStep (old : Parser E) (given : Option (Result Given AllocError)) (new : Parser E) : Type 0 where
+    pub next : GivesNext Remains IsOver ShowsStep old given new
+    pub definitions : definitions new ≡ definitions old
+    pub fewer : OnSome given (new.budget < old.budget)
 
   -- the parser is at the start of a walk over a document that the text derives
   abbrev pub Reads : List ℕ → Options → Lookup → Parser E → Type 0
   Reads text options lookup parser = ReadsFrom Remains text options lookup parser
 
+  -- its table answers for each folded label as the first definition of the text's document with that label (CommonMark 4.7)
+  abbrev pub Defines : List ℕ → Options → Lookup → Parser E → Type 0
+  Defines text options lookup parser =
+      (folded : List ℕ) → option_map shown_definition (definition (definitions parser) folded) ≡ option_map shown_reference (first_with fold folded (references (document text options lookup)))
+
   -- the same of a walk that gives ranges
+  abbrev pub walk_of : OffsetIter E → Parser E
+  walk_of iter = iter.parser
+
   abbrev pub ranged_left : OffsetIter E → ℕ
   ranged_left iter = events_left iter.parser
+
+  abbrev pub ranged_definitions : OffsetIter E → RefDefs
+  ranged_definitions iter = definitions iter.parser
 
   abbrev pub RemainsRanged : OffsetIter E → Answers → List Ranged → Type 0
   RemainsRanged iter answers events = Remains iter.parser answers events
@@ -55,7 +92,8 @@ module _ {E : Type 0} where
   IsRangedOver iter = IsOver iter.parser
 
   abbrev pub CanGoRanged : OffsetIter E → Type 0
-  CanGoRanged iter = GoesOn RemainsRanged IsRangedOver ShowsRanged iter
+  CanGoRanged iter = CanGo iter.parser
 
-  abbrev pub GivesRanged : OffsetIter E → Option (Result (Event × Range ℕ) AllocError) → OffsetIter E → Type 0
-  GivesRanged old given new = GivesNext RemainsRanged IsRangedOver ShowsRanged old given new
+  pub record GivesRanged (old : OffsetIter E) (given : Option (Result (Event × Range ℕ) AllocError)) (new : OffsetIter E) : Type 0 where
+    pub next : GivesNext RemainsRanged IsRangedOver ShowsRanged old given new
+    pub definitions : ranged_definitions new ≡ ranged_definitions old

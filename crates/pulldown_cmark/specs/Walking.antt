@@ -2,11 +2,11 @@
 use Rattle.std.specs.Prelude.{◌≡◌, ◌⊎◌, ℕ, List, [], ◌∷◌, ◌++◌, Option, Some, None, Result, Ok, Err}
 use Rattle.std.specs.declared.alloc.AllocError.{AllocError}
 use Rattle.cmark_grammar.specs.Answers.{Exchange, Answers, Absent, Given, NoneAsked, Lookup}
-use Rattle.cmark_grammar.specs.Document.{Document}
+use Rattle.cmark_grammar.specs.BlockDocument.{BlockDocument}
+use Rattle.cmark_grammar.specs.BlockReading.{block_reading}
+use Rattle.cmark_grammar.specs.Derivation.{Derives}
 use Rattle.cmark_grammar.specs.Event.{Ranged}
 use Rattle.cmark_grammar.specs.Options.{Options}
-use Rattle.cmark_grammar.specs.Outline.{Derives}
-use Rattle.cmark_grammar.specs.Reading.{reading}
 
 -- these exchanges, and then those still to come
 abbrev pub before : List Exchange → Answers → Answers
@@ -37,7 +37,7 @@ pub record GivesNext {S T : Type 0} (Remains : S → Answers → List Ranged →
   pub over : IsOver old → (given ≡ None) × IsOver new
 
 -- a walk at its start: some events are left, and whichever are left, for whichever answers, they are the reading of a
--- document that the text derives with these answers
+-- document that the text derives; the grammar of blocks asks no question
 pub record ReadsFrom {S : Type 0} (Remains : S → Answers → List Ranged → Type 0) (text : List ℕ) (options : Options) (lookup : Lookup) (s : S) : Type 0 where
   pub some : (events : List Ranged) × Remains s Absent events
-  pub reads : (answers : Answers) (events : List Ranged) → Remains s answers events → (document : Document) × Derives text options lookup answers document × (events ≡ reading document)
+  pub reads : (answers : Answers) (events : List Ranged) → Remains s answers events → (document : BlockDocument) × Derives text options lookup document × NoneAsked answers × (events ≡ block_reading document)

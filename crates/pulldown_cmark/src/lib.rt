@@ -2,11 +2,9 @@
 #![tactic(auto)]
 
 pub mod html;
-mod line;
-mod outline;
 mod parse;
-mod scan;
 
+pub use cmark_items::{LinkDef, RefDefs, RefDefsIter};
 pub use cmark_text::{
     Alignment, BasicEntities, BlockQuoteKind, CodeBlockKind, CowStr, EntityLookup, Event,
     HeadingLevel, InlineStr, InvalidHeadingLevel, LinkType, MetadataBlockKind, Options,

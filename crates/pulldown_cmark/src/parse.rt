@@ -1,19 +1,17 @@
 //! The parser: iterators over the events of a text's document.
 
-ghost use Rattle.std.specs.Prelude.{◌≡◌, ◌↔◌, List, IfOk};
+ghost use Rattle.std.specs.Prelude.{◌≡◌, IfOk};
 ghost use Rattle.std.specs.Iterator.{at_most};
-ghost use Rattle.cmark_grammar.specs.Answers.{Answers};
-ghost use Rattle.cmark_grammar.specs.Event.{Ranged};
-ghost use Rattle.cmark_grammar.specs.Options.{no_options, Options as GrammarOptions};
-ghost use Rattle.cmark_text.specs.Shown.{shown, shown_options};
-ghost use Rattle.pulldown_cmark.specs.Building.{event_of};
+ghost use Rattle.cmark_grammar.specs.Options.{no_options};
+ghost use Rattle.cmark_text.specs.Shown.{shown_options};
 
-use crate::outline::{Block, Step, StepKind, steps_of};
 use bitflags::Flags;
-use cmark_text::{CowStr, EntityLookup, Event, Options, Tag, TagEnd};
+use cmark_blocks::{FirstPass, run_first_pass};
+use cmark_items::RefDefs;
+use cmark_text::{EntityLookup, Event, Options};
+use cmark_walk::{Ranged, Walk};
 use std::alloc::{AllocError, Global};
 use std::ops::Range;
-use std::vec::IntoIter;
 
 /// An iterator over the events of a text's document, in the order of the text.
 ///
@@ -27,33 +25,17 @@ use std::vec::IntoIter;
 /// ```
 #[derive(Drop)]
 pub struct Parser<'input, E> {
-    alloc: Global,
     entities: &'input E,
-    steps: IntoIter<Step<'input>>,
+    walk: Walk<'input>,
+    /// More than the number of events that are left; 0 where no item is given any more.
+    budget: u128,
 }
 
-/// The event that a step gives. No memory is taken: a heading has no classes and no attributes.
-#[inline(always)]
-fn event_of<'a>(alloc: Global, kind: StepKind<'a>) -> Event<'a>
-    ensures { shown result ≡ event_of kind.entry }
-{
-    match kind {
-        StepKind::Start(Block::Paragraph) => Event::Start(Tag::Paragraph),
-        StepKind::Start(Block::Heading(level)) => Event::Start(Tag::Heading {
-            level,
-            id: None,
-            classes: Vec::new(alloc),
-            attrs: Vec::new(alloc),
-        }),
-        StepKind::End(Block::Paragraph) => Event::End(TagEnd::Paragraph),
-        StepKind::End(Block::Heading(level)) => Event::End(TagEnd::Heading(level)),
-        StepKind::Text(text) => Event::Text(CowStr::Borrowed(text)),
-        StepKind::SoftBreak => Event::SoftBreak,
-    }
-}
+/// The most events that a byte of text is read as.
+const EVENTS_A_BYTE: u128 = 8;
 
 impl<'input, E: EntityLookup> Parser<'input, E> {
-    ghost use Rattle.pulldown_cmark.specs.Parsing.{Reads, Remains, IsOver, RemainsRanged, IsRangedOver};
+    ghost use Rattle.pulldown_cmark.specs.Parsing.{Reads, Defines, CanGo, CanGoRanged, GivesStep, definitions, walk_of};
 
     /// A parser of `text`, with no extension. `entities` says what the entity names stand for. Where memory is refused
     /// there is no parser.
@@ -62,9 +44,12 @@ impl<'input, E: EntityLookup> Parser<'input, E> {
         text: &'input str,
         entities: &'input E,
     ) -> Result<Parser<'input, E>, AllocError>
-        ensures { IfOk result (Reads text.entry.now no_options (E.replacement entities.entry.now)) }
+        ensures reads { IfOk result (Reads text.entry.now no_options (E.replacement entities.entry.now)) }
+        ensures definitions { IfOk result (Defines text.entry.now no_options (E.replacement entities.entry.now)) }
+        ensures goes { IfOk result CanGo }
     {
-        Parser::start(alloc, text, Options::empty(), entities)
+        let parser = Parser::new_ext(alloc, text, Options::empty(), entities)?;
+        Ok(parser)
     }
 
     /// A parser of `text` with these options. No option has an effect yet: each is read from the day on which the
@@ -75,33 +60,58 @@ impl<'input, E: EntityLookup> Parser<'input, E> {
         options: Options,
         entities: &'input E,
     ) -> Result<Parser<'input, E>, AllocError>
-        ensures { IfOk result (Reads text.entry.now (shown_options options) (E.replacement entities.entry.now)) }
+        ensures reads { IfOk result (Reads text.entry.now (shown_options options) (E.replacement entities.entry.now)) }
+        ensures definitions { IfOk result (Defines text.entry.now (shown_options options) (E.replacement entities.entry.now)) }
+        ensures goes { IfOk result CanGo }
     {
-        Parser::start(alloc, text, options, entities)
+        let FirstPass { tree, allocations } = run_first_pass(alloc, text, options, entities)?;
+        let budget = text.len() as u128 * EVENTS_A_BYTE + 1;
+        Ok(Parser {
+            entities,
+            walk: Walk::new(alloc, text, tree, allocations),
+            budget,
+        })
     }
 
-    fn start(
-        alloc: Global,
-        text: &'input str,
-        _options: Options,
-        entities: &'input E,
-    ) -> Result<Parser<'input, E>, AllocError>
-        ensures { IfOk result (λ parser. (options : GrammarOptions) → Reads text.entry.now options (E.replacement entities.entry.now) parser) }
+    /// The link reference definitions of the text, of each label the first one (CommonMark 4.7): the same at every point of
+    /// the walk.
+    pub fn reference_definitions(&self) -> &RefDefs<'input>
+        ensures { result.now ≡ definitions self.now }
     {
-        let steps = steps_of(alloc, text)?;
-        Ok(Parser {
-            alloc,
-            entities,
-            steps: steps.into_iter(),
-        })
+        self.walk.definitions()
     }
 
     /// The same walk, from where it stands, with the range of each event.
     pub fn into_offset_iter(self) -> OffsetIter<'input, E>
-        ensures remains { (answers : Answers) (events : List Ranged) → Remains self.entry answers events ↔ RemainsRanged result answers events }
-        ensures over { IsOver self.entry ↔ IsRangedOver result }
+        ensures walk { walk_of result ≡ self.entry }
+        ensures goes { CanGo self.entry → CanGoRanged result }
     {
         OffsetIter { parser: self }
+    }
+
+    // The next event with its range. Where memory is refused, this is the last item.
+    #[inline(always)]
+    fn advance(&mut self) -> Option<Result<Ranged<'input>, AllocError>>
+        requires { CanGo self.old }
+        ensures { GivesStep self.old result self.new }
+    {
+        if self.budget == 0 {
+            return None;
+        }
+        match self.walk.next() {
+            Ok(Some(given)) => {
+                self.budget -= 1;
+                Some(Ok(given))
+            }
+            Ok(None) => {
+                self.budget = 0;
+                None
+            }
+            Err(error) => {
+                self.budget = 0;
+                Some(Err(error))
+            }
+        }
     }
 }
 
@@ -117,9 +127,9 @@ impl<'input, E: EntityLookup> Iterator for Parser<'input, E> {
     ghost remaining = { λ parser. at_most (events_left parser) };
 
     fn next(&mut self) -> Option<Result<Event<'input>, AllocError>> {
-        match self.steps.next() {
-            Some(step) => Some(Ok(event_of(self.alloc, step.kind))),
-            None => None,
+        match self.advance()? {
+            Ok(given) => Some(Ok(given.event)),
+            Err(error) => Some(Err(error)),
         }
     }
 }
@@ -129,6 +139,17 @@ impl<'input, E: EntityLookup> Iterator for Parser<'input, E> {
 #[derive(Drop)]
 pub struct OffsetIter<'input, E> {
     parser: Parser<'input, E>,
+}
+
+impl<'input, E: EntityLookup> OffsetIter<'input, E> {
+    ghost use Rattle.pulldown_cmark.specs.Parsing.{ranged_definitions};
+
+    /// The link reference definitions of the text, as those of the parser.
+    pub fn reference_definitions(&self) -> &RefDefs<'input>
+        ensures { result.now ≡ ranged_definitions self.now }
+    {
+        self.parser.reference_definitions()
+    }
 }
 
 impl<'input, E: EntityLookup> Iterator for OffsetIter<'input, E> {
@@ -143,9 +164,9 @@ impl<'input, E: EntityLookup> Iterator for OffsetIter<'input, E> {
     ghost remaining = { λ iter. at_most (ranged_left iter) };
 
     fn next(&mut self) -> Option<Result<(Event<'input>, Range<usize>), AllocError>> {
-        match self.parser.steps.next() {
-            Some(step) => Some(Ok((event_of(self.parser.alloc, step.kind), step.start..step.end))),
-            None => None,
+        match self.parser.advance()? {
+            Ok(given) => Some(Ok((given.event, given.range))),
+            Err(error) => Some(Err(error)),
         }
     }
 }

@@ -1,6 +1,21 @@
-use Rattle.std.proofs.lemmas.Result.{IfOk-weaker}
+use Rattle.std.proofs.Common.{refl, subst}
 use Rattle.cmark_text.specs.Shown.{shown_options}
+use Rattle.cmark_block_model.specs.BlockPass.{pass_over}
+use Rattle.cmark_block_model.proofs.Drawings.{drawn-read, drawn-order, drawn-edges}
+use Rattle.cmark_walk.specs.Walking.{Remains}
+use Rattle.pulldown_cmark.proofs.ParseSteps.{reads-from, can-begin}
 use Rattle.pulldown_cmark.proofs.parse.Parser.new_ext.Goals as goal
 
-pub returns : goal.returns
-returns g c = IfOk-weaker c.start.result _ _ (λ parser reads. reads (shown_options c.args.options)) c.start.ensures
+pub returns-clause-reads : goal.returns-clause-reads
+returns-clause-reads g c =
+    let text = c.args.text.now in
+    let options = shown_options c.args.options in
+    let lookup = g.E.EntityLookup.replacement c.args.entities.now in
+    let leaves = c.in_ok-tree.ensures.document in
+    let remains =
+    c.new.ensures.remains leaves.forest (pass_over text options lookup).drawing.here leaves.tree_is leaves.drawn (drawn-order text options lookup)
+    (drawn-edges text options lookup c.utf8.text) in
+    reads-from _ text options lookup (subst (Remains c.new.result) (drawn-read text options lookup) remains) refl
+
+pub returns-clause-goes : goal.returns-clause-goes
+returns-clause-goes g c = can-begin _ c.args.text.now (shown_options c.args.options) (g.E.EntityLookup.replacement c.args.entities.now) (returns-clause-reads g c)

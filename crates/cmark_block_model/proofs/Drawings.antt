@@ -1,0 +1,118 @@
+-- What is drawn is read as the document is, and its ranges lie as those of the document do.
+use Rattle.std.proofs.Common.{◌≡◌, ℕ, ◌+◌, ◌*◌, ◌≤◌, Bool, true, false, List, [], ◌∷◌, ◌++◌, length, refl, ap, ◌∙◌, sym, subst, arith, length-append}
+use Rattle.std.specs.Str.{IsCharBoundary, IsUtf8}
+use Rattle.cmark_grammar.specs.Answers.{Lookup}
+use Rattle.cmark_grammar.specs.Options.{Options}
+use Rattle.cmark_grammar.specs.Event.{End, Ranged}
+use Rattle.cmark_grammar.specs.TagEnd.{end_of}
+use Rattle.cmark_grammar.specs.BlockDocument.{BlockKind, Paragraph, TightParagraph, Heading, ThematicBreak, IndentedCode, FencedCode, HtmlBlock, LinkDefinition, BlockQuote, BlockList, ListItem, Text, OwnedText, Html, SoftBreak, HardBreak, BlockNode, BlockDocument, Nil, Node}
+use Rattle.cmark_grammar.specs.BlockReading.{Reads, Around, Inside, Alone, Silent, read_as, over, node_events, block_reading}
+use Rattle.cmark_grammar.specs.Derivation.{Derives, document}
+use Rattle.cmark_grammar.specs.DrawnDocument.{is_definition, node_unless, settled, without_definitions}
+use Rattle.cmark_grammar.specs.Tightness.{tight_within}
+use Rattle.cmark_grammar.specs.Ranges.{AllAt, InOrder, count_nodes}
+use Rattle.cmark_grammar.specs.BlocksModel.{blocks}
+use Rattle.cmark_grammar.proofs.BlocksSound.{blocks-body}
+use Rattle.cmark_grammar.proofs.BoundaryLaws.{derived-boundaries}
+use Rattle.cmark_grammar.proofs.CountLaws.{derived-count}
+use Rattle.cmark_grammar.proofs.RangeLaws.{derived-order}
+use Rattle.cmark_grammar.proofs.TokenRanges.{InOrder-lower}
+use Rattle.cmark_block_model.specs.BlockPass.{pass_over}
+use Rattle.cmark_block_model.proofs.Theorem.{pass-draws}
+
+-- a definition is not read
+silent : (k : BlockKind) → is_definition k ≡ true → read_as k ≡ Silent
+silent (LinkDefinition reference) e = refl
+silent Paragraph e = absurd (let q : false ≡ true = e in cc)
+silent TightParagraph e = absurd (let q : false ≡ true = e in cc)
+silent (Heading level attributes) e = absurd (let q : false ≡ true = e in cc)
+silent ThematicBreak e = absurd (let q : false ≡ true = e in cc)
+silent IndentedCode e = absurd (let q : false ≡ true = e in cc)
+silent (FencedCode info) e = absurd (let q : false ≡ true = e in cc)
+silent HtmlBlock e = absurd (let q : false ≡ true = e in cc)
+silent (BlockQuote alert) e = absurd (let q : false ≡ true = e in cc)
+silent (BlockList number tight) e = absurd (let q : false ≡ true = e in cc)
+silent ListItem e = absurd (let q : false ≡ true = e in cc)
+silent (Text bytes) e = absurd (let q : false ≡ true = e in cc)
+silent (OwnedText bytes) e = absurd (let q : false ≡ true = e in cc)
+silent (Html bytes) e = absurd (let q : false ≡ true = e in cc)
+silent SoftBreak e = absurd (let q : false ≡ true = e in cc)
+silent HardBreak e = absurd (let q : false ≡ true = e in cc)
+
+-- so a document without its definitions is read as the document is
+pub whole-read : (d : BlockDocument) → block_reading (without_definitions d) ≡ block_reading d
+whole-read Nil = refl
+whole-read (Node n inside after) = go (is_definition n.kind) refl (whole-read inside) (whole-read after)
+  where
+    go : (b : Bool) → is_definition n.kind ≡ b → block_reading (without_definitions inside) ≡ block_reading inside → block_reading (without_definitions after) ≡ block_reading after
+        → block_reading (node_unless b n (without_definitions inside) (without_definitions after)) ≡ node_events (read_as n.kind) n (block_reading inside) ++ block_reading after
+    go true e i a = a ∙ ap (λ r. node_events r n (block_reading inside) ++ block_reading after) (sym (silent n.kind e))
+    go false e i a = ap (λ l. node_events (read_as n.kind) n l ++ block_reading (without_definitions after)) i ∙ ap (λ l. node_events (read_as n.kind) n (block_reading inside) ++ l) a
+
+order-le : (from : ℕ) (d : BlockDocument) (to : ℕ) → InOrder from d to → from ≤ to
+order-le from Nil to h = h
+order-le from (Node n inside after) to h =
+    let a : from ≤ n.start = h.0 in let b = order-le n.start inside n.end h.1 in let c = order-le n.end after to h.2 in omega (arith, a, b, c)
+
+whole-order : (from : ℕ) (d : BlockDocument) (to : ℕ) → InOrder from d to → InOrder from (without_definitions d) to
+whole-order from Nil to h = h
+whole-order from (Node n inside after) to h = go (is_definition n.kind) (whole-order n.start inside n.end h.1) (whole-order n.end after to h.2)
+  where
+    go : (b : Bool) → InOrder n.start (without_definitions inside) n.end → InOrder n.end (without_definitions after) to → InOrder from (node_unless b n (without_definitions inside) (without_definitions after)) to
+    go true i a = let p : from ≤ n.start = h.0 in let q = order-le n.start inside n.end h.1 in InOrder-lower from n.end (without_definitions after) to (omega (arith, p, q)) a
+    go false i a = (h.0, i, a)
+
+whole-edges : (Place : ℕ → Type 0) (d : BlockDocument) → AllAt Place d → AllAt Place (without_definitions d)
+whole-edges Place Nil h = h
+whole-edges Place (Node n inside after) h = go (is_definition n.kind) (whole-edges Place inside h.2) (whole-edges Place after h.3)
+  where
+    go : (b : Bool) → AllAt Place (without_definitions inside) → AllAt Place (without_definitions after) → AllAt Place (node_unless b n (without_definitions inside) (without_definitions after))
+    go true i a = a
+    go false i a = (h.0, h.1, i, a)
+
+-- to settle paragraphs changes no range
+settled-order : (tight : Bool) (from : ℕ) (d : BlockDocument) (to : ℕ) → InOrder from (settled tight d) to → InOrder from d to
+settled-order tight from Nil to h = h
+settled-order tight from (Node n inside after) to h = (h.0, settled-order (tight_within tight n.kind) n.start inside n.end h.1, settled-order tight n.end after to h.2)
+
+settled-edges : (Place : ℕ → Type 0) (tight : Bool) (d : BlockDocument) → AllAt Place (settled tight d) → AllAt Place d
+settled-edges Place tight Nil h = h
+settled-edges Place tight (Node n inside after) h = (h.0, h.1, settled-edges Place (tight_within tight n.kind) inside h.2, settled-edges Place tight after h.3)
+
+-- a node is read as two events at most
+node-few : (r : Reads) (n : BlockNode) (l : List Ranged) → length (node_events r n l) ≤ 2 + length l
+node-few (Around tag) n l = let e = length-append l (over n (End (end_of tag)) ∷ []) in omega (arith, e)
+node-few Inside n l = omega arith
+node-few (Alone event) n l = omega arith
+node-few Silent n l = omega arith
+
+read-few : (d : BlockDocument) → length (block_reading d) ≤ 2 * count_nodes d
+read-few Nil = omega arith
+read-few (Node n inside after) =
+    let e = length-append (node_events (read_as n.kind) n (block_reading inside)) (block_reading after) in
+    let f = node-few (read_as n.kind) n (block_reading inside) in
+    let i = read-few inside in
+    let a = read-few after in
+    omega (arith, e, f, i, a)
+
+pub derived-few : (text : List ℕ) (options : Options) (lookup : Lookup) (d : BlockDocument) → Derives text options lookup d → length (block_reading d) ≤ 8 * length text
+derived-few text options lookup d h = let a = read-few d in let b = derived-count text options lookup d h in omega (arith, a, b)
+
+module _ (text : List ℕ) (options : Options) (lookup : Lookup) where
+  pub derived : Derives text options lookup (document text options lookup)
+  derived = (blocks options text, blocks-body options text, refl)
+
+  pub drawn-read : block_reading (settled false (pass_over text options lookup).drawing.here) ≡ block_reading (document text options lookup)
+  drawn-read = ap block_reading (pass-draws text options lookup).0 ∙ whole-read (document text options lookup)
+
+  pub drawn-order : InOrder 0 (pass_over text options lookup).drawing.here (length text)
+  drawn-order =
+      settled-order false 0 (pass_over text options lookup).drawing.here (length text)
+      (subst (λ d. InOrder 0 d (length text)) (sym (pass-draws text options lookup).0)
+      (whole-order 0 (document text options lookup) (length text) (derived-order text options lookup (document text options lookup) derived)))
+
+  pub drawn-edges : IsUtf8 text → AllAt (IsCharBoundary text) (pass_over text options lookup).drawing.here
+  drawn-edges utf8 =
+      settled-edges (IsCharBoundary text) false (pass_over text options lookup).drawing.here
+      (subst (AllAt (IsCharBoundary text)) (sym (pass-draws text options lookup).0)
+      (whole-edges (IsCharBoundary text) (document text options lookup) (derived-boundaries text options lookup (document text options lookup) utf8 derived)))

@@ -1,0 +1,23 @@
+-- What the block pass over a text leaves.
+use Rattle.std.specs.Prelude.{◌≡◌, ℕ, List, [], option_map}
+use Rattle.cmark_tree.specs.Forest.{Forest}
+use Rattle.cmark_tree.specs.Building.{Is}
+use Rattle.cmark_grammar.specs.Answers.{Lookup}
+use Rattle.cmark_grammar.specs.Derivation.{document}
+use Rattle.cmark_grammar.specs.Labels.{fold}
+use Rattle.cmark_grammar.specs.Options.{Options}
+use Rattle.cmark_grammar.specs.References.{first_with, references}
+use Rattle.cmark_items.specs.declared.item.Item.{Item}
+use Rattle.cmark_items.specs.Definitions.{definition, shown_definition}
+use Rattle.cmark_items.specs.ItemNodes.{shown_forest, nodes_of}
+use Rattle.cmark_items.specs.Tables.{tables}
+use Rattle.cmark_block_model.specs.BlockPass.{pass_over}
+use Rattle.cmark_blocks.specs.declared.first_pass.FirstPass.{FirstPass}
+use Rattle.cmark_blocks.specs.Runs.{shown_reference}
+
+-- the tree is the drawing of the pass over the text, no node is left open, and the table has the text's definitions
+pub record Leaves (text : List ℕ) (options : Options) (lookup : Lookup) (pass : FirstPass) : Type 0 where
+  pub forest : Forest Item
+  pub tree_is : Is pass.tree forest []
+  pub drawn : shown_forest text (tables pass.allocations).texts forest ≡ nodes_of (pass_over text options lookup).drawing.here
+  pub references : (folded : List ℕ) → option_map shown_definition (definition (tables pass.allocations).references folded) ≡ option_map shown_reference (first_with fold folded (references (document text options lookup)))

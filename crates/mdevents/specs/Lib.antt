@@ -1,0 +1,3 @@
+pub mod EventData
+pub mod Lines
+pub mod Renders

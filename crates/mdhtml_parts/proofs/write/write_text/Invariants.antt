@@ -1,0 +1,16 @@
+use Rattle.std.proofs.Common.{◌≡◌, ◌<◌, ◌≤◌, ◌+◌, ◌-◌, ◌*◌, false, take, length}
+use Rattle.std.specs.Io.KnownBytes.{Appends}
+use Rattle.mdhtml_parts.specs.declared.watched.TheConstants.{PATIENCE}
+use Rattle.mdhtml_parts.proofs.write.write_text.Given as goal
+
+abbrev pub invariant-loop-at : goal.invariant-loop-at
+invariant-loop-at g l = record {
+  written : Appends (g.W.Write.contents l.fn.writer.end) (g.W.Write.contents l.writer.end) (take l.at l.text);
+  within : l.at ≤ length l.text;
+  fine : l.writer.notes.failed ≡ false;
+  patient : l.writer.notes.interrupted < PATIENCE;
+}
+
+-- each write moves a byte, or is one more of those in a row that were interrupted
+abbrev pub decreases-loop-at : goal.decreases-loop-at
+decreases-loop-at g l = (length l.text - l.at) * 1048577 + (1048576 - l.writer.notes.interrupted)

@@ -1,0 +1,11 @@
+-- What a watched end shows.
+use Rattle.mdhtml_parts.specs.declared.watched.Watched.{Watched}
+use Rattle.mdhtml_parts.specs.declared.watched.Notes.{Notes}
+
+-- the reader or writer that is watched
+abbrev pub watched_end : {E : Type 0} → Watched E → E
+watched_end watched = watched.end
+
+-- what became of its calls since the last reset
+abbrev pub watched_notes : {E : Type 0} → Watched E → Notes
+watched_notes watched = watched.notes

@@ -1,0 +1,50 @@
+//! Reading to the end.
+
+ghost use Rattle.std.specs.Prelude.{◌≡◌, ◌≤◌, IfOk, IfErr, OnOk, vec_len};
+ghost use Rattle.std.specs.Io.KnownBytes.{Consumes, IsAtEnd};
+ghost use Rattle.mdhtml_parts.specs.Ends.{watched_end, watched_notes};
+ghost use Rattle.mdhtml_parts.specs.Faults.{ReadStops};
+
+use crate::fault::RunFault;
+use crate::watched::{PATIENCE, Watched};
+use std::alloc::Global;
+use std::io::Read;
+
+/// How many bytes one read asks for: as many as a pipe holds.
+const CHUNK: usize = 65_536;
+
+/// All bytes that a reader has left, `limit` at most.
+///
+/// The notes of the reader start afresh. Answers `Read` where a read failed, where `PATIENCE` reads in a row were
+/// interrupted, or where more than `limit` bytes came, and `Memory` where memory was refused. The bytes that were read
+/// before are then lost.
+pub fn read_all<R: Read>(
+    alloc: Global,
+    reader: &mut Watched<R>,
+    limit: u64,
+) -> Result<Vec<u8>, RunFault>
+    ensures all { IfOk result (λ bytes. Consumes (R.remaining (watched_end reader.old)) (R.remaining (watched_end reader.new)) bytes.items) }
+    ensures at_end { OnOk result (IsAtEnd (R.remaining (watched_end reader.new))) }
+    ensures within { IfOk result (λ bytes. vec_len bytes ≤ limit) }
+    ensures fault { IfErr result (ReadStops limit (watched_notes reader.new)) }
+{
+    reader.reset();
+    let mut bytes = Vec::new(alloc);
+    let mut chunk = [0u8; CHUNK];
+    loop {
+        match reader.read(&mut chunk) {
+            Ok(0) => return Ok(bytes),
+            Ok(count) => {
+                if count as u64 > limit - bytes.len() as u64 {
+                    return Err(RunFault::Read);
+                }
+                bytes.extend_from_slice(&chunk[..count])?;
+            }
+            Err(_) => {
+                if reader.notes().failed || reader.notes().interrupted >= PATIENCE {
+                    return Err(RunFault::Read);
+                }
+            }
+        }
+    }
+}

@@ -1,0 +1,15 @@
+//! What a text becomes.
+
+ghost use Rattle.std.specs.Prelude.{ℕ, List, IfOk, string_bytes};
+
+use std::alloc::{AllocError, Global};
+
+/// What a run makes of the text that it read.
+pub trait Render {
+    /// Which bytes these bytes of a text are rendered as.
+    ghost renders: { Self → List ℕ → List ℕ → Type 0 };
+
+    /// The output for a text. Fails where memory is refused.
+    fn render(&self, alloc: Global, text: &str) -> Result<String, AllocError>
+        ensures { IfOk result (λ output. renders self.now text.now (string_bytes output)) };
+}

@@ -1,0 +1,41 @@
+//! From a reader's Markdown to a writer's output.
+
+ghost use Rattle.mdhtml_parts.specs.Ends.{watched_end, watched_notes};
+ghost use Rattle.mdhtml_parts.specs.Runs.{Runs};
+
+use crate::fault::RunFault;
+use crate::read::read_all;
+use crate::render::Render;
+use crate::watched::Watched;
+use crate::write::write_text;
+use std::alloc::Global;
+use std::io::{Read, Write};
+
+/// How many bytes of input are read at most.
+pub const INPUT_LIMIT: u64 = 2_147_483_648;
+
+/// Reads all of a reader's text, writes what it is rendered as and flushes.
+///
+/// The notes of both ends start afresh. Nothing is written before all was read and found to be UTF-8, and the output is
+/// there in full. So after a fault but `Write` nothing was written, and after `Write` a beginning of the output.
+/// [`RunFault`] says when each fault is answered; more than [`INPUT_LIMIT`] bytes of input are a `Read`.
+pub fn run<R: Read, W: Write, P: Render>(
+    alloc: Global,
+    reader: &mut Watched<R>,
+    writer: &mut Watched<W>,
+    renderer: &P,
+) -> Result<(), RunFault>
+    ensures { Runs (P.renders renderer.now)
+        (R.remaining (watched_end reader.old)) (R.remaining (watched_end reader.new))
+        (W.contents (watched_end writer.old)) (W.contents (watched_end writer.new))
+        (watched_notes reader.new) (watched_notes writer.new) result }
+{
+    reader.reset();
+    writer.reset();
+    let bytes = read_all(alloc, reader, INPUT_LIMIT)?;
+    let Ok(text) = str::from_utf8(bytes.as_slice()) else {
+        return Err(RunFault::NotUtf8);
+    };
+    let output = renderer.render(alloc, text)?;
+    write_text(writer, output.as_bytes())
+}

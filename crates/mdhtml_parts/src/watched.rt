@@ -1,0 +1,161 @@
+//! A reader or a writer that notes what became of its calls.
+
+ghost use Rattle.std.specs.Prelude.{◌≡◌};
+ghost use Rattle.std.specs.Io.{ReadsAtMost, WritesAtMost};
+ghost use Rattle.std.specs.Io.KnownBytes.{ReadConsumes, WriteAppends, Keeps};
+ghost use Rattle.mdhtml_parts.specs.Ends.{watched_end, watched_notes};
+ghost use Rattle.mdhtml_parts.specs.Notes.{no_notes, noted_moved, noted_failed, noted_error, noted_read, noted_write, noted_flush};
+
+use std::io;
+use std::io::{ErrorKind, Read, Write};
+
+/// So many interrupted calls in a row end a reading or a writing.
+pub const PATIENCE: u64 = 1_048_576;
+
+/// What became of the calls of a [`Watched`] since its last reset.
+#[derive(Clone, Copy, Debug, PartialEq, Eq)]
+pub struct Notes {
+    /// Whether a call failed. A write of no byte and an interrupted flush failed, an interrupted read or write did not.
+    pub failed: bool,
+    /// How many calls in a row were interrupted last, up to the greatest `u64`.
+    pub interrupted: u64,
+    /// How many bytes were read or written, up to the greatest `u64`.
+    pub moved: u64,
+}
+
+impl Notes {
+    /// No call yet.
+    fn none() -> Notes
+        ensures { result ≡ no_notes }
+    {
+        Notes {
+            failed: false,
+            interrupted: 0,
+            moved: 0,
+        }
+    }
+
+    /// The notes after a call that moved `count` bytes.
+    fn after_moving(self, count: usize) -> Notes
+        ensures { result ≡ noted_moved self count }
+    {
+        Notes {
+            failed: self.failed,
+            interrupted: 0,
+            moved: self.moved.saturating_add(count as u64),
+        }
+    }
+
+    /// The notes after a call that failed.
+    fn after_failure(self) -> Notes
+        ensures { result ≡ noted_failed self }
+    {
+        Notes {
+            failed: true,
+            interrupted: 0,
+            moved: self.moved,
+        }
+    }
+
+    /// The notes after a read or a write that answered an error of this kind.
+    fn after_error(self, kind: ErrorKind) -> Notes
+        ensures { result ≡ noted_error self kind }
+    {
+        match kind {
+            ErrorKind::Interrupted => Notes {
+                failed: self.failed,
+                interrupted: self.interrupted.saturating_add(1),
+                moved: self.moved,
+            },
+            _ => self.after_failure(),
+        }
+    }
+}
+
+/// A reader or a writer with notes on its calls. Only its own calls change the notes.
+#[derive(Drop)]
+pub struct Watched<E> {
+    end: E,
+    notes: Notes,
+}
+
+impl<E> Watched<E> {
+    /// Watches `end`. No call is noted yet.
+    pub fn new(end: E) -> Watched<E>
+        ensures end { watched_end result ≡ end }
+        ensures notes { watched_notes result ≡ no_notes }
+    {
+        Watched {
+            end,
+            notes: Notes::none(),
+        }
+    }
+
+    /// The reader or writer that is watched.
+    pub fn end(&self) -> &E
+        ensures { result.now ≡ watched_end self.now }
+    {
+        &self.end
+    }
+
+    /// What became of the calls since the last reset.
+    pub fn notes(&self) -> Notes
+        ensures { result ≡ watched_notes self.now }
+    {
+        self.notes
+    }
+
+    /// Forgets what became of the calls so far.
+    pub fn reset(&mut self)
+        ensures end { watched_end self.new ≡ watched_end self.old }
+        ensures notes { watched_notes self.new ≡ no_notes }
+    {
+        self.notes = Notes::none();
+    }
+}
+
+impl<R: Read> Read for Watched<R> {
+    ghost remaining = { λ watched. R.remaining (watched_end watched) };
+
+    fn read(&mut self, buf: &mut [u8]) -> io::Result<usize>
+        ensures bound { ReadsAtMost result buf.new }
+        ensures bytes { ReadConsumes (R.remaining (watched_end self.old)) (R.remaining (watched_end self.new)) result buf.new }
+        ensures notes { watched_notes self.new ≡ noted_read (watched_notes self.old) result }
+    {
+        let result = self.end.read(buf);
+        self.notes = match &result {
+            Ok(count) => self.notes.after_moving(*count),
+            Err(error) => self.notes.after_error(error.kind()),
+        };
+        result
+    }
+}
+
+impl<W: Write> Write for Watched<W> {
+    ghost contents = { λ watched. W.contents (watched_end watched) };
+
+    fn write(&mut self, buf: &[u8]) -> io::Result<usize>
+        ensures bound { WritesAtMost result buf.now }
+        ensures bytes { WriteAppends (W.contents (watched_end self.old)) (W.contents (watched_end self.new)) result buf.now }
+        ensures notes { watched_notes self.new ≡ noted_write (watched_notes self.old) result }
+    {
+        let result = self.end.write(buf);
+        self.notes = match &result {
+            Ok(0) => self.notes.after_failure(),
+            Ok(count) => self.notes.after_moving(*count),
+            Err(error) => self.notes.after_error(error.kind()),
+        };
+        result
+    }
+
+    fn flush(&mut self) -> io::Result<()>
+        ensures bytes { Keeps (W.contents (watched_end self.old)) (W.contents (watched_end self.new)) }
+        ensures notes { watched_notes self.new ≡ noted_flush (watched_notes self.old) result }
+    {
+        let result = self.end.flush();
+        if result.is_err() {
+            self.notes = self.notes.after_failure();
+        }
+        result
+    }
+}

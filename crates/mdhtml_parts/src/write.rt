@@ -1,0 +1,39 @@
+//! Writing to the end.
+
+ghost use Rattle.std.specs.Prelude.{IfErr, OnOk, OnErr};
+ghost use Rattle.std.specs.Io.KnownBytes.{Appends};
+ghost use Rattle.mdhtml_parts.specs.Ends.{watched_end, watched_notes};
+ghost use Rattle.mdhtml_parts.specs.Faults.{WriteStops};
+ghost use Rattle.mdhtml_parts.specs.Runs.{AppendsFrontOf};
+
+use crate::fault::RunFault;
+use crate::watched::{PATIENCE, Watched};
+use std::io::Write;
+
+/// Writes all of a text, and flushes.
+///
+/// The notes of the writer start afresh. Answers `Write` where a write or the flush failed, where a write took no byte,
+/// or where `PATIENCE` writes in a row were interrupted. A beginning of the text was then written.
+pub fn write_text<W: Write>(writer: &mut Watched<W>, text: &[u8]) -> Result<(), RunFault>
+    ensures all { OnOk result (Appends (W.contents (watched_end writer.old)) (W.contents (watched_end writer.new)) text.now) }
+    ensures front { OnErr result (AppendsFrontOf (W.contents (watched_end writer.old)) (W.contents (watched_end writer.new)) text.now) }
+    ensures fault { IfErr result (WriteStops (watched_notes writer.new)) }
+{
+    writer.reset();
+    let mut at = 0;
+    while at < text.len() {
+        match writer.write(&text[at..]) {
+            Ok(0) => return Err(RunFault::Write),
+            Ok(count) => at += count,
+            Err(_) => {
+                if writer.notes().failed || writer.notes().interrupted >= PATIENCE {
+                    return Err(RunFault::Write);
+                }
+            }
+        }
+    }
+    match writer.flush() {
+        Ok(()) => Ok(()),
+        Err(_) => Err(RunFault::Write),
+    }
+}
