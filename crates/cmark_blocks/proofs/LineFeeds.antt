@@ -32,8 +32,9 @@ no-feeds (b ∷ bs) h =
     sum_by-cons (λ x. cond (x == 10) 1 0) b bs ∙ ap (λ z. cond z 1 0 + line_ends bs) h.0
     ∙ (let ih = no-feeds bs h.1 in let none : 0 + line_ends bs ≡ 0 = omega (arith, ih) in none)
 
-ends-append : (bs cs : List ℕ) → line_ends (bs ++ cs) ≡ line_ends bs + line_ends cs
-ends-append bs cs = sum_by-append (λ x. cond (x == 10) 1 0) bs cs
+-- in one text behind another
+pub ends-behind : (bs cs : List ℕ) → line_ends (bs ++ cs) ≡ line_ends bs + line_ends cs
+ends-behind bs cs = sum_by-append (λ x. cond (x == 10) 1 0) bs cs
 
 one-end : (r : Row) → line_ends (line_end_of r) ≡ 1
 one-end r = go (nat_le 2 (r.past - r.stop))
@@ -45,9 +46,9 @@ one-end r = go (nat_le 2 (r.past - r.stop))
 further-ends : (first : Row) (rs : List Row) → HaveNoFeed rs → line_ends (further_bytes first rs) ≡ length rs
 further-ends first [] h = refl
 further-ends first (r ∷ rs) h =
-    ends-append (line_end_of first) (bytes_of r.columns ++ further_bytes r rs)
+    ends-behind (line_end_of first) (bytes_of r.columns ++ further_bytes r rs)
     ∙ ap (λ n. n + line_ends (bytes_of r.columns ++ further_bytes r rs)) (one-end first)
-    ∙ (let split = ends-append (bytes_of r.columns) (further_bytes r rs) in
+    ∙ (let split = ends-behind (bytes_of r.columns) (further_bytes r rs) in
     let none = no-feeds (bytes_of r.columns) h.0 in
     let ih = further-ends r rs h.1 in
     let all : 1 + line_ends (bytes_of r.columns ++ further_bytes r rs) ≡ suc (length rs) = omega (arith, split, none, ih) in
@@ -115,6 +116,3 @@ module _ (text : List ℕ) (options : Options) (lookup : Lookup) where
   texts-end cs at r =
       further-ends r (text_lines options (ahead_in text options lookup cs (lines_at text at)))
       (texts-plain options (ahead_in text options lookup cs (lines_at text at)) (ahead-plain cs (lines_at text at) (rows-plain at (lines (drop at text)))))
-
-pub ends-behind : (behind more : List ℕ) → line_ends (behind ++ more) ≡ line_ends behind + line_ends more
-ends-behind behind more = ends-append behind more

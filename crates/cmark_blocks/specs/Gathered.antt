@@ -51,12 +51,7 @@ module _ {E : Type 0} (replacement : E → Lookup) where
   IsWhole pass gathered =
       (text : List ℕ) (options : Options) (lookup : Lookup) (m : model.Pass) → Runs replacement text lookup m pass → texts_at text options lookup m (row_of gathered.last).past ≡ []
 
-  -- one more line was gathered, if there is one
-  abbrev pub GathersLine : Pass E → Gathered → (more : Bool) → Gathered → Type 0
-  GathersLine pass old true new = ((first : LineRest) → Gathers pass first old → Gathers pass first new) × ((row_of old.last).past < (row_of new.last).past)
-  GathersLine pass old false new = (new ≡ old) × IsWhole pass new
-
-  -- one more line at least was gathered, and the others if there are no more
+  -- one more line at least was gathered; or else no line is left
   abbrev pub GathersMore : Pass E → Gathered → (more : Bool) → Gathered → Type 0
   GathersMore pass old true new = ((first : LineRest) → Gathers pass first old → Gathers pass first new) × ((row_of old.last).past < (row_of new.last).past)
   GathersMore pass old false new = ((first : LineRest) → Gathers pass first old → Gathers pass first new) × IsWhole pass new

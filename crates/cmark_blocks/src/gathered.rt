@@ -54,7 +54,7 @@ fn line_end_of(rest: LineRest<'_>) -> &'static str
 impl<'a, E: EntityLookup> Pass<'a, E> {
     ghost use Rattle.std.specs.Prelude.{false};
     ghost use Rattle.cmark_blocks.specs.Runs.{IsRead};
-    ghost use Rattle.cmark_blocks.specs.Gathered.{IsGathered, Gathers, GathersLine, GathersMore, Decides};
+    ghost use Rattle.cmark_blocks.specs.Gathered.{IsGathered, Gathers, GathersMore, Decides};
 
     /// The first line, in this memory.
     fn gather_first(&self, rest: LineRest<'a>, room: String) -> Result<Gathered<'a>, AllocError>
@@ -77,7 +77,7 @@ impl<'a, E: EntityLookup> Pass<'a, E> {
         requires bare { self.now.bare ≡ false }
         requires gathered { IsGathered self.now.text.now gathered.old }
         ensures gathered { IfOk result (λ more. IsGathered self.now.text.now gathered.new) }
-        ensures line { IfOk result (λ more. GathersLine E.replacement self.now gathered.old more gathered.new) }
+        ensures line { IfOk result (λ more. GathersMore E.replacement self.now gathered.old more gathered.new) }
     {
         let Some(rest) = self.text_ahead(gathered.last) else {
             return Ok(false);
