@@ -1,6 +1,6 @@
 //! The text of a paragraph, gathered line by line (CommonMark 4.7).
 
-ghost use Rattle.std.specs.Prelude.{◌≡◌, ◌∷◌, ◌≤◌, ℕ, List, [], string_bytes, IfOk};
+ghost use Rattle.std.specs.Prelude.{◌≡◌, ◌≤◌, true, length, string_bytes, IfOk};
 ghost use Rattle.cmark_grammar.specs.Columns.{bytes_of};
 ghost use Rattle.cmark_grammar.specs.LinkDefinitions.{line_end_of};
 ghost use Rattle.cmark_grammar.specs.Rows.{words_of};
@@ -95,6 +95,7 @@ impl<'a, E: EntityLookup> Pass<'a, E> {
         requires gathered { IsGathered self.now.text.now gathered.old }
         ensures gathered { IfOk result (λ more. IsGathered self.now.text.now gathered.new) }
         ensures lines { IfOk result (λ more. GathersMore E.replacement self.now gathered.old more gathered.new) }
+        ensures long { IfOk result (λ more. more ≡ true → size ≤ length (string_bytes gathered.new.text)) }
     {
         if !self.gather_line(gathered)? {
             return Ok(false);
