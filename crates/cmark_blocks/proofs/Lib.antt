@@ -9,6 +9,7 @@ pub mod IndentedSteps
 pub mod InfoSteps
 pub mod KeptSteps
 pub mod LeafSteps
+pub mod LineFeeds
 pub mod LineSteps
 pub mod OpeningSteps
 pub mod PassSteps

@@ -1,5 +1,5 @@
 -- The pass in another state, where one part of it has changed.
-use Rattle.std.proofs.Common.{◌≡◌, ℕ, Bool, true, false, List, [], ◌∷◌, ◌++◌, Option, Some, None, option_map, refl, ap, subst, ◌∙◌, Vec, Global, ◌==◌}
+use Rattle.std.proofs.Common.{◌≡◌, ℕ, Bool, true, false, List, [], ◌∷◌, ◌++◌, Option, Some, None, option_map, refl, ap, subst, ◌∙◌, Vec, String, Global, ◌==◌}
 use Rattle.cmark_grammar.specs.Answers.{Lookup}
 use Rattle.cmark_items.specs.Definitions.{definition, shown_definition}
 use Rattle.cmark_items.specs.Tables.{tables}
@@ -161,5 +161,19 @@ module _ {E : Type 0} (replacement : E → Lookup) (text : List ℕ) (lookup : L
     bare = runs.bare;
     leaf = runs.leaf;
     past = same;
+    references = runs.references;
+  }
+
+  -- what stands in the memory for a paragraph's text does not matter
+  pub runs-room : (room : String Global) → Runs replacement text lookup m pass → Runs replacement text lookup m (record pass { room = room })
+  runs-room room runs = record {
+    text_is = runs.text_is;
+    lookup_is = runs.lookup_is;
+    drawing = runs.drawing;
+    inner = runs.inner;
+    outer = runs.outer;
+    bare = runs.bare;
+    leaf = runs.leaf;
+    past = runs.past;
     references = runs.references;
   }

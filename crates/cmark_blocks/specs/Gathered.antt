@@ -1,11 +1,12 @@
 -- The text of a paragraph that may begin with link reference definitions, gathered line by line (CommonMark 4.7).
-use Rattle.std.specs.Prelude.{◌≡◌, ℕ, ◌≤◌, ◌<◌, Bool, true, false, List, [], ◌∷◌, ◌++◌, length, string_bytes}
+use Rattle.std.specs.Prelude.{◌≡◌, ℕ, ◌≤◌, ◌<◌, Bool, true, false, List, [], ◌∷◌, ◌++◌, length, string_bytes, option_map}
 use Rattle.cmark_grammar.specs.Answers.{Lookup}
-use Rattle.cmark_grammar.specs.LinkDefinitions.{bytes_over}
+use Rattle.cmark_grammar.specs.LinkDefinitions.{further_bytes, bytes_over, definition_in}
 use Rattle.cmark_grammar.specs.Openings.{text_lines}
 use Rattle.cmark_grammar.specs.Options.{Options}
 use Rattle.cmark_grammar.specs.Rows.{Row}
 use Rattle.cmark_definitions.specs.Rests.{HasLineEnds}
+use Rattle.cmark_definitions.specs.Settled.{defined_before}
 use Rattle.cmark_lines.specs.Rests.{row_of}
 use Rattle.cmark_lines.specs.declared.line_rest.LineRest.{LineRest}
 use Rattle.cmark_block_model.specs.BlockPass.{ahead_in}
@@ -50,7 +51,14 @@ module _ {E : Type 0} (replacement : E → Lookup) where
   IsWhole pass gathered =
       (text : List ℕ) (options : Options) (lookup : Lookup) (m : model.Pass) → Runs replacement text lookup m pass → texts_at text options lookup m (row_of gathered.last).past ≡ []
 
-  -- one more line was gathered, if there is one
-  abbrev pub GathersLine : Pass E → Gathered → (more : Bool) → Gathered → Type 0
-  GathersLine pass old true new = ((first : LineRest) → Gathers pass first old → Gathers pass first new) × ((row_of old.last).past < (row_of new.last).past)
-  GathersLine pass old false new = (new ≡ old) × IsWhole pass new
+  -- one more line at least was gathered; or else no line is left
+  abbrev pub GathersMore : Pass E → Gathered → (more : Bool) → Gathered → Type 0
+  GathersMore pass old true new = ((first : LineRest) → Gathers pass first old → Gathers pass first new) × ((row_of old.last).past < (row_of new.last).past)
+  GathersMore pass old false new = ((first : LineRest) → Gathers pass first old → Gathers pass first new) × IsWhole pass new
+
+  -- the definition in front of what was gathered stands in front of the whole text of the paragraph, and if none does, none stands there
+  abbrev pub Decides : Pass E → Gathered → Type 0
+  Decides pass gathered =
+      (text : List ℕ) (options : Options) (lookup : Lookup) (m : model.Pass) → Runs replacement text lookup m pass →
+      let behind = further_bytes (row_of gathered.last) (texts_at text options lookup m (row_of gathered.last).past) in
+      definition_in (string_bytes gathered.text ++ behind) ≡ option_map (defined_before behind) (definition_in (string_bytes gathered.text))

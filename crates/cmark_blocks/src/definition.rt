@@ -5,11 +5,13 @@ ghost use Rattle.cmark_grammar.specs.LinkDefinitions.{line_ends};
 ghost use Rattle.cmark_definitions.specs.Shown.{written};
 ghost use Rattle.cmark_lines.specs.Rests.{IsIn};
 
+use crate::gathered::Gathered;
 use crate::state::{OpenLeaf, Pass};
 use cmark_definitions::{Definition, link_definition, scan_definition};
 use cmark_lines::LineRest;
 use cmark_text::EntityLookup;
 use std::alloc::AllocError;
+use std::mem;
 use std::ops::Range;
 
 /// How many lines end behind this place of a text.
@@ -28,6 +30,7 @@ impl<'a, E: EntityLookup> Pass<'a, E> {
     ghost use Rattle.cmark_blocks.specs.declared.state.OpenLeaf.TheVariants as leaf;
     ghost use Rattle.cmark_blocks.specs.Runs.{IsGood, IsRead};
     ghost use Rattle.cmark_blocks.specs.Steps.{StepsOver, BeginsBracket};
+    ghost use Rattle.cmark_blocks.specs.Gathered.{IsGathered, Gathers, Decides};
     ghost use Rattle.cmark_blocks.specs.Found.{definition_kept, definition_begun, StopsAt};
 
     /// Where the line ends that stands so many lines behind this one, in the paragraph that this one may begin.
@@ -84,17 +87,23 @@ impl<'a, E: EntityLookup> Pass<'a, E> {
         Ok(())
     }
 
-    /// A line behind which a link reference definition may stand in front of a paragraph's text begins one, or else a paragraph.
-    pub(crate) fn begin_bracket(&mut self, rest: LineRest<'a>) -> Result<(), AllocError>
+    /// A line begins the link reference definition that stands in front of the text of a paragraph, or else that paragraph.
+    fn begin_gathered(
+        &mut self,
+        rest: LineRest<'a>,
+        gathered: &Gathered<'a>,
+    ) -> Result<(), AllocError>
         requires good { IsGood self.old }
         requires line { IsRead self.old.text.now rest }
         requires closed { self.old.leaf ≡ leaf.Closed }
         requires bare { self.old.bare ≡ false }
+        requires gathered { IsGathered self.old.text.now gathered.now }
+        requires holds { Gathers E.replacement self.old rest gathered.now }
+        requires decides { Decides E.replacement self.old gathered.now }
         ensures good { IsGood self.new }
         ensures runs { OnOk result (BeginsBracket E.replacement rest.entry self.old self.new) }
         ensures text { self.new.text ≡ self.old.text }
     {
-        let gathered = self.gather(rest)?;
         let paragraph = gathered.text.as_str();
         let Some(definition) = scan_definition(paragraph) else {
             self.begin_paragraph(rest)?;
@@ -104,6 +113,23 @@ impl<'a, E: EntityLookup> Pass<'a, E> {
         let more = gathered.lines.saturating_sub(behind);
         let end = self.stop_behind(rest, more);
         self.begin_definition(&definition, rest.words_begin()..end, more)?;
+        Ok(())
+    }
+
+    /// A line whose words begin with a bracket begins a link reference definition, or else a paragraph.
+    pub(crate) fn begin_bracket(&mut self, rest: LineRest<'a>) -> Result<(), AllocError>
+        requires good { IsGood self.old }
+        requires line { IsRead self.old.text.now rest }
+        requires closed { self.old.leaf ≡ leaf.Closed }
+        requires bare { self.old.bare ≡ false }
+        ensures good { IsGood self.new }
+        ensures runs { OnOk result (BeginsBracket E.replacement rest.entry self.old self.new) }
+        ensures text { self.new.text ≡ self.old.text }
+    {
+        let room = mem::replace(&mut self.room, String::new(self.alloc));
+        let gathered = self.gather(rest, room)?;
+        self.begin_gathered(rest, &gathered)?;
+        self.room = gathered.text;
         Ok(())
     }
 }

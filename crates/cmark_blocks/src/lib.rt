@@ -12,7 +12,6 @@ mod feed;
 mod first_pass;
 mod gathered;
 mod html;
-
 mod leaf;
 mod line;
 mod paragraph;

@@ -11,5 +11,5 @@ returns-clause-gathered g c =
     record {
       read = c.requires.line;
       few = omega arith;
-      ends = subst HasLineEnds (sym (c.in_ok-push_str.ensures.bytes ∙ ap (λ bs. bs ++ c.words_in.result.now) c.new-text.ensures.bytes ∙ c.words_in.ensures)) (no_return (words_of (row_of c.args.rest)) (words-plain c.args.rest));
+      ends = subst HasLineEnds (sym (c.in_ok-push_str.ensures.bytes ∙ ap (λ bs. bs ++ c.words_in.result.now) c.clear.ensures.bytes ∙ c.words_in.ensures)) (no_return (words_of (row_of c.args.rest)) (words-plain c.args.rest));
     }
