@@ -12,5 +12,6 @@ pub mod LeafSteps
 pub mod LineSteps
 pub mod OpeningSteps
 pub mod PassSteps
+pub mod PrefixSteps
 pub mod ReferenceSteps
 pub mod RunSteps
