@@ -1,6 +1,7 @@
 pub mod AheadSteps
 pub mod ClosingSteps
 pub mod CodeSteps
+pub mod CountSteps
 pub mod DefinitionSteps
 pub mod FeedSteps
 pub mod GatherSteps

@@ -12,6 +12,7 @@ use Rattle.cmark_builder.specs.Drawn.{shown_open, open_node}
 use Rattle.cmark_block_model.specs.BlockPass.{pass_over, all_closed, lines_fed}
 use Rattle.cmark_block_model.specs.OpenBlocks.{at_start}
 use Rattle.cmark_block_model.proofs.Theorem.{pass-draws}
+use Rattle.cmark_blocks.proofs.CountSteps.{drawn-few}
 use Rattle.cmark_blocks.specs.Ahead.{lines_at}
 use Rattle.cmark_blocks.specs.FirstPass.{Leaves}
 use Rattle.cmark_blocks.specs.declared.first_pass.FirstPass.{FirstPass}
@@ -33,6 +34,7 @@ module _ {E : Type 0} (replacement : E → Lookup) (text : List ℕ) (options : 
     forest = runs.drawing.here;
     tree_is = subst (λ t. Is t runs.drawing.here []) (sym tree) (subst (λ up. Is pass.builder.tree runs.drawing.here up) none runs.drawing.is);
     drawn = ap (λ a. shown_forest text (tables a).texts runs.drawing.here) allocations ∙ runs.drawing.here_is;
+    few = drawn-few text options lookup (tables pass.builder.allocations).texts runs.drawing.here runs.drawing.here_is;
     references = λ folded.
         ap (λ a. option_map shown_definition (definition (tables a).references folded)) allocations
         ∙ runs.references folded
