@@ -1,5 +1,5 @@
 -- One more line, behind what is open.
-use Rattle.std.proofs.Common.{◌≡◌, ℕ, zero, suc, ◌≤◌, Bool, true, false, not, ◌&&◌, if◌then◌else◌, List, [], ◌∷◌, ◌++◌, take, drop, length, Option, Some, None, refl, sym, ap, subst, ◌∙◌, arith, true≢false}
+use Rattle.std.proofs.Common.{◌≡◌, ℕ, suc, ◌≤◌, Bool, true, false, not, ◌&&◌, if◌then◌else◌, List, [], ◌∷◌, take, drop, length, Some, None, refl, sym, ap, subst, ◌∙◌, arith, true≢false}
 use Rattle.std.proofs.lemmas.List.{drop_all}
 use Rattle.cmark_grammar.specs.Answers.{Lookup}
 use Rattle.cmark_grammar.specs.Leaves.{underlines}
@@ -13,7 +13,6 @@ use Rattle.cmark_lines.proofs.LazyRows.{whole-texts}
 use Rattle.cmark_block_model.specs.BlockPass.{ahead_in, leaf_fed, lazy_fed, begin, leaf_closed, close_leaf, heading_made, paragraph_line, paragraph_begun, underlined_or, line_with, line_fed, lines_fed, containers_closed}
 use Rattle.cmark_block_model.specs.OpenBlocks as model
 use Rattle.cmark_block_model.specs.OpenBlocks.{takes_lazy}
-use Rattle.cmark_blocks.specs.declared.state.OpenLeaf.{OpenLeaf}
 use Rattle.cmark_blocks.specs.declared.state.OpenLeaf.TheVariants as leaf
 use Rattle.cmark_blocks.specs.declared.state.Pass.{Pass}
 use Rattle.cmark_blocks.specs.Ahead.{lines_at}
@@ -71,7 +70,7 @@ module _ (text : List ℕ) (options : Options) (lookup : Lookup) (r : Row) (next
 
   missed : (k : ℕ) (c : model.OpenContainer) (cs : List model.OpenContainer) (on : Bool) → drop k m.outer ≡ c ∷ cs → (not (interrupts options false r (ahead_in text options lookup (take k m.outer) next)) && takes_lazy m.leaf) ≡ on →
       line_with text options lookup (drop k m.outer) (take k m.outer) r next m
-          ≡ (if on then lazy_fed text options lookup m.leaf r m else begin text options lookup r next (containers_closed text options lookup (take k m.outer) (drop k m.outer) (leaf_closed text options lookup m)))
+      ≡ (if on then lazy_fed text options lookup m.leaf r m else begin text options lookup r next (containers_closed text options lookup (take k m.outer) (drop k m.outer) (leaf_closed text options lookup m)))
   unfolding lazily
   missed k c cs on some is =
       ap (λ cs. line_with text options lookup cs (take k m.outer) r next m) some
@@ -84,7 +83,7 @@ module _ (text : List ℕ) (options : Options) (lookup : Lookup) (r : Row) (next
 
   pub rest-ends : (k : ℕ) (c : model.OpenContainer) (cs : List model.OpenContainer) → drop k m.outer ≡ c ∷ cs → (not (interrupts options false r (ahead_in text options lookup (take k m.outer) next)) && takes_lazy m.leaf) ≡ false →
       line_with text options lookup (drop k m.outer) (take k m.outer) r next m
-          ≡ begin text options lookup r next (containers_closed text options lookup (take k m.outer) (drop k m.outer) (leaf_closed text options lookup m))
+      ≡ begin text options lookup r next (containers_closed text options lookup (take k m.outer) (drop k m.outer) (leaf_closed text options lookup m))
   rest-ends k c cs some is = missed k c cs false some is
 
 module _ (text : List ℕ) (options : Options) (lookup : Lookup) (m : model.Pass) where

@@ -1,6 +1,7 @@
 pub mod AheadSteps
 pub mod ClosingSteps
 pub mod CodeSteps
+pub mod CountSteps
 pub mod DefinitionSteps
 pub mod FeedSteps
 pub mod GatherSteps
@@ -13,5 +14,6 @@ pub mod LineFeeds
 pub mod LineSteps
 pub mod OpeningSteps
 pub mod PassSteps
+pub mod PrefixSteps
 pub mod ReferenceSteps
 pub mod RunSteps

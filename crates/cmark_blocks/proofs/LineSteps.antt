@@ -1,10 +1,8 @@
 -- What a line begins, one container after the other.
-use Rattle.std.proofs.Common.{◌≡◌, ℕ, zero, suc, ◌<◌, ◌≤◌, Bool, false, List, [], length, Option, Some, None, refl, sym, ap, subst, ◌∙◌, arith}
+use Rattle.std.proofs.Common.{◌≡◌, ℕ, zero, suc, ◌<◌, ◌≤◌, Bool, false, List, [], length, Some, None, refl, sym, ap, subst, ◌∙◌, arith}
 use Rattle.cmark_grammar.specs.Answers.{Lookup}
 use Rattle.cmark_grammar.specs.Containers.{Container, enter}
 use Rattle.cmark_grammar.specs.Leaves.{run}
-use Rattle.cmark_grammar.specs.Openings.{opens}
-use Rattle.cmark_grammar.specs.Openings as grammar
 use Rattle.cmark_grammar.specs.Options.{Options, no_options}
 use Rattle.cmark_grammar.specs.Rows.{Row, words_of}
 use Rattle.cmark_lines.specs.Opened.{opened, HasInside, InsideIsIn}
@@ -61,7 +59,7 @@ module _ (r : Row) (open_as : Opening) (start : ContainerStart) (inside : LineRe
 
   pub inside-begins : (text : List ℕ) (options : Options) (lookup : Lookup) (item bare : Bool) (columns : ℕ) (m : model.Pass) → OpensAs open_as r → item ≡ is_item (shown_start start) →
       begin_in text options lookup (suc columns) r (lines_at text r.past) bare m
-          ≡ begin_in text options lookup columns (row_of inside) (lines_at text (row_of inside).past) item (container_begun (shown_start start) r m)
+      ≡ begin_in text options lookup columns (row_of inside) (lines_at text (row_of inside).past) item (container_begun (shown_start start) r m)
   inside-begins text options lookup item bare columns m opens_as is =
       let ahead = ahead_in text options lookup m.outer (lines_at text r.past) in
       let k = shown_start start in
@@ -87,7 +85,7 @@ module _ {E : Type 0} (replacement : E → Lookup) (line : LineRest) (old : Pass
       go : (columns : ℕ) (p : model.Pass) → length (row_of rest).columns ≤ columns → Runs replacement text lookup p mid →
           (begin text options lookup (row_of line) (lines_at text (row_of line).past) m ≡ begin_in text options lookup (suc columns) (row_of rest) (lines_at text (row_of rest).past) bare p) →
           (columns : ℕ) × (p : model.Pass) × (length (row_of inside).columns ≤ columns) × Runs replacement text lookup p new
-              × (begin text options lookup (row_of line) (lines_at text (row_of line).past) m ≡ begin_in text options lookup (suc columns) (row_of inside) (lines_at text (row_of inside).past) item p)
+          × (begin text options lookup (row_of line) (lines_at text (row_of line).past) m ≡ begin_in text options lookup (suc columns) (row_of inside) (lines_at text (row_of inside).past) item p)
       go zero p le now same = absurd (omega (arith, le, shorter))
       go (suc n) p le now same = let r = first text options lookup (suc n) p now in (n, r.0, omega (arith, le, shorter), r.1, same ∙ r.3)
 

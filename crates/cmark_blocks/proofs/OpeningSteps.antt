@@ -1,12 +1,12 @@
 -- What a line begins, as far as the items of lists and headings go.
-use Rattle.std.proofs.Common.{◌≡◌, ℕ, Bool, true, false, ◌==◌, ◌&&◌, ◌||◌, nat_lt, nat_le, not, if◌then◌else◌, List, [], ◌∷◌, length, drop, Option, Some, None, refl, sym, ap, subst, ◌∙◌, true≢false, eqb-true}
+use Rattle.std.proofs.Common.{◌≡◌, ℕ, Bool, true, false, ◌==◌, ◌&&◌, ◌||◌, nat_lt, nat_le, not, if◌then◌else◌, List, [], ◌∷◌, length, drop, Option, Some, None, refl, sym, ap, ◌∙◌, true≢false, eqb-true}
 use Rattle.std.specs.Prelude.{unwrap_or, suc}
 use Rattle.cmark_grammar.specs.Rows.{Row, words_of, is_blank_line, indent_of}
 use Rattle.cmark_grammar.specs.Containers.{Container, Quote, Item, Marker, is_bullet, is_delimiter, delimited, digits, number_of, marker_of, item_with, item_of, container_with, container_of, is_quote, width_with}
 use Rattle.cmark_grammar.specs.HtmlBlocks.{html_kind}
 use Rattle.cmark_grammar.specs.Leaves.{Fence, is_parted, run, is_thematic_break, is_atx_heading, fence_of, counted, code_further}
 use Rattle.cmark_grammar.specs.LinkDefinitions.{Defined, definition_in, bytes_over}
-use Rattle.cmark_grammar.specs.Openings.{Leaf, AtxHeading, ThematicBreak, IndentedCode, FencedCode, HtmlBlock, LinkDefinition, Opening, Blank, Nests, Takes, Plain, or_else, nests_if, html_if, break_if, heading_if, fenced_if, defined_if, text_lines, definition_of, leaf_of, whole_opens, opens}
+use Rattle.cmark_grammar.specs.Openings.{AtxHeading, ThematicBreak, IndentedCode, FencedCode, HtmlBlock, LinkDefinition, Opening, Blank, Nests, Takes, Plain, or_else, nests_if, html_if, break_if, heading_if, fenced_if, defined_if, text_lines, definition_of, leaf_of, opens}
 use Rattle.cmark_grammar.specs.Options.{Options}
 use Rattle.cmark_items.specs.ItemNodes.{list_number}
 

@@ -1,22 +1,18 @@
 -- The pass over a whole text.
 use Rattle.std.proofs.Common.{◌≡◌, ℕ, List, [], ◌∷◌, map, option_map, refl, sym, ap, subst, ◌∙◌}
-use Rattle.cmark_tree.specs.Forest.{Forest}
-use Rattle.cmark_tree.specs.Building.{Opened, Is}
+use Rattle.cmark_tree.specs.Building.{Is}
 use Rattle.cmark_grammar.specs.Answers.{Lookup}
-use Rattle.cmark_grammar.specs.BlockDocument.{Reference}
 use Rattle.cmark_grammar.specs.Labels.{fold}
 use Rattle.cmark_grammar.specs.Options.{Options}
 use Rattle.cmark_grammar.specs.References.{first_with}
-use Rattle.cmark_items.specs.declared.item.Item.{Item}
-use Rattle.cmark_items.specs.ItemNodes.{shown_forest, nodes_of}
+use Rattle.cmark_items.specs.ItemNodes.{shown_forest}
 use Rattle.cmark_items.specs.Definitions.{definition, shown_definition}
 use Rattle.cmark_items.specs.Tables.{tables}
 use Rattle.cmark_builder.specs.Drawn.{shown_open, open_node}
 use Rattle.cmark_block_model.specs.BlockPass.{pass_over, all_closed, lines_fed}
-use Rattle.cmark_block_model.specs.Drawing.{OpenNode}
-use Rattle.cmark_block_model.specs.OpenBlocks as model
 use Rattle.cmark_block_model.specs.OpenBlocks.{at_start}
 use Rattle.cmark_block_model.proofs.Theorem.{pass-draws}
+use Rattle.cmark_blocks.proofs.CountSteps.{drawn-few}
 use Rattle.cmark_blocks.specs.Ahead.{lines_at}
 use Rattle.cmark_blocks.specs.FirstPass.{Leaves}
 use Rattle.cmark_blocks.specs.declared.first_pass.FirstPass.{FirstPass}
@@ -38,6 +34,7 @@ module _ {E : Type 0} (replacement : E → Lookup) (text : List ℕ) (options : 
     forest = runs.drawing.here;
     tree_is = subst (λ t. Is t runs.drawing.here []) (sym tree) (subst (λ up. Is pass.builder.tree runs.drawing.here up) none runs.drawing.is);
     drawn = ap (λ a. shown_forest text (tables a).texts runs.drawing.here) allocations ∙ runs.drawing.here_is;
+    few = drawn-few text options lookup (tables pass.builder.allocations).texts runs.drawing.here runs.drawing.here_is;
     references = λ folded.
         ap (λ a. option_map shown_definition (definition (tables a).references folded)) allocations
         ∙ runs.references folded

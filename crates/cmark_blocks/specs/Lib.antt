@@ -6,6 +6,7 @@ pub mod Found
 pub mod Gathered
 pub mod IndentedLines
 pub mod Kept
+pub mod Prefixes
 pub mod Runs
 pub mod Shown
 pub mod Steps

@@ -30,11 +30,7 @@ impl<'a, E: EntityLookup> Pass<'a, E> {
     ghost use Rattle.cmark_blocks.specs.Fed.{IsLazy, FeedsRest, Feeds};
 
     /// One more line behind a paragraph with this last line: an underline, one more line of its text, or what ends it.
-    fn feed_paragraph(
-        &mut self,
-        last: LineRest<'a>,
-        rest: LineRest<'a>,
-    ) -> Result<(), AllocError>
+    fn feed_paragraph(&mut self, last: LineRest<'a>, rest: LineRest<'a>) -> Result<(), AllocError>
         requires good { IsGood self.old }
         requires line { IsRead self.old.text.now rest }
         requires is { self.old.leaf ≡ leaf.Paragraph last }

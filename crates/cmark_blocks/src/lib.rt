@@ -16,7 +16,9 @@ mod leaf;
 mod line;
 mod paragraph;
 mod pass;
+mod prefixes;
 mod siblings;
 mod state;
 
 pub use first_pass::{FirstPass, run_first_pass};
+pub use prefixes::{scan_containers, skip_container_prefixes};

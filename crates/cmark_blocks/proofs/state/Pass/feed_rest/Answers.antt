@@ -1,4 +1,4 @@
-use Rattle.std.proofs.Common.{◌≡◌, ◌≤◌, ◌<◌, take, drop, length, sym, subst, ◌∙◌, ap, arith}
+use Rattle.std.proofs.Common.{◌≤◌, ◌<◌, take, drop, length, sym, subst, ◌∙◌, arith}
 use Rattle.std.proofs.lemmas.List.{take-append-drop, length-take-le}
 use Rattle.cmark_lines.specs.Rests.{row_of}
 use Rattle.cmark_block_model.specs.BlockPass.{ahead_in, leaf_closed}
