@@ -1,11 +1,13 @@
-# make builds bin/mdhtml. make test passes everything; its last line is the gate's count.
+# make builds bin/mdhtml and bin/mdevents. make test passes everything; its last line is the gate's count.
 .PHONY: all test edits gate
 .NOTPARALLEL:
 
 all:
 	cd crates/mdhtml && rt run < /dev/null
+	cd crates/mdevents && rt run < /dev/null
 	mkdir -p bin
 	cp crates/mdhtml/out/mdhtml bin/mdhtml
+	cp crates/mdevents/out/mdevents bin/mdevents
 
 test: edits gate all
 	tests/refusals

@@ -71,6 +71,7 @@ impl<'a> Walk<'a> {
 
     /// The next event, with its range; `None` behind the last one, and from then on. Where memory is refused, the same events
     /// remain.
+    #[inline(always)]
     pub fn next(&mut self) -> Result<Option<Ranged<'a>>, AllocError>
         requires { Goes self.old }
         ensures given { IfOk result (λ given. (events : List Shown) → Remains self.old events → Gives events given self.new) }
@@ -91,7 +92,7 @@ impl<'a> Walk<'a> {
     }
 
     // Into the focus or past it, or up from behind the last sibling.
-    #[inline]
+    #[inline(always)]
     fn step(&mut self) -> Result<Step<'a>, AllocError>
         requires { Goes self.old }
         ensures given { IfOk result (λ step. (events : List Shown) → Remains self.old events → GivesStep events step self.new) }
@@ -106,7 +107,7 @@ impl<'a> Walk<'a> {
     }
 
     // Into the focus, or past it if it is one event.
-    #[inline]
+    #[inline(always)]
     fn enter(&mut self, ix: TreeIndex) -> Result<Step<'a>, AllocError>
         requires { IsAt self.old ix }
         ensures given { IfOk result (λ step. (events : List Shown) → Remains self.old events → GivesStep events step self.new) }
@@ -132,7 +133,7 @@ impl<'a> Walk<'a> {
     }
 
     // Up from behind the last sibling, and past the parent.
-    #[inline]
+    #[inline(always)]
     fn leave(&mut self) -> Step<'a>
         requires { IsPast self.old }
         ensures given { (events : List Shown) → Remains self.old events → GivesStep events result self.new }

@@ -1,6 +1,6 @@
 -- An event as JSON: an array of its name and of its data, in the order in which the library declares them. What is absent is
 -- null, and a choice without data is a text, its name.
-use Rattle.std.specs.Prelude.{ℕ, Bool, List, [], ◌∷◌, codes, Option, Some, None}
+use Rattle.std.specs.Prelude.{ℕ, List, map, codes, Option, Some, None}
 use Rattle.cmark_grammar.specs.Alignment.{Alignment, Unaligned, Left, Center, Right}
 use Rattle.cmark_grammar.specs.Attributes.{Attribute, Attributes}
 use Rattle.cmark_grammar.specs.BlockQuoteKind.{BlockQuoteKind, Note, Tip, Important, Warning, Caution}
@@ -12,14 +12,15 @@ use Rattle.cmark_grammar.specs.Tag as tag
 use Rattle.cmark_grammar.specs.Tag.{Tag, Linked}
 use Rattle.cmark_grammar.specs.TagEnd as end
 use Rattle.cmark_grammar.specs.TagEnd.{TagEnd}
+use Rattle.serde_json.specs.View.{items_of}
 use Rattle.serde_json.specs.Data.{Data, null, boolean, number, unsigned, string, array, Items, no_items, item}
 
 -- a name with its data, with one of them, or with none
 abbrev pub named : List ℕ → Items → Data
-named name data = array (item (string name) data)
+named name items = array (item (string name) items)
 
 abbrev pub with_one : List ℕ → Data → Data
-with_one name data = named name (item data no_items)
+with_one name value = named name (item value no_items)
 
 abbrev pub alone : List ℕ → Data
 alone name = named name no_items
@@ -32,14 +33,9 @@ abbrev pub number_or_null : Option ℕ → Data
 number_or_null None = null
 number_or_null (Some n) = number (unsigned n)
 
-abbrev pub texts : List (List ℕ) → Items
-texts [] = no_items
-texts (text ∷ more) = item (string text) (texts more)
-
 -- an attribute's name, and its value, if it has one
-abbrev pub attributes : List Attribute → Items
-attributes [] = no_items
-attributes (a ∷ more) = item (array (item (string a.name) (item (text_or_null a.value) no_items))) (attributes more)
+abbrev pub attribute_data : Attribute → Data
+attribute_data a = array (item (string a.name) (item (text_or_null a.value) no_items))
 
 abbrev pub alignment_name : Alignment → List ℕ
 alignment_name Unaligned = codes "None"
@@ -47,9 +43,8 @@ alignment_name Left = codes "Left"
 alignment_name Center = codes "Center"
 alignment_name Right = codes "Right"
 
-abbrev pub alignments : List Alignment → Items
-alignments [] = no_items
-alignments (a ∷ more) = item (string (alignment_name a)) (alignments more)
+abbrev pub alignment_data : Alignment → Data
+alignment_data a = string (alignment_name a)
 
 abbrev pub quote_kind_data : Option BlockQuoteKind → Data
 quote_kind_data None = null
@@ -83,7 +78,7 @@ abbrev pub linked : Linked → Items
 linked l = item (link_type_data l.link_type) (item (string l.destination) (item (string l.title) (item (string l.id) no_items)))
 
 abbrev pub heading : ℕ → Attributes → Items
-heading level a = item (number (unsigned level)) (item (text_or_null a.id) (item (array (texts a.classes)) (item (array (attributes a.others)) no_items)))
+heading level a = item (number (unsigned level)) (item (text_or_null a.id) (item (array (items_of (map string a.classes))) (item (array (items_of (map attribute_data a.others))) no_items)))
 
 abbrev pub tag_data : Tag → Data
 tag_data tag.Paragraph = alone (codes "Paragraph")
@@ -97,7 +92,7 @@ tag_data (tag.FootnoteDefinition label) = with_one (codes "FootnoteDefinition") 
 tag_data tag.DefinitionList = alone (codes "DefinitionList")
 tag_data tag.DefinitionListTitle = alone (codes "DefinitionListTitle")
 tag_data tag.DefinitionListDefinition = alone (codes "DefinitionListDefinition")
-tag_data (tag.Table columns) = with_one (codes "Table") (array (alignments columns))
+tag_data (tag.Table columns) = with_one (codes "Table") (array (items_of (map alignment_data columns)))
 tag_data tag.TableHead = alone (codes "TableHead")
 tag_data tag.TableRow = alone (codes "TableRow")
 tag_data tag.TableCell = alone (codes "TableCell")

@@ -11,7 +11,9 @@ use Rattle.cmark_grammar.specs.Options.{Options}
 use Rattle.cmark_text.specs.declared.event.Event.{Event}
 use Rattle.cmark_text.specs.Shown.{shown}
 use Rattle.pulldown_cmark.specs.declared.parse.Parser.{Parser}
-use Rattle.pulldown_cmark.specs.Parsing.{Remains, IsOver, Gives, Reads, Shows}
+use Rattle.pulldown_cmark.specs.declared.parse.OffsetIter.{OffsetIter}
+use Rattle.pulldown_cmark.specs.Parsing.{Remains, IsOver, Gives, Reads, Shows, RemainsRanged, IsRangedOver, GivesRanged, ShowsRanged, shown_item, walk_of}
+use Rattle.std.specs.declared.ops.Range.{Range}
 use Rattle.pulldown_cmark.specs.Walking.{before, GivesNext}
 
 module _ {T : Type 0} (Shows : T → Ranged → Type 0) where
@@ -51,6 +53,12 @@ shown_each [] (r ∷ rs) each = absurd each
 shown_each (x ∷ xs) [] each = absurd each
 shown_each (x ∷ xs) (r ∷ rs) each = ap (λ e. e ∷ map shown xs) each.0 ∙ ap (λ es. r.event ∷ es) (shown_each xs rs each.1)
 
+shown_ranges : (items : List (Event × Range ℕ)) (rs : List Ranged) → EachShows ShowsRanged items rs → map shown_item items ≡ rs
+shown_ranges [] [] each = refl
+shown_ranges [] (r ∷ rs) each = absurd each
+shown_ranges (x ∷ xs) [] each = absurd each
+shown_ranges (x ∷ xs) (r ∷ rs) each = ap (λ e. e ∷ map shown_item xs) each.0 ∙ ap (λ es. r ∷ es) (shown_ranges xs rs each.1)
+
 module _ {E : Type 0} where
   one_call : (old : Parser E) (given : Option (Result Event AllocError)) (new : Parser E) → Gives old given new → GivesNext Remains IsOver Shows old given new
   one_call old given new g = g.next
@@ -63,3 +71,16 @@ module _ {E : Type 0} where
       let l : Left Remains IsOver Shows parser events = drained_left Remains IsOver Shows Gives one_call parser events drains in
       let r = reads.reads l.0 l.1 l.2 in
       (r.0, r.1, shown_each events l.1 l.3 ∙ ap (map (λ ranged. ranged.event)) r.3)
+
+  one_item : (old : OffsetIter E) (given : Option (Result (Event × Range ℕ) AllocError)) (new : OffsetIter E) → GivesRanged old given new → GivesNext RemainsRanged IsRangedOver ShowsRanged old given new
+  one_item old given new g = g.next
+
+  -- the same of a walk that gives ranges too
+  pub drained_ranges : (parser : Parser E) (iter : OffsetIter E) (text : List ℕ) (options : Options) (lookup : Lookup) (items : List (Event × Range ℕ))
+      → walk_of iter ≡ parser → Reads text options lookup parser → Drains GivesRanged iter (map Ok items)
+      → (document : BlockDocument) × Derives text options lookup document × (map shown_item items ≡ block_reading document)
+  drained_ranges parser iter text options lookup items same reads drains =
+      let l : Left RemainsRanged IsRangedOver ShowsRanged iter items = drained_left RemainsRanged IsRangedOver ShowsRanged GivesRanged one_item iter items drains in
+      let begun : Reads text options lookup (walk_of iter) = subst (Reads text options lookup) (sym same) reads in
+      let r = begun.reads l.0 l.1 l.2 in
+      (r.0, r.1, shown_ranges items l.1 l.3 ∙ r.3)

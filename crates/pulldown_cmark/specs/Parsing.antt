@@ -27,8 +27,11 @@ Shows event r = shown event ≡ r.event
 abbrev pub ShowsStep : Given → Ranged → Type 0
 ShowsStep given r = shown_ranged given ≡ r
 
+abbrev pub shown_item : Event × Range ℕ → Ranged
+shown_item item = record { event = shown item.0; start = item.1.start; end = item.1.end }
+
 abbrev pub ShowsRanged : Event × Range ℕ → Ranged → Type 0
-ShowsRanged item r = record { event = shown item.0; start = item.1.start; end = item.1.end } ≡ r
+ShowsRanged item r = shown_item item ≡ r
 
 module _ {E : Type 0} where
   -- how many events are left at most
