@@ -13,13 +13,10 @@ pub mod CountLaws
 pub mod DocumentsJoin
 pub mod LineSteps
 pub mod NotDerived
-pub mod OutlineOne
-pub mod OutlineSound
 pub mod RangeLaws
 pub mod ReferenceLaws
 pub mod RowEdges
 pub mod RowPlaces
-pub mod Samples
 pub mod SliceLaws
 pub mod TagSamples
 pub mod TightLaws

@@ -16,7 +16,6 @@ pub mod Containers
 pub mod DefinitionLists
 pub mod Derivation
 pub mod Destinations
-pub mod Document
 pub mod DrawnDocument
 pub mod Entities
 pub mod Escapes
@@ -36,10 +35,7 @@ pub mod Metadata
 pub mod MetadataBlockKind
 pub mod Openings
 pub mod Options
-pub mod Outline
-pub mod OutlineModel
 pub mod Ranges
-pub mod Reading
 pub mod References
 pub mod Rows
 pub mod Tables

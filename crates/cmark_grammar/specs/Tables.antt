@@ -1,5 +1,5 @@
 -- Tables: the delimiter row (GFM 4.10).
-use Rattle.std.specs.Prelude.{ℕ, Bool, true, false, ◌==◌, ◌&&◌, nat_lt, if◌then◌else◌, List, [], ◌∷◌, length, drop, codes, Option, Some, None}
+use Rattle.std.specs.Prelude.{ℕ, Bool, true, false, ◌==◌, ◌&&◌, nat_lt, if◌then◌else◌, List, [], ◌∷◌, drop, codes, Option, Some, None}
 use Rattle.cmark_grammar.specs.Lines.{onto}
 use Rattle.cmark_grammar.specs.Leaves.{is_empty, run, trimmed}
 use Rattle.cmark_grammar.specs.HtmlBlocks.{holds}

@@ -1,7 +1,6 @@
 //! What the product's theorems are about: lines, columns, documents, which documents a text derives, the events that a
 //! document is read as, and their HTML. All of it stands in `specs/`, as definitions over lists of bytes; the functions
-//! of [`laws`] carry theorems over these definitions, and do nothing.
+//! of [`block_laws`] carry theorems over these definitions, and do nothing.
 #![tactic(auto)]
 
 pub mod block_laws;
-pub mod laws;

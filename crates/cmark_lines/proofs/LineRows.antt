@@ -7,8 +7,7 @@ use Rattle.std.proofs.lemmas.List.Sums.{prefix_len-le-length}
 use Rattle.std.proofs.lemmas.Str.{IsUtf8-drop, IsCharBoundary-from_rest}
 use Rattle.cmark_grammar.specs.Columns.{Column, tab, expand, tab_columns, to_tab_stop, bytes_of}
 use Rattle.cmark_grammar.specs.Lines.{lines, content, is_content, begins_with_line_feed, ending_len}
-use Rattle.cmark_grammar.specs.Outline as outline
-use Rattle.cmark_grammar.specs.Rows.{Row, row_at, rows_from, begin_of}
+use Rattle.cmark_grammar.specs.Rows.{row_at, rows_from, begin_of}
 use Rattle.cmark_grammar.proofs.LineSteps.{rows-first}
 use Rattle.cmark_grammar.proofs.RowPlaces.{Runs, first_place-Runs, expand-Runs}
 use Rattle.cmark_grammar.proofs.RowEdges.{AreGood, GoodRow, GoodRows}
@@ -30,20 +29,11 @@ module _ (text : List ℕ) (start : ℕ) (front : LineStart) (is : (at past : �
 pub content-len : (bs : List ℕ) → length (content bs) ≤ length bs
 content-len bs = let e = length-prefix_len is_content bs in let le = prefix_len-le-length is_content bs in omega (arith, e, le)
 
--- a line of the outline is a row that lacks no prefix
-abbrev full : outline.Row → Row
-full r = record { columns = r.columns; stop = r.stop; past = r.past; lazy = false }
-
-map-full : (at : ℕ) (ls : List (List ℕ)) → map full (outline.rows_from at ls) ≡ rows_from at ls
-map-full at [] = refl
-map-full at (l ∷ ls) = ap (λ rs. row_at at l ∷ rs) (map-full (at + length l) ls)
-
 module _ (text : List ℕ) (at k e : ℕ) (is_k : k ≡ length (content (drop at text))) (is_e : e ≡ ending_len (drop k (drop at text))) where
   -- the first line, and those behind it
   pub rows-further : at < length text → rows_from at (lines (drop at text)) ≡ line_of at (at + k + e) (drop at text) ∷ rows_from (at + k + e) (lines (drop (at + k + e) text))
   rows-further lt =
-      sym (map-full at (lines (drop at text))) ∙ ap (map full) (rows-first text at k e lt (is_k ∙ length-prefix_len is_content (drop at text)) is_e)
-      ∙ ap (λ rs. record { columns = expand 0 at (take k (drop at text)); stop = at + k; past = at + k + e; lazy = false } ∷ rs) (map-full (at + k + e) (lines (drop (at + k + e) text)))
+      rows-first text at k e lt (is_k ∙ length-prefix_len is_content (drop at text)) is_e
       ∙ ap (λ cs. record { columns = expand 0 at cs; stop = at + k; past = at + k + e; lazy = false } ∷ rows_from (at + k + e) (lines (drop (at + k + e) text)))
       (ap (λ n. take n (drop at text)) (is_k ∙ length-prefix_len is_content (drop at text)))
       ∙ ap (λ n. record { columns = expand 0 at (content (drop at text)); stop = at + n; past = at + k + e; lazy = false } ∷ rows_from (at + k + e) (lines (drop (at + k + e) text))) is_k
