@@ -78,10 +78,20 @@ break_over_item : written (document (codes "- Foo\n- * * *\n") no_options basic_
 unfolding blocks begin opens texts lazily enter keeps underlines
 break_over_item = refl
 
--- example 64
-seven_hashes : written (document (codes "#5 bolt\n\n#hashtag\n") no_options basic_entity) ≡ codes "<p>#5 bolt</p>\n<p>#hashtag</p>\n"
+-- example 62
+levels : written (document (codes "# foo\n## foo\n###### foo\n") no_options basic_entity) ≡ codes "<h1>foo</h1>\n<h2>foo</h2>\n<h6>foo</h6>\n"
 unfolding blocks begin opens texts lazily enter keeps underlines
-seven_hashes = refl
+levels = refl
+
+-- example 63
+hashes_of_no_level : written (document (codes "####### foo\n") no_options basic_entity) ≡ codes "<p>####### foo</p>\n"
+unfolding blocks begin opens texts lazily enter keeps underlines
+hashes_of_no_level = refl
+
+-- example 64
+hashes_without_a_blank : written (document (codes "#5 bolt\n\n#hashtag\n") no_options basic_entity) ≡ codes "<p>#5 bolt</p>\n<p>#hashtag</p>\n"
+unfolding blocks begin opens texts lazily enter keeps underlines
+hashes_without_a_blank = refl
 
 -- example 71
 closing_hashes : written (document (codes "## foo ##\n  ###   bar    ###\n") no_options basic_entity) ≡ codes "<h2>foo</h2>\n<h3>bar</h3>\n"
