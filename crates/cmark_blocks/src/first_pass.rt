@@ -14,7 +14,7 @@ use std::alloc::{AllocError, Global};
 /// What the block pass leaves of a text.
 #[derive(Drop)]
 pub struct FirstPass<'a> {
-    /// The tree of the text's blocks, before its first node.
+    /// The tree of the text's blocks. Its focus is the last one that stands in no other.
     pub tree: Tree<Item>,
     /// The tables that the items point into, and the link reference definitions.
     pub allocations: Allocations<'a>,
