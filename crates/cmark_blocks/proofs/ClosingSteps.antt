@@ -11,7 +11,7 @@ use Rattle.cmark_blocks.specs.Shown.{ShowsContainers}
 use Rattle.cmark_blocks.specs.Runs.{Runs}
 use Rattle.cmark_blocks.specs.Steps.{ClosesLast, ClosesAll, ClosesTowards}
 
-shows-length : (cs : List OpenContainer) (ms : List model.OpenContainer) → ShowsContainers cs ms → length cs ≡ length ms
+pub shows-length : (cs : List OpenContainer) (ms : List model.OpenContainer) → ShowsContainers cs ms → length cs ≡ length ms
 shows-length [] [] s = refl
 shows-length [] (m ∷ ms) s = absurd s
 shows-length (c ∷ cs) [] s = absurd s

@@ -1,18 +1,29 @@
 -- The containers that keep a line, one after the other.
-use Rattle.std.proofs.Common.{◌≡◌, ℕ, zero, suc, ◌<◌, ◌≤◌, Bool, ◌&&◌, List, [], ◌∷◌, ◌++◌, take, drop, length, Some, None, refl, sym, ap, ◌∙◌, subst, arith}
+use Rattle.std.proofs.Common.{◌≡◌, ℕ, zero, suc, ◌+◌, ◌<◌, ◌≤◌, Bool, ◌&&◌, List, [], ◌∷◌, ◌++◌, take, drop, length, Some, None, refl, sym, ap, ◌∙◌, subst, arith, drop-drop}
 use Rattle.std.specs.Prelude.{slice_get, ◌==◌}
 use Rattle.std.proofs.lemmas.Option.{same_Some}
 use Rattle.cmark_grammar.specs.Answers.{Lookup}
 use Rattle.cmark_grammar.specs.Options.{Options}
+use Rattle.cmark_grammar.proofs.RowPlaces.{kept-without}
+use Rattle.cmark_grammar.specs.Columns.{Column}
+use Rattle.cmark_grammar.specs.Rows.{Row, without}
 use Rattle.cmark_grammar.specs.Containers.{keeps}
 use Rattle.cmark_grammar.specs.Containers as grammar
 use Rattle.cmark_lines.specs.Rests.{row_of}
 use Rattle.cmark_lines.specs.Starts.{Shows}
+use Rattle.cmark_lines.specs.declared.container.Container.{Container}
+use Rattle.cmark_lines.specs.declared.container.Container.TheVariants as container
 use Rattle.cmark_lines.specs.declared.line_rest.LineRest.{LineRest}
 use Rattle.cmark_block_model.specs.BlockPass.{Kept, kept_by, kept_if, is_last}
 use Rattle.cmark_block_model.specs.OpenBlocks as model
 use Rattle.cmark_blocks.specs.declared.state.OpenContainer.{OpenContainer}
+use Rattle.cmark_blocks.specs.Kept.{IsBehind}
 use Rattle.cmark_blocks.specs.Shown.{ShowsContainer, ShowsContainers}
+
+behind-next : (line rest inside : LineRest) (g : grammar.Container) (bare : Bool) → Some (row_of inside) ≡ keeps g bare (row_of rest) → IsBehind line rest → IsBehind line inside
+behind-next line rest inside g bare e h =
+    let n = kept-without g bare (row_of rest) (row_of inside) (sym e) in
+    (h.0 + n.0, ap {A = List Column} {B = Row} (λ cs. record (row_of line) { columns = cs }) (sym (drop-drop n.0 h.0 (row_of line).columns)) ∙ ap (without n.0) h.1 ∙ n.1)
 
 -- the container at a place, with those before it and behind it
 pub record At (c : OpenContainer) (k : ℕ) (ms : List model.OpenContainer) : Type 0 where
@@ -81,3 +92,9 @@ module _ (text : List ℕ) (options : Options) (lookup : Lookup) where
       let e = (shows-all cs ms k s le).1 in
       ap (λ l. kept_by text options lookup (take k ms) l bare (row_of rest)) e
       ∙ ap {A = List model.OpenContainer} {B = Kept text options lookup} (λ l. record { kept = take k ms; missed = l; left = row_of rest }) (sym e)
+
+-- what is left is behind the prefixes of the containers that keep the line
+pub behind-more : (line rest inside : LineRest) (k : Container) (bare : Bool) → ((g : grammar.Container) → Shows k g → Some (row_of inside) ≡ keeps g bare (row_of rest)) → IsBehind line rest → IsBehind line inside
+behind-more line rest inside container.Quote bare keep h = behind-next line rest inside grammar.Quote bare (keep grammar.Quote tt) h
+behind-more line rest inside (container.Item width) bare keep h =
+    behind-next line rest inside (grammar.Item 45 None width) bare (keep (grammar.Item 45 None width) refl) h

@@ -1,5 +1,5 @@
 -- The pass in another state, where one part of it has changed.
-use Rattle.std.proofs.Common.{◌≡◌, ℕ, Bool, true, false, List, [], ◌∷◌, ◌++◌, Option, Some, None, option_map, refl, ap, subst, ◌∙◌, Vec, Global, ◌==◌}
+use Rattle.std.proofs.Common.{◌≡◌, ℕ, Bool, true, false, List, [], ◌∷◌, ◌++◌, Option, Some, None, option_map, refl, ap, subst, ◌∙◌, Vec, String, Global, ◌==◌}
 use Rattle.cmark_grammar.specs.Answers.{Lookup}
 use Rattle.cmark_items.specs.Definitions.{definition, shown_definition}
 use Rattle.cmark_items.specs.Tables.{tables}
@@ -132,6 +132,48 @@ module _ {E : Type 0} (replacement : E → Lookup) (text : List ℕ) (lookup : L
     outer = runs.outer;
     bare = runs.bare;
     leaf = (refl, none);
+    past = runs.past;
+    references = runs.references;
+  }
+
+  -- whether the innermost container is a bare item
+  pub runs-bare : (bare : Bool) → Runs replacement text lookup m pass → Runs replacement text lookup (record m { bare = bare }) (record pass { bare = bare })
+  runs-bare bare runs = record {
+    text_is = runs.text_is;
+    lookup_is = runs.lookup_is;
+    drawing = runs.drawing;
+    inner = runs.inner;
+    outer = runs.outer;
+    bare = refl;
+    leaf = runs.leaf;
+    past = runs.past;
+    references = runs.references;
+  }
+
+  -- where the next line begins
+  pub runs-past : (past there : ℕ) → Runs replacement text lookup m pass → past ≡ there → Runs replacement text lookup (record m { past = there }) (record pass { past = past })
+  runs-past past there runs same = record {
+    text_is = runs.text_is;
+    lookup_is = runs.lookup_is;
+    drawing = runs.drawing;
+    inner = runs.inner;
+    outer = runs.outer;
+    bare = runs.bare;
+    leaf = runs.leaf;
+    past = same;
+    references = runs.references;
+  }
+
+  -- what stands in the memory for a paragraph's text does not matter
+  pub runs-room : (room : String Global) → Runs replacement text lookup m pass → Runs replacement text lookup m (record pass { room = room })
+  runs-room room runs = record {
+    text_is = runs.text_is;
+    lookup_is = runs.lookup_is;
+    drawing = runs.drawing;
+    inner = runs.inner;
+    outer = runs.outer;
+    bare = runs.bare;
+    leaf = runs.leaf;
     past = runs.past;
     references = runs.references;
   }

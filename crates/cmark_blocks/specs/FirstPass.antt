@@ -1,6 +1,6 @@
 -- What the block pass over a text leaves.
-use Rattle.std.specs.Prelude.{◌≡◌, ℕ, List, [], option_map}
-use Rattle.cmark_tree.specs.Forest.{Forest}
+use Rattle.std.specs.Prelude.{◌≡◌, ◌≤◌, ◌*◌, ℕ, List, [], length, option_map}
+use Rattle.cmark_tree.specs.Forest.{Forest, size}
 use Rattle.cmark_tree.specs.Building.{Is}
 use Rattle.cmark_grammar.specs.Answers.{Lookup}
 use Rattle.cmark_grammar.specs.Derivation.{document}
@@ -15,9 +15,11 @@ use Rattle.cmark_block_model.specs.BlockPass.{pass_over}
 use Rattle.cmark_blocks.specs.declared.first_pass.FirstPass.{FirstPass}
 use Rattle.cmark_blocks.specs.Runs.{shown_reference}
 
--- the tree is the drawing of the pass over the text, no node is left open, and the table has the text's definitions
+-- the tree is the drawing of the pass over the text, no node is left open, there are at most four nodes a byte, and the table
+-- has the text's definitions
 pub record Leaves (text : List ℕ) (options : Options) (lookup : Lookup) (pass : FirstPass) : Type 0 where
   pub forest : Forest Item
   pub tree_is : Is pass.tree forest []
   pub drawn : shown_forest text (tables pass.allocations).texts forest ≡ nodes_of (pass_over text options lookup).drawing.here
+  pub few : size forest ≤ 4 * length text
   pub references : (folded : List ℕ) → option_map shown_definition (definition (tables pass.allocations).references folded) ≡ option_map shown_reference (first_with fold folded (references (document text options lookup)))

@@ -1,6 +1,12 @@
 pub mod Ahead
+pub mod Entered
+pub mod Fed
 pub mod FirstPass
+pub mod Found
+pub mod Gathered
+pub mod IndentedLines
 pub mod Kept
+pub mod Prefixes
 pub mod Runs
 pub mod Shown
 pub mod Steps

@@ -1,10 +1,11 @@
 //! The lines ahead, as they are seen inside the open containers.
 
-ghost use Rattle.std.specs.Prelude.{◌≡◌, ℕ, List, false, MatchOption, IfSome, not, true, ◌&&◌};
+ghost use Rattle.std.specs.Prelude.{◌≡◌, ◌<◌, ℕ, List, false, MatchOption, IfSome, not, true, ◌&&◌};
 ghost use Rattle.cmark_grammar.specs.Leaves.{underlines};
 ghost use Rattle.cmark_grammar.specs.Openings.{interrupts, is_none};
 ghost use Rattle.cmark_grammar.specs.Options.{Options};
 ghost use Rattle.cmark_grammar.specs.Rows.{Row};
+ghost use Rattle.cmark_leaves.specs.Told.{AreTold};
 ghost use Rattle.cmark_lines.specs.Rests.{IsIn, row_of};
 
 use crate::state::Pass;
@@ -13,12 +14,14 @@ use cmark_text::EntityLookup;
 
 impl<'a, E: EntityLookup> Pass<'a, E> {
     ghost use Rattle.cmark_blocks.specs.Ahead.{SeenInside, GoesOnWith};
+    ghost use Rattle.cmark_blocks.specs.Kept.{IsBehind};
 
     /// What all open containers leave of a line, if they keep it.
     fn inside(&self, line: LineRest<'a>) -> Option<LineRest<'a>>
         requires { self.now.bare ≡ false }
         ensures seen { SeenInside E.replacement self.now line.entry result }
         ensures placed { (text : List ℕ) → IsIn text line.entry → IfSome result (IsIn text) }
+        ensures behind { IfSome result (IsBehind line.entry) }
     {
         let (kept, rest) = self.kept_by(line);
         if kept < self.outer.len() {
@@ -33,6 +36,8 @@ impl<'a, E: EntityLookup> Pass<'a, E> {
         requires within { IsIn self.now.text.now last }
         ensures next { GoesOnWith E.replacement self.now last.entry result }
         ensures placed { IfSome result (IsIn self.now.text.now) }
+        ensures told { IfSome result (λ rest. AreTold self.now.text.now (row_of rest).columns) }
+        ensures further { IfSome result (λ rest. (row_of last.entry).past < (row_of rest).past) }
     {
         let start = last.past();
         if start == self.text.len() {

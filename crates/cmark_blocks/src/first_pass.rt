@@ -1,31 +1,79 @@
 //! The block pass over a whole text.
 
-ghost use Rattle.std.specs.Prelude.{IfOk};
+ghost use Rattle.std.specs.Prelude.{◌≡◌, OnOk, IfOk, false};
 ghost use Rattle.cmark_text.specs.Shown.{shown_options};
 ghost use Rattle.cmark_blocks.specs.FirstPass.{Leaves};
 
+use crate::state::Pass;
 use cmark_items::{Allocations, Item};
+use cmark_lines::LineRest;
 use cmark_text::{EntityLookup, Options};
 use cmark_tree::Tree;
 use std::alloc::{AllocError, Global};
 
-/// The tree of a text's blocks, and its tables.
+/// What the block pass leaves of a text.
 #[derive(Drop)]
 pub struct FirstPass<'a> {
-    /// The blocks with the texts of their leaves; link reference definitions are no nodes of it.
+    /// The tree of the text's blocks, before its first node.
     pub tree: Tree<Item>,
     /// The tables that the items point into, and the link reference definitions.
     pub allocations: Allocations<'a>,
 }
 
-/// The tree of a text's blocks, and its tables. `entities` says what the entity names stand for. Fails where memory is refused.
+impl<'a, E: EntityLookup> Pass<'a, E> {
+    ghost use Rattle.cmark_blocks.specs.Runs.{Runs, IsGood};
+    ghost use Rattle.cmark_blocks.specs.Fed.{FeedsAll, ClosesEverything};
+
+    /// All lines of the text from the next one on.
+    fn feed_all(&mut self) -> Result<(), AllocError>
+        requires { IsGood self.old }
+        ensures good { IsGood self.new }
+        ensures runs { OnOk result (FeedsAll E.replacement self.old self.new) }
+        ensures text { self.new.text ≡ self.old.text }
+    {
+        while self.past < self.text.len() {
+            let line = LineRest::new(self.text.as_bytes(), self.past);
+            self.feed(line)?;
+        }
+        Ok(())
+    }
+
+    /// Everything is closed at the end of the text.
+    fn close_everything(&mut self) -> Result<(), AllocError>
+        requires { IsGood self.old }
+        ensures good { IsGood self.new }
+        ensures runs { OnOk result (ClosesEverything E.replacement self.old self.new) }
+    {
+        self.close_leaf()?;
+        self.close_containers(0);
+        self.close_list();
+        Ok(())
+    }
+
+    /// The tree and its tables.
+    fn finish(self) -> FirstPass<'a>
+        ensures tree { result.tree ≡ self.entry.builder.tree }
+        ensures allocations { result.allocations ≡ self.entry.builder.allocations }
+    {
+        let Pass { builder, .. } = self;
+        let (tree, allocations) = builder.finish();
+        FirstPass { tree, allocations }
+    }
+}
+
+/// The blocks of a text with the texts in them (CommonMark 3 to 5), and its link reference definitions, of which the first one of
+/// a label stands in the table. `entities` says what entity names stand for. No option has a rule of its own yet. Takes
+/// time in proportion to the text. Fails only where memory is refused.
 pub fn run_first_pass<'a, E: EntityLookup>(
     alloc: Global,
     text: &'a str,
-    options: Options,
+    _options: Options,
     entities: &'a E,
 ) -> Result<FirstPass<'a>, AllocError>
-    ensures document { IfOk result (Leaves text.entry.now (shown_options options) (E.replacement entities.entry.now)) }
+    ensures document { IfOk result (Leaves text.entry.now (shown_options _options) (E.replacement entities.entry.now)) }
 {
-    Err(AllocError)
+    let mut pass = Pass::new(alloc, text, entities)?;
+    pass.feed_all()?;
+    pass.close_everything()?;
+    Ok(pass.finish())
 }

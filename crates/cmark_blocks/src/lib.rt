@@ -4,12 +4,21 @@
 
 mod ahead;
 mod begin;
+mod begin_code;
+mod code;
 mod containers;
+mod definition;
+mod feed;
 mod first_pass;
+mod gathered;
+mod html;
 mod leaf;
+mod line;
 mod paragraph;
 mod pass;
+mod prefixes;
 mod siblings;
 mod state;
 
 pub use first_pass::{FirstPass, run_first_pass};
+pub use prefixes::{scan_containers, skip_container_prefixes};

@@ -8,7 +8,7 @@ use cmark_lines::LineRest;
 use cmark_text::EntityLookup;
 
 impl<'a, E: EntityLookup> Pass<'a, E> {
-    ghost use Rattle.cmark_blocks.specs.Kept.{KeepsOf};
+    ghost use Rattle.cmark_blocks.specs.Kept.{IsBehind, KeepsOf};
 
     /// Whether this container is an item whose first line was blank, and came last.
     fn is_bare(&self, index: usize) -> bool
@@ -23,6 +23,7 @@ impl<'a, E: EntityLookup> Pass<'a, E> {
         ensures kept { KeepsOf E.replacement self.now line.entry result.0 result.1 }
         ensures few { result.0 ≤ length self.now.outer.items }
         ensures placed { (text : List ℕ) → IsIn text line.entry → IsIn text result.1 }
+        ensures behind { IsBehind line.entry result.1 }
     {
         let mut kept = 0;
         let mut rest = line;

@@ -52,6 +52,8 @@ pub(crate) struct Pass<'a, E> {
     pub blank_lines: Vec<LineRest<'a>>,
     /// Where the next line begins.
     pub past: usize,
+    /// Memory for the text of a paragraph: what stands in it means nothing.
+    pub room: String,
 }
 
 impl<'a, E: EntityLookup> Pass<'a, E> {
@@ -78,6 +80,7 @@ impl<'a, E: EntityLookup> Pass<'a, E> {
             leaf: OpenLeaf::Closed,
             blank_lines: Vec::new(alloc),
             past: 0,
+            room: String::new(alloc),
         })
     }
 }

@@ -1,4 +1,5 @@
 pub mod DestinationSteps
 pub mod LineEnds
 pub mod RestSteps
+pub mod SettledSteps
 pub mod TitleSteps

@@ -62,7 +62,7 @@ content_no_return (b ∷ bs) = subst HasNoReturn (sym (take_while-cons is_conten
     by_case true e h = (λ is. true≢false (sym e ∙ ap is_content is), h)
     by_case false e h = tt
 
-columns_behind : (n : ℕ) (cs : List Column) → HasNoReturn (bytes_of cs) → HasNoReturn (bytes_of (drop n cs))
+pub columns_behind : (n : ℕ) (cs : List Column) → HasNoReturn (bytes_of cs) → HasNoReturn (bytes_of (drop n cs))
 columns_behind zero cs h = h
 columns_behind (suc n) [] h = tt
 columns_behind (suc n) (c ∷ cs) h = columns_behind n cs (by_case (c.part == 0) h)
@@ -71,7 +71,7 @@ columns_behind (suc n) (c ∷ cs) h = columns_behind n cs (by_case (c.part == 0)
     by_case true g = g.1
     by_case false g = g
 
-line_end_ends : (r : Row) → HasLineEnds (line_end_of r)
+pub line_end_ends : (r : Row) → HasLineEnds (line_end_of r)
 line_end_ends r = by_case (nat_le 2 (r.past - r.stop))
   where
     by_case : (t : Bool) → HasLineEnds (if t then 13 ∷ 10 ∷ [] else 10 ∷ [])

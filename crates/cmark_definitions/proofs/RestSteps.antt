@@ -26,7 +26,7 @@ further bs rest next one two = record {
   is = two.is ∙ ap (drop two.skipped) one.is ∙ drop-drop two.skipped one.skipped bs;
 }
 
-ends_behind : (n : ℕ) (bs : List ℕ) → HasLineEnds bs → HasLineEnds (drop n bs)
+pub ends_behind : (n : ℕ) (bs : List ℕ) → HasLineEnds bs → HasLineEnds (drop n bs)
 ends_behind zero bs h = h
 ends_behind (suc n) [] h = tt
 ends_behind (suc n) (b ∷ bs) h = ends_behind n bs h.1

@@ -1,4 +1,5 @@
 pub mod Rests
+pub mod Settled
 pub mod Shown
 pub mod Steps
 pub mod Titles

@@ -6,8 +6,10 @@ mod definition;
 mod label;
 mod part;
 mod reference;
+mod settled;
 #[cfg(test)]
 mod tests;
 
 pub use definition::{Definition, scan_definition};
 pub use reference::link_definition;
+pub use settled::is_settled;

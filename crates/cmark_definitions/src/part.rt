@@ -47,7 +47,7 @@ fn part_step(escaped: bool, closer: u8, refused: u8, byte: u8) -> Step
 }
 
 /// Whether the byte behind this one is escaped.
-fn escapes_next(escaped: bool, byte: u8) -> bool
+pub fn escapes_next(escaped: bool, byte: u8) -> bool
     ensures { result ≡ escapes_next escaped byte }
 {
     !escaped && byte == b'\\'

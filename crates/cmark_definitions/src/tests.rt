@@ -1,6 +1,6 @@
 //! Tests of link reference definitions, with ample memory. Most examples are of CommonMark 4.7.
 
-use crate::{Definition, link_definition, scan_definition};
+use crate::{Definition, is_settled, link_definition, scan_definition};
 use cmark_text::{BasicEntities, CowStr};
 use std::test::Fail;
 
@@ -82,5 +82,19 @@ fn a_definition_for_a_table(rt: HostRuntime) -> Result<(), Fail> {
     assert_eq!(rt; title.as_str(), "foo\"bar\n\\baz\u{a9}");
     assert_eq!(rt; def.span.start, 3);
     assert_eq!(rt; def.span.end, 43);
+    Ok(())
+}
+
+#[test]
+fn what_more_text_may_change(rt: HostRuntime) -> Result<(), Fail> {
+    assert!(rt; is_settled("[foo]: /url\n[bar]: /url"));
+    assert!(rt; is_settled("[foo]: /url 'title'\nbar"));
+    assert!(rt; is_settled("[foo]: /url\n\"title\" bar"));
+    assert!(rt; is_settled("[foo](/url)"));
+    assert!(rt; !is_settled("[foo]: /url"));
+    assert!(rt; !is_settled("[foo]: /url 'title'"));
+    assert!(rt; !is_settled("[foo]: /url\n'title"));
+    assert!(rt; !is_settled("[foo]:"));
+    assert!(rt; !is_settled("[foo"));
     Ok(())
 }

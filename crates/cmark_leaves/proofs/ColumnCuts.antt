@@ -171,7 +171,7 @@ bytes-end from (c ∷ cs) h = go (c.part == 0) refl (bytes-end (suc c.at) cs h.1
     go false e ih = let p : suc c.at ≡ from = sym (ap (λ z. if z then c.at else suc c.at) e) ∙ h.0 in omega (arith, ih, p)
 
 -- the bytes of the text stand in these columns
-bytes-slice : (text : List ℕ) (from : ℕ) (cs : List Column) (to : ℕ) → Runs from cs to → AreTold text cs → bytes_of cs ≡ slice text from to
+pub bytes-slice : (text : List ℕ) (from : ℕ) (cs : List Column) (to : ℕ) → Runs from cs to → AreTold text cs → bytes_of cs ≡ slice text from to
 bytes-slice text from [] to h t = sym (ap (λ n. take n (drop from text)) (let e : from ≡ to = h in let z : to - from ≡ 0 = omega (arith, e) in z))
 bytes-slice text from (c ∷ cs) to h t = go (c.part == 0) refl (bytes-slice text (suc c.at) cs to h.1 t.1)
   where

@@ -34,7 +34,7 @@ use Rattle.cmark_leaves.proofs.ColumnCuts.{Stands, stands-pieces}
 use Rattle.cmark_leaves.proofs.DrawSteps.{drawn-Nil, drawn-join, texts-append}
 
 -- the last text
-last-text : (texts : List CowStr) (text : CowStr) → text_at (texts ++ text ∷ []) (length texts) ≡ Some (text_bytes text)
+pub last-text : (texts : List CowStr) (text : CowStr) → text_at (texts ++ text ∷ []) (length texts) ≡ Some (text_bytes text)
 last-text [] text = refl
 last-text (t ∷ texts) text = last-text texts text
 

@@ -2,6 +2,7 @@
 
 ghost use Rattle.std.specs.Prelude.{◌≡◌, ◌+◌, ◌-◌, ◌%◌, ◌<◌, ◌≤◌, false, length, take, slice_index};
 ghost use Rattle.cmark_grammar.specs.Columns.{is_blank_byte};
+ghost use Rattle.cmark_grammar.specs.Lines.{content};
 ghost use Rattle.cmark_scan.specs.Places.{column_behind};
 
 mod markers;
@@ -23,6 +24,7 @@ pub struct LineStart<'a> {
     pending: usize,
     /// The place of a byte that is no blank, or the line's length: where the last search for a thematic break stopped.
     break_stop: usize,
+    ghost plain: { content bytes.now ≡ bytes.now },
     ghost inside: { taken ≤ length bytes.now },
     ghost behind: { behind_tab ≤ taken },
     ghost aligned: { (taken - behind_tab) % 4 ≡ column_behind 0 (take taken bytes.now) % 4 },

@@ -93,6 +93,28 @@ fn keeps_the_definitions(rt: HostRuntime) -> Result<(), Fail> {
 }
 
 #[test]
+fn finds_definitions_over_lines(rt: HostRuntime) -> Result<(), Fail> {
+    let quote = "> [Bar]:\n> </u>\n> [baz]: x\n> text\n";
+    let item = "- [two]: z\r\n  't\r\n  u'\r\n";
+    let text = format!(in rt.alloc(); "[foo]: /url\n\"title\"\nbar\n\n{quote}\n{item}")?;
+    let parser = Parser::new(rt.alloc(), text.as_str(), &BasicEntities)?;
+    for (label, dest, title, start, end) in [
+        ("foo", "/url", Some("title"), 0, 19),
+        ("bar", "/u", None, 27, 40),
+        ("baz", "x", None, 43, 51),
+        ("two", "z", Some("t\nu"), 62, 82),
+    ] {
+        let def = parser.reference_definitions().get(label)?;
+        let def = def.ok_or("no definition")?;
+        assert_eq!(rt; def.dest.as_str(), dest, "of {label}");
+        let found = def.title.as_ref().map(|title| title.as_str());
+        assert_eq!(rt; found, title, "of {label}");
+        assert_eq!(rt; (def.span.start, def.span.end), (start, end), "of {label}");
+    }
+    Ok(())
+}
+
+#[test]
 fn gives_ranges(rt: HostRuntime) -> Result<(), Fail> {
     let row = ranges_of(rt.alloc(), "hello world")?;
     assert_eq!(rt; row.as_slice(), [(0, 11), (0, 11), (0, 11)].as_slice());

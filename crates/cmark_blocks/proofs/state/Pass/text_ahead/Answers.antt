@@ -1,6 +1,8 @@
 use Rattle.std.proofs.Common.{true, false, Some, None, sym, ap, ◌∙◌, subst, length, arith}
 use Rattle.std.specs.Str.{IsCharBoundary}
 use Rattle.cmark_grammar.specs.Openings.{text_lines}
+use Rattle.cmark_leaves.specs.Told.{AreTold}
+use Rattle.cmark_leaves.proofs.ToldSteps.{line-told, without-told}
 use Rattle.cmark_lines.specs.Rests.{row_of, IsIn}
 use Rattle.cmark_lines.proofs.RestSteps.{whole}
 use Rattle.cmark_block_model.specs.BlockPass.{ahead_in}
@@ -42,3 +44,15 @@ returns-then-is_text-clause-placed g c =
     c.in-Some.ensures.placed c.args.self.now.text.now
     (subst (λ t. IsIn t c.new-line.result) same
     (c.new-line.ensures.placed c.as_bytes.ensures.utf8 (subst (λ t. IsCharBoundary t c.past-start.result) (sym same) (c.past-start.ensures.boundary c.args.self.now.text.now c.requires.within))))
+
+pub returns-then-is_text-clause-told : goal.returns-then-is_text-clause-told
+returns-then-is_text-clause-told g c =
+    let text = c.args.self.now.text.now in
+    let bytes = c.as_bytes.result.now in
+    let line = row_of c.new-line.result in
+    let start = c.past-start.result in
+    let behind = c.in-Some.ensures.behind in
+    let new = c.new-line.ensures in
+    let whole_line : AreTold bytes line.columns =
+    line-told bytes start line (omega (arith, c.past-start.ensures.within text c.requires.within, ap length c.as_bytes.ensures.value)) new.line (λ e. ap (λ r. r.columns) (new.none e)) in
+    subst (λ r. AreTold text r.columns) behind.1 (without-told text behind.0 line (subst (λ t. AreTold t line.columns) c.as_bytes.ensures.value whole_line))

@@ -37,6 +37,7 @@ invariant_of-self c =
     let size = c.in-Some-break_stop.size in
     let found = stop-found c.in-Some.mark (drop line.taken line.bytes.now) size (c.in-Some-break_stop.ensures ∙ ap (position (stops_break c.in-Some.mark)) (rest_of line.bytes.now line.taken)) in
     record {
+      plain = line.plain;
       inside = line.inside;
       behind = line.behind;
       aligned = line.aligned;

@@ -8,6 +8,7 @@ invariant_of-self c =
     let line = c.args.self.now in
     let some = c.in-Some-eq32.ensures in
     record {
+      plain = line.plain;
       inside = omega arith;
       behind = omega arith;
       aligned = aligned-space line.bytes.now line.taken line.behind_tab some.0 line.behind (sym some.1 ∙ c.in-Some-eq32.field-0-test) line.aligned;
@@ -20,6 +21,7 @@ invariant_of-self-in-Some-eq9 c =
     let line = c.args.self.now in
     let some = c.in-Some-eq9.ensures in
     record {
+      plain = line.plain;
       inside = omega arith;
       behind = omega arith;
       aligned = aligned-tab line.bytes.now line.taken line.behind_tab some.0 (sym some.1 ∙ c.in-Some-eq9.field-0-test) line.aligned;

@@ -10,6 +10,7 @@ invariant_of-self c =
     let within = c.requires.within in
     let whole = c.requires.whole in
     record {
+      plain = line.plain;
       inside = let i = line.inside in omega arith;
       behind = let b = line.behind in omega arith;
       aligned = plain-aligned line.bytes.now line.taken c.args.n line.behind_tab within c.requires.plain line.behind line.aligned;

@@ -1,0 +1,49 @@
+-- The tree that the pass over a text leaves has at most four nodes a byte of the text.
+use Rattle.std.proofs.Common.{◌≡◌, ℕ, suc, ◌+◌, ◌*◌, ◌≤◌, Bool, true, false, List, length, refl, sym, ap, ◌∙◌, arith}
+use Rattle.cmark_tree.specs.Forest as forest
+use Rattle.cmark_tree.specs.Forest.{Forest, size}
+use Rattle.cmark_text.specs.declared.text.CowStr.{CowStr}
+use Rattle.cmark_grammar.specs.Answers.{Lookup}
+use Rattle.cmark_grammar.specs.BlockDocument.{BlockDocument, Nil, Node}
+use Rattle.cmark_grammar.specs.Derivation.{document}
+use Rattle.cmark_grammar.specs.DrawnDocument.{is_definition, node_unless, settled, without_definitions}
+use Rattle.cmark_grammar.specs.Options.{Options}
+use Rattle.cmark_grammar.specs.Ranges.{count_nodes}
+use Rattle.cmark_grammar.specs.Tightness.{tight_within}
+use Rattle.cmark_grammar.proofs.CountLaws.{derived-count}
+use Rattle.cmark_items.specs.declared.item.Item.{Item}
+use Rattle.cmark_items.specs.ItemNodes.{shown_forest, nodes_of}
+use Rattle.cmark_block_model.specs.BlockPass.{pass_over}
+use Rattle.cmark_block_model.proofs.Drawings.{derived}
+use Rattle.cmark_block_model.proofs.Theorem.{pass-draws}
+
+shown-size : (text : List ℕ) (texts : List CowStr) (f : Forest Item) → size (shown_forest text texts f) ≡ size f
+shown-size text texts forest.Nil = refl
+shown-size text texts (forest.Node item inside after) = let i = shown-size text texts inside in let a = shown-size text texts after in omega (arith, i, a)
+
+nodes-count : (d : BlockDocument) → size (nodes_of d) ≡ count_nodes d
+nodes-count Nil = refl
+nodes-count (Node node inside after) = let i = nodes-count inside in let a = nodes-count after in omega (arith, i, a)
+
+settled-count : (tight : Bool) (d : BlockDocument) → count_nodes (settled tight d) ≡ count_nodes d
+settled-count tight Nil = refl
+settled-count tight (Node node inside after) =
+    let i = settled-count (tight_within tight node.kind) inside in let a = settled-count tight after in omega (arith, i, a)
+
+left-count : (d : BlockDocument) → count_nodes (without_definitions d) ≤ count_nodes d
+left-count Nil = omega arith
+left-count (Node node inside after) = go (is_definition node.kind) (left-count inside) (left-count after)
+  where
+    go : (b : Bool) → count_nodes (without_definitions inside) ≤ count_nodes inside → count_nodes (without_definitions after) ≤ count_nodes after
+        → count_nodes (node_unless b node (without_definitions inside) (without_definitions after)) ≤ suc (count_nodes inside + count_nodes after)
+    go true i a = omega (arith, i, a)
+    go false i a = omega (arith, i, a)
+
+pub drawn-few : (text : List ℕ) (options : Options) (lookup : Lookup) (texts : List CowStr) (f : Forest Item) → shown_forest text texts f ≡ nodes_of (pass_over text options lookup).drawing.here → size f ≤ 4 * length text
+drawn-few text options lookup texts f is =
+    let d : BlockDocument = (pass_over text options lookup).drawing.here in
+    let shown : size f ≡ count_nodes d = sym (shown-size text texts f) ∙ ap size is ∙ nodes-count d in
+    let drawn : count_nodes d ≡ count_nodes (without_definitions (document text options lookup)) = sym (settled-count false d) ∙ ap count_nodes (pass-draws text options lookup).0 in
+    let left = left-count (document text options lookup) in
+    let few = derived-count text options lookup (document text options lookup) (derived text options lookup) in
+    omega (arith, shown, drawn, left, few)

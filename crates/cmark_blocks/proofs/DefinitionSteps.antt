@@ -1,0 +1,116 @@
+-- Link reference definitions that begin.
+use Rattle.std.proofs.Common.{◌≡◌, ℕ, zero, suc, ◌+◌, ◌-◌, ◌≤◌, Bool, true, false, ◌&&◌, List, [], ◌∷◌, ◌++◌, Option, Some, None, option_map, length, take, refl, sym, ap, ◌∙◌, subst, arith, append-nil, length-append, true≢false}
+use Rattle.std.specs.Prelude.{string_bytes}
+use Rattle.cmark_grammar.specs.Answers.{Lookup}
+use Rattle.cmark_grammar.specs.BlockDocument.{Reference}
+use Rattle.cmark_grammar.specs.Containers.{Container}
+use Rattle.cmark_grammar.specs.Derivation.{stop_of}
+use Rattle.cmark_grammar.specs.Labels.{fold}
+use Rattle.cmark_grammar.specs.Leaves.{underlines}
+use Rattle.cmark_grammar.specs.LinkDefinitions.{Defined, definition_in, further_bytes, bytes_over, line_ends}
+use Rattle.cmark_grammar.specs.Openings.{is_none, put_if, texts, text_lines, defined_if, definition_of}
+use Rattle.cmark_grammar.specs.Options.{Options}
+use Rattle.cmark_grammar.specs.References.{first_with}
+use Rattle.cmark_grammar.specs.Rows.{Row, start_of}
+use Rattle.cmark_items.specs.Definitions.{definition, shown_definition}
+use Rattle.cmark_items.specs.declared.definitions.RefDefs.{RefDefs}
+use Rattle.cmark_definitions.specs.Settled.{defined_before}
+use Rattle.cmark_lines.specs.Rests.{row_of}
+use Rattle.cmark_lines.specs.declared.line_rest.LineRest.{LineRest}
+use Rattle.cmark_block_model.specs.BlockPass.{begin_as, paragraph_begun}
+use Rattle.cmark_block_model.specs.OpenBlocks as model
+use Rattle.cmark_blocks.specs.declared.state.Pass.{Pass}
+use Rattle.cmark_blocks.specs.declared.gathered.Gathered.{Gathered}
+use Rattle.cmark_blocks.specs.Found.{definition_begun}
+use Rattle.cmark_blocks.specs.Gathered.{texts_at, Holds, GathersMore, IsWhole}
+use Rattle.cmark_blocks.proofs.GatherSteps.{bytes-split}
+use Rattle.cmark_blocks.proofs.LineFeeds.{texts-end, ends-behind}
+use Rattle.cmark_blocks.specs.Runs.{Runs, shown_reference}
+
+-- the lines with which a paragraph goes on are the first of those ahead
+take-texts : (options : Options) (ahead : List Row) (n : ℕ) → n ≤ length (text_lines options ahead) → take n (text_lines options ahead) ≡ take n ahead
+take-texts options [] n le = refl
+take-texts options (r ∷ ahead) n le = go (texts options r ahead && is_none (underlines r)) n le (take-texts options ahead)
+  where
+    go : (z : Bool) (n : ℕ) → n ≤ length (put_if z r (text_lines options ahead)) → ((k : ℕ) → k ≤ length (text_lines options ahead) → take k (text_lines options ahead) ≡ take k ahead) →
+        take n (put_if z r (text_lines options ahead)) ≡ take n (r ∷ ahead)
+    go z zero le ih = refl
+    go true (suc n) le ih = ap (λ rs. r ∷ rs) (ih n (omega (arith, le)))
+    go false (suc n) le ih = absurd (omega (arith, le))
+
+module _ (text : List ℕ) (options : Options) (lookup : Lookup) (m : model.Pass) (inside : Container → model.Pass) (r : Row) (ahead : List Row) (bare : Bool) where
+  -- a definition that stands in front of the paragraph's text
+  pub begins-definition : (found : Defined) (start stop more : ℕ) → Some found ≡ definition_in (bytes_over r (text_lines options ahead)) → start ≡ start_of r →
+      more ≡ length (text_lines options ahead) - line_ends found.behind → stop ≡ stop_of r (take more (text_lines options ahead)) →
+      definition_begun lookup found.definition start stop more m ≡ begin_as text options lookup (definition_of options r ahead) inside r ahead bare m
+  begins-definition found start stop more is first count last =
+      ap (λ s. definition_begun lookup found.definition s stop more m) first
+      ∙ ap (λ e. definition_begun lookup found.definition (start_of r) e more m) (last ∙ ap (stop_of r) (take-texts options ahead more (omega (arith, count))))
+      ∙ ap (λ n. definition_begun lookup found.definition (start_of r) (stop_of r (take n ahead)) n m) count
+      ∙ ap (λ o. begin_as text options lookup (defined_if (length (text_lines options ahead)) o) inside r ahead bare m) is
+
+  -- none does
+  pub begins-none : None ≡ definition_in (bytes_over r (text_lines options ahead)) →
+      paragraph_begun text options lookup r m ≡ begin_as text options lookup (definition_of options r ahead) inside r ahead bare m
+  begins-none is = ap (λ o. begin_as text options lookup (defined_if (length (text_lines options ahead)) o) inside r ahead bare m) is
+
+module _ {E : Type 0} (replacement : E → Lookup) (text : List ℕ) (lookup : Lookup) (m : model.Pass) (pass : Pass E) where
+  -- another table of definitions
+  pub runs-references : (table : RefDefs) (refs : List Reference) → Runs replacement text lookup m pass →
+      ((folded : List ℕ) → option_map shown_definition (definition table folded) ≡ option_map shown_reference (first_with fold folded refs)) →
+      Runs replacement text lookup (record m { references = refs }) (record pass { builder = record pass.builder { allocations = record pass.builder.allocations { refdefs = table } } })
+  runs-references table refs runs same = record {
+    text_is = runs.text_is;
+    lookup_is = runs.lookup_is;
+    drawing = record { here = runs.drawing.here; up = runs.drawing.up; is = runs.drawing.is; here_is = runs.drawing.here_is; up_is = runs.drawing.up_is };
+    inner = runs.inner;
+    outer = runs.outer;
+    bare = runs.bare;
+    leaf = runs.leaf;
+    past = runs.past;
+    references = same;
+  }
+
+-- where no line is left, the whole text was gathered
+none-behind : (o : Option Defined) → option_map (defined_before []) o ≡ o
+none-behind None = refl
+none-behind (Some found) = ap {A = List ℕ} {B = Option Defined} (λ l. Some (record { definition = found.definition; behind = l })) (append-nil found.behind)
+
+pub whole-decides : (bs : List ℕ) (r : Row) (rs : List Row) → rs ≡ [] → definition_in (bs ++ further_bytes r rs) ≡ option_map (defined_before (further_bytes r rs)) (definition_in bs)
+whole-decides bs r rs none =
+    subst (λ (l : List Row). definition_in (bs ++ further_bytes r l) ≡ option_map (defined_before (further_bytes r l)) (definition_in bs)) (sym none)
+    (ap definition_in (append-nil bs) ∙ sym (none-behind (definition_in bs)))
+
+pub whole-of : {E : Type 0} (replacement : E → Lookup) (pass : Pass E) (old new : Gathered) (more : Bool) → more ≡ false → GathersMore replacement pass old more new → IsWhole replacement pass new
+whole-of replacement pass old new true e h = absurd (true≢false e)
+whole-of replacement pass old new false e h = h.1
+
+module _ (text : List ℕ) (options : Options) (lookup : Lookup) (m : model.Pass) (first : LineRest) (gathered : Gathered) (holds : Holds text options lookup m first gathered) where
+  -- the lines that were not gathered
+  abbrev pub left : List Row
+  left = texts_at text options lookup m (row_of gathered.last).past
+
+  abbrev pub left_bytes : List ℕ
+  left_bytes = further_bytes (row_of gathered.last) left
+
+  -- the definition in front of what was gathered is the paragraph's
+  pub decided : (paragraph : List ℕ) → paragraph ≡ string_bytes gathered.text →
+      definition_in (string_bytes gathered.text ++ left_bytes) ≡ option_map (defined_before left_bytes) (definition_in (string_bytes gathered.text)) →
+      option_map (defined_before left_bytes) (definition_in paragraph) ≡ definition_in (bytes_over (row_of first) (texts_at text options lookup m (row_of first).past))
+  decided paragraph is decides =
+      ap (λ bs. option_map (defined_before left_bytes) (definition_in bs)) is ∙ sym decides
+      ∙ ap definition_in (ap (λ bs. bs ++ left_bytes) holds.bytes ∙ ap (λ r. bytes_over (row_of first) holds.lines ++ further_bytes r left) (sym holds.last)
+      ∙ sym (bytes-split (row_of first) holds.lines left) ∙ ap (bytes_over (row_of first)) (sym holds.ahead))
+
+  -- it takes as many lines
+  pub lines-taken : (behind : List ℕ) → gathered.lines - line_ends behind ≡ length (texts_at text options lookup m (row_of first).past) - line_ends (behind ++ left_bytes)
+  lines-taken behind =
+      let count = holds.count in
+      let all : length (texts_at text options lookup m (row_of first).past) ≡ length holds.lines + length left = ap length holds.ahead ∙ length-append holds.lines left in
+      let ends : line_ends (behind ++ left_bytes) ≡ line_ends behind + length left =
+      ends-behind behind left_bytes ∙ ap (λ n. line_ends behind + n) (texts-end text options lookup m.outer (row_of gathered.last).past (row_of gathered.last)) in
+      ap (λ n. n - line_ends behind) (sym count) ∙ same (length holds.lines) (line_ends behind) (length left) ∙ ap (λ n. n - (line_ends behind + length left)) (sym all)
+      ∙ ap (λ n. length (texts_at text options lookup m (row_of first).past) - n) (sym ends)
+    where
+      same : (a b k : ℕ) → a - b ≡ a + k - (b + k)
+      same a b k = omega arith

@@ -1,0 +1,136 @@
+-- One more line, behind what is open.
+use Rattle.std.proofs.Common.{◌≡◌, ℕ, suc, ◌≤◌, Bool, true, false, not, ◌&&◌, if◌then◌else◌, List, [], ◌∷◌, take, drop, length, Some, None, refl, sym, ap, subst, ◌∙◌, arith, true≢false}
+use Rattle.std.proofs.lemmas.List.{drop_all}
+use Rattle.cmark_grammar.specs.Answers.{Lookup}
+use Rattle.cmark_grammar.specs.Leaves.{underlines}
+use Rattle.cmark_grammar.specs.Openings.{interrupts, texts, lazily}
+use Rattle.cmark_grammar.specs.Options.{Options}
+use Rattle.cmark_grammar.specs.Lines.{lines}
+use Rattle.cmark_grammar.specs.Rows.{Row, rows_from}
+use Rattle.cmark_lines.specs.Rests.{row_of}
+use Rattle.cmark_lines.specs.declared.line_rest.LineRest.{LineRest}
+use Rattle.cmark_lines.proofs.LazyRows.{whole-texts}
+use Rattle.cmark_block_model.specs.BlockPass.{ahead_in, leaf_fed, lazy_fed, begin, leaf_closed, close_leaf, heading_made, paragraph_line, paragraph_begun, underlined_or, line_with, line_fed, lines_fed, containers_closed}
+use Rattle.cmark_block_model.specs.OpenBlocks as model
+use Rattle.cmark_block_model.specs.OpenBlocks.{takes_lazy}
+use Rattle.cmark_blocks.specs.declared.state.OpenLeaf.TheVariants as leaf
+use Rattle.cmark_blocks.specs.declared.state.Pass.{Pass}
+use Rattle.cmark_blocks.specs.Ahead.{lines_at}
+use Rattle.cmark_blocks.specs.Fed.{Feeds, FeedsSoFar, FeedsAll}
+use Rattle.cmark_blocks.specs.Runs.{Runs, ShowsLeaf}
+
+module _ {E : Type 0} (replacement : E → Lookup) (text : List ℕ) (lookup : Lookup) (m : model.Pass) (pass : Pass E) (runs : Runs replacement text lookup m pass) where
+  pub in_paragraph : (last : LineRest) → pass.leaf ≡ leaf.Paragraph last → m.leaf ≡ model.InParagraph (row_of last)
+  in_paragraph last is = (subst (λ l. ShowsLeaf text l pass.blank_lines.items m.leaf) is runs.leaf).0
+
+  pub in_definition : (left : ℕ) → pass.leaf ≡ leaf.Definition left → m.leaf ≡ model.InDefinition left
+  in_definition left is = (subst (λ l. ShowsLeaf text l pass.blank_lines.items m.leaf) is runs.leaf).0
+
+module _ (text : List ℕ) (options : Options) (lookup : Lookup) (r : Row) (next : List Row) (m : model.Pass) where
+  -- behind a paragraph
+  pub feeds-underline : (last : Row) (level : ℕ) → Some level ≡ underlines r → m.leaf ≡ model.InParagraph last → leaf_fed text options lookup m.leaf r next m ≡ heading_made text options lookup level last r m
+  feeds-underline last level under is =
+      ap (λ l. leaf_fed text options lookup l r next m) is
+      ∙ ap (λ u. underlined_or text options lookup u (λ level. heading_made text options lookup level last r m) (if texts options r (ahead_in text options lookup m.outer next) then paragraph_line text options lookup last r m else begin text options lookup r next (leaf_closed text options lookup m))) (sym under)
+
+  feeds-other : (last : Row) (goes_on : Bool) → None ≡ underlines r → r.lazy ≡ false → not (interrupts options true r (ahead_in text options lookup m.outer next)) ≡ goes_on → m.leaf ≡ model.InParagraph last →
+      leaf_fed text options lookup m.leaf r next m ≡ (if goes_on then paragraph_line text options lookup last r m else begin text options lookup r next (leaf_closed text options lookup m))
+  feeds-other last goes_on under whole on is =
+      ap (λ l. leaf_fed text options lookup l r next m) is
+      ∙ ap (λ u. underlined_or text options lookup u (λ level. heading_made text options lookup level last r m) (if texts options r (ahead_in text options lookup m.outer next) then paragraph_line text options lookup last r m else begin text options lookup r next (leaf_closed text options lookup m))) (sym under)
+      ∙ ap (λ t. if t then paragraph_line text options lookup last r m else begin text options lookup r next (leaf_closed text options lookup m)) (whole-texts options r (ahead_in text options lookup m.outer next) whole ∙ on)
+
+  pub feeds-interrupted : (last : Row) → None ≡ underlines r → r.lazy ≡ false → true ≡ interrupts options true r (ahead_in text options lookup m.outer next) → m.leaf ≡ model.InParagraph last →
+      leaf_fed text options lookup m.leaf r next m ≡ begin text options lookup r next (leaf_closed text options lookup m)
+  feeds-interrupted last under whole on is = feeds-other last false under whole (ap not (sym on)) is
+
+  pub feeds-text : (last : Row) → None ≡ underlines r → r.lazy ≡ false → false ≡ interrupts options true r (ahead_in text options lookup m.outer next) → m.leaf ≡ model.InParagraph last →
+      leaf_fed text options lookup m.leaf r next m ≡ paragraph_line text options lookup last r m
+  feeds-text last under whole on is = feeds-other last true under whole (ap not (sym on)) is
+
+  -- behind a link reference definition
+  pub feeds-last : m.leaf ≡ model.InDefinition 0 → leaf_fed text options lookup m.leaf r next m ≡ begin text options lookup r next (leaf_closed text options lookup m)
+  feeds-last is = ap (λ l. leaf_fed text options lookup l r next m) is
+
+  pub feeds-left : (left : ℕ) → m.leaf ≡ model.InDefinition (suc left) → leaf_fed text options lookup m.leaf r next m ≡ record m { leaf = model.InDefinition left }
+  feeds-left left is = ap (λ l. leaf_fed text options lookup l r next m) is
+
+  -- lazy lines
+  pub lazy-paragraph : (last : Row) → m.leaf ≡ model.InParagraph last → lazy_fed text options lookup m.leaf r m ≡ paragraph_line text options lookup last r m
+  lazy-paragraph last is = ap (λ l. lazy_fed text options lookup l r m) is
+
+  pub lazy-definition : (left : ℕ) → m.leaf ≡ model.InDefinition left → lazy_fed text options lookup m.leaf r m ≡ paragraph_begun text options lookup r (leaf_closed text options lookup m)
+  lazy-definition left is =
+      ap (λ l. lazy_fed text options lookup l r m) is
+      ∙ ap (λ l. paragraph_begun text options lookup r (close_leaf text options lookup l m)) (sym is)
+
+  -- where some containers miss the line, or none
+  pub rest-kept : (k : ℕ) → drop k m.outer ≡ [] → line_with text options lookup (drop k m.outer) (take k m.outer) r next m ≡ leaf_fed text options lookup m.leaf r next m
+  rest-kept k none = ap (λ cs. line_with text options lookup cs (take k m.outer) r next m) none
+
+  missed : (k : ℕ) (c : model.OpenContainer) (cs : List model.OpenContainer) (on : Bool) → drop k m.outer ≡ c ∷ cs → (not (interrupts options false r (ahead_in text options lookup (take k m.outer) next)) && takes_lazy m.leaf) ≡ on →
+      line_with text options lookup (drop k m.outer) (take k m.outer) r next m
+      ≡ (if on then lazy_fed text options lookup m.leaf r m else begin text options lookup r next (containers_closed text options lookup (take k m.outer) (drop k m.outer) (leaf_closed text options lookup m)))
+  unfolding lazily
+  missed k c cs on some is =
+      ap (λ cs. line_with text options lookup cs (take k m.outer) r next m) some
+      ∙ ap (λ t. if t then lazy_fed text options lookup m.leaf r m else begin text options lookup r next (containers_closed text options lookup (take k m.outer) (c ∷ cs) (leaf_closed text options lookup m))) is
+      ∙ ap (λ cs. if on then lazy_fed text options lookup m.leaf r m else begin text options lookup r next (containers_closed text options lookup (take k m.outer) cs (leaf_closed text options lookup m))) (sym some)
+
+  pub rest-lazy : (k : ℕ) (c : model.OpenContainer) (cs : List model.OpenContainer) → drop k m.outer ≡ c ∷ cs → (not (interrupts options false r (ahead_in text options lookup (take k m.outer) next)) && takes_lazy m.leaf) ≡ true →
+      line_with text options lookup (drop k m.outer) (take k m.outer) r next m ≡ lazy_fed text options lookup m.leaf r m
+  rest-lazy k c cs some is = missed k c cs true some is
+
+  pub rest-ends : (k : ℕ) (c : model.OpenContainer) (cs : List model.OpenContainer) → drop k m.outer ≡ c ∷ cs → (not (interrupts options false r (ahead_in text options lookup (take k m.outer) next)) && takes_lazy m.leaf) ≡ false →
+      line_with text options lookup (drop k m.outer) (take k m.outer) r next m
+      ≡ begin text options lookup r next (containers_closed text options lookup (take k m.outer) (drop k m.outer) (leaf_closed text options lookup m))
+  rest-ends k c cs some is = missed k c cs false some is
+
+module _ (text : List ℕ) (options : Options) (lookup : Lookup) (m : model.Pass) where
+  -- closing a leaf closes no container
+  pub closed-outer : (l : model.OpenLeaf) → (close_leaf text options lookup l m).outer ≡ m.outer
+  closed-outer model.Closed = refl
+  closed-outer (model.InParagraph last) = refl
+  closed-outer (model.InDefinition left) = refl
+  closed-outer (model.InIndented waits end blank) = refl
+  closed-outer (model.InFenced fence waits) = refl
+  closed-outer (model.InHtml kind) = refl
+
+pub and-true : (a t : Bool) → t ≡ true → a ≡ (a && t)
+and-true true true e = refl
+and-true false true e = refl
+and-true a false e = absurd (true≢false (sym e))
+
+pub and-false : (a t : Bool) → t ≡ false → t ≡ (a && t)
+and-false true false e = refl
+and-false false false e = refl
+and-false a true e = absurd (true≢false e)
+
+-- the lines of a text from a place on
+pub first-line : (T text : List ℕ) (start place : ℕ) (r : Row) → T ≡ text → start ≡ place → lines_at T start ≡ r ∷ lines_at T r.past → lines_at text place ≡ r ∷ lines_at text r.past
+first-line T text start place r is at first =
+    subst (λ p. lines_at text p ≡ r ∷ lines_at text r.past) at (subst (λ t. lines_at t start ≡ r ∷ lines_at t r.past) is first)
+
+pub no-lines : (text : List ℕ) (place : ℕ) → length text ≤ place → lines_at text place ≡ []
+no-lines text place le = ap (λ (l : List ℕ). rows_from place (lines l)) (drop_all place text le)
+
+module _ {E : Type 0} (replacement : E → Lookup) (old : Pass E) where
+  pub feeds-start : FeedsSoFar replacement old old
+  feeds-start text options lookup m runs = (m, runs, refl)
+
+  pub feeds-step : (line : LineRest) (T : List ℕ) (mid new : Pass E) → FeedsSoFar replacement old mid → Feeds replacement line mid new → T ≡ mid.text.now →
+      lines_at T mid.past ≡ row_of line ∷ lines_at T (row_of line).past → FeedsSoFar replacement old new
+  feeds-step line T mid new so_far feeds is first text options lookup m runs =
+      let before = so_far text options lookup m runs in
+      let r = row_of line in
+      let there = first-line T text mid.past before.0.past r (is ∙ before.1.text_is) before.1.past first in (
+        line_fed text options lookup r (lines_at text r.past) before.0,
+        feeds text options lookup before.0 before.1,
+        before.2 ∙ ap (λ (rs : List Row). lines_fed text options lookup rs before.0) there,
+      )
+
+  pub feeds-end : (mid : Pass E) → FeedsSoFar replacement old mid → length mid.text.now ≤ mid.past → FeedsAll replacement old mid
+  feeds-end mid so_far end text options lookup m runs =
+      let before = so_far text options lookup m runs in
+      let over : length text ≤ before.0.past = omega (arith, end, before.1.past, ap length before.1.text_is) in
+      subst (λ p. Runs replacement text lookup p mid) (sym (before.2 ∙ ap (λ (rs : List Row). lines_fed text options lookup rs before.0) (no-lines text before.0.past over))) before.1

@@ -1,0 +1,67 @@
+-- The info string of a fence, as a slice of the text and in its node.
+use Rattle.std.proofs.Common.{◌≡◌, ℕ, zero, suc, ◌+◌, ◌-◌, ◌≤◌, List, [], ◌∷◌, ◌++◌, drop, take, drop-drop, slice_range, length, Some, option_map, refl, sym, ap, ◌∙◌, arith}
+use Rattle.std.proofs.lemmas.List.{drop-take}
+use Rattle.cmark_text.specs.declared.text.CowStr.{CowStr}
+use Rattle.cmark_text.specs.Shown.{text_bytes}
+use Rattle.cmark_tree.specs.Forest as forest
+use Rattle.cmark_tree.specs.Forest.{Forest}
+use Rattle.cmark_tree.specs.Building.{Opened, Is}
+use Rattle.cmark_items.specs.declared.allocations.Allocations.{Allocations}
+use Rattle.cmark_items.specs.declared.allocations.CowIndex.{CowIndex}
+use Rattle.cmark_items.specs.declared.item.Item.{Item}
+use Rattle.cmark_items.specs.declared.item.ItemBody.TheVariants as body
+use Rattle.cmark_items.specs.ItemNodes.{ranged, text_at}
+use Rattle.cmark_items.specs.Tables.{tables, with_text}
+use Rattle.cmark_grammar.specs.BlockDocument.{FencedCode}
+use Rattle.cmark_block_model.specs.Drawing.{Drawing, opened}
+use Rattle.cmark_builder.specs.declared.builder.Builder.{Builder}
+use Rattle.cmark_builder.specs.Drawn.{Draws}
+use Rattle.cmark_builder.specs.Ended.{item_at}
+use Rattle.cmark_builder.proofs.DrawnSteps.{draws-open, draws-text}
+use Rattle.cmark_grammar.specs.Columns.{indent, without_indent}
+use Rattle.cmark_grammar.specs.Rows.{words_of, start_of}
+use Rattle.cmark_grammar.specs.Tokens.{slice}
+use Rattle.cmark_scan.specs.declared.leaf.CodeFence.{CodeFence}
+use Rattle.cmark_lines.specs.Opened.{InfoStands}
+use Rattle.cmark_lines.specs.Rests.{row_of}
+use Rattle.cmark_lines.specs.declared.line_rest.LineRest.{LineRest}
+use Rattle.cmark_leaves.proofs.ColumnCuts.{bytes-slice, drop-told, words-runs}
+use Rattle.cmark_leaves.proofs.PieceSteps.{last-text}
+use Rattle.cmark_blocks.specs.Runs.{IsRead}
+
+take-fewer : (n m : ℕ) (xs : List ℕ) → n ≤ m → take n (take m xs) ≡ take n xs
+take-fewer zero m xs le = refl
+take-fewer (suc n) zero xs le = absurd (omega (arith, le))
+take-fewer (suc n) (suc m) [] le = refl
+take-fewer (suc n) (suc m) (x ∷ xs) le = ap (λ l. x ∷ l) (take-fewer n m xs (omega (arith, le)))
+
+-- a slice of a slice
+slice-slice : (text : List ℕ) (start stop a b : ℕ) → a ≤ b → start + b ≤ stop → slice_range (slice text start stop) a b ≡ slice_range text (start + a) (start + b)
+slice-slice text start stop a b le within =
+    ap (λ n. take (b - a) (drop a (take n (drop start text)))) (let s : stop - start ≡ a + ((b - a) + (stop - (start + b))) = omega (arith, le, within) in s)
+    ∙ ap (take (b - a)) (drop-take a ((b - a) + (stop - (start + b))) (drop start text))
+    ∙ take-fewer (b - a) ((b - a) + (stop - (start + b))) (drop a (drop start text)) (omega arith)
+    ∙ ap (take (b - a)) (drop-drop a start text)
+    ∙ ap (λ n. take n (drop (start + a) text)) (let s : b - a ≡ (start + b) - (start + a) = omega arith in s)
+
+-- the info string stands in the text at its places behind the words' begin
+pub info-slice : (text : List ℕ) (rest : LineRest) (fence : CodeFence) (words : ℕ) → IsRead text rest → InfoStands text (row_of rest) fence → words ≡ start_of (row_of rest) →
+    slice_range text (words + fence.info_start) (words + fence.info_end) ≡ slice_range (words_of (row_of rest)) fence.info_start fence.info_end
+info-slice text rest fence words read stands begin =
+    let r = row_of rest in
+    ap (λ n. slice_range text (n + fence.info_start) (n + fence.info_end)) begin
+    ∙ sym (slice-slice text (start_of r) r.stop fence.info_start fence.info_end stands.0 stands.1)
+    ∙ ap (λ bs. slice_range bs fence.info_start fence.info_end) (sym (bytes-slice text (start_of r) (without_indent r.columns) r.stop (words-runs rest) (drop-told text (indent r.columns) r.columns read.told)))
+
+-- a text was kept, and a node of fenced code with it as its info string was opened
+pub draws-fenced : (text : List ℕ) (old new : Builder) (kept : Allocations) (info : CowStr) (index : CowIndex) (start : ℕ) (bytes : List ℕ) (d : Drawing) →
+    index.0 ≡ length (tables old.allocations).texts → tables kept ≡ with_text info (tables old.allocations) → text_bytes info ≡ bytes →
+    ((here : Forest Item) (up : List (Opened Item)) → Is old.tree here up → Is new.tree forest.Nil (record { left = here; item = item_at start start (body.FencedCodeBlock index) } ∷ up)) →
+    new.allocations ≡ kept → Draws text old d → Draws text new (opened start (FencedCode bytes) d)
+draws-fenced text old new kept info index start bytes d at is read step same draws =
+    let mid : Builder = record { tree = old.tree; allocations = kept } in
+    let texts : (tables kept).texts ≡ (tables old.allocations).texts ++ info ∷ [] = ap (λ t. t.texts) is in
+    draws-open text mid new start (body.FencedCodeBlock index) (FencedCode bytes) d step same
+    (ap (λ o. option_map (ranged start start) (option_map FencedCode o)) (
+    ap (λ t. text_at t index.0) texts ∙ ap (text_at ((tables old.allocations).texts ++ info ∷ [])) at ∙ last-text (tables old.allocations).texts info ∙ ap Some read))
+    (draws-text text old mid info d refl texts draws)

@@ -1,0 +1,95 @@
+-- What a line begins, one container after the other.
+use Rattle.std.proofs.Common.{◌≡◌, ℕ, zero, suc, ◌<◌, ◌≤◌, Bool, false, List, [], length, Some, None, refl, sym, ap, subst, ◌∙◌, arith}
+use Rattle.cmark_grammar.specs.Answers.{Lookup}
+use Rattle.cmark_grammar.specs.Containers.{Container, enter}
+use Rattle.cmark_grammar.specs.Leaves.{run}
+use Rattle.cmark_grammar.specs.Options.{Options, no_options}
+use Rattle.cmark_grammar.specs.Rows.{Row, words_of}
+use Rattle.cmark_lines.specs.Opened.{opened, HasInside, InsideIsIn}
+use Rattle.cmark_lines.specs.Rests.{row_of, IsIn}
+use Rattle.cmark_lines.specs.Starts.{shown_start, inside_of}
+use Rattle.cmark_lines.specs.declared.container.ContainerStart.{ContainerStart}
+use Rattle.cmark_lines.specs.declared.container.ContainerStart.TheVariants as begun
+use Rattle.cmark_lines.specs.declared.line_rest.LineRest.{LineRest}
+use Rattle.cmark_lines.specs.declared.opening.Opening.{Opening}
+use Rattle.cmark_lines.specs.declared.opening.Opening.TheVariants as opening
+use Rattle.cmark_text.specs.declared.kind.HeadingLevel.{HeadingLevel}
+use Rattle.cmark_text.specs.Shown.{level_number}
+use Rattle.cmark_leaves.specs.Told.{AreTold}
+use Rattle.cmark_leaves.proofs.ToldSteps.{enter-told}
+use Rattle.cmark_block_model.specs.BlockPass.{ahead_in, begin, begin_as, begin_in, container_begun, is_item}
+use Rattle.cmark_block_model.specs.OpenBlocks as model
+use Rattle.cmark_blocks.specs.Ahead.{lines_at}
+use Rattle.cmark_blocks.specs.declared.state.Pass.{Pass}
+use Rattle.cmark_blocks.specs.Entered.{OpensAs, HasNumber, BeginsFirst, BeginsSoFar}
+use Rattle.cmark_blocks.specs.Runs.{Runs, IsRead}
+use Rattle.cmark_blocks.specs.Steps.{Begins}
+use Rattle.cmark_blocks.proofs.OpeningSteps.{Fits, opens-fits}
+
+opened-fits : (r : Row) (open_as is : Opening) → OpensAs open_as r → open_as ≡ is → Fits (run 35 (words_of r)) (opened no_options is r [])
+opened-fits r open_as is opens_as e =
+    subst (λ (x : Opening). Fits (run 35 (words_of r)) (opened no_options x r [])) e (subst (Fits (run 35 (words_of r))) (opens_as no_options []) (opens-fits no_options r []))
+
+-- the number of an item that begins is told by its character
+pub start-numbered : (r : Row) (open_as : Opening) (start : ContainerStart) → OpensAs open_as r → open_as ≡ opening.Nests start → HasNumber start
+start-numbered r open_as (begun.Quote inside) opens_as e = tt
+start-numbered r open_as (begun.Item item inside) opens_as e = opened-fits r open_as (opening.Nests (begun.Item item inside)) opens_as e
+
+-- the level of a heading
+pub heading-level : (r : Row) (open_as : Opening) (level : HeadingLevel) → OpensAs open_as r → open_as ≡ opening.AtxHeading level → level_number level ≡ run 35 (words_of r)
+heading-level r open_as level opens_as e = opened-fits r open_as (opening.AtxHeading level) opens_as e
+
+-- the line behind a marker ends where the whole line does
+enter-past : (k : Container) (r : Row) → (enter k r).past ≡ r.past
+unfolding enter
+enter-past k r = refl
+
+module _ (r : Row) (open_as : Opening) (start : ContainerStart) (inside : LineRest) (nests : open_as ≡ opening.Nests start) (behind : inside ≡ inside_of start) (has : HasInside open_as r) where
+  inside-row : row_of inside ≡ enter (shown_start start) r
+  inside-row = ap row_of behind ∙ subst (λ (x : Opening). HasInside x r) nests has
+
+  pub inside-past : (row_of inside).past ≡ r.past
+  inside-past = ap (λ (s : Row). s.past) inside-row ∙ enter-past (shown_start start) r
+
+  pub inside-read : (text : List ℕ) → InsideIsIn text open_as → AreTold text r.columns → IsRead text inside
+  inside-read text placed told = record {
+    placed = subst (IsIn text) (sym behind) (subst (InsideIsIn text) nests placed);
+    told = subst (λ (s : Row). AreTold text s.columns) (sym inside-row) (enter-told text (shown_start start) r told);
+  }
+
+  pub inside-begins : (text : List ℕ) (options : Options) (lookup : Lookup) (item bare : Bool) (columns : ℕ) (m : model.Pass) → OpensAs open_as r → item ≡ is_item (shown_start start) →
+      begin_in text options lookup (suc columns) r (lines_at text r.past) bare m
+      ≡ begin_in text options lookup columns (row_of inside) (lines_at text (row_of inside).past) item (container_begun (shown_start start) r m)
+  inside-begins text options lookup item bare columns m opens_as is =
+      let ahead = ahead_in text options lookup m.outer (lines_at text r.past) in
+      let k = shown_start start in
+      ap (λ o. begin_as text options lookup o (λ k. begin_in text options lookup columns (enter k r) (lines_at text r.past) (is_item k) (container_begun k r m)) r ahead bare m)
+      (opens_as options ahead ∙ ap (λ (x : Opening). opened options x r ahead) nests)
+      ∙ ap (λ (s : Row). begin_in text options lookup columns s (lines_at text r.past) (is_item k) (container_begun k r m)) (sym inside-row)
+      ∙ ap (λ (p : ℕ). begin_in text options lookup columns (row_of inside) (lines_at text p) (is_item k) (container_begun k r m)) (sym inside-past)
+      ∙ ap (λ (b : Bool). begin_in text options lookup columns (row_of inside) (lines_at text (row_of inside).past) b (container_begun k r m)) (sym is)
+
+module _ {E : Type 0} (replacement : E → Lookup) (line : LineRest) (old : Pass E) where
+  pub begins-start : BeginsSoFar replacement line false line old old
+  begins-start text options lookup m runs = (length (row_of line).columns, m, leq-refl (length (row_of line).columns), runs, refl)
+    where
+      leq-refl : (n : ℕ) → n ≤ n
+      leq-refl n = omega arith
+
+  pub begins-step : (rest inside : LineRest) (bare item : Bool) (mid new : Pass E) → BeginsSoFar replacement line bare rest old mid →
+      BeginsFirst replacement bare rest (Some (inside, item)) mid new → length (row_of inside).columns < length (row_of rest).columns → BeginsSoFar replacement line item inside old new
+  begins-step rest inside bare item mid new so_far first shorter text options lookup m runs =
+      let before = so_far text options lookup m runs in
+      go before.0 before.1 before.2 before.3 before.4
+    where
+      go : (columns : ℕ) (p : model.Pass) → length (row_of rest).columns ≤ columns → Runs replacement text lookup p mid →
+          (begin text options lookup (row_of line) (lines_at text (row_of line).past) m ≡ begin_in text options lookup (suc columns) (row_of rest) (lines_at text (row_of rest).past) bare p) →
+          (columns : ℕ) × (p : model.Pass) × (length (row_of inside).columns ≤ columns) × Runs replacement text lookup p new
+          × (begin text options lookup (row_of line) (lines_at text (row_of line).past) m ≡ begin_in text options lookup (suc columns) (row_of inside) (lines_at text (row_of inside).past) item p)
+      go zero p le now same = absurd (omega (arith, le, shorter))
+      go (suc n) p le now same = let r = first text options lookup (suc n) p now in (n, r.0, omega (arith, le, shorter), r.1, same ∙ r.3)
+
+  pub begins-end : (rest : LineRest) (bare : Bool) (mid new : Pass E) → BeginsSoFar replacement line bare rest old mid → BeginsFirst replacement bare rest None mid new → Begins replacement line old new
+  begins-end rest bare mid new so_far first text options lookup m runs =
+      let before = so_far text options lookup m runs in
+      subst (λ p. Runs replacement text lookup p new) (sym before.4) (first text options lookup before.0 before.1 before.3)

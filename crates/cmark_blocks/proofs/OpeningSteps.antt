@@ -1,0 +1,142 @@
+-- What a line begins, as far as the items of lists and headings go.
+use Rattle.std.proofs.Common.{◌≡◌, ℕ, Bool, true, false, ◌==◌, ◌&&◌, ◌||◌, nat_lt, nat_le, not, if◌then◌else◌, List, [], ◌∷◌, length, drop, Option, Some, None, refl, sym, ap, ◌∙◌, true≢false, eqb-true}
+use Rattle.std.specs.Prelude.{unwrap_or, suc}
+use Rattle.cmark_grammar.specs.Rows.{Row, words_of, is_blank_line, indent_of}
+use Rattle.cmark_grammar.specs.Containers.{Container, Quote, Item, Marker, is_bullet, is_delimiter, delimited, digits, number_of, marker_of, item_with, item_of, container_with, container_of, is_quote, width_with}
+use Rattle.cmark_grammar.specs.HtmlBlocks.{html_kind}
+use Rattle.cmark_grammar.specs.Leaves.{Fence, is_parted, run, is_thematic_break, is_atx_heading, fence_of, counted, code_further}
+use Rattle.cmark_grammar.specs.LinkDefinitions.{Defined, definition_in, bytes_over}
+use Rattle.cmark_grammar.specs.Openings.{AtxHeading, ThematicBreak, IndentedCode, FencedCode, HtmlBlock, LinkDefinition, Opening, Blank, Nests, Takes, Plain, or_else, nests_if, html_if, break_if, heading_if, fenced_if, defined_if, text_lines, definition_of, leaf_of, opens}
+use Rattle.cmark_grammar.specs.Options.{Options}
+use Rattle.cmark_items.specs.ItemNodes.{list_number}
+
+-- the number of an item is told by its character
+abbrev pub Numbered : (mark : ℕ) → Option ℕ → Type 0
+Numbered mark number = list_number mark (unwrap_or number 0) ≡ number
+
+abbrev pub MarkerNumbered : Option Marker → Type 0
+MarkerNumbered None = Unit {0}
+MarkerNumbered (Some m) = Numbered m.mark m.number
+
+abbrev pub ContainerNumbered : Option Container → Type 0
+ContainerNumbered None = Unit {0}
+ContainerNumbered (Some Quote) = Unit {0}
+ContainerNumbered (Some (Item mark number width)) = Numbered mark number
+
+-- an item has a number that its character tells, a heading this level
+abbrev pub Fits : (level : ℕ) → Opening → Type 0
+Fits level Blank = Unit {0}
+Fits level (Nests Quote) = Unit {0}
+Fits level (Nests (Item mark number width)) = Numbered mark number
+Fits level (Takes ThematicBreak more) = Unit {0}
+Fits level (Takes (AtxHeading n) more) = n ≡ level
+Fits level (Takes IndentedCode more) = Unit {0}
+Fits level (Takes (FencedCode fence) more) = Unit {0}
+Fits level (Takes (HtmlBlock kind) more) = Unit {0}
+Fits level (Takes (LinkDefinition definition) more) = Unit {0}
+Fits level Plain = Unit {0}
+
+bullet-is-none : (b : ℕ) → is_bullet b ≡ true → is_delimiter b ≡ false
+bullet-is-none b e = by (b == 45) refl (b == 43) refl (b == 42) refl
+  where
+    by : (p : Bool) → (b == 45) ≡ p → (q : Bool) → (b == 43) ≡ q → (s : Bool) → (b == 42) ≡ s → is_delimiter b ≡ false
+    by true p q qe s se = ap is_delimiter (eqb-true b 45 p)
+    by false p true qe s se = ap is_delimiter (eqb-true b 43 qe)
+    by false p false qe true se = ap is_delimiter (eqb-true b 42 se)
+    by false p false qe false se =
+        absurd (true≢false (sym e ∙ ap (λ t. t || ((b == 43) || (b == 42))) p ∙ ap (λ t. t || (b == 42)) qe ∙ se))
+
+delimited-numbered : (ds bs : List ℕ) → MarkerNumbered (delimited ds bs)
+delimited-numbered ds [] = tt
+delimited-numbered ds (b ∷ bs) = by (nat_lt 0 (length ds)) (nat_le (length ds) 9) (is_delimiter b) refl
+  where
+    by : (p q d : Bool) → is_delimiter b ≡ d → MarkerNumbered (if p && (q && d) then Some (record { mark = b; number = Some (number_of ds); size = suc (length ds) }) else None)
+    by false q d e = tt
+    by true false d e = tt
+    by true true false e = tt
+    by true true true e = ap (λ t. if t then Some (number_of ds) else None) e
+
+marker-numbered : (bs : List ℕ) → MarkerNumbered (marker_of bs)
+marker-numbered [] = tt
+marker-numbered (b ∷ bs) = by (is_bullet b) refl
+  where
+    other : Option Marker
+    other = delimited (digits (b ∷ bs)) (drop (length (digits (b ∷ bs))) (b ∷ bs))
+
+    by : (t : Bool) → is_bullet b ≡ t → MarkerNumbered (if t then Some (record { mark = b; number = None; size = 1 }) else other)
+    by true e = ap (λ t. if t then Some 0 else None) (bullet-is-none b e)
+    by false e = delimited-numbered (digits (b ∷ bs)) (drop (length (digits (b ∷ bs))) (b ∷ bs))
+
+item-numbered : (r : Row) (m : Option Marker) → MarkerNumbered m → ContainerNumbered (item_with r m)
+item-numbered r None n = tt
+item-numbered r (Some m) n = by (is_parted (drop m.size (words_of r)) && not (is_thematic_break (words_of r)))
+  where
+    by : (t : Bool) → ContainerNumbered (if t then Some (Item m.mark m.number (width_with m.size r)) else None)
+    by true = n
+    by false = tt
+
+container-numbered : (k : Option Container) (quoted : Bool) → ContainerNumbered k → ContainerNumbered (container_with k quoted)
+container-numbered (Some k) quoted n = n
+container-numbered None true n = tt
+container-numbered None false n = tt
+
+module _ (level : ℕ) where
+  else-fits : (first second : Opening) → Fits level first → Fits level second → Fits level (or_else first second)
+  else-fits Plain second f g = g
+  else-fits Blank second f g = f
+  else-fits (Nests k) second f g = f
+  else-fits (Takes leaf more) second f g = f
+
+  nests-fits : (k : Option Container) → ContainerNumbered k → Fits level (nests_if k)
+  nests-fits (Some Quote) n = tt
+  nests-fits (Some (Item mark number width)) n = n
+  nests-fits None n = tt
+
+  html-fits : (r : Row) (ahead : List Row) (kind : Option ℕ) → Fits level (html_if r ahead kind)
+  html-fits r ahead (Some kind) = tt
+  html-fits r ahead None = tt
+
+  break-fits : (t : Bool) → Fits level (break_if t)
+  break-fits true = tt
+  break-fits false = tt
+
+  heading-fits : (t : Bool) → Fits level (heading_if t level)
+  heading-fits true = refl
+  heading-fits false = tt
+
+  fenced-fits : (fence : Option Fence) (ahead : List Row) → Fits level (fenced_if fence ahead)
+  fenced-fits (Some fence) ahead = tt
+  fenced-fits None ahead = tt
+
+  defined-fits : (lines : ℕ) (found : Option Defined) → Fits level (defined_if lines found)
+  defined-fits lines (Some found) = tt
+  defined-fits lines None = tt
+
+leaf-fits : (options : Options) (r : Row) (ahead : List Row) → Fits (run 35 (words_of r)) (leaf_of options r ahead)
+leaf-fits options r ahead =
+    let level = run 35 (words_of r) in
+    let definition = definition_of options r ahead in
+    let fenced = fenced_if (fence_of (indent_of r) (words_of r)) ahead in
+    let heading = heading_if (is_atx_heading (words_of r)) level in
+    let rule = break_if (is_thematic_break (words_of r)) in
+    else-fits level (html_if r ahead (html_kind (words_of r))) (or_else rule (or_else heading (or_else fenced definition))) (html-fits level r ahead (html_kind (words_of r)))
+    (else-fits level rule (or_else heading (or_else fenced definition)) (break-fits level (is_thematic_break (words_of r)))
+    (else-fits level heading (or_else fenced definition) (heading-fits level (is_atx_heading (words_of r)))
+    (else-fits level fenced definition (fenced-fits level (fence_of (indent_of r) (words_of r)) ahead)
+    (defined-fits level (length (text_lines options ahead)) (definition_in (bytes_over r (text_lines options ahead)))))))
+
+pub opens-fits : (options : Options) (r : Row) (ahead : List Row) → Fits (run 35 (words_of r)) (opens options r ahead)
+unfolding opens
+opens-fits options r ahead = by r.lazy (is_blank_line r) (nat_le 4 (indent_of r))
+  where
+    level : ℕ
+    level = run 35 (words_of r)
+
+    by : (lazy blank indented : Bool) → Fits level (if lazy then Plain else if blank then Blank else if indented then Takes IndentedCode (counted code_further ahead) else or_else (nests_if (container_of r)) (leaf_of options r ahead))
+    by true blank indented = tt
+    by false true indented = tt
+    by false false true = tt
+    by false false false =
+        else-fits level (nests_if (container_of r)) (leaf_of options r ahead)
+        (nests-fits level (container_of r) (container-numbered (item_of r) (is_quote r) (item-numbered r (marker_of (words_of r)) (marker-numbered (words_of r)))))
+        (leaf-fits options r ahead)

@@ -1,0 +1,48 @@
+-- The pass over a whole text.
+use Rattle.std.proofs.Common.{◌≡◌, ℕ, List, [], ◌∷◌, map, option_map, refl, sym, ap, subst, ◌∙◌}
+use Rattle.cmark_tree.specs.Building.{Is}
+use Rattle.cmark_grammar.specs.Answers.{Lookup}
+use Rattle.cmark_grammar.specs.Labels.{fold}
+use Rattle.cmark_grammar.specs.Options.{Options}
+use Rattle.cmark_grammar.specs.References.{first_with}
+use Rattle.cmark_items.specs.ItemNodes.{shown_forest}
+use Rattle.cmark_items.specs.Definitions.{definition, shown_definition}
+use Rattle.cmark_items.specs.Tables.{tables}
+use Rattle.cmark_builder.specs.Drawn.{shown_open, open_node}
+use Rattle.cmark_block_model.specs.BlockPass.{pass_over, all_closed, lines_fed}
+use Rattle.cmark_block_model.specs.OpenBlocks.{at_start}
+use Rattle.cmark_block_model.proofs.Theorem.{pass-draws}
+use Rattle.cmark_blocks.proofs.CountSteps.{drawn-few}
+use Rattle.cmark_blocks.specs.Ahead.{lines_at}
+use Rattle.cmark_blocks.specs.FirstPass.{Leaves}
+use Rattle.cmark_blocks.specs.declared.first_pass.FirstPass.{FirstPass}
+use Rattle.cmark_blocks.specs.declared.state.Pass.{Pass}
+use Rattle.cmark_blocks.specs.Runs.{Runs, shown_reference}
+
+none-mapped : {A B C : Type 0} (f : A → C) (g : B → C) (xs : List A) (ys : List B) → map f xs ≡ map g ys → ys ≡ [] → xs ≡ []
+none-mapped f g [] ys e none = refl
+none-mapped f g (x ∷ xs) ys e none = absurd (let q : f x ∷ map f xs ≡ [] = e ∙ ap (map g) none in cc)
+
+over-is : (text : List ℕ) (options : Options) (lookup : Lookup) → pass_over text options lookup ≡ all_closed text options lookup (lines_fed text options lookup (lines_at text 0) at_start)
+unfolding pass_over
+over-is text options lookup = refl
+
+module _ {E : Type 0} (replacement : E → Lookup) (text : List ℕ) (options : Options) (lookup : Lookup) (pass : Pass E) (left : FirstPass) where
+  pub leaves : Runs replacement text lookup (all_closed text options lookup (lines_fed text options lookup (lines_at text 0) at_start)) pass →
+      left.tree ≡ pass.builder.tree → left.allocations ≡ pass.builder.allocations → Leaves text options lookup left
+  leaves there tree allocations = record {
+    forest = runs.drawing.here;
+    tree_is = subst (λ t. Is t runs.drawing.here []) (sym tree) (subst (λ up. Is pass.builder.tree runs.drawing.here up) none runs.drawing.is);
+    drawn = ap (λ a. shown_forest text (tables a).texts runs.drawing.here) allocations ∙ runs.drawing.here_is;
+    few = drawn-few text options lookup (tables pass.builder.allocations).texts runs.drawing.here runs.drawing.here_is;
+    references = λ folded.
+        ap (λ a. option_map shown_definition (definition (tables a).references folded)) allocations
+        ∙ runs.references folded
+        ∙ ap (λ rs. option_map shown_reference (first_with fold folded rs)) (pass-draws text options lookup).2;
+  }
+    where
+      runs : Runs replacement text lookup (pass_over text options lookup) pass
+      runs = subst (λ p. Runs replacement text lookup p pass) (sym (over-is text options lookup)) there
+
+      none : runs.drawing.up ≡ []
+      none = none-mapped (shown_open text (tables pass.builder.allocations).texts) open_node runs.drawing.up (pass_over text options lookup).drawing.up runs.drawing.up_is (pass-draws text options lookup).1

@@ -1,0 +1,47 @@
+use Rattle.std.proofs.Common.{◌≤◌, ◌<◌, take, drop, length, sym, subst, ◌∙◌, arith}
+use Rattle.std.proofs.lemmas.List.{take-append-drop, length-take-le}
+use Rattle.cmark_lines.specs.Rests.{row_of}
+use Rattle.cmark_block_model.specs.BlockPass.{ahead_in, leaf_closed}
+use Rattle.cmark_blocks.specs.Ahead.{lines_at}
+use Rattle.cmark_blocks.specs.Runs.{Runs}
+use Rattle.cmark_blocks.proofs.ClosingSteps.{shows-length}
+use Rattle.cmark_blocks.proofs.FeedSteps.{rest-kept, rest-lazy, rest-ends, closed-outer}
+use Rattle.cmark_blocks.proofs.KeptSteps.{shows-all, shows-some}
+use Rattle.cmark_blocks.proofs.state.Pass.feed_rest.Goals as goal
+
+pub returns-then-kept-len-clause-runs : goal.returns-then-kept-len-clause-runs
+returns-then-kept-len-clause-runs g c text options lookup m runs =
+    let row = row_of c.args.rest in
+    let cs = c.args.self.now.outer.items in
+    let all : length cs ≤ c.args.kept = omega (arith, c.if-kept-len.true, c.len.ensures, c.args.self.now.outer.ok.0) in
+    subst (λ p. Runs g.E.EntityLookup.replacement text lookup p c.feed_leaf.new.self)
+    (sym (rest-kept text options lookup row (lines_at text row.past) m c.args.kept (shows-all cs m.outer c.args.kept runs.outer all).1))
+    (c.in_ok-feed_leaf.ensures.runs text options lookup m runs)
+
+pub returns-then-is_lazy-clause-runs : goal.returns-then-is_lazy-clause-runs
+returns-then-is_lazy-clause-runs g c text options lookup m runs =
+    let row = row_of c.args.rest in
+    let kept = c.args.kept in
+    let next = lines_at text row.past in
+    let cs = c.args.self.now.outer.items in
+    let some : kept < length cs = omega (arith, c.requires.few, c.if-kept-len.false, c.len.ensures, c.args.self.now.outer.ok.0) in
+    let missed = shows-some cs m.outer kept runs.outer some in
+    subst (λ p. Runs g.E.EntityLookup.replacement text lookup p c.feed_lazily.new.self)
+    (sym (rest-lazy text options lookup row next m kept missed.0 missed.1 missed.2 (sym (c.is_lazy.ensures text options lookup m (ahead_in text options lookup (take kept m.outer) next) runs) ∙ c.if-is_lazy.true)))
+    (c.in_ok-feed_lazily.ensures.runs text options lookup m runs)
+
+pub returns-clause-runs : goal.returns-clause-runs
+returns-clause-runs g c text options lookup m runs =
+    let row = row_of c.args.rest in
+    let kept = c.args.kept in
+    let next = lines_at text row.past in
+    let cs = c.args.self.now.outer.items in
+    let some : kept < length cs = omega (arith, c.requires.few, c.if-kept-len.false, c.len.ensures, c.args.self.now.outer.ok.0) in
+    let missed = shows-some cs m.outer kept runs.outer some in
+    let within : kept ≤ length m.outer = omega (arith, c.requires.few, shows-length cs m.outer runs.outer) in
+    let closed = c.in_ok-close_leaf.ensures.runs text options lookup m runs in
+    let outer = closed-outer text options lookup m m.leaf in
+    subst (λ p. Runs g.E.EntityLookup.replacement text lookup p c.begin.new.self)
+    (sym (rest-ends text options lookup row next m kept missed.0 missed.1 missed.2 (sym (c.is_lazy.ensures text options lookup m (ahead_in text options lookup (take kept m.outer) next) runs) ∙ c.if-is_lazy.false)))
+    (c.in_ok-begin.ensures.runs text options lookup _
+    (c.close_containers.ensures.runs text options lookup (leaf_closed text options lookup m) (take kept m.outer) (drop kept m.outer) (outer ∙ sym (take-append-drop kept m.outer)) (length-take-le kept m.outer within) closed))

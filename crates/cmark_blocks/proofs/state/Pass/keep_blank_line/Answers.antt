@@ -1,0 +1,38 @@
+use Rattle.std.proofs.Common.{[], ◌∷◌, ◌++◌, map, refl, sym, ap, ◌∙◌, subst}
+use Rattle.std.proofs.lemmas.List.{map-append}
+use Rattle.std.proofs.lemmas.List.Elements.{All-push, All-same}
+use Rattle.cmark_lines.specs.Rests.{row_of}
+use Rattle.cmark_block_model.specs.OpenBlocks as model
+use Rattle.cmark_leaves.specs.Stretches.{shown_waits}
+use Rattle.cmark_blocks.specs.Ahead.{lines_at}
+use Rattle.cmark_blocks.specs.Runs.{Runs, ShowsLeaf, IsRead}
+use Rattle.cmark_blocks.proofs.CodeSteps.{indented-shown}
+use Rattle.cmark_blocks.proofs.IndentedSteps.{indented-waits, runs-waiting}
+use Rattle.cmark_blocks.proofs.state.Pass.keep_blank_line.Goals as goal
+
+pub returns-clause-good : goal.returns-clause-good
+returns-clause-good g c =
+    let good = c.requires.good in record {
+      placed = good.placed;
+      begins = good.begins;
+      leaf = good.leaf;
+      blanks = All-same (IsRead c.args.self.now.text.now) _ _ c.in_ok-push.ensures.items (All-push (IsRead c.args.self.now.text.now) c.args.self.now.blank_lines.items c.args.rest good.blanks c.requires.line);
+    }
+
+pub returns-clause-runs : goal.returns-clause-runs
+returns-clause-runs g c text options lookup m runs =
+    let replacement = g.E.EntityLookup.replacement in
+    let before = c.args.self.now in
+    let row = row_of c.args.rest in
+    let stretch = c.requires.is.0 in
+    let end = c.requires.is.1 in
+    let waits = shown_waits text stretch in
+    let blanks = before.blank_lines.items in
+    let rows = map row_of blanks ++ row ∷ [] in
+    let is = subst (λ l. ShowsLeaf text l blanks m.leaf) c.requires.is.2 runs.leaf in
+    let items = ap (map row_of) c.in_ok-push.ensures.items ∙ map-append row_of blanks (c.args.rest ∷ []) in
+    subst (λ p. Runs replacement text lookup p (record before { blank_lines = c.push.new.self }))
+    (sym (indented-waits text options lookup row (lines_at text row.past) m waits end (map row_of blanks) is c.requires.waits))
+    (runs-waiting replacement text lookup m before before.leaf c.push.new.self (model.InIndented waits end rows) runs
+    (subst (λ l. ShowsLeaf text l c.push.new.self.items (model.InIndented waits end rows)) (sym c.requires.is.2)
+    (indented-shown text stretch waits end end c.push.new.self.items rows refl refl items)))

@@ -1,0 +1,23 @@
+use Rattle.std.proofs.Common.{◌++◌, ◌∷◌, [], option_map, sym, ap, ◌∙◌}
+use Rattle.cmark_grammar.specs.Derivation.{reference_of}
+use Rattle.cmark_items.specs.Definitions.{definition, shown_definition, first_of, at_label}
+use Rattle.cmark_definitions.specs.Shown.{written}
+use Rattle.cmark_blocks.specs.Runs.{shown_reference}
+use Rattle.cmark_blocks.proofs.DefinitionSteps.{runs-references}
+use Rattle.cmark_blocks.proofs.ReferenceSteps.{fold-again, with-more}
+use Rattle.cmark_blocks.proofs.state.Pass.keep_definition.Goals as goal
+
+pub returns-clause-runs : goal.returns-clause-runs
+returns-clause-runs g c text lookup m runs =
+    let replacement = g.E.EntityLookup.replacement in
+    let before = c.args.self.now in
+    let found = written c.args.definition.now in
+    let reference = reference_of lookup found c.args.span.start c.args.span.end in
+    let kept = c.in_ok-label.kept in
+    let made = c.in_ok-label.ensures in
+    runs-references replacement text lookup m before c.insert.new.self (m.references ++ reference ∷ []) runs
+    (λ folded.
+    ap (option_map shown_definition) (c.in_ok-insert.ensures.first_stays folded
+    ∙ ap (λ key. first_of (definition before.builder.allocations.refdefs folded) (at_label key kept folded)) (made.key ∙ sym (fold-again found.label)))
+    ∙ with-more folded m.references reference (definition before.builder.allocations.refdefs folded) kept (runs.references folded)
+    (ap shown_reference (made.value ∙ ap (λ k. reference_of k found c.args.span.start c.args.span.end) runs.lookup_is)))

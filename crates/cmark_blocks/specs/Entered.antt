@@ -1,0 +1,61 @@
+-- What a line begins, one container or leaf after the other.
+use Rattle.std.specs.Prelude.{◌≡◌, ◌≤◌, ℕ, suc, Bool, List, length, unwrap_or, Option, MatchOption}
+use Rattle.cmark_grammar.specs.Answers.{Lookup}
+use Rattle.cmark_grammar.specs.Containers.{Container}
+use Rattle.cmark_grammar.specs.Openings.{opens}
+use Rattle.cmark_grammar.specs.Options.{Options}
+use Rattle.cmark_grammar.specs.Rows.{Row}
+use Rattle.cmark_items.specs.ItemNodes.{list_number}
+use Rattle.cmark_lines.specs.Opened.{opened}
+use Rattle.cmark_lines.specs.Rests.{row_of}
+use Rattle.cmark_lines.specs.declared.container.ContainerStart.{ContainerStart}
+use Rattle.cmark_lines.specs.declared.container.ContainerStart.TheVariants as begun
+use Rattle.cmark_lines.specs.declared.line_rest.LineRest.{LineRest}
+use Rattle.cmark_lines.specs.declared.opening.Opening.{Opening}
+use Rattle.cmark_lines.specs.declared.opening.Opening.TheVariants as opening
+use Rattle.cmark_block_model.specs.BlockPass.{ahead_in, begin, begin_as, begin_in}
+use Rattle.cmark_block_model.specs.OpenBlocks as model
+use Rattle.cmark_blocks.specs.Ahead.{lines_at}
+use Rattle.cmark_blocks.specs.declared.state.Pass.{Pass}
+use Rattle.cmark_blocks.specs.Runs.{Runs}
+
+-- the line begins this
+abbrev pub OpensAs : Opening → Row → Type 0
+OpensAs open_as r = (options : Options) (ahead : List Row) → opens options r ahead ≡ opened options open_as r ahead
+
+abbrev pub IsNoContainer : Opening → Type 0
+IsNoContainer open_as = (start : ContainerStart) → open_as ≡ opening.Nests start → ⊥
+
+-- the number of an item is told by its character
+abbrev pub HasNumber : ContainerStart → Type 0
+HasNumber (begun.Quote inside) = Unit {0}
+HasNumber (begun.Item item inside) = list_number item.mark (unwrap_or item.number 0) ≡ item.number
+
+module _ {E : Type 0} (replacement : E → Lookup) where
+  -- what a line begins was begun, where it is no container
+  abbrev pub BeginsAs : Opening → (bare : Bool) → LineRest → Pass E → Pass E → Type 0
+  BeginsAs open_as bare rest old new =
+      (text : List ℕ) (options : Options) (lookup : Lookup) (m : model.Pass) (inside : Container → model.Pass) → Runs replacement text lookup m old →
+      let ahead = ahead_in text options lookup m.outer (lines_at text (row_of rest).past) in
+      Runs replacement text lookup (begin_as text options lookup (opened options open_as (row_of rest) ahead) inside (row_of rest) ahead bare m) new
+
+  -- behind the marker of a container that was begun, the rest of the line begins what is left
+  abbrev pub Enters : List ℕ → Options → Lookup → (columns : ℕ) → (bare : Bool) → LineRest → model.Pass → LineRest × Bool → Pass E → Type 0
+  Enters text options lookup columns bare rest m entered new =
+      (p : model.Pass) × Runs replacement text lookup p new × ((row_of entered.0).past ≡ (row_of rest).past)
+      × (begin_in text options lookup (suc columns) (row_of rest) (lines_at text (row_of rest).past) bare m
+      ≡ begin_in text options lookup columns (row_of entered.0) (lines_at text (row_of entered.0).past) entered.1 p)
+
+  -- the first thing that a line begins was begun
+  abbrev pub BeginsFirst : (bare : Bool) → LineRest → Option (LineRest × Bool) → Pass E → Pass E → Type 0
+  BeginsFirst bare rest entered old new =
+      (text : List ℕ) (options : Options) (lookup : Lookup) (columns : ℕ) (m : model.Pass) → Runs replacement text lookup m old →
+      MatchOption entered (Runs replacement text lookup (begin_in text options lookup (suc columns) (row_of rest) (lines_at text (row_of rest).past) bare m) new)
+      (λ inside. Enters text options lookup columns bare rest m inside new)
+
+  -- some of the containers were begun that a line begins: what is left of the line begins what is left
+  abbrev pub BeginsSoFar : LineRest → (bare : Bool) → LineRest → Pass E → Pass E → Type 0
+  BeginsSoFar line bare rest old now =
+      (text : List ℕ) (options : Options) (lookup : Lookup) (m : model.Pass) → Runs replacement text lookup m old →
+      (columns : ℕ) × (p : model.Pass) × (length (row_of rest).columns ≤ columns) × Runs replacement text lookup p now
+      × (begin text options lookup (row_of line) (lines_at text (row_of line).past) m ≡ begin_in text options lookup (suc columns) (row_of rest) (lines_at text (row_of rest).past) bare p)

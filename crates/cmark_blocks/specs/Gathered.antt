@@ -1,0 +1,64 @@
+-- The text of a paragraph that may begin with link reference definitions, gathered line by line (CommonMark 4.7).
+use Rattle.std.specs.Prelude.{◌≡◌, ℕ, ◌≤◌, ◌<◌, Bool, true, false, List, [], ◌∷◌, ◌++◌, length, string_bytes, option_map}
+use Rattle.cmark_grammar.specs.Answers.{Lookup}
+use Rattle.cmark_grammar.specs.LinkDefinitions.{further_bytes, bytes_over, definition_in}
+use Rattle.cmark_grammar.specs.Openings.{text_lines}
+use Rattle.cmark_grammar.specs.Options.{Options}
+use Rattle.cmark_grammar.specs.Rows.{Row}
+use Rattle.cmark_definitions.specs.Rests.{HasLineEnds}
+use Rattle.cmark_definitions.specs.Settled.{defined_before}
+use Rattle.cmark_lines.specs.Rests.{row_of}
+use Rattle.cmark_lines.specs.declared.line_rest.LineRest.{LineRest}
+use Rattle.cmark_block_model.specs.BlockPass.{ahead_in}
+use Rattle.cmark_block_model.specs.OpenBlocks as model
+use Rattle.cmark_blocks.specs.declared.state.Pass.{Pass}
+use Rattle.cmark_blocks.specs.declared.gathered.Gathered.{Gathered}
+use Rattle.cmark_blocks.specs.Ahead.{lines_at}
+use Rattle.cmark_blocks.specs.Runs.{Runs, IsRead}
+
+-- the last of these lines
+abbrev pub last_of : Row → List Row → Row
+last_of first [] = first
+last_of first (r ∷ more) = last_of r more
+
+-- what holds whatever the containers are: the last line stands in the text, a line feed stands behind each carriage return
+-- of what was gathered, and each line behind the first took a byte at least
+pub record IsGathered (text : List ℕ) (gathered : Gathered) : Type 0 where
+  pub read : IsRead text gathered.last
+  pub few : gathered.lines ≤ (row_of gathered.last).past
+  pub ends : HasLineEnds (string_bytes gathered.text)
+
+module _ (text : List ℕ) (options : Options) (lookup : Lookup) (m : model.Pass) where
+  -- the lines from a place on with which a paragraph goes on inside the open containers
+  abbrev pub texts_at : ℕ → List Row
+  texts_at at = text_lines options (ahead_in text options lookup m.outer (lines_at text at))
+
+  -- the text of some of these lines behind the first line, up to the last one, was gathered
+  pub record Holds (first : LineRest) (gathered : Gathered) : Type 0 where
+    pub lines : List Row
+    pub ahead : texts_at (row_of first).past ≡ lines ++ texts_at (row_of gathered.last).past
+    pub bytes : string_bytes gathered.text ≡ bytes_over (row_of first) lines
+    pub count : length lines ≡ gathered.lines
+    pub last : last_of (row_of first) lines ≡ row_of gathered.last
+
+module _ {E : Type 0} (replacement : E → Lookup) where
+  -- the text of a paragraph that this line may begin was gathered up to some line
+  abbrev pub Gathers : Pass E → LineRest → Gathered → Type 0
+  Gathers pass first gathered = (text : List ℕ) (options : Options) (lookup : Lookup) (m : model.Pass) → Runs replacement text lookup m pass → Holds text options lookup m first gathered
+
+  -- no line more goes on with the paragraph
+  abbrev pub IsWhole : Pass E → Gathered → Type 0
+  IsWhole pass gathered =
+      (text : List ℕ) (options : Options) (lookup : Lookup) (m : model.Pass) → Runs replacement text lookup m pass → texts_at text options lookup m (row_of gathered.last).past ≡ []
+
+  -- one more line at least was gathered; or else no line is left
+  abbrev pub GathersMore : Pass E → Gathered → (more : Bool) → Gathered → Type 0
+  GathersMore pass old true new = ((first : LineRest) → Gathers pass first old → Gathers pass first new) × ((row_of old.last).past < (row_of new.last).past)
+  GathersMore pass old false new = ((first : LineRest) → Gathers pass first old → Gathers pass first new) × IsWhole pass new
+
+  -- the definition in front of what was gathered stands in front of the whole text of the paragraph, and if none does, none stands there
+  abbrev pub Decides : Pass E → Gathered → Type 0
+  Decides pass gathered =
+      (text : List ℕ) (options : Options) (lookup : Lookup) (m : model.Pass) → Runs replacement text lookup m pass →
+      let behind = further_bytes (row_of gathered.last) (texts_at text options lookup m (row_of gathered.last).past) in
+      definition_in (string_bytes gathered.text ++ behind) ≡ option_map (defined_before behind) (definition_in (string_bytes gathered.text))

@@ -1,0 +1,52 @@
+-- The open containers of a tree's path, and the prefixes that they have in front of a line (CommonMark 5).
+use Rattle.std.specs.Prelude.{ℕ, suc, false, List, [], ◌∷◌, ◌++◌, Option, Some, None}
+use Rattle.cmark_grammar.specs.Containers as grammar
+use Rattle.cmark_grammar.specs.Containers.{keeps}
+use Rattle.cmark_grammar.specs.Rows.{Row}
+use Rattle.cmark_tree.specs.Zip.{Level}
+use Rattle.cmark_items.specs.declared.item.Item.{Item}
+use Rattle.cmark_items.specs.declared.item.ItemBody.{ItemBody}
+use Rattle.cmark_items.specs.declared.item.ItemBody.TheVariants as body
+use Rattle.cmark_lines.specs.declared.container.Container.{Container}
+use Rattle.cmark_lines.specs.declared.container.Container.TheVariants as container
+
+-- an item with a prefix of this width: its character and number do not matter to what it keeps, so it is shown as a bullet
+abbrev pub item_of_width : ℕ → grammar.Container
+item_of_width width = grammar.Item 45 None width
+
+abbrev pub shown_container : Container → grammar.Container
+shown_container container.Quote = grammar.Quote
+shown_container (container.Item width) = item_of_width width
+
+-- the container that a node is: a block quote or a list item, and else none
+abbrev pub container_in : ItemBody → Option grammar.Container
+container_in (body.BlockQuote kind) = Some grammar.Quote
+container_in (body.ListItem width) = Some (item_of_width width)
+container_in _ = None
+
+-- the container, if there is one, in front of these
+abbrev pub in_front : Option grammar.Container → List grammar.Container → List grammar.Container
+in_front None ks = ks
+in_front (Some k) ks = k ∷ ks
+
+-- the containers among the nodes of a path, the outermost first
+abbrev pub containers_of : List (Level Item) → List grammar.Container
+containers_of [] = []
+containers_of (v ∷ up) = containers_of up ++ in_front (container_in v.place.item.body) []
+
+-- how many containers keep a line, and what is left of it behind their prefixes
+pub record Kept : Type 0 where
+  pub count : ℕ
+  pub rest : Row
+
+abbrev pub one_more : Kept → Kept
+one_more k = record { count = suc k.count; rest = k.rest }
+
+abbrev pub kept_if : Option Row → (Row → Kept) → Kept → Kept
+kept_if (Some s) further none = one_more (further s)
+kept_if None further none = none
+
+-- these containers, one inside the other, keep the line in turn, up to the first that does not
+abbrev pub kept : List grammar.Container → Row → Kept
+kept [] r = record { count = 0; rest = r }
+kept (k ∷ ks) r = kept_if (keeps k false r) (kept ks) (record { count = 0; rest = r })

@@ -1,0 +1,134 @@
+//! The lines of an open code block (CommonMark 4.4 and 4.5).
+
+ghost use Rattle.std.specs.Prelude.{◌≡◌, List, ℕ, Option, OnOk, IfOk, false, map};
+ghost use Rattle.cmark_tree.specs.Building.{IsPlaced};
+ghost use Rattle.cmark_items.specs.Tables.{tables};
+ghost use Rattle.cmark_grammar.specs.Leaves as grammar;
+ghost use Rattle.cmark_grammar.specs.Leaves.{code_further};
+ghost use Rattle.cmark_lines.specs.Rests.{row_of};
+ghost use Rattle.cmark_blocks.specs.IndentedLines.{DrawsLines};
+
+use crate::state::{OpenLeaf, Pass};
+use cmark_builder::Builder;
+use cmark_leaves::{Stretch, draw_code_line, draw_stretch};
+use cmark_lines::{Further, LineRest, Verbatim};
+use cmark_text::EntityLookup;
+use std::alloc::AllocError;
+
+/// Blank lines that belong to indented code, as nodes behind the last sibling. What waits of the lines before is handed in, and
+/// what waits then is answered.
+fn draw_blank_lines(
+    builder: &mut Builder<'_>,
+    lines: &[LineRest<'_>],
+    waits: Option<Stretch>,
+) -> Result<Option<Stretch>, AllocError>
+    requires { IsPlaced builder.old.tree }
+    ensures placed { IsPlaced builder.new.tree }
+    ensures lines { IfOk result (λ left. (text : List ℕ) → DrawsLines text builder.old builder.new (map row_of lines.now) waits left) }
+    ensures references { (tables builder.new.allocations).references ≡ (tables builder.old.allocations).references }
+{
+    let mut left = waits;
+    for line in lines {
+        left = draw_code_line(builder, *line, 4, left)?;
+    }
+    Ok(left)
+}
+
+impl<'a, E: EntityLookup> Pass<'a, E> {
+    ghost use Rattle.cmark_blocks.specs.declared.state.OpenLeaf.TheVariants as leaf;
+    ghost use Rattle.cmark_blocks.specs.Runs.{IsGood, IsRead};
+    ghost use Rattle.cmark_blocks.specs.Steps.{FeedsLeaf};
+
+    /// One more line behind an opening fence: the closing fence, or a line of code.
+    pub(crate) fn feed_fenced(
+        &mut self,
+        mark: u8,
+        size: usize,
+        indent: usize,
+        waits: Option<Stretch>,
+        rest: LineRest<'a>,
+    ) -> Result<(), AllocError>
+        requires good { IsGood self.old }
+        requires is { self.old.leaf ≡ leaf.Fenced mark size indent waits }
+        ensures good { IsGood self.new }
+        ensures runs { OnOk result (FeedsLeaf E.replacement rest.entry self.old self.new) }
+        ensures text { self.new.text ≡ self.old.text }
+    {
+        let fence = Verbatim::Fenced { mark, size, indent };
+        if let Further::Closes = fence.further(rest) {
+            draw_stretch(&mut self.builder, waits)?;
+            self.builder.close(rest.past());
+            self.leaf = OpenLeaf::Closed;
+            return Ok(());
+        }
+        let left = draw_code_line(&mut self.builder, rest, indent, waits)?;
+        self.leaf = OpenLeaf::Fenced(mark, size, indent, left);
+        Ok(())
+    }
+
+    /// One more line of indented code: the blank lines before it belong to the code too.
+    fn add_to_indented(
+        &mut self,
+        waits: Option<Stretch>,
+        end: usize,
+        rest: LineRest<'a>,
+    ) -> Result<(), AllocError>
+        requires good { IsGood self.old }
+        requires is { self.old.leaf ≡ leaf.Indented waits end }
+        requires goes_on { code_further (row_of rest) ≡ grammar.GoesOn }
+        ensures good { IsGood self.new }
+        ensures runs { OnOk result (FeedsLeaf E.replacement rest.entry self.old self.new) }
+        ensures text { self.new.text ≡ self.old.text }
+    {
+        let waits = draw_blank_lines(&mut self.builder, &self.blank_lines, waits)?;
+        let left = draw_code_line(&mut self.builder, rest, 4, waits)?;
+        self.blank_lines.clear();
+        self.leaf = OpenLeaf::Indented(left, rest.past());
+        Ok(())
+    }
+
+    /// A blank line behind indented code: it belongs to the code if a later line does.
+    fn keep_blank_line(&mut self, rest: LineRest<'a>) -> Result<(), AllocError>
+        requires good { IsGood self.old }
+        requires is { (waits : Option Stretch) × (end : ℕ) × (self.old.leaf ≡ leaf.Indented waits end) }
+        requires line { IsRead self.old.text.now rest }
+        requires waits { code_further (row_of rest) ≡ grammar.Waits }
+        ensures good { IsGood self.new }
+        ensures runs { OnOk result (FeedsLeaf E.replacement rest.entry self.old self.new) }
+        ensures text { self.new.text ≡ self.old.text }
+    {
+        self.blank_lines.push(rest)?;
+        Ok(())
+    }
+
+    /// One more line behind open indented code.
+    pub(crate) fn feed_indented(
+        &mut self,
+        waits: Option<Stretch>,
+        end: usize,
+        rest: LineRest<'a>,
+    ) -> Result<(), AllocError>
+        requires good { IsGood self.old }
+        requires is { self.old.leaf ≡ leaf.Indented waits end }
+        requires line { IsRead self.old.text.now rest }
+        requires bare { self.old.bare ≡ false }
+        ensures good { IsGood self.new }
+        ensures runs { OnOk result (FeedsLeaf E.replacement rest.entry self.old self.new) }
+        ensures text { self.new.text ≡ self.old.text }
+    {
+        match Verbatim::Indented.further(rest) {
+            Further::GoesOn => {
+                self.add_to_indented(waits, end, rest)?;
+                Ok(())
+            }
+            Further::Waits => {
+                self.keep_blank_line(rest)?;
+                Ok(())
+            }
+            Further::Closes | Further::Stops => {
+                self.begin_anew(rest)?;
+                Ok(())
+            }
+        }
+    }
+}

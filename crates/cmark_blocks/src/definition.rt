@@ -1,0 +1,135 @@
+//! Link reference definitions (CommonMark 4.7).
+
+ghost use Rattle.std.specs.Prelude.{◌≡◌, ◌≤◌, ℕ, List, drop, length, OnOk};
+ghost use Rattle.cmark_grammar.specs.LinkDefinitions.{line_ends};
+ghost use Rattle.cmark_definitions.specs.Shown.{written};
+ghost use Rattle.cmark_lines.specs.Rests.{IsIn};
+
+use crate::gathered::Gathered;
+use crate::state::{OpenLeaf, Pass};
+use cmark_definitions::{Definition, link_definition, scan_definition};
+use cmark_lines::LineRest;
+use cmark_text::EntityLookup;
+use std::alloc::AllocError;
+use std::mem;
+use std::ops::Range;
+
+/// How many lines end behind this place of a text.
+fn line_ends_behind(text: &str, place: usize) -> usize
+    requires { place ≤ length text.now }
+    ensures { result ≡ line_ends (drop place text.now) }
+{
+    text.as_bytes()[place..]
+        .iter()
+        .filter(|byte| **byte == b'\n')
+        .count()
+}
+
+impl<'a, E: EntityLookup> Pass<'a, E> {
+    ghost use Rattle.std.specs.Prelude.{false};
+    ghost use Rattle.cmark_blocks.specs.declared.state.OpenLeaf.TheVariants as leaf;
+    ghost use Rattle.cmark_blocks.specs.Runs.{IsGood, IsRead};
+    ghost use Rattle.cmark_blocks.specs.Steps.{StepsOver, BeginsBracket};
+    ghost use Rattle.cmark_blocks.specs.Gathered.{IsGathered, Gathers, Decides};
+    ghost use Rattle.cmark_blocks.specs.Found.{definition_kept, definition_begun, StopsAt};
+
+    /// Where the line ends that stands so many lines behind this one, in the paragraph that this one may begin.
+    fn stop_behind(&self, rest: LineRest<'a>, more: usize) -> usize
+        requires bare { self.now.bare ≡ false }
+        requires within { IsIn self.now.text.now rest }
+        ensures { StopsAt E.replacement self.now rest.entry more result }
+    {
+        let mut last = rest;
+        let mut left = more;
+        while left > 0 {
+            let Some(next) = self.text_ahead(last) else {
+                return last.stop();
+            };
+            last = next;
+            left -= 1;
+        }
+        last.stop()
+    }
+
+    /// Keeps a definition with these bytes of the text, unless there is one of its label.
+    fn keep_definition(
+        &mut self,
+        definition: &Definition<'_>,
+        span: Range<usize>,
+    ) -> Result<(), AllocError>
+        requires { IsGood self.old }
+        ensures good { IsGood self.new }
+        ensures runs { OnOk result (StepsOver E.replacement self.old self.new (λ text lookup. definition_kept lookup (written definition.now) span.start span.end)) }
+        ensures text { self.new.text ≡ self.old.text }
+        ensures blank_lines { self.new.blank_lines ≡ self.old.blank_lines }
+    {
+        let (label, kept) = link_definition(self.alloc, definition, span, self.entities)?;
+        self.builder.allocations.refdefs.insert(label, kept)?;
+        Ok(())
+    }
+
+    /// A definition begins with these bytes of the text, and takes so many lines to come.
+    fn begin_definition(
+        &mut self,
+        definition: &Definition<'_>,
+        span: Range<usize>,
+        more: usize,
+    ) -> Result<(), AllocError>
+        requires good { IsGood self.old }
+        requires closed { self.old.leaf ≡ leaf.Closed }
+        ensures good { IsGood self.new }
+        ensures runs { OnOk result (StepsOver E.replacement self.old self.new (λ text lookup. definition_begun lookup (written definition.now) span.start span.end more)) }
+        ensures text { self.new.text ≡ self.old.text }
+    {
+        self.begin_block();
+        self.keep_definition(definition, span)?;
+        self.leaf = OpenLeaf::Definition(more);
+        Ok(())
+    }
+
+    /// A line begins the link reference definition that stands in front of the text of a paragraph, or else that paragraph.
+    fn begin_gathered(
+        &mut self,
+        rest: LineRest<'a>,
+        gathered: &Gathered<'a>,
+    ) -> Result<(), AllocError>
+        requires good { IsGood self.old }
+        requires line { IsRead self.old.text.now rest }
+        requires closed { self.old.leaf ≡ leaf.Closed }
+        requires bare { self.old.bare ≡ false }
+        requires gathered { IsGathered self.old.text.now gathered.now }
+        requires holds { Gathers E.replacement self.old rest gathered.now }
+        requires decides { Decides E.replacement self.old gathered.now }
+        ensures good { IsGood self.new }
+        ensures runs { OnOk result (BeginsBracket E.replacement rest.entry self.old self.new) }
+        ensures text { self.new.text ≡ self.old.text }
+    {
+        let paragraph = gathered.text.as_str();
+        let Some(definition) = scan_definition(paragraph) else {
+            self.begin_paragraph(rest)?;
+            return Ok(());
+        };
+        let behind = line_ends_behind(paragraph, definition.end);
+        let more = gathered.lines.saturating_sub(behind);
+        let end = self.stop_behind(rest, more);
+        self.begin_definition(&definition, rest.words_begin()..end, more)?;
+        Ok(())
+    }
+
+    /// A line whose words begin with a bracket begins a link reference definition, or else a paragraph.
+    pub(crate) fn begin_bracket(&mut self, rest: LineRest<'a>) -> Result<(), AllocError>
+        requires good { IsGood self.old }
+        requires line { IsRead self.old.text.now rest }
+        requires closed { self.old.leaf ≡ leaf.Closed }
+        requires bare { self.old.bare ≡ false }
+        ensures good { IsGood self.new }
+        ensures runs { OnOk result (BeginsBracket E.replacement rest.entry self.old self.new) }
+        ensures text { self.new.text ≡ self.old.text }
+    {
+        let room = mem::replace(&mut self.room, String::new(self.alloc));
+        let gathered = self.gather(rest, room)?;
+        self.begin_gathered(rest, &gathered)?;
+        self.room = gathered.text;
+        Ok(())
+    }
+}

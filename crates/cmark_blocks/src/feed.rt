@@ -1,0 +1,161 @@
+//! One more line of the block pass.
+
+ghost use Rattle.std.specs.Prelude.{◌≡◌, ◌≤◌, List, ℕ, OnOk, false, length};
+ghost use Rattle.cmark_lines.specs.Rests.{row_of};
+ghost use Rattle.cmark_blocks.specs.Fed.{TakesLazy};
+
+use crate::state::{OpenLeaf, Pass};
+use cmark_lines::{LineRest, interrupts, underlines};
+use cmark_text::EntityLookup;
+use std::alloc::AllocError;
+
+/// Whether a lazy line may stand behind the leaf: behind a paragraph, or where one may begin behind a link reference definition
+/// (CommonMark 4.7 and 4.8).
+fn takes_lazy(leaf: OpenLeaf<'_>) -> bool
+    ensures { TakesLazy leaf.entry result }
+{
+    match leaf {
+        OpenLeaf::Paragraph(_) | OpenLeaf::Definition(_) => true,
+        OpenLeaf::Closed
+        | OpenLeaf::Indented(_, _)
+        | OpenLeaf::Fenced(_, _, _, _)
+        | OpenLeaf::Html(_) => false,
+    }
+}
+
+impl<'a, E: EntityLookup> Pass<'a, E> {
+    ghost use Rattle.cmark_blocks.specs.declared.state.OpenLeaf.TheVariants as leaf;
+    ghost use Rattle.cmark_blocks.specs.Runs.{IsGood, IsRead};
+    ghost use Rattle.cmark_blocks.specs.Steps.{FeedsLeaf, FeedsLazily};
+    ghost use Rattle.cmark_blocks.specs.Fed.{IsLazy, FeedsRest, Feeds};
+
+    /// One more line behind a paragraph with this last line: an underline, one more line of its text, or what ends it.
+    fn feed_paragraph(&mut self, last: LineRest<'a>, rest: LineRest<'a>) -> Result<(), AllocError>
+        requires good { IsGood self.old }
+        requires line { IsRead self.old.text.now rest }
+        requires is { self.old.leaf ≡ leaf.Paragraph last }
+        requires bare { self.old.bare ≡ false }
+        ensures good { IsGood self.new }
+        ensures runs { OnOk result (FeedsLeaf E.replacement rest.entry self.old self.new) }
+        ensures text { self.new.text ≡ self.old.text }
+    {
+        if let Some(level) = underlines(rest) {
+            self.underline(last, level, rest)?;
+            return Ok(());
+        }
+        if interrupts(rest, true) {
+            self.begin_anew(rest)?;
+        } else {
+            self.add_to_paragraph(last, rest)?;
+        }
+        Ok(())
+    }
+
+    /// One more line behind the first one of a link reference definition, to which so many further lines belong.
+    fn feed_definition(&mut self, left: usize, rest: LineRest<'a>) -> Result<(), AllocError>
+        requires good { IsGood self.old }
+        requires line { IsRead self.old.text.now rest }
+        requires is { self.old.leaf ≡ leaf.Definition left }
+        requires bare { self.old.bare ≡ false }
+        ensures good { IsGood self.new }
+        ensures runs { OnOk result (FeedsLeaf E.replacement rest.entry self.old self.new) }
+        ensures text { self.new.text ≡ self.old.text }
+    {
+        if left == 0 {
+            self.begin_anew(rest)?;
+            return Ok(());
+        }
+        self.leaf = OpenLeaf::Definition(left - 1);
+        Ok(())
+    }
+
+    /// A line that lacks no prefix, behind the open leaf.
+    fn feed_leaf(&mut self, rest: LineRest<'a>) -> Result<(), AllocError>
+        requires good { IsGood self.old }
+        requires line { IsRead self.old.text.now rest }
+        requires bare { self.old.bare ≡ false }
+        ensures good { IsGood self.new }
+        ensures runs { OnOk result (FeedsLeaf E.replacement rest.entry self.old self.new) }
+        ensures text { self.new.text ≡ self.old.text }
+    {
+        match self.leaf {
+            OpenLeaf::Closed => self.begin(rest),
+            OpenLeaf::Paragraph(last) => self.feed_paragraph(last, rest),
+            OpenLeaf::Definition(left) => self.feed_definition(left, rest),
+            OpenLeaf::Indented(waits, end) => self.feed_indented(waits, end, rest),
+            OpenLeaf::Fenced(mark, size, indent, waits) => {
+                self.feed_fenced(mark, size, indent, waits, rest)
+            }
+            OpenLeaf::Html(kind) => self.feed_html(kind, rest),
+        }
+    }
+
+    /// A lazy line: it goes on with a paragraph, or begins one behind a link reference definition (CommonMark 4.7 and 4.8).
+    fn feed_lazily(&mut self, rest: LineRest<'a>) -> Result<(), AllocError>
+        requires good { IsGood self.old }
+        requires line { IsRead self.old.text.now rest }
+        ensures good { IsGood self.new }
+        ensures runs { OnOk result (FeedsLazily E.replacement rest.entry self.old self.new) }
+        ensures text { self.new.text ≡ self.old.text }
+    {
+        match self.leaf {
+            OpenLeaf::Paragraph(last) => self.add_to_paragraph(last, rest),
+            OpenLeaf::Definition(_) => {
+                self.close_leaf()?;
+                self.begin_paragraph(rest)?;
+                Ok(())
+            }
+            OpenLeaf::Closed
+            | OpenLeaf::Indented(_, _)
+            | OpenLeaf::Fenced(_, _, _, _)
+            | OpenLeaf::Html(_) => Ok(()),
+        }
+    }
+
+    /// Whether a line that some container misses goes on with the open leaf all the same.
+    fn is_lazy(&self, rest: LineRest<'a>) -> bool
+        ensures { IsLazy E.replacement self.now rest.entry result }
+    {
+        takes_lazy(self.leaf) && !interrupts(rest, false)
+    }
+
+    /// What so many containers, the outermost ones, left of a line: the others miss it.
+    fn feed_rest(&mut self, kept: usize, rest: LineRest<'a>) -> Result<(), AllocError>
+        requires good { IsGood self.old }
+        requires line { IsRead self.old.text.now rest }
+        requires bare { self.old.bare ≡ false }
+        requires few { kept ≤ length self.old.outer.items }
+        ensures good { IsGood self.new }
+        ensures runs { OnOk result (FeedsRest E.replacement kept rest.entry self.old self.new) }
+        ensures text { self.new.text ≡ self.old.text }
+    {
+        if kept == self.outer.len() {
+            self.feed_leaf(rest)?;
+            return Ok(());
+        }
+        if self.is_lazy(rest) {
+            self.feed_lazily(rest)?;
+            return Ok(());
+        }
+        self.close_leaf()?;
+        self.close_containers(kept);
+        self.begin(rest)?;
+        Ok(())
+    }
+
+    /// One more whole line of the text.
+    pub(crate) fn feed(&mut self, line: LineRest<'a>) -> Result<(), AllocError>
+        requires good { IsGood self.old }
+        requires line { IsRead self.old.text.now line }
+        ensures good { IsGood self.new }
+        ensures runs { OnOk result (Feeds E.replacement line.entry self.old self.new) }
+        ensures text { self.new.text ≡ self.old.text }
+        ensures past { OnOk result (self.new.past ≡ (row_of line.entry).past) }
+    {
+        let (kept, rest) = self.kept_by(line);
+        self.bare = false;
+        self.feed_rest(kept, rest)?;
+        self.past = line.past();
+        Ok(())
+    }
+}

@@ -1,0 +1,134 @@
+//! The text of a paragraph, gathered line by line (CommonMark 4.7).
+
+ghost use Rattle.std.specs.Prelude.{◌≡◌, ◌≤◌, true, length, string_bytes, IfOk};
+ghost use Rattle.cmark_grammar.specs.Columns.{bytes_of};
+ghost use Rattle.cmark_grammar.specs.LinkDefinitions.{line_end_of};
+ghost use Rattle.cmark_grammar.specs.Rows.{words_of};
+ghost use Rattle.cmark_lines.specs.Rests.{row_of};
+ghost use Rattle.cmark_blocks.specs.Runs.{IsRead};
+
+use crate::state::Pass;
+use cmark_definitions::is_settled;
+use cmark_lines::LineRest;
+use cmark_text::EntityLookup;
+use std::alloc::AllocError;
+
+/// The beginning of a paragraph's text: the first line behind its indent, and some more lines behind the prefixes of the open
+/// containers, with the line ends between them.
+#[derive(Drop)]
+pub(crate) struct Gathered<'a> {
+    pub text: String,
+    /// How many lines stand behind the first.
+    pub lines: usize,
+    /// The last line.
+    pub last: LineRest<'a>,
+}
+
+/// The words of a line of this text.
+fn words_in<'a>(text: &'a str, rest: LineRest<'a>) -> &'a str
+    requires { IsRead text.now rest }
+    ensures { result.now ≡ words_of (row_of rest.entry) }
+{
+    &text[rest.words_begin()..rest.stop()]
+}
+
+/// The bytes of a line of this text, up to its ending.
+fn bytes_in<'a>(text: &'a str, rest: LineRest<'a>) -> &'a str
+    requires { IsRead text.now rest }
+    ensures { result.now ≡ bytes_of (row_of rest.entry).columns }
+{
+    &text[rest.begin()..rest.stop()]
+}
+
+/// The line end between this line and the next: CR LF if it has two bytes, or else LF.
+fn line_end_of(rest: LineRest<'_>) -> &'static str
+    ensures { result.now ≡ line_end_of (row_of rest.entry) }
+{
+    if rest.past() - rest.stop() >= 2 {
+        "\r\n"
+    } else {
+        "\n"
+    }
+}
+
+impl<'a, E: EntityLookup> Pass<'a, E> {
+    ghost use Rattle.std.specs.Prelude.{false};
+    ghost use Rattle.cmark_blocks.specs.Runs.{IsRead};
+    ghost use Rattle.cmark_blocks.specs.Gathered.{IsGathered, Gathers, GathersMore, Decides};
+
+    /// The first line, in this memory.
+    fn gather_first(&self, rest: LineRest<'a>, room: String) -> Result<Gathered<'a>, AllocError>
+        requires line { IsRead self.now.text.now rest }
+        ensures gathered { IfOk result (IsGathered self.now.text.now) }
+        ensures holds { IfOk result (Gathers E.replacement self.now rest.entry) }
+    {
+        let mut text = room;
+        text.clear();
+        text.push_str(words_in(self.text, rest))?;
+        Ok(Gathered {
+            text,
+            lines: 0,
+            last: rest,
+        })
+    }
+
+    /// One more line, if the paragraph goes on with one. Answers whether it does.
+    fn gather_line(&self, gathered: &mut Gathered<'a>) -> Result<bool, AllocError>
+        requires bare { self.now.bare ≡ false }
+        requires gathered { IsGathered self.now.text.now gathered.old }
+        ensures gathered { IfOk result (λ more. IsGathered self.now.text.now gathered.new) }
+        ensures line { IfOk result (λ more. GathersMore E.replacement self.now gathered.old more gathered.new) }
+    {
+        let Some(rest) = self.text_ahead(gathered.last) else {
+            return Ok(false);
+        };
+        gathered.text.push_str(line_end_of(gathered.last))?;
+        gathered.text.push_str(bytes_in(self.text, rest))?;
+        gathered.lines += 1;
+        gathered.last = rest;
+        Ok(true)
+    }
+
+    /// One more line, and further ones until the text has this size. Answers whether the paragraph may go on with more.
+    fn gather_lines(&self, gathered: &mut Gathered<'a>, size: usize) -> Result<bool, AllocError>
+        requires bare { self.now.bare ≡ false }
+        requires gathered { IsGathered self.now.text.now gathered.old }
+        ensures gathered { IfOk result (λ more. IsGathered self.now.text.now gathered.new) }
+        ensures lines { IfOk result (λ more. GathersMore E.replacement self.now gathered.old more gathered.new) }
+        ensures long { IfOk result (λ more. more ≡ true → size ≤ length (string_bytes gathered.new.text)) }
+    {
+        if !self.gather_line(gathered)? {
+            return Ok(false);
+        }
+        while gathered.text.len() < size {
+            if !self.gather_line(gathered)? {
+                return Ok(false);
+            }
+        }
+        Ok(true)
+    }
+
+    /// The text of the paragraph that this line may begin, as far as it is needed to know whether a link reference definition
+    /// stands in front of it. The text is searched only when it is twice as long as at the last search, so that it is read a few
+    /// times, however many lines it has. It stands in this memory.
+    pub(crate) fn gather(
+        &self,
+        rest: LineRest<'a>,
+        room: String,
+    ) -> Result<Gathered<'a>, AllocError>
+        requires line { IsRead self.now.text.now rest }
+        requires bare { self.now.bare ≡ false }
+        ensures gathered { IfOk result (IsGathered self.now.text.now) }
+        ensures holds { IfOk result (Gathers E.replacement self.now rest.entry) }
+        ensures decides { IfOk result (Decides E.replacement self.now) }
+    {
+        let mut gathered = self.gather_first(rest, room)?;
+        while !is_settled(gathered.text.as_str()) {
+            let size = gathered.text.len().saturating_mul(2);
+            if !self.gather_lines(&mut gathered, size)? {
+                return Ok(gathered);
+            }
+        }
+        Ok(gathered)
+    }
+}

@@ -1,0 +1,38 @@
+//! The lines of an open HTML block (CommonMark 4.6).
+
+ghost use Rattle.std.specs.Prelude.{◌≡◌, List, ℕ, OnOk, false};
+
+use crate::state::{OpenLeaf, Pass};
+use cmark_leaves::draw_html_line;
+use cmark_lines::{Further, HtmlKind, LineRest, Verbatim};
+use cmark_text::EntityLookup;
+use std::alloc::AllocError;
+
+impl<'a, E: EntityLookup> Pass<'a, E> {
+    ghost use Rattle.cmark_blocks.specs.declared.state.OpenLeaf.TheVariants as leaf;
+    ghost use Rattle.cmark_blocks.specs.Runs.{IsGood, IsRead};
+    ghost use Rattle.cmark_blocks.specs.Steps.{FeedsLeaf};
+
+    /// One more line behind an open HTML block: the block goes on or ends with it, or has ended before it.
+    pub(crate) fn feed_html(&mut self, kind: HtmlKind, rest: LineRest<'a>) -> Result<(), AllocError>
+        requires good { IsGood self.old }
+        requires is { self.old.leaf ≡ leaf.Html kind }
+        requires line { IsRead self.old.text.now rest }
+        requires bare { self.old.bare ≡ false }
+        ensures good { IsGood self.new }
+        ensures runs { OnOk result (FeedsLeaf E.replacement rest.entry self.old self.new) }
+        ensures text { self.new.text ≡ self.old.text }
+    {
+        let further = Verbatim::Html(kind).further(rest);
+        if let Further::Stops = further {
+            self.begin_anew(rest)?;
+            return Ok(());
+        }
+        draw_html_line(&mut self.builder, rest)?;
+        if let Further::Closes = further {
+            self.builder.close(rest.past());
+            self.leaf = OpenLeaf::Closed;
+        }
+        Ok(())
+    }
+}

@@ -1,0 +1,163 @@
+//! All that a line begins: containers, and then a leaf (CommonMark 3 to 5).
+
+ghost use Rattle.std.specs.Prelude.{◌≡◌, ◌<◌, Bool, ℕ, List, false, length, OnOk, IfOk, IfSome};
+ghost use Rattle.cmark_block_model.specs.BlockPass.{container_begun, is_item};
+ghost use Rattle.cmark_lines.specs.Opened.{InfoIsIn};
+ghost use Rattle.cmark_lines.specs.Rests.{row_of};
+ghost use Rattle.cmark_lines.specs.Starts.{shown_start, inside_of};
+ghost use Rattle.cmark_blocks.specs.Entered.{OpensAs, IsNoContainer, HasNumber};
+
+use crate::state::Pass;
+use cmark_lines::{ContainerStart, LineRest, Opening, what_opens};
+use cmark_text::EntityLookup;
+use std::alloc::AllocError;
+
+/// The line behind the marker of a container that it begins.
+fn behind_marker<'a>(start: ContainerStart<'a>) -> LineRest<'a>
+    ensures { result ≡ inside_of start.entry }
+{
+    match start {
+        ContainerStart::Quote(inside) => inside,
+        ContainerStart::Item(_, inside) => inside,
+    }
+}
+
+impl<'a, E: EntityLookup> Pass<'a, E> {
+    ghost use Rattle.cmark_blocks.specs.declared.state.OpenLeaf.TheVariants as leaf;
+    ghost use Rattle.cmark_blocks.specs.Runs.{IsGood, IsRead};
+    ghost use Rattle.cmark_blocks.specs.Steps.{Steps, Begins, BeginsAnew};
+    ghost use Rattle.cmark_blocks.specs.Entered.{BeginsAs, BeginsFirst};
+
+    /// A container begins on a line. Answers whether it is an item.
+    fn begin_container(
+        &mut self,
+        start: ContainerStart<'a>,
+        rest: LineRest<'a>,
+    ) -> Result<bool, AllocError>
+        requires good { IsGood self.old }
+        requires number { HasNumber start }
+        ensures good { IsGood self.new }
+        ensures runs { OnOk result (Steps E.replacement self.old self.new (container_begun (shown_start start.entry) (row_of rest.entry))) }
+        ensures item { IfOk result (λ item. item ≡ is_item (shown_start start.entry)) }
+        ensures text { self.new.text ≡ self.old.text }
+        ensures leaf { self.new.leaf ≡ self.old.leaf }
+        ensures bare { self.new.bare ≡ self.old.bare }
+    {
+        match start {
+            ContainerStart::Quote(_) => {
+                self.begin_quote(rest.words_begin())?;
+                Ok(false)
+            }
+            ContainerStart::Item(item, _) => {
+                self.begin_item(item, rest.begin())?;
+                Ok(true)
+            }
+        }
+    }
+
+    /// A blank line begins nothing. `bare` says that it is what stands behind the marker of an item.
+    fn pass_blank_line(&mut self, bare: bool)
+        requires { IsGood self.old }
+        ensures good { IsGood self.new }
+        ensures runs { Steps E.replacement self.old self.new (λ p. record p { inner = record p.inner { blank = p.inner.has_block }; bare = bare }) }
+        ensures text { self.new.text ≡ self.old.text }
+    {
+        self.inner.blank = self.inner.has_block;
+        self.bare = bare;
+    }
+
+    /// What a line begins, with no leaf open, where that is no container.
+    fn begin_leaf(
+        &mut self,
+        opening: Opening<'a>,
+        rest: LineRest<'a>,
+        bare: bool,
+    ) -> Result<(), AllocError>
+        requires good { IsGood self.old }
+        requires line { IsRead self.old.text.now rest }
+        requires closed { self.old.leaf ≡ leaf.Closed }
+        requires bare { self.old.bare ≡ false }
+        requires opens { OpensAs opening (row_of rest) }
+        requires leaf { IsNoContainer opening }
+        requires info_placed { InfoIsIn self.old.text.now opening (row_of rest) }
+        ensures good { IsGood self.new }
+        ensures runs { OnOk result (BeginsAs E.replacement opening.entry bare rest.entry self.old self.new) }
+        ensures text { self.new.text ≡ self.old.text }
+    {
+        match opening {
+            Opening::Blank => {
+                self.pass_blank_line(bare);
+                Ok(())
+            }
+            Opening::Nests(_) => Ok(()),
+            Opening::IndentedCode => self.begin_indented(rest),
+            Opening::Html(kind) => self.begin_html(kind, rest),
+            Opening::ThematicBreak => self.begin_thematic_break(rest),
+            Opening::AtxHeading(level) => self.begin_heading(level, rest),
+            Opening::FencedCode { indent, fence } => self.begin_fenced(indent, fence, rest),
+            Opening::Bracket => self.begin_bracket(rest),
+            Opening::Plain => self.begin_paragraph(rest),
+        }
+    }
+
+    /// The first thing that a line begins, with no leaf open: where it is a container, the line behind the container's marker is
+    /// answered, and whether the container is an item. `bare` says that this is a line behind the marker of an item.
+    fn begin_first(
+        &mut self,
+        rest: LineRest<'a>,
+        bare: bool,
+    ) -> Result<Option<(LineRest<'a>, bool)>, AllocError>
+        requires good { IsGood self.old }
+        requires line { IsRead self.old.text.now rest }
+        requires closed { self.old.leaf ≡ leaf.Closed }
+        requires bare { self.old.bare ≡ false }
+        ensures good { IsGood self.new }
+        ensures runs { IfOk result (λ entered. BeginsFirst E.replacement bare rest.entry entered self.old self.new) }
+        ensures line { IfOk result (λ entered. IfSome entered (λ inside. IsRead self.old.text.now inside.0)) }
+        ensures shorter { IfOk result (λ entered. IfSome entered (λ inside. length (row_of inside.0).columns < length (row_of rest.entry).columns)) }
+        ensures text { self.new.text ≡ self.old.text }
+        ensures leaf { IfOk result (λ entered. IfSome entered (λ inside. self.new.leaf ≡ leaf.Closed)) }
+        ensures bare { IfOk result (λ entered. IfSome entered (λ inside. self.new.bare ≡ false)) }
+    {
+        let opening = what_opens(rest);
+        if let Opening::Nests(start) = opening {
+            let item = self.begin_container(start, rest)?;
+            return Ok(Some((behind_marker(start), item)));
+        }
+        self.begin_leaf(opening, rest, bare)?;
+        Ok(None)
+    }
+
+    /// All that a line begins, with no leaf open.
+    pub(crate) fn begin(&mut self, line: LineRest<'a>) -> Result<(), AllocError>
+        requires good { IsGood self.old }
+        requires line { IsRead self.old.text.now line }
+        requires closed { self.old.leaf ≡ leaf.Closed }
+        requires bare { self.old.bare ≡ false }
+        ensures good { IsGood self.new }
+        ensures runs { OnOk result (Begins E.replacement line.entry self.old self.new) }
+        ensures text { self.new.text ≡ self.old.text }
+    {
+        let mut rest = line;
+        let mut bare = false;
+        while let Some((inside, item)) = self.begin_first(rest, bare)? {
+            rest = inside;
+            bare = item;
+        }
+        Ok(())
+    }
+
+    /// All that a line begins, behind the open leaf, which ends before it.
+    pub(crate) fn begin_anew(&mut self, rest: LineRest<'a>) -> Result<(), AllocError>
+        requires good { IsGood self.old }
+        requires line { IsRead self.old.text.now rest }
+        requires bare { self.old.bare ≡ false }
+        ensures good { IsGood self.new }
+        ensures runs { OnOk result (BeginsAnew E.replacement rest.entry self.old self.new) }
+        ensures text { self.new.text ≡ self.old.text }
+    {
+        self.close_leaf()?;
+        self.begin(rest)?;
+        Ok(())
+    }
+}

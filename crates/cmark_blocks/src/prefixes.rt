@@ -1,0 +1,97 @@
+//! The prefixes of the open containers in front of a line (CommonMark 5).
+
+ghost use Rattle.std.specs.Prelude.{◌≡◌, ◌+◌, ℕ, Option, false, option_map};
+ghost use Rattle.cmark_grammar.specs.Containers.{Quote, Item as ListItem, keeps};
+ghost use Rattle.cmark_grammar.specs.Rows.{begin_of};
+ghost use Rattle.cmark_tree.specs.Zip.{Zip};
+ghost use Rattle.cmark_tree.specs.Tree.{Holds, IsTree};
+ghost use Rattle.cmark_scan.specs.LineStart.{row_from, line_of};
+ghost use Rattle.cmark_blocks.specs.Prefixes.{shown_container, container_in, containers_of, kept};
+
+use cmark_items::{Item, ItemBody};
+use cmark_lines::Container;
+use cmark_scan::LineStart;
+use cmark_text::Options;
+use cmark_tree::Tree;
+
+/// The container that a node with this body is, if it is one.
+fn container_of(body: ItemBody) -> Option<Container>
+    ensures { option_map shown_container result ≡ container_in body }
+{
+    match body {
+        ItemBody::BlockQuote(_) => Some(Container::Quote),
+        ItemBody::ListItem(width) => Some(Container::Item { width }),
+        _ => None,
+    }
+}
+
+/// The line behind a block quote's prefix, if it has one (CommonMark 5.1).
+fn behind_quote<'a>(line: LineStart<'a>) -> Option<LineStart<'a>>
+    ensures { (at past : ℕ) → option_map (row_from at past) result ≡ keeps Quote false (row_from at past line.entry) }
+{
+    let mut behind = line;
+    behind.scan_space_upto(3);
+    if behind.scan_blockquote_marker() {
+        Some(behind)
+    } else {
+        None
+    }
+}
+
+/// The line behind so many columns of spaces and tabs, or behind fewer if nothing follows them (CommonMark 5.2).
+fn behind_width<'a>(line: LineStart<'a>, width: usize) -> Option<LineStart<'a>>
+    ensures { (at past mark : ℕ) (number : Option ℕ) → option_map (row_from at past) result ≡ keeps (ListItem mark number width) false (row_from at past line.entry) }
+{
+    let mut behind = line;
+    if !behind.scan_space(width) && !behind.is_at_eol() {
+        return None;
+    }
+    Some(behind)
+}
+
+/// The line behind this container's prefix, if the container keeps the line.
+fn behind_prefix<'a>(container: Container, line: LineStart<'a>) -> Option<LineStart<'a>>
+    ensures { (at past : ℕ) → option_map (row_from at past) result ≡ keeps (shown_container container) false (row_from at past line.entry) }
+{
+    match container {
+        Container::Quote => behind_quote(line),
+        Container::Item { width } => behind_width(line, width),
+    }
+}
+
+/// How many of the open containers, from the outermost on, a line continues (CommonMark 5). The open containers are the block
+/// quotes and the list items on the tree's path; its other nodes are passed over. The line's start moves behind the prefixes of
+/// those containers: where one lacks its prefix, it stands behind the prefixes before it. Nothing else changes.
+///
+/// A blank line directly behind an item whose first line was blank counts as kept, though it ends the item: the tree does not
+/// tell what lines an item has. No option has a rule of its own yet.
+pub fn scan_containers(tree: &Tree<Item>, line: &mut LineStart<'_>, _options: Options) -> usize
+    requires { IsTree tree.now }
+    ensures count { (z : Zip Item) → Holds tree.now z → (at past : ℕ) → result ≡ (kept (containers_of z.up) (row_from at past line.old)).count }
+    ensures rest { (z : Zip Item) → Holds tree.now z → (at past : ℕ) → row_from at past line.new ≡ (kept (containers_of z.up) (row_from at past line.old)).rest }
+{
+    let mut count = 0;
+    for ix in tree.walk_spine() {
+        let Some(container) = container_of(tree.item(*ix).body) else {
+            continue;
+        };
+        let Some(behind) = behind_prefix(container, *line) else {
+            return count;
+        };
+        *line = behind;
+        count += 1;
+    }
+    count
+}
+
+/// How many bytes of the prefixes of the open containers stand in front of the line that these bytes begin with, which ends
+/// before the first LF or CR: the bytes that `scan_containers` passes. Of a tab that belongs to a prefix in part, the byte is
+/// counted.
+pub fn skip_container_prefixes(tree: &Tree<Item>, bytes: &[u8], options: Options) -> usize
+    requires { IsTree tree.now }
+    ensures { (z : Zip Item) → Holds tree.now z → (at past : ℕ) → begin_of (kept (containers_of z.up) (line_of at past bytes.now)).rest ≡ at + result }
+{
+    let mut line = LineStart::new(bytes);
+    scan_containers(tree, &mut line, options);
+    line.bytes_scanned()
+}

@@ -1,0 +1,25 @@
+use Rattle.std.proofs.Common.{◌≡◌, Some, None, option_map, sym, ap, ◌∙◌, subst}
+use Rattle.cmark_grammar.specs.LinkDefinitions.{definition_in}
+use Rattle.cmark_definitions.specs.Rests.{HasLineEnds}
+use Rattle.cmark_definitions.specs.Settled.{end_settles, settles_as, settles}
+use Rattle.cmark_definitions.specs.Shown.{shown_definition}
+use Rattle.cmark_definitions.proofs.RestSteps.{ends_behind}
+use Rattle.cmark_definitions.proofs.SettledSteps.{settled}
+use Rattle.cmark_definitions.proofs.settled.is_settled.Goals as goal
+
+pub end_settles-requires : goal.end_settles-requires
+end_settles-requires c = subst HasLineEnds (sym c.range_from.ensures.value) (ends_behind c.in-Some.definition.end c.args.paragraph.now c.requires.line_ends)
+
+pub returns-in-Some-clause-settled : goal.returns-in-Some-clause-settled
+returns-in-Some-clause-settled c h =
+    let paragraph = c.args.paragraph.now in
+    let definition = c.in-Some.definition in
+    let found : Some (shown_definition paragraph definition) ≡ definition_in paragraph = ap (option_map (shown_definition paragraph)) (sym c.in-Some.is) ∙ c.scan_definition.ensures.value in
+    let is : settles paragraph ≡ c.end_settles.result = ap (settles_as paragraph) (sym found) ∙ ap (end_settles (shown_definition paragraph definition).definition.title) (sym c.range_from.ensures.value) ∙ sym c.end_settles.ensures in
+    settled paragraph (is ∙ h)
+
+pub returns-in-None-clause-settled : goal.returns-in-None-clause-settled
+returns-in-None-clause-settled c h =
+    let paragraph = c.args.paragraph.now in
+    let found : None ≡ definition_in paragraph = ap (option_map (shown_definition paragraph)) (sym c.in-None.is) ∙ c.scan_definition.ensures.value in
+    settled paragraph (ap (settles_as paragraph) (sym found) ∙ sym c.label_settles.ensures ∙ h)

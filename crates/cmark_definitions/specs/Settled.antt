@@ -1,0 +1,50 @@
+-- Whether more text behind a text can change the definition that stands in front.
+use Rattle.std.specs.Prelude.{◌≡◌, ℕ, Bool, true, false, ◌==◌, ◌&&◌, ◌||◌, not, if◌then◌else◌, List, [], ◌∷◌, ◌++◌, Option, Some, None, option_map}
+use Rattle.cmark_grammar.specs.Leaves.{is_empty}
+use Rattle.cmark_grammar.specs.Letters.{first_is}
+use Rattle.cmark_grammar.specs.LinkDefinitions.{Found, Defined, escapes_next, label_in, behind_blanks, behind_separator, definition_in}
+
+-- what was read, with more bytes behind it
+abbrev pub read_before : List ℕ → Found → Found
+read_before more found = record { bytes = found.bytes; behind = found.behind ++ more }
+
+abbrev pub defined_before : List ℕ → Defined → Defined
+defined_before more found = record { definition = found.definition; behind = found.behind ++ more }
+
+-- whatever follows the text, the same definition stands in front, or none does
+abbrev pub IsSettled : List ℕ → Type 0
+IsSettled bs = (more : List ℕ) → definition_in (bs ++ more) ≡ option_map (defined_before more) (definition_in bs)
+
+-- a closer or a refused byte stands here that no backslash escapes
+abbrev pub ends_in : (escaped : Bool) → (closer refused : ℕ) → List ℕ → Bool
+ends_in escaped closer refused [] = false
+ends_in escaped closer refused (b ∷ bs) = if not escaped && ((b == closer) || (b == refused)) then true else ends_in (escapes_next escaped b) closer refused bs
+
+-- the title that begins here ends, or none begins
+abbrev pub title_ends : List ℕ → Bool
+title_ends [] = false
+title_ends (b ∷ bs) =
+    if (b == 34) || (b == 39) then ends_in false b b bs
+    else if b == 40 then ends_in false 41 40 bs
+    else true
+
+-- behind a title more than blanks must follow, and behind a destination a title that ends, or none
+abbrev pub end_settles : Option (List ℕ) → (behind : List ℕ) → Bool
+end_settles (Some title) behind = not (is_empty (behind_blanks behind))
+end_settles None behind = title_ends (behind_separator behind)
+
+-- the label ends, if it is one, and no colon follows
+abbrev pub lacks_colon : Option Found → Bool
+lacks_colon None = true
+lacks_colon (Some label) = first_is (λ b. not (b == 58)) label.behind
+
+abbrev pub label_settles : List ℕ → Bool
+label_settles [] = false
+label_settles (b ∷ bs) = (b == 91) && (ends_in false 93 91 bs && lacks_colon (label_in bs))
+
+abbrev pub settles_as : List ℕ → Option Defined → Bool
+settles_as bs None = label_settles bs
+settles_as bs (Some found) = end_settles found.definition.title found.behind
+
+abbrev pub settles : List ℕ → Bool
+settles bs = settles_as bs (definition_in bs)
