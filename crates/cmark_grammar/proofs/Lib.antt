@@ -11,6 +11,7 @@ pub mod BoundaryLaws
 pub mod ColumnSteps
 pub mod CountLaws
 pub mod DocumentsJoin
+pub mod EmphasisSamples
 pub mod LineSteps
 pub mod NotDerived
 pub mod OutlineOne

@@ -18,9 +18,12 @@ pub mod Derivation
 pub mod Destinations
 pub mod Document
 pub mod DrawnDocument
+pub mod Emphasis
+pub mod EmphasisModel
 pub mod Entities
 pub mod Escapes
 pub mod Event
+pub mod Flanking
 pub mod Html
 pub mod HtmlBlocks
 pub mod InlineHtml
@@ -42,6 +45,7 @@ pub mod Ranges
 pub mod Reading
 pub mod References
 pub mod Rows
+pub mod Spans
 pub mod Tables
 pub mod Tag
 pub mod TagEnd
