@@ -1,2 +1,4 @@
 pub mod Sound
 pub mod One
+pub mod Bridge
+pub mod Stacks

@@ -2,3 +2,8 @@
 #![tactic(auto)]
 
 pub mod laws;
+mod pairing;
+mod run;
+
+pub use pairing::pair_runs;
+pub use run::{Pair, Run};

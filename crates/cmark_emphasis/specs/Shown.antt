@@ -1,0 +1,19 @@
+-- What runs and pairs are in the words of the grammar.
+use Rattle.std.specs.Prelude.{ℕ, ◌+◌, ◌<◌, ◌^◌, List, map, reverse}
+use Rattle.cmark_grammar.specs.Emphasis.{Run, Pair}
+use Rattle.cmark_emphasis.specs.declared.run.Run as code_run
+use Rattle.cmark_emphasis.specs.declared.run.Pair as code_pair
+
+abbrev pub shown_run : code_run.Run → Run
+shown_run run = record { mark = run.mark; size = run.size; at = run.at; left = run.left; opens = run.opens; closes = run.closes }
+
+abbrev pub shown_pair : code_pair.Pair → Pair
+shown_pair pair = record { mark = pair.mark; from = pair.from; to = pair.to; count = pair.count }
+
+-- the places of the run are numbers that the machine has
+abbrev pub IsPlaced : code_run.Run → Type 0
+IsPlaced run = run.at + run.left < 2 ^ 64
+
+-- the open runs, the nearest first, of a stack whose last is the nearest
+abbrev pub open_runs : List code_run.Run → List Run
+open_runs stack = reverse (map shown_run stack)
