@@ -2,3 +2,4 @@ pub mod Sound
 pub mod One
 pub mod Bridge
 pub mod Stacks
+pub mod Categories

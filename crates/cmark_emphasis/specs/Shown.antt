@@ -1,6 +1,8 @@
 -- What runs and pairs are in the words of the grammar.
 use Rattle.std.specs.Prelude.{ℕ, ◌+◌, ◌<◌, ◌^◌, List, map, reverse}
 use Rattle.cmark_grammar.specs.Emphasis.{Run, Pair}
+use Rattle.cmark_grammar.specs.Flanking.{Flanking}
+use Rattle.cmark_emphasis.specs.declared.flanking.Flanking as code_flanking
 use Rattle.cmark_emphasis.specs.declared.run.Run as code_run
 use Rattle.cmark_emphasis.specs.declared.run.Pair as code_pair
 
@@ -17,3 +19,6 @@ IsPlaced run = run.at + run.left < 2 ^ 64
 -- the open runs, the nearest first, of a stack whose last is the nearest
 abbrev pub open_runs : List code_run.Run → List Run
 open_runs stack = reverse (map shown_run stack)
+
+abbrev pub shown_flanking : code_flanking.Flanking → Flanking
+shown_flanking flanking = record { opens = flanking.opens; closes = flanking.closes }

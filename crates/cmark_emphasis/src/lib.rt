@@ -1,9 +1,11 @@
 //! Emphasis: delimiter runs, which of them pair, and the spans that they become (CommonMark 6.2, GFM 6.5).
 #![tactic(auto)]
 
+mod flanking;
 pub mod laws;
 mod pairing;
 mod run;
 
+pub use flanking::{Flanking, flanking_of};
 pub use pairing::pair_runs;
 pub use run::{Pair, Run};
