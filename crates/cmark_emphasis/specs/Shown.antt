@@ -3,6 +3,10 @@ use Rattle.std.specs.Prelude.{ℕ, ◌+◌, ◌<◌, ◌^◌, List, map, reverse
 use Rattle.cmark_grammar.specs.Emphasis.{Run, Pair}
 use Rattle.cmark_grammar.specs.Flanking.{Flanking}
 use Rattle.cmark_emphasis.specs.declared.flanking.Flanking as code_flanking
+use Rattle.cmark_grammar.specs.Spans.{SpanKind}
+use Rattle.cmark_grammar.specs.Spans as grammar
+use Rattle.cmark_emphasis.specs.declared.slot.SpanKind as code_kind
+use Rattle.cmark_emphasis.specs.declared.slot.SpanKind.TheVariants as code
 use Rattle.cmark_emphasis.specs.declared.run.Run as code_run
 use Rattle.cmark_emphasis.specs.declared.run.Pair as code_pair
 
@@ -22,3 +26,10 @@ open_runs stack = reverse (map shown_run stack)
 
 abbrev pub shown_flanking : code_flanking.Flanking → Flanking
 shown_flanking flanking = record { opens = flanking.opens; closes = flanking.closes }
+
+abbrev pub shown_kind : code_kind.SpanKind → SpanKind
+shown_kind code.Emphasis = grammar.Emphasis
+shown_kind code.Strong = grammar.Strong
+shown_kind code.SingleTilde = grammar.SingleTilde
+shown_kind code.DoubleTilde = grammar.DoubleTilde
+shown_kind code.Caret = grammar.Caret

@@ -5,7 +5,9 @@ mod flanking;
 pub mod laws;
 mod pairing;
 mod run;
+mod slot;
 
 pub use flanking::{Flanking, flanking_of};
 pub use pairing::pair_runs;
 pub use run::{Pair, Run};
+pub use slot::{Slot, SpanKind};
