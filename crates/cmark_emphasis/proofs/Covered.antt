@@ -123,7 +123,7 @@ pub record Paired (s behind : List Slot) (b : List Piece) (o c : Run) (front : L
   pub within : IsWithin (length (s ++ (stays c.left ++ behind))) (pair_of o c)
 
 pub covers-pair : (s behind : List Slot) (b : List Piece) (o c : Run) (front : List Piece) → Covers s (b ++ (Standing o ∷ front)) → length s ≡ c.at → Paired s behind b o c front
-unfolding rest_of_opener rest_of_closer pair_of mark_pair
+unfolding rest_of_opener rest_of_closer pair_of
 covers-pair s behind b o c front h place =
     let i = covers-cut b (Standing o ∷ front) s h in
     let n = paired_count o c in

@@ -6,3 +6,4 @@ pub mod Categories
 pub mod Writes
 pub mod Covered
 pub mod Marked
+pub mod Innermost

@@ -1,6 +1,10 @@
 -- The pairs of siblings, written into slots, make the slots of the spans.
 use Rattle.std.proofs.Common.{◌≡◌, ℕ, zero, suc, ◌+◌, ◌-◌, ◌<◌, ◌≤◌, List, [], ◌∷◌, ◌++◌, length, refl, sym, ap, ◌∙◌, subst, arith, append_assoc, length-append}
+use Rattle.std.specs.Prelude.{map, drop, take, replicate}
 use Rattle.std.proofs.lemmas.List.{append-nil}
+use Rattle.std.proofs.Math.ListN.{drop_of_length-le}
+use Rattle.cmark_emphasis.specs.Shown.{shown_pair}
+use Rattle.cmark_emphasis.specs.declared.run.Pair as code_pair
 use Rattle.cmark_grammar.specs.Spans.{SpanKind, Emphasis, Strong, SingleTilde, DoubleTilde, Caret, Spans, Nil, Single, Around}
 use Rattle.cmark_grammar.specs.Emphasis.{Run, Pair, Sibling, Plain, Delimiter, Piece, Whole, Standing, pair_of, rest_of_opener, rest_of_closer, wrapped, row, keep, left_open, stand, Closes, StandFrom, places_taken}
 use Rattle.cmark_grammar.specs.EmphasisModel.{closed, resolve, pairs_of, spans_of}
@@ -111,3 +115,29 @@ slots_balance (Around s inside after) kinds rest h =
 
 pub balanced : (f : Spans) → AreBalanced [] (slots_of f)
 balanced f = subst (AreBalanced []) (append-nil (slots_of f)) (slots_balance f [] [] tt)
+
+replicate-stays : (n : ℕ) → replicate n slot.Single ≡ stays n
+replicate-stays zero = refl
+replicate-stays (suc n) = ap (λ l. slot.Single ∷ l) (replicate-stays n)
+
+take-none : (n : ℕ) → (let none : List Slot = [] in take n none) ≡ []
+take-none zero = refl
+take-none (suc n) = refl
+
+-- slots at first
+pub fresh : (n len : ℕ) (old new : List Slot) → new ≡ take n old ++ replicate (n - len) slot.Single → old ≡ [] → len ≡ 0 → new ≡ stays n
+fresh n len old new e o z =
+    let m : n - len ≡ n = omega (arith, z) in
+    e ∙ ap (λ l. take n l ++ replicate (n - len) slot.Single) o ∙ ap (λ l. l ++ replicate (n - len) slot.Single) (take-none n) ∙ ap (λ k. replicate k slot.Single) m ∙ replicate-stays n
+
+-- slots at the end
+pub ends : (ts : List Sibling) (count i : ℕ) (pairs : List code_pair.Pair) (slots : List Slot) → length pairs ≤ i → mark_pairs (map shown_pair (drop i pairs)) slots ≡ mark_pairs (map shown_pair pairs) (stays count) → StandFrom 0 ts → places_taken ts ≡ count → pairs_of ts ≡ map shown_pair pairs → slots ≡ slots_of (spans_of ts)
+ends ts count i pairs slots le e st n p =
+    sym (ap (λ l. mark_pairs (map shown_pair l) slots) (drop_of_length-le pairs le))
+    ∙ e
+    ∙ ap (λ l. mark_pairs l (stays count)) (sym p)
+    ∙ ap (λ k. mark_pairs (pairs_of ts) (stays k)) (sym n)
+    ∙ pairs-marked ts st
+
+pub within_all : (count : ℕ) (pairs : List Pair) → ArePairs count pairs → AllWithin count pairs
+within_all count pairs h = subst (AllWithin count) h.are (subst (λ n. AllWithin n (pairs_of h.siblings)) h.taken (pairs-within h.siblings h.stand))

@@ -58,7 +58,7 @@ mark_spans (kind ∷ kinds) from to slots =
     mark_spans kinds (from - span_width kind) (to + span_width kind)
     (write to (closing kind) (write (from - span_width kind) (opening kind) slots))
 
-unfoldable pub mark_pair : Pair → List Slot → List Slot
+abbrev pub mark_pair : Pair → List Slot → List Slot
 mark_pair pair slots = mark_spans (kinds_of pair.mark pair.count) pair.from pair.to slots
 
 abbrev pub mark_pairs : List Pair → List Slot → List Slot

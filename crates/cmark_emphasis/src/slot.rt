@@ -1,6 +1,6 @@
 //! The slots of a list of siblings: one for each, in their order, which say where spans begin and end.
 
-ghost use Rattle.std.specs.Prelude.{◌≡◌};
+ghost use Rattle.std.specs.Prelude.{◌≡◌, ◌≤◌};
 ghost use Rattle.cmark_grammar.specs.Spans.{span_width};
 ghost use Rattle.cmark_emphasis.specs.Shown.{shown_kind};
 
@@ -22,7 +22,9 @@ pub enum SpanKind {
 impl SpanKind {
     /// How many bytes open such a span, and as many close it.
     pub fn width(self) -> usize
-        ensures { result ≡ span_width (shown_kind self) }
+        ensures value { result ≡ span_width (shown_kind self) }
+        ensures least { 1 ≤ result }
+        ensures most { result ≤ 2 }
     {
         match self {
             SpanKind::Strong | SpanKind::DoubleTilde => 2,
