@@ -16,6 +16,7 @@ pub mod LineSteps
 pub mod NotDerived
 pub mod OutlineOne
 pub mod OutlineSound
+pub mod QuoteSamples
 pub mod RangeLaws
 pub mod ReferenceLaws
 pub mod RowEdges

@@ -41,6 +41,7 @@ pub mod Openings
 pub mod Options
 pub mod Outline
 pub mod OutlineModel
+pub mod Quotes
 pub mod Ranges
 pub mod Reading
 pub mod References
