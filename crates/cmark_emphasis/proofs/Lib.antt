@@ -7,3 +7,4 @@ pub mod Writes
 pub mod Covered
 pub mod Marked
 pub mod Innermost
+pub mod Quoted

@@ -1,5 +1,6 @@
 pub mod Ascii
 pub mod Covers
+pub mod QuoteSteps
 pub mod Shown
 pub mod Slots
 pub mod Stack

@@ -2,6 +2,8 @@
 use Rattle.std.specs.Prelude.{ℕ, ◌+◌, ◌<◌, ◌^◌, List, map, reverse}
 use Rattle.cmark_grammar.specs.Emphasis.{Run, Pair}
 use Rattle.cmark_grammar.specs.Flanking.{Flanking}
+use Rattle.cmark_grammar.specs.Quotes.{Quote}
+use Rattle.cmark_emphasis.specs.declared.quotes.Quote as code_quote
 use Rattle.cmark_emphasis.specs.declared.flanking.Flanking as code_flanking
 use Rattle.cmark_grammar.specs.Spans.{SpanKind}
 use Rattle.cmark_grammar.specs.Spans as grammar
@@ -33,3 +35,6 @@ shown_kind code.Strong = grammar.Strong
 shown_kind code.SingleTilde = grammar.SingleTilde
 shown_kind code.DoubleTilde = grammar.DoubleTilde
 shown_kind code.Caret = grammar.Caret
+
+abbrev pub shown_quote : code_quote.Quote → Quote
+shown_quote quote = record { double = quote.double; opens = quote.opens; closes = quote.closes }

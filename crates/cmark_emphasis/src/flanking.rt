@@ -26,9 +26,11 @@ pub struct Flanking {
 
 /// What stands on one side of a run. An edge counts as white space.
 #[derive(Clone, Copy)]
-struct Side {
-    white_space: bool,
-    punctuation: bool,
+pub struct Side {
+    /// White space, or an edge.
+    pub white_space: bool,
+    /// Punctuation.
+    pub punctuation: bool,
 }
 
 /// Whether the character is white space in ASCII.
@@ -75,7 +77,7 @@ fn is_punctuation(c: char) -> bool
 }
 
 /// What a character, or none, is beside a run.
-fn side_of(neighbor: Option<char>) -> Side
+pub fn side_of(neighbor: Option<char>) -> Side
     ensures { result ≡ record { white_space = is_white_space_there neighbor; punctuation = is_punctuation_there neighbor } }
 {
     match neighbor {

@@ -5,11 +5,13 @@ mod flanking;
 pub mod laws;
 mod marking;
 mod pairing;
+mod quotes;
 mod run;
 mod slot;
 
 pub use flanking::{Flanking, flanking_of};
 pub use marking::write_slots;
 pub use pairing::pair_runs;
+pub use quotes::{Quote, quote_characters, quote_of};
 pub use run::{Pair, Run};
 pub use slot::{Slot, SpanKind};
