@@ -8,3 +8,4 @@ pub mod Covered
 pub mod Marked
 pub mod Innermost
 pub mod Quoted
+pub mod Placed

@@ -1,9 +1,10 @@
 //! Theorems over the definitions of emphasis, each the contract of a function that does nothing.
 
-ghost use Rattle.std.specs.Prelude.{◌≡◌, List};
-ghost use Rattle.cmark_grammar.specs.Emphasis.{IsEmphasis, Pair, Sibling};
+ghost use Rattle.std.specs.Prelude.{◌≡◌, List, []};
+ghost use Rattle.cmark_grammar.specs.Emphasis.{IsEmphasis, Pair, Sibling, StandFrom, places_taken};
 ghost use Rattle.cmark_grammar.specs.EmphasisModel.{pairs_of, spans_of};
-ghost use Rattle.cmark_grammar.specs.Spans.{Spans};
+ghost use Rattle.cmark_grammar.specs.Spans.{Spans, TakePlaces};
+ghost use Rattle.cmark_emphasis.specs.Slots.{AreBalanced, slots_of};
 
 /// The model's pairs and spans are the emphasis of the siblings.
 pub fn emphasis_is_derived()
@@ -14,4 +15,15 @@ pub fn emphasis_is_derived()
 pub fn one_emphasis()
     ensures { (siblings : List Sibling) (pairs : List Pair) (spans : Spans)
         → IsEmphasis siblings pairs spans → (pairs ≡ pairs_of siblings) × (spans ≡ spans_of siblings) }
+{}
+
+/// The spans of siblings take the places of the siblings: each sibling stands where it stood, by itself or as one of the bytes
+/// that open and close a span, and a span reaches from the first byte that opens it to behind the last that closes it.
+pub fn spans_take_the_places()
+    ensures { (siblings : List Sibling) → StandFrom 0 siblings → TakePlaces 0 (spans_of siblings) (places_taken siblings) }
+{}
+
+/// The slots of spans are balanced.
+pub fn slots_are_balanced()
+    ensures { (spans : Spans) → AreBalanced [] (slots_of spans) }
 {}

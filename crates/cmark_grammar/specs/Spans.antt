@@ -1,5 +1,5 @@
 -- Spans around siblings: emphasis, and what stands between tildes and carets (CommonMark 6.2, GFM 6.5).
-use Rattle.std.specs.Prelude.{ℕ, suc, zero, ◌-◌, if◌then◌else◌, List, [], ◌∷◌, ◌++◌, Option, Some, None}
+use Rattle.std.specs.Prelude.{◌≡◌, ◌+◌, ℕ, suc, zero, ◌-◌, if◌then◌else◌, List, [], ◌∷◌, ◌++◌, Option, Some, None}
 use Rattle.cmark_grammar.specs.Options.{Options}
 use Rattle.cmark_grammar.specs.Tag.{Tag}
 use Rattle.cmark_grammar.specs.Tag as tag
@@ -53,14 +53,16 @@ abbrev pub singles : (at count : ℕ) → Spans → Spans
 singles at zero after = after
 singles at (suc count) after = Single at (singles (suc at) count after)
 
--- so many places from one on, and others behind them
-abbrev pub places_from : (at count : ℕ) → List ℕ → List ℕ
-places_from at zero after = after
-places_from at (suc count) after = at ∷ places_from (suc at) count after
+-- a span around what is inside it, from a place on: first the bytes that open it, last those that close it
+pub record Surrounds (Inside : ℕ → ℕ → Type 0) (After : ℕ → Type 0) (n : ℕ) (span : Span) : Type 0 where
+  pub mid : ℕ
+  pub start : span.start ≡ n
+  pub inside : Inside (n + span_width span.kind) mid
+  pub end : span.end ≡ mid + span_width span.kind
+  pub after : After span.end
 
--- the places of all siblings, in order, those of the bytes that open and close spans among them
-abbrev pub places : Spans → List ℕ
-places Nil = []
-places (Single at after) = at ∷ places after
-places (Around span inside after) =
-    places_from span.start (span_width span.kind) (places inside ++ places_from (span.end - span_width span.kind) (span_width span.kind) (places after))
+-- the siblings, with the bytes that open and close spans, stand side by side at the places from n up to m
+abbrev pub TakePlaces : ℕ → Spans → ℕ → Type 0
+TakePlaces n Nil m = n ≡ m
+TakePlaces n (Single at after) m = (at ≡ n) × TakePlaces (suc n) after m
+TakePlaces n (Around span inside after) m = Surrounds (λ a b. TakePlaces a inside b) (λ a. TakePlaces a after m) n span
