@@ -9,3 +9,4 @@ pub mod Marked
 pub mod Innermost
 pub mod Quoted
 pub mod Placed
+pub mod Callers

@@ -1,7 +1,7 @@
 -- Spans around siblings as slots, one for each sibling.
 use Rattle.std.specs.Prelude.{◌≡◌, ℕ, zero, suc, ◌+◌, ◌-◌, ◌≤◌, List, [], ◌∷◌, ◌++◌, length, replicate, slice_set}
 use Rattle.cmark_grammar.specs.Spans.{SpanKind, Emphasis, Strong, SingleTilde, DoubleTilde, Caret, span_width, Spans, Nil, Single, Around}
-use Rattle.cmark_grammar.specs.Emphasis.{Pair, Sibling, StandFrom, places_taken, kinds_of}
+use Rattle.cmark_grammar.specs.Emphasis.{Run, Pair, Sibling, StandFrom, places_taken, runs_of, kinds_of}
 use Rattle.cmark_grammar.specs.EmphasisModel.{pairs_of}
 use Rattle.cmark_emphasis.specs.declared.slot.SpanKind.TheVariants as code
 use Rattle.cmark_emphasis.specs.declared.slot.SpanKind as code_kind
@@ -45,6 +45,13 @@ pub record ArePairs (count : ℕ) (pairs : List Pair) : Type 0 where
   pub stand : StandFrom 0 siblings
   pub taken : places_taken siblings ≡ count
   pub are : pairs_of siblings ≡ pairs
+
+-- so many siblings have these runs
+pub record AreRuns (count : ℕ) (runs : List Run) : Type 0 where
+  pub siblings : List Sibling
+  pub stand : StandFrom 0 siblings
+  pub taken : places_taken siblings ≡ count
+  pub are : runs_of siblings ≡ runs
 
 -- these slots in the place of those from a place on
 abbrev pub write : ℕ → List Slot → List Slot → List Slot

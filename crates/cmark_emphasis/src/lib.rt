@@ -6,6 +6,7 @@ pub mod laws;
 mod marking;
 mod pairing;
 mod quotes;
+mod room;
 mod run;
 mod slot;
 
@@ -13,5 +14,6 @@ pub use flanking::{Flanking, flanking_of};
 pub use marking::write_slots;
 pub use pairing::pair_runs;
 pub use quotes::{Quote, quote_characters, quote_of};
+pub use room::{PairingRoom, slots_of_runs};
 pub use run::{Pair, Run};
 pub use slot::{Slot, SpanKind};
