@@ -54,6 +54,7 @@ shrink-close c (Standing o ∷ ps) inside =
     on : (r : Option Closed) → and_then (pair_of o c) (record { rest = rest_of_closer o c; opens = still_open (rest_of_closer o c) (put (rest_of_opener o c) (opens_of ps)); pairs = pair_of o c ∷ [] }) (shrink r) ≡ shrunk (paired (pair_of o c) (record { rest = rest_of_closer o c; pieces = left_open (rest_of_closer o c) (Whole (wrapped (pair_of o c) inside) ∷ keep (rest_of_opener o c) ps); pairs = pair_of o c ∷ [] }) r)
     on None = ap {B = Chased} (λ l. record { rest = rest_of_closer o c; opens = l; pairs = pair_of o c ∷ [] }) (ap (still_open (rest_of_closer o c)) (opens-keep (rest_of_opener o c) ps) ∙ opens-left (rest_of_closer o c) (Whole (wrapped (pair_of o c) inside) ∷ keep (rest_of_opener o c) ps))
     on (Some d) = refl
+
     go : (b : Bool) (r : Option Closed) → chase (rest_of_closer o c) (opens_of ps) ≡ shrink r → chase c (opens_of ps) ≡ shrink (close c ps (before (Standing o) inside)) →
         picked b (and_then (pair_of o c) (record { rest = rest_of_closer o c; opens = still_open (rest_of_closer o c) (put (rest_of_opener o c) (opens_of ps)); pairs = pair_of o c ∷ [] }) (chase (rest_of_closer o c) (opens_of ps))) (chase c (opens_of ps))
         ≡ shrink (chosen b (paired (pair_of o c) (record { rest = rest_of_closer o c; pieces = left_open (rest_of_closer o c) (Whole (wrapped (pair_of o c) inside) ∷ keep (rest_of_opener o c) ps); pairs = pair_of o c ∷ [] }) r) (close c ps (before (Standing o) inside)))

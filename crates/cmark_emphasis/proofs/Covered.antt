@@ -140,16 +140,16 @@ covers-pair s behind b o c front h place =
     let right : stays c.left ≡ stays (widths ks) ++ stays (c.left - n) = (let e : c.left ≡ widths ks + (c.left - n) = omega (arith, w, le') in ap stays e ∙ stays-add (widths ks) (c.left - n)) in
     let rest = stays (c.left - n) ++ behind in
     let split : s ++ (stays c.left ++ behind) ≡ (first ++ stays (o.left - n)) ++ (stays (widths ks) ++ (inner ++ (stays (widths ks) ++ rest))) =
-        ap (λ l. l ++ (stays c.left ++ behind)) (whole ∙ ap (λ l. first ++ (l ++ inner)) left)
-        ∙ ap (λ l. (first ++ ((stays (o.left - n) ++ stays (widths ks)) ++ inner)) ++ (l ++ behind)) right
-        ∙ regroup first (stays (o.left - n)) (stays (widths ks)) inner (stays (widths ks)) (stays (c.left - n)) behind in
+    ap (λ l. l ++ (stays c.left ++ behind)) (whole ∙ ap (λ l. first ++ (l ++ inner)) left)
+    ∙ ap (λ l. (first ++ ((stays (o.left - n) ++ stays (widths ks)) ++ inner)) ++ (l ++ behind)) right
+    ∙ regroup first (stays (o.left - n)) (stays (widths ks)) inner (stays (widths ks)) (stays (c.left - n)) behind in
     let front_size : length (first ++ stays (o.left - n)) ≡ length first + (o.left - n) = length-append first (stays (o.left - n)) ∙ ap (λ k. length first + k) (length-stays (o.left - n)) in
     record {
       now = (first ++ stays (o.left - n)) ++ rings ks inner;
       marked =
-        ap (mark_spans ks (o.at + o.left) c.at) split
-        ∙ mark-rings ks (first ++ stays (o.left - n)) inner rest (o.at + o.left) c.at (omega (arith, w, le, at, front_size)) (omega (arith, at, size, place))
-        ∙ sym (append_assoc (first ++ stays (o.left - n)) (rings ks inner) rest);
+          ap (mark_spans ks (o.at + o.left) c.at) split
+          ∙ mark-rings ks (first ++ stays (o.left - n)) inner rest (o.at + o.left) c.at (omega (arith, w, le, at, front_size)) (omega (arith, at, size, place))
+          ∙ sym (append_assoc (first ++ stays (o.left - n)) (rings ks inner) rest);
       covers = record {
         front = first ++ stays (o.left - n);
         own = rings ks inner;

@@ -46,8 +46,8 @@ goes [] c d ps qs s behind h cov place =
 goes (p ∷ more) c d ps qs s behind h cov place =
     let pr = covers-pair s behind h.between h.opener c h.front (subst (Covers s) h.cut cov) place in
     let i =
-        goes more (rest_of_closer h.opener c) d (Whole (wrapped p (row h.between Nil)) ∷ keep (rest_of_opener h.opener c) h.front) qs pr.now behind h.so
-        (subst (λ q. Covers pr.now (Whole (wrapped q (row h.between Nil)) ∷ keep (rest_of_opener h.opener c) h.front)) (sym h.is) pr.covers) pr.place in
+    goes more (rest_of_closer h.opener c) d (Whole (wrapped p (row h.between Nil)) ∷ keep (rest_of_opener h.opener c) h.front) qs pr.now behind h.so
+    (subst (λ q. Covers pr.now (Whole (wrapped q (row h.between Nil)) ∷ keep (rest_of_opener h.opener c) h.front)) (sym h.is) pr.covers) pr.place in
     record {
       now = i.now;
       marked = ap (λ q. mark_pairs more (mark_pair q (s ++ (stays c.left ++ behind)))) h.is ∙ ap (mark_pairs more) pr.marked ∙ i.marked;
@@ -56,7 +56,8 @@ goes (p ∷ more) c d ps qs s behind h cov place =
       sum = i.sum ∙ rest_sum h.opener c;
       within = (
         subst (λ q. IsWithin ((c.at + c.left) + length behind) q) (sym h.is) (subst (λ l. IsWithin l (pair_of h.opener c)) (whole_length s behind c place) pr.within),
-        subst (λ l. AllWithin (l + length behind) more) (rest_sum h.opener c) i.within);
+        subst (λ l. AllWithin (l + length behind) more) (rest_sum h.opener c) i.within,
+      );
     }
 
 mark-append : (a b : List Pair) (s : List Slot) → mark_pairs (a ++ b) s ≡ mark_pairs b (mark_pairs a s)
@@ -71,23 +72,25 @@ marks : (ts : List Sibling) (ps : List Piece) (s : List Slot) (n : ℕ) → Cove
 marks [] ps s n cov place st = (append-nil s ∙ covers-end s ps cov, tt)
 marks (Plain at ∷ ts) ps s n cov place st =
     let i = marks ts (Whole (Single at Nil) ∷ ps) (s ++ slot.Single ∷ []) (suc n) (record { front = s; own = slot.Single ∷ []; cut = refl; here = refl; before = cov }) (let x = length-append s (slot.Single ∷ []) in omega (arith, x, place)) st.1 in
-    let e : n + suc (places_taken ts) ≡ suc n + places_taken ts = omega arith in
-    (ap (mark_pairs (resolve ts (Whole (Single at Nil) ∷ ps)).pairs) (sym (append_assoc s (slot.Single ∷ []) (stays (places_taken ts)))) ∙ i.0,
-    subst (λ l. AllWithin l (resolve ts (Whole (Single at Nil) ∷ ps)).pairs) (sym e) i.1)
+    let e : n + suc (places_taken ts) ≡ suc n + places_taken ts = omega arith in (
+      ap (mark_pairs (resolve ts (Whole (Single at Nil) ∷ ps)).pairs) (sym (append_assoc s (slot.Single ∷ []) (stays (places_taken ts)))) ∙ i.0,
+      subst (λ l. AllWithin l (resolve ts (Whole (Single at Nil) ∷ ps)).pairs) (sym e) i.1,
+    )
 marks (Delimiter c ∷ ts) ps s n cov place st =
     let d = closed c ps in
     let w = goes d.pairs c d.rest ps d.pieces s (stays (places_taken ts)) (closed-closes c ps) cov (place ∙ sym st.0) in
     let size : length (w.now ++ stays d.rest.left) ≡ n + c.size = (let x = length-append w.now (stays d.rest.left) in let y = length-stays d.rest.left in omega (arith, x, y, w.place, w.sum, st.0, st.1)) in
     let i = marks ts (stand d.rest d.pieces) (w.now ++ stays d.rest.left) (n + c.size) (covers-stand d.rest d.pieces w.now w.place w.covers) size st.2 in
     let e : (c.at + c.left) + length (stays (places_taken ts)) ≡ n + (c.left + places_taken ts) = (let y = length-stays (places_taken ts) in omega (arith, y, st.0)) in
-    let f : (n + c.size) + places_taken ts ≡ n + (c.left + places_taken ts) = omega (arith, st.1) in
-    (mark-append d.pairs (resolve ts (stand d.rest d.pieces)).pairs (s ++ stays (c.left + places_taken ts))
-      ∙ ap (λ l. mark_pairs (resolve ts (stand d.rest d.pieces)).pairs (mark_pairs d.pairs (s ++ l))) (stays-add c.left (places_taken ts))
-      ∙ ap (mark_pairs (resolve ts (stand d.rest d.pieces)).pairs) (w.marked ∙ sym (append_assoc w.now (stays d.rest.left) (stays (places_taken ts))))
-      ∙ i.0,
-    within-append (n + (c.left + places_taken ts)) d.pairs (resolve ts (stand d.rest d.pieces)).pairs
-      (subst (λ l. AllWithin l d.pairs) e w.within)
-      (subst (λ l. AllWithin l (resolve ts (stand d.rest d.pieces)).pairs) f i.1))
+    let f : (n + c.size) + places_taken ts ≡ n + (c.left + places_taken ts) = omega (arith, st.1) in (
+      mark-append d.pairs (resolve ts (stand d.rest d.pieces)).pairs (s ++ stays (c.left + places_taken ts))
+          ∙ ap (λ l. mark_pairs (resolve ts (stand d.rest d.pieces)).pairs (mark_pairs d.pairs (s ++ l))) (stays-add c.left (places_taken ts))
+          ∙ ap (mark_pairs (resolve ts (stand d.rest d.pieces)).pairs) (w.marked ∙ sym (append_assoc w.now (stays d.rest.left) (stays (places_taken ts))))
+          ∙ i.0,
+      within-append (n + (c.left + places_taken ts)) d.pairs (resolve ts (stand d.rest d.pieces)).pairs
+          (subst (λ l. AllWithin l d.pairs) e w.within)
+          (subst (λ l. AllWithin l (resolve ts (stand d.rest d.pieces)).pairs) f i.1),
+    )
 
 pub pairs-marked : (ts : List Sibling) → StandFrom 0 ts → mark_pairs (pairs_of ts) (stays (places_taken ts)) ≡ slots_of (spans_of ts)
 pairs-marked ts st = (marks ts [] [] 0 refl refl st).0
@@ -106,6 +109,7 @@ slots_balance (Around s inside after) kinds rest h =
   where
     regroup : (x m y v r : List Slot) → ((x ++ (m ++ y)) ++ v) ++ r ≡ x ++ (m ++ (y ++ (v ++ r)))
     regroup x m y v r = simp append_assoc
+
     go : (k : SpanKind) → AreBalanced kinds (slots_of after ++ rest) → ((c : code_kind.SpanKind) (more : List Slot) → AreBalanced (c ∷ kinds) more → AreBalanced (c ∷ kinds) (slots_of inside ++ more)) → AreBalanced kinds (opening k ++ (slots_of inside ++ (closing k ++ (slots_of after ++ rest))))
     go Emphasis a i = i code.Emphasis (closing Emphasis ++ (slots_of after ++ rest)) (refl, a)
     go Strong a i = i code.Strong (closing Strong ++ (slots_of after ++ rest)) (refl, a)

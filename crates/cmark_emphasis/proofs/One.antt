@@ -30,10 +30,10 @@ one_course (m ∷ ms) (n ∷ ns) c d e ps qs rs h k =
     let p : m ≡ n = h.is ∙ ap (λ o. pair_of o c) s.1 ∙ sym k.is in
     let l : rest_of_closer k.opener c ≡ rest_of_closer h.opener c = ap (λ o. rest_of_closer o c) (sym s.1) in
     let w : (Whole (wrapped n (row k.between Nil)) ∷ keep (rest_of_opener k.opener c) k.front) ≡ (Whole (wrapped m (row h.between Nil)) ∷ keep (rest_of_opener h.opener c) h.front) =
-        ap (λ x. Whole (wrapped x (row k.between Nil)) ∷ keep (rest_of_opener k.opener c) k.front) (sym p)
-        ∙ ap (λ b. Whole (wrapped m (row b Nil)) ∷ keep (rest_of_opener k.opener c) k.front) (sym s.0)
-        ∙ ap (λ o. Whole (wrapped m (row h.between Nil)) ∷ keep (rest_of_opener o c) k.front) (sym s.1)
-        ∙ ap (λ f. Whole (wrapped m (row h.between Nil)) ∷ keep (rest_of_opener h.opener c) f) (sym s.2) in
+    ap (λ x. Whole (wrapped x (row k.between Nil)) ∷ keep (rest_of_opener k.opener c) k.front) (sym p)
+    ∙ ap (λ b. Whole (wrapped m (row b Nil)) ∷ keep (rest_of_opener k.opener c) k.front) (sym s.0)
+    ∙ ap (λ o. Whole (wrapped m (row h.between Nil)) ∷ keep (rest_of_opener o c) k.front) (sym s.1)
+    ∙ ap (λ f. Whole (wrapped m (row h.between Nil)) ∷ keep (rest_of_opener h.opener c) f) (sym s.2) in
     let i = one_course ms ns (rest_of_closer h.opener c) d e (Whole (wrapped m (row h.between Nil)) ∷ keep (rest_of_opener h.opener c) h.front) qs rs h.so (subst (λ xs. Closes (rest_of_closer h.opener c) xs ns e rs) w (subst (λ x. Closes x (Whole (wrapped n (row k.between Nil)) ∷ keep (rest_of_opener k.opener c) k.front) ns e rs) l k.so)) in
     (ap (λ x. x ∷ ms) p ∙ ap (λ l. n ∷ l) i.0, i.1, i.2)
 

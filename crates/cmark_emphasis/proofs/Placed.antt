@@ -110,8 +110,8 @@ reach-pair b o c front h =
     record {
       at = o.at + (o.left - n);
       here =
-        subst (λ k. TakePlaces k (nest ks (o.at + o.left) c.at (row b Nil)) (c.at + n)) s
-        (subst (λ k. TakePlaces ((o.at + o.left) - widths ks) (nest ks (o.at + o.left) c.at (row b Nil)) (c.at + k)) w nested);
+          subst (λ k. TakePlaces k (nest ks (o.at + o.left) c.at (row b Nil)) (c.at + n)) s
+          (subst (λ k. TakePlaces ((o.at + o.left) - widths ks) (nest ks (o.at + o.left) c.at (row b Nil)) (c.at + k)) w nested);
       front = reach-keep (rest_of_opener o c) front i.rest.1;
     }
 
@@ -128,9 +128,9 @@ goes [] c d ps qs h r =
     subst (λ x. Went c x qs) (sym h.1) (subst (λ l. Went c c l) (sym h.2) (record { reach = reach-left c ps c.at r; sum = refl }))
 goes (p ∷ more) c d ps qs h r =
     let i =
-        goes more (rest_of_closer h.opener c) d (Whole (wrapped p (row h.between Nil)) ∷ keep (rest_of_opener h.opener c) h.front) qs h.so
-        (subst (λ q. ReachTo (Whole (wrapped q (row h.between Nil)) ∷ keep (rest_of_opener h.opener c) h.front) (rest_of_closer h.opener c).at) (sym h.is)
-        (reach-pair h.between h.opener c h.front (subst (λ l. ReachTo l c.at) h.cut r))) in
+    goes more (rest_of_closer h.opener c) d (Whole (wrapped p (row h.between Nil)) ∷ keep (rest_of_opener h.opener c) h.front) qs h.so
+    (subst (λ q. ReachTo (Whole (wrapped q (row h.between Nil)) ∷ keep (rest_of_opener h.opener c) h.front) (rest_of_closer h.opener c).at) (sym h.is)
+    (reach-pair h.between h.opener c h.front (subst (λ l. ReachTo l c.at) h.cut r))) in
     record { reach = i.reach; sum = i.sum ∙ rest_sum h.opener c }
 
 reaches : (ts : List Sibling) (ps : List Piece) (n : ℕ) → ReachTo ps n → StandFrom n ts → ReachTo (resolve ts ps).pieces (n + places_taken ts)

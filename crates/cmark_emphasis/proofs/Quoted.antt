@@ -109,6 +109,7 @@ behind_double q before single double next old new h e s n = record {
     one : (d : Bool) → d ≡ true → (if d then open_single before else single_after q (length before) (open_single before)) ≡ open_single before
     one true z = refl
     one false z = absurd (let y : false ≡ true = z in cc)
+
     two : (d : Bool) → d ≡ true → (if not d then is_double_open before else if q.closes && is_double_open before then false else q.opens || is_double_open before) ≡ double_after q (is_double_open before)
     two true z = refl
     two false z = absurd (let y : false ≡ true = z in cc)
@@ -116,10 +117,10 @@ behind_double q before single double next old new h e s n = record {
 pub behind_single : (q : Quote) (before : List Quote) (single next : Option ℕ) (double : Bool) (old new : List ℕ) → IsBehind before single double old → q.double ≡ false → next ≡ single_after q (length old) single → new ≡ turned q.closes single old ++ 8217 ∷ [] → IsBehind (q ∷ before) next double new
 behind_single q before single next double old new h e s n = record {
   single_is =
-    s
-    ∙ ap (λ k. single_after q k single) (ap length h.characters_are ∙ length-so before false)
-    ∙ ap (single_after q (length before)) h.single_is
-    ∙ sym (one q.double e);
+      s
+      ∙ ap (λ k. single_after q k single) (ap length h.characters_are ∙ length-so before false)
+      ∙ ap (single_after q (length before)) h.single_is
+      ∙ sym (one q.double e);
   double_is = h.double_is ∙ sym (two q.double e);
   characters_are = n ∙ ap (λ l. turned q.closes single l ++ 8217 ∷ []) h.characters_are ∙ ap (λ o. turned q.closes o (so_far before false) ++ 8217 ∷ []) h.single_is ∙ sym (single-step q before e);
 }
@@ -127,6 +128,7 @@ behind_single q before single next double old new h e s n = record {
     one : (d : Bool) → d ≡ false → (if d then open_single before else single_after q (length before) (open_single before)) ≡ single_after q (length before) (open_single before)
     one false z = refl
     one true z = absurd (let y : true ≡ false = z in cc)
+
     two : (d : Bool) → d ≡ false → (if not d then is_double_open before else if q.closes && is_double_open before then false else q.opens || is_double_open before) ≡ is_double_open before
     two false z = refl
     two true z = absurd (let y : true ≡ false = z in cc)

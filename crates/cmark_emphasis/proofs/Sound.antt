@@ -73,6 +73,7 @@ comes c passed (Standing o ∷ ps) m =
     take : (r : Option Closed) → agrees o c ≡ true → Comes (rest_of_closer o c) (Whole (wrapped (pair_of o c) (row passed Nil)) ∷ keep (rest_of_opener o c) ps) r → Comes c (passed ++ (Standing o ∷ ps)) (Some (paired (pair_of o c) (stops_at o c (row passed Nil) ps) r))
     take None e h = record { between = passed; opener = o; front = ps; cut = refl; nearest = m; agree = e; is = refl; so = (h, refl, refl) }
     take (Some d) e h = record { between = passed; opener = o; front = ps; cut = refl; nearest = m; agree = e; is = refl; so = h }
+
     go : (b : Bool) → agrees o c ≡ b → (agrees o c ≡ false → Comes c ((passed ++ Standing o ∷ []) ++ ps) (close c ps (row (passed ++ Standing o ∷ []) Nil))) → Comes (rest_of_closer o c) (Whole (wrapped (pair_of o c) (row passed Nil)) ∷ ps) (close (rest_of_closer o c) ps (before (Whole (wrapped (pair_of o c) (row passed Nil))) Nil)) → Comes c (passed ++ (Standing o ∷ ps)) (close c (Standing o ∷ ps) (row passed Nil))
     go true e pass on = rw e (take _ e (comes_kept o c (wrapped (pair_of o c) (row passed Nil)) ps (before (Whole (wrapped (pair_of o c) (row passed Nil))) Nil) on))
     go false e pass on =

@@ -45,9 +45,11 @@ chased-pair c o xs ys h e = rw (chase-skip c xs (o ∷ ys) h) (rw e (go (one_emp
     same : (r : Option Chased) (zs : List Run) → zs ≡ ys → and_then (pair_of o c) (record { rest = rest_of_closer o c; opens = still_open (rest_of_closer o c) zs; pairs = pair_of o c ∷ [] }) r ≡ with_pair (pair_of o c) (or_same (rest_of_closer o c) ys r)
     same None zs z = ap {B = Chased} (λ l. record { rest = rest_of_closer o c; opens = still_open (rest_of_closer o c) l; pairs = pair_of o c ∷ [] }) z
     same (Some d) zs z = refl
+
     chase-empty : (d : Run) (xs : List Run) → d.left ≡ 0 → chase d xs ≡ None
     chase-empty d [] z = refl
     chase-empty d (x ∷ xs) z = rw (agrees-empty x d z) (chase-empty d xs z)
+
     go : ((rest_of_opener o c).left ≡ 0) ⊎ ((rest_of_closer o c).left ≡ 0) → and_then (pair_of o c) (record { rest = rest_of_closer o c; opens = still_open (rest_of_closer o c) (put (rest_of_opener o c) ys); pairs = pair_of o c ∷ [] }) (chase (rest_of_closer o c) ys) ≡ with_pair (pair_of o c) (or_same (rest_of_closer o c) (put (rest_of_opener o c) ys) (chase (rest_of_closer o c) (put (rest_of_opener o c) ys)))
     go (inl z) =
         let p : put (rest_of_opener o c) ys ≡ ys = rw z refl in
@@ -62,11 +64,11 @@ course_step c o stack next pairs i h read e m s =
     let step = chased-pair c (shown_run o) h.passed (open_runs (take i stack)) h.miss agree in
     let all : map shown_pair (pairs ++ m ∷ []) ≡ map shown_pair pairs ++ pair_of (shown_run o) c ∷ [] = map-append shown_pair pairs (m ∷ []) ∙ ap (λ p. map shown_pair pairs ++ p ∷ []) s in
     sym (ap (λ l. pairs_after (map shown_pair pairs) (chased c l)) cut
-      ∙ ap (λ (d : Chased). pairs_after (map shown_pair pairs) d) step
-      ∙ ap (λ l. pairs_after (map shown_pair pairs) (with_pair (pair_of (shown_run o) c) (chased (rest_of_closer (shown_run o) c) l))) (sym e)
-      ∙ ap {B = Chased} (λ l. record { rest = (chased (rest_of_closer (shown_run o) c) (open_runs next)).rest; opens = (chased (rest_of_closer (shown_run o) c) (open_runs next)).opens; pairs = l })
-        (sym (append_assoc (map shown_pair pairs) (pair_of (shown_run o) c ∷ []) (chased (rest_of_closer (shown_run o) c) (open_runs next)).pairs)
-        ∙ ap (λ l. l ++ (chased (rest_of_closer (shown_run o) c) (open_runs next)).pairs) (sym all)))
+    ∙ ap (λ (d : Chased). pairs_after (map shown_pair pairs) d) step
+    ∙ ap (λ l. pairs_after (map shown_pair pairs) (with_pair (pair_of (shown_run o) c) (chased (rest_of_closer (shown_run o) c) l))) (sym e)
+    ∙ ap {B = Chased} (λ l. record { rest = (chased (rest_of_closer (shown_run o) c) (open_runs next)).rest; opens = (chased (rest_of_closer (shown_run o) c) (open_runs next)).opens; pairs = l })
+    (sym (append_assoc (map shown_pair pairs) (pair_of (shown_run o) c ∷ []) (chased (rest_of_closer (shown_run o) c) (open_runs next)).pairs)
+    ∙ ap (λ l. l ++ (chased (rest_of_closer (shown_run o) c) (open_runs next)).pairs) (sym all)))
 
 pub course_end : (c : Run) (stack next : List code_run.Run) (pairs : List code_pair.Pair) → NoneAgree c (open_runs stack) → open_runs next ≡ still_open c (open_runs stack) → course_from c stack pairs ≡ record { rest = c; opens = open_runs next; pairs = map shown_pair pairs }
 course_end c stack next pairs h e =
@@ -94,10 +96,13 @@ course_smaller c o stack next i lt agree e = go (nat_lt o.left c.left) refl (nat
   where
     some : 0 < c.left
     some = agrees-some o c agree
+
     len : length next ≡ length (put (rest_of_opener o c) (open_runs (take i stack)))
     len = sym (length-open next) ∙ ap length e
+
     front : length (open_runs (take i stack)) ≡ i
     front = length-open (take i stack) ∙ length-take-le i stack (omega arith)
+
     go : (a : Bool) → nat_lt o.left c.left ≡ a → (b : Bool) → nat_lt 0 (o.left - paired_count o c) ≡ b → length next + (c.left - paired_count o c) < length stack + c.left
     go true p true q = absurd (let z : nat_lt 0 (o.left - o.left) ≡ true = (rw p at q) in omega (arith, ltb-true 0 (o.left - o.left) z))
     go false p true q =
@@ -118,10 +123,11 @@ found_at c d stack passed i j e lt cut miss agree = record {
 }
 
 pub passed_at : (c : Run) (d : code_run.Run) (stack : List code_run.Run) (passed : List Run) (i j : ℕ) → i ≡ j + 1 → j < length stack → open_runs stack ≡ passed ++ open_runs (take i stack) → NoneAgree c passed → agrees (shown_run (get_or stack j d)) c ≡ false → (next : List Run) × (open_runs stack ≡ next ++ open_runs (take j stack)) × NoneAgree c next
-passed_at c d stack passed i j e lt cut miss agree =
-    (passed ++ shown_run (get_or stack j d) ∷ [],
-    cut ∙ ap (λ n. passed ++ open_runs (take n stack)) e ∙ ap (λ l. passed ++ l) (open-more stack j d lt) ∙ sym (append_assoc passed (shown_run (get_or stack j d) ∷ []) (open_runs (take j stack))),
-    agree-append c (shown_run (get_or stack j d)) passed miss agree)
+passed_at c d stack passed i j e lt cut miss agree = (
+  passed ++ shown_run (get_or stack j d) ∷ [],
+  cut ∙ ap (λ n. passed ++ open_runs (take n stack)) e ∙ ap (λ l. passed ++ l) (open-more stack j d lt) ∙ sym (append_assoc passed (shown_run (get_or stack j d) ∷ []) (open_runs (take j stack))),
+  agree-append c (shown_run (get_or stack j d)) passed miss agree,
+)
 
 pub none_left : (c : Run) (stack : List code_run.Run) (passed : List Run) (i : ℕ) → i ≡ 0 → open_runs stack ≡ passed ++ open_runs (take i stack) → NoneAgree c passed → NoneAgree c (open_runs stack)
 none_left c stack passed i z cut miss =
@@ -135,9 +141,10 @@ pub course_next : (c : Run) (o : code_run.Run) (stack front next : List code_run
 course_next c o stack front next pairs more m i h lt at f e mo s =
     let read : slice_get stack i ≡ Some o = slice_get-get_or stack i o lt ∙ ap (λ r. Some r) (sym at) in
     let same : h.opener ≡ o = (let q : Some h.opener ≡ Some o = sym h.read ∙ read in cc) in
-    let e' : open_runs next ≡ put (rest_of_opener (shown_run o) c) (open_runs (take i stack)) = e ∙ ap (λ l. put (rest_of_opener (shown_run o) c) (open_runs l)) f in
-    (ap (course_from (rest_of_closer (shown_run o) c) next) mo ∙ course_step c o stack next pairs i h read e' m s,
-    course_smaller c (shown_run o) stack next i lt (subst (λ r. agrees (shown_run r) c ≡ true) same h.agree) e')
+    let e' : open_runs next ≡ put (rest_of_opener (shown_run o) c) (open_runs (take i stack)) = e ∙ ap (λ l. put (rest_of_opener (shown_run o) c) (open_runs l)) f in (
+      ap (course_from (rest_of_closer (shown_run o) c) next) mo ∙ course_step c o stack next pairs i h read e' m s,
+      course_smaller c (shown_run o) stack next i lt (subst (λ r. agrees (shown_run r) c ≡ true) same h.agree) e',
+    )
 
 abbrev pub stays : code_run.Run → Bool
 stays run = stays_open (shown_run run)
@@ -156,6 +163,7 @@ filter-reverse (x ∷ xs) = go (stays_open x) refl (filter-reverse xs)
   where
     ends : filter stays_open (reverse (x ∷ xs)) ≡ filter stays_open (reverse xs) ++ filter stays_open (x ∷ [])
     ends = ap (filter stays_open) (reverse-append (x ∷ []) xs) ∙ filter-append stays_open (reverse xs) (x ∷ [])
+
     go : (b : Bool) → stays_open x ≡ b → reverse (filter stays_open xs) ≡ filter stays_open (reverse xs) → reverse (filter stays_open (x ∷ xs)) ≡ filter stays_open (reverse (x ∷ xs))
     go true e i = rw e (reverse-append (x ∷ []) (filter stays_open xs) ∙ ap (λ l. l ++ x ∷ []) i ∙ sym (ends ∙ ap (λ l. filter stays_open (reverse xs) ++ l) (rw e refl)))
     go false e i = rw e (i ∙ sym (ends ∙ ap (λ l. filter stays_open (reverse xs) ++ l) (rw e refl) ∙ append-nil (filter stays_open (reverse xs))))

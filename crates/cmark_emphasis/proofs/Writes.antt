@@ -66,8 +66,10 @@ mark_one k a m b from to f t =
   where
     place : to ≡ length (a ++ (opening k ++ m))
     place = omega (arith, length-append a (opening k ++ m), length-append (opening k) m, length-opening k)
+
     cut : (a ++ (opening k ++ m)) ++ (stays (span_width k) ++ b) ≡ a ++ (opening k ++ (m ++ (stays (span_width k) ++ b)))
     cut = append_assoc a (opening k ++ m) (stays (span_width k) ++ b) ∙ ap (λ l. a ++ l) (append_assoc (opening k) m (stays (span_width k) ++ b))
+
     together : (a ++ (opening k ++ m)) ++ (closing k ++ b) ≡ a ++ ((opening k ++ (m ++ closing k)) ++ b)
     together =
         append_assoc a (opening k ++ m) (closing k ++ b)
@@ -84,10 +86,12 @@ mark-rings (k ∷ ks) a m b from to f t =
   where
     place : from ≡ length (a ++ stays (widths ks)) + span_width k
     place = omega (arith, length-append a (stays (widths ks)), length-stays (widths ks))
+
     behind : stays (widths ks + span_width k) ++ b ≡ stays (span_width k) ++ (stays (widths ks) ++ b)
     behind =
         let e : widths ks + span_width k ≡ span_width k + widths ks = omega arith in
         ap (λ n. stays n ++ b) e ∙ ap (λ l. l ++ b) (stays-add (span_width k) (widths ks)) ∙ append_assoc (stays (span_width k)) (stays (widths ks)) b
+
     split : a ++ (stays (widths ks + span_width k) ++ (m ++ (stays (widths ks + span_width k) ++ b))) ≡ (a ++ stays (widths ks)) ++ (stays (span_width k) ++ (m ++ (stays (span_width k) ++ (stays (widths ks) ++ b))))
     split =
         ap (λ l. a ++ (stays (widths ks + span_width k) ++ (m ++ l))) behind

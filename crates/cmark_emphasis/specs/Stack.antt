@@ -34,12 +34,12 @@ chase closer [] = None
 chase closer (opener ∷ opens) =
     picked (agrees opener closer)
     (and_then (pair_of opener closer)
-      (record {
-        rest = rest_of_closer opener closer;
-        opens = still_open (rest_of_closer opener closer) (put (rest_of_opener opener closer) opens);
-        pairs = pair_of opener closer ∷ [];
-      })
-      (chase (rest_of_closer opener closer) opens))
+    (record {
+      rest = rest_of_closer opener closer;
+      opens = still_open (rest_of_closer opener closer) (put (rest_of_opener opener closer) opens);
+      pairs = pair_of opener closer ∷ [];
+    })
+    (chase (rest_of_closer opener closer) opens))
     (chase closer opens)
 
 abbrev pub or_same : Run → List Run → Option Chased → Chased

@@ -106,7 +106,8 @@ fn is_delimiter_run(options: Options, mark: u8, size: usize) -> bool
     match mark {
         b'*' | b'_' => size > 0,
         b'~' => {
-            (options.contains(Options::ENABLE_STRIKETHROUGH) || options.contains(Options::ENABLE_SUBSCRIPT))
+            (options.contains(Options::ENABLE_STRIKETHROUGH)
+                || options.contains(Options::ENABLE_SUBSCRIPT))
                 && (size == 1 || size == 2)
         }
         b'^' => options.contains(Options::ENABLE_SUPERSCRIPT) && size == 1,
@@ -124,7 +125,13 @@ fn is_intraword(options: Options, mark: u8, size: usize) -> bool
 /// Whether `size` bytes `mark` can open and close that stand between these characters (CommonMark 6.2, rules 1 to 8; GFM 6.5).
 /// None stands at the edge of a line, leaf or cell. What is no delimiter run by the options can do neither: three tildes, for
 /// one.
-pub fn flanking_of(options: Options, mark: u8, size: usize, before: Option<char>, after: Option<char>) -> Flanking
+pub fn flanking_of(
+    options: Options,
+    mark: u8,
+    size: usize,
+    before: Option<char>,
+    after: Option<char>,
+) -> Flanking
     ensures { shown_flanking result ≡ grammar.flanking (shown_options options) mark size before after }
 {
     if !is_delimiter_run(options, mark, size) {

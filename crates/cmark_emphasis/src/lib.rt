@@ -9,6 +9,8 @@ mod quotes;
 mod room;
 mod run;
 mod slot;
+#[cfg(test)]
+mod tests;
 
 pub use flanking::{Flanking, flanking_of};
 pub use marking::write_slots;

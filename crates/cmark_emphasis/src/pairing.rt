@@ -158,7 +158,11 @@ fn close(run: Run, stack: &mut Vec<Run>, pairs: &mut Vec<Pair>) -> Result<Run, A
 /// have some of them.
 ///
 /// Each search for an open run begins anew, so the time may grow with the square of the number of runs.
-pub fn pair_runs(runs: &[Run], stack: &mut Vec<Run>, pairs: &mut Vec<Pair>) -> Result<(), AllocError>
+pub fn pair_runs(
+    runs: &[Run],
+    stack: &mut Vec<Run>,
+    pairs: &mut Vec<Pair>,
+) -> Result<(), AllocError>
     requires { All IsPlaced runs.now }
     ensures { OnOk result ((siblings : List Sibling) → runs_of siblings ≡ map shown_run runs.now
         → map shown_pair pairs.new.items ≡ map shown_pair pairs.old.items ++ pairs_of siblings) }

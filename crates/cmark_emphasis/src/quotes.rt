@@ -48,13 +48,18 @@ pub fn quote_of(double: bool, before: Option<char>, after: Option<char>) -> Quot
     let opens_behind_punctuation = double || !is_closing_bracket(before);
     Quote {
         double,
-        opens: !right.white_space && (left.white_space || left.punctuation && opens_behind_punctuation),
+        opens: !right.white_space
+            && (left.white_space || left.punctuation && opens_behind_punctuation),
         closes: !left.white_space && (right.white_space || right.punctuation),
     }
 }
 
 /// Turns the open single quote into U+2018, if the quote closes it, and adds U+2019; says which one is open then.
-fn add_single(quote: Quote, opened: Option<usize>, characters: &mut Vec<char>) -> Result<Option<usize>, AllocError>
+fn add_single(
+    quote: Quote,
+    opened: Option<usize>,
+    characters: &mut Vec<char>,
+) -> Result<Option<usize>, AllocError>
     requires { IfSome opened (λ i. i < length characters.old.items) }
     ensures characters { OnOk result (characters.new.items ≡ turned quote.closes opened characters.old.items ++ 8217 ∷ []) }
     ensures single { IfOk result (λ next. next ≡ single_after (shown_quote quote) (length characters.old.items) opened) }
@@ -87,7 +92,11 @@ fn add_double(quote: Quote, opened: bool, characters: &mut Vec<char>) -> Result<
 }
 
 /// Adds the character of a quote. The single quote that is open gets another one, if this one closes it.
-fn add_quote(quote: Quote, opened: OpenQuotes, characters: &mut Vec<char>) -> Result<OpenQuotes, AllocError>
+fn add_quote(
+    quote: Quote,
+    opened: OpenQuotes,
+    characters: &mut Vec<char>,
+) -> Result<OpenQuotes, AllocError>
     requires { (before : List grammar.Quote) × IsBehind before opened.single opened.double characters.old.items }
     ensures { IfOk result (λ next. (before : List grammar.Quote) → IsBehind before opened.single opened.double characters.old.items
         → IsBehind (shown_quote quote ∷ before) next.single next.double characters.new.items) }

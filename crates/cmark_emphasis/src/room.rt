@@ -33,7 +33,12 @@ impl PairingRoom {
 /// runs pair, and the spans that the pairs become. What `slots` held is gone; where memory is refused, they hold anything.
 ///
 /// Each search for an open run begins anew, so the time may grow with the square of the number of runs.
-pub fn slots_of_runs(count: usize, runs: &[Run], room: &mut PairingRoom, slots: &mut Vec<Slot>) -> Result<(), AllocError>
+pub fn slots_of_runs(
+    count: usize,
+    runs: &[Run],
+    room: &mut PairingRoom,
+    slots: &mut Vec<Slot>,
+) -> Result<(), AllocError>
     requires { AreRuns count (map shown_run runs.now) }
     ensures spans { OnOk result ((siblings : List Sibling) → StandFrom 0 siblings → places_taken siblings ≡ count
         → runs_of siblings ≡ map shown_run runs.now → slots.new.items ≡ slots_of (spans_of siblings)) }

@@ -9,12 +9,13 @@ next : (c : goal.After-rest_of_closer-closer) → (course_from (shown_run c.rest
 next c =
     let near : IsNearest (shown_run c.loop-found.closer) c.loop-found.stack.items c.in-Some.found = subst (λ l. IsNearest (shown_run c.loop-found.closer) l c.in-Some.found) c.deref.ensures.value c.in-Some.ensures in
     let n =
-        course_next (shown_run c.loop-found.closer) c.index-opener.result.now c.loop-found.stack.items c.truncate.new.self.items c.put_on.new.stack.items c.loop-found.pairs.items c.push.new.self.items c.pair_up.result c.in-Some.found near (nearest_in _ _ _ near) c.index-opener.ensures c.truncate.ensures.items
-        (c.in_ok-put_on.ensures.value ∙ ap (λ r. put r (open_runs c.truncate.new.self.items)) c.rest_of_opener.ensures.value)
-        c.in_ok-push.ensures.items c.pair_up.ensures in
-    let e = sym c.rest_of_closer-closer.ensures.value in
-    (subst (λ r. course_from r c.put_on.new.stack.items c.push.new.self.items ≡ course_from (shown_run c.loop-found.closer) c.loop-found.stack.items c.loop-found.pairs.items) e n.0,
-    subst (λ (r : grammar.Run). length c.put_on.new.stack.items + r.left < length c.loop-found.stack.items + c.loop-found.closer.left) e n.1)
+    course_next (shown_run c.loop-found.closer) c.index-opener.result.now c.loop-found.stack.items c.truncate.new.self.items c.put_on.new.stack.items c.loop-found.pairs.items c.push.new.self.items c.pair_up.result c.in-Some.found near (nearest_in _ _ _ near) c.index-opener.ensures c.truncate.ensures.items
+    (c.in_ok-put_on.ensures.value ∙ ap (λ r. put r (open_runs c.truncate.new.self.items)) c.rest_of_opener.ensures.value)
+    c.in_ok-push.ensures.items c.pair_up.ensures in
+    let e = sym c.rest_of_closer-closer.ensures.value in (
+      subst (λ r. course_from r c.put_on.new.stack.items c.push.new.self.items ≡ course_from (shown_run c.loop-found.closer) c.loop-found.stack.items c.loop-found.pairs.items) e n.0,
+      subst (λ (r : grammar.Run). length c.put_on.new.stack.items + r.left < length c.loop-found.stack.items + c.loop-found.closer.left) e n.1,
+    )
 
 pub loop-found-smaller : goal.loop-found-smaller
 loop-found-smaller c = omega (arith, (next c).1, c.put_on.new.stack.ok.0, c.loop-found.stack.ok.0)
