@@ -1,5 +1,5 @@
 -- What a caller knows of the runs of siblings.
-use Rattle.std.proofs.Common.{◌≡◌, ℕ, zero, suc, ◌+◌, ◌<◌, ◌≤◌, ◌^◌, List, [], ◌∷◌, ◌++◌, length, refl, sym, ap, ◌∙◌, subst, arith}
+use Rattle.std.proofs.Common.{◌≡◌, ℕ, suc, ◌+◌, ◌<◌, ◌≤◌, ◌^◌, List, [], ◌∷◌, ◌++◌, refl, ap, subst, arith}
 use Rattle.std.specs.Prelude.{All, map}
 use Rattle.cmark_grammar.specs.Emphasis.{Run, Sibling, Plain, Delimiter, StandFrom, places_taken, runs_of}
 use Rattle.cmark_emphasis.specs.Shown.{shown_run, IsPlaced}
@@ -26,3 +26,23 @@ all_placed (run ∷ runs) n lt h = All-cons IsPlaced run runs (omega (arith, lt,
 pub runs-placed : (ts : List Sibling) (runs : List code_run.Run) (count : ℕ) → StandFrom 0 ts → places_taken ts ≡ count → runs_of ts ≡ map shown_run runs → count < 2 ^ 64 → All IsPlaced runs
 runs-placed ts runs count st taken are lt =
     all_placed runs count lt (subst (EndsBy count) are (ends-by ts 0 count st (omega (arith, taken))))
+
+-- siblings behind others
+pub stand-append : (xs ys : List Sibling) (n : ℕ) → StandFrom n xs → StandFrom (n + places_taken xs) ys → StandFrom n (xs ++ ys)
+stand-append [] ys n h k = let e : n + 0 ≡ n = omega arith in subst (λ m. StandFrom m ys) e k
+stand-append (Plain at ∷ xs) ys n h k =
+    let e : n + suc (places_taken xs) ≡ suc n + places_taken xs = omega arith in
+    (h.0, stand-append xs ys (suc n) h.1 (subst (λ m. StandFrom m ys) e k))
+stand-append (Delimiter r ∷ xs) ys n h k =
+    let e : n + (r.left + places_taken xs) ≡ (n + r.size) + places_taken xs = omega (arith, h.1) in
+    (h.0, h.1, stand-append xs ys (n + r.size) h.2 (subst (λ m. StandFrom m ys) e k))
+
+pub taken-append : (xs ys : List Sibling) → places_taken (xs ++ ys) ≡ places_taken xs + places_taken ys
+taken-append [] ys = omega arith
+taken-append (Plain at ∷ xs) ys = let i = taken-append xs ys in omega (arith, i)
+taken-append (Delimiter r ∷ xs) ys = let i = taken-append xs ys in omega (arith, i)
+
+pub runs-append : (xs ys : List Sibling) → runs_of (xs ++ ys) ≡ runs_of xs ++ runs_of ys
+runs-append [] ys = refl
+runs-append (Plain at ∷ xs) ys = runs-append xs ys
+runs-append (Delimiter r ∷ xs) ys = ap (λ l. r ∷ l) (runs-append xs ys)

@@ -1,13 +1,13 @@
 -- Slots that stand for pieces.
-use Rattle.std.proofs.Common.{◌≡◌, ℕ, zero, suc, ◌+◌, ◌-◌, ◌<◌, ◌≤◌, Bool, true, false, nat_lt, if◌then◌else◌, List, [], ◌∷◌, ◌++◌, length, refl, sym, ap, ◌∙◌, subst, arith, append_assoc, length-append, map}
+use Rattle.std.proofs.Common.{◌≡◌, ℕ, zero, suc, ◌+◌, ◌-◌, ◌≤◌, Bool, true, false, nat_lt, if◌then◌else◌, List, [], ◌∷◌, ◌++◌, length, refl, sym, ap, ◌∙◌, subst, arith, append_assoc, length-append, map}
 use Rattle.std.proofs.lemmas.List.{append-nil}
 use Rattle.std.proofs.lemmas.Bool.{ltb-true, ltb-false}
 use Rattle.cmark_grammar.specs.Spans.{Spans, Nil, Single, Around, join, singles}
-use Rattle.cmark_grammar.specs.Emphasis.{Run, Pair, Piece, Whole, Standing, paired_count, pair_of, rest_of_opener, rest_of_closer, kinds_of, nest, wrapped, before, row, keep, shuts, is_tilde_or_caret, shut, left_open, stand}
+use Rattle.cmark_grammar.specs.Emphasis.{Run, Piece, Whole, Standing, paired_count, pair_of, rest_of_opener, rest_of_closer, kinds_of, wrapped, before, row, keep, shuts, is_tilde_or_caret, shut, left_open, stand}
 use Rattle.cmark_emphasis.specs.declared.slot.Slot.{Slot}
 use Rattle.cmark_emphasis.specs.declared.slot.Slot.TheVariants as slot
 use Rattle.cmark_emphasis.specs.Slots.{opening, closing, slots_of, mark_spans, mark_pair, IsWithin}
-use Rattle.cmark_emphasis.specs.Covers.{stays, widths, rings, Part, Covers}
+use Rattle.cmark_emphasis.specs.Covers.{stays, widths, rings, Covers}
 use Rattle.cmark_emphasis.proofs.Writes.{stays-add, length-stays, length-rings, mark-rings, widths-kinds, slots-nest, slots-singles}
 
 slots-join : (f g : Spans) → slots_of (join f g) ≡ slots_of f ++ slots_of g

@@ -1,10 +1,10 @@
 -- The spans of a pair, the innermost taken off.
-use Rattle.std.proofs.Common.{if◌then◌else◌, ◌≡◌, ◌≢◌, ℕ, zero, suc, ◌+◌, ◌-◌, ◌<◌, ◌==◌, Bool, true, false, List, [], ◌∷◌, refl, sym, ap, ◌∙◌, arith}
+use Rattle.std.proofs.Common.{if◌then◌else◌, ◌≡◌, ◌≢◌, ℕ, zero, suc, ◌-◌, ◌<◌, ◌==◌, Bool, true, false, List, [], ◌∷◌, refl, sym, ap, ◌∙◌, arith}
 use Rattle.std.proofs.lemmas.Bool.{eq-eqb, ne_eqb}
 use Rattle.cmark_grammar.specs.Spans.{SpanKind, Caret, span_width}
 use Rattle.cmark_grammar.specs.Emphasis.{emphasis_kinds, tilde_kinds, caret_kinds, kinds_of}
 use Rattle.cmark_emphasis.specs.declared.slot.Slot.{Slot}
-use Rattle.cmark_emphasis.specs.Slots.{mark_spans, mark_pair}
+use Rattle.cmark_emphasis.specs.Slots.{mark_spans}
 
 kinds-tilde : (m n : ℕ) → m ≡ 126 → kinds_of m n ≡ tilde_kinds n
 unfolding kinds_of

@@ -10,3 +10,4 @@ pub mod Innermost
 pub mod Quoted
 pub mod Placed
 pub mod Callers
+pub mod SlotsRead

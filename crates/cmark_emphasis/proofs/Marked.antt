@@ -1,19 +1,19 @@
 -- The pairs of siblings, written into slots, make the slots of the spans.
-use Rattle.std.proofs.Common.{◌≡◌, ℕ, zero, suc, ◌+◌, ◌-◌, ◌<◌, ◌≤◌, List, [], ◌∷◌, ◌++◌, length, refl, sym, ap, ◌∙◌, subst, arith, append_assoc, length-append}
+use Rattle.std.proofs.Common.{◌≡◌, ℕ, zero, suc, ◌+◌, ◌-◌, ◌≤◌, List, [], ◌∷◌, ◌++◌, length, refl, sym, ap, ◌∙◌, subst, arith, append_assoc, length-append}
 use Rattle.std.specs.Prelude.{map, drop, take, replicate}
 use Rattle.std.proofs.lemmas.List.{append-nil}
 use Rattle.std.proofs.Math.ListN.{drop_of_length-le}
 use Rattle.cmark_emphasis.specs.Shown.{shown_pair}
 use Rattle.cmark_emphasis.specs.declared.run.Pair as code_pair
 use Rattle.cmark_grammar.specs.Spans.{SpanKind, Emphasis, Strong, SingleTilde, DoubleTilde, Caret, Spans, Nil, Single, Around}
-use Rattle.cmark_grammar.specs.Emphasis.{Run, Pair, Sibling, Plain, Delimiter, Piece, Whole, Standing, pair_of, rest_of_opener, rest_of_closer, wrapped, row, keep, left_open, stand, Closes, StandFrom, places_taken}
+use Rattle.cmark_grammar.specs.Emphasis.{Run, Pair, Sibling, Plain, Delimiter, Piece, Whole, pair_of, rest_of_opener, rest_of_closer, wrapped, row, keep, stand, Closes, StandFrom, places_taken}
 use Rattle.cmark_grammar.specs.EmphasisModel.{closed, resolve, pairs_of, spans_of}
 use Rattle.cmark_emphasis.specs.declared.slot.SpanKind as code_kind
 use Rattle.cmark_emphasis.specs.declared.slot.SpanKind.TheVariants as code
 use Rattle.cmark_emphasis.specs.declared.slot.Slot.{Slot}
 use Rattle.cmark_emphasis.specs.declared.slot.Slot.TheVariants as slot
 use Rattle.cmark_emphasis.specs.Slots.{opening, closing, slots_of, AreBalanced, ArePairs, mark_pair, mark_pairs, IsWithin, AllWithin}
-use Rattle.cmark_emphasis.specs.Covers.{stays, Part, Covers}
+use Rattle.cmark_emphasis.specs.Covers.{stays, Covers}
 use Rattle.cmark_emphasis.proofs.Sound.{closed-closes}
 use Rattle.cmark_emphasis.proofs.Writes.{stays-add, length-stays}
 use Rattle.cmark_emphasis.proofs.Covered.{covers-end, covers-left, covers-stand, count-closer, covers-pair}

@@ -1,7 +1,7 @@
 -- The definition leaves one list of pairs, and one list of spans.
-use Rattle.std.proofs.Common.{◌≡◌, Bool, true, false, List, [], ◌∷◌, ◌++◌, refl, sym, ap, ◌∙◌, subst}
+use Rattle.std.proofs.Common.{◌≡◌, true, false, List, [], ◌∷◌, ◌++◌, refl, sym, ap, ◌∙◌, subst}
 use Rattle.cmark_grammar.specs.Spans.{Spans, Nil, Single}
-use Rattle.cmark_grammar.specs.Emphasis.{Run, Pair, Sibling, Plain, Delimiter, Piece, Whole, Standing, agrees, pair_of, rest_of_opener, rest_of_closer, wrapped, row, keep, left_open, stand, Misses, Takes, Closes, Course, Pairs, IsEmphasis}
+use Rattle.cmark_grammar.specs.Emphasis.{Run, Pair, Sibling, Plain, Delimiter, Piece, Whole, Standing, agrees, pair_of, rest_of_opener, rest_of_closer, wrapped, row, keep, stand, Misses, Closes, Pairs, IsEmphasis}
 use Rattle.cmark_grammar.specs.EmphasisModel.{closed, resolve, pairs_of, spans_of}
 use Rattle.cmark_emphasis.proofs.Sound.{closed-closes}
 

@@ -1,9 +1,9 @@
 -- The spans of siblings take the places of the siblings.
-use Rattle.std.proofs.Common.{◌≡◌, ℕ, zero, suc, ◌+◌, ◌-◌, ◌<◌, ◌≤◌, Bool, true, false, nat_lt, if◌then◌else◌, List, [], ◌∷◌, ◌++◌, length, refl, sym, ap, ◌∙◌, subst, arith}
+use Rattle.std.proofs.Common.{◌≡◌, ℕ, zero, suc, ◌+◌, ◌-◌, ◌≤◌, Bool, true, false, nat_lt, if◌then◌else◌, List, [], ◌∷◌, ◌++◌, refl, sym, ◌∙◌, subst, arith}
 use Rattle.std.specs.Prelude.{map}
 use Rattle.std.proofs.lemmas.Bool.{ltb-false}
-use Rattle.cmark_grammar.specs.Spans.{SpanKind, span_width, Spans, Nil, Single, Around, join, singles, Surrounds, TakePlaces}
-use Rattle.cmark_grammar.specs.Emphasis.{Run, Pair, Sibling, Plain, Delimiter, Piece, Whole, Standing, paired_count, pair_of, rest_of_opener, rest_of_closer, kinds_of, nest, wrapped, before, row, keep, is_tilde_or_caret, shuts, shut, left_open, stand, Closes, StandFrom, places_taken}
+use Rattle.cmark_grammar.specs.Spans.{SpanKind, span_width, Spans, Nil, Single, Around, join, singles, TakePlaces}
+use Rattle.cmark_grammar.specs.Emphasis.{Run, Pair, Sibling, Plain, Delimiter, Piece, Whole, Standing, paired_count, pair_of, rest_of_opener, rest_of_closer, kinds_of, nest, wrapped, row, keep, is_tilde_or_caret, shuts, shut, left_open, stand, Closes, StandFrom, places_taken}
 use Rattle.cmark_grammar.specs.EmphasisModel.{closed, resolve, spans_of}
 use Rattle.cmark_emphasis.specs.Covers.{widths}
 use Rattle.cmark_emphasis.proofs.Sound.{closed-closes}

@@ -1,8 +1,8 @@
 -- Quotes one after the other have the characters of the definition.
-use Rattle.std.proofs.Common.{◌≡◌, ℕ, zero, suc, ◌+◌, ◌<◌, ◌≤◌, Bool, true, false, not, ◌&&◌, ◌||◌, if◌then◌else◌, Option, Some, None, List, [], ◌∷◌, ◌++◌, length, set, refl, sym, ap, ◌∙◌, subst, arith, append_assoc, length-append}
-use Rattle.std.specs.Prelude.{is_some, IfSome, reverse, map, drop, take, get_or}
+use Rattle.std.proofs.Common.{◌≡◌, ℕ, zero, suc, ◌<◌, ◌≤◌, Bool, true, false, not, ◌&&◌, ◌||◌, if◌then◌else◌, Option, Some, None, List, [], ◌∷◌, ◌++◌, length, set, refl, sym, ap, ◌∙◌, subst, arith, append_assoc, length-append}
+use Rattle.std.specs.Prelude.{is_some, IfSome, reverse, map, take}
 use Rattle.std.proofs.lemmas.List.{append-nil, reverse-append, reverse-reverse, take_all}
-use Rattle.cmark_grammar.specs.Quotes.{Quote, is_double_open, is_single_open, is_closed_by, turns_open, double_character, quote_character, quote_characters}
+use Rattle.cmark_grammar.specs.Quotes.{Quote, is_double_open, is_single_open, is_closed_by, double_character, quote_characters}
 use Rattle.cmark_emphasis.specs.QuoteSteps.{single_after, double_after, double_character_after, turned, open_single, closed_from, character_so_far, so_far, IsBehind}
 
 pub single-open : (before : List Quote) → is_some (open_single before) ≡ is_single_open before

@@ -1,13 +1,13 @@
 -- Steps of a run that closes over a stack of open runs.
-use Rattle.std.proofs.Common.{◌≡◌, ◌⊎◌, inl, inr, ℕ, zero, suc, ◌+◌, ◌-◌, ◌<◌, ◌≤◌, Bool, true, false, nat_lt, if◌then◌else◌, List, [], ◌∷◌, ◌++◌, length, Option, Some, None, get_or, refl, sym, ap, ◌∙◌, subst, arith, append_assoc}
-use Rattle.std.specs.Prelude.{reverse, take, slice_get, All, map, filter}
+use Rattle.std.proofs.Common.{◌≡◌, ◌⊎◌, inl, inr, ℕ, zero, suc, ◌+◌, ◌-◌, ◌<◌, Bool, true, false, nat_lt, List, [], ◌∷◌, ◌++◌, length, Option, Some, None, get_or, refl, sym, ap, ◌∙◌, subst, arith, append_assoc}
+use Rattle.std.specs.Prelude.{reverse, take, slice_get, map, filter}
 use Rattle.std.proofs.lemmas.List.{append-nil, reverse-append, map-append, map_more, length-reverse, length-map, length-take-le}
 use Rattle.std.proofs.lemmas.List.Elements.{filter-append}
 use Rattle.std.proofs.lemmas.Bool.{ltb-true}
-use Rattle.std.proofs.lemmas.Option.{get_or_from_slice_get, slice_get-get_or, slice_get_within}
+use Rattle.std.proofs.lemmas.Option.{slice_get-get_or, slice_get_within}
 use Rattle.cmark_grammar.specs.Emphasis.{Run, Pair, agrees, paired_count, pair_of, rest_of_opener, rest_of_closer, shuts}
 use Rattle.cmark_emphasis.specs.Shown.{shown_run, shown_pair, open_runs}
-use Rattle.cmark_emphasis.specs.Stack.{Chased, and_then, picked, put, stays_open, still_open, chase, or_same, chased, NoneAgree, IsNearest, course_from}
+use Rattle.cmark_emphasis.specs.Stack.{Chased, and_then, put, stays_open, still_open, chase, or_same, chased, NoneAgree, IsNearest, course_from}
 use Rattle.cmark_emphasis.specs.declared.run.Run as code_run
 use Rattle.cmark_emphasis.specs.declared.run.Pair as code_pair
 use Rattle.cmark_emphasis.proofs.Sound.{agrees-empty, one_empty}

@@ -1,7 +1,7 @@
 -- How slots stand for the pieces before a run.
 use Rattle.std.specs.Prelude.{◌≡◌, ℕ, zero, suc, ◌+◌, List, [], ◌∷◌, ◌++◌, length}
 use Rattle.cmark_grammar.specs.Spans.{SpanKind, span_width}
-use Rattle.cmark_grammar.specs.Emphasis.{Run, Piece, Whole, Standing}
+use Rattle.cmark_grammar.specs.Emphasis.{Piece, Whole, Standing}
 use Rattle.cmark_emphasis.specs.declared.slot.Slot.{Slot}
 use Rattle.cmark_emphasis.specs.declared.slot.Slot.TheVariants as slot
 use Rattle.cmark_emphasis.specs.Slots.{opening, closing, slots_of}

@@ -1,5 +1,5 @@
 -- What runs and pairs are in the words of the grammar.
-use Rattle.std.specs.Prelude.{ℕ, ◌+◌, ◌<◌, ◌^◌, List, map, reverse}
+use Rattle.std.specs.Prelude.{◌+◌, ◌<◌, ◌^◌, List, map, reverse}
 use Rattle.cmark_grammar.specs.Emphasis.{Run, Pair}
 use Rattle.cmark_grammar.specs.Flanking.{Flanking}
 use Rattle.cmark_grammar.specs.Quotes.{Quote}

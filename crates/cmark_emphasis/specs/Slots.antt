@@ -1,8 +1,9 @@
 -- Spans around siblings as slots, one for each sibling.
-use Rattle.std.specs.Prelude.{◌≡◌, ℕ, zero, suc, ◌+◌, ◌-◌, ◌≤◌, List, [], ◌∷◌, ◌++◌, length, replicate, slice_set}
-use Rattle.cmark_grammar.specs.Spans.{SpanKind, Emphasis, Strong, SingleTilde, DoubleTilde, Caret, span_width, Spans, Nil, Single, Around}
+use Rattle.std.specs.Prelude.{◌≡◌, ℕ, suc, ◌+◌, ◌-◌, ◌≤◌, List, [], ◌∷◌, ◌++◌, slice_set}
+use Rattle.cmark_grammar.specs.Spans.{SpanKind, Emphasis, Strong, SingleTilde, DoubleTilde, Caret, span_width, Spans, Nil, Single, Around, join}
 use Rattle.cmark_grammar.specs.Emphasis.{Run, Pair, Sibling, StandFrom, places_taken, runs_of, kinds_of}
 use Rattle.cmark_grammar.specs.EmphasisModel.{pairs_of}
+use Rattle.cmark_emphasis.specs.Shown.{shown_kind}
 use Rattle.cmark_emphasis.specs.declared.slot.SpanKind.TheVariants as code
 use Rattle.cmark_emphasis.specs.declared.slot.SpanKind as code_kind
 use Rattle.cmark_emphasis.specs.declared.slot.Slot.{Slot}
@@ -28,6 +29,27 @@ abbrev pub slots_of : Spans → List Slot
 slots_of Nil = []
 slots_of (Single at after) = slot.Single ∷ slots_of after
 slots_of (Around span inside after) = (opening span.kind ++ (slots_of inside ++ closing span.kind)) ++ slots_of after
+
+-- a span that has begun: what stands before it, its kind, and its first place
+pub record Begun : Type 0 where
+  pub before : Spans
+  pub kind : SpanKind
+  pub start : ℕ
+
+-- slots as they are read from left to right, from this place on: what stands at hand, in the spans that have begun
+abbrev pub read_from : (at : ℕ) → List Slot → (here : Spans) → List Begun → Spans
+read_from at [] here begun = here
+read_from at (slot.Single ∷ slots) here begun = read_from (suc at) slots (join here (Single at Nil)) begun
+read_from at (slot.Blank ∷ slots) here begun = read_from (suc at) slots here begun
+read_from at (slot.Begin kind ∷ slots) here begun =
+    read_from (suc at) slots Nil (record { before = here; kind = shown_kind kind; start = at } ∷ begun)
+read_from at (slot.End kind ∷ slots) here [] = here
+read_from at (slot.End kind ∷ slots) here (last ∷ begun) =
+    read_from (suc at) slots (join last.before (Around (record { kind = last.kind; start = last.start; end = suc at }) here Nil)) begun
+
+-- the spans that slots say
+abbrev pub read_slots : List Slot → Spans
+read_slots slots = read_from 0 slots Nil []
 
 -- each span that begins ends, the last that began first, and these are open before
 abbrev pub AreBalanced : List code_kind.SpanKind → List Slot → Type 0

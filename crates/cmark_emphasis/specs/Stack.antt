@@ -1,5 +1,5 @@
 -- The pairs of a list of runs, by one pass with a stack of open runs, the nearest first.
-use Rattle.std.specs.Prelude.{◌≡◌, ℕ, ◌+◌, Bool, true, false, not, nat_lt, if◌then◌else◌, Option, Some, None, List, [], ◌∷◌, ◌++◌, map, take, slice_get, filter}
+use Rattle.std.specs.Prelude.{◌≡◌, ℕ, Bool, true, false, not, nat_lt, if◌then◌else◌, Option, Some, None, List, [], ◌∷◌, ◌++◌, map, take, slice_get, filter}
 use Rattle.cmark_grammar.specs.Emphasis.{Run, Pair, agrees, pair_of, rest_of_opener, rest_of_closer, is_tilde_or_caret, shuts}
 use Rattle.cmark_emphasis.specs.Shown.{shown_run, shown_pair, open_runs}
 use Rattle.cmark_emphasis.specs.declared.run.Run as code_run

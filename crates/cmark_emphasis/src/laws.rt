@@ -4,7 +4,7 @@ ghost use Rattle.std.specs.Prelude.{◌≡◌, List, []};
 ghost use Rattle.cmark_grammar.specs.Emphasis.{IsEmphasis, Pair, Sibling, StandFrom, places_taken};
 ghost use Rattle.cmark_grammar.specs.EmphasisModel.{pairs_of, spans_of};
 ghost use Rattle.cmark_grammar.specs.Spans.{Spans, TakePlaces};
-ghost use Rattle.cmark_emphasis.specs.Slots.{AreBalanced, slots_of};
+ghost use Rattle.cmark_emphasis.specs.Slots.{AreBalanced, read_slots, slots_of};
 
 /// The model's pairs and spans are the emphasis of the siblings.
 pub fn emphasis_is_derived()
@@ -21,6 +21,12 @@ pub fn one_emphasis()
 /// that open and close a span, and a span reaches from the first byte that opens it to behind the last that closes it.
 pub fn spans_take_the_places()
     ensures { (siblings : List Sibling) → StandFrom 0 siblings → TakePlaces 0 (spans_of siblings) (places_taken siblings) }
+{}
+
+/// The slots of the spans of siblings, read from left to right, say these spans: `Begin` opens one at its place, and `End` ends
+/// the last that is open behind its own.
+pub fn slots_say_the_spans()
+    ensures { (siblings : List Sibling) → StandFrom 0 siblings → read_slots (slots_of (spans_of siblings)) ≡ spans_of siblings }
 {}
 
 /// The slots of spans are balanced.

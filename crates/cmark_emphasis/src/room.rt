@@ -4,7 +4,7 @@ ghost use Rattle.std.specs.Prelude.{◌≡◌, List, [], map, OnOk};
 ghost use Rattle.cmark_grammar.specs.Emphasis.{Sibling, StandFrom, places_taken, runs_of};
 ghost use Rattle.cmark_grammar.specs.EmphasisModel.{spans_of};
 ghost use Rattle.cmark_emphasis.specs.Shown.{shown_run};
-ghost use Rattle.cmark_emphasis.specs.Slots.{AreBalanced, AreRuns, slots_of};
+ghost use Rattle.cmark_emphasis.specs.Slots.{AreBalanced, AreRuns, read_slots, slots_of};
 
 use crate::marking::write_slots;
 use crate::pairing::pair_runs;
@@ -42,6 +42,8 @@ pub fn slots_of_runs(
     requires { AreRuns count (map shown_run runs.now) }
     ensures spans { OnOk result ((siblings : List Sibling) → StandFrom 0 siblings → places_taken siblings ≡ count
         → runs_of siblings ≡ map shown_run runs.now → slots.new.items ≡ slots_of (spans_of siblings)) }
+    ensures says { OnOk result ((siblings : List Sibling) → StandFrom 0 siblings → places_taken siblings ≡ count
+        → runs_of siblings ≡ map shown_run runs.now → read_slots slots.new.items ≡ spans_of siblings) }
     ensures balanced { OnOk result (AreBalanced [] slots.new.items) }
 {
     room.pairs.clear();

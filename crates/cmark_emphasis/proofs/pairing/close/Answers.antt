@@ -1,4 +1,4 @@
-use Rattle.std.proofs.Common.{◌≡◌, sym, ◌∙◌, ap, subst, arith, ◌<◌, ◌+◌, ◌++◌, ◌∷◌, [], length}
+use Rattle.std.proofs.Common.{◌≡◌, sym, ◌∙◌, ap, subst, arith, ◌<◌, ◌+◌, length}
 use Rattle.cmark_grammar.specs.Emphasis as grammar
 use Rattle.cmark_emphasis.specs.Shown.{shown_run, open_runs}
 use Rattle.cmark_emphasis.specs.Stack.{IsNearest, NoneAgree, course_from, put}

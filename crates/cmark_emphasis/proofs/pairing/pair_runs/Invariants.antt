@@ -1,4 +1,4 @@
-use Rattle.std.proofs.Common.{◌≡◌, ◌++◌, [], All}
+use Rattle.std.proofs.Common.{◌≡◌, ◌++◌, All}
 use Rattle.std.specs.Prelude.{drop, map}
 use Rattle.cmark_emphasis.specs.Shown.{shown_run, shown_pair, open_runs, IsPlaced}
 use Rattle.cmark_emphasis.specs.Stack.{pair_all, run_pairs}

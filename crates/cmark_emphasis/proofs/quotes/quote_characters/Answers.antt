@@ -1,4 +1,3 @@
-use Rattle.std.proofs.Common.{map}
 use Rattle.cmark_emphasis.specs.Shown.{shown_quote}
 use Rattle.cmark_emphasis.proofs.Quoted.{behind_taken}
 use Rattle.cmark_emphasis.proofs.quotes.quote_characters.Goals as goal

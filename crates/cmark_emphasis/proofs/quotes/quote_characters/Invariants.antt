@@ -1,4 +1,4 @@
-use Rattle.std.proofs.Common.{◌≡◌, map, reverse, take}
+use Rattle.std.proofs.Common.{map, reverse, take}
 use Rattle.cmark_emphasis.specs.Shown.{shown_quote}
 use Rattle.cmark_emphasis.specs.QuoteSteps.{IsBehind}
 use Rattle.cmark_emphasis.proofs.quotes.quote_characters.Given as goal
