@@ -1,11 +1,13 @@
 -- Examples of emphasis (CommonMark 6.2, by their numbers there), computed: each character is a sibling.
-use Rattle.std.specs.Prelude.{true, ◌≡◌, ℕ, zero, suc, ◌==◌, ◌||◌, if◌then◌else◌, List, [], ◌∷◌, ◌++◌, codes, drop, Option, Some, None, slice_index_or}
+use Rattle.std.specs.Prelude.{true, ◌≡◌, ℕ, zero, suc, ◌==◌, ◌||◌, if◌then◌else◌, List, [], ◌∷◌, ◌++◌, codes, drop, take, ◌-◌, Option, Some, None, slice_index_or}
 use Rattle.std.specs.List.{prefix_len}
 use Rattle.std.proofs.Common.{refl}
 use Rattle.ucd_category.proofs.Computing.{ucd_category}
 use Rattle.cmark_grammar.specs.Options.{Options, no_options}
 use Rattle.cmark_grammar.specs.Flanking.{is_unicode_white_space, is_unicode_punctuation, flanking}
-use Rattle.cmark_grammar.specs.Spans.{SpanKind, Emphasis, Strong, SingleTilde, DoubleTilde, Caret, Spans, Nil, Single, Around}
+use Rattle.cmark_grammar.specs.Spans.{span_tag, Spans, Nil, Single, Around}
+use Rattle.cmark_grammar.specs.Tag.{Tag}
+use Rattle.cmark_grammar.specs.Tag as tag
 use Rattle.cmark_grammar.specs.Emphasis.{Run, Sibling, Plain, Delimiter, agrees, pair_of, rest_of_opener, rest_of_closer, kinds_of, shuts}
 use Rattle.cmark_grammar.specs.EmphasisModel.{closed, spans_of}
 
@@ -31,27 +33,30 @@ siblings options at last zero (c ∷ text) =
     then Delimiter (run_at options at last c text) ∷ siblings options (suc at) (Some c) (size_of c text) text
     else Plain at ∷ siblings options (suc at) (Some c) zero text
 
-abbrev start_tag : SpanKind → List ℕ
-start_tag Emphasis = codes "<em>"
-start_tag Strong = codes "<strong>"
-start_tag SingleTilde = codes "<sub>"
-start_tag DoubleTilde = codes "<del>"
-start_tag Caret = codes "<sup>"
+abbrev name : Tag → List ℕ
+name tag.Emphasis = codes "em"
+name tag.Strong = codes "strong"
+name tag.Strikethrough = codes "del"
+name tag.Subscript = codes "sub"
+name tag.Superscript = codes "sup"
+name _ = []
 
-abbrev end_tag : SpanKind → List ℕ
-end_tag Emphasis = codes "</em>"
-end_tag Strong = codes "</strong>"
-end_tag SingleTilde = codes "</sub>"
-end_tag DoubleTilde = codes "</del>"
-end_tag Caret = codes "</sup>"
+abbrev between : List ℕ → ℕ → ℕ → List ℕ
+between text start end = take (end - start) (drop start text)
 
-abbrev shown : List ℕ → Spans → List ℕ
-shown text Nil = []
-shown text (Single at after) = slice_index_or text at 0 ∷ shown text after
-shown text (Around span inside after) = start_tag span.kind ++ (shown text inside ++ (end_tag span.kind ++ shown text after))
+-- an element, or one text over all of it
+abbrev element : Option Tag → List ℕ → List ℕ → List ℕ
+element None whole inside = whole
+element (Some t) whole inside = codes "<" ++ (name t ++ (codes ">" ++ (inside ++ (codes "</" ++ (name t ++ codes ">")))))
+
+abbrev shown : Options → List ℕ → Spans → List ℕ
+shown options text Nil = []
+shown options text (Single at after) = slice_index_or text at 0 ∷ shown options text after
+shown options text (Around span inside after) =
+    element (span_tag options span.kind) (between text span.start span.end) (shown options text inside) ++ shown options text after
 
 abbrev html_with : Options → List ℕ → List ℕ
-html_with options text = shown text (spans_of (siblings options 0 None 0 text))
+html_with options text = shown options text (spans_of (siblings options 0 None 0 text))
 
 abbrev html : List ℕ → List ℕ
 html text = html_with no_options text
@@ -494,7 +499,7 @@ example_471 : html (codes "*foo *bar baz*") ≡ codes "*foo <em>bar baz</em>"
 unfolding ucd_category is_unicode_white_space is_unicode_punctuation agrees pair_of rest_of_opener rest_of_closer kinds_of shuts closed
 example_471 = refl
 
-strikethrough : struck (codes "a ~~b~~ ~c~") ≡ codes "a <del>b</del> <sub>c</sub>"
+strikethrough : struck (codes "a ~~b~~ ~c~") ≡ codes "a <del>b</del> <del>c</del>"
 unfolding ucd_category is_unicode_white_space is_unicode_punctuation agrees pair_of rest_of_opener rest_of_closer kinds_of shuts closed
 strikethrough = refl
 
@@ -521,6 +526,10 @@ intraword_tilde = refl
 not_read : html (codes "~~a~~ ^b^") ≡ codes "~~a~~ ^b^"
 unfolding ucd_category is_unicode_white_space is_unicode_punctuation agrees pair_of rest_of_opener rest_of_closer kinds_of shuts closed
 not_read = refl
+
+two_tildes_as_text : raised (codes "~~a *b*~~ ~c~") ≡ codes "~~a *b*~~ <sub>c</sub>"
+unfolding ucd_category is_unicode_white_space is_unicode_punctuation agrees pair_of rest_of_opener rest_of_closer kinds_of shuts closed
+two_tildes_as_text = refl
 
 super_and_subscript : raised (codes "x^2^ H~2~O *a^b*c^") ≡ codes "x<sup>2</sup> H<sub>2</sub>O <em>a^b</em>c^"
 unfolding ucd_category is_unicode_white_space is_unicode_punctuation agrees pair_of rest_of_opener rest_of_closer kinds_of shuts closed
