@@ -11,3 +11,4 @@ pub mod Quoted
 pub mod Placed
 pub mod Callers
 pub mod SlotsRead
+pub mod Alike

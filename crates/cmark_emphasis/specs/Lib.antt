@@ -1,4 +1,5 @@
 pub mod Ascii
+pub mod Classes
 pub mod Covers
 pub mod QuoteSteps
 pub mod Shown

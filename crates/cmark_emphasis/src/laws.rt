@@ -1,9 +1,10 @@
 //! Theorems over the definitions of emphasis, each the contract of a function that does nothing.
 
 ghost use Rattle.std.specs.Prelude.{◌≡◌, List, []};
-ghost use Rattle.cmark_grammar.specs.Emphasis.{IsEmphasis, Pair, Sibling, StandFrom, places_taken};
+ghost use Rattle.cmark_grammar.specs.Emphasis.{IsEmphasis, Pair, Run, Sibling, StandFrom, agrees, places_taken};
 ghost use Rattle.cmark_grammar.specs.EmphasisModel.{pairs_of, spans_of};
 ghost use Rattle.cmark_grammar.specs.Spans.{Spans, TakePlaces};
+ghost use Rattle.cmark_emphasis.specs.Classes.{IsClosing, IsLike};
 ghost use Rattle.cmark_emphasis.specs.Slots.{AreBalanced, read_slots, slots_of};
 
 /// The model's pairs and spans are the emphasis of the siblings.
@@ -32,4 +33,11 @@ pub fn slots_say_the_spans()
 /// The slots of spans are balanced.
 pub fn slots_are_balanced()
     ensures { (spans : Spans) → AreBalanced [] (slots_of spans) }
+{}
+
+/// Closing runs of one class agree with the same open runs: those of `*`, and of `_`, by their length modulo 3 and by whether
+/// they can open as well. So an open run that one of a class has passed agrees with none of that class.
+pub fn a_class_agrees_alike()
+    ensures { (opener first second : Run) → IsLike first second → IsClosing first → IsClosing second
+        → agrees opener second ≡ agrees opener first }
 {}
