@@ -11,8 +11,10 @@ pub mod BoundaryLaws
 pub mod ColumnSteps
 pub mod CountLaws
 pub mod DocumentsJoin
+pub mod EmphasisSamples
 pub mod LineSteps
 pub mod NotDerived
+pub mod QuoteSamples
 pub mod RangeLaws
 pub mod ReferenceLaws
 pub mod RowEdges

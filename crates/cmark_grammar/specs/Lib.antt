@@ -17,9 +17,12 @@ pub mod DefinitionLists
 pub mod Derivation
 pub mod Destinations
 pub mod DrawnDocument
+pub mod Emphasis
+pub mod EmphasisModel
 pub mod Entities
 pub mod Escapes
 pub mod Event
+pub mod Flanking
 pub mod Html
 pub mod HtmlBlocks
 pub mod InlineHtml
@@ -35,9 +38,11 @@ pub mod Metadata
 pub mod MetadataBlockKind
 pub mod Openings
 pub mod Options
+pub mod Quotes
 pub mod Ranges
 pub mod References
 pub mod Rows
+pub mod Spans
 pub mod Tables
 pub mod Tag
 pub mod TagEnd

@@ -1,0 +1,5 @@
+use Rattle.cmark_emphasis.proofs.Sound.{sound}
+use Rattle.cmark_emphasis.proofs.laws.emphasis_is_derived.Goals as goal
+
+pub returns : goal.returns
+returns c = sound

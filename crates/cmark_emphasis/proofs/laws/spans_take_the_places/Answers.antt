@@ -1,0 +1,5 @@
+use Rattle.cmark_emphasis.proofs.Placed.{places}
+use Rattle.cmark_emphasis.proofs.laws.spans_take_the_places.Goals as goal
+
+pub returns : goal.returns
+returns c = places

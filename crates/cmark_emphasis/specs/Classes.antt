@@ -1,0 +1,15 @@
+-- Closing runs of one class, which agree with the same open runs.
+use Rattle.std.specs.Prelude.{◌≡◌, ◌%◌, ◌<◌, true, false}
+use Rattle.cmark_grammar.specs.Emphasis.{Run, can_both, is_tilde_or_caret}
+
+-- a run that can close, and of which something is left
+pub record IsClosing (run : Run) : Type 0 where
+  pub closes : run.closes ≡ true
+  pub left : 0 < run.left
+
+-- runs of `*` or of `_` whose lengths are the same modulo 3, and that both can open as well, or both cannot
+pub record IsLike (first second : Run) : Type 0 where
+  pub emphasis : is_tilde_or_caret first.mark ≡ false
+  pub mark : second.mark ≡ first.mark
+  pub size : second.size % 3 ≡ first.size % 3
+  pub both : can_both second ≡ can_both first

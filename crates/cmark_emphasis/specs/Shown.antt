@@ -1,0 +1,40 @@
+-- What runs and pairs are in the words of the grammar.
+use Rattle.std.specs.Prelude.{◌+◌, ◌<◌, ◌^◌, List, map, reverse}
+use Rattle.cmark_grammar.specs.Emphasis.{Run, Pair}
+use Rattle.cmark_grammar.specs.Flanking.{Flanking}
+use Rattle.cmark_grammar.specs.Quotes.{Quote}
+use Rattle.cmark_emphasis.specs.declared.quotes.Quote as code_quote
+use Rattle.cmark_emphasis.specs.declared.flanking.Flanking as code_flanking
+use Rattle.cmark_grammar.specs.Spans.{SpanKind}
+use Rattle.cmark_grammar.specs.Spans as grammar
+use Rattle.cmark_emphasis.specs.declared.slot.SpanKind as code_kind
+use Rattle.cmark_emphasis.specs.declared.slot.SpanKind.TheVariants as code
+use Rattle.cmark_emphasis.specs.declared.run.Run as code_run
+use Rattle.cmark_emphasis.specs.declared.run.Pair as code_pair
+
+abbrev pub shown_run : code_run.Run → Run
+shown_run run = record { mark = run.mark; size = run.size; at = run.at; left = run.left; opens = run.opens; closes = run.closes }
+
+abbrev pub shown_pair : code_pair.Pair → Pair
+shown_pair pair = record { mark = pair.mark; from = pair.from; to = pair.to; count = pair.count }
+
+-- the places of the run are numbers that the machine has
+abbrev pub IsPlaced : code_run.Run → Type 0
+IsPlaced run = run.at + run.left < 2 ^ 64
+
+-- the open runs, the nearest first, of a stack whose last is the nearest
+abbrev pub open_runs : List code_run.Run → List Run
+open_runs stack = reverse (map shown_run stack)
+
+abbrev pub shown_flanking : code_flanking.Flanking → Flanking
+shown_flanking flanking = record { opens = flanking.opens; closes = flanking.closes }
+
+abbrev pub shown_kind : code_kind.SpanKind → SpanKind
+shown_kind code.Emphasis = grammar.Emphasis
+shown_kind code.Strong = grammar.Strong
+shown_kind code.SingleTilde = grammar.SingleTilde
+shown_kind code.DoubleTilde = grammar.DoubleTilde
+shown_kind code.Caret = grammar.Caret
+
+abbrev pub shown_quote : code_quote.Quote → Quote
+shown_quote quote = record { double = quote.double; opens = quote.opens; closes = quote.closes }

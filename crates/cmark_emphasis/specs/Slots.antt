@@ -1,0 +1,105 @@
+-- Spans around siblings as slots, one for each sibling.
+use Rattle.std.specs.Prelude.{◌≡◌, ℕ, suc, ◌+◌, ◌-◌, ◌≤◌, List, [], ◌∷◌, ◌++◌, slice_set}
+use Rattle.cmark_grammar.specs.Spans.{SpanKind, Emphasis, Strong, SingleTilde, DoubleTilde, Caret, span_width, Spans, Nil, Single, Around, join}
+use Rattle.cmark_grammar.specs.Emphasis.{Run, Pair, Sibling, StandFrom, places_taken, runs_of, kinds_of}
+use Rattle.cmark_grammar.specs.EmphasisModel.{pairs_of}
+use Rattle.cmark_emphasis.specs.Shown.{shown_kind}
+use Rattle.cmark_emphasis.specs.declared.slot.SpanKind.TheVariants as code
+use Rattle.cmark_emphasis.specs.declared.slot.SpanKind as code_kind
+use Rattle.cmark_emphasis.specs.declared.slot.Slot.{Slot}
+use Rattle.cmark_emphasis.specs.declared.slot.Slot.TheVariants as slot
+
+-- the slots of the bytes that open a span, and of those that close it
+abbrev pub opening : SpanKind → List Slot
+opening Emphasis = slot.Begin code.Emphasis ∷ []
+opening Strong = slot.Begin code.Strong ∷ (slot.Blank ∷ [])
+opening SingleTilde = slot.Begin code.SingleTilde ∷ []
+opening DoubleTilde = slot.Begin code.DoubleTilde ∷ (slot.Blank ∷ [])
+opening Caret = slot.Begin code.Caret ∷ []
+
+abbrev pub closing : SpanKind → List Slot
+closing Emphasis = slot.End code.Emphasis ∷ []
+closing Strong = slot.Blank ∷ (slot.End code.Strong ∷ [])
+closing SingleTilde = slot.End code.SingleTilde ∷ []
+closing DoubleTilde = slot.Blank ∷ (slot.End code.DoubleTilde ∷ [])
+closing Caret = slot.End code.Caret ∷ []
+
+-- the slots of siblings with these spans around them
+abbrev pub slots_of : Spans → List Slot
+slots_of Nil = []
+slots_of (Single at after) = slot.Single ∷ slots_of after
+slots_of (Around span inside after) = (opening span.kind ++ (slots_of inside ++ closing span.kind)) ++ slots_of after
+
+-- a span that has begun: what stands before it, its kind, and its first place
+pub record Begun : Type 0 where
+  pub before : Spans
+  pub kind : SpanKind
+  pub start : ℕ
+
+-- slots as they are read from left to right, from this place on: what stands at hand, in the spans that have begun
+abbrev pub read_from : (at : ℕ) → List Slot → (here : Spans) → List Begun → Spans
+read_from at [] here begun = here
+read_from at (slot.Single ∷ slots) here begun = read_from (suc at) slots (join here (Single at Nil)) begun
+read_from at (slot.Blank ∷ slots) here begun = read_from (suc at) slots here begun
+read_from at (slot.Begin kind ∷ slots) here begun =
+    read_from (suc at) slots Nil (record { before = here; kind = shown_kind kind; start = at } ∷ begun)
+read_from at (slot.End kind ∷ slots) here [] = here
+read_from at (slot.End kind ∷ slots) here (last ∷ begun) =
+    read_from (suc at) slots (join last.before (Around (record { kind = last.kind; start = last.start; end = suc at }) here Nil)) begun
+
+-- the spans that slots say
+abbrev pub read_slots : List Slot → Spans
+read_slots slots = read_from 0 slots Nil []
+
+-- each span that begins ends, the last that began first, and these are open before
+abbrev pub AreBalanced : List code_kind.SpanKind → List Slot → Type 0
+AreBalanced [] [] = Unit {0}
+AreBalanced (kind ∷ kinds) [] = ⊥
+AreBalanced kinds (slot.Single ∷ slots) = AreBalanced kinds slots
+AreBalanced kinds (slot.Blank ∷ slots) = AreBalanced kinds slots
+AreBalanced kinds (slot.Begin kind ∷ slots) = AreBalanced (kind ∷ kinds) slots
+AreBalanced [] (slot.End kind ∷ slots) = ⊥
+AreBalanced (last ∷ kinds) (slot.End kind ∷ slots) = (last ≡ kind) × AreBalanced kinds slots
+
+-- so many siblings pair so
+pub record ArePairs (count : ℕ) (pairs : List Pair) : Type 0 where
+  pub siblings : List Sibling
+  pub stand : StandFrom 0 siblings
+  pub taken : places_taken siblings ≡ count
+  pub are : pairs_of siblings ≡ pairs
+
+-- so many siblings have these runs
+pub record AreRuns (count : ℕ) (runs : List Run) : Type 0 where
+  pub siblings : List Sibling
+  pub stand : StandFrom 0 siblings
+  pub taken : places_taken siblings ≡ count
+  pub are : runs_of siblings ≡ runs
+
+-- these slots in the place of those from a place on
+abbrev pub write : ℕ → List Slot → List Slot → List Slot
+write at [] slots = slots
+write at (x ∷ xs) slots = write (suc at) xs (slice_set slots at x)
+
+-- spans around what stands between the places from and to, the innermost first
+abbrev pub mark_spans : List SpanKind → (from to : ℕ) → List Slot → List Slot
+mark_spans [] from to slots = slots
+mark_spans (kind ∷ kinds) from to slots =
+    mark_spans kinds (from - span_width kind) (to + span_width kind)
+    (write to (closing kind) (write (from - span_width kind) (opening kind) slots))
+
+abbrev pub mark_pair : Pair → List Slot → List Slot
+mark_pair pair slots = mark_spans (kinds_of pair.mark pair.count) pair.from pair.to slots
+
+abbrev pub mark_pairs : List Pair → List Slot → List Slot
+mark_pairs [] slots = slots
+mark_pairs (pair ∷ pairs) slots = mark_pairs pairs (mark_pair pair slots)
+
+-- the bytes of the pair are among so many siblings
+pub record IsWithin (count : ℕ) (pair : Pair) : Type 0 where
+  pub opens : pair.count ≤ pair.from
+  pub ordered : pair.from ≤ pair.to
+  pub closes : pair.to + pair.count ≤ count
+
+abbrev pub AllWithin : ℕ → List Pair → Type 0
+AllWithin count [] = Unit {0}
+AllWithin count (pair ∷ pairs) = IsWithin count pair × AllWithin count pairs

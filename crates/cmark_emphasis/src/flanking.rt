@@ -1,0 +1,152 @@
+//! Whether a delimiter run can open, and whether it can close, by what stands beside it (CommonMark 6.2).
+
+ghost use Rattle.std.specs.Prelude.{◌≡◌, ◌&&◌, ◌||◌, not};
+ghost use Rattle.cmark_text.specs.Shown.{shown_options};
+ghost use Rattle.cmark_grammar.specs.Flanking.{is_unicode_white_space, is_unicode_punctuation, is_white_space_there, is_punctuation_there};
+ghost use Rattle.cmark_grammar.specs.Flanking as grammar;
+ghost use Rattle.ucd_category.specs.GeneralCategory.{general_category_eq};
+ghost use Rattle.ucd_category.specs.GeneralCategoryGroup.{in_group};
+ghost use Rattle.ucd_category.specs.declared.GeneralCategory.TheVariants as GeneralCategory;
+ghost use Rattle.ucd_category.specs.declared.GeneralCategoryGroup.TheVariants as Group;
+ghost use Rattle.cmark_emphasis.specs.Ascii as ascii;
+ghost use Rattle.cmark_emphasis.specs.Shown.{shown_flanking};
+
+use bitflags::Flags;
+use cmark_text::Options;
+use ucd_category::{GeneralCategory, GeneralCategoryGroup};
+
+/// Whether a delimiter run can open, and whether it can close.
+#[derive(Clone, Copy, PartialEq, Eq, Debug)]
+pub struct Flanking {
+    /// It can open.
+    pub opens: bool,
+    /// It can close.
+    pub closes: bool,
+}
+
+/// What stands on one side of a run. An edge counts as white space.
+#[derive(Clone, Copy)]
+pub struct Side {
+    /// White space, or an edge.
+    pub white_space: bool,
+    /// Punctuation.
+    pub punctuation: bool,
+}
+
+/// Whether the character is white space in ASCII.
+fn is_ascii_white_space(c: char) -> bool
+    ensures { result ≡ ascii.is_ascii_white_space c }
+{
+    c == ' ' || c == '\t' || c == '\n' || c == '\u{c}' || c == '\r'
+}
+
+/// Whether the category is Zs.
+fn is_space_separator(category: GeneralCategory) -> bool
+    ensures { result ≡ general_category_eq category GeneralCategory.SpaceSeparator }
+{
+    category == GeneralCategory::SpaceSeparator
+}
+
+/// Whether the category is one of P or S.
+fn is_mark_or_symbol(category: GeneralCategory) -> bool
+    ensures { result ≡ (in_group Group.Punctuation category || in_group Group.Symbol category) }
+{
+    GeneralCategoryGroup::Punctuation.contains(category)
+        || GeneralCategoryGroup::Symbol.contains(category)
+}
+
+/// Whether the character is Unicode white space (CommonMark 2.1).
+fn is_white_space(c: char) -> bool
+    ensures { result ≡ is_unicode_white_space c }
+{
+    if c.is_ascii() {
+        return is_ascii_white_space(c);
+    }
+    is_space_separator(GeneralCategory::for_char(c))
+}
+
+/// Whether the character is Unicode punctuation (CommonMark 2.1).
+#[tactic(auto, unfolding(cmark_grammar::specs::Flanking::is_unicode_punctuation))]
+fn is_punctuation(c: char) -> bool
+    ensures { result ≡ is_unicode_punctuation c }
+{
+    if c.is_ascii() {
+        return c.is_ascii_punctuation();
+    }
+    is_mark_or_symbol(GeneralCategory::for_char(c))
+}
+
+/// What a character, or none, is beside a run.
+pub fn side_of(neighbor: Option<char>) -> Side
+    ensures { result ≡ record { white_space = is_white_space_there neighbor; punctuation = is_punctuation_there neighbor } }
+{
+    match neighbor {
+        None => Side {
+            white_space: true,
+            punctuation: false,
+        },
+        Some(c) => Side {
+            white_space: is_white_space(c),
+            punctuation: is_punctuation(c),
+        },
+    }
+}
+
+/// Whether no white space is on the side `inner`, and no punctuation either, unless white space or punctuation is on the other.
+fn flanks(inner: Side, outer: Side) -> bool
+    ensures { result ≡ (not inner.white_space && (not inner.punctuation || (outer.white_space || outer.punctuation))) }
+{
+    !inner.white_space && (!inner.punctuation || outer.white_space || outer.punctuation)
+}
+
+/// Whether so many of a mark are a delimiter run.
+fn is_delimiter_run(options: Options, mark: u8, size: usize) -> bool
+    ensures { result ≡ grammar.is_delimiter_run (shown_options options) mark size }
+{
+    match mark {
+        b'*' | b'_' => size > 0,
+        b'~' => {
+            (options.contains(Options::ENABLE_STRIKETHROUGH)
+                || options.contains(Options::ENABLE_SUBSCRIPT))
+                && (size == 1 || size == 2)
+        }
+        b'^' => options.contains(Options::ENABLE_SUPERSCRIPT) && size == 1,
+        _ => false,
+    }
+}
+
+/// Whether such a run can open and close inside a word too.
+fn is_intraword(options: Options, mark: u8, size: usize) -> bool
+    ensures { result ≡ grammar.is_intraword (shown_options options) mark size }
+{
+    mark != b'_' && (mark != b'~' || size == 2 || options.contains(Options::ENABLE_SUBSCRIPT))
+}
+
+/// Whether `size` bytes `mark` can open and close that stand between these characters (CommonMark 6.2, rules 1 to 8; GFM 6.5).
+/// None stands at the edge of a line, leaf or cell. What is no delimiter run by the options can do neither: three tildes, for
+/// one.
+pub fn flanking_of(
+    options: Options,
+    mark: u8,
+    size: usize,
+    before: Option<char>,
+    after: Option<char>,
+) -> Flanking
+    ensures { shown_flanking result ≡ grammar.flanking (shown_options options) mark size before after }
+{
+    if !is_delimiter_run(options, mark, size) {
+        return Flanking {
+            opens: false,
+            closes: false,
+        };
+    }
+    let left = side_of(before);
+    let right = side_of(after);
+    let is_left_flanking = flanks(right, left);
+    let is_right_flanking = flanks(left, right);
+    let intraword = is_intraword(options, mark, size);
+    Flanking {
+        opens: is_left_flanking && (intraword || !is_right_flanking || left.punctuation),
+        closes: is_right_flanking && (intraword || !is_left_flanking || right.punctuation),
+    }
+}

@@ -1,0 +1,178 @@
+//! Pairs the delimiter runs of a list of siblings (CommonMark 6.2).
+
+ghost use Rattle.std.specs.Prelude.{◌≡◌, ◌++◌, List, OnOk, IfOk, MatchOption, All, map};
+ghost use Rattle.cmark_grammar.specs.Emphasis.{Sibling, agrees, pair_of, runs_of};
+ghost use Rattle.cmark_grammar.specs.EmphasisModel.{pairs_of};
+ghost use Rattle.cmark_grammar.specs.Emphasis as grammar;
+ghost use Rattle.cmark_emphasis.specs.Shown.{shown_run, shown_pair, open_runs, IsPlaced};
+ghost use Rattle.cmark_emphasis.specs.Stack.{Chased, IsNearest, NoneAgree, course_from, put, still_open};
+
+use crate::run::{Pair, Run};
+use std::alloc::AllocError;
+
+/// The rule of three: where one of both can both open and close, the sum of their lengths is no multiple of 3 unless both
+/// lengths are. The sum itself may be past all numbers.
+fn keeps_rule_of_three(opener: Run, closer: Run) -> bool
+    ensures { result ≡ grammar.keeps_rule_of_three (shown_run opener) (shown_run closer) }
+{
+    let either_can_both = opener.opens && opener.closes || closer.opens && closer.closes;
+    !either_can_both || opener.size % 3 + closer.size % 3 != 3
+}
+
+/// Whether the run can close the open one.
+#[tactic(auto, unfolding(cmark_grammar::specs::Emphasis::agrees))]
+fn can_close(opener: Run, closer: Run) -> bool
+    ensures { result ≡ agrees (shown_run opener) (shown_run closer) }
+{
+    closer.closes
+        && closer.left > 0
+        && opener.mark == closer.mark
+        && (closer.mark != b'~' || opener.size == closer.size)
+        && keeps_rule_of_three(opener, closer)
+}
+
+/// The last open run that the run can close.
+fn nearest(closer: Run, stack: &[Run]) -> Option<usize>
+    ensures { MatchOption result (NoneAgree (shown_run closer) (open_runs stack.now)) (IsNearest (shown_run closer) stack.now) }
+{
+    if closer.left == 0 {
+        return None;
+    }
+    let mut i = stack.len();
+    while i > 0 {
+        i -= 1;
+        let opener = stack[i];
+        if can_close(opener, closer) {
+            return Some(i);
+        }
+    }
+    None
+}
+
+/// The pair of an open run and the one that closes it.
+#[tactic(auto, unfolding(cmark_grammar::specs::Emphasis::pair_of))]
+fn pair_up(opener: Run, closer: Run) -> Pair
+    requires opener { IsPlaced opener }
+    ensures { shown_pair result ≡ pair_of (shown_run opener) (shown_run closer) }
+{
+    Pair {
+        mark: closer.mark,
+        from: opener.at + opener.left,
+        to: closer.at,
+        count: opener.left.min(closer.left),
+    }
+}
+
+/// What is left of the open run.
+#[tactic(auto, unfolding(cmark_grammar::specs::Emphasis::rest_of_opener))]
+fn rest_of_opener(opener: Run, closer: Run) -> Run
+    requires opener { IsPlaced opener }
+    ensures value { shown_run result ≡ grammar.rest_of_opener (shown_run opener) (shown_run closer) }
+    ensures placed { IsPlaced result }
+{
+    Run {
+        left: opener.left - opener.left.min(closer.left),
+        ..opener
+    }
+}
+
+/// What is left of the run that closes.
+#[tactic(auto, unfolding(cmark_grammar::specs::Emphasis::rest_of_closer))]
+fn rest_of_closer(opener: Run, closer: Run) -> Run
+    requires closer { IsPlaced closer }
+    ensures value { shown_run result ≡ grammar.rest_of_closer (shown_run opener) (shown_run closer) }
+    ensures placed { IsPlaced result }
+{
+    let count = opener.left.min(closer.left);
+    Run {
+        at: closer.at + count,
+        left: closer.left - count,
+        ..closer
+    }
+}
+
+/// Puts what is left of a run on the stack, if anything is.
+fn put_on(stack: &mut Vec<Run>, run: Run) -> Result<(), AllocError>
+    requires run { IsPlaced run }
+    requires stack { All IsPlaced stack.old.items }
+    ensures placed { OnOk result (All IsPlaced stack.new.items) }
+    ensures value { OnOk result (open_runs stack.new.items ≡ put (shown_run run) (open_runs stack.old.items)) }
+{
+    if run.left == 0 {
+        return Ok(());
+    }
+    stack.push(run)?;
+    Ok(())
+}
+
+/// Whether the mark is a tilde or a caret.
+fn is_tilde_or_caret(mark: u8) -> bool
+    ensures { result ≡ grammar.is_tilde_or_caret mark }
+{
+    mark == b'~' || mark == b'^'
+}
+
+/// Whether the run, which found none, shuts all open tildes and carets.
+#[tactic(auto, unfolding(cmark_grammar::specs::Emphasis::shuts))]
+fn shuts(closer: Run) -> bool
+    ensures { result ≡ grammar.shuts (shown_run closer) }
+{
+    closer.closes && closer.left > 0 && is_tilde_or_caret(closer.mark)
+}
+
+/// Takes the tildes and carets off the stack that the run shuts.
+fn shut_open_ones(closer: Run, stack: &mut Vec<Run>)
+    requires { All IsPlaced stack.old.items }
+    ensures placed { All IsPlaced stack.new.items }
+    ensures value { open_runs stack.new.items ≡ still_open (shown_run closer) (open_runs stack.old.items) }
+{
+    if shuts(closer) {
+        stack.retain(|run| !is_tilde_or_caret(run.mark));
+    }
+}
+
+/// Closes what the run can, and says what is left of it. Each search goes over the whole stack, so all may take a time that
+/// grows with the square of the number of runs.
+fn close(run: Run, stack: &mut Vec<Run>, pairs: &mut Vec<Pair>) -> Result<Run, AllocError>
+    requires run { IsPlaced run }
+    requires stack { All IsPlaced stack.old.items }
+    ensures placed { OnOk result (All IsPlaced stack.new.items) }
+    ensures rest { IfOk result IsPlaced }
+    ensures value { IfOk result (λ rest. course_from (shown_run run) stack.old.items pairs.old.items
+        ≡ record { rest = shown_run rest; opens = open_runs stack.new.items; pairs = map shown_pair pairs.new.items }) }
+{
+    let mut closer = run;
+    while let Some(found) = nearest(closer, stack) {
+        let opener = stack[found];
+        stack.truncate(found);
+        pairs.push(pair_up(opener, closer))?;
+        put_on(stack, rest_of_opener(opener, closer))?;
+        closer = rest_of_closer(opener, closer);
+    }
+    shut_open_ones(closer, stack);
+    Ok(closer)
+}
+
+/// Adds the pairs that these runs make, in the order in which they close (CommonMark 6.2, GFM 6.5): those of the runs of one
+/// list of siblings, in their order. `stack` is room for the call, whatever it holds. Where memory is refused, `pairs` may
+/// have some of them.
+///
+/// Each search for an open run begins anew, so the time may grow with the square of the number of runs.
+pub fn pair_runs(
+    runs: &[Run],
+    stack: &mut Vec<Run>,
+    pairs: &mut Vec<Pair>,
+) -> Result<(), AllocError>
+    requires { All IsPlaced runs.now }
+    ensures { OnOk result ((siblings : List Sibling) → runs_of siblings ≡ map shown_run runs.now
+        → map shown_pair pairs.new.items ≡ map shown_pair pairs.old.items ++ pairs_of siblings) }
+{
+    stack.clear();
+    for run in runs.iter() {
+        let rest = close(*run, stack, pairs)?;
+        if rest.opens {
+            put_on(stack, rest)?;
+        }
+    }
+    Ok(())
+}

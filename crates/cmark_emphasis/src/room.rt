@@ -1,0 +1,53 @@
+//! From the runs of a list of siblings to their slots.
+
+ghost use Rattle.std.specs.Prelude.{◌≡◌, List, [], map, OnOk};
+ghost use Rattle.cmark_grammar.specs.Emphasis.{Sibling, StandFrom, places_taken, runs_of};
+ghost use Rattle.cmark_grammar.specs.EmphasisModel.{spans_of};
+ghost use Rattle.cmark_emphasis.specs.Shown.{shown_run};
+ghost use Rattle.cmark_emphasis.specs.Slots.{AreBalanced, AreRuns, read_slots, slots_of};
+
+use crate::marking::write_slots;
+use crate::pairing::pair_runs;
+use crate::run::{Pair, Run};
+use crate::slot::Slot;
+use std::alloc::{AllocError, Global};
+
+/// Room for the pairing of runs, which one list of siblings leaves to the next.
+#[derive(Debug, Drop)]
+pub struct PairingRoom {
+    stack: Vec<Run>,
+    pairs: Vec<Pair>,
+}
+
+impl PairingRoom {
+    /// Room that takes no memory yet.
+    pub fn new(alloc: Global) -> Self {
+        PairingRoom {
+            stack: Vec::new(alloc),
+            pairs: Vec::new(alloc),
+        }
+    }
+}
+
+/// Makes the slots of `count` siblings of which these are the delimiter runs, in their order (CommonMark 6.2, GFM 6.5): which
+/// runs pair, and the spans that the pairs become. What `slots` held is gone; where memory is refused, they hold anything.
+///
+/// Each search for an open run begins anew, so the time may grow with the square of the number of runs.
+pub fn slots_of_runs(
+    count: usize,
+    runs: &[Run],
+    room: &mut PairingRoom,
+    slots: &mut Vec<Slot>,
+) -> Result<(), AllocError>
+    requires { AreRuns count (map shown_run runs.now) }
+    ensures spans { OnOk result ((siblings : List Sibling) → StandFrom 0 siblings → places_taken siblings ≡ count
+        → runs_of siblings ≡ map shown_run runs.now → slots.new.items ≡ slots_of (spans_of siblings)) }
+    ensures says { OnOk result ((siblings : List Sibling) → StandFrom 0 siblings → places_taken siblings ≡ count
+        → runs_of siblings ≡ map shown_run runs.now → read_slots slots.new.items ≡ spans_of siblings) }
+    ensures balanced { OnOk result (AreBalanced [] slots.new.items) }
+{
+    room.pairs.clear();
+    pair_runs(runs, &mut room.stack, &mut room.pairs)?;
+    write_slots(count, &room.pairs, slots)?;
+    Ok(())
+}

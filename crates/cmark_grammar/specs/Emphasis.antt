@@ -1,0 +1,187 @@
+-- Which delimiter runs of a list of siblings pair, and the spans that the pairs become (CommonMark 6.2, GFM 6.5).
+use Rattle.std.specs.Prelude.{◌≡◌, ℕ, zero, suc, ◌+◌, ◌-◌, ◌%◌, Bool, true, false, not, ◌==◌, ◌&&◌, ◌||◌, nat_lt, if◌then◌else◌, List, [], ◌∷◌, ◌++◌, map}
+use Rattle.cmark_grammar.specs.Spans.{SpanKind, Emphasis, Strong, SingleTilde, DoubleTilde, Caret, span_width, Spans, Nil, Single, Around, join, singles}
+
+-- what is left of a delimiter run: its mark, how many bytes it had, the place of the first byte that is left, how many
+-- are left, and whether it can open and close
+pub record Run : Type 0 where
+  pub mark : ℕ
+  pub size : ℕ
+  pub at : ℕ
+  pub left : ℕ
+  pub opens : Bool
+  pub closes : Bool
+
+-- so many bytes of a mark that open, directly in front of a place, and as many that close, from a place on
+pub record Pair : Type 0 where
+  pub mark : ℕ
+  pub from : ℕ
+  pub to : ℕ
+  pub count : ℕ
+
+-- a sibling that is no run, or a run
+pub data Sibling : Type 0 where
+  Plain : (at : ℕ) → Sibling
+  Delimiter : (run : Run) → Sibling
+
+-- what stands before a run: siblings with their spans, or a run that is open
+pub data Piece : Type 0 where
+  Whole : (spans : Spans) → Piece
+  Standing : (run : Run) → Piece
+
+-- the siblings stand at the places from this one on, and each run is whole
+abbrev pub StandFrom : ℕ → List Sibling → Type 0
+StandFrom n [] = Unit {0}
+StandFrom n (Plain at ∷ siblings) = (at ≡ n) × StandFrom (suc n) siblings
+StandFrom n (Delimiter run ∷ siblings) = (run.at ≡ n) × (run.left ≡ run.size) × StandFrom (n + run.size) siblings
+
+-- how many places they take
+abbrev pub places_taken : List Sibling → ℕ
+places_taken [] = 0
+places_taken (Plain at ∷ siblings) = suc (places_taken siblings)
+places_taken (Delimiter run ∷ siblings) = run.left + places_taken siblings
+
+abbrev pub runs_of : List Sibling → List Run
+runs_of [] = []
+runs_of (Plain at ∷ siblings) = runs_of siblings
+runs_of (Delimiter run ∷ siblings) = run ∷ runs_of siblings
+
+abbrev pub can_both : Run → Bool
+can_both run = run.opens && run.closes
+
+-- where one of them can both open and close, the sum of their lengths is no multiple of 3 unless both lengths are
+-- (CommonMark 6.2, rules 9 and 10)
+abbrev pub keeps_rule_of_three : (opener closer : Run) → Bool
+keeps_rule_of_three opener closer =
+    not (can_both opener || can_both closer)
+    || (not ((opener.size + closer.size) % 3 == 0) || ((opener.size % 3 == 0) && (closer.size % 3 == 0)))
+
+-- the same mark, and of `~` the same length (GFM 6.5)
+abbrev pub has_same_mark : (opener closer : Run) → Bool
+has_same_mark opener closer = (opener.mark == closer.mark) && (not (closer.mark == 126) || (opener.size == closer.size))
+
+-- this run can close that open one
+unfoldable pub agrees : (opener closer : Run) → Bool
+agrees opener closer =
+    closer.closes && (nat_lt 0 closer.left && (has_same_mark opener closer && keeps_rule_of_three opener closer))
+
+-- the lesser of what is left of both is paired
+abbrev pub paired_count : (opener closer : Run) → ℕ
+paired_count opener closer = if nat_lt opener.left closer.left then opener.left else closer.left
+
+-- the inner bytes of both
+unfoldable pub pair_of : (opener closer : Run) → Pair
+pair_of opener closer = record { mark = closer.mark; from = opener.at + opener.left; to = closer.at; count = paired_count opener closer }
+
+-- the opener and the closer without them
+unfoldable pub rest_of_opener : (opener closer : Run) → Run
+rest_of_opener opener closer = record opener { left = opener.left - paired_count opener closer }
+
+unfoldable pub rest_of_closer : (opener closer : Run) → Run
+rest_of_closer opener closer =
+    record closer { at = closer.at + paired_count opener closer; left = closer.left - paired_count opener closer }
+
+-- the spans that a pair becomes, the innermost first (CommonMark 6.2, rules 13 and 14): twos, and an odd one outermost
+abbrev pub emphasis_kinds : ℕ → List SpanKind
+emphasis_kinds zero = []
+emphasis_kinds (suc zero) = Emphasis ∷ []
+emphasis_kinds (suc (suc n)) = Strong ∷ emphasis_kinds n
+
+abbrev pub tilde_kinds : ℕ → List SpanKind
+tilde_kinds zero = []
+tilde_kinds (suc zero) = SingleTilde ∷ []
+tilde_kinds (suc (suc n)) = DoubleTilde ∷ tilde_kinds n
+
+abbrev pub caret_kinds : ℕ → List SpanKind
+caret_kinds zero = []
+caret_kinds (suc n) = Caret ∷ caret_kinds n
+
+unfoldable pub kinds_of : (mark count : ℕ) → List SpanKind
+kinds_of mark count = if mark == 126 then tilde_kinds count else if mark == 94 then caret_kinds count else emphasis_kinds count
+
+-- spans around what stands between the places from and to
+abbrev pub nest : List SpanKind → (from to : ℕ) → Spans → Spans
+nest [] from to inside = inside
+nest (kind ∷ kinds) from to inside =
+    nest kinds (from - span_width kind) (to + span_width kind)
+    (Around (record { kind = kind; start = from - span_width kind; end = to + span_width kind }) inside Nil)
+
+abbrev pub wrapped : Pair → Spans → Spans
+wrapped pair inside = nest (kinds_of pair.mark pair.count) pair.from pair.to inside
+
+-- a piece before some spans: what is left of an open run is text
+abbrev pub before : Piece → Spans → Spans
+before (Whole spans) after = join spans after
+before (Standing run) after = singles run.at run.left after
+
+-- pieces, the nearest first, before some spans
+abbrev pub row : List Piece → Spans → Spans
+row [] after = after
+row (piece ∷ pieces) after = row pieces (before piece after)
+
+-- no open run among the pieces agrees with this one
+abbrev pub Misses : Run → List Piece → Type 0
+Misses closer [] = Unit {0}
+Misses closer (Whole spans ∷ pieces) = Misses closer pieces
+Misses closer (Standing opener ∷ pieces) = (agrees opener closer ≡ false) × Misses closer pieces
+
+-- what is left of a run stands, if anything is
+abbrev pub keep : Run → List Piece → List Piece
+keep run pieces = if nat_lt 0 run.left then Standing run ∷ pieces else pieces
+
+-- a tilde or a caret
+abbrev pub is_tilde_or_caret : ℕ → Bool
+is_tilde_or_caret mark = (mark == 126) || (mark == 94)
+
+-- a closing run of them that finds none shuts all open ones (this profile's own)
+unfoldable pub shuts : Run → Bool
+shuts closer = closer.closes && (nat_lt 0 closer.left && is_tilde_or_caret closer.mark)
+
+abbrev pub shut : Piece → Piece
+shut (Whole spans) = Whole spans
+shut (Standing run) = if is_tilde_or_caret run.mark then Whole (singles run.at run.left Nil) else Standing run
+
+abbrev pub left_open : Run → List Piece → List Piece
+left_open closer pieces = if shuts closer then map shut pieces else pieces
+
+-- the closer takes the nearest open run that agrees, and those between are shut; what is between is inside the pair
+pub record Takes (Then : Run → List Piece → Type 0) (closer : Run) (pieces : List Piece) (pair : Pair) : Type 0 where
+  pub between : List Piece
+  pub opener : Run
+  pub front : List Piece
+  pub cut : pieces ≡ between ++ (Standing opener ∷ front)
+  pub nearest : Misses closer between
+  pub agree : agrees opener closer ≡ true
+  pub is : pair ≡ pair_of opener closer
+  pub so : Then (rest_of_closer opener closer) (Whole (wrapped pair (row between Nil)) ∷ keep (rest_of_opener opener closer) front)
+
+-- a run closes, pair after pair, until no open run agrees; this is left of it, and these pieces
+abbrev pub Closes : Run → List Piece → List Pair → Run → List Piece → Type 0
+Closes closer pieces [] rest now = Misses closer pieces × (rest ≡ closer) × (now ≡ left_open closer pieces)
+Closes closer pieces (pair ∷ more) rest now = Takes (λ run others. Closes run others more rest now) closer pieces pair
+
+-- what is left of a run then opens, if it can, or is text
+abbrev pub stand : Run → List Piece → List Piece
+stand run pieces = if run.opens then keep run pieces else Whole (singles run.at run.left Nil) ∷ pieces
+
+-- a run's own pairs come before those of the runs behind it
+pub record Course (Then : List Piece → List Pair → Type 0) (run : Run) (pieces : List Piece) (pairs : List Pair) : Type 0 where
+  pub own : List Pair
+  pub others : List Pair
+  pub rest : Run
+  pub now : List Piece
+  pub cut : pairs ≡ own ++ others
+  pub closes : Closes run pieces own rest now
+  pub so : Then (stand rest now) others
+
+-- these siblings, read from left to right behind these pieces, pair so and leave these pieces
+abbrev pub Pairs : List Sibling → List Piece → List Pair → List Piece → Type 0
+Pairs [] pieces pairs last = (pairs ≡ []) × (last ≡ pieces)
+Pairs (Plain at ∷ siblings) pieces pairs last = Pairs siblings (Whole (Single at Nil) ∷ pieces) pairs last
+Pairs (Delimiter run ∷ siblings) pieces pairs last = Course (λ others more. Pairs siblings others more last) run pieces pairs
+
+-- these siblings pair so, and become these spans
+pub record IsEmphasis (siblings : List Sibling) (pairs : List Pair) (spans : Spans) : Type 0 where
+  pub last : List Piece
+  pub are : Pairs siblings [] pairs last
+  pub become : spans ≡ row last Nil

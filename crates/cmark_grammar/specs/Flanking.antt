@@ -1,0 +1,70 @@
+-- What a delimiter run stands beside, and whether it can open or close (CommonMark 2.1 and 6.2).
+use Rattle.std.specs.Prelude.{ℕ, Bool, true, false, not, ◌==◌, ◌&&◌, ◌||◌, nat_lt, Option, Some, None}
+use Rattle.ucd_category.specs.GeneralCategory.{general_category, general_category_eq}
+use Rattle.ucd_category.specs.GeneralCategoryGroup.{in_group}
+use Rattle.ucd_category.specs.declared.GeneralCategory.TheVariants.{SpaceSeparator}
+use Rattle.ucd_category.specs.declared.GeneralCategoryGroup.TheVariants.{Punctuation, Symbol}
+use Rattle.cmark_grammar.specs.Options.{Options}
+
+-- Unicode white space (CommonMark 2.1): the general category Zs, a tab, LF, FF or CR
+unfoldable pub is_unicode_white_space : ℕ → Bool
+is_unicode_white_space c =
+    (c == 9) || ((c == 10) || ((c == 12) || ((c == 13) || general_category_eq (general_category c) SpaceSeparator)))
+
+-- Unicode punctuation (CommonMark 2.1): the general categories P and S
+unfoldable pub is_unicode_punctuation : ℕ → Bool
+is_unicode_punctuation c = in_group Punctuation (general_category c) || in_group Symbol (general_category c)
+
+-- beside a run stands a character, or none: the edge of its line, leaf or cell, which counts as white space
+abbrev pub is_white_space_there : Option ℕ → Bool
+is_white_space_there None = true
+is_white_space_there (Some c) = is_unicode_white_space c
+
+abbrev pub is_punctuation_there : Option ℕ → Bool
+is_punctuation_there None = false
+is_punctuation_there (Some c) = is_unicode_punctuation c
+
+-- left-flanking (CommonMark 6.2): no white space follows, and either no punctuation follows, or white space or
+-- punctuation stands before
+abbrev pub is_left_flanking : (before after : Option ℕ) → Bool
+is_left_flanking before after =
+    not (is_white_space_there after)
+    && (not (is_punctuation_there after) || (is_white_space_there before || is_punctuation_there before))
+
+-- right-flanking (CommonMark 6.2): the mirror
+abbrev pub is_right_flanking : (before after : Option ℕ) → Bool
+is_right_flanking before after =
+    not (is_white_space_there before)
+    && (not (is_punctuation_there before) || (is_white_space_there after || is_punctuation_there after))
+
+-- so many of a mark are a delimiter run: `*` and `_` in any number, one or two `~` where strikethrough or subscript is
+-- read, and one `^` where superscript is (GFM 6.5, and this profile's own)
+abbrev pub is_delimiter_run : Options → (mark size : ℕ) → Bool
+is_delimiter_run options mark size =
+    (((mark == 42) || (mark == 95)) && nat_lt 0 size)
+    || ((mark == 126) && ((options.strikethrough || options.subscript) && ((size == 1) || (size == 2)))
+    || ((mark == 94) && (options.superscript && (size == 1))))
+
+-- it can open and close inside a word too (CommonMark 6.2, rules 1 to 8): all but `_`, and one `~` where no subscript is
+-- read (this profile's own)
+abbrev pub is_intraword : Options → (mark size : ℕ) → Bool
+is_intraword options mark size = not (mark == 95) && (not (mark == 126) || ((size == 2) || options.subscript))
+
+-- whether a run can open, and whether it can close (CommonMark 6.2, rules 1 to 8)
+pub record Flanking : Type 0 where
+  pub opens : Bool
+  pub closes : Bool
+
+abbrev pub opens_beside : (intraword : Bool) → (before after : Option ℕ) → Bool
+opens_beside intraword before after =
+    is_left_flanking before after && (intraword || (not (is_right_flanking before after) || is_punctuation_there before))
+
+abbrev pub closes_beside : (intraword : Bool) → (before after : Option ℕ) → Bool
+closes_beside intraword before after =
+    is_right_flanking before after && (intraword || (not (is_left_flanking before after) || is_punctuation_there after))
+
+abbrev pub flanking : Options → (mark size : ℕ) → (before after : Option ℕ) → Flanking
+flanking options mark size before after = record {
+  opens = is_delimiter_run options mark size && opens_beside (is_intraword options mark size) before after;
+  closes = is_delimiter_run options mark size && closes_beside (is_intraword options mark size) before after;
+}

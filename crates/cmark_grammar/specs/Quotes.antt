@@ -1,0 +1,73 @@
+-- Quotes as typographic ones, where smart punctuation is read (this profile's own).
+use Rattle.std.specs.Prelude.{ℕ, Bool, true, false, not, ◌==◌, ◌&&◌, ◌||◌, if◌then◌else◌, Option, Some, None, List, [], ◌∷◌}
+use Rattle.cmark_grammar.specs.Flanking.{is_white_space_there, is_punctuation_there}
+
+-- a quote, `"` if it is double and else `'`, and whether it can open and close
+pub record Quote : Type 0 where
+  pub double : Bool
+  pub opens : Bool
+  pub closes : Bool
+
+-- the end of a link's text or of its destination
+abbrev pub is_closing_bracket_there : Option ℕ → Bool
+is_closing_bracket_there None = false
+is_closing_bracket_there (Some c) = (c == 93) || (c == 41)
+
+-- it can open where no white space follows, and white space or punctuation stands before; of a single quote neither `]`
+-- nor `)` counts as that
+abbrev pub quote_opens : (double : Bool) → (before after : Option ℕ) → Bool
+quote_opens double before after =
+    not (is_white_space_there after)
+    && (is_white_space_there before || (is_punctuation_there before && (double || not (is_closing_bracket_there before))))
+
+-- it can close where no white space stands before, and white space or punctuation follows
+abbrev pub quote_closes : (before after : Option ℕ) → Bool
+quote_closes before after = not (is_white_space_there before) && (is_white_space_there after || is_punctuation_there after)
+
+abbrev pub quote_beside : (double : Bool) → (before after : Option ℕ) → Quote
+quote_beside double before after = record { double = double; opens = quote_opens double before after; closes = quote_closes before after }
+
+-- a double quote is open behind these quotes, the nearest first
+abbrev pub is_double_open : List Quote → Bool
+is_double_open [] = false
+is_double_open (quote ∷ before) =
+    if not quote.double then is_double_open before
+    else if quote.closes && is_double_open before then false
+    else quote.opens || is_double_open before
+
+-- a single quote is open behind these quotes, the nearest first
+abbrev pub is_single_open : List Quote → Bool
+is_single_open [] = false
+is_single_open (quote ∷ before) =
+    if quote.double then is_single_open before
+    else if quote.closes && is_single_open before then false
+    else quote.opens || is_single_open before
+
+-- of the single quotes behind an open one the first that can close or open does close
+abbrev pub is_closed_by : List Quote → Bool
+is_closed_by [] = false
+is_closed_by (quote ∷ after) =
+    if quote.double then is_closed_by after
+    else if quote.closes then true
+    else if quote.opens then false
+    else is_closed_by after
+
+-- the character of a double quote behind these: U+201D where it closes one, and else U+201C
+abbrev pub double_character : (before : List Quote) → Quote → ℕ
+double_character before quote = if quote.closes && is_double_open before then 8221 else 8220
+
+-- a single quote that closes none, and can open, is open then
+abbrev pub turns_open : (before : List Quote) → Quote → Bool
+turns_open before quote = not (quote.closes && is_single_open before) && quote.opens
+
+-- the character of a single quote between these: U+2018 where it opens and is closed, and else U+2019
+abbrev pub single_character : (before : List Quote) → Quote → (after : List Quote) → ℕ
+single_character before quote after = if turns_open before quote && is_closed_by after then 8216 else 8217
+
+abbrev pub quote_character : (before : List Quote) → Quote → (after : List Quote) → ℕ
+quote_character before quote after = if quote.double then double_character before quote else single_character before quote after
+
+-- the characters of the quotes of a list of siblings, behind others
+abbrev pub quote_characters : (before quotes : List Quote) → List ℕ
+quote_characters before [] = []
+quote_characters before (quote ∷ after) = quote_character before quote after ∷ quote_characters (quote ∷ before) after
