@@ -11,6 +11,7 @@ pub mod Blocks
 pub mod BlocksByLine
 pub mod BlocksModel
 pub mod CodeBlockKind
+pub mod CodeSpans
 pub mod Columns
 pub mod Containers
 pub mod DefinitionLists
@@ -28,8 +29,10 @@ pub mod Labels
 pub mod LabelsOverLines
 pub mod Leaves
 pub mod Letters
+pub mod LineBreaks
 pub mod Lines
 pub mod LinkDefinitions
+pub mod LinkTails
 pub mod LinkType
 pub mod Lists
 pub mod Metadata
@@ -42,6 +45,7 @@ pub mod Ranges
 pub mod Reading
 pub mod References
 pub mod Rows
+pub mod SpecialBytes
 pub mod Tables
 pub mod Tag
 pub mod TagEnd

@@ -1,0 +1,3 @@
+pub mod CodeSteps
+pub mod HtmlSteps
+pub mod LinkSteps
