@@ -1,3 +1,5 @@
 pub mod CodeSteps
+pub mod EndSteps
 pub mod HtmlSteps
 pub mod LinkSteps
+pub mod PaddingSteps

@@ -1,11 +1,17 @@
 //! Code spans (CommonMark 6.1).
 
-ghost use Rattle.std.specs.Prelude.{◌≡◌, ◌≤◌, false, length, drop, take, IfSome, option_map};
+ghost use Rattle.std.specs.Prelude.{◌≡◌, ◌≤◌, not, count_by, false, length, drop, take, IfOk, IsOk, IfSome, option_map};
 ghost use Rattle.std.specs.Str.{IsCharBoundary};
-ghost use Rattle.cmark_grammar.specs.CodeSpans.{backticks, up_to_run, code_in};
+ghost use Rattle.cmark_grammar.specs.CodeSpans.{backticks, up_to_run, code_in, is_space, is_padded, without_padding, code_text};
+ghost use Rattle.cmark_grammar.specs.InlineHtml.{takes_lines};
+ghost use Rattle.cmark_scan_parts.specs.Shown.{IsBorrowed};
+ghost use Rattle.cmark_text.specs.Shown.{text_bytes};
 ghost use Rattle.cmark_finds.specs.Shown.{shown_code, IsCodeAt};
 
+use crate::line_end::{has_line_ending, with_line_ends};
+use cmark_text::CowStr;
 use memchr::memchr;
+use std::alloc::{AllocError, Global};
 
 /// Where a code span lies in its text.
 #[derive(Clone, Copy, Debug, PartialEq, Eq)]
@@ -64,4 +70,44 @@ pub fn code_span(text: &str, at: usize) -> Option<CodeSpan>
         content_end,
         end: content_end + size,
     })
+}
+
+/// How many bytes are no spaces.
+fn others(bytes: &[u8]) -> usize
+    ensures { result ≡ count_by (λ b. not (is_space b)) bytes.now }
+{
+    bytes.iter().filter(|byte| **byte != b' ').count()
+}
+
+/// Whether a space stands at both ends, and not all bytes are spaces.
+fn is_padded(bytes: &[u8]) -> bool
+    ensures { result ≡ is_padded bytes.now }
+{
+    let size = bytes.len();
+    0 < size && bytes[0] == b' ' && bytes[size - 1] == b' ' && 0 < others(bytes)
+}
+
+/// The text without a space at each end, if it is padded.
+fn without_padding(text: &str) -> &str
+    ensures { result.now ≡ without_padding text.entry.now }
+{
+    if is_padded(text.as_bytes()) {
+        &text[1..text.len() - 1]
+    } else {
+        text
+    }
+}
+
+/// The text of what a code span holds (CommonMark 6.1): each line ending is a space, and then one space is taken from each
+/// end, if both ends are spaces and not all is. It is borrowed where no line ends in it; fails only where memory is refused.
+pub fn code_text<'t>(alloc: Global, content: &'t str) -> Result<CowStr<'t>, AllocError>
+    ensures value { IfOk result (λ made. text_bytes made ≡ code_text content.entry.now) }
+    ensures lent { takes_lines content.entry.now ≡ false → IfOk result IsBorrowed }
+    ensures succeeds { takes_lines content.entry.now ≡ false → IsOk result }
+{
+    if !has_line_ending(content) {
+        return Ok(CowStr::Borrowed(without_padding(content)));
+    }
+    let text = with_line_ends(alloc, content, " ")?;
+    CowStr::Borrowed(without_padding(text.as_str())).into_static(alloc)
 }

@@ -5,13 +5,16 @@
 //! containers and without the indent of each line. Places are byte offsets of this text.
 #![tactic(auto)]
 
+mod breaks;
 mod code;
 mod html;
 mod label;
+mod line_end;
 mod link;
 mod place;
 
-pub use code::{CodeSpan, code_span};
+pub use breaks::{LineBreak, line_break};
+pub use code::{CodeSpan, code_span, code_text};
 pub use html::inline_html;
 pub use label::{Label, collapsed_end, is_bracketed_label, reference_label};
-pub use link::{LinkTail, link_tail};
+pub use link::{LinkTail, link_tail, title_text};

@@ -1,18 +1,23 @@
 //! Inline links (CommonMark 6.3).
 
-ghost use Rattle.std.specs.Prelude.{◌≡◌, ◌<◌, Some, drop, IfSome, option_map, option_copied};
+ghost use Rattle.std.specs.Prelude.{◌≡◌, ◌<◌, Some, drop, IfOk, IfSome, option_map, option_copied};
 ghost use Rattle.std.specs.Str.{IsCharBoundary};
 ghost use Rattle.cmark_grammar.specs.Destinations.{link_destination_in};
 ghost use Rattle.cmark_grammar.specs.LinkDefinitions.{title_in};
-ghost use Rattle.cmark_grammar.specs.LinkTails.{behind_separator, closed_tail, with_title, tail_inside, link_tail_in};
-ghost use Rattle.cmark_grammar.specs.Tags.{behind_ending};
-ghost use Rattle.cmark_definitions.specs.Rests.{IsRest, without_byte};
+ghost use Rattle.cmark_grammar.specs.InlineHtml.{takes_lines};
+ghost use Rattle.cmark_grammar.specs.LinkTails.{behind_separator, closed_tail, with_title, tail_inside, link_tail_in, title_lines};
+ghost use Rattle.cmark_grammar.specs.Tokens.{resolved};
+ghost use Rattle.cmark_text.specs.Shown.{text_bytes};
+ghost use Rattle.cmark_definitions.specs.Rests.{IsRest};
 ghost use Rattle.cmark_definitions.specs.Shown.{shown_part};
 ghost use Rattle.cmark_finds.specs.Shown.{shown_tail, shown_inside};
 
+use crate::line_end::{behind_separator, has_line_ending, with_line_ends};
 use crate::place::place_of;
-use cmark_definitions::{Part, behind_blanks, behind_byte, title_in};
-use cmark_scan_parts::scan_link_dest;
+use cmark_definitions::{Part, behind_byte, title_in};
+use cmark_scan_parts::{scan_link_dest, unescape};
+use cmark_text::{CowStr, EntityLookup};
+use std::alloc::{AllocError, Global};
 
 /// What stands in the parentheses of an inline link, as it is written.
 #[derive(Clone, Copy, Debug, PartialEq, Eq)]
@@ -31,41 +36,6 @@ struct Inside<'t> {
     destination: &'t str,
     title: Option<&'t str>,
     behind: &'t str,
-}
-
-/// The text without the line feed in front, if one stands there.
-fn without_line_feed(text: &str) -> &str
-    ensures value { result.now ≡ without_byte 10 text.entry.now }
-    ensures rest { IsRest text.entry.now result.now }
-{
-    match behind_byte(b'\n', text) {
-        Some(rest) => rest,
-        None => text,
-    }
-}
-
-/// The text behind the line ending in front, if one stands there.
-fn behind_ending(text: &str) -> Option<&str>
-    ensures value { option_copied result ≡ behind_ending text.entry.now }
-    ensures rest { IfSome result (λ rest. IsRest text.entry.now rest.now) }
-{
-    if let Some(rest) = behind_byte(b'\n', text) {
-        return Some(rest);
-    }
-    let rest = behind_byte(b'\r', text)?;
-    Some(without_line_feed(rest))
-}
-
-/// The text behind blanks with at most one line ending.
-fn behind_separator(text: &str) -> &str
-    ensures value { result.now ≡ behind_separator text.entry.now }
-    ensures rest { IsRest text.entry.now result.now }
-{
-    let here = behind_blanks(text);
-    match behind_ending(here) {
-        Some(line) => behind_blanks(line),
-        None => here,
-    }
 }
 
 /// The destination in front, which may be empty.
@@ -132,4 +102,20 @@ pub fn link_tail(text: &str, at: usize) -> Option<LinkTail<'_>>
         title: inside.title,
         end: place_of(text, inside.behind),
     })
+}
+
+/// The text of a title as it is written (CommonMark 6.3): each line ending is a line feed, and escapes and entities are
+/// resolved. It is borrowed where none of these is in it; fails only where memory is refused.
+pub fn title_text<'t, E: EntityLookup>(
+    alloc: Global,
+    title: &'t str,
+    entities: &E,
+) -> Result<CowStr<'t>, AllocError>
+    ensures { IfOk result (λ made. text_bytes made ≡ resolved (E.replacement entities.now) (title_lines title.entry.now)) }
+{
+    if !has_line_ending(title) {
+        return unescape(alloc, CowStr::Borrowed(title), false, entities);
+    }
+    let lines = CowStr::from_string(with_line_ends(alloc, title, "\n")?)?;
+    unescape(alloc, lines, false, entities)
 }

@@ -1,6 +1,6 @@
 -- Code spans (CommonMark 6.1).
-use Rattle.std.specs.Prelude.{ℕ, ◌-◌, Bool, true, false, ◌==◌, ◌&&◌, not, if◌then◌else◌, List, [], ◌∷◌, length, drop, get_or, Option, Some, None, option_map}
-use Rattle.std.specs.List.{prefix_len, list_any}
+use Rattle.std.specs.Prelude.{ℕ, ◌-◌, Bool, true, false, ◌==◌, ◌&&◌, not, nat_lt, if◌then◌else◌, List, [], ◌∷◌, ◌++◌, codes, length, drop, get_or, count_by, Option, Some, None, option_map}
+use Rattle.std.specs.List.{prefix_len}
 use Rattle.cmark_grammar.specs.Letters.{behind_all}
 use Rattle.cmark_grammar.specs.Lines.{carriage_return, ends_line}
 use Rattle.cmark_grammar.specs.LinkDefinitions.{Found, put}
@@ -27,11 +27,11 @@ behind_run size found = record { bytes = found.bytes; behind = drop size found.b
 abbrev pub code_in : List ℕ → Option Found
 code_in bs = if backticks bs == 0 then None else option_map (behind_run (backticks bs)) (up_to_run (backticks bs) false (behind_all is_backtick bs))
 
--- with this byte in the place of each line ending: of a line feed, of a carriage return, and of both in this order
-abbrev pub with_line_ends : (mark : ℕ) → List ℕ → List ℕ
+-- with these bytes in the place of each line ending: of a line feed, of a carriage return, and of both in this order
+abbrev pub with_line_ends : (mark : List ℕ) → List ℕ → List ℕ
 with_line_ends mark [] = []
 with_line_ends mark (b ∷ bs) =
-    if ends_line b bs then mark ∷ with_line_ends mark bs
+    if ends_line b bs then mark ++ with_line_ends mark bs
     else if b == carriage_return then with_line_ends mark bs
     else b ∷ with_line_ends mark bs
 
@@ -40,7 +40,7 @@ is_space b = b == 32
 
 -- a space stands at both ends, and not all bytes are spaces
 abbrev pub is_padded : List ℕ → Bool
-is_padded bs = is_space (get_or bs 0 0) && (is_space (get_or bs (length bs - 1) 0) && list_any (λ b. not (is_space b)) bs)
+is_padded bs = is_space (get_or bs 0 0) && (is_space (get_or bs (length bs - 1) 0) && nat_lt 0 (count_by (λ b. not (is_space b)) bs))
 
 -- without a space at each end
 abbrev pub without_padding : List ℕ → List ℕ
@@ -49,4 +49,4 @@ without_padding bs = if is_padded bs then slice bs 1 (length bs - 1) else bs
 -- the text of what a code span holds: each line ending is a space, and then one space is taken from each end if both ends are
 -- spaces and not all is
 abbrev pub code_text : List ℕ → List ℕ
-code_text bs = without_padding (with_line_ends 32 bs)
+code_text bs = without_padding (with_line_ends (codes " ") bs)

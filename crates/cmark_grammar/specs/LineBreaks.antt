@@ -1,9 +1,9 @@
 -- The breaks between the lines of a leaf (CommonMark 6.7 and 6.8).
-use Rattle.std.specs.Prelude.{ℕ, zero, ◌-◌, Bool, true, false, ◌==◌, if◌then◌else◌, List, length, drop, take, codes, bytes_eq, Option, option_map}
-use Rattle.std.specs.List.{prefix_len}
+use Rattle.std.specs.Prelude.{ℕ, zero, ◌-◌, Bool, true, false, ◌==◌, if◌then◌else◌, List, length, drop, take_while, codes, bytes_eq, Option, option_map}
 use Rattle.std.specs.Option.{option_or}
 use Rattle.cmark_grammar.specs.Columns.{is_blank_byte}
-use Rattle.cmark_grammar.specs.Letters.{behind_all, behind_if, and_then}
+use Rattle.cmark_grammar.specs.Letters.{behind_if, and_then}
+use Rattle.cmark_grammar.specs.LinkDefinitions.{behind_blanks}
 use Rattle.cmark_grammar.specs.Tags.{behind_ending}
 
 -- a break: how many bytes in front lie before it, and what is behind its line ending
@@ -29,7 +29,7 @@ backslash_break_in bs = option_map hard_break (and_then (behind_if (λ b. b == 9
 
 -- and the one behind blanks or none
 abbrev pub blank_break_in : List ℕ → Option LineBreak
-blank_break_in bs = option_map (blank_break (take (prefix_len is_blank_byte bs) bs)) (behind_ending (behind_all is_blank_byte bs))
+blank_break_in bs = option_map (blank_break (take_while is_blank_byte bs)) (behind_ending (behind_blanks bs))
 
 -- the break in front, if a line ends there
 abbrev pub line_break_in : List ℕ → Option LineBreak

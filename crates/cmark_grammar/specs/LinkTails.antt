@@ -44,7 +44,7 @@ link_tail_in bs = and_then (behind_if (λ b. b == 40) bs) tail_inside
 
 -- a title in which each line ending is a line feed
 abbrev pub title_lines : List ℕ → List ℕ
-title_lines bs = with_line_ends 10 bs
+title_lines bs = with_line_ends (codes "\n") bs
 
 -- the label of a full reference behind the bracket
 abbrev pub reference_label_in : List ℕ → Option Found
