@@ -12,9 +12,13 @@ mod label;
 mod line_end;
 mod link;
 mod place;
+mod special;
+#[cfg(test)]
+mod tests;
 
 pub use breaks::{LineBreak, line_break};
 pub use code::{CodeSpan, code_span, code_text};
 pub use html::inline_html;
 pub use label::{Label, collapsed_end, is_bracketed_label, reference_label};
 pub use link::{LinkTail, link_tail, title_text};
+pub use special::{LoopInstruction, iterate_special_bytes, next_special, special_bytes};
