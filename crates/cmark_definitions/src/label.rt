@@ -36,7 +36,7 @@ fn has_words(bytes: &[u8]) -> bool
 }
 
 /// Whether these bytes are a label: 1 to 999 characters, at least one of them no white space.
-fn is_label(bytes: &[u8]) -> bool
+pub fn is_label(bytes: &[u8]) -> bool
     ensures { result ≡ is_label bytes.now }
 {
     characters(bytes) <= 999 && has_words(bytes)

@@ -1,4 +1,5 @@
-//! Link reference definitions (CommonMark 4.7): found in the text of a paragraph, and made ready for a table.
+//! Link reference definitions (CommonMark 4.7): found in the text of a paragraph, and made ready for a table. The scanners of
+//! their parts serve inline links too (CommonMark 6.3).
 #![tactic(auto)]
 
 mod blank;
@@ -10,6 +11,9 @@ mod settled;
 #[cfg(test)]
 mod tests;
 
+pub use blank::{behind_blanks, behind_byte};
 pub use definition::{Definition, scan_definition};
+pub use label::{is_label, label_in};
+pub use part::{Part, title_in};
 pub use reference::link_definition;
 pub use settled::is_settled;

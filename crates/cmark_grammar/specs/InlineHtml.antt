@@ -1,10 +1,10 @@
 -- Inline HTML (CommonMark 6.6).
-use Rattle.cmark_grammar.specs.Letters.{is_letter, behind_if, behind_start, behind_first}
+use Rattle.cmark_grammar.specs.Letters.{is_letter, starts, behind_if, behind_start, behind_first}
 use Rattle.std.specs.Prelude.{ℕ, zero, suc, ◌-◌, Bool, ◌==◌, ◌||◌, if◌then◌else◌, List, [], ◌∷◌, length, drop, take, min, codes, Option, Some, None, option_map}
 use Rattle.std.specs.Option.{option_or}
 use Rattle.std.specs.List.{list_any}
 use Rattle.cmark_grammar.specs.Lines.{line_feed, carriage_return}
-use Rattle.cmark_grammar.specs.Tags.{prefix_behind, behind_tag}
+use Rattle.cmark_grammar.specs.Tags.{prefix_behind, behind_tag, no_prefix}
 
 -- a tag: where it ends, and the text that it owns, if it takes several lines: its bytes but for prefixes
 pub record OwnedTag : Type 0 where
@@ -64,3 +64,16 @@ comment_find bytes at = find_with bytes at (opened_in (drop at bytes))
 -- and from a place behind `<?`: a processing instruction ends at the first `?>`
 abbrev pub processing_find : (bytes : List ℕ) → (at : ℕ) → Find
 processing_find bytes at = find_with bytes at (Some (behind_first (codes "?>") (drop at bytes)))
+
+-- behind inline HTML that opened, if it is closed
+abbrev pub behind_opened : Option (Option (List ℕ)) → Option (List ℕ)
+behind_opened None = None
+behind_opened (Some closed) = closed
+
+-- behind the inline HTML in front: a comment, a declaration or a CDATA section, a processing instruction, or an open or a
+-- closing tag
+abbrev pub behind_inline_html : List ℕ → Option (List ℕ)
+behind_inline_html bs =
+    if starts (codes "<!") bs then behind_opened (opened_in (drop 2 bs))
+    else if starts (codes "<?") bs then behind_first (codes "?>") (drop 2 bs)
+    else behind_tag no_prefix bs

@@ -11,6 +11,7 @@ pub mod Blocks
 pub mod BlocksByLine
 pub mod BlocksModel
 pub mod CodeBlockKind
+pub mod CodeSpans
 pub mod Columns
 pub mod Containers
 pub mod DefinitionLists
@@ -30,8 +31,10 @@ pub mod Labels
 pub mod LabelsOverLines
 pub mod Leaves
 pub mod Letters
+pub mod LineBreaks
 pub mod Lines
 pub mod LinkDefinitions
+pub mod LinkTails
 pub mod LinkType
 pub mod Lists
 pub mod Metadata
@@ -43,6 +46,7 @@ pub mod Ranges
 pub mod References
 pub mod Rows
 pub mod Spans
+pub mod SpecialBytes
 pub mod Tables
 pub mod Tag
 pub mod TagEnd

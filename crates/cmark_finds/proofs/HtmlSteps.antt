@@ -1,0 +1,72 @@
+-- Where inline HTML ends.
+use Rattle.std.proofs.Common.{◌≡◌, ℕ, suc, ◌+◌, ◌-◌, ◌<◌, Bool, true, false, if◌then◌else◌, List, length, drop, Option, None, Some, refl, sym, ap, ◌∙◌, arith, length-drop, drop-drop}
+use Rattle.std.specs.Prelude.{codes, option_map}
+use Rattle.std.specs.Str.{IsUtf8, IsCharBoundary}
+use Rattle.cmark_grammar.specs.InlineHtml.{Find, opened_in, find_with, comment_find, processing_find, behind_opened, behind_inline_html}
+use Rattle.cmark_grammar.specs.Letters.{starts, behind_first}
+use Rattle.cmark_grammar.specs.Tags.{behind_tag, no_prefix}
+use Rattle.cmark_scan_parts.proofs.Endings.{IsBehind, behind-rest, behind-boundary, tag-behind, opened-behind, processing-behind}
+
+-- the place behind the byte
+rest_place : (text r : List ℕ) → IsBehind 62 text r → drop (length text - length r) text ≡ r
+rest_place text r h =
+    let n = ap length h.rest in let l = length-drop (suc h.place) text in let lt = h.inside in
+    ap (λ k. drop k text) (let e : length text - length r ≡ suc h.place = omega arith in e) ∙ sym h.rest
+
+-- what a find answers
+find_in : (text : List ℕ) (at : ℕ) (o : Option (Option (List ℕ))) → ((r : List ℕ) → o ≡ Some (Some r) → IsBehind 62 (drop at text) r) → option_map (λ end. drop end text) (find_with text at o).end ≡ behind_opened o
+find_in text at None h = refl
+find_in text at (Some None) h = refl
+find_in text at (Some (Some r)) h = ap Some (rest_place text r (behind-rest 62 text (drop at text) r (at, refl) (h r refl)))
+
+module _ (text : List ℕ) (at : ℕ) where
+  pub rest_is : (r : List ℕ) → IsBehind 62 (drop at text) r → drop (length text - length r) text ≡ r
+  rest_is r h = rest_place text r (behind-rest 62 text (drop at text) r (at, refl) h)
+
+  pub rest_further : (r : List ℕ) → IsBehind 62 (drop at text) r → at < length text - length r
+  rest_further r h =
+      let n = ap length h.rest in let l = length-drop (suc h.place) (drop at text) in let m = length-drop at text in let lt = h.inside in
+      omega arith
+
+  -- behind a tag
+  module _ (rest r : List ℕ) (cut : rest ≡ drop at text) (is : Some r ≡ behind_tag no_prefix rest) where
+    tag : IsBehind 62 (drop at text) r
+    tag = tag-behind no_prefix (drop at text) r (ap (behind_tag no_prefix) (sym cut) ∙ sym is)
+
+    pub tag_value : Some (drop (length text - length r) text) ≡ behind_tag no_prefix (drop at text)
+    tag_value = ap Some (rest_is r tag) ∙ is ∙ ap (behind_tag no_prefix) cut
+
+    pub tag_further : at < length text - length r
+    tag_further = rest_further r tag
+
+    pub tag_ends : IsUtf8 text → IsCharBoundary text (length text - length r)
+    tag_ends utf8 = behind-boundary 62 text r (omega arith) utf8 (behind-rest 62 text (drop at text) r (at, refl) tag)
+
+  -- what opens in front
+  abbrev pub chosen : (opens instructs : Bool) → Option (List ℕ)
+  chosen opens instructs =
+      if opens then behind_opened (opened_in (drop 2 (drop at text))) else if instructs then behind_first (codes "?>") (drop 2 (drop at text)) else behind_tag no_prefix (drop at text)
+
+  module _ (rest : List ℕ) (cut : rest ≡ drop at text) where
+    inside : drop (at + 2) text ≡ drop 2 (drop at text)
+    inside = sym (drop-drop 2 at text)
+
+    pub markup_value : (bytes : List ℕ) (find : Find) → bytes ≡ text → starts (codes "<!") rest ≡ true → find ≡ comment_find bytes (at + 2) → option_map (λ end. drop end text) find.end ≡ behind_inline_html (drop at text)
+    markup_value bytes find same opens is =
+        ap (λ (f : Find). option_map (λ end. drop end text) f.end) (is ∙ ap (λ bs. comment_find bs (at + 2)) same)
+        ∙ find_in text (at + 2) (opened_in (drop (at + 2) text)) (opened-behind (drop (at + 2) text))
+        ∙ ap (λ bs. behind_opened (opened_in bs)) inside
+        ∙ sym (ap (λ t. chosen t (starts (codes "<?") (drop at text))) (ap (starts (codes "<!")) (sym cut) ∙ opens))
+
+    pub instruction_value : (bytes : List ℕ) (find : Find) → bytes ≡ text → starts (codes "<!") rest ≡ false → starts (codes "<?") rest ≡ true → find ≡ processing_find bytes (at + 2)
+        → option_map (λ end. drop end text) find.end ≡ behind_inline_html (drop at text)
+    instruction_value bytes find same other opens is =
+        ap (λ (f : Find). option_map (λ end. drop end text) f.end) (is ∙ ap (λ bs. processing_find bs (at + 2)) same)
+        ∙ find_in text (at + 2) (Some (behind_first (codes "?>") (drop (at + 2) text))) (λ r e. processing-behind (drop (at + 2) text) r cc)
+        ∙ ap (behind_first (codes "?>")) inside
+        ∙ sym (ap (λ t. chosen t (starts (codes "<?") (drop at text))) (ap (starts (codes "<!")) (sym cut) ∙ other) ∙ ap (chosen false) (ap (starts (codes "<?")) (sym cut) ∙ opens))
+
+    pub other_value : (r : List ℕ) → Some r ≡ behind_tag no_prefix rest → starts (codes "<!") rest ≡ false → starts (codes "<?") rest ≡ false → Some (drop (length text - length r) text) ≡ behind_inline_html (drop at text)
+    other_value r is one two =
+        tag_value rest r cut is
+        ∙ sym (ap (λ t. chosen t (starts (codes "<?") (drop at text))) (ap (starts (codes "<!")) (sym cut) ∙ one) ∙ ap (chosen false) (ap (starts (codes "<?")) (sym cut) ∙ two))

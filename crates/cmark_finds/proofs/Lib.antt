@@ -1,0 +1,7 @@
+pub mod CodeSteps
+pub mod EndSteps
+pub mod HtmlSteps
+pub mod IterateSteps
+pub mod LinkSteps
+pub mod PaddingSteps
+pub mod SpecialSteps

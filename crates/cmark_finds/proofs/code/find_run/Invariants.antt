@@ -1,0 +1,10 @@
+use Rattle.std.proofs.Common.{false, length}
+use Rattle.cmark_grammar.specs.CodeSpans.{up_to_run}
+use Rattle.cmark_scan_parts.proofs.PartSteps.{Reads}
+use Rattle.cmark_finds.proofs.code.find_run.Given as goal
+
+abbrev pub invariant-loop-at : goal.invariant-loop-at
+invariant-loop-at l = Reads (up_to_run l.size false l.bytes) (up_to_run l.size false l.rest) l.bytes l.rest
+
+abbrev pub decreases-loop-at : goal.decreases-loop-at
+decreases-loop-at l = length l.rest

@@ -1,0 +1,113 @@
+//! Code spans (CommonMark 6.1).
+
+ghost use Rattle.std.specs.Prelude.{◌≡◌, ◌≤◌, not, count_by, false, length, drop, take, IfOk, IsOk, IfSome, option_map};
+ghost use Rattle.std.specs.Str.{IsCharBoundary};
+ghost use Rattle.cmark_grammar.specs.CodeSpans.{backticks, up_to_run, code_in, is_space, is_padded, without_padding, code_text};
+ghost use Rattle.cmark_grammar.specs.InlineHtml.{takes_lines};
+ghost use Rattle.cmark_scan_parts.specs.Shown.{IsBorrowed};
+ghost use Rattle.cmark_text.specs.Shown.{text_bytes};
+ghost use Rattle.cmark_finds.specs.Shown.{shown_code, IsCodeAt};
+
+use crate::line_end::{has_line_ending, with_line_ends};
+use cmark_text::CowStr;
+use memchr::memchr;
+use std::alloc::{AllocError, Global};
+
+/// Where a code span lies in its text.
+#[derive(Clone, Copy, Debug, PartialEq, Eq)]
+pub struct CodeSpan {
+    /// The place behind the opening run of backticks.
+    pub content_start: usize,
+    /// Where the closing run begins.
+    pub content_end: usize,
+    /// The place behind the closing run.
+    pub end: usize,
+}
+
+/// How many backticks stand in front.
+fn backticks(bytes: &[u8]) -> usize
+    ensures value { result ≡ backticks bytes.now }
+    ensures within { result ≤ length bytes.now }
+{
+    bytes.iter().take_while(|byte| **byte == b'`').count()
+}
+
+/// Where the first run of exactly so many backticks begins.
+fn find_run(bytes: &[u8], size: usize) -> Option<usize>
+    ensures value { option_map (λ at. record { bytes = take at bytes.now; behind = drop at bytes.now }) result ≡ up_to_run size false bytes.now }
+    ensures within { IfSome result (λ at. at ≤ length bytes.now) }
+    ensures run { IfSome result (λ at. backticks (drop at bytes.now) ≡ size) }
+{
+    let mut rest = bytes;
+    while let Some(at) = memchr(b'`', rest) {
+        let run = &rest[at..];
+        let count = backticks(run);
+        if count == size {
+            return Some(bytes.len() - run.len());
+        }
+        rest = &run[count..];
+    }
+    None
+}
+
+/// The code span whose opening run of backticks stands at this place of the text (CommonMark 6.1): it is closed by the first
+/// later run of exactly as many. `None` where no backtick stands there, and where no such run follows.
+pub fn code_span(text: &str, at: usize) -> Option<CodeSpan>
+    requires { IsCharBoundary text.now at }
+    ensures value { option_map (shown_code text.now) result ≡ code_in (drop at text.now) }
+    ensures places { IfSome result (IsCodeAt text.now at) }
+{
+    let run = &text.as_bytes()[at..];
+    let size = backticks(run);
+    if size == 0 {
+        return None;
+    }
+    let content = find_run(&run[size..], size)?;
+    let content_start = at + size;
+    let content_end = content_start + content;
+    Some(CodeSpan {
+        content_start,
+        content_end,
+        end: content_end + size,
+    })
+}
+
+/// How many bytes are no spaces.
+fn others(bytes: &[u8]) -> usize
+    ensures { result ≡ count_by (λ b. not (is_space b)) bytes.now }
+{
+    bytes.iter().filter(|byte| **byte != b' ').count()
+}
+
+/// Whether a space stands at both ends, and not all bytes are spaces.
+fn is_padded(bytes: &[u8]) -> bool
+    ensures { result ≡ is_padded bytes.now }
+{
+    let size = bytes.len();
+    0 < size && bytes[0] == b' ' && bytes[size - 1] == b' ' && 0 < others(bytes)
+}
+
+/// The text without a space at each end, if it is padded.
+fn without_padding(text: &str) -> &str
+    ensures { result.now ≡ without_padding text.entry.now }
+{
+    if is_padded(text.as_bytes()) {
+        &text[1..text.len() - 1]
+    } else {
+        text
+    }
+}
+
+/// The text of what a code span holds (CommonMark 6.1): each line ending is a space, and then one space is taken from each
+/// end, if both ends are spaces and not all is. It is borrowed where no line ends in it; fails only where memory is refused.
+pub fn code_text<'t>(alloc: Global, content: &'t str) -> Result<CowStr<'t>, AllocError>
+    ensures value { IfOk result (λ made. text_bytes made ≡ code_text content.entry.now) }
+    ensures lent { takes_lines content.entry.now ≡ false → IfOk result IsBorrowed }
+    ensures succeeds { takes_lines content.entry.now ≡ false → IsOk result }
+{
+    if !has_line_ending(content) {
+        return Ok(CowStr::Borrowed(without_padding(content)));
+    }
+    let text = with_line_ends(alloc, content, " ")?;
+    CowStr::Borrowed(without_padding(text.as_str())).into_static(alloc)
+}

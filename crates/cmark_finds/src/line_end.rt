@@ -1,0 +1,102 @@
+//! Line endings in a text: a line feed, a carriage return, and both in this order.
+
+ghost use Rattle.std.specs.Prelude.{◌≡◌, ◌<◌, ◌++◌, length, string_bytes, IfOk, IfSome, MatchOption, OnOk, option_copied};
+ghost use Rattle.cmark_grammar.specs.CodeSpans.{with_line_ends};
+ghost use Rattle.cmark_grammar.specs.InlineHtml.{takes_lines};
+ghost use Rattle.cmark_grammar.specs.Lines.{ending_len};
+ghost use Rattle.cmark_grammar.specs.LinkTails.{behind_separator};
+ghost use Rattle.cmark_grammar.specs.Tags.{behind_ending};
+ghost use Rattle.cmark_definitions.specs.Rests.{IsRest, without_byte};
+ghost use Rattle.cmark_finds.specs.Ends.{HasNoEnd, EndsLine};
+
+use cmark_definitions::{behind_blanks, behind_byte};
+use memchr::memchr2;
+use std::alloc::{AllocError, Global};
+
+/// The text without the line feed in front, if one stands there.
+fn without_line_feed(text: &str) -> &str
+    ensures value { result.now ≡ without_byte 10 text.entry.now }
+    ensures rest { IsRest text.entry.now result.now }
+{
+    match behind_byte(b'\n', text) {
+        Some(rest) => rest,
+        None => text,
+    }
+}
+
+/// The text behind the line ending in front, if one stands there.
+pub fn behind_ending(text: &str) -> Option<&str>
+    ensures value { option_copied result ≡ behind_ending text.entry.now }
+    ensures rest { IfSome result (λ rest. IsRest text.entry.now rest.now) }
+    ensures shorter { IfSome result (λ rest. length rest.now < length text.entry.now) }
+{
+    if let Some(rest) = behind_byte(b'\n', text) {
+        return Some(rest);
+    }
+    let rest = behind_byte(b'\r', text)?;
+    Some(without_line_feed(rest))
+}
+
+/// The text behind blanks with at most one line ending.
+pub fn behind_separator(text: &str) -> &str
+    ensures value { result.now ≡ behind_separator text.entry.now }
+    ensures rest { IsRest text.entry.now result.now }
+{
+    let here = behind_blanks(text);
+    match behind_ending(here) {
+        Some(line) => behind_blanks(line),
+        None => here,
+    }
+}
+
+/// Whether a line ends in the text.
+pub fn has_line_ending(text: &str) -> bool
+    ensures { result ≡ takes_lines text.now }
+{
+    memchr2(b'\n', b'\r', text.as_bytes()).is_some()
+}
+
+/// Where a line ending lies.
+#[derive(Clone, Copy)]
+struct LineEnding {
+    /// Where it begins.
+    start: usize,
+    /// The place behind it.
+    end: usize,
+}
+
+/// How many bytes the line ending in front has.
+fn ending_len(bytes: &[u8]) -> usize
+    ensures { result ≡ ending_len bytes.now }
+{
+    match bytes {
+        [] => 0,
+        [b'\r', b'\n', ..] => 2,
+        _ => 1,
+    }
+}
+
+/// The first line ending.
+fn find_line_ending(text: &str) -> Option<LineEnding>
+    ensures { MatchOption result (HasNoEnd text.now) (λ found. EndsLine text.now found.start found.end) }
+{
+    let bytes = text.as_bytes();
+    let start = memchr2(b'\n', b'\r', bytes)?;
+    let end = start + ending_len(&bytes[start..]);
+    Some(LineEnding { start, end })
+}
+
+/// The text with a mark in the place of each line ending.
+pub fn with_line_ends(alloc: Global, text: &str, mark: &str) -> Result<String, AllocError>
+    ensures { IfOk result (λ made. string_bytes made ≡ with_line_ends mark.now text.now) }
+{
+    let mut out = String::new(alloc);
+    let mut rest = text;
+    while let Some(found) = find_line_ending(rest) {
+        out.push_str(&rest[..found.start])?;
+        out.push_str(mark)?;
+        rest = &rest[found.end..];
+    }
+    out.push_str(rest)?;
+    Ok(out)
+}

@@ -1,0 +1,121 @@
+//! Inline links (CommonMark 6.3).
+
+ghost use Rattle.std.specs.Prelude.{◌≡◌, ◌<◌, Some, drop, IfOk, IfSome, option_map, option_copied};
+ghost use Rattle.std.specs.Str.{IsCharBoundary};
+ghost use Rattle.cmark_grammar.specs.Destinations.{link_destination_in};
+ghost use Rattle.cmark_grammar.specs.LinkDefinitions.{title_in};
+ghost use Rattle.cmark_grammar.specs.InlineHtml.{takes_lines};
+ghost use Rattle.cmark_grammar.specs.LinkTails.{behind_separator, closed_tail, with_title, tail_inside, link_tail_in, title_lines};
+ghost use Rattle.cmark_grammar.specs.Tokens.{resolved};
+ghost use Rattle.cmark_text.specs.Shown.{text_bytes};
+ghost use Rattle.cmark_definitions.specs.Rests.{IsRest};
+ghost use Rattle.cmark_definitions.specs.Shown.{shown_part};
+ghost use Rattle.cmark_finds.specs.Shown.{shown_tail, shown_inside};
+
+use crate::line_end::{behind_separator, has_line_ending, with_line_ends};
+use crate::place::place_of;
+use cmark_definitions::{Part, behind_byte, title_in};
+use cmark_scan_parts::{scan_link_dest, unescape};
+use cmark_text::{CowStr, EntityLookup};
+use std::alloc::{AllocError, Global};
+
+/// What stands in the parentheses of an inline link, as it is written.
+#[derive(Clone, Copy, Debug, PartialEq, Eq)]
+pub struct LinkTail<'t> {
+    /// The destination, without pointed brackets; it may be empty.
+    pub destination: &'t str,
+    /// The title without what encloses it, if there is one.
+    pub title: Option<&'t str>,
+    /// The place in the text behind the closing parenthesis.
+    pub end: usize,
+}
+
+/// The same, with the text behind it.
+#[derive(Clone, Copy)]
+struct Inside<'t> {
+    destination: &'t str,
+    title: Option<&'t str>,
+    behind: &'t str,
+}
+
+/// The destination in front, which may be empty.
+fn destination_in(text: &str) -> Option<Part<'_>>
+    ensures value { option_map shown_part result ≡ link_destination_in text.entry.now }
+    ensures rest { IfSome result (λ destination. IsRest text.entry.now destination.behind.now) }
+{
+    let destination = scan_link_dest(text, 0)?;
+    Some(Part {
+        part: destination.part,
+        behind: &text[destination.end..],
+    })
+}
+
+/// What stands in the parentheses, if they are closed behind a separator.
+fn closed_tail<'t>(
+    destination: &'t str,
+    title: Option<&'t str>,
+    text: &'t str,
+) -> Option<Inside<'t>>
+    ensures value { option_map shown_inside result ≡ closed_tail destination.entry.now (option_copied title.entry) text.entry.now }
+    ensures rest { IfSome result (λ inside. IsRest text.entry.now inside.behind.now) }
+{
+    let behind = behind_byte(b')', behind_separator(text))?;
+    Some(Inside {
+        destination,
+        title,
+        behind,
+    })
+}
+
+/// What stands in the parentheses behind a destination, with the title, if one follows.
+fn with_title(destination: Part<'_>) -> Option<Inside<'_>>
+    ensures value { option_map shown_inside result ≡ with_title (Some (shown_part destination.entry)) (title_in (behind_separator destination.entry.behind.now)) }
+    ensures rest { IfSome result (λ inside. IsRest destination.entry.behind.now inside.behind.now) }
+{
+    match title_in(behind_separator(destination.behind)) {
+        Some(title) => closed_tail(destination.part, Some(title.part), title.behind),
+        None => closed_tail(destination.part, None, destination.behind),
+    }
+}
+
+/// What stands in the parentheses behind the opening one.
+fn tail_inside(text: &str) -> Option<Inside<'_>>
+    ensures value { option_map shown_inside result ≡ tail_inside text.entry.now }
+    ensures rest { IfSome result (λ inside. IsRest text.entry.now inside.behind.now) }
+{
+    let destination = destination_in(behind_separator(text))?;
+    with_title(destination)
+}
+
+/// The destination and the title of an inline link at this place of the text, which stands right behind the closing bracket
+/// (CommonMark 6.3): in parentheses a destination, which may be empty, and a title, if it has one. Between them stand blanks
+/// with at most one line ending each; a title may also follow its destination at once (this profile's own).
+pub fn link_tail(text: &str, at: usize) -> Option<LinkTail<'_>>
+    requires { IsCharBoundary text.now at }
+    ensures value { option_map (shown_tail text.entry.now) result ≡ link_tail_in (drop at text.entry.now) }
+    ensures further { IfSome result (λ tail. at < tail.end) }
+    ensures ends { IfSome result (λ tail. IsCharBoundary text.entry.now tail.end) }
+{
+    let inside = tail_inside(behind_byte(b'(', &text[at..])?)?;
+    Some(LinkTail {
+        destination: inside.destination,
+        title: inside.title,
+        end: place_of(text, inside.behind),
+    })
+}
+
+/// The text of a title as it is written (CommonMark 6.3): each line ending is a line feed, and escapes and entities are
+/// resolved. It is borrowed where none of these is in it; fails only where memory is refused.
+pub fn title_text<'t, E: EntityLookup>(
+    alloc: Global,
+    title: &'t str,
+    entities: &E,
+) -> Result<CowStr<'t>, AllocError>
+    ensures { IfOk result (λ made. text_bytes made ≡ resolved (E.replacement entities.now) (title_lines title.entry.now)) }
+{
+    if !has_line_ending(title) {
+        return unescape(alloc, CowStr::Borrowed(title), false, entities);
+    }
+    let lines = CowStr::from_string(with_line_ends(alloc, title, "\n")?)?;
+    unescape(alloc, lines, false, entities)
+}

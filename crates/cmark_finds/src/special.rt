@@ -1,0 +1,118 @@
+//! The bytes that inline parsing looks at (CommonMark 6).
+
+ghost use Rattle.std.specs.Prelude.{◌≡◌, ◌≤◌, not, length};
+ghost use Rattle.std.specs.List.{prefix_len};
+ghost use Rattle.std.specs.Str.{IsCharBoundary};
+ghost use Rattle.cmark_grammar.specs.Options as options;
+ghost use Rattle.cmark_grammar.specs.SpecialBytes.{is_always_special, is_special};
+ghost use Rattle.cmark_text.specs.Shown.{shown_options};
+ghost use Rattle.cmark_finds.specs.Special.{has_byte, IsTableOf, next_in, Iterates};
+
+use bitflags::Flags;
+use cmark_text::Options;
+
+/// What a callback answers about a special byte.
+#[derive(Debug, Drop, PartialEq, Eq)]
+pub enum LoopInstruction<T> {
+    /// Go on behind the byte and so many bytes more.
+    ContinueAndSkip(usize),
+    /// End with this place and this value.
+    BreakAtWith(usize, T),
+}
+
+/// Whether a byte is special whatever the options are.
+fn is_always_special(byte: u8) -> bool
+    ensures { result ≡ is_always_special byte }
+{
+    matches!(
+        byte,
+        b'\n' | b'\r' | b'*' | b'_' | b'&' | b'\\' | b'[' | b']' | b'<' | b'!' | b'`'
+    )
+}
+
+/// Whether a byte is special under these options.
+fn is_special(options: Options, byte: u8) -> bool
+    ensures { result ≡ is_special (shown_options options) byte }
+{
+    match byte {
+        b'|' => options.contains(Options::ENABLE_TABLES),
+        b'~' => {
+            options.contains(Options::ENABLE_STRIKETHROUGH)
+                || options.contains(Options::ENABLE_SUBSCRIPT)
+        }
+        b'^' => options.contains(Options::ENABLE_SUPERSCRIPT),
+        b'$' | b'{' | b'}' => options.contains(Options::ENABLE_MATH),
+        b'.' | b'-' | b'"' | b'\'' => options.contains(Options::ENABLE_SMART_PUNCTUATION),
+        _ => is_always_special(byte),
+    }
+}
+
+/// The table of special bytes: true at line feed, carriage return, `*`, `_`, `&`, backslash, `[`, `]`, `<`, `!` and backtick; at
+/// `|` with tables, `~` with strikethrough or subscript, `^` with superscript, `$`, `{` and `}` with math, and at `.`, `-`
+/// and both quotes with smart punctuation.
+pub fn special_bytes(options: Options) -> [bool; 256]
+    ensures { IsTableOf (shown_options options) result }
+{
+    let mut table = [false; 256];
+    for byte in 0..256 {
+        table[byte] = is_special(options, byte as u8);
+    }
+    table
+}
+
+/// Whether the table has a byte.
+#[inline]
+fn has_byte(table: &[bool; 256], byte: u8) -> bool
+    ensures { result ≡ has_byte table.now byte }
+{
+    table[byte as usize]
+}
+
+/// How many bytes stand in front of the first that the table has, or in all, where it has none.
+fn plain_size(table: &[bool; 256], bytes: &[u8]) -> usize
+    ensures value { result ≡ prefix_len (λ b. not (has_byte table.now b)) bytes.now }
+    ensures within { result ≤ length bytes.now }
+{
+    bytes
+        .iter()
+        .take_while(|byte| !has_byte(table, **byte))
+        .count()
+}
+
+/// The first place from `at` on whose byte the table has, or the length, where there is none. With the table of special bytes
+/// it is no place inside a character.
+pub fn next_special(table: &[bool; 256], bytes: &[u8], at: usize) -> usize
+    requires { at ≤ length bytes.now }
+    ensures value { result ≡ next_in table.now bytes.now at }
+    ensures within { result ≤ length bytes.now }
+    ensures boundary { (o : options.Options) → IsTableOf o table.now → IsCharBoundary bytes.now result }
+{
+    at + plain_size(table, &bytes[at..])
+}
+
+/// Asks the callback about each byte from `ix` on that the table has, in turn, with its place. `ContinueAndSkip(n)` passes so
+/// many bytes more, `BreakAtWith(end, value)` ends with that pair. Where it never answers that, the length and `None` come back.
+pub fn iterate_special_bytes<T, F: FnMut(usize, u8) -> LoopInstruction<Option<T>>>(
+    table: &[bool; 256],
+    bytes: &[u8],
+    ix: usize,
+    mut callback: F,
+) -> (usize, Option<T>)
+    requires start { ix ≤ length bytes.now }
+    requires callable { F.IsAlwaysCallable callback }
+    ensures { Iterates F.step table.now bytes.now callback ix result.0 result.1 }
+{
+    let mut at = ix;
+    loop {
+        let place = next_special(table, bytes, at);
+        if place == bytes.len() {
+            return (place, None);
+        }
+        match callback(place, bytes[place]) {
+            LoopInstruction::BreakAtWith(end, value) => return (end, value),
+            LoopInstruction::ContinueAndSkip(skipped) => {
+                at = (place + 1).saturating_add(skipped).min(bytes.len());
+            }
+        }
+    }
+}
