@@ -63,8 +63,8 @@ impl<'a, E: EntityLookup> Pass<'a, E> {
 
 /// The blocks of a text with the texts in them (CommonMark 3 to 5), and its link reference definitions, of which the first one of
 /// a label stands in the table. `entities` says what entity names stand for. No option has a rule of its own yet. The tree has at
-/// most four nodes a byte of the text. A line takes time in proportion to its bytes and to the containers around it, and a line
-/// that may begin a link reference definition to what is left of its paragraph. Fails only where memory is refused.
+/// most four nodes a byte of the text. A line takes time in proportion to its bytes and to the containers around it. Fails only
+/// where memory is refused.
 pub fn run_first_pass<'a, E: EntityLookup>(
     alloc: Global,
     text: &'a str,

@@ -1,5 +1,6 @@
 pub mod CodeSteps
 pub mod EndSteps
+pub mod FirstRun
 pub mod HtmlSteps
 pub mod IterateSteps
 pub mod LinkSteps

@@ -1,5 +1,5 @@
 -- Spaces at both ends of a text.
-use Rattle.std.proofs.Common.{◌≡◌, ℕ, ◌-◌, ◌<◌, true, ◌&&◌, List, [], ◌∷◌, length, get_or, ap, sym, ◌∙◌, arith, true≢false, eqb-true}
+use Rattle.std.proofs.Common.{◌≡◌, ℕ, ◌-◌, ◌<◌, true, ◌&&◌, List, [], ◌∷◌, length, get_or, ap, sym, ◌∙◌, arith, eqb-true}
 use Rattle.std.specs.Str.{IsCharBoundary, IsUtf8}
 use Rattle.std.specs.Prelude.{not, nat_lt, count_by}
 use Rattle.std.proofs.lemmas.Bool.{and_parts}

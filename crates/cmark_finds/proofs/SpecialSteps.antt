@@ -6,10 +6,9 @@ use Rattle.std.specs.Str.{IsCharBoundary}
 use Rattle.std.proofs.lemmas.Bool.{and_parts, or_cases}
 use Rattle.std.proofs.lemmas.List.{get_or-drop}
 use Rattle.std.proofs.lemmas.List.Sums.{prefix_len_stops, prefix_len-le-length}
-use Rattle.std.proofs.lemmas.Str.{IsCharBoundary-before_ascii, IsCharBoundary-end}
 use Rattle.cmark_grammar.specs.Options.{Options}
 use Rattle.cmark_grammar.specs.SpecialBytes.{is_one_of, is_always_special, is_special}
-use Rattle.cmark_finds.specs.Special.{has_byte, IsTableOf, next_in}
+use Rattle.cmark_finds.specs.Special.{has_byte, IsTableOf}
 
 abbrev AreAscii : List ℕ → Type 0
 AreAscii [] = Unit {0}

@@ -1,7 +1,7 @@
 -- What the values of structs mean.
-use Rattle.std.specs.Prelude.{◌≡◌, ◌<◌, ◌≤◌, ◌+◌, ◌-◌, ℕ, List, drop, option_copied}
+use Rattle.std.specs.Prelude.{◌≡◌, ◌≢◌, ◌<◌, ◌≤◌, ◌+◌, ◌-◌, ℕ, false, List, drop, get_or, option_copied}
 use Rattle.std.specs.Str.{IsCharBoundary}
-use Rattle.cmark_grammar.specs.CodeSpans.{backticks}
+use Rattle.cmark_grammar.specs.CodeSpans.{is_backtick, backticks}
 use Rattle.cmark_grammar.specs.LinkDefinitions.{Found}
 use Rattle.cmark_grammar.specs.LineBreaks as breaks
 use Rattle.cmark_grammar.specs.LinkTails as tails
@@ -26,6 +26,13 @@ pub record IsCodeAt (text : List ℕ) (at : ℕ) (span : CodeSpan) : Type 0 wher
   pub starts : IsCharBoundary text span.content_start
   pub stops : IsCharBoundary text span.content_end
   pub ends : IsCharBoundary text span.end
+
+-- its closing run is the first of that length behind the opening one: a run begins there, and none that begins before has
+-- that length
+pub record ClosesFirst (text : List ℕ) (at : ℕ) (span : CodeSpan) : Type 0 where
+  pub begins : is_backtick (get_or text (span.content_end - 1) 0) ≡ false
+  pub whole : backticks (drop span.content_end text) ≡ backticks (drop at text)
+  pub first : (k : ℕ) → span.content_start ≤ k → k < span.content_end → is_backtick (get_or text (k - 1) 0) ≡ false → backticks (drop k text) ≢ backticks (drop at text)
 
 abbrev pub shown_label : (text : List ℕ) → Label → Found
 shown_label text label = record { bytes = label.label.now; behind = drop label.end text }

@@ -1,5 +1,5 @@
 -- Tables of special bytes, and how a text is gone through with one.
-use Rattle.std.specs.Prelude.{◌≡◌, ◌<◌, ◌≤◌, ◌+◌, ℕ, suc, Bool, false, not, min, List, length, drop, get_or, Option, None}
+use Rattle.std.specs.Prelude.{◌≡◌, ◌<◌, ◌+◌, ℕ, Bool, false, not, min, List, length, drop, get_or, Option, None}
 use Rattle.std.specs.List.{prefix_len}
 use Rattle.cmark_grammar.specs.Options.{Options}
 use Rattle.cmark_grammar.specs.SpecialBytes.{is_special}

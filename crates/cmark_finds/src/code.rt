@@ -6,7 +6,7 @@ ghost use Rattle.cmark_grammar.specs.CodeSpans.{backticks, up_to_run, code_in, i
 ghost use Rattle.cmark_grammar.specs.InlineHtml.{takes_lines};
 ghost use Rattle.cmark_scan_parts.specs.Shown.{IsBorrowed};
 ghost use Rattle.cmark_text.specs.Shown.{text_bytes};
-ghost use Rattle.cmark_finds.specs.Shown.{shown_code, IsCodeAt};
+ghost use Rattle.cmark_finds.specs.Shown.{shown_code, IsCodeAt, ClosesFirst};
 
 use crate::line_end::{has_line_ending, with_line_ends};
 use cmark_text::CowStr;
@@ -56,6 +56,7 @@ pub fn code_span(text: &str, at: usize) -> Option<CodeSpan>
     requires { IsCharBoundary text.now at }
     ensures value { option_map (shown_code text.now) result ≡ code_in (drop at text.now) }
     ensures places { IfSome result (IsCodeAt text.now at) }
+    ensures first { IfSome result (ClosesFirst text.now at) }
 {
     let run = &text.as_bytes()[at..];
     let size = backticks(run);

@@ -1,5 +1,5 @@
 -- Code spans (CommonMark 6.1).
-use Rattle.std.specs.Prelude.{ℕ, ◌-◌, Bool, true, false, ◌==◌, ◌&&◌, not, nat_lt, if◌then◌else◌, List, [], ◌∷◌, ◌++◌, codes, length, drop, get_or, count_by, Option, Some, None, option_map}
+use Rattle.std.specs.Prelude.{ℕ, ◌-◌, Bool, false, ◌==◌, ◌&&◌, not, nat_lt, if◌then◌else◌, List, [], ◌∷◌, ◌++◌, codes, length, drop, get_or, count_by, Option, Some, None, option_map}
 use Rattle.std.specs.List.{prefix_len}
 use Rattle.cmark_grammar.specs.Letters.{behind_all}
 use Rattle.cmark_grammar.specs.Lines.{carriage_return, ends_line}

@@ -1,5 +1,5 @@
 -- The breaks between the lines of a leaf (CommonMark 6.7 and 6.8).
-use Rattle.std.specs.Prelude.{ℕ, zero, ◌-◌, Bool, true, false, ◌==◌, if◌then◌else◌, List, length, drop, take_while, codes, bytes_eq, Option, option_map}
+use Rattle.std.specs.Prelude.{ℕ, ◌-◌, Bool, true, false, ◌==◌, if◌then◌else◌, List, length, drop, take_while, codes, bytes_eq, Option, option_map}
 use Rattle.std.specs.Option.{option_or}
 use Rattle.cmark_grammar.specs.Columns.{is_blank_byte}
 use Rattle.cmark_grammar.specs.Letters.{behind_if, and_then}

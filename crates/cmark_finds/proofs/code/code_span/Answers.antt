@@ -1,6 +1,7 @@
 use Rattle.std.proofs.Common.{drop, ap, ◌∙◌}
 use Rattle.cmark_scan_parts.proofs.Lists.{rest_of}
 use Rattle.cmark_finds.proofs.CodeSteps.{code_places}
+use Rattle.cmark_finds.proofs.FirstRun.{closes_first}
 use Rattle.cmark_finds.proofs.code.code_span.Goals as goal
 
 pub returns-clause-places : goal.returns-clause-places
@@ -8,3 +9,9 @@ returns-clause-places c =
     let rest = rest_of c.as_bytes.result.now c.args.at ∙ ap (drop c.args.at) c.as_bytes.ensures.value in
     code_places c.args.text.now _ _ c.args.at c.backticks-size.result c.in_ok-content.content c.utf8.text rest c.backticks-size.ensures.value c.if-size-eq0.false (rest_of _ c.backticks-size.result)
     c.in_ok-content.ensures.within c.in_ok-content.ensures.run
+
+pub returns-clause-first : goal.returns-clause-first
+returns-clause-first c =
+    let rest = rest_of c.as_bytes.result.now c.args.at ∙ ap (drop c.args.at) c.as_bytes.ensures.value in
+    closes_first c.args.text.now _ _ c.args.at c.backticks-size.result c.in_ok-content.content rest c.backticks-size.ensures.value c.if-size-eq0.false (rest_of _ c.backticks-size.result) c.in_ok-content.ensures.within
+    c.in_ok-content.ensures.value

@@ -1,4 +1,4 @@
-use Rattle.std.proofs.Common.{◌≤◌, ◌-◌, ℕ, Option, length}
+use Rattle.std.proofs.Common.{◌≤◌, ◌-◌, ℕ, length}
 use Rattle.cmark_finds.specs.Special.{Iterates}
 use Rattle.cmark_finds.proofs.special.iterate_special_bytes.Given as goal
 

@@ -1,4 +1,4 @@
-use Rattle.std.proofs.Common.{◌≡◌, ◌∙◌, not, drop, ap, arith}
+use Rattle.std.proofs.Common.{◌∙◌, not, ap, arith}
 use Rattle.std.specs.List.{prefix_len}
 use Rattle.cmark_scan_parts.proofs.Lists.{rest_of}
 use Rattle.cmark_finds.specs.Special.{has_byte}
