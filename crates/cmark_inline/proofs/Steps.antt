@@ -1,0 +1,72 @@
+-- Slots that are appended while a text is read.
+use Rattle.std.proofs.Common.{◌≡◌, ℕ, ◌+◌, ◌≤◌, ◌<◌, Bool, true, false, List, [], ◌∷◌, ◌++◌, length, refl, sym, ap, subst, arith, get_or}
+use Rattle.std.specs.Prelude.{nat_lt}
+use Rattle.std.specs.Str.{IsCharBoundary, IsUtf8}
+use Rattle.std.proofs.lemmas.Bool.{ltb-true, ltb-false}
+use Rattle.std.proofs.lemmas.List.{length_push}
+use Rattle.std.proofs.lemmas.List.Elements.{All-push}
+use Rattle.std.proofs.lemmas.Str.{IsCharBoundary-after_ascii}
+use Rattle.cmark_leaf_text.specs.Reads.{IsPart}
+use Rattle.cmark_inline.specs.Stands.{IsSlot, AreSlots, AreBrackets, PushesText}
+use Rattle.cmark_inline.specs.declared.bracket.Bracket.{Bracket}
+use Rattle.cmark_inline.specs.declared.slot.Slot.{Slot}
+use Rattle.cmark_inline.specs.declared.slot.SlotKind.TheVariants as kind
+
+pub record Keeps (text : List ℕ) (at : ℕ) (ss : List Slot) (bs : List Bracket) (bytes : ℕ) : Type 0 where
+  pub slots : AreSlots text at ss
+  pub brackets : AreBrackets text at bs
+  pub runs : bytes ≤ length ss
+
+module _ (text : List ℕ) where
+  pub slots-on : (a b : ℕ) (ss : List Slot) → AreSlots text a ss → a ≤ b → AreSlots text b ss
+  slots-on a b ss h le = λ k d lt. let s = h k d lt in record { part = s.part; before = (let e = s.before in let l : (get_or ss k d).end ≤ b = omega (arith, e, le) in l); content = s.content }
+
+  pub brackets-on : (a b : ℕ) (bs : List Bracket) → AreBrackets text a bs → a ≤ b → AreBrackets text b bs
+  brackets-on a b bs h le = λ k d lt. let s = h k d lt in record { part = s.part; before = (let e = s.before in let l : (get_or bs k d).inside ≤ b = omega (arith, e, le) in l) }
+
+  pub keeps-on : (a b : ℕ) (ss : List Slot) (bs : List Bracket) (n : ℕ) → Keeps text a ss bs n → a ≤ b → Keeps text b ss bs n
+  keeps-on a b ss bs n h le = record { slots = slots-on a b ss h.slots le; brackets = brackets-on a b bs h.brackets le; runs = h.runs }
+
+  pub keeps-push : (a b : ℕ) (ss ts : List Slot) (s : Slot) (bs : List Bracket) (n : ℕ) → Keeps text a ss bs n → a ≤ b → IsSlot text b s → ts ≡ ss ++ (s ∷ []) → Keeps text b ts bs n
+  keeps-push a b ss ts s bs n h le new e =
+      let l = length_push ss s in
+      let m = ap length e in
+      let r = h.runs in
+      record {
+        slots = subst (AreSlots text b) (sym e) (All-push (IsSlot text b) ss s (slots-on a b ss h.slots le) new);
+        brackets = brackets-on a b bs h.brackets le;
+        runs = let q : n ≤ length ts = omega (arith, l, m, r) in q;
+      }
+
+  pub keeps-text : (a b : ℕ) (ss ts : List Slot) (bs : List Bracket) (n : ℕ) → Keeps text a ss bs n → a ≤ b → IsCharBoundary text a → IsCharBoundary text b → PushesText a b ss ts → Keeps text b ts bs n
+  keeps-text a b ss ts bs n h le starts ends pushed = go (nat_lt a b) refl
+    where
+      go : (z : Bool) → nat_lt a b ≡ z → Keeps text b ts bs n
+      go true e =
+          let lt = ltb-true a b e in
+          let w = ends.0 in
+          keeps-push a b ss ts (record { kind = kind.Text; start = a; end = b }) bs n h le
+          (record { part = record { some = lt; within = w; starts = starts; ends = ends }; before = (let l : b ≤ b = omega arith in l); content = tt }) (pushed.0 lt)
+      go false e =
+          let g = ltb-false a b e in
+          let k = keeps-on a b ss bs n h le in
+          record {
+            slots = subst (AreSlots text b) (sym (pushed.1 g)) k.slots;
+            brackets = k.brackets;
+            runs = subst (λ (l : List Slot). n ≤ length l) (sym (pushed.1 g)) k.runs;
+          }
+
+  pub after : (at : ℕ) → IsUtf8 text → at < length text → get_or text at 0 < 128 → IsCharBoundary text (at + 1)
+  after at u lt small = IsCharBoundary-after_ascii text at u lt small
+
+  pub part-from : (a b : ℕ) → IsCharBoundary text a → IsCharBoundary text b → a < b → IsPart text a b
+  part-from a b starts ends lt = record { some = lt; within = ends.0; starts = starts; ends = ends }
+
+  -- bytes of a run as slots
+  pub byte-slot : (a : ℕ) → IsCharBoundary text a → IsUtf8 text → a < length text → get_or text a 0 < 128 → IsSlot text (a + 1) (record { kind = kind.Text; start = a; end = a + 1 })
+  byte-slot a starts u lt small =
+      let e = after a u lt small in
+      record { part = part-from a (a + 1) starts e (let l : a < a + 1 = omega arith in l); before = (let l : a + 1 ≤ a + 1 = omega arith in l); content = tt }
+
+  pub slots-push : (a b : ℕ) (ss ts : List Slot) (s : Slot) → AreSlots text a ss → a ≤ b → IsSlot text b s → ts ≡ ss ++ (s ∷ []) → AreSlots text b ts
+  slots-push a b ss ts s h le new e = subst (AreSlots text b) (sym e) (All-push (IsSlot text b) ss s (slots-on a b ss h le) new)

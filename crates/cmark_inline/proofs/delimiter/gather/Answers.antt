@@ -1,0 +1,26 @@
+use Rattle.std.proofs.Common.{rules, ◌≡◌, ◌+◌, ◌≤◌, ◌∷◌, List, refl, ap, sym, subst, ◌∙◌, arith}
+use Rattle.std.specs.Prelude.{map}
+use Rattle.cmark_emphasis.specs.Shown.{shown_run}
+use Rattle.cmark_emphasis.specs.Slots.{AreRuns}
+use Rattle.cmark_emphasis.specs.declared.run.Run as code_run
+use Rattle.cmark_inline.specs.Stands.{bytes_of}
+use Rattle.cmark_inline.specs.declared.delimiter.PlacedRun.{PlacedRun}
+use Rattle.cmark_inline.proofs.Runs.{first-bytes, no-runs, one-more}
+use Rattle.cmark_inline.proofs.delimiter.gather.Goals as goal
+
+pub loop-next-init : goal.loop-next-init
+loop-next-init c =
+    let a = c.requires in
+    let b = c.runs_from-rest.ensures in
+    ((let l : 0 + bytes_of c.runs_from-rest.result.now ≤ c.args.bound = omega (arith, a, b) in l), subst (λ (rs : List code_run.Run). AreRuns 0 (map shown_run rs)) (sym c.clear.ensures.items) no-runs)
+
+pub loop-next-preserved : goal.loop-next-preserved
+loop-next-preserved c =
+    let i = c.loop-next.invariant in
+    let h = i.0 in
+    let n : code_run.Run = record { mark = c.in-Some.next.now.run.mark; size = c.in-Some.next.now.run.size; at = c.loop-next.count; left = c.in-Some.next.now.run.size; opens = c.in-Some.next.now.run.opens; closes = c.in-Some.next.now.run.closes } in
+    let e : c.loop-next.rest.now ≡ c.in-Some.next.now ∷ c.in-Some.others.now = search rules in
+    let b = ap (λ (ps : List PlacedRun). bytes_of ps) e ∙ first-bytes c.in-Some.next.now c.in-Some.others.now in (
+      (let l : c.loop-next.count + c.in-Some.next.now.run.size + bytes_of c.in-Some.others.now ≤ c.args.bound = omega (arith, h, b) in l),
+      one-more c.loop-next.count c.loop-next.runs.items c.push.new.self.items n i.1 refl refl c.in_ok-push.ensures.items,
+    )

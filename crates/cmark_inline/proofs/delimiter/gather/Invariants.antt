@@ -1,0 +1,12 @@
+use Rattle.std.proofs.Common.{◌≤◌, ◌+◌, length}
+use Rattle.std.specs.Prelude.{map}
+use Rattle.cmark_emphasis.specs.Shown.{shown_run}
+use Rattle.cmark_emphasis.specs.Slots.{AreRuns}
+use Rattle.cmark_inline.specs.Stands.{bytes_of}
+use Rattle.cmark_inline.proofs.delimiter.gather.Given as goal
+
+abbrev pub invariant-loop-next : goal.invariant-loop-next
+invariant-loop-next l = (l.count + bytes_of l.rest ≤ l.bound) × AreRuns l.count (map shown_run l.runs.items)
+
+abbrev pub decreases-loop-next : goal.decreases-loop-next
+decreases-loop-next l = length l.rest

@@ -1,0 +1,13 @@
+use Rattle.std.proofs.Common.{List, ℕ, arith}
+use Rattle.cmark_inline.specs.Stands.{bytes_of}
+use Rattle.cmark_inline.specs.declared.bracket.Bracket.{Bracket}
+use Rattle.cmark_inline.proofs.Steps.{Keeps, keeps-push}
+use Rattle.cmark_inline.proofs.state.InlineState.add.Goals as goal
+
+pub returns : goal.returns
+returns c =
+    let h = c.requires.stands in
+    let bs : List Bracket = c.args.self.now.brackets.standing.items in
+    let n : ℕ = bytes_of c.args.self.now.delimiters.placed.items in
+    let k : Keeps c.args.text.now c.args.place c.push_slot.new.slots.items bs n = keeps-push c.args.text.now c.args.place c.args.place c.args.self.now.slots.items c.push_slot.new.slots.items c.args.slot bs n (record { slots = h.slots; brackets = h.brackets; runs = h.runs }) (omega arith) c.requires.slot c.in_ok-push_slot.ensures in
+    record { slots = k.slots; brackets = k.brackets; runs = k.runs }

@@ -1,0 +1,18 @@
+use Rattle.std.proofs.Common.{◌≡◌, ◌≤◌, ◌+◌, ◌-◌, length}
+use Rattle.std.specs.Str.{IsCharBoundary}
+use Rattle.cmark_inline.specs.Stands.{AreSlots}
+use Rattle.cmark_inline.proofs.state.InlineState.push_bytes.Given as goal
+
+abbrev pub invariant-loop-at : goal.invariant-loop-at
+invariant-loop-at l = record {
+  behind : l.start ≤ l.at;
+  before : l.at ≤ l.end;
+  place : IsCharBoundary l.text l.at;
+  slots : AreSlots l.text l.at l.self.slots.items;
+  brackets : l.self.brackets ≡ l.initial.self.brackets;
+  delimiters : l.self.delimiters ≡ l.initial.self.delimiters;
+  size : length l.self.slots.items ≡ length l.initial.self.slots.items + (l.at - l.start);
+}
+
+abbrev pub decreases-loop-at : goal.decreases-loop-at
+decreases-loop-at l = l.end - l.at

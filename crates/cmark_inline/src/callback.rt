@@ -1,0 +1,64 @@
+//! What is asked of the caller for references without a definition.
+
+ghost use Rattle.std.specs.Prelude.{◌≡◌, Option, None};
+ghost use Rattle.cmark_text.specs.declared.text.CowStr.{CowStr};
+ghost use Rattle.cmark_inline.specs.declared.callback.BrokenLink.{BrokenLink as Question};
+
+use cmark_text::{CowStr, LinkType};
+use std::alloc::{AllocError, Global};
+use std::ops::Range;
+
+/// A reference without a definition.
+#[derive(Debug, Drop)]
+pub struct BrokenLink<'a> {
+    /// Its bytes in the source: from its opening bracket to behind the label, without a following `[]`.
+    pub span: Range<usize>,
+    /// How it is written: `Reference`, `Collapsed` or `Shortcut`.
+    pub link_type: LinkType,
+    /// The normal form of its label (CommonMark 4.7).
+    pub reference: CowStr<'a>,
+}
+
+impl<'a> BrokenLink<'a> {
+    /// The same in a value that borrows nothing.
+    pub fn into_static(self, alloc: Global) -> Result<BrokenLink<'static>, AllocError> {
+        let BrokenLink {
+            span,
+            link_type,
+            reference,
+        } = self;
+        let reference = reference.into_static(alloc)?;
+        Ok(BrokenLink {
+            span,
+            link_type,
+            reference,
+        })
+    }
+}
+
+/// What the caller says of references without a definition.
+pub trait BrokenLinkCallback<'input> {
+    ghost answers: { Self → Question → Option (CowStr × CowStr) → Self → Type 0 };
+
+    /// Where such a reference leads and its title; `None` where it is no link.
+    fn handle_broken_link(
+        &mut self,
+        link: BrokenLink<'input>,
+    ) -> Option<(CowStr<'input>, CowStr<'input>)>
+        ensures { answers self.old link.entry result self.new };
+}
+
+/// No such reference is a link.
+#[derive(Clone, Copy, Debug, Drop)]
+pub struct DefaultBrokenLinkCallback;
+
+impl<'input> BrokenLinkCallback<'input> for DefaultBrokenLinkCallback {
+    ghost answers = { λ before link answer after. answer ≡ None };
+
+    fn handle_broken_link(
+        &mut self,
+        _link: BrokenLink<'input>,
+    ) -> Option<(CowStr<'input>, CowStr<'input>)> {
+        None
+    }
+}

@@ -1,0 +1,191 @@
+//! Delimiter runs and the elements that they become (CommonMark 6.2).
+
+ghost use Rattle.std.specs.Prelude.{◌≡◌, ◌+◌, ◌≤◌, ℕ, List, [], length, map, OnOk, IfOk};
+ghost use Rattle.cmark_emphasis.specs.Shown.{shown_run};
+ghost use Rattle.cmark_emphasis.specs.Slots.{AreRuns};
+ghost use Rattle.cmark_inline.specs.Stands.{AreSlots, bytes_of};
+
+use crate::slot::{Element, Slot, begin, use_up};
+use bitflags::Flags;
+use cmark_emphasis::{PairingRoom, Run, Slot as Mark, SpanKind, slots_of_runs};
+use cmark_text::Options;
+use std::alloc::{AllocError, Global};
+
+/// A delimiter run and the place of its first slot, which those of its other bytes follow.
+#[derive(Clone, Copy, Debug)]
+pub struct PlacedRun {
+    pub slot: usize,
+    pub run: Run,
+}
+
+/// The delimiter runs of the siblings that are not resolved, and room for their pairing.
+#[derive(Drop)]
+pub struct Delimiters {
+    placed: Vec<PlacedRun>,
+    runs: Vec<Run>,
+    room: PairingRoom,
+    marks: Vec<Mark>,
+    begun: Vec<usize>,
+}
+
+impl Delimiters {
+    pub fn new(alloc: Global) -> Delimiters {
+        Delimiters {
+            placed: Vec::new(alloc),
+            runs: Vec::new(alloc),
+            room: PairingRoom::new(alloc),
+            marks: Vec::new(alloc),
+            begun: Vec::new(alloc),
+        }
+    }
+
+    pub fn clear(&mut self)
+        ensures { self.new.placed.items ≡ [] }
+    {
+        self.placed.clear();
+    }
+
+    /// How many runs there are.
+    pub fn len(&self) -> usize {
+        self.placed.len()
+    }
+
+    pub fn push(&mut self, slot: usize, run: Run) -> Result<(), AllocError>
+        ensures { OnOk result (bytes_of self.new.placed.items ≡ bytes_of self.old.placed.items + run.size) }
+    {
+        self.placed.push(PlacedRun { slot, run })?;
+        Ok(())
+    }
+
+    /// Resolves the runs from this one on, which are those of one list of siblings, and forgets them.
+    pub fn resolve(
+        &mut self,
+        first: usize,
+        options: Options,
+        slots: &mut Vec<Slot>,
+    ) -> Result<(), AllocError>
+        requires { bytes_of self.old.placed.items ≤ length slots.old.items }
+        ensures slots { OnOk result ((text : List ℕ) (place : ℕ) → AreSlots text place slots.old.items → AreSlots text place slots.new.items) }
+        ensures length { OnOk result (length slots.new.items ≡ length slots.old.items) }
+        ensures runs { OnOk result (bytes_of self.new.placed.items ≤ bytes_of self.old.placed.items) }
+    {
+        let bound = slots.len();
+        let count = gather(&mut self.runs, self.placed.as_slice(), first, bound)?;
+        slots_of_runs(count, &self.runs, &mut self.room, &mut self.marks)?;
+        self.begun.clear();
+        let mut marks = self.marks.as_slice();
+        let mut rest = runs_from(self.placed.as_slice(), first);
+        while let Some((placed, others)) = rest.split_first() {
+            marks = write_run(*placed, options, marks, slots, &mut self.begun)?;
+            rest = others;
+        }
+        self.placed.truncate(first);
+        Ok(())
+    }
+}
+
+/// Puts the runs from this one on into `runs`, their bytes counted from 0, and says how many bytes they are. No more than
+/// `bound` are there.
+fn gather(
+    runs: &mut Vec<Run>,
+    placed: &[PlacedRun],
+    first: usize,
+    bound: usize,
+) -> Result<usize, AllocError>
+    requires { bytes_of placed.now ≤ bound }
+    ensures { IfOk result (λ count. AreRuns count (map shown_run runs.new.items)) }
+{
+    runs.clear();
+    let mut count = 0;
+    let mut rest = runs_from(placed, first);
+    while let Some((next, others)) = rest.split_first() {
+        let run = next.run;
+        runs.push(Run {
+            at: count,
+            left: run.size,
+            ..run
+        })?;
+        count += run.size;
+        rest = others;
+    }
+    Ok(count)
+}
+
+/// The runs from this one on.
+fn runs_from(placed: &[PlacedRun], first: usize) -> &[PlacedRun]
+    ensures { bytes_of result.now ≤ bytes_of placed.entry.now }
+{
+    if first >= placed.len() {
+        return &[];
+    }
+    &placed[first..]
+}
+
+/// Writes the marks of the bytes of a run into their slots, and hands back the marks behind.
+fn write_run<'m>(
+    placed: PlacedRun,
+    options: Options,
+    marks: &'m [Mark],
+    slots: &mut Vec<Slot>,
+    begun: &mut Vec<usize>,
+) -> Result<&'m [Mark], AllocError>
+    ensures slots { IfOk result (λ rest. (text : List ℕ) (place : ℕ) → AreSlots text place slots.old.items → AreSlots text place slots.new.items) }
+    ensures length { IfOk result (λ rest. length slots.new.items ≡ length slots.old.items) }
+{
+    let mut rest = marks;
+    let mut slot = placed.slot;
+    for _ in 0..placed.run.size {
+        let Some((mark, others)) = rest.split_first() else {
+            break;
+        };
+        write_mark(*mark, slot, options, slots, begun)?;
+        slot = slot.saturating_add(1);
+        rest = others;
+    }
+    Ok(rest)
+}
+
+/// Writes what a mark says into a slot: elements begin and end, and the bytes between are nothing.
+fn write_mark(
+    mark: Mark,
+    slot: usize,
+    options: Options,
+    slots: &mut Vec<Slot>,
+    begun: &mut Vec<usize>,
+) -> Result<(), AllocError>
+    ensures slots { OnOk result ((text : List ℕ) (place : ℕ) → AreSlots text place slots.old.items → AreSlots text place slots.new.items) }
+    ensures length { OnOk result (length slots.new.items ≡ length slots.old.items) }
+{
+    match mark {
+        Mark::Single => {}
+        Mark::Blank => use_up(slots, slot, false),
+        Mark::Begin(_) => begun.push(slot)?,
+        Mark::End(kind) => end_last(slots, slot, element_of(kind, options), begun),
+    }
+    Ok(())
+}
+
+/// Ends the element that began last, at a slot.
+fn end_last(slots: &mut Vec<Slot>, slot: usize, element: Element, begun: &mut Vec<usize>)
+    ensures slots { (text : List ℕ) (place : ℕ) → AreSlots text place slots.old.items → AreSlots text place slots.new.items }
+    ensures length { length slots.new.items ≡ length slots.old.items }
+{
+    if slot < slots.len() {
+        let end = slots[slot].end;
+        use_up(slots, slot, true);
+        if let Some(first) = begun.pop() {
+            begin(slots, first, element, end);
+        }
+    }
+}
+
+/// What stands around a span, by the options.
+fn element_of(kind: SpanKind, options: Options) -> Element {
+    match kind {
+        SpanKind::Emphasis => Element::Emphasis,
+        SpanKind::Strong => Element::Strong,
+        SpanKind::SingleTilde if options.contains(Options::ENABLE_SUBSCRIPT) => Element::Subscript,
+        SpanKind::SingleTilde | SpanKind::DoubleTilde => Element::Strikethrough,
+        SpanKind::Caret => Element::Superscript,
+    }
+}

@@ -1,0 +1,259 @@
+//! The events of a leaf's slots, one after the other.
+
+ghost use Rattle.std.specs.Prelude.{◌≡◌, ℕ, List, [], IfOk, IfSome, length};
+ghost use Rattle.std.specs.Str.{IsCharBoundary};
+ghost use Rattle.cmark_leaf_text.specs.Reads.{IsRead, IsPart, text_of, source_of};
+ghost use Rattle.cmark_inline.specs.Stands.{AreOpened, AreSlots, IsSlot};
+
+use crate::link::LinkParts;
+use crate::slot::{Element, Slot, SlotKind};
+use crate::state::InlineState;
+use cmark_finds::code_text;
+use cmark_leaf_text::LeafText;
+use cmark_text::{CowStr, Event, Tag, TagEnd};
+use std::alloc::{AllocError, Global};
+use std::ops::Range;
+
+/// An element that began and has not ended.
+#[derive(Clone, Copy, Debug)]
+pub struct Opened {
+    pub tag: TagEnd,
+    pub start: usize,
+    pub end: usize,
+}
+
+/// How far the slots were given.
+#[derive(Drop)]
+pub struct Walk {
+    pub next: usize,
+    pub opened: Vec<Opened>,
+}
+
+impl Walk {
+    pub fn new(alloc: Global) -> Walk {
+        Walk {
+            next: 0,
+            opened: Vec::new(alloc),
+        }
+    }
+
+    pub fn clear(&mut self)
+        ensures { self.new.opened.items ≡ [] }
+    {
+        self.next = 0;
+        self.opened.clear();
+    }
+}
+
+/// An event, and the bytes of the source that it comes from.
+#[derive(Debug, Drop)]
+pub struct Given<'a> {
+    pub event: Event<'a>,
+    pub range: Range<usize>,
+}
+
+impl<'a> InlineState<'a> {
+    /// The next event of the leaf that was resolved, with its range in the source; `None` behind the last.
+    pub fn next(&mut self, leaf: &LeafText<'a>) -> Result<Option<Given<'a>>, AllocError>
+        requires read { IsRead leaf.now }
+        requires slots { AreSlots (text_of leaf.now) (length (text_of leaf.now)) self.old.slots.items }
+        requires opened { AreOpened (source_of leaf.now) self.old.walk.opened.items }
+        ensures slots { self.new.slots ≡ self.old.slots }
+        ensures opened { AreOpened (source_of leaf.now) self.new.walk.opened.items }
+        ensures range { IfOk result (λ found. IfSome found (λ given. IsPart (source_of leaf.now) given.range.start given.range.end)) }
+    {
+        while self.walk.next < self.slots.len() {
+            let slot = self.slots[self.walk.next];
+            if let Some(given) = self.give(leaf, slot)? {
+                self.walk.next += 1;
+                return Ok(Some(given));
+            }
+            self.walk.next += 1;
+        }
+        Ok(self.end_last())
+    }
+
+    // The event of a slot, if it has one.
+    fn give(&mut self, leaf: &LeafText<'a>, slot: Slot) -> Result<Option<Given<'a>>, AllocError>
+        requires read { IsRead leaf.now }
+        requires slot { IsSlot (text_of leaf.now) (length (text_of leaf.now)) slot }
+        requires opened { AreOpened (source_of leaf.now) self.old.walk.opened.items }
+        ensures slots { self.new.slots ≡ self.old.slots }
+        ensures place { self.new.walk.next ≡ self.old.walk.next }
+        ensures opened { AreOpened (source_of leaf.now) self.new.walk.opened.items }
+        ensures range { IfOk result (λ found. IfSome found (λ given. IsPart (source_of leaf.now) given.range.start given.range.end)) }
+    {
+        match slot.kind {
+            SlotKind::Begin(element) => {
+                let given = self.begin(leaf, slot, element)?;
+                Ok(Some(given))
+            }
+            SlotKind::End => Ok(self.end_last()),
+            SlotKind::Nothing => Ok(None),
+            _ => {
+                let event = self.single(leaf, slot)?;
+                let range = leaf.range(slot.start, slot.end);
+                Ok(Some(Given { event, range }))
+            }
+        }
+    }
+
+    fn begin(
+        &mut self,
+        leaf: &LeafText<'a>,
+        slot: Slot,
+        element: Element,
+    ) -> Result<Given<'a>, AllocError>
+        requires read { IsRead leaf.now }
+        requires slot { IsSlot (text_of leaf.now) (length (text_of leaf.now)) slot }
+        requires opened { AreOpened (source_of leaf.now) self.old.walk.opened.items }
+        ensures slots { self.new.slots ≡ self.old.slots }
+        ensures place { self.new.walk.next ≡ self.old.walk.next }
+        ensures opened { AreOpened (source_of leaf.now) self.new.walk.opened.items }
+        ensures range { IfOk result (λ given. IsPart (source_of leaf.now) given.range.start given.range.end) }
+    {
+        let range = leaf.range(slot.start, slot.end);
+        let tag = self.tag(element);
+        self.walk.opened.push(Opened {
+            tag: tag.to_end(),
+            start: range.start,
+            end: range.end,
+        })?;
+        Ok(Given {
+            event: Event::Start(tag),
+            range,
+        })
+    }
+
+    fn end_last(&mut self) -> Option<Given<'a>>
+        ensures slots { self.new.slots ≡ self.old.slots }
+        ensures place { self.new.walk.next ≡ self.old.walk.next }
+        ensures opened { (source : List ℕ) → AreOpened source self.old.walk.opened.items → AreOpened source self.new.walk.opened.items }
+        ensures range { (source : List ℕ) → AreOpened source self.old.walk.opened.items → IfSome result (λ given. IsPart source given.range.start given.range.end) }
+    {
+        let opened = self.walk.opened.pop()?;
+        Some(Given {
+            event: Event::End(opened.tag),
+            range: opened.start..opened.end,
+        })
+    }
+
+    fn tag(&mut self, element: Element) -> Tag<'a>
+        ensures slots { self.new.slots ≡ self.old.slots }
+        ensures walk { self.new.walk ≡ self.old.walk }
+    {
+        match element {
+            Element::Emphasis => Tag::Emphasis,
+            Element::Strong => Tag::Strong,
+            Element::Strikethrough => Tag::Strikethrough,
+            Element::Superscript => Tag::Superscript,
+            Element::Subscript => Tag::Subscript,
+            Element::Link(index) => link_tag(self.take_link(index)),
+            Element::Image(index) => image_tag(self.take_link(index)),
+        }
+    }
+
+    fn take_link(&mut self, index: usize) -> LinkParts<'a>
+        ensures slots { self.new.slots ≡ self.old.slots }
+        ensures walk { self.new.walk ≡ self.old.walk }
+    {
+        match self.links.get_mut(index) {
+            Some(link) => std::mem::replace(link, LinkParts::none()),
+            None => LinkParts::none(),
+        }
+    }
+
+    fn take_text(&mut self, index: usize) -> CowStr<'a>
+        ensures slots { self.new.slots ≡ self.old.slots }
+        ensures walk { self.new.walk ≡ self.old.walk }
+    {
+        match self.texts.get_mut(index) {
+            Some(text) => std::mem::replace(text, CowStr::Borrowed("")),
+            None => CowStr::Borrowed(""),
+        }
+    }
+
+    fn single(&mut self, leaf: &LeafText<'a>, slot: Slot) -> Result<Event<'a>, AllocError>
+        requires read { IsRead leaf.now }
+        requires slot { IsSlot (text_of leaf.now) (length (text_of leaf.now)) slot }
+        ensures slots { self.new.slots ≡ self.old.slots }
+        ensures walk { self.new.walk ≡ self.old.walk }
+    {
+        match slot.kind {
+            SlotKind::OwnedText(index) => Ok(Event::Text(self.take_text(index))),
+            SlotKind::SoftBreak => Ok(Event::SoftBreak),
+            SlotKind::HardBreak => Ok(Event::HardBreak),
+            SlotKind::Code(from, to) => Ok(Event::Code(code_of(self.alloc, leaf, from, to)?)),
+            SlotKind::InlineHtml => Ok(Event::InlineHtml(text_between(
+                self.alloc, leaf, slot.start, slot.end,
+            )?)),
+            _ => Ok(Event::Text(text_between(self.alloc, leaf, slot.start, slot.end)?)),
+        }
+    }
+}
+
+fn link_tag<'a>(link: LinkParts<'a>) -> Tag<'a> {
+    let LinkParts {
+        link_type,
+        dest_url,
+        title,
+        id,
+    } = link;
+    Tag::Link {
+        link_type,
+        dest_url,
+        title,
+        id,
+    }
+}
+
+fn image_tag<'a>(link: LinkParts<'a>) -> Tag<'a> {
+    let LinkParts {
+        link_type,
+        dest_url,
+        title,
+        id,
+    } = link;
+    Tag::Image {
+        link_type,
+        dest_url,
+        title,
+        id,
+    }
+}
+
+// The bytes of a slot: borrowed where they stand in the source without a gap.
+pub fn text_between<'a>(
+    alloc: Global,
+    leaf: &LeafText<'a>,
+    from: usize,
+    to: usize,
+) -> Result<CowStr<'a>, AllocError>
+    requires read { IsRead leaf.now }
+    requires part { IsPart (text_of leaf.now) from to }
+{
+    match leaf.slice(from, to) {
+        Some(text) => Ok(CowStr::Borrowed(text)),
+        None => CowStr::Borrowed(&leaf.as_str()[from..to]).into_static(alloc),
+    }
+}
+
+// What a code span holds: borrowed where it stands in the source without a gap and no line ends in it.
+fn code_of<'a>(
+    alloc: Global,
+    leaf: &LeafText<'a>,
+    from: usize,
+    to: usize,
+) -> Result<CowStr<'a>, AllocError>
+    requires read { IsRead leaf.now }
+    requires starts { IsCharBoundary (text_of leaf.now) from }
+    requires ends { IsCharBoundary (text_of leaf.now) to }
+{
+    if from >= to {
+        return Ok(CowStr::Borrowed(""));
+    }
+    match leaf.slice(from, to) {
+        Some(content) => code_text(alloc, content),
+        None => code_text(alloc, &leaf.as_str()[from..to])?.into_static(alloc),
+    }
+}

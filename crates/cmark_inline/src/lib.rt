@@ -1,0 +1,19 @@
+//! The spans of a leaf's text: code, links and images, autolinks, inline HTML, emphasis, entities, escapes and line breaks
+//! (CommonMark 6).
+#![tactic(auto)]
+
+mod bracket;
+mod callback;
+mod delimiter;
+mod event;
+mod link;
+mod read;
+mod slot;
+mod special;
+mod state;
+mod step;
+
+pub use callback::{BrokenLink, BrokenLinkCallback, DefaultBrokenLinkCallback};
+pub use read::Reader;
+pub use special::{SpecialBytes, special_bytes};
+pub use state::InlineState;

@@ -1,0 +1,210 @@
+//! Links and images: what stands behind their closing bracket (CommonMark 6.3 and 6.4).
+
+ghost use Rattle.std.specs.Prelude.{◌≡◌, ◌<◌, ◌≤◌, ◌+◌, IfOk, IfSome, length};
+ghost use Rattle.std.specs.Str.{IsCharBoundary};
+ghost use Rattle.cmark_leaf_text.specs.Reads.{IsRead, IsPart, text_of};
+ghost use Rattle.cmark_inline.specs.Stands.{IsAsked, IsBracket, IsTarget};
+
+use crate::bracket::Bracket;
+use cmark_finds::{collapsed_end, is_bracketed_label, link_tail, reference_label, title_text};
+use cmark_items::RefDefs;
+use cmark_leaf_text::LeafText;
+use cmark_scan_parts::unescape;
+use cmark_text::{CowStr, EntityLookup, LinkType};
+use std::alloc::{AllocError, Global};
+
+/// What a link or an image is.
+#[derive(Debug, Drop)]
+pub struct LinkParts<'a> {
+    pub link_type: LinkType,
+    pub dest_url: CowStr<'a>,
+    pub title: CowStr<'a>,
+    pub id: CowStr<'a>,
+}
+
+impl<'a> LinkParts<'a> {
+    /// A link that was taken.
+    pub fn none() -> LinkParts<'a> {
+        LinkParts {
+            link_type: LinkType::Inline,
+            dest_url: CowStr::Borrowed(""),
+            title: CowStr::Borrowed(""),
+            id: CowStr::Borrowed(""),
+        }
+    }
+}
+
+/// What forms a link or an image.
+#[derive(Drop)]
+pub struct Target<'a> {
+    pub parts: LinkParts<'a>,
+    /// The place behind the link.
+    pub end: usize,
+    /// The place behind all that it uses up.
+    pub past: usize,
+}
+
+/// An inline link behind its closing bracket, whose texts stand in the text `text`.
+fn inline_in<'t, E: EntityLookup>(
+    alloc: Global,
+    text: &'t str,
+    at: usize,
+    entities: &E,
+) -> Result<Option<Target<'t>>, AllocError>
+    requires { IsCharBoundary text.now at }
+    ensures { IfOk result (λ found. IfSome found (IsTarget text.entry.now at)) }
+{
+    let Some(tail) = link_tail(text, at) else {
+        return Ok(None);
+    };
+    let dest_url = unescape(alloc, CowStr::Borrowed(tail.destination), false, entities)?;
+    let title = match tail.title {
+        Some(title) => title_text(alloc, title, entities)?,
+        None => CowStr::Borrowed(""),
+    };
+    Ok(Some(Target {
+        parts: LinkParts {
+            link_type: LinkType::Inline,
+            dest_url,
+            title,
+            id: CowStr::Borrowed(""),
+        },
+        end: tail.end,
+        past: tail.end,
+    }))
+}
+
+/// The same in a value that borrows nothing.
+fn own_target(alloc: Global, target: Target<'_>) -> Result<Target<'static>, AllocError>
+    ensures { IfOk result (λ made. (made.end ≡ target.entry.end) × (made.past ≡ target.entry.past)) }
+{
+    let Target { parts, end, past } = target;
+    let LinkParts {
+        link_type,
+        dest_url,
+        title,
+        id,
+    } = parts;
+    let dest_url = dest_url.into_static(alloc)?;
+    let title = title.into_static(alloc)?;
+    let id = id.into_static(alloc)?;
+    Ok(Target {
+        parts: LinkParts {
+            link_type,
+            dest_url,
+            title,
+            id,
+        },
+        end,
+        past,
+    })
+}
+
+/// The inline link behind a closing bracket. Its texts are borrowed where the leaf's text is a part of the source.
+pub fn inline_target<'a, E: EntityLookup>(
+    alloc: Global,
+    leaf: &LeafText<'a>,
+    text: &str,
+    at: usize,
+    entities: &E,
+) -> Result<Option<Target<'a>>, AllocError>
+    requires read { IsRead leaf.now }
+    requires same { text.now ≡ text_of leaf.now }
+    requires place { IsCharBoundary text.now at }
+    ensures { IfOk result (λ found. IfSome found (IsTarget text.now at)) }
+{
+    if let Some(source) = leaf.as_source() {
+        let found = inline_in(alloc, source, at, entities)?;
+        return Ok(found);
+    }
+    match inline_in(alloc, text, at, entities)? {
+        Some(target) => Ok(Some(own_target(alloc, target)?)),
+        None => Ok(None),
+    }
+}
+
+/// A reference as it is written.
+#[derive(Clone, Copy, Debug)]
+pub struct Asked<'t> {
+    pub label: &'t str,
+    pub link_type: LinkType,
+    /// The place behind the reference, without a following `[]`.
+    pub end: usize,
+    /// The place behind all that it uses up.
+    pub past: usize,
+}
+
+/// The reference whose bracket closes at `close`: a full one, or, unless that bracket is shut off for it, by its own label.
+pub fn asked_at<'t>(
+    text: &'t str,
+    bracket: Bracket,
+    close: usize,
+    is_shut: bool,
+) -> Option<Asked<'t>>
+    requires bracket { IsBracket text.now close bracket }
+    requires close { IsPart text.now close (close + 1) }
+    ensures { IfSome result (IsAsked text.entry.now close) }
+{
+    if let Some(label) = reference_label(text, close + 1) {
+        return Some(Asked {
+            label: label.label,
+            link_type: LinkType::Reference,
+            end: label.end,
+            past: label.end,
+        });
+    }
+    if is_shut {
+        return None;
+    }
+    own_label_at(text, bracket, close)
+}
+
+fn own_label_at<'t>(text: &'t str, bracket: Bracket, close: usize) -> Option<Asked<'t>>
+    requires bracket { IsBracket text.now close bracket }
+    requires close { IsPart text.now close (close + 1) }
+    ensures { IfSome result (IsAsked text.entry.now close) }
+{
+    let label = &text[bracket.inside..close];
+    if !is_bracketed_label(label) {
+        return None;
+    }
+    let end = close + 1;
+    if let Some(past) = collapsed_end(text, end) {
+        return Some(Asked {
+            label,
+            link_type: LinkType::Collapsed,
+            end,
+            past,
+        });
+    }
+    Some(Asked {
+        label,
+        link_type: LinkType::Shortcut,
+        end,
+        past: end,
+    })
+}
+
+/// Where a reference leads, and its title.
+#[derive(Debug, Drop)]
+pub struct Destination<'a> {
+    pub dest_url: CowStr<'a>,
+    pub title: CowStr<'a>,
+}
+
+/// What the definition of a label says, if it has one.
+pub fn defined<'a>(
+    alloc: Global,
+    references: &RefDefs<'a>,
+    label: &str,
+) -> Result<Option<Destination<'a>>, AllocError> {
+    let Some(definition) = references.get(label)? else {
+        return Ok(None);
+    };
+    let title = match &definition.title {
+        Some(title) => title.clone(alloc)?,
+        None => CowStr::Borrowed(""),
+    };
+    let dest_url = definition.dest.clone(alloc)?;
+    Ok(Some(Destination { dest_url, title }))
+}

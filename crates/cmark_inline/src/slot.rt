@@ -1,0 +1,105 @@
+//! Slots: what stands in a leaf's text, one behind the other.
+
+ghost use Rattle.std.specs.Prelude.{◌≡◌, ◌≤◌, ◌++◌, ◌∷◌, [], ℕ, List, length, OnOk};
+ghost use Rattle.std.specs.Str.{IsCharBoundary};
+ghost use Rattle.cmark_inline.specs.Stands.{AreSlots, PushesText};
+
+use std::alloc::AllocError;
+
+/// An element around other slots.
+#[derive(Clone, Copy, PartialEq, Eq, Debug)]
+pub enum Element {
+    Emphasis,
+    Strong,
+    Strikethrough,
+    Superscript,
+    Subscript,
+    /// The link of this index.
+    Link(usize),
+    /// The image of this index.
+    Image(usize),
+}
+
+/// What a slot stands for.
+#[derive(Clone, Copy, PartialEq, Eq, Debug)]
+pub enum SlotKind {
+    /// The bytes of its range.
+    Text,
+    /// The owned text of this index.
+    OwnedText(usize),
+    SoftBreak,
+    HardBreak,
+    /// A code span, with the range of what it holds.
+    Code(usize, usize),
+    /// Inline HTML: the bytes of its range.
+    InlineHtml,
+    /// An element begins. The range is the whole element's.
+    Begin(Element),
+    /// The element that began last ends.
+    End,
+    /// Nothing any more: a delimiter that another slot stands for.
+    Nothing,
+}
+
+/// What stands at some bytes of a leaf's text.
+#[derive(Clone, Copy, PartialEq, Eq, Debug)]
+pub struct Slot {
+    pub kind: SlotKind,
+    /// Byte offsets of the leaf's text.
+    pub start: usize,
+    pub end: usize,
+}
+
+/// Appends a slot.
+pub fn push_slot(
+    slots: &mut Vec<Slot>,
+    kind: SlotKind,
+    start: usize,
+    end: usize,
+) -> Result<(), AllocError>
+    ensures { OnOk result (slots.new.items ≡ slots.old.items ++ (record { kind = kind; start = start; end = end } ∷ [])) }
+{
+    slots.push(Slot { kind, start, end })?;
+    Ok(())
+}
+
+/// Appends a text, unless it is empty.
+pub fn push_text(slots: &mut Vec<Slot>, start: usize, end: usize) -> Result<(), AllocError>
+    ensures { OnOk result (PushesText start end slots.old.items slots.new.items) }
+{
+    if start < end {
+        push_slot(slots, SlotKind::Text, start, end)?;
+    }
+    Ok(())
+}
+
+/// Makes a slot the begin of an element that reaches at least up to a place.
+pub fn begin(slots: &mut Vec<Slot>, at: usize, element: Element, end: usize)
+    ensures slots { (text : List ℕ) (place : ℕ) → AreSlots text place slots.old.items → IsCharBoundary text end → end ≤ place → AreSlots text place slots.new.items }
+    ensures length { length slots.new.items ≡ length slots.old.items }
+{
+    if at < slots.len() {
+        let slot = slots[at];
+        slots[at] = Slot {
+            kind: SlotKind::Begin(element),
+            start: slot.start,
+            end: slot.end.max(end),
+        };
+    }
+}
+
+/// Makes a slot that of a delimiter: the end of an element, or nothing any more.
+pub fn use_up(slots: &mut Vec<Slot>, at: usize, ends: bool)
+    ensures slots { (text : List ℕ) (place : ℕ) → AreSlots text place slots.old.items → AreSlots text place slots.new.items }
+    ensures length { length slots.new.items ≡ length slots.old.items }
+{
+    if at < slots.len() {
+        let slot = slots[at];
+        let kind = if ends {
+            SlotKind::End
+        } else {
+            SlotKind::Nothing
+        };
+        slots[at] = Slot { kind, ..slot };
+    }
+}

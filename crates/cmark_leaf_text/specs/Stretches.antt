@@ -1,0 +1,69 @@
+-- Stretches of a source, one behind the other, and the text of the lines of a leaf.
+use Rattle.std.specs.Prelude.{◌≡◌, ℕ, ◌+◌, ◌-◌, ◌≤◌, nat_lt, if◌then◌else◌, List, [], ◌∷◌, ◌++◌, length, slice_get, Some, ◌<◌}
+use Rattle.std.specs.Str.{IsCharBoundary}
+use Rattle.cmark_grammar.specs.Tokens.{slice}
+use Rattle.cmark_leaf_text.specs.declared.stretch.LeafLine.{LeafLine}
+use Rattle.cmark_leaf_text.specs.declared.stretch.Stretch.{Stretch}
+
+-- a line lies in the source behind this place, and cuts no character
+pub record IsLine (source : List ℕ) (from : ℕ) (line : LeafLine) : Type 0 where
+  pub behind : from ≤ line.start
+  pub content : line.start ≤ line.stop
+  pub ending : line.stop ≤ line.past
+  pub within : line.past ≤ length source
+  pub starts : IsCharBoundary source line.start
+  pub stops : IsCharBoundary source line.stop
+  pub ends : IsCharBoundary source line.past
+
+abbrev pub AreLines : (source : List ℕ) → (from : ℕ) → List LeafLine → Type 0
+AreLines source from [] = Unit {0}
+AreLines source from (line ∷ lines) = IsLine source from line × AreLines source line.past lines
+
+-- the bytes of the lines with the line ends between them
+abbrev pub leaf_bytes : (source : List ℕ) → List LeafLine → List ℕ
+leaf_bytes source [] = []
+leaf_bytes source (line ∷ []) = slice source line.start line.stop
+leaf_bytes source (line ∷ next ∷ lines) = slice source line.start line.past ++ leaf_bytes source (next ∷ lines)
+
+-- the place behind a line: with its line end, if others follow
+abbrev pub line_end : LeafLine → (others : List LeafLine) → ℕ
+line_end line [] = line.stop
+line_end line (next ∷ others) = line.past
+
+abbrev pub size_of : Stretch → ℕ
+size_of stretch = stretch.end - stretch.start
+
+-- a stretch lies in the source behind this place and cuts no character; so many bytes stand in the text before it
+pub record IsStretch (source : List ℕ) (at from : ℕ) (stretch : Stretch) : Type 0 where
+  pub place : stretch.at ≡ at
+  pub behind : from ≤ stretch.start
+  pub ordered : stretch.start ≤ stretch.end
+  pub within : stretch.end ≤ length source
+  pub starts : IsCharBoundary source stretch.start
+  pub ends : IsCharBoundary source stretch.end
+
+abbrev pub AreStretches : (source : List ℕ) → (at from : ℕ) → List Stretch → Type 0
+AreStretches source at from [] = Unit {0}
+AreStretches source at from (stretch ∷ stretches) = IsStretch source at from stretch × AreStretches source (at + size_of stretch) stretch.end stretches
+
+-- their bytes, one behind the other
+abbrev pub joined : (source : List ℕ) → List Stretch → List ℕ
+joined source [] = []
+joined source (stretch ∷ stretches) = slice source stretch.start stretch.end ++ joined source stretches
+
+-- where in the source a byte of them stands
+abbrev pub place_in : List Stretch → ℕ → ℕ
+place_in [] at = at
+place_in (stretch ∷ stretches) at = if nat_lt at (stretch.at + size_of stretch) then stretch.start + (at - stretch.at) else place_in stretches at
+
+-- a stretch that may still be made longer stands behind these
+pub record IsOpen (source : List ℕ) (stretches : List Stretch) (open_one : Stretch) : Type 0 where
+  pub all : AreStretches source 0 0 (stretches ++ (open_one ∷ []))
+  pub place : open_one.at ≤ open_one.start
+
+-- this one of them begins at or before the byte of the text, and the next one behind it
+pub record FindsStretch (stretches : List Stretch) (at i : ℕ) : Type 0 where
+  pub stretch : Stretch
+  pub is : slice_get stretches i ≡ Some stretch
+  pub before : stretch.at ≤ at
+  pub next : (other : Stretch) → slice_get stretches (i + 1) ≡ Some other → at < other.at

@@ -1,0 +1,204 @@
+//! The text of a leaf.
+
+ghost use Rattle.std.specs.Prelude.{◌≡◌, ◌<◌, ◌≤◌, ◌+◌, ◌-◌, ◌++◌, [], length, OnOk, IfOk, IfSome, None, ◌∷◌, string_bytes};
+ghost use Rattle.cmark_grammar.specs.Tokens.{slice};
+ghost use Rattle.cmark_leaf_text.specs.Reads.{IsRead, IsPart, text_of, source_of, place_of};
+ghost use Rattle.cmark_leaf_text.specs.Stretches.{AreLines, AreStretches, IsOpen, IsLine, joined, leaf_bytes, line_end, FindsStretch};
+
+use crate::stretch::{LeafLine, Stretch};
+use std::alloc::{AllocError, Global};
+use std::ops::Range;
+
+/// The text of a leaf block (CommonMark 4): its lines one behind the other, without the prefixes of the containers and the
+/// indent of each, and with the line ends between them as they stand in the source. A value is used for one leaf after the
+/// other. Places are byte offsets, of the text or of the source.
+///
+/// Where the lines touch in the source the text is a part of it; else it is copied, into memory that is used again.
+#[derive(Drop)]
+pub struct LeafText<'a> {
+    source: &'a str,
+    stretches: Vec<Stretch>,
+    copied: String,
+}
+
+impl<'a> LeafText<'a> {
+    /// A text of no line.
+    pub fn new(alloc: Global, source: &'a str) -> LeafText<'a>
+        ensures read { IsRead result }
+        ensures text { text_of result ≡ [] }
+        ensures source { source_of result ≡ source.entry.now }
+    {
+        LeafText {
+            source,
+            stretches: Vec::new(alloc),
+            copied: String::new(alloc),
+        }
+    }
+
+    /// Takes these lines of the source, in its order, for its text. Where memory is refused, there is no text until the next call
+    /// succeeds.
+    pub fn read(&mut self, lines: &[LeafLine]) -> Result<(), AllocError>
+        requires { AreLines (source_of self.old) 0 lines.now }
+        ensures read { OnOk result (IsRead self.new) }
+        ensures text { OnOk result (text_of self.new ≡ leaf_bytes (source_of self.old) lines.now) }
+        ensures source { source_of self.new ≡ source_of self.old }
+    {
+        self.stretches.clear();
+        self.push_lines(lines)?;
+        self.copied.clear();
+        if self.stretches.len() > 1 {
+            copy_stretches(&mut self.copied, self.source, &self.stretches)?;
+        }
+        Ok(())
+    }
+
+    /// The text.
+    pub fn as_str(&self) -> &str
+        requires { IsRead self.now }
+        ensures { result.now ≡ text_of self.now }
+    {
+        match self.as_source() {
+            Some(text) => text,
+            None => self.copied.as_str(),
+        }
+    }
+
+    /// The text as a part of the source, where its lines touch there.
+    pub fn as_source(&self) -> Option<&'a str>
+        requires { IsRead self.now }
+        ensures text { IfSome result (λ text. text.now ≡ text_of self.now) }
+        ensures apart { result ≡ None → 1 < length self.now.stretches.items }
+    {
+        match self.stretches.as_slice() {
+            [] => Some(""),
+            [one] => Some(&self.source[one.start..one.end]),
+            _ => None,
+        }
+    }
+
+    /// Where a byte of the text stands in the source.
+    pub fn place(&self, at: usize) -> usize
+        requires read { IsRead self.now }
+        requires within { at < length (text_of self.now) }
+        ensures value { result ≡ place_of self.now at }
+        ensures within { result < length (source_of self.now) }
+    {
+        let stretch = self.stretches[self.stretch_at(at)];
+        stretch.place(at)
+    }
+
+    /// The bytes of the source from the first of these bytes of the text to behind the last.
+    pub fn range(&self, from: usize, to: usize) -> Range<usize>
+        requires read { IsRead self.now }
+        requires part { IsPart (text_of self.now) from to }
+        ensures start { result.start ≡ place_of self.now from }
+        ensures end { result.end ≡ place_of self.now (to - 1) + 1 }
+        ensures part { IsPart (source_of self.now) result.start result.end }
+    {
+        let start = self.place(from);
+        let last = self.place(to - 1);
+        start..last + 1
+    }
+
+    /// These bytes of the text as a part of the source, if they stand there without a gap.
+    pub fn slice(&self, from: usize, to: usize) -> Option<&'a str>
+        requires read { IsRead self.now }
+        requires part { IsPart (text_of self.now) from to }
+        ensures { IfSome result (λ part. part.now ≡ slice (source_of self.now) (place_of self.now from) (place_of self.now (to - 1) + 1)) }
+    {
+        let range = self.range(from, to);
+        if range.end - range.start == to - from {
+            Some(&self.source[range.start..range.end])
+        } else {
+            None
+        }
+    }
+
+    // The stretches of these lines: each line with its line end, but for the last.
+    fn push_lines(&mut self, lines: &[LeafLine]) -> Result<(), AllocError>
+        requires none { self.old.stretches.items ≡ [] }
+        requires lines { AreLines (source_of self.old) 0 lines.now }
+        ensures stretches { OnOk result (AreStretches (source_of self.old) 0 0 self.new.stretches.items) }
+        ensures text { OnOk result (joined (source_of self.old) self.new.stretches.items ≡ leaf_bytes (source_of self.old) lines.now) }
+        ensures source { source_of self.new ≡ source_of self.old }
+    {
+        let [first, ..] = lines else {
+            return Ok(());
+        };
+        let mut opened = Stretch {
+            at: 0,
+            start: first.start,
+            end: first.start,
+        };
+        let mut rest = lines;
+        while let Some((line, others)) = rest.split_first() {
+            opened = self.push_part(opened, line.start, line_end(line, others))?;
+            rest = others;
+        }
+        self.stretches.push(opened)?;
+        Ok(())
+    }
+
+    // The stretch that a part of the source makes longer, or else ends.
+    fn push_part(
+        &mut self,
+        opened: Stretch,
+        start: usize,
+        end: usize,
+    ) -> Result<Stretch, AllocError>
+        requires open { IsOpen (source_of self.old) self.old.stretches.items opened }
+        requires part { IsLine (source_of self.old) opened.end (record { start = start; stop = end; past = end }) }
+        ensures open { IfOk result (λ next. IsOpen (source_of self.old) self.new.stretches.items next) }
+        ensures end { IfOk result (λ next. next.end ≡ end) }
+        ensures text { IfOk result (λ next. joined (source_of self.old) (self.new.stretches.items ++ (next ∷ [])) ≡ joined (source_of self.old) (self.old.stretches.items ++ (opened ∷ [])) ++ slice (source_of self.old) start end) }
+        ensures source { source_of self.new ≡ source_of self.old }
+    {
+        if opened.end == start {
+            return Ok(Stretch { end, ..opened });
+        }
+        self.stretches.push(opened)?;
+        let at = opened.at + (opened.end - opened.start);
+        Ok(Stretch { at, start, end })
+    }
+
+    // The place among the stretches of that in which a byte of the text stands.
+    fn stretch_at(&self, at: usize) -> usize
+        requires read { IsRead self.now }
+        requires within { at < length (text_of self.now) }
+        ensures { FindsStretch self.now.stretches.items at result }
+    {
+        let mut low = 0;
+        let mut high = self.stretches.len();
+        while high - low > 1 {
+            let middle = low + (high - low) / 2;
+            if self.stretches[middle].at <= at {
+                low = middle;
+            } else {
+                high = middle;
+            }
+        }
+        low
+    }
+}
+
+// The place behind a line: with its line end, if others follow.
+fn line_end(line: &LeafLine, others: &[LeafLine]) -> usize
+    ensures { result ≡ line_end line.now others.now }
+{
+    if others.is_empty() {
+        line.stop
+    } else {
+        line.past
+    }
+}
+
+// Appends the bytes of the stretches.
+fn copy_stretches(out: &mut String, source: &str, stretches: &[Stretch]) -> Result<(), AllocError>
+    requires { AreStretches source.now 0 0 stretches.now }
+    ensures { OnOk result (string_bytes out.new ≡ string_bytes out.old ++ joined source.now stretches.now) }
+{
+    for stretch in stretches {
+        out.push_str(&source[stretch.start..stretch.end])?;
+    }
+    Ok(())
+}

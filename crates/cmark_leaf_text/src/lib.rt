@@ -1,0 +1,8 @@
+//! The text of a leaf block, and where its bytes stand in the source.
+#![tactic(auto)]
+
+mod leaf_text;
+mod stretch;
+
+pub use leaf_text::LeafText;
+pub use stretch::LeafLine;
