@@ -1,14 +1,15 @@
 -- What a line begins, as far as the items of lists and headings go.
-use Rattle.std.proofs.Common.{◌≡◌, ℕ, Bool, true, false, ◌==◌, ◌&&◌, ◌||◌, nat_lt, nat_le, not, if◌then◌else◌, List, [], ◌∷◌, length, drop, Option, Some, None, refl, sym, ap, ◌∙◌, true≢false, eqb-true}
-use Rattle.std.specs.Prelude.{unwrap_or, suc}
+use Rattle.std.proofs.Common.{◌≡◌, ℕ, Bool, true, false, ◌&&◌, nat_le, not, if◌then◌else◌, List, length, drop, Option, Some, None, refl, sym}
+use Rattle.std.specs.Prelude.{unwrap_or}
 use Rattle.cmark_grammar.specs.Rows.{Row, words_of, is_blank_line, indent_of}
-use Rattle.cmark_grammar.specs.Containers.{Container, Quote, Item, Marker, is_bullet, is_delimiter, delimited, digits, number_of, marker_of, item_with, item_of, container_with, container_of, is_quote, width_with}
+use Rattle.cmark_grammar.specs.Containers.{Container, Quote, Item, Marker, marker_of, item_with, item_of, container_with, container_of, is_quote, width_with}
 use Rattle.cmark_grammar.specs.HtmlBlocks.{html_kind}
 use Rattle.cmark_grammar.specs.Leaves.{Fence, is_parted, run, is_thematic_break, is_atx_heading, fence_of, counted, code_further}
 use Rattle.cmark_grammar.specs.LinkDefinitions.{Defined, definition_in, bytes_over}
 use Rattle.cmark_grammar.specs.Openings.{AtxHeading, ThematicBreak, IndentedCode, FencedCode, HtmlBlock, LinkDefinition, Opening, Blank, Nests, Takes, Plain, or_else, nests_if, html_if, break_if, heading_if, fenced_if, defined_if, text_lines, definition_of, leaf_of, opens}
 use Rattle.cmark_grammar.specs.Options.{Options}
 use Rattle.cmark_items.specs.ItemNodes.{list_number}
+use Rattle.cmark_lines.proofs.PrefixRows.{IsShort, marker-short}
 
 -- the number of an item is told by its character
 abbrev pub Numbered : (mark : ℕ) → Option ℕ → Type 0
@@ -36,36 +37,9 @@ Fits level (Takes (HtmlBlock kind) more) = Unit {0}
 Fits level (Takes (LinkDefinition definition) more) = Unit {0}
 Fits level Plain = Unit {0}
 
-bullet-is-none : (b : ℕ) → is_bullet b ≡ true → is_delimiter b ≡ false
-bullet-is-none b e = by (b == 45) refl (b == 43) refl (b == 42) refl
-  where
-    by : (p : Bool) → (b == 45) ≡ p → (q : Bool) → (b == 43) ≡ q → (s : Bool) → (b == 42) ≡ s → is_delimiter b ≡ false
-    by true p q qe s se = ap is_delimiter (eqb-true b 45 p)
-    by false p true qe s se = ap is_delimiter (eqb-true b 43 qe)
-    by false p false qe true se = ap is_delimiter (eqb-true b 42 se)
-    by false p false qe false se =
-        absurd (true≢false (sym e ∙ ap (λ t. t || ((b == 43) || (b == 42))) p ∙ ap (λ t. t || (b == 42)) qe ∙ se))
-
-delimited-numbered : (ds bs : List ℕ) → MarkerNumbered (delimited ds bs)
-delimited-numbered ds [] = tt
-delimited-numbered ds (b ∷ bs) = by (nat_lt 0 (length ds)) (nat_le (length ds) 9) (is_delimiter b) refl
-  where
-    by : (p q d : Bool) → is_delimiter b ≡ d → MarkerNumbered (if p && (q && d) then Some (record { mark = b; number = Some (number_of ds); size = suc (length ds) }) else None)
-    by false q d e = tt
-    by true false d e = tt
-    by true true false e = tt
-    by true true true e = ap (λ t. if t then Some (number_of ds) else None) e
-
-marker-numbered : (bs : List ℕ) → MarkerNumbered (marker_of bs)
-marker-numbered [] = tt
-marker-numbered (b ∷ bs) = by (is_bullet b) refl
-  where
-    other : Option Marker
-    other = delimited (digits (b ∷ bs)) (drop (length (digits (b ∷ bs))) (b ∷ bs))
-
-    by : (t : Bool) → is_bullet b ≡ t → MarkerNumbered (if t then Some (record { mark = b; number = None; size = 1 }) else other)
-    by true e = ap (λ t. if t then Some 0 else None) (bullet-is-none b e)
-    by false e = delimited-numbered (digits (b ∷ bs)) (drop (length (digits (b ∷ bs))) (b ∷ bs))
+marker-numbered : (m : Option Marker) → IsShort m → MarkerNumbered m
+marker-numbered None short = tt
+marker-numbered (Some m) short = sym short.0
 
 item-numbered : (r : Row) (m : Option Marker) → MarkerNumbered m → ContainerNumbered (item_with r m)
 item-numbered r None n = tt
@@ -138,5 +112,5 @@ opens-fits options r ahead = by r.lazy (is_blank_line r) (nat_le 4 (indent_of r)
     by false false true = tt
     by false false false =
         else-fits level (nests_if (container_of r)) (leaf_of options r ahead)
-        (nests-fits level (container_of r) (container-numbered (item_of r) (is_quote r) (item-numbered r (marker_of (words_of r)) (marker-numbered (words_of r)))))
+        (nests-fits level (container_of r) (container-numbered (item_of r) (is_quote r) (item-numbered r (marker_of (words_of r)) (marker-numbered (marker_of (words_of r)) (marker-short (words_of r))))))
         (leaf-fits options r ahead)

@@ -14,6 +14,6 @@ mod state;
 mod step;
 
 pub use callback::{BrokenLink, BrokenLinkCallback, DefaultBrokenLinkCallback};
+pub use event::Given;
 pub use read::Reader;
-pub use special::{SpecialBytes, special_bytes};
 pub use state::InlineState;

@@ -14,7 +14,7 @@ pub struct Reader<'p, 'a, E> {
     /// The extensions.
     pub options: Options,
     /// The bytes that may begin a span, by the options.
-    pub special: SpecialBytes,
+    pub(crate) special: SpecialBytes,
 }
 
 impl<'p, 'a, E> Reader<'p, 'a, E> {

@@ -2,7 +2,6 @@
 
 ghost use Rattle.std.specs.Prelude.{◌≤◌, ◌<◌, length, slice_index};
 
-use bitflags::Flags;
 use cmark_text::Options;
 
 /// For each byte whether it may begin a span, an escape, an entity or a line end (CommonMark 6).
@@ -13,19 +12,9 @@ pub struct SpecialBytes {
 
 /// The table for these options.
 pub fn special_bytes(options: Options) -> SpecialBytes {
-    let mut is_special = [false; 256];
-    for byte in b"\n\r*_&\\[]<!`" {
-        is_special[*byte as usize] = true;
+    SpecialBytes {
+        is_special: cmark_finds::special_bytes(options),
     }
-    if options.contains(Options::ENABLE_STRIKETHROUGH)
-        || options.contains(Options::ENABLE_SUBSCRIPT)
-    {
-        is_special[b'~' as usize] = true;
-    }
-    if options.contains(Options::ENABLE_SUPERSCRIPT) {
-        is_special[b'^' as usize] = true;
-    }
-    SpecialBytes { is_special }
 }
 
 impl SpecialBytes {

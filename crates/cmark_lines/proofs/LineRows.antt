@@ -7,7 +7,7 @@ use Rattle.std.proofs.lemmas.List.Sums.{prefix_len-le-length}
 use Rattle.std.proofs.lemmas.Str.{IsUtf8-drop, IsCharBoundary-from_rest}
 use Rattle.cmark_grammar.specs.Columns.{Column, tab, expand, tab_columns, to_tab_stop, bytes_of}
 use Rattle.cmark_grammar.specs.Lines.{lines, content, is_content, begins_with_line_feed, ending_len}
-use Rattle.cmark_grammar.specs.Rows.{Row, row_at, rows_from, begin_of}
+use Rattle.cmark_grammar.specs.Rows.{row_at, rows_from, begin_of}
 use Rattle.cmark_grammar.proofs.LineSteps.{rows-first}
 use Rattle.cmark_grammar.proofs.RowPlaces.{Runs, first_place-Runs, expand-Runs}
 use Rattle.cmark_grammar.proofs.RowEdges.{AreGood, GoodRow, GoodRows}

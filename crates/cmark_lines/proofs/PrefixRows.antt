@@ -22,7 +22,7 @@ quote-some r s e is =
     ap Some (is ∙ quote-entered r (sym (e ∙ quote-seen r))) ∙ ap (λ z. if z then Some (enter Quote r) else None) (e ∙ quote-seen r)
 
 -- a marker's character tells whether it has a number, and it is short
-abbrev IsShort : Option Marker → Type 0
+abbrev pub IsShort : Option Marker → Type 0
 IsShort None = Unit {0}
 IsShort (Some m) = (m.number ≡ number_by m.mark (unwrap_or m.number 0)) × (m.size ≤ 10)
 
@@ -48,7 +48,7 @@ delimited-short ds (b ∷ bs) = go (nat_lt 0 (length ds)) (nat_le (length ds) 9)
     go true false z ey ez = tt
     go false y z ey ez = tt
 
-marker-short : (bs : List ℕ) → IsShort (marker_of bs)
+pub marker-short : (bs : List ℕ) → IsShort (marker_of bs)
 marker-short [] = tt
 marker-short (b ∷ bs) = go (is_bullet b) refl
   where
