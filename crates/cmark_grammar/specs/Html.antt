@@ -1,5 +1,5 @@
 -- The HTML of a list of events: the joined list of their pieces.
-use Rattle.std.specs.Prelude.{ℕ, ◌+◌, Bool, true, false, not, ◌==◌, if◌then◌else◌, List, [], ◌∷◌, ◌++◌, codes, nat_eq, take_while, Option, Some, None}
+use Rattle.std.specs.Prelude.{ℕ, ◌+◌, ◌-◌, Bool, true, false, not, ◌==◌, if◌then◌else◌, List, [], ◌∷◌, ◌++◌, codes, nat_eq, take_while, Option, Some, None}
 use Rattle.std.specs.Fmt.{decimal}
 use Rattle.std.specs.List.{ends_with}
 use Rattle.cmark_grammar.specs.BlockQuoteKind.{BlockQuoteKind, Note, Tip, Important, Warning, Caution}
@@ -13,16 +13,20 @@ use Rattle.cmark_grammar.specs.TagEnd.{TagEnd}
 use Rattle.cmark_grammar.specs.Event.{Event, Start, End, Text, Code, InlineMath, DisplayMath, Html, InlineHtml, FootnoteReference, SoftBreak, HardBreak, Rule, TaskListMarker}
 use Rattle.cmark_grammar.specs.Escapes.{escaped_body_text, escaped_html, escaped_href}
 
+-- an image whose alternative text is being written: how many elements are open inside of it, and its title
+pub record OpenImage : Type 0 where
+  pub depth : ℕ
+  pub title : List ℕ
+
 -- what is kept from one event to the next: whether the writer is at a line start, which it is before the first piece
--- and behind a piece that ended in a line feed
+-- and behind a piece that ended in a line feed; and the image whose alternative text is being written, if there is one
 pub record Writing : Type 0 where
   pub line_start : Bool
+  pub image : Option OpenImage
 
+-- nothing was written before the first event
 abbrev pub at_line_start : Writing
-at_line_start = record { line_start = true }
-
-abbrev pub within_line : Writing
-within_line = record { line_start = false }
+at_line_start = record { line_start = true; image = None }
 
 -- a line feed unless the writer is at a line start
 abbrev pub fresh_line : Bool → List ℕ
@@ -110,32 +114,39 @@ title_attribute (b ∷ bs) = quoted (codes " title") (b ∷ bs)
 abbrev pub link_start : Linked → List ℕ
 link_start l = codes "<a href=\"" ++ (scheme l.link_type ++ (escaped_href l.destination ++ (codes "\"" ++ (title_attribute l.title ++ codes ">"))))
 
--- nothing is written for the start and the end of an HTML block. Footnote definitions, tables, images and metadata
--- blocks, whose pieces follow from more than the line start, are not written yet
-abbrev pub start_piece : Writing → Tag → List ℕ
-start_piece w tag.Paragraph = fresh_line w.line_start ++ codes "<p>"
-start_piece w (tag.Heading level attributes) = fresh_line w.line_start ++ (codes "<h" ++ (digit level ∷ (heading_attributes attributes ++ codes ">")))
-start_piece w (tag.BlockQuote kind) = fresh_line w.line_start ++ block_quote_start kind
-start_piece w (tag.CodeBlock kind) = fresh_line w.line_start ++ code_block_start kind
-start_piece w tag.HtmlBlock = []
-start_piece w (tag.Listing first) = fresh_line w.line_start ++ list_start first
-start_piece w tag.ListItem = fresh_line w.line_start ++ codes "<li>"
-start_piece w (tag.FootnoteDefinition label) = []
-start_piece w tag.DefinitionList = fresh_line w.line_start ++ codes "<dl>\n"
-start_piece w tag.DefinitionListTitle = fresh_line w.line_start ++ codes "<dt>"
-start_piece w tag.DefinitionListDefinition = fresh_line w.line_start ++ codes "<dd>"
-start_piece w (tag.Table alignments) = []
-start_piece w tag.TableHead = []
-start_piece w tag.TableRow = []
-start_piece w tag.TableCell = []
-start_piece w tag.Emphasis = codes "<em>"
-start_piece w tag.Strong = codes "<strong>"
-start_piece w tag.Strikethrough = codes "<del>"
-start_piece w tag.Superscript = codes "<sup>"
-start_piece w tag.Subscript = codes "<sub>"
-start_piece w (tag.Link linked) = link_start linked
-start_piece w (tag.Image linked) = []
-start_piece w (tag.MetadataBlock kind) = []
+-- an image up to its alternative text, and behind it
+abbrev pub image_start : List ℕ → List ℕ
+image_start destination = codes "<img src=\"" ++ (escaped_href destination ++ codes "\" alt=\"")
+
+abbrev pub image_end : List ℕ → List ℕ
+image_end title = codes "\"" ++ (title_attribute title ++ codes " />")
+
+-- nothing is written for the start and the end of an HTML block. Footnote definitions, tables and metadata blocks, whose
+-- pieces follow from more than the line start, are not written yet
+abbrev pub start_piece : Bool → Tag → List ℕ
+start_piece at_start tag.Paragraph = fresh_line at_start ++ codes "<p>"
+start_piece at_start (tag.Heading level attributes) = fresh_line at_start ++ (codes "<h" ++ (digit level ∷ (heading_attributes attributes ++ codes ">")))
+start_piece at_start (tag.BlockQuote kind) = fresh_line at_start ++ block_quote_start kind
+start_piece at_start (tag.CodeBlock kind) = fresh_line at_start ++ code_block_start kind
+start_piece at_start tag.HtmlBlock = []
+start_piece at_start (tag.Listing first) = fresh_line at_start ++ list_start first
+start_piece at_start tag.ListItem = fresh_line at_start ++ codes "<li>"
+start_piece at_start (tag.FootnoteDefinition label) = []
+start_piece at_start tag.DefinitionList = fresh_line at_start ++ codes "<dl>\n"
+start_piece at_start tag.DefinitionListTitle = fresh_line at_start ++ codes "<dt>"
+start_piece at_start tag.DefinitionListDefinition = fresh_line at_start ++ codes "<dd>"
+start_piece at_start (tag.Table alignments) = []
+start_piece at_start tag.TableHead = []
+start_piece at_start tag.TableRow = []
+start_piece at_start tag.TableCell = []
+start_piece at_start tag.Emphasis = codes "<em>"
+start_piece at_start tag.Strong = codes "<strong>"
+start_piece at_start tag.Strikethrough = codes "<del>"
+start_piece at_start tag.Superscript = codes "<sup>"
+start_piece at_start tag.Subscript = codes "<sub>"
+start_piece at_start (tag.Link linked) = link_start linked
+start_piece at_start (tag.Image linked) = image_start linked.destination
+start_piece at_start (tag.MetadataBlock kind) = []
 
 abbrev pub end_piece : TagEnd → List ℕ
 end_piece end.Paragraph = codes "</p>\n"
@@ -166,98 +177,169 @@ abbrev pub task_list_marker : Bool → List ℕ
 task_list_marker true = codes "<input disabled=\"\" type=\"checkbox\" checked=\"\"/>\n"
 task_list_marker false = codes "<input disabled=\"\" type=\"checkbox\"/>\n"
 
--- what is written for an event; references to footnotes, whose numbers follow from those before, are not written yet
+-- what is written for an event outside of images; references to footnotes, whose numbers follow from those before, are
+-- not written yet
+abbrev pub piece_outside : Bool → Event → List ℕ
+piece_outside at_start (Start tag) = start_piece at_start tag
+piece_outside at_start (End tag) = end_piece tag
+piece_outside at_start (Text text) = escaped_body_text text
+piece_outside at_start (Code text) = codes "<code>" ++ (escaped_body_text text ++ codes "</code>")
+piece_outside at_start (InlineMath text) = codes "<span class=\"math math-inline\">" ++ (escaped_html text ++ codes "</span>")
+piece_outside at_start (DisplayMath text) = codes "<span class=\"math math-display\">" ++ (escaped_html text ++ codes "</span>")
+piece_outside at_start (Html text) = text
+piece_outside at_start (InlineHtml text) = text
+piece_outside at_start (FootnoteReference label) = []
+piece_outside at_start SoftBreak = 10 ∷ []
+piece_outside at_start HardBreak = codes "<br />\n"
+piece_outside at_start Rule = fresh_line at_start ++ codes "<hr />\n"
+piece_outside at_start (TaskListMarker is_checked) = task_list_marker is_checked
+
+abbrev pub alt_task_list_marker : Bool → List ℕ
+alt_task_list_marker true = codes "[x]"
+alt_task_list_marker false = codes "[ ]"
+
+-- what an event adds to the alternative text of an image around it, which is the text of what is inside without the
+-- elements (CommonMark 6.4)
+abbrev pub alt_text : Event → List ℕ
+alt_text (Start tag) = []
+alt_text (End tag) = []
+alt_text (Text text) = escaped_html text
+alt_text (Code text) = escaped_html text
+alt_text (InlineMath text) = codes "$" ++ (escaped_html text ++ codes "$")
+alt_text (DisplayMath text) = codes "$$" ++ (escaped_html text ++ codes "$$")
+alt_text (Html text) = []
+alt_text (InlineHtml text) = escaped_html text
+alt_text (FootnoteReference label) = []
+alt_text SoftBreak = codes " "
+alt_text HardBreak = codes " "
+alt_text Rule = codes " "
+alt_text (TaskListMarker is_checked) = alt_task_list_marker is_checked
+
+-- what is written for an event inside of an image: the end that matches the image's start closes it, whatever its element
+abbrev pub piece_inside : OpenImage → Event → List ℕ
+piece_inside image (End tag) = if image.depth == 0 then image_end image.title else []
+piece_inside image e = alt_text e
+
+abbrev pub piece_in : Option OpenImage → Bool → Event → List ℕ
+piece_in None at_start e = piece_outside at_start e
+piece_in (Some image) at_start e = piece_inside image e
+
+-- what is written for an event
 abbrev pub piece : Writing → Event → List ℕ
-piece w (Start tag) = start_piece w tag
-piece w (End tag) = end_piece tag
-piece w (Text text) = escaped_body_text text
-piece w (Code text) = codes "<code>" ++ (escaped_body_text text ++ codes "</code>")
-piece w (InlineMath text) = codes "<span class=\"math math-inline\">" ++ (escaped_html text ++ codes "</span>")
-piece w (DisplayMath text) = codes "<span class=\"math math-display\">" ++ (escaped_html text ++ codes "</span>")
-piece w (Html text) = text
-piece w (InlineHtml text) = text
-piece w (FootnoteReference label) = []
-piece w SoftBreak = 10 ∷ []
-piece w HardBreak = codes "<br />\n"
-piece w Rule = fresh_line w.line_start ++ codes "<hr />\n"
-piece w (TaskListMarker is_checked) = task_list_marker is_checked
+piece w e = piece_in w.image w.line_start e
 
--- what is then kept, behind a start
-abbrev pub moved_by_start : Writing → Tag → Writing
-moved_by_start w tag.Paragraph = within_line
-moved_by_start w (tag.Heading level attributes) = within_line
-moved_by_start w (tag.BlockQuote kind) = at_line_start
-moved_by_start w (tag.CodeBlock kind) = within_line
-moved_by_start w tag.HtmlBlock = w
-moved_by_start w (tag.Listing first) = at_line_start
-moved_by_start w tag.ListItem = within_line
-moved_by_start w (tag.FootnoteDefinition label) = w
-moved_by_start w tag.DefinitionList = at_line_start
-moved_by_start w tag.DefinitionListTitle = within_line
-moved_by_start w tag.DefinitionListDefinition = within_line
-moved_by_start w (tag.Table alignments) = w
-moved_by_start w tag.TableHead = w
-moved_by_start w tag.TableRow = w
-moved_by_start w tag.TableCell = w
-moved_by_start w tag.Emphasis = within_line
-moved_by_start w tag.Strong = within_line
-moved_by_start w tag.Strikethrough = within_line
-moved_by_start w tag.Superscript = within_line
-moved_by_start w tag.Subscript = within_line
-moved_by_start w (tag.Link linked) = within_line
-moved_by_start w (tag.Image linked) = w
-moved_by_start w (tag.MetadataBlock kind) = w
+-- whether the writer is then at a line start, behind a start
+abbrev pub line_start_after_start : Bool → Tag → Bool
+line_start_after_start at_start tag.Paragraph = false
+line_start_after_start at_start (tag.Heading level attributes) = false
+line_start_after_start at_start (tag.BlockQuote kind) = true
+line_start_after_start at_start (tag.CodeBlock kind) = false
+line_start_after_start at_start tag.HtmlBlock = at_start
+line_start_after_start at_start (tag.Listing first) = true
+line_start_after_start at_start tag.ListItem = false
+line_start_after_start at_start (tag.FootnoteDefinition label) = at_start
+line_start_after_start at_start tag.DefinitionList = true
+line_start_after_start at_start tag.DefinitionListTitle = false
+line_start_after_start at_start tag.DefinitionListDefinition = false
+line_start_after_start at_start (tag.Table alignments) = at_start
+line_start_after_start at_start tag.TableHead = at_start
+line_start_after_start at_start tag.TableRow = at_start
+line_start_after_start at_start tag.TableCell = at_start
+line_start_after_start at_start tag.Emphasis = false
+line_start_after_start at_start tag.Strong = false
+line_start_after_start at_start tag.Strikethrough = false
+line_start_after_start at_start tag.Superscript = false
+line_start_after_start at_start tag.Subscript = false
+line_start_after_start at_start (tag.Link linked) = false
+line_start_after_start at_start (tag.Image linked) = false
+line_start_after_start at_start (tag.MetadataBlock kind) = at_start
 
-abbrev pub moved_by_end : Writing → TagEnd → Writing
-moved_by_end w end.Paragraph = at_line_start
-moved_by_end w (end.Heading level) = at_line_start
-moved_by_end w (end.BlockQuote kind) = at_line_start
-moved_by_end w end.CodeBlock = at_line_start
-moved_by_end w end.HtmlBlock = w
-moved_by_end w (end.Listing is_ordered) = at_line_start
-moved_by_end w end.ListItem = at_line_start
-moved_by_end w end.FootnoteDefinition = w
-moved_by_end w end.DefinitionList = at_line_start
-moved_by_end w end.DefinitionListTitle = at_line_start
-moved_by_end w end.DefinitionListDefinition = at_line_start
-moved_by_end w end.Table = w
-moved_by_end w end.TableHead = w
-moved_by_end w end.TableRow = w
-moved_by_end w end.TableCell = w
-moved_by_end w end.Emphasis = within_line
-moved_by_end w end.Strong = within_line
-moved_by_end w end.Strikethrough = within_line
-moved_by_end w end.Superscript = within_line
-moved_by_end w end.Subscript = within_line
-moved_by_end w end.Link = within_line
-moved_by_end w end.Image = w
-moved_by_end w (end.MetadataBlock kind) = w
+abbrev pub line_start_after_end : Bool → TagEnd → Bool
+line_start_after_end at_start end.Paragraph = true
+line_start_after_end at_start (end.Heading level) = true
+line_start_after_end at_start (end.BlockQuote kind) = true
+line_start_after_end at_start end.CodeBlock = true
+line_start_after_end at_start end.HtmlBlock = at_start
+line_start_after_end at_start (end.Listing is_ordered) = true
+line_start_after_end at_start end.ListItem = true
+line_start_after_end at_start end.FootnoteDefinition = at_start
+line_start_after_end at_start end.DefinitionList = true
+line_start_after_end at_start end.DefinitionListTitle = true
+line_start_after_end at_start end.DefinitionListDefinition = true
+line_start_after_end at_start end.Table = at_start
+line_start_after_end at_start end.TableHead = at_start
+line_start_after_end at_start end.TableRow = at_start
+line_start_after_end at_start end.TableCell = at_start
+line_start_after_end at_start end.Emphasis = false
+line_start_after_end at_start end.Strong = false
+line_start_after_end at_start end.Strikethrough = false
+line_start_after_end at_start end.Superscript = false
+line_start_after_end at_start end.Subscript = false
+line_start_after_end at_start end.Link = false
+line_start_after_end at_start end.Image = at_start
+line_start_after_end at_start (end.MetadataBlock kind) = at_start
 
 -- an empty piece moves nothing; an empty text alone counts as no line start
-abbrev pub moved_by_html : Writing → List ℕ → Writing
-moved_by_html w [] = w
-moved_by_html w (b ∷ bs) = record { line_start = ends_in_line_feed (b ∷ bs) }
+abbrev pub line_start_after_html : Bool → List ℕ → Bool
+line_start_after_html at_start [] = at_start
+line_start_after_html at_start (b ∷ bs) = ends_in_line_feed (b ∷ bs)
 
--- what is then kept
+abbrev pub line_start_after : Bool → Event → Bool
+line_start_after at_start (Start tag) = line_start_after_start at_start tag
+line_start_after at_start (End tag) = line_start_after_end at_start tag
+line_start_after at_start (Text text) = ends_in_line_feed text
+line_start_after at_start (Code text) = false
+line_start_after at_start (InlineMath text) = false
+line_start_after at_start (DisplayMath text) = false
+line_start_after at_start (Html text) = line_start_after_html at_start text
+line_start_after at_start (InlineHtml text) = line_start_after_html at_start text
+line_start_after at_start (FootnoteReference label) = at_start
+line_start_after at_start SoftBreak = true
+line_start_after at_start HardBreak = true
+line_start_after at_start Rule = true
+line_start_after at_start (TaskListMarker is_checked) = true
+
+-- the image that an event opens
+abbrev pub opened_image : Event → Option OpenImage
+opened_image (Start (tag.Image linked)) = Some (record { depth = 0; title = linked.title })
+opened_image _ = None
+
+-- the image around an event that is still open behind it: starts and ends count how deep the text is
+abbrev pub deeper : OpenImage → OpenImage
+deeper image = record { depth = image.depth + 1; title = image.title }
+
+abbrev pub less_deep : OpenImage → OpenImage
+less_deep image = record { depth = image.depth - 1; title = image.title }
+
+abbrev pub still_open : OpenImage → Event → Option OpenImage
+still_open image (Start tag) = Some (deeper image)
+still_open image (End tag) = if image.depth == 0 then None else Some (less_deep image)
+still_open image _ = Some image
+
+-- what is kept behind an event; behind an image the writer is at no line start
+abbrev pub moved_in : Option OpenImage → Bool → Event → Writing
+moved_in None at_start e = record { line_start = line_start_after at_start e; image = opened_image e }
+moved_in (Some image) at_start e = record { line_start = false; image = still_open image e }
+
 abbrev pub moved : Writing → Event → Writing
-moved w (Start tag) = moved_by_start w tag
-moved w (End tag) = moved_by_end w tag
-moved w (Text text) = record { line_start = ends_in_line_feed text }
-moved w (Code text) = within_line
-moved w (InlineMath text) = within_line
-moved w (DisplayMath text) = within_line
-moved w (Html text) = moved_by_html w text
-moved w (InlineHtml text) = moved_by_html w text
-moved w (FootnoteReference label) = w
-moved w SoftBreak = at_line_start
-moved w HardBreak = at_line_start
-moved w Rule = at_line_start
-moved w (TaskListMarker is_checked) = at_line_start
+moved w e = moved_in w.image w.line_start e
 
-abbrev pub html_from : Writing → List Event → List ℕ
-html_from w [] = []
-html_from w (e ∷ es) = piece w e ++ html_from (moved w e) es
+abbrev pub moved_all : Writing → List Event → Writing
+moved_all w [] = w
+moved_all w (e ∷ es) = moved_all (moved w e) es
 
--- nothing was written before the first event
+-- the pieces of events, one behind the other
+abbrev pub pieces_from : Writing → List Event → List ℕ
+pieces_from w [] = []
+pieces_from w (e ∷ es) = piece w e ++ pieces_from (moved w e) es
+
+abbrev pub pieces : List Event → List ℕ
+pieces events = pieces_from at_line_start events
+
+-- what closes an image that is open behind the last event
+abbrev pub last_piece : Option OpenImage → List ℕ
+last_piece None = []
+last_piece (Some image) = image_end image.title
+
 abbrev pub html : List Event → List ℕ
-html events = html_from at_line_start events
+html events = pieces events ++ last_piece (moved_all at_line_start events).image

@@ -32,6 +32,16 @@ fn link<'a>(link_type: LinkType, dest_url: &'a str, title: &'a str) -> Event<'a>
     })
 }
 
+/// An image's start.
+fn image<'a>(dest_url: &'a str, title: &'a str) -> Event<'a> {
+    Event::Start(Tag::Image {
+        link_type: LinkType::Inline,
+        dest_url: text_of(dest_url),
+        title: text_of(title),
+        id: text_of(""),
+    })
+}
+
 /// The HTML of these events behind a text that the string had.
 fn html_behind(alloc: Global, old: &str, events: Vec<Event<'_>>) -> Result<String, AllocError> {
     let mut html = String::from_str(alloc, old)?;
@@ -214,6 +224,98 @@ fn writes_links(rt: HostRuntime) -> Result<(), Fail> {
             html
         );
     }
+    Ok(())
+}
+
+#[test]
+fn writes_images(rt: HostRuntime) -> Result<(), Fail> {
+    let alloc = rt.alloc();
+    let in_paragraph = vec![in alloc;
+        Event::Start(Tag::Paragraph),
+        image("d", "t"),
+        Event::Text(text_of("a ")),
+        Event::Start(Tag::Emphasis),
+        Event::Text(text_of("b")),
+        Event::End(TagEnd::Emphasis),
+        Event::Text(text_of(" ")),
+        Event::Code(text_of("c")),
+        Event::End(TagEnd::Image),
+        Event::End(TagEnd::Paragraph),
+    ]?;
+    assert_eq!(rt;
+        html_behind(alloc, "", in_paragraph)?.as_str(),
+        "<p><img src=\"d\" alt=\"a b c\" title=\"t\" /></p>\n"
+    );
+    let nested = vec![in alloc;
+        image("a b", ""),
+        Event::Text(text_of("<\"")),
+        image("e", "f"),
+        Event::Text(text_of("g")),
+        Event::End(TagEnd::Image),
+        link(LinkType::Inline, "h", ""),
+        Event::Text(text_of("i")),
+        Event::End(TagEnd::Link),
+        Event::End(TagEnd::Image),
+        Event::Text(text_of("\"")),
+        Event::Rule,
+    ]?;
+    assert_eq!(rt;
+        html_behind(alloc, "", nested)?.as_str(),
+        "<img src=\"a%20b\" alt=\"&lt;&quot;gi\" />\"\n<hr />\n"
+    );
+    let leaves = vec![in alloc;
+        image("d", ""),
+        Event::InlineMath(text_of("a'")),
+        Event::SoftBreak,
+        Event::DisplayMath(text_of("b")),
+        Event::HardBreak,
+        Event::Html(text_of("<hr>\n")),
+        Event::InlineHtml(text_of("<i>")),
+        Event::Rule,
+        Event::TaskListMarker(true),
+        Event::TaskListMarker(false),
+        Event::Text(text_of("\n")),
+        Event::End(TagEnd::Image),
+        Event::Rule,
+    ]?;
+    assert_eq!(rt;
+        html_behind(alloc, "", leaves)?.as_str(),
+        "<img src=\"d\" alt=\"$a&#x27;$ $$b$$ &lt;i&gt; [x][ ]\n\" />\n<hr />\n"
+    );
+    Ok(())
+}
+
+#[test]
+fn closes_an_image_that_never_ends(rt: HostRuntime) -> Result<(), Fail> {
+    let alloc = rt.alloc();
+    let bare = vec![in alloc; image("d", ""), Event::Text(text_of("a"))]?;
+    assert_eq!(rt;
+        html_behind(alloc, "", bare)?.as_str(),
+        "<img src=\"d\" alt=\"a\" />"
+    );
+    let within_link = vec![in alloc;
+        image("d", "t"),
+        link(LinkType::Inline, "e", ""),
+        Event::Text(text_of("a")),
+    ]?;
+    assert_eq!(rt;
+        html_behind(alloc, "", within_link)?.as_str(),
+        "<img src=\"d\" alt=\"a\" title=\"t\" />"
+    );
+    Ok(())
+}
+
+#[test]
+fn leaves_an_image_open_at_an_error(rt: HostRuntime) -> Result<(), Fail> {
+    let mut html = String::new(rt.alloc());
+    let items = [
+        Ok(image("d", "t")),
+        Ok(Event::Text(text_of("a"))),
+        Err(AllocError),
+        Ok(Event::End(TagEnd::Image)),
+    ];
+    assert!(rt; push_html(&mut html, items.into_iter()).is_err());
+    assert_eq!(rt; html.as_str(), "<img src=\"d\" alt=\"a");
     Ok(())
 }
 

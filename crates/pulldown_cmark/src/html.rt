@@ -9,11 +9,14 @@ ghost use Rattle.pulldown_cmark.specs.Pushed.{Stops, StopsAt};
 
 mod end;
 mod heading;
+mod image;
 mod parts;
 mod start;
+mod state;
 mod writer;
 
-use crate::html::writer::write_given;
+use crate::html::state::Writer;
+use crate::html::writer::{finish, write_event};
 use cmark_text::Event;
 use std::alloc::AllocError;
 
@@ -53,9 +56,9 @@ fn push_lent<'a, I: Iterator<Item = Result<Event<'a>, AllocError>>>(
         × (string_bytes out.new ≡ string_bytes out.old ++ html (map shown events))) }
     ensures err { OnErr result (StopsAt I.next_gives iter.old iter.new (string_bytes out.old) (string_bytes out.new)) }
 {
-    let mut line_start = true;
+    let mut writer = Writer::new();
     while let Some(event) = iter.next() {
-        line_start = write_given(out, line_start, event?)?;
+        write_event(out, &mut writer, event?)?;
     }
-    Ok(())
+    finish(out, &writer)
 }

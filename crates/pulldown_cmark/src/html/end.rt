@@ -1,7 +1,7 @@
 //! The pieces of ends.
 
 ghost use Rattle.std.specs.Prelude.{◌≡◌, ◌++◌, OnOk, OnErr, string_bytes};
-ghost use Rattle.cmark_grammar.specs.Html.{end_piece, moved_by_end};
+ghost use Rattle.cmark_grammar.specs.Html.{end_piece, line_start_after_end};
 ghost use Rattle.cmark_text.specs.Appended.{AppendsFront};
 ghost use Rattle.cmark_text.specs.Shown.{shown_end};
 
@@ -65,7 +65,7 @@ pub fn append_end(out: &mut String, tag: TagEnd) -> Result<(), AllocError>
 
 /// Whether the writer is at a line start behind an end.
 pub fn line_start_after_end(line_start: bool, tag: TagEnd) -> bool
-    ensures { record { line_start = result } ≡ moved_by_end (record { line_start = line_start }) (shown_end tag) }
+    ensures { result ≡ line_start_after_end line_start (shown_end tag) }
 {
     match tag {
         TagEnd::Paragraph

@@ -1,12 +1,13 @@
 //! The pieces of starts.
 
 ghost use Rattle.std.specs.Prelude.{◌≡◌, ◌++◌, ◌∷◌, [], OnOk, OnErr, codes, option_map, string_bytes, take_while};
-ghost use Rattle.cmark_grammar.specs.Html.{start_piece, moved_by_start, block_quote_start, code_block_start, fresh_line, is_within_word, language_start, list_start, link_start, scheme};
+ghost use Rattle.cmark_grammar.specs.Html.{start_piece, line_start_after_start, block_quote_start, code_block_start, fresh_line, is_within_word, language_start, list_start, link_start, scheme};
 ghost use Rattle.cmark_text.specs.Appended.{AppendsFront};
 ghost use Rattle.cmark_text.specs.Shown.{shown_tag, shown_block_quote_kind, shown_code_block_kind, shown_link_type};
 ghost use Rattle.pulldown_cmark.specs.Parts.{linked};
 
 use crate::html::heading::append_heading;
+use crate::html::image::append_image_start;
 use crate::html::parts::{Part, append, append_parts, new_line};
 use cmark_text::{BlockQuoteKind, CodeBlockKind, LinkType, Tag};
 use itoa::Buffer;
@@ -15,8 +16,8 @@ use std::alloc::AllocError;
 
 /// Appends the piece of a start.
 pub fn append_start(out: &mut String, line_start: bool, tag: &Tag<'_>) -> Result<(), AllocError>
-    ensures ok { OnOk result (string_bytes out.new ≡ string_bytes out.old ++ start_piece (record { line_start = line_start }) (shown_tag tag.now)) }
-    ensures err { OnErr result (AppendsFront (string_bytes out.old) (string_bytes out.new) (start_piece (record { line_start = line_start }) (shown_tag tag.now))) }
+    ensures ok { OnOk result (string_bytes out.new ≡ string_bytes out.old ++ start_piece line_start (shown_tag tag.now)) }
+    ensures err { OnErr result (AppendsFront (string_bytes out.old) (string_bytes out.new) (start_piece line_start (shown_tag tag.now))) }
 {
     match tag {
         Tag::Paragraph => append_parts(out, &[Part::Raw(new_line(line_start)), Part::Raw("<p>")]),
@@ -59,20 +60,20 @@ pub fn append_start(out: &mut String, line_start: bool, tag: &Tag<'_>) -> Result
             title,
             id: _,
         } => append_link(out, *link_type, dest_url.as_str(), title.as_str()),
+        Tag::Image { dest_url, .. } => append_image_start(out, dest_url.as_str()),
         Tag::HtmlBlock
         | Tag::FootnoteDefinition(_)
         | Tag::Table(_)
         | Tag::TableHead
         | Tag::TableRow
         | Tag::TableCell
-        | Tag::Image { .. }
         | Tag::MetadataBlock(_) => Ok(()),
     }
 }
 
 /// Whether the writer is at a line start behind a start.
 pub fn line_start_after_start(line_start: bool, tag: &Tag<'_>) -> bool
-    ensures { record { line_start = result } ≡ moved_by_start (record { line_start = line_start }) (shown_tag tag.now) }
+    ensures { result ≡ line_start_after_start line_start (shown_tag tag.now) }
 {
     match tag {
         Tag::BlockQuote(_) | Tag::List(_) | Tag::DefinitionList => true,
@@ -87,14 +88,14 @@ pub fn line_start_after_start(line_start: bool, tag: &Tag<'_>) -> bool
         | Tag::Strikethrough
         | Tag::Superscript
         | Tag::Subscript
-        | Tag::Link { .. } => false,
+        | Tag::Link { .. }
+        | Tag::Image { .. } => false,
         Tag::HtmlBlock
         | Tag::FootnoteDefinition(_)
         | Tag::Table(_)
         | Tag::TableHead
         | Tag::TableRow
         | Tag::TableCell
-        | Tag::Image { .. }
         | Tag::MetadataBlock(_) => line_start,
     }
 }

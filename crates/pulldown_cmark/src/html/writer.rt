@@ -1,41 +1,82 @@
 //! The pieces of events.
 
-ghost use Rattle.std.specs.Prelude.{◌≡◌, ◌++◌, IfOk, OnOk, OnErr, codes, string_bytes};
+ghost use Rattle.std.specs.Prelude.{◌≡◌, ◌++◌, OnOk, OnErr, None, codes, option_map, string_bytes};
 ghost use Rattle.cmark_grammar.specs.Escapes.{escaped_body_text, escaped_html};
-ghost use Rattle.cmark_grammar.specs.Html.{piece, moved, ends_in_line_feed, moved_by_html, task_list_marker};
+ghost use Rattle.cmark_grammar.specs.Html.{piece, piece_outside, moved, moved_in, opened_image, last_piece, line_start_after, line_start_after_html, ends_in_line_feed, task_list_marker};
 ghost use Rattle.cmark_text.specs.Appended.{AppendsFront};
 ghost use Rattle.cmark_text.specs.Shown.{shown};
+ghost use Rattle.pulldown_cmark.specs.Writer.{shown_image, writing};
 
 use crate::html::end::{append_end, line_start_after_end};
+use crate::html::image::{append_image_end, write_inside};
 use crate::html::parts::{Part, append, append_parts, new_line};
 use crate::html::start::{append_start, line_start_after_start};
-use cmark_text::Event;
+use crate::html::state::{OpenImage, Writer};
 use cmark_text::escape::escape_html_body_text;
+use cmark_text::{Event, Tag};
 use std::alloc::AllocError;
 
-/// Appends the piece of an event that is let go then, and answers whether the writer is then at a line start.
-pub fn write_given(out: &mut String, line_start: bool, event: Event<'_>) -> Result<bool, AllocError>
-    ensures ok { OnOk result (string_bytes out.new ≡ string_bytes out.old ++ piece (record { line_start = line_start }) (shown event.entry)) }
-    ensures state { IfOk result (λ next. record { line_start = next } ≡ moved (record { line_start = line_start }) (shown event.entry)) }
-    ensures err { OnErr result (AppendsFront (string_bytes out.old) (string_bytes out.new) (piece (record { line_start = line_start }) (shown event.entry))) }
-{
-    write_event(out, line_start, &event)
-}
-
-/// Appends the piece of an event, and answers whether the writer is then at a line start.
-fn write_event(out: &mut String, line_start: bool, event: &Event<'_>) -> Result<bool, AllocError>
-    ensures ok { OnOk result (string_bytes out.new ≡ string_bytes out.old ++ piece (record { line_start = line_start }) (shown event.now)) }
-    ensures state { IfOk result (λ next. record { line_start = next } ≡ moved (record { line_start = line_start }) (shown event.now)) }
-    ensures err { OnErr result (AppendsFront (string_bytes out.old) (string_bytes out.new) (piece (record { line_start = line_start }) (shown event.now))) }
-{
-    append_piece(out, line_start, event)?;
-    Ok(line_start_after(line_start, event))
-}
-
 /// Appends the piece of an event.
+pub fn write_event<'a>(
+    out: &mut String,
+    writer: &mut Writer<'a>,
+    event: Event<'a>,
+) -> Result<(), AllocError>
+    ensures ok { OnOk result (string_bytes out.new ≡ string_bytes out.old ++ piece (writing writer.old) (shown event.entry)) }
+    ensures state { OnOk result (writing writer.new ≡ moved (writing writer.old) (shown event.entry)) }
+    ensures err { OnErr result (AppendsFront (string_bytes out.old) (string_bytes out.new) (piece (writing writer.old) (shown event.entry))) }
+{
+    match writer.image.take() {
+        None => write_outside(out, writer, event),
+        Some(image) => {
+            writer.image = write_inside(out, image, &event)?;
+            writer.line_start = false;
+            Ok(())
+        }
+    }
+}
+
+/// Appends the piece of an event outside of images.
+fn write_outside<'a>(
+    out: &mut String,
+    writer: &mut Writer<'a>,
+    event: Event<'a>,
+) -> Result<(), AllocError>
+    ensures ok { OnOk result (string_bytes out.new ≡ string_bytes out.old ++ piece_outside writer.old.line_start (shown event.entry)) }
+    ensures state { OnOk result (writing writer.new ≡ moved_in None writer.old.line_start (shown event.entry)) }
+    ensures err { OnErr result (AppendsFront (string_bytes out.old) (string_bytes out.new) (piece_outside writer.old.line_start (shown event.entry))) }
+{
+    append_piece(out, writer.line_start, &event)?;
+    writer.line_start = line_start_after(writer.line_start, &event);
+    writer.image = opened_image(event);
+    Ok(())
+}
+
+/// Appends what closes an image that is open behind the last event.
+pub fn finish(out: &mut String, writer: &Writer<'_>) -> Result<(), AllocError>
+    ensures ok { OnOk result (string_bytes out.new ≡ string_bytes out.old ++ last_piece (writing writer.now).image) }
+    ensures err { OnErr result (AppendsFront (string_bytes out.old) (string_bytes out.new) (last_piece (writing writer.now).image)) }
+{
+    match &writer.image {
+        None => Ok(()),
+        Some(image) => append_image_end(out, image.title.as_str()),
+    }
+}
+
+/// The image that an event opens.
+fn opened_image(event: Event<'_>) -> Option<OpenImage<'_>>
+    ensures { option_map shown_image result ≡ opened_image (shown event.entry) }
+{
+    match event {
+        Event::Start(Tag::Image { title, .. }) => Some(OpenImage { depth: 0, title }),
+        _ => None,
+    }
+}
+
+/// Appends this piece, which an event has outside of images.
 fn append_piece(out: &mut String, line_start: bool, event: &Event<'_>) -> Result<(), AllocError>
-    ensures ok { OnOk result (string_bytes out.new ≡ string_bytes out.old ++ piece (record { line_start = line_start }) (shown event.now)) }
-    ensures err { OnErr result (AppendsFront (string_bytes out.old) (string_bytes out.new) (piece (record { line_start = line_start }) (shown event.now))) }
+    ensures ok { OnOk result (string_bytes out.new ≡ string_bytes out.old ++ piece_outside line_start (shown event.now)) }
+    ensures err { OnErr result (AppendsFront (string_bytes out.old) (string_bytes out.new) (piece_outside line_start (shown event.now))) }
 {
     match event {
         Event::Start(tag) => append_start(out, line_start, tag),
@@ -77,9 +118,9 @@ fn append_piece(out: &mut String, line_start: bool, event: &Event<'_>) -> Result
     }
 }
 
-/// Whether the writer is at a line start behind an event.
+/// Whether the writer is at a line start behind an event outside of images.
 fn line_start_after(line_start: bool, event: &Event<'_>) -> bool
-    ensures { record { line_start = result } ≡ moved (record { line_start = line_start }) (shown event.now) }
+    ensures { result ≡ line_start_after line_start (shown event.now) }
 {
     match event {
         Event::Start(tag) => line_start_after_start(line_start, tag),
@@ -103,7 +144,7 @@ fn ends_in_line_feed(text: &str) -> bool
 
 /// Whether the writer is at a line start behind HTML that is written as it is.
 fn line_start_after_html(line_start: bool, text: &str) -> bool
-    ensures { record { line_start = result } ≡ moved_by_html (record { line_start = line_start }) text.now }
+    ensures { result ≡ line_start_after_html line_start text.now }
 {
     if text.is_empty() {
         return line_start;

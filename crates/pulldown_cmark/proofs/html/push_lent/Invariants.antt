@@ -1,14 +1,14 @@
 use Rattle.std.proofs.Common.{◌≡◌, List, ◌++◌, string_bytes, map, Ok}
 use Rattle.std.specs.Iterator.{IsFinite}
-use Rattle.cmark_grammar.specs.Html.{html, at_line_start}
+use Rattle.cmark_grammar.specs.Html.{at_line_start, pieces, moved_all}
 use Rattle.cmark_text.specs.declared.event.Event.{Event}
 use Rattle.cmark_text.specs.Shown.{shown}
-use Rattle.pulldown_cmark.proofs.HtmlSteps.{moved_all}
+use Rattle.pulldown_cmark.specs.Writer.{writing}
 use Rattle.pulldown_cmark.proofs.html.push_lent.Given as goal
 
 abbrev pub invariant-loop-event : goal.invariant-loop-event
 invariant-loop-event g l = record {
   can : g.I.Iterator.can_next l.iter;
   finite : IsFinite (g.I.Iterator.remaining l.iter);
-  so_far : (events : List Event) × (l.yielded ≡ map Ok events) × (string_bytes l.out ≡ string_bytes l.initial.out ++ html (map shown events)) × (record { line_start = l.line_start } ≡ moved_all at_line_start (map shown events));
+  so_far : (events : List Event) × (l.yielded ≡ map Ok events) × (string_bytes l.out ≡ string_bytes l.initial.out ++ pieces (map shown events)) × (writing l.writer ≡ moved_all at_line_start (map shown events));
 }
