@@ -12,6 +12,8 @@ pub struct Bracket {
     pub slot: usize,
     /// How many delimiter runs stand before it.
     pub runs: usize,
+    /// How many quotes stand before it.
+    pub quotes: usize,
     /// Byte offset in the leaf's text.
     pub start: usize,
     /// The place behind it.

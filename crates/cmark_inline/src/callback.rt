@@ -1,6 +1,7 @@
 //! What is asked of the caller for references without a definition.
 
-ghost use Rattle.std.specs.Prelude.{◌≡◌, Option, None};
+ghost use Rattle.std.specs.Prelude.{◌≡◌, ℕ, List, Option, None};
+ghost use Rattle.cmark_text.specs.declared.kind.LinkType.{LinkType as Kind};
 ghost use Rattle.cmark_text.specs.declared.text.CowStr.{CowStr};
 ghost use Rattle.cmark_inline.specs.declared.callback.BrokenLink.{BrokenLink as Question};
 
@@ -60,5 +61,56 @@ impl<'input> BrokenLinkCallback<'input> for DefaultBrokenLinkCallback {
         _link: BrokenLink<'input>,
     ) -> Option<(CowStr<'input>, CowStr<'input>)> {
         None
+    }
+}
+
+/// A function or a closure as a callback.
+#[derive(Drop)]
+pub struct FnCallback<T>(pub T);
+
+impl<
+    'input,
+    T: FnMut(BrokenLink<'input>) -> Option<(CowStr<'input>, CowStr<'input>)>,
+> BrokenLinkCallback<'input> for FnCallback<T> {
+    ghost answers = { λ before link answer after. T.step before.0 link answer after.0 };
+
+    fn handle_broken_link(
+        &mut self,
+        link: BrokenLink<'input>,
+    ) -> Option<(CowStr<'input>, CowStr<'input>)> {
+        (self.0)(link)
+    }
+}
+
+/// A callback that borrows nothing, so that a box of it is one for every source.
+pub trait OwnedLinkCallback: Drop {
+    ghost says: { Self → ℕ → ℕ → Kind → List ℕ → Option (CowStr × CowStr) → Self → Type 0 };
+
+    /// Where a reference without a definition leads and its title; `None` where it is no link. `start` and `end` are the ends of
+    /// its span, byte offsets of the source, and `reference` is the normal form of its label.
+    fn handle_owned(
+        &mut self,
+        start: usize,
+        end: usize,
+        link_type: LinkType,
+        reference: &str,
+    ) -> Option<(CowStr<'static>, CowStr<'static>)>
+        ensures { says self.old start end link_type reference.now result self.new };
+}
+
+impl<'input> BrokenLinkCallback<'input> for Box<dyn OwnedLinkCallback> {
+    ghost answers = { λ before link answer after. Unit {0} };
+
+    /// Hands on both ends of the span, the type and the text of the label, and answers what it is answered.
+    fn handle_broken_link(
+        &mut self,
+        link: BrokenLink<'input>,
+    ) -> Option<(CowStr<'input>, CowStr<'input>)> {
+        let BrokenLink {
+            span,
+            link_type,
+            reference,
+        } = link;
+        self.handle_owned(span.start, span.end, link_type, reference.as_str())
     }
 }

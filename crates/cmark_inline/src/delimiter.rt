@@ -5,7 +5,7 @@ ghost use Rattle.cmark_emphasis.specs.Shown.{shown_run};
 ghost use Rattle.cmark_emphasis.specs.Slots.{AreRuns};
 ghost use Rattle.cmark_inline.specs.Stands.{AreSlots, bytes_of};
 
-use crate::slot::{Element, Slot, begin, use_up};
+use crate::slot::{Element, Slot, begin, merge, use_up};
 use bitflags::Flags;
 use cmark_emphasis::{PairingRoom, Run, Slot as Mark, SpanKind, slots_of_runs};
 use cmark_text::Options;
@@ -160,9 +160,22 @@ fn write_mark(
         Mark::Single => {}
         Mark::Blank => use_up(slots, slot, false),
         Mark::Begin(_) => begun.push(slot)?,
-        Mark::End(kind) => end_last(slots, slot, element_of(kind, options), begun),
+        Mark::End(kind) => match element_of(kind, options) {
+            Some(element) => end_last(slots, slot, element, begun),
+            None => merge_last(slots, slot, begun),
+        },
     }
     Ok(())
+}
+
+/// Makes one text of the element that began last and ends at a slot.
+fn merge_last(slots: &mut Vec<Slot>, slot: usize, begun: &mut Vec<usize>)
+    ensures slots { (text : List ℕ) (place : ℕ) → AreSlots text place slots.old.items → AreSlots text place slots.new.items }
+    ensures length { length slots.new.items ≡ length slots.old.items }
+{
+    if let Some(first) = begun.pop() {
+        merge(slots, first, slot);
+    }
 }
 
 /// Ends the element that began last, at a slot.
@@ -179,13 +192,16 @@ fn end_last(slots: &mut Vec<Slot>, slot: usize, element: Element, begun: &mut Ve
     }
 }
 
-/// What stands around a span, by the options.
-fn element_of(kind: SpanKind, options: Options) -> Element {
+/// What stands around a span, by the options. Double tildes without strikethrough make one text of all (this profile's own).
+fn element_of(kind: SpanKind, options: Options) -> Option<Element> {
     match kind {
-        SpanKind::Emphasis => Element::Emphasis,
-        SpanKind::Strong => Element::Strong,
-        SpanKind::SingleTilde if options.contains(Options::ENABLE_SUBSCRIPT) => Element::Subscript,
-        SpanKind::SingleTilde | SpanKind::DoubleTilde => Element::Strikethrough,
-        SpanKind::Caret => Element::Superscript,
+        SpanKind::Emphasis => Some(Element::Emphasis),
+        SpanKind::Strong => Some(Element::Strong),
+        SpanKind::SingleTilde if options.contains(Options::ENABLE_SUBSCRIPT) => {
+            Some(Element::Subscript)
+        }
+        SpanKind::DoubleTilde if !options.contains(Options::ENABLE_STRIKETHROUGH) => None,
+        SpanKind::SingleTilde | SpanKind::DoubleTilde => Some(Element::Strikethrough),
+        SpanKind::Caret => Some(Element::Superscript),
     }
 }

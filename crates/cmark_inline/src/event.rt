@@ -181,6 +181,10 @@ impl<'a> InlineState<'a> {
     {
         match slot.kind {
             SlotKind::OwnedText(index) => Ok(Event::Text(self.take_text(index))),
+            SlotKind::Character(character) => Ok(Event::Text(CowStr::from(character))),
+            SlotKind::Whole(_) => Ok(Event::Text(CowStr::Borrowed(leaf.source_between(
+                slot.start, slot.end,
+            )))),
             SlotKind::SoftBreak => Ok(Event::SoftBreak),
             SlotKind::HardBreak => Ok(Event::HardBreak),
             SlotKind::Code(from, to) => Ok(Event::Code(code_of(self.alloc, leaf, from, to)?)),

@@ -27,6 +27,10 @@ pub enum SlotKind {
     Text,
     /// The owned text of this index.
     OwnedText(usize),
+    /// This character.
+    Character(char),
+    /// The bytes of the source that its range reaches over. The slots behind it up to that of this index are nothing any more.
+    Whole(usize),
     SoftBreak,
     HardBreak,
     /// A code span, with the range of what it holds.
@@ -101,5 +105,63 @@ pub fn use_up(slots: &mut Vec<Slot>, at: usize, ends: bool)
             SlotKind::Nothing
         };
         slots[at] = Slot { kind, ..slot };
+    }
+}
+
+/// Makes a slot that of a character.
+pub fn become_character(slots: &mut Vec<Slot>, at: usize, character: char)
+    ensures slots { (text : List ℕ) (place : ℕ) → AreSlots text place slots.old.items → AreSlots text place slots.new.items }
+    ensures length { length slots.new.items ≡ length slots.old.items }
+{
+    if at < slots.len() {
+        let slot = slots[at];
+        slots[at] = Slot {
+            kind: SlotKind::Character(character),
+            ..slot
+        };
+    }
+}
+
+/// Makes one text of the slots from one to another: the bytes of the source from the begin of the first to the end of the last.
+pub fn merge(slots: &mut Vec<Slot>, first: usize, last: usize)
+    ensures slots { (text : List ℕ) (place : ℕ) → AreSlots text place slots.old.items → AreSlots text place slots.new.items }
+    ensures length { length slots.new.items ≡ length slots.old.items }
+{
+    if first < last && last < slots.len() {
+        let start = slots[first].start;
+        let end = slots[last].end.max(slots[first].end);
+        use_up_between(slots, first, last);
+        slots[first] = Slot {
+            kind: SlotKind::Whole(last),
+            start,
+            end,
+        };
+    }
+}
+
+// Makes the slots behind one up to another nothing any more. Those that are nothing already, behind a whole text, are passed
+// over.
+fn use_up_between(slots: &mut Vec<Slot>, first: usize, last: usize)
+    requires ordered { first < last }
+    requires within { last < length slots.old.items }
+    ensures slots { (text : List ℕ) (place : ℕ) → AreSlots text place slots.old.items → AreSlots text place slots.new.items }
+    ensures length { length slots.new.items ≡ length slots.old.items }
+{
+    let mut at = first;
+    while at < last {
+        at += 1;
+        let end = last_of(slots[at].kind, at);
+        use_up(slots, at, false);
+        at = end.min(last);
+    }
+}
+
+// The index of the last slot that belongs to that of this index.
+fn last_of(kind: SlotKind, at: usize) -> usize
+    ensures { at ≤ result }
+{
+    match kind {
+        SlotKind::Whole(last) => last.max(at),
+        _ => at,
     }
 }

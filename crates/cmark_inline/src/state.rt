@@ -8,6 +8,7 @@ use crate::bracket::Brackets;
 use crate::delimiter::Delimiters;
 use crate::event::Walk;
 use crate::link::LinkParts;
+use crate::quote::Quotes;
 use crate::slot::Slot;
 use cmark_finds::inline_html;
 use cmark_text::CowStr;
@@ -23,6 +24,7 @@ pub struct InlineState<'a> {
     pub(crate) slots: Vec<Slot>,
     pub(crate) brackets: Brackets,
     pub(crate) delimiters: Delimiters,
+    pub(crate) quotes: Quotes,
     pub(crate) texts: Vec<CowStr<'a>>,
     pub(crate) links: Vec<LinkParts<'a>>,
     pub(crate) expansion: usize,
@@ -121,6 +123,7 @@ impl<'a> InlineState<'a> {
             slots: Vec::new(alloc),
             brackets: Brackets::new(alloc),
             delimiters: Delimiters::new(alloc),
+            quotes: Quotes::new(alloc),
             texts: Vec::new(alloc),
             links: Vec::new(alloc),
             expansion: source_len.max(LEAST_EXPANSION),
@@ -136,6 +139,7 @@ impl<'a> InlineState<'a> {
         self.slots.clear();
         self.brackets.clear();
         self.delimiters.clear();
+        self.quotes.clear();
         self.texts.clear();
         self.links.clear();
         self.shut_close = None;

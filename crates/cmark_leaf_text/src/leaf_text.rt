@@ -114,6 +114,16 @@ impl<'a> LeafText<'a> {
         }
     }
 
+    /// The bytes of the source from the first of these bytes of the text to behind the last, with what stands between the lines.
+    pub fn source_between(&self, from: usize, to: usize) -> &'a str
+        requires read { IsRead self.now }
+        requires part { IsPart (text_of self.now) from to }
+        ensures { result.now ≡ slice (source_of self.now) (place_of self.now from) (place_of self.now (to - 1) + 1) }
+    {
+        let range = self.range(from, to);
+        &self.source[range.start..range.end]
+    }
+
     // The stretches of these lines: each line with its line end, but for the last.
     fn push_lines(&mut self, lines: &[LeafLine]) -> Result<(), AllocError>
         requires none { self.old.stretches.items ≡ [] }

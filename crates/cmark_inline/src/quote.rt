@@ -1,0 +1,84 @@
+//! Quotes, and the characters that they become (this profile's own).
+
+ghost use Rattle.std.specs.Prelude.{◌≡◌, ℕ, List, [], length, OnOk};
+ghost use Rattle.cmark_inline.specs.Stands.{AreSlots};
+
+use crate::slot::{Slot, SlotKind, become_character};
+use cmark_emphasis::{Quote, quote_characters};
+use std::alloc::{AllocError, Global};
+
+/// A quote and the place of its slot.
+#[derive(Clone, Copy, Debug)]
+pub struct PlacedQuote {
+    pub slot: usize,
+    pub quote: Quote,
+}
+
+/// The quotes of the siblings that are not resolved, and room for their characters.
+#[derive(Drop)]
+pub struct Quotes {
+    placed: Vec<PlacedQuote>,
+    quotes: Vec<Quote>,
+    characters: Vec<char>,
+}
+
+impl Quotes {
+    pub fn new(alloc: Global) -> Quotes {
+        Quotes {
+            placed: Vec::new(alloc),
+            quotes: Vec::new(alloc),
+            characters: Vec::new(alloc),
+        }
+    }
+
+    pub fn clear(&mut self) {
+        self.placed.clear();
+    }
+
+    /// How many quotes there are.
+    pub fn len(&self) -> usize {
+        self.placed.len()
+    }
+
+    pub fn push(&mut self, slot: usize, quote: Quote) -> Result<(), AllocError> {
+        self.placed.push(PlacedQuote { slot, quote })?;
+        Ok(())
+    }
+
+    /// Gives the quotes from this one on, which are those of one list of siblings, their characters, and forgets them.
+    pub fn resolve(&mut self, first: usize, slots: &mut Vec<Slot>) -> Result<(), AllocError> {
+        gather(&mut self.quotes, quotes_from(self.placed.as_slice(), first))?;
+        quote_characters(&self.quotes, &mut self.characters)?;
+        write(
+            slots,
+            quotes_from(self.placed.as_slice(), first),
+            self.characters.as_slice(),
+        );
+        self.placed.truncate(first);
+        Ok(())
+    }
+}
+
+/// The quotes from this one on.
+fn quotes_from(placed: &[PlacedQuote], first: usize) -> &[PlacedQuote] {
+    if first >= placed.len() {
+        return &[];
+    }
+    &placed[first..]
+}
+
+/// Puts the quotes in `quotes`, which held others.
+fn gather(quotes: &mut Vec<Quote>, placed: &[PlacedQuote]) -> Result<(), AllocError> {
+    quotes.clear();
+    for next in placed {
+        quotes.push(next.quote)?;
+    }
+    Ok(())
+}
+
+/// Writes each character into the slot of its quote.
+fn write(slots: &mut Vec<Slot>, placed: &[PlacedQuote], characters: &[char]) {
+    for (next, character) in placed.iter().zip(characters.iter()) {
+        become_character(slots, next.slot, *character);
+    }
+}
