@@ -15,6 +15,7 @@ use Rattle.cmark_inline.specs.declared.slot.SlotKind.TheVariants as kind
 pub record Keeps (text : List ℕ) (at : ℕ) (ss : List Slot) (bs : List Bracket) (bytes : ℕ) : Type 0 where
   pub slots : AreSlots text at ss
   pub brackets : AreBrackets text at bs
+  pub few : length ss ≤ at
   pub runs : bytes ≤ length ss
 
 module _ (text : List ℕ) where
@@ -25,16 +26,17 @@ module _ (text : List ℕ) where
   brackets-on a b bs h le = λ k d lt. let s = h k d lt in record { part = s.part; before = (let e = s.before in let l : (get_or bs k d).inside ≤ b = omega (arith, e, le) in l) }
 
   pub keeps-on : (a b : ℕ) (ss : List Slot) (bs : List Bracket) (n : ℕ) → Keeps text a ss bs n → a ≤ b → Keeps text b ss bs n
-  keeps-on a b ss bs n h le = record { slots = slots-on a b ss h.slots le; brackets = brackets-on a b bs h.brackets le; runs = h.runs }
+  keeps-on a b ss bs n h le = record { slots = slots-on a b ss h.slots le; brackets = brackets-on a b bs h.brackets le; few = (let f = h.few in let q : length ss ≤ b = omega (arith, f, le) in q); runs = h.runs }
 
-  pub keeps-push : (a b : ℕ) (ss ts : List Slot) (s : Slot) (bs : List Bracket) (n : ℕ) → Keeps text a ss bs n → a ≤ b → IsSlot text b s → ts ≡ ss ++ (s ∷ []) → Keeps text b ts bs n
-  keeps-push a b ss ts s bs n h le new e =
+  pub keeps-push : (a b : ℕ) (ss ts : List Slot) (s : Slot) (bs : List Bracket) (n : ℕ) → Keeps text a ss bs n → a ≤ b → length ss < b → IsSlot text b s → ts ≡ ss ++ (s ∷ []) → Keeps text b ts bs n
+  keeps-push a b ss ts s bs n h le room new e =
       let l = length_push ss s in
       let m = ap length e in
       let r = h.runs in
       record {
         slots = subst (AreSlots text b) (sym e) (All-push (IsSlot text b) ss s (slots-on a b ss h.slots le) new);
         brackets = brackets-on a b bs h.brackets le;
+        few = (let q : length ts ≤ b = omega (arith, l, m, room) in q);
         runs = let q : n ≤ length ts = omega (arith, l, m, r) in q;
       }
 
@@ -45,7 +47,8 @@ module _ (text : List ℕ) where
       go true e =
           let lt = ltb-true a b e in
           let w = ends.0 in
-          keeps-push a b ss ts (record { kind = kind.Text; start = a; end = b }) bs n h le
+          let f = h.few in
+          keeps-push a b ss ts (record { kind = kind.Text; start = a; end = b }) bs n h le (let q : length ss < b = omega (arith, f, lt) in q)
           (record { part = record { some = lt; within = w; starts = starts; ends = ends }; before = (let l : b ≤ b = omega arith in l); content = tt }) (pushed.0 lt)
       go false e =
           let g = ltb-false a b e in
@@ -53,6 +56,7 @@ module _ (text : List ℕ) where
           record {
             slots = subst (AreSlots text b) (sym (pushed.1 g)) k.slots;
             brackets = k.brackets;
+            few = subst (λ (l : List Slot). length l ≤ b) (sym (pushed.1 g)) k.few;
             runs = subst (λ (l : List Slot). n ≤ length l) (sym (pushed.1 g)) k.runs;
           }
 

@@ -18,6 +18,8 @@ use Rattle.cmark_inline.specs.declared.step.Cursor.{Cursor}
 abbrev pub IsContent : List ℕ → SlotKind → Type 0
 IsContent text kind.Text = Unit {0}
 IsContent text (kind.OwnedText index) = Unit {0}
+IsContent text (kind.Character character) = Unit {0}
+IsContent text (kind.Whole last) = Unit {0}
 IsContent text kind.SoftBreak = Unit {0}
 IsContent text kind.HardBreak = Unit {0}
 IsContent text (kind.Code from to) = IsCharBoundary text from × IsCharBoundary text to
@@ -47,10 +49,12 @@ AreBrackets text at brackets = All (IsBracket text at) brackets
 abbrev pub bytes_of : List PlacedRun → ℕ
 bytes_of placed = sum_by (λ (p : PlacedRun). p.run.size) placed
 
--- all slots and brackets stand before this place of the text, and there is a slot for each byte of the delimiter runs
+-- all slots and brackets stand before this place of the text, there are no more slots than bytes before it, and there is a slot
+-- for each byte of the delimiter runs
 pub record Stands (text : List ℕ) (at : ℕ) (state : InlineState) : Type 0 where
   pub slots : AreSlots text at state.slots.items
   pub brackets : AreBrackets text at state.brackets.standing.items
+  pub few : length state.slots.items ≤ at
   pub runs : bytes_of state.delimiters.placed.items ≤ length state.slots.items
 
 -- a place that is reached, and the one from which on the text stands in no slot, cut no character

@@ -64,24 +64,6 @@ impl<'input> BrokenLinkCallback<'input> for DefaultBrokenLinkCallback {
     }
 }
 
-/// A function or a closure as a callback.
-#[derive(Drop)]
-pub struct FnCallback<T>(pub T);
-
-impl<
-    'input,
-    T: FnMut(BrokenLink<'input>) -> Option<(CowStr<'input>, CowStr<'input>)>,
-> BrokenLinkCallback<'input> for FnCallback<T> {
-    ghost answers = { λ before link answer after. T.step before.0 link answer after.0 };
-
-    fn handle_broken_link(
-        &mut self,
-        link: BrokenLink<'input>,
-    ) -> Option<(CowStr<'input>, CowStr<'input>)> {
-        (self.0)(link)
-    }
-}
-
 /// A callback that borrows nothing, so that a box of it is one for every source.
 pub trait OwnedLinkCallback: Drop {
     ghost says: { Self → ℕ → ℕ → Kind → List ℕ → Option (CowStr × CowStr) → Self → Type 0 };

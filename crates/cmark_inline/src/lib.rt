@@ -22,9 +22,7 @@ mod step;
 mod tests;
 mod text;
 
-pub use callback::{
-    BrokenLink, BrokenLinkCallback, DefaultBrokenLinkCallback, FnCallback, OwnedLinkCallback,
-};
+pub use callback::{BrokenLink, BrokenLinkCallback, DefaultBrokenLinkCallback, OwnedLinkCallback};
 pub use event::Given;
 pub use read::Reader;
 pub use state::InlineState;

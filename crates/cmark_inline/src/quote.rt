@@ -1,7 +1,8 @@
 //! Quotes, and the characters that they become (this profile's own).
 
-ghost use Rattle.std.specs.Prelude.{◌≡◌, ℕ, List, [], length, OnOk};
+ghost use Rattle.std.specs.Prelude.{◌≡◌, ℕ, List, [], length, map, OnOk};
 ghost use Rattle.cmark_inline.specs.Stands.{AreSlots};
+ghost use Rattle.cmark_inline.specs.declared.quote.PlacedQuote.{PlacedQuote};
 
 use crate::slot::{Slot, SlotKind, become_character};
 use cmark_emphasis::{Quote, quote_characters};
@@ -46,7 +47,10 @@ impl Quotes {
     }
 
     /// Gives the quotes from this one on, which are those of one list of siblings, their characters, and forgets them.
-    pub fn resolve(&mut self, first: usize, slots: &mut Vec<Slot>) -> Result<(), AllocError> {
+    pub fn resolve(&mut self, first: usize, slots: &mut Vec<Slot>) -> Result<(), AllocError>
+        ensures slots { OnOk result ((text : List ℕ) (place : ℕ) → AreSlots text place slots.old.items → AreSlots text place slots.new.items) }
+        ensures length { OnOk result (length slots.new.items ≡ length slots.old.items) }
+    {
         gather(&mut self.quotes, quotes_from(self.placed.as_slice(), first))?;
         quote_characters(&self.quotes, &mut self.characters)?;
         write(
@@ -68,7 +72,9 @@ fn quotes_from(placed: &[PlacedQuote], first: usize) -> &[PlacedQuote] {
 }
 
 /// Puts the quotes in `quotes`, which held others.
-fn gather(quotes: &mut Vec<Quote>, placed: &[PlacedQuote]) -> Result<(), AllocError> {
+fn gather(quotes: &mut Vec<Quote>, placed: &[PlacedQuote]) -> Result<(), AllocError>
+    ensures { OnOk result (quotes.new.items ≡ map (λ (p : PlacedQuote). p.quote) placed.now) }
+{
     quotes.clear();
     for next in placed {
         quotes.push(next.quote)?;
@@ -77,8 +83,18 @@ fn gather(quotes: &mut Vec<Quote>, placed: &[PlacedQuote]) -> Result<(), AllocEr
 }
 
 /// Writes each character into the slot of its quote.
-fn write(slots: &mut Vec<Slot>, placed: &[PlacedQuote], characters: &[char]) {
-    for (next, character) in placed.iter().zip(characters.iter()) {
+fn write(slots: &mut Vec<Slot>, placed: &[PlacedQuote], characters: &[char])
+    ensures slots { (text : List ℕ) (place : ℕ) → AreSlots text place slots.old.items → AreSlots text place slots.new.items }
+    ensures length { length slots.new.items ≡ length slots.old.items }
+{
+    let mut rest = placed;
+    let mut left = characters;
+    while let Some((next, others)) = rest.split_first() {
+        let Some((character, behind)) = left.split_first() else {
+            return;
+        };
         become_character(slots, next.slot, *character);
+        rest = others;
+        left = behind;
     }
 }

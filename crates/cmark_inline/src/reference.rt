@@ -26,7 +26,8 @@ impl<'a> InlineState<'a> {
         requires cursor { IsCursor text.now here }
         requires here { here.at < length text.now }
         requires ascii { slice_index text.now here.at < 128 }
-        ensures { IfOk result (Moves text.now here.at self.new) }
+        ensures expansion { self.new.expansion ≡ self.old.expansion }
+        ensures moves { IfOk result (Moves text.now here.at self.new) }
     {
         if is_followed_by(text, here.at, b'[') {
             let inside = behind(text, behind(text, here.at));
@@ -47,7 +48,8 @@ impl<'a> InlineState<'a> {
         requires stands { Stands text.now here.pending self.old }
         requires cursor { IsCursor text.now here }
         requires part { IsPart text.now here.at inside }
-        ensures { IfOk result (Moves text.now here.at self.new) }
+        ensures expansion { self.new.expansion ≡ self.old.expansion }
+        ensures moves { IfOk result (Moves text.now here.at self.new) }
     {
         self.flush(text, here, here.at)?;
         let bracket = Bracket {
@@ -82,7 +84,7 @@ impl<'a> InlineState<'a> {
         requires read { IsRead leaf.now }
         requires same { text.now ≡ text_of leaf.now }
         ensures asks { AsksOnce F.answers callback.old callback.new }
-        ensures spent { self.old.expansion ≡ 0 → callback.new ≡ callback.old }
+        ensures spent { self.old.expansion ≡ 0 → (callback.new ≡ callback.old) × (self.new.expansion ≡ 0) }
         ensures moves { IfOk result (Moves text.now here.at self.new) }
     {
         self.flush(text, here, here.at)?;
@@ -136,7 +138,7 @@ impl<'a> InlineState<'a> {
         requires read { IsRead leaf.now }
         requires same { text.now ≡ text_of leaf.now }
         ensures asks { AsksOnce F.answers callback.old callback.new }
-        ensures spent { self.old.expansion ≡ 0 → callback.new ≡ callback.old }
+        ensures spent { self.old.expansion ≡ 0 → (callback.new ≡ callback.old) × (self.new.expansion ≡ 0) }
         ensures stands { Stands text.now close self.new }
         ensures target { IfOk result (λ found. IfSome found (IsTarget text.now close)) }
     {
@@ -220,7 +222,8 @@ impl<'a> InlineState<'a> {
         requires stands { Stands text.now close self.old }
         requires close { IsPart text.now close (close + 1) }
         requires target { IsTarget text.now close target }
-        ensures { OnOk result (Stands text.now target.entry.past self.new) }
+        ensures expansion { self.new.expansion ≡ self.old.expansion }
+        ensures stands { OnOk result (Stands text.now target.entry.past self.new) }
     {
         let Target { parts, end, .. } = target;
         let index = self.links.len();

@@ -25,7 +25,8 @@ impl<'a> InlineState<'a> {
         requires cursor { IsCursor text.now here }
         requires here { here.at < length text.now }
         requires ascii { slice_index text.now here.at < 128 }
-        ensures { IfOk result (Moves text.now here.at self.new) }
+        ensures expansion { self.new.expansion ≡ self.old.expansion }
+        ensures moves { IfOk result (Moves text.now here.at self.new) }
     {
         let end = run_end(text, here.at);
         let before = text[..here.at].chars().next_back();
@@ -61,6 +62,7 @@ impl<'a> InlineState<'a> {
         requires stands { Stands text.now start self.old }
         requires part { IsPart text.now start end }
         requires ascii { (k : ℕ) → start ≤ k → k < end → slice_index text.now k < 128 }
+        ensures expansion { self.new.expansion ≡ self.old.expansion }
         ensures slots { OnOk result (AreSlots text.now end self.new.slots.items) }
         ensures brackets { OnOk result (self.new.brackets ≡ self.old.brackets) }
         ensures delimiters { OnOk result (self.new.delimiters ≡ self.old.delimiters) }

@@ -1,7 +1,8 @@
 //! Typographic punctuation: dots, hyphens and quotes (this profile's own).
 
-ghost use Rattle.std.specs.Prelude.{◌≡◌, ◌⊎◌, true, ◌<◌, ◌≤◌, ◌+◌, ◌-◌, ◌++◌, ℕ, List, [], length, slice_index, IfOk, OnOk, IfSome};
+ghost use Rattle.std.specs.Prelude.{◌≡◌, ◌⊎◌, true, ◌<◌, ◌≤◌, ◌+◌, ◌-◌, ◌*◌, ◌++◌, string_bytes, ℕ, List, [], length, slice_index, IfOk, OnOk, IfSome};
 ghost use Rattle.std.specs.Str.{IsCharBoundary};
+ghost use Rattle.cmark_grammar.specs.Dashes as grammar;
 ghost use Rattle.cmark_inline.specs.Stands.{IsCursor, IsSlot, Moves, Stands};
 
 use crate::place::{behind, pass, run_end};
@@ -19,7 +20,8 @@ impl<'a> InlineState<'a> {
         requires cursor { IsCursor text.now here }
         requires here { here.at < length text.now }
         requires ascii { slice_index text.now here.at < 128 }
-        ensures { IfOk result (Moves text.now here.at self.new) }
+        ensures expansion { self.new.expansion ≡ self.old.expansion }
+        ensures moves { IfOk result (Moves text.now here.at self.new) }
     {
         if !text[here.at..].starts_with("...") {
             return Ok(pass(text, here));
@@ -39,7 +41,8 @@ impl<'a> InlineState<'a> {
         requires cursor { IsCursor text.now here }
         requires here { here.at < length text.now }
         requires ascii { slice_index text.now here.at < 128 }
-        ensures { IfOk result (Moves text.now here.at self.new) }
+        ensures expansion { self.new.expansion ≡ self.old.expansion }
+        ensures moves { IfOk result (Moves text.now here.at self.new) }
     {
         let end = run_end(text, here.at);
         let size = end - here.at;
@@ -64,7 +67,8 @@ impl<'a> InlineState<'a> {
         requires cursor { IsCursor text.now here }
         requires here { here.at < length text.now }
         requires ascii { slice_index text.now here.at < 128 }
-        ensures { IfOk result (Moves text.now here.at self.new) }
+        ensures expansion { self.new.expansion ≡ self.old.expansion }
+        ensures moves { IfOk result (Moves text.now here.at self.new) }
     {
         let end = behind(text, here.at);
         let before = text[..here.at].chars().next_back();
@@ -85,15 +89,19 @@ impl<'a> InlineState<'a> {
     }
 }
 
-/// How many em and en dashes so many hyphens are: em dashes alone where 3 divides their number, else en dashes alone where it
-/// is even, else em dashes and then the fewest en dashes. An em dash stands for three hyphens, an en dash for two.
+/// So many em dashes, and then so many en dashes.
 #[derive(Clone, Copy)]
 struct Dashes {
     em: usize,
     en: usize,
 }
 
-fn dashes_of(size: usize) -> Dashes {
+/// The dashes that so many hyphens are.
+fn dashes_of(size: usize) -> Dashes
+    requires { 2 ≤ size }
+    ensures value { record { em = result.em; en = result.en } ≡ grammar.dashes_of size }
+    ensures whole { 3 * result.em + 2 * result.en ≡ size }
+{
     if size % 3 == 0 {
         return Dashes {
             em: size / 3,
@@ -106,15 +114,23 @@ fn dashes_of(size: usize) -> Dashes {
             en: size / 2,
         };
     }
-    let en = if size % 3 == 1 { 2 } else { 1 };
+    if size % 3 == 2 {
+        return Dashes {
+            em: (size - 2) / 3,
+            en: 1,
+        };
+    }
     Dashes {
-        em: size / 3 + 1 - en,
-        en,
+        em: (size - 4) / 3,
+        en: 2,
     }
 }
 
 /// The dashes that so many hyphens are.
-fn dash_text(alloc: Global, size: usize) -> Result<String, AllocError> {
+fn dash_text(alloc: Global, size: usize) -> Result<String, AllocError>
+    requires { 2 ≤ size }
+    ensures { IfOk result (λ text. string_bytes text ≡ grammar.dash_text (grammar.dashes_of size)) }
+{
     let counts = dashes_of(size);
     let mut out = String::new(alloc);
     push_times(&mut out, '\u{2014}', counts.em)?;
@@ -123,9 +139,13 @@ fn dash_text(alloc: Global, size: usize) -> Result<String, AllocError> {
 }
 
 /// Appends a character so many times.
-fn push_times(out: &mut String, character: char, times: usize) -> Result<(), AllocError> {
-    for _ in 0..times {
+fn push_times(out: &mut String, character: char, times: usize) -> Result<(), AllocError>
+    ensures { OnOk result (string_bytes out.new ≡ string_bytes out.old ++ grammar.repeated character times) }
+{
+    let mut left = times;
+    while left > 0 {
         out.push(character)?;
+        left -= 1;
     }
     Ok(())
 }

@@ -23,7 +23,8 @@ impl<'a> InlineState<'a> {
         requires cursor { IsCursor text.now here }
         requires here { here.at < length text.now }
         requires ascii { slice_index text.now here.at < 128 }
-        ensures { IfOk result (Moves text.now here.at self.new) }
+        ensures expansion { self.new.expansion ≡ self.old.expansion }
+        ensures moves { IfOk result (Moves text.now here.at self.new) }
     {
         if let Some(span) = code_span(text, here.at) {
             let slot = Slot {
@@ -58,7 +59,8 @@ impl<'a> InlineState<'a> {
         requires ascii { slice_index text.now here.at < 128 }
         requires read { IsRead leaf.now }
         requires same { text.now ≡ text_of leaf.now }
-        ensures { IfOk result (Moves text.now here.at self.new) }
+        ensures expansion { self.new.expansion ≡ self.old.expansion }
+        ensures moves { IfOk result (Moves text.now here.at self.new) }
     {
         if is_followed_by(text, here.at, b'\\') {
             return Ok(pass(text, here));
@@ -99,7 +101,8 @@ impl<'a> InlineState<'a> {
         requires inside { IsPart text.now (here.at + 1) (end - 1) }
         requires read { IsRead leaf.now }
         requires same { text.now ≡ text_of leaf.now }
-        ensures { IfOk result (Moves text.now here.at self.new) }
+        ensures expansion { self.new.expansion ≡ self.old.expansion }
+        ensures moves { IfOk result (Moves text.now here.at self.new) }
     {
         let dest_url = text_between(self.alloc, leaf, here.at + 1, end - 1)?;
         let slot = Slot {

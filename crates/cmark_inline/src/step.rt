@@ -3,7 +3,7 @@
 ghost use Rattle.std.specs.Prelude.{◌≡◌, ◌⊎◌, true, ◌<◌, ◌≤◌, ◌+◌, ◌-◌, ◌++◌, ℕ, List, [], length, slice_index, IfOk, OnOk, IfSome};
 ghost use Rattle.std.specs.Str.{IsCharBoundary};
 ghost use Rattle.cmark_leaf_text.specs.Reads.{IsRead, IsPart, text_of};
-ghost use Rattle.cmark_inline.specs.Asking.{AsksOnce};
+ghost use Rattle.cmark_inline.specs.Asking.{AsksBetween, AsksUpTo, closing_brackets};
 ghost use Rattle.cmark_inline.specs.Stands.{AreSlots, AreBrackets, IsBracket, IsCursor, IsSlot, IsTarget, Moves, SameSpans, Stands, bytes_of};
 
 use crate::callback::BrokenLinkCallback;
@@ -33,6 +33,9 @@ impl<'a> InlineState<'a> {
         callback: &mut F,
     ) -> Result<(), AllocError>
         requires { IsRead leaf.now }
+        ensures asks { AsksUpTo F.answers (closing_brackets (text_of leaf.now)) callback.old callback.new }
+        ensures spent { self.old.expansion ≡ 0 → callback.new ≡ callback.old }
+        ensures few { OnOk result (length self.new.slots.items ≤ length (text_of leaf.now)) }
         ensures slots { OnOk result (AreSlots (text_of leaf.now) (length (text_of leaf.now)) self.new.slots.items) }
         ensures opened { OnOk result (self.new.walk.opened.items ≡ []) }
     {
@@ -49,6 +52,7 @@ impl<'a> InlineState<'a> {
         Ok(())
     }
 
+    // Reads on to behind the next special byte, and what begins there.
     fn step<E: EntityLookup, F: BrokenLinkCallback<'a>>(
         &mut self,
         leaf: &LeafText<'a>,
@@ -62,7 +66,10 @@ impl<'a> InlineState<'a> {
         requires more { cursor.at < length text.now }
         requires read { IsRead leaf.now }
         requires same { text.now ≡ text_of leaf.now }
-        ensures { IfOk result (Moves text.now cursor.at self.new) }
+        ensures asks { AsksBetween F.answers text.now cursor.at (length text.now) callback.old callback.new }
+        ensures asks_here { IfOk result (λ next. AsksBetween F.answers text.now cursor.at next.at callback.old callback.new) }
+        ensures spent { self.old.expansion ≡ 0 → (callback.new ≡ callback.old) × (self.new.expansion ≡ 0) }
+        ensures moves { IfOk result (Moves text.now cursor.at self.new) }
     {
         let bytes = text.as_bytes();
         let at = reader.special.next(bytes, cursor.at);
@@ -76,7 +83,30 @@ impl<'a> InlineState<'a> {
             pending: cursor.pending,
             at,
         };
-        match bytes[at] {
+        if bytes[at] == b']' {
+            return self.close_bracket(leaf, reader, callback, text, here);
+        }
+        self.span(leaf, reader, text, here)
+    }
+
+    // Reads what begins with a special byte that is no closing bracket.
+    fn span<E: EntityLookup>(
+        &mut self,
+        leaf: &LeafText<'a>,
+        reader: &Reader<'_, 'a, E>,
+        text: &str,
+        here: Cursor,
+    ) -> Result<Cursor, AllocError>
+        requires stands { Stands text.now here.pending self.old }
+        requires cursor { IsCursor text.now here }
+        requires here { here.at < length text.now }
+        requires ascii { slice_index text.now here.at < 128 }
+        requires read { IsRead leaf.now }
+        requires same { text.now ≡ text_of leaf.now }
+        ensures expansion { self.new.expansion ≡ self.old.expansion }
+        ensures moves { IfOk result (Moves text.now here.at self.new) }
+    {
+        match text.as_bytes()[here.at] {
             b'\n' | b'\r' => self.line_end(text, here),
             b'\\' => self.backslash(text, here),
             b'&' => self.entity(text, reader.entities, here),
@@ -84,10 +114,9 @@ impl<'a> InlineState<'a> {
             b'<' => self.less_than(leaf, text, here),
             b'!' => self.exclamation(text, here),
             b'[' => {
-                let next = self.open_bracket(text, here, behind(text, at), false)?;
+                let next = self.open_bracket(text, here, behind(text, here.at), false)?;
                 Ok(next)
             }
-            b']' => self.close_bracket(leaf, reader, callback, text, here),
             b'.' => self.dots(text, here),
             b'-' => self.hyphens(text, here),
             b'"' | b'\'' => self.quote(text, here),
@@ -99,7 +128,10 @@ impl<'a> InlineState<'a> {
     pub(crate) fn add(&mut self, text: &str, place: usize, slot: Slot) -> Result<(), AllocError>
         requires stands { Stands text.now place self.old }
         requires slot { IsSlot text.now place slot }
-        ensures { OnOk result (Stands text.now place self.new) }
+        requires room { length self.old.slots.items < place }
+        ensures expansion { self.new.expansion ≡ self.old.expansion }
+        ensures stands { OnOk result (Stands text.now place self.new) }
+        ensures length { OnOk result (length self.new.slots.items ≡ length self.old.slots.items + 1) }
     {
         push_slot(&mut self.slots, slot.kind, slot.start, slot.end)?;
         Ok(())
@@ -130,9 +162,11 @@ impl<'a> InlineState<'a> {
         requires starts { IsCharBoundary text.now here.pending }
         requires stops { IsCharBoundary text.now stop }
         requires behind { here.pending ≤ stop }
-        requires ordered { stop ≤ slot.end }
+        requires ordered { stop < slot.end }
         requires slot { IsSlot text.now slot.end slot }
         requires further { here.at < slot.end }
+        ensures expansion { self.new.expansion ≡ self.old.expansion }
+        ensures length { IfOk result (λ next. length self.new.slots.items ≤ stop + 1) }
         ensures moves { IfOk result (Moves text.now here.at self.new) }
         ensures end { IfOk result (λ next. next.pending ≡ slot.end) }
     {

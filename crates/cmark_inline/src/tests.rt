@@ -641,6 +641,24 @@ fn spent_expansion(rt: HostRuntime) -> Result<(), Fail> {
     Ok(())
 }
 
+/// Answers always the same.
+#[derive(Drop)]
+struct Website;
+
+impl<'input> BrokenLinkCallback<'input> for Website {
+    ghost answers = { λ before link answer after. Unit {0} };
+
+    fn handle_broken_link(
+        &mut self,
+        _link: BrokenLink<'input>,
+    ) -> Option<(CowStr<'input>, CowStr<'input>)> {
+        Some((
+            CowStr::Borrowed("http://example.com"),
+            CowStr::Borrowed("my example website"),
+        ))
+    }
+}
+
 #[test]
 fn answered_questions(rt: HostRuntime) -> Result<(), Fail> {
     let none = RefDefs::new(rt.alloc());
@@ -649,12 +667,7 @@ fn answered_questions(rt: HostRuntime) -> Result<(), Fail> {
         stop: 14,
         past: 14,
     };
-    let mut callback = FnCallback(|_link: BrokenLink| {
-        Some((
-            CowStr::Borrowed("http://example.com"),
-            CowStr::Borrowed("my example website"),
-        ))
-    });
+    let mut callback = Website;
     let found = events(
         rt.alloc(),
         "[my website][]",

@@ -20,7 +20,8 @@ impl<'a> InlineState<'a> {
         requires cursor { IsCursor text.now here }
         requires here { here.at < length text.now }
         requires ascii { slice_index text.now here.at < 128 }
-        ensures { IfOk result (Moves text.now here.at self.new) }
+        ensures expansion { self.new.expansion ≡ self.old.expansion }
+        ensures moves { IfOk result (Moves text.now here.at self.new) }
     {
         let stop = before_blanks(text, here);
         let Some(found) = line_break(text, here.at) else {
@@ -47,7 +48,8 @@ impl<'a> InlineState<'a> {
         requires cursor { IsCursor text.now here }
         requires here { here.at < length text.now }
         requires ascii { slice_index text.now here.at < 128 }
-        ensures { IfOk result (Moves text.now here.at self.new) }
+        ensures expansion { self.new.expansion ≡ self.old.expansion }
+        ensures moves { IfOk result (Moves text.now here.at self.new) }
     {
         if let Some(found) = line_break(text, here.at) {
             let slot = Slot {
@@ -90,7 +92,8 @@ impl<'a> InlineState<'a> {
         requires cursor { IsCursor text.now here }
         requires here { here.at < length text.now }
         requires ascii { slice_index text.now here.at < 128 }
-        ensures { IfOk result (Moves text.now here.at self.new) }
+        ensures expansion { self.new.expansion ≡ self.old.expansion }
+        ensures moves { IfOk result (Moves text.now here.at self.new) }
     {
         let Some(entity) = scan_entity(text[here.at..].as_bytes(), entities) else {
             return Ok(pass(text, here));

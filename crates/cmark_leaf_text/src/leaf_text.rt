@@ -104,7 +104,8 @@ impl<'a> LeafText<'a> {
     pub fn slice(&self, from: usize, to: usize) -> Option<&'a str>
         requires read { IsRead self.now }
         requires part { IsPart (text_of self.now) from to }
-        ensures { IfSome result (λ part. part.now ≡ slice (source_of self.now) (place_of self.now from) (place_of self.now (to - 1) + 1)) }
+        ensures source { IfSome result (λ part. part.now ≡ slice (source_of self.now) (place_of self.now from) (place_of self.now (to - 1) + 1)) }
+        ensures text { IfSome result (λ part. part.now ≡ slice (text_of self.now) from to) }
     {
         let range = self.range(from, to);
         if range.end - range.start == to - from {
