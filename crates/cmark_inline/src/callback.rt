@@ -1,6 +1,8 @@
 //! What is asked of the caller for references without a definition.
 
-ghost use Rattle.std.specs.Prelude.{◌≡◌, ℕ, List, Option, None};
+ghost use Rattle.std.specs.Prelude.{◌≡◌, ℕ, List, IfOk, Option, None};
+ghost use Rattle.cmark_text.specs.Shown.{text_bytes};
+ghost use Rattle.cmark_inline.specs.Linked.{IsQuestion};
 ghost use Rattle.cmark_text.specs.declared.kind.LinkType.{LinkType as Kind};
 ghost use Rattle.cmark_text.specs.declared.text.CowStr.{CowStr};
 ghost use Rattle.cmark_inline.specs.declared.callback.BrokenLink.{BrokenLink as Question};
@@ -22,7 +24,9 @@ pub struct BrokenLink<'a> {
 
 impl<'a> BrokenLink<'a> {
     /// The same in a value that borrows nothing.
-    pub fn into_static(self, alloc: Global) -> Result<BrokenLink<'static>, AllocError> {
+    pub fn into_static(self, alloc: Global) -> Result<BrokenLink<'static>, AllocError>
+        ensures { IfOk result (λ made. IsQuestion self.entry.link_type (text_bytes self.entry.reference) self.entry.span.start self.entry.span.end made) }
+    {
         let BrokenLink {
             span,
             link_type,
@@ -81,6 +85,7 @@ pub trait OwnedLinkCallback: Drop {
 }
 
 impl<'input> BrokenLinkCallback<'input> for Box<dyn OwnedLinkCallback> {
+    // What the boxed callback answers has no name here.
     ghost answers = { λ before link answer after. Unit {0} };
 
     /// Hands on both ends of the span, the type and the text of the label, and answers what it is answered.

@@ -1,9 +1,9 @@
 //! Delimiter runs and the elements that they become (CommonMark 6.2).
 
-ghost use Rattle.std.specs.Prelude.{◌≡◌, ◌+◌, ◌≤◌, ℕ, List, [], length, map, OnOk, IfOk};
+ghost use Rattle.std.specs.Prelude.{◌≡◌, ◌+◌, ◌≤◌, ℕ, false, List, [], length, map, OnOk, IfOk, IfSome};
 ghost use Rattle.cmark_emphasis.specs.Shown.{shown_run};
 ghost use Rattle.cmark_emphasis.specs.Slots.{AreRuns};
-ghost use Rattle.cmark_inline.specs.Stands.{AreSlots, bytes_of};
+ghost use Rattle.cmark_inline.specs.Stands.{AreSlots, NoNewLink, bytes_of, is_link};
 
 use crate::slot::{Element, Slot, begin, merge, use_up};
 use bitflags::Flags;
@@ -67,6 +67,7 @@ impl Delimiters {
         requires { bytes_of self.old.placed.items ≤ length slots.old.items }
         ensures slots { OnOk result ((text : List ℕ) (place : ℕ) → AreSlots text place slots.old.items → AreSlots text place slots.new.items) }
         ensures length { OnOk result (length slots.new.items ≡ length slots.old.items) }
+        ensures links { OnOk result (NoNewLink slots.old.items slots.new.items) }
         ensures runs { OnOk result (bytes_of self.new.placed.items ≤ bytes_of self.old.placed.items) }
     {
         let bound = slots.len();
@@ -131,6 +132,7 @@ fn write_run<'m>(
 ) -> Result<&'m [Mark], AllocError>
     ensures slots { IfOk result (λ rest. (text : List ℕ) (place : ℕ) → AreSlots text place slots.old.items → AreSlots text place slots.new.items) }
     ensures length { IfOk result (λ rest. length slots.new.items ≡ length slots.old.items) }
+    ensures links { IfOk result (λ rest. NoNewLink slots.old.items slots.new.items) }
 {
     let mut rest = marks;
     let mut slot = placed.slot;
@@ -155,6 +157,7 @@ fn write_mark(
 ) -> Result<(), AllocError>
     ensures slots { OnOk result ((text : List ℕ) (place : ℕ) → AreSlots text place slots.old.items → AreSlots text place slots.new.items) }
     ensures length { OnOk result (length slots.new.items ≡ length slots.old.items) }
+    ensures links { OnOk result (NoNewLink slots.old.items slots.new.items) }
 {
     match mark {
         Mark::Single => {}
@@ -172,6 +175,7 @@ fn write_mark(
 fn merge_last(slots: &mut Vec<Slot>, slot: usize, begun: &mut Vec<usize>)
     ensures slots { (text : List ℕ) (place : ℕ) → AreSlots text place slots.old.items → AreSlots text place slots.new.items }
     ensures length { length slots.new.items ≡ length slots.old.items }
+    ensures links { NoNewLink slots.old.items slots.new.items }
 {
     if let Some(first) = begun.pop() {
         merge(slots, first, slot);
@@ -180,8 +184,10 @@ fn merge_last(slots: &mut Vec<Slot>, slot: usize, begun: &mut Vec<usize>)
 
 /// Ends the element that began last, at a slot.
 fn end_last(slots: &mut Vec<Slot>, slot: usize, element: Element, begun: &mut Vec<usize>)
+    requires { is_link element ≡ false }
     ensures slots { (text : List ℕ) (place : ℕ) → AreSlots text place slots.old.items → AreSlots text place slots.new.items }
     ensures length { length slots.new.items ≡ length slots.old.items }
+    ensures links { NoNewLink slots.old.items slots.new.items }
 {
     if slot < slots.len() {
         let end = slots[slot].end;
@@ -193,7 +199,9 @@ fn end_last(slots: &mut Vec<Slot>, slot: usize, element: Element, begun: &mut Ve
 }
 
 /// What stands around a span, by the options. Double tildes without strikethrough make one text of all (this profile's own).
-fn element_of(kind: SpanKind, options: Options) -> Option<Element> {
+fn element_of(kind: SpanKind, options: Options) -> Option<Element>
+    ensures { IfSome result (λ element. is_link element ≡ false) }
+{
     match kind {
         SpanKind::Emphasis => Some(Element::Emphasis),
         SpanKind::Strong => Some(Element::Strong),

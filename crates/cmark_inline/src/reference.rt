@@ -1,10 +1,14 @@
 //! Brackets, and the links and images that they form (CommonMark 6.3 and 6.4).
 
-ghost use Rattle.std.specs.Prelude.{◌≡◌, ◌⊎◌, true, ◌<◌, ◌≤◌, ◌+◌, ◌-◌, ◌++◌, ℕ, List, [], length, slice_index, IfOk, OnOk, IfSome};
+ghost use Rattle.std.specs.Prelude.{◌≡◌, ◌⊎◌, true, false, ◌<◌, ◌≤◌, ◌+◌, ◌-◌, ◌++◌, ℕ, List, [], length, slice_index, IfOk, OnOk, IfSome, Some};
 ghost use Rattle.std.specs.Str.{IsCharBoundary};
-ghost use Rattle.cmark_leaf_text.specs.Reads.{IsRead, IsPart, text_of};
+ghost use Rattle.cmark_leaf_text.specs.Reads.{IsRead, IsPart, place_of, text_of};
+ghost use Rattle.cmark_grammar.specs.Labels.{fold, normal_form};
+ghost use Rattle.cmark_items.specs.Definitions.{definition};
+ghost use Rattle.cmark_text.specs.Labelled.{link_text};
+ghost use Rattle.cmark_inline.specs.Linked.{Answers, Refers, left_behind};
 ghost use Rattle.cmark_inline.specs.Asking.{AsksOnce};
-ghost use Rattle.cmark_inline.specs.Stands.{AreSlots, AreBrackets, IsBracket, IsCursor, IsSlot, IsTarget, Moves, SameSpans, Stands, bytes_of};
+ghost use Rattle.cmark_inline.specs.Stands.{HoldNoLink, IsEnd, NoNewLink, AreSlots, AreBrackets, IsBracket, IsCursor, IsSlot, IsTarget, Moves, SameSpans, Stands, bytes_of};
 
 use crate::bracket::Bracket;
 use crate::callback::{BrokenLink, BrokenLinkCallback};
@@ -16,7 +20,7 @@ use crate::state::InlineState;
 use crate::step::Cursor;
 use cmark_leaf_text::LeafText;
 use cmark_text::{CowStr, EntityLookup, LinkLabel, LinkType, Options};
-use std::alloc::AllocError;
+use std::alloc::{AllocError, Global};
 
 impl<'a> InlineState<'a> {
     // `!`: with a bracket behind it the begin of an image.
@@ -118,6 +122,7 @@ impl<'a> InlineState<'a> {
         ensures stands { Stands text.now at self.new }
         ensures expansion { self.new.expansion ≡ self.old.expansion }
         ensures bracket { IfSome result (IsBracket text.now at) }
+        ensures link { IfSome result (λ bracket. bracket.is_image ≡ false → HoldNoLink self.new.slots.items bracket.slot) }
     {
         let (bracket, forms) = self.brackets.take()?;
         if forms { Some(bracket) } else { None }
@@ -139,6 +144,7 @@ impl<'a> InlineState<'a> {
         requires same { text.now ≡ text_of leaf.now }
         ensures asks { AsksOnce F.answers callback.old callback.new }
         ensures spent { self.old.expansion ≡ 0 → (callback.new ≡ callback.old) × (self.new.expansion ≡ 0) }
+        ensures same { SameSpans self.old self.new }
         ensures stands { Stands text.now close self.new }
         ensures target { IfOk result (λ found. IfSome found (IsTarget text.now close)) }
     {
@@ -159,6 +165,7 @@ impl<'a> InlineState<'a> {
         Ok(found)
     }
 
+    // What a reference leads to, and what it takes off the expansion.
     fn reference<E: EntityLookup, F: BrokenLinkCallback<'a>>(
         &mut self,
         leaf: &LeafText<'a>,
@@ -172,34 +179,41 @@ impl<'a> InlineState<'a> {
         requires read { IsRead leaf.now }
         requires same { text.now ≡ text_of leaf.now }
         ensures asks { AsksOnce F.answers callback.old callback.new }
+        ensures refers { IfOk result (λ found. Refers F.answers (definition reader.now.references.now (fold asked.entry.label.now)) asked.entry.link_type (normal_form asked.entry.label.now)
+            (place_of leaf.now start) (place_of leaf.now (asked.entry.end - 1) + 1) callback.old callback.new found) }
+        ensures expansion { IfOk result (λ found. self.new.expansion ≡ left_behind self.old.expansion found) }
         ensures same { SameSpans self.old self.new }
         ensures target { IfOk result (λ found. IfSome found (λ target. (target.end ≡ asked.entry.end) × (target.past ≡ asked.entry.past))) }
     {
         let label = LinkLabel::new(self.alloc, asked.label)?;
         let id = CowStr::Borrowed(label.as_str()).into_static(self.alloc)?;
-        let (found, link_type) = match defined(self.alloc, reader.references, asked.label)? {
-            Some(found) => (found, asked.link_type),
-            None => {
-                let reference = id.clone(self.alloc)?;
-                let span = leaf.range(start, asked.end);
-                let link = BrokenLink {
-                    span,
-                    link_type: asked.link_type,
-                    reference,
-                };
-                let Some((dest_url, title)) = callback.handle_broken_link(link) else {
-                    return Ok(None);
-                };
-                (
-                    Destination { dest_url, title },
-                    asked.link_type.to_unknown(),
-                )
-            }
+        if let Some(found) = defined(self.alloc, reader.references, asked.label)? {
+            return Ok(Some(self.resolved(found, asked.link_type, id, asked)));
+        }
+        let Some(found) = ask(self.alloc, leaf, callback, start, asked, &label)? else {
+            return Ok(None);
         };
+        Ok(Some(self.resolved(found, asked.link_type.to_unknown(), id, asked)))
+    }
+
+    // The target that a reference leads to; its destination and its title are taken off the expansion.
+    fn resolved(
+        &mut self,
+        found: Destination<'a>,
+        link_type: LinkType,
+        id: CowStr<'a>,
+        asked: Asked<'_>,
+    ) -> Target<'a>
+        ensures parts { result.parts ≡ record { link_type = link_type; dest_url = found.entry.dest_url; title = found.entry.title; id = id.entry } }
+        ensures end { result.end ≡ asked.entry.end }
+        ensures past { result.past ≡ asked.entry.past }
+        ensures expansion { self.new.expansion ≡ left_behind self.old.expansion (Some result) }
+        ensures same { SameSpans self.old self.new }
+    {
         let Destination { dest_url, title } = found;
         self.expansion = self.expansion.saturating_sub(dest_url.as_str().len());
         self.expansion = self.expansion.saturating_sub(title.as_str().len());
-        Ok(Some(Target {
+        Target {
             parts: LinkParts {
                 link_type,
                 dest_url,
@@ -208,7 +222,7 @@ impl<'a> InlineState<'a> {
             },
             end: asked.end,
             past: asked.past,
-        }))
+        }
     }
 
     fn form(
@@ -222,25 +236,71 @@ impl<'a> InlineState<'a> {
         requires stands { Stands text.now close self.old }
         requires close { IsPart text.now close (close + 1) }
         requires target { IsTarget text.now close target }
+        requires free { bracket.is_image ≡ false → HoldNoLink self.old.slots.items bracket.slot }
         ensures expansion { self.new.expansion ≡ self.old.expansion }
         ensures stands { OnOk result (Stands text.now target.entry.past self.new) }
+        ensures link { OnOk result (bracket.is_image ≡ false → HoldNoLink self.new.slots.items (bracket.slot + 1)) }
     {
         let Target { parts, end, .. } = target;
         let index = self.links.len();
-        let element = if bracket.is_image {
-            Element::Image(index)
-        } else {
-            Element::Link(index)
-        };
         self.links.push(parts)?;
-        begin(&mut self.slots, bracket.slot, element, end);
+        if bracket.is_image {
+            begin(&mut self.slots, bracket.slot, Element::Image(index), end);
+            self.finish(options, bracket, close, end)?;
+            return Ok(());
+        }
+        begin(&mut self.slots, bracket.slot, Element::Link(index), end);
+        self.finish(options, bracket, close, end)?;
+        self.brackets.shut_all();
+        Ok(())
+    }
+
+    // Ends the link or the image that a bracket began, and resolves the quotes and the delimiter runs in it.
+    fn finish(
+        &mut self,
+        options: Options,
+        bracket: Bracket,
+        close: usize,
+        end: usize,
+    ) -> Result<(), AllocError>
+        requires { bytes_of self.old.delimiters.placed.items ≤ length self.old.slots.items }
+        ensures expansion { self.new.expansion ≡ self.old.expansion }
+        ensures brackets { self.new.brackets ≡ self.old.brackets }
+        ensures slots { OnOk result ((text : List ℕ) (place : ℕ) → AreSlots text place self.old.slots.items → IsEnd text place close end → AreSlots text place self.new.slots.items) }
+        ensures length { OnOk result (length self.new.slots.items ≡ length self.old.slots.items + 1) }
+        ensures links { OnOk result (NoNewLink self.old.slots.items self.new.slots.items) }
+        ensures runs { OnOk result (bytes_of self.new.delimiters.placed.items ≤ bytes_of self.old.delimiters.placed.items) }
+    {
         push_slot(&mut self.slots, SlotKind::End, close, end)?;
         self.quotes.resolve(bracket.quotes, &mut self.slots)?;
         self.delimiters
             .resolve(bracket.runs, options, &mut self.slots)?;
-        if !bracket.is_image {
-            self.brackets.shut_all();
-        }
         Ok(())
+    }
+}
+
+// Asks the callback where a reference leads whose label has no definition.
+fn ask<'a, F: BrokenLinkCallback<'a>>(
+    alloc: Global,
+    leaf: &LeafText<'a>,
+    callback: &mut F,
+    start: usize,
+    asked: Asked<'_>,
+    label: &LinkLabel,
+) -> Result<Option<Destination<'a>>, AllocError>
+    requires read { IsRead leaf.now }
+    requires part { IsPart (text_of leaf.now) start asked.end }
+    ensures asks { AsksOnce F.answers callback.old callback.new }
+    ensures answers { IfOk result (λ found. Answers F.answers asked.entry.link_type (link_text label.now) (place_of leaf.now start) (place_of leaf.now (asked.entry.end - 1) + 1) callback.old callback.new found) }
+{
+    let reference = CowStr::Borrowed(label.as_str()).into_static(alloc)?;
+    let link = BrokenLink {
+        span: leaf.range(start, asked.end),
+        link_type: asked.link_type,
+        reference,
+    };
+    match callback.handle_broken_link(link) {
+        Some((dest_url, title)) => Ok(Some(Destination { dest_url, title })),
+        None => Ok(None),
     }
 }

@@ -3,7 +3,7 @@
 ghost use Rattle.std.specs.Prelude.{◌≡◌, ◌⊎◌, true, ◌<◌, ◌≤◌, ◌+◌, ◌-◌, ◌++◌, ℕ, List, [], length, slice_index, IfOk, OnOk, IfSome};
 ghost use Rattle.std.specs.Str.{IsCharBoundary};
 ghost use Rattle.cmark_leaf_text.specs.Reads.{IsRead, IsPart, text_of};
-ghost use Rattle.cmark_inline.specs.Stands.{AreSlots, AreBrackets, IsBracket, IsCursor, IsSlot, IsTarget, Moves, SameSpans, Stands, bytes_of};
+ghost use Rattle.cmark_inline.specs.Stands.{AreSlots, AreBrackets, IsBracket, IsCursor, IsSlot, IsTarget, Moves, NoNewLink, Stands, bytes_of};
 
 use crate::place::run_end;
 use crate::slot::{SlotKind, push_slot};
@@ -66,6 +66,7 @@ impl<'a> InlineState<'a> {
         ensures slots { OnOk result (AreSlots text.now end self.new.slots.items) }
         ensures brackets { OnOk result (self.new.brackets ≡ self.old.brackets) }
         ensures delimiters { OnOk result (self.new.delimiters ≡ self.old.delimiters) }
+        ensures links { OnOk result (NoNewLink self.old.slots.items self.new.slots.items) }
         ensures length { OnOk result (length self.new.slots.items ≡ length self.old.slots.items + (end - start)) }
     {
         let mut at = start;

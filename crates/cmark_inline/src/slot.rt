@@ -1,8 +1,9 @@
 //! Slots: what stands in a leaf's text, one behind the other.
 
-ghost use Rattle.std.specs.Prelude.{◌≡◌, ◌<◌, ◌≤◌, ◌++◌, ◌∷◌, [], ℕ, List, length, OnOk};
+ghost use Rattle.std.specs.Prelude.{◌≡◌, ◌<◌, ◌≤◌, ◌+◌, ◌++◌, ◌∷◌, false, [], ℕ, List, length, OnOk};
 ghost use Rattle.std.specs.Str.{IsCharBoundary};
-ghost use Rattle.cmark_inline.specs.Stands.{AreSlots, PushesText};
+ghost use Rattle.cmark_inline.specs.Quoted.{with_character};
+ghost use Rattle.cmark_inline.specs.Stands.{AreSlots, HoldNoLink, NoNewLink, PushesText, is_link};
 
 use std::alloc::AllocError;
 
@@ -16,6 +17,8 @@ pub enum Element {
     Subscript,
     /// The link of this index.
     Link(usize),
+    /// The autolink of this index.
+    Autolink(usize),
     /// The image of this index.
     Image(usize),
 }
@@ -81,6 +84,8 @@ pub fn push_text(slots: &mut Vec<Slot>, start: usize, end: usize) -> Result<(), 
 pub fn begin(slots: &mut Vec<Slot>, at: usize, element: Element, end: usize)
     ensures slots { (text : List ℕ) (place : ℕ) → AreSlots text place slots.old.items → IsCharBoundary text end → end ≤ place → AreSlots text place slots.new.items }
     ensures length { length slots.new.items ≡ length slots.old.items }
+    ensures links { is_link element ≡ false → NoNewLink slots.old.items slots.new.items }
+    ensures behind { HoldNoLink slots.old.items at → HoldNoLink slots.new.items (at + 1) }
 {
     if at < slots.len() {
         let slot = slots[at];
@@ -96,6 +101,7 @@ pub fn begin(slots: &mut Vec<Slot>, at: usize, element: Element, end: usize)
 pub fn use_up(slots: &mut Vec<Slot>, at: usize, ends: bool)
     ensures slots { (text : List ℕ) (place : ℕ) → AreSlots text place slots.old.items → AreSlots text place slots.new.items }
     ensures length { length slots.new.items ≡ length slots.old.items }
+    ensures links { NoNewLink slots.old.items slots.new.items }
 {
     if at < slots.len() {
         let slot = slots[at];
@@ -110,8 +116,10 @@ pub fn use_up(slots: &mut Vec<Slot>, at: usize, ends: bool)
 
 /// Makes a slot that of a character.
 pub fn become_character(slots: &mut Vec<Slot>, at: usize, character: char)
+    ensures value { slots.new.items ≡ with_character at character slots.old.items }
     ensures slots { (text : List ℕ) (place : ℕ) → AreSlots text place slots.old.items → AreSlots text place slots.new.items }
     ensures length { length slots.new.items ≡ length slots.old.items }
+    ensures links { NoNewLink slots.old.items slots.new.items }
 {
     if at < slots.len() {
         let slot = slots[at];
@@ -126,15 +134,27 @@ pub fn become_character(slots: &mut Vec<Slot>, at: usize, character: char)
 pub fn merge(slots: &mut Vec<Slot>, first: usize, last: usize)
     ensures slots { (text : List ℕ) (place : ℕ) → AreSlots text place slots.old.items → AreSlots text place slots.new.items }
     ensures length { length slots.new.items ≡ length slots.old.items }
+    ensures links { NoNewLink slots.old.items slots.new.items }
 {
     if first < last && last < slots.len() {
-        let start = slots[first].start;
-        let end = slots[last].end.max(slots[first].end);
+        let end = slots[last].end;
         use_up_between(slots, first, last);
-        slots[first] = Slot {
+        become_whole(slots, first, last, end);
+    }
+}
+
+// Makes a slot the text of all slots up to another, which reaches at least up to a place.
+fn become_whole(slots: &mut Vec<Slot>, at: usize, last: usize, end: usize)
+    ensures slots { (text : List ℕ) (place : ℕ) → AreSlots text place slots.old.items → IsCharBoundary text end → end ≤ place → AreSlots text place slots.new.items }
+    ensures length { length slots.new.items ≡ length slots.old.items }
+    ensures links { NoNewLink slots.old.items slots.new.items }
+{
+    if at < slots.len() {
+        let slot = slots[at];
+        slots[at] = Slot {
             kind: SlotKind::Whole(last),
-            start,
-            end,
+            start: slot.start,
+            end: slot.end.max(end),
         };
     }
 }
@@ -146,6 +166,7 @@ fn use_up_between(slots: &mut Vec<Slot>, first: usize, last: usize)
     requires within { last < length slots.old.items }
     ensures slots { (text : List ℕ) (place : ℕ) → AreSlots text place slots.old.items → AreSlots text place slots.new.items }
     ensures length { length slots.new.items ≡ length slots.old.items }
+    ensures links { NoNewLink slots.old.items slots.new.items }
 {
     let mut at = first;
     while at < last {

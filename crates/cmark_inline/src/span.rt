@@ -106,7 +106,7 @@ impl<'a> InlineState<'a> {
     {
         let dest_url = text_between(self.alloc, leaf, here.at + 1, end - 1)?;
         let slot = Slot {
-            kind: SlotKind::Begin(Element::Link(self.links.len())),
+            kind: SlotKind::Begin(Element::Autolink(self.links.len())),
             start: here.at,
             end,
         };

@@ -1,6 +1,6 @@
 //! The state of the inline pass.
 
-ghost use Rattle.std.specs.Prelude.{◌≡◌, ◌<◌, ℕ, List, IfSome};
+ghost use Rattle.std.specs.Prelude.{◌≡◌, ◌<◌, ℕ, List, [], max, IfSome};
 ghost use Rattle.std.specs.Str.{IsCharBoundary};
 ghost use Rattle.cmark_inline.specs.Stands.{Stands};
 
@@ -117,7 +117,10 @@ impl HtmlKind {
 
 impl<'a> InlineState<'a> {
     /// A state for the leaves of a source of so many bytes.
-    pub fn new(alloc: Global, source_len: usize) -> InlineState<'a> {
+    pub fn new(alloc: Global, source_len: usize) -> InlineState<'a>
+        ensures expansion { result.expansion ≡ max source_len 100000 }
+        ensures slots { result.slots.items ≡ [] }
+    {
         InlineState {
             alloc,
             slots: Vec::new(alloc),
@@ -134,7 +137,8 @@ impl<'a> InlineState<'a> {
     }
 
     pub(crate) fn clear(&mut self)
-        ensures { (text : List ℕ) → Stands text 0 self.new }
+        ensures stands { (text : List ℕ) → Stands text 0 self.new }
+        ensures expansion { self.new.expansion ≡ self.old.expansion }
     {
         self.slots.clear();
         self.brackets.clear();

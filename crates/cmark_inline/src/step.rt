@@ -1,10 +1,10 @@
 //! One pass over a leaf's text, from special byte to special byte.
 
-ghost use Rattle.std.specs.Prelude.{◌≡◌, ◌⊎◌, true, ◌<◌, ◌≤◌, ◌+◌, ◌-◌, ◌++◌, ℕ, List, [], length, slice_index, IfOk, OnOk, IfSome};
+ghost use Rattle.std.specs.Prelude.{◌≡◌, ◌⊎◌, true, false, ◌<◌, ◌≤◌, ◌+◌, ◌-◌, ◌++◌, ℕ, List, [], length, slice_index, IfOk, OnOk, IfSome};
 ghost use Rattle.std.specs.Str.{IsCharBoundary};
 ghost use Rattle.cmark_leaf_text.specs.Reads.{IsRead, IsPart, text_of};
 ghost use Rattle.cmark_inline.specs.Asking.{AsksBetween, AsksUpTo, closing_brackets};
-ghost use Rattle.cmark_inline.specs.Stands.{AreSlots, AreBrackets, IsBracket, IsCursor, IsSlot, IsTarget, Moves, SameSpans, Stands, bytes_of};
+ghost use Rattle.cmark_inline.specs.Stands.{AreSlots, AreBrackets, IsBracket, IsCursor, IsSlot, IsTarget, Moves, SameSpans, Stands, begins_link, bytes_of};
 
 use crate::callback::BrokenLinkCallback;
 use crate::place::behind;
@@ -129,6 +129,7 @@ impl<'a> InlineState<'a> {
         requires stands { Stands text.now place self.old }
         requires slot { IsSlot text.now place slot }
         requires room { length self.old.slots.items < place }
+        requires kind { begins_link slot.kind ≡ false }
         ensures expansion { self.new.expansion ≡ self.old.expansion }
         ensures stands { OnOk result (Stands text.now place self.new) }
         ensures length { OnOk result (length self.new.slots.items ≡ length self.old.slots.items + 1) }
@@ -165,6 +166,7 @@ impl<'a> InlineState<'a> {
         requires ordered { stop < slot.end }
         requires slot { IsSlot text.now slot.end slot }
         requires further { here.at < slot.end }
+        requires kind { begins_link slot.kind ≡ false }
         ensures expansion { self.new.expansion ≡ self.old.expansion }
         ensures length { IfOk result (λ next. length self.new.slots.items ≤ stop + 1) }
         ensures moves { IfOk result (Moves text.now here.at self.new) }

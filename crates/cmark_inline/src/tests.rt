@@ -1,5 +1,9 @@
 //! Tests of the inline pass over the texts of leaves, with ample memory.
 
+ghost use Rattle.std.specs.Prelude.{◌≡◌, true, IfOk, IfSome};
+ghost use Rattle.cmark_leaf_text.specs.Reads.{IsRead};
+ghost use Rattle.cmark_leaf_text.specs.Stretches.{IsLine};
+
 use crate::*;
 use bitflags::Flags;
 use cmark_items::{LinkDef, RefDefs};
@@ -9,23 +13,84 @@ use std::alloc::{AllocError, Global};
 use std::fmt::Write;
 use std::test::Fail;
 
-/// The events of a leaf, one a line: its range and what it is.
-fn events<'a, F: BrokenLinkCallback<'a>>(
+/// Whether a line lies in the source behind a place and cuts no character.
+fn is_line(source: &str, from: usize, line: LeafLine) -> bool
+    ensures { result ≡ true → IsLine source.now from line }
+{
+    from <= line.start
+        && line.start <= line.stop
+        && line.stop <= line.past
+        && line.past <= source.len()
+        && source.is_char_boundary(line.start)
+        && source.is_char_boundary(line.stop)
+        && source.is_char_boundary(line.past)
+}
+
+/// A leaf of one line, which is the source.
+fn whole<'a>(alloc: Global, source: &'a str) -> Result<Option<LeafText<'a>>, AllocError>
+    ensures { IfOk result (λ found. IfSome found IsRead) }
+{
+    let line = LeafLine {
+        start: 0,
+        stop: source.len(),
+        past: source.len(),
+    };
+    if !is_line(source, 0, line) {
+        return Ok(None);
+    }
+    let mut leaf = LeafText::new(alloc, source);
+    leaf.read(&[line])?;
+    Ok(Some(leaf))
+}
+
+/// A leaf of two lines behind `> `, the second one from this place on.
+fn quoted<'a>(
     alloc: Global,
     source: &'a str,
-    lines: &[LeafLine],
+    second: usize,
+) -> Result<Option<LeafText<'a>>, AllocError>
+    ensures { IfOk result (λ found. IfSome found IsRead) }
+{
+    let first = LeafLine {
+        start: 2,
+        stop: second.saturating_sub(3),
+        past: second.saturating_sub(2),
+    };
+    let last = LeafLine {
+        start: second,
+        stop: source.len(),
+        past: source.len(),
+    };
+    if !is_line(source, 0, first) || !is_line(source, first.past, last) {
+        return Ok(None);
+    }
+    let mut leaf = LeafText::new(alloc, source);
+    leaf.read(&[first, last])?;
+    Ok(Some(leaf))
+}
+
+/// The events of a leaf, one a line: its range and what it is. Nothing, where there is no leaf.
+fn events<'a, F: BrokenLinkCallback<'a>>(
+    alloc: Global,
+    found: Option<LeafText<'a>>,
     references: &RefDefs<'a>,
     options: Options,
     callback: &mut F,
-) -> Result<String, Fail> {
+) -> Result<String, Fail>
+    requires { IfSome found IsRead }
+{
+    let mut out = String::new(alloc);
+    let Some(leaf) = found else {
+        return Ok(out);
+    };
     let entities = BasicEntities;
     let reader = Reader::new(&entities, references, options);
-    let mut leaf = LeafText::new(alloc, source);
-    leaf.read(lines)?;
-    let mut state = InlineState::new(alloc, source.len());
+    let mut state = InlineState::new(alloc, 0);
     state.resolve(&leaf, &reader, callback)?;
-    let mut out = String::new(alloc);
-    while let Some(given) = state.next(&leaf)? {
+    for _ in 0..500 {
+        let Some(given) = state.next(&leaf)? else {
+            break;
+        };
         write!(
             out,
             "{}..{} {:?}\n",
@@ -91,85 +156,46 @@ fn asked_of(
     references: &RefDefs<'static>,
     answers: bool,
 ) -> Result<String, Fail> {
-    let line = LeafLine {
-        start: 0,
-        stop: source.len(),
-        past: source.len(),
-    };
     let mut callback = Noted {
         asked: String::new(alloc),
         answers,
     };
-    events(
-        alloc,
-        source,
-        &[line],
-        references,
-        Options::empty(),
-        &mut callback,
-    )?;
+    let leaf = whole(alloc, source)?;
+    events(alloc, leaf, references, Options::empty(), &mut callback)?;
     Ok(callback.asked)
 }
 
 /// The events of a source that is one leaf, with these definitions.
 fn defined_in(alloc: Global, source: &str, references: &RefDefs<'static>) -> Result<String, Fail> {
-    let line = LeafLine {
-        start: 0,
-        stop: source.len(),
-        past: source.len(),
-    };
-    events(
-        alloc,
-        source,
-        &[line],
-        references,
-        Options::empty(),
-        &mut DefaultBrokenLinkCallback,
-    )
+    let mut callback = DefaultBrokenLinkCallback;
+    let leaf = whole(alloc, source)?;
+    events(alloc, leaf, references, Options::empty(), &mut callback)
 }
 
 /// The events of a source that is one leaf.
 fn of(alloc: Global, source: &str, options: Options) -> Result<String, Fail> {
-    let line = LeafLine {
-        start: 0,
-        stop: source.len(),
-        past: source.len(),
-    };
-    of_lines(alloc, source, &[line], options)
-}
-
-/// The events of a leaf of these lines.
-fn of_lines(
-    alloc: Global,
-    source: &str,
-    lines: &[LeafLine],
-    options: Options,
-) -> Result<String, Fail> {
     let references = RefDefs::new(alloc);
+    let leaf = whole(alloc, source)?;
     events(
         alloc,
-        source,
-        lines,
+        leaf,
         &references,
         options,
         &mut DefaultBrokenLinkCallback,
     )
 }
 
-/// Two lines behind `> `, the second one from this place on.
-fn quoted(source: &str, second: usize) -> [LeafLine; 2] {
-    [
-        LeafLine {
-            start: 2,
-            stop: second - 3,
-            past: second - 2,
-        },
-        LeafLine {
-            start: second,
-            stop: source.len(),
-            past: source.len(),
-        },
-    ]
+/// The events of a source of two lines in a block quote, the second one from this place on.
+fn in_quote(alloc: Global, source: &str, second: usize, options: Options) -> Result<String, Fail> {
+    let references = RefDefs::new(alloc);
+    let leaf = quoted(alloc, source, second)?;
+    events(
+        alloc,
+        leaf,
+        &references,
+        options,
+        &mut DefaultBrokenLinkCallback,
+    )
 }
 
 #[test]
@@ -526,17 +552,14 @@ fn no_smart_punctuation(rt: HostRuntime) -> Result<(), Fail> {
 
 #[test]
 fn html_over_lines(rt: HostRuntime) -> Result<(), Fail> {
-    let source = "> <foo\n> bar>";
-    let found = of_lines(rt.alloc(), source, &quoted(source, 9), Options::empty())?;
+    let found = in_quote(rt.alloc(), "> <foo\n> bar>", 9, Options::empty())?;
     assert_eq!(rt; found.as_str(), "2..13 InlineHtml(\"<foo\\nbar>\")\n");
     Ok(())
 }
 
 #[test]
 fn double_tildes_over_lines(rt: HostRuntime) -> Result<(), Fail> {
-    let source = "> ~~a\n> b~~";
-    let lines = quoted(source, 8);
-    let found = of_lines(rt.alloc(), source, &lines, Options::ENABLE_SUBSCRIPT)?;
+    let found = in_quote(rt.alloc(), "> ~~a\n> b~~", 8, Options::ENABLE_SUBSCRIPT)?;
     assert_eq!(rt; found.as_str(), "2..11 Text(\"~~a\\n> b~~\")\n");
     Ok(())
 }
@@ -662,20 +685,8 @@ impl<'input> BrokenLinkCallback<'input> for Website {
 #[test]
 fn answered_questions(rt: HostRuntime) -> Result<(), Fail> {
     let none = RefDefs::new(rt.alloc());
-    let line = LeafLine {
-        start: 0,
-        stop: 14,
-        past: 14,
-    };
-    let mut callback = Website;
-    let found = events(
-        rt.alloc(),
-        "[my website][]",
-        &[line],
-        &none,
-        Options::empty(),
-        &mut callback,
-    )?;
+    let leaf = whole(rt.alloc(), "[my website][]")?;
+    let found = events(rt.alloc(), leaf, &none, Options::empty(), &mut Website)?;
     assert_eq!(rt;
         found.as_str(),
         "0..12 Start(Link { link_type: CollapsedUnknown, dest_url: \"http://example.com\", title: \"my example website\", id: \"my website\" })\n\
@@ -710,20 +721,9 @@ impl OwnedLinkCallback for Counted {
 #[test]
 fn boxed_callback(rt: HostRuntime) -> Result<(), Fail> {
     let none = RefDefs::new(rt.alloc());
-    let line = LeafLine {
-        start: 0,
-        stop: 7,
-        past: 7,
-    };
     let mut callback: Box<dyn OwnedLinkCallback> = Box::new(rt.alloc(), Counted { count: 0 })?;
-    let found = events(
-        rt.alloc(),
-        "[a] [b]",
-        &[line],
-        &none,
-        Options::empty(),
-        &mut callback,
-    )?;
+    let leaf = whole(rt.alloc(), "[a] [b]")?;
+    let found = events(rt.alloc(), leaf, &none, Options::empty(), &mut callback)?;
     assert_eq!(rt;
         found.as_str(),
         "0..3 Start(Link { link_type: ShortcutUnknown, dest_url: \"u0\", title: \"\", id: \"a\" })\n\

@@ -1,6 +1,6 @@
 //! The text of a leaf.
 
-ghost use Rattle.std.specs.Prelude.{◌≡◌, ◌<◌, ◌≤◌, ◌+◌, ◌-◌, ◌++◌, [], length, OnOk, IfOk, IfSome, None, ◌∷◌, string_bytes};
+ghost use Rattle.std.specs.Prelude.{◌≡◌, ◌<◌, ◌≤◌, ◌+◌, ◌-◌, ◌++◌, ◌≢◌, [], length, OnOk, IfOk, IfSome, None, ◌∷◌, string_bytes};
 ghost use Rattle.cmark_grammar.specs.Tokens.{slice};
 ghost use Rattle.cmark_leaf_text.specs.Reads.{IsRead, IsPart, text_of, source_of, place_of};
 ghost use Rattle.cmark_leaf_text.specs.Stretches.{AreLines, AreStretches, IsOpen, IsLine, joined, leaf_bytes, line_end, FindsStretch};
@@ -106,6 +106,7 @@ impl<'a> LeafText<'a> {
         requires part { IsPart (text_of self.now) from to }
         ensures source { IfSome result (λ part. part.now ≡ slice (source_of self.now) (place_of self.now from) (place_of self.now (to - 1) + 1)) }
         ensures text { IfSome result (λ part. part.now ≡ slice (text_of self.now) from to) }
+        ensures apart { result ≡ None → place_of self.now (to - 1) + 1 ≢ place_of self.now from + (to - from) }
     {
         let range = self.range(from, to);
         if range.end - range.start == to - from {
