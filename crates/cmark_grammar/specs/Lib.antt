@@ -14,6 +14,7 @@ pub mod CodeBlockKind
 pub mod CodeSpans
 pub mod Columns
 pub mod Containers
+pub mod Dashes
 pub mod DefinitionLists
 pub mod Derivation
 pub mod Destinations

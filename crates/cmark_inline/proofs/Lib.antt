@@ -1,2 +1,5 @@
+pub mod Questions
+pub mod References
+pub mod Quotes
 pub mod Runs
 pub mod Steps

@@ -1,20 +1,50 @@
 -- Slots that are appended while a text is read.
-use Rattle.std.proofs.Common.{◌≡◌, ℕ, ◌+◌, ◌≤◌, ◌<◌, Bool, true, false, List, [], ◌∷◌, ◌++◌, length, refl, sym, ap, subst, arith, get_or}
+use Rattle.std.proofs.Common.{◌≡◌, ℕ, ◌+◌, ◌≤◌, ◌<◌, Bool, true, false, List, [], ◌∷◌, ◌++◌, length, refl, sym, ap, subst, arith, get_or, ◌∙◌}
 use Rattle.std.specs.Prelude.{nat_lt}
 use Rattle.std.specs.Str.{IsCharBoundary, IsUtf8}
 use Rattle.std.proofs.lemmas.Bool.{ltb-true, ltb-false}
-use Rattle.std.proofs.lemmas.List.{length_push}
+use Rattle.std.proofs.lemmas.List.{length_push, get_or_append_left, get_or_push}
 use Rattle.std.proofs.lemmas.List.Elements.{All-push}
 use Rattle.std.proofs.lemmas.Str.{IsCharBoundary-after_ascii}
 use Rattle.cmark_leaf_text.specs.Reads.{IsPart}
-use Rattle.cmark_inline.specs.Stands.{IsSlot, AreSlots, AreBrackets, PushesText}
+use Rattle.cmark_inline.specs.Stands.{IsSlot, AreSlots, AreBrackets, AreFree, HoldNoLink, NoNewLink, PushesText, begins_link}
 use Rattle.cmark_inline.specs.declared.bracket.Bracket.{Bracket}
 use Rattle.cmark_inline.specs.declared.slot.Slot.{Slot}
 use Rattle.cmark_inline.specs.declared.slot.SlotKind.TheVariants as kind
 
-pub record Keeps (text : List ℕ) (at : ℕ) (ss : List Slot) (bs : List Bracket) (bytes : ℕ) : Type 0 where
+no-new-push : (ss : List Slot) (s : Slot) → begins_link s.kind ≡ false → NoNewLink ss (ss ++ (s ∷ []))
+no-new-push ss s e = λ from h k d le lt. go from h k d le (nat_lt k (length ss)) refl (let l = length_push ss s in let q : k ≤ length ss = omega (arith, lt, l) in q)
+  where
+    go : (from : ℕ) → HoldNoLink ss from → (k : ℕ) (d : Slot) → from ≤ k → (z : Bool) → nat_lt k (length ss) ≡ z → k ≤ length ss → begins_link (get_or (ss ++ (s ∷ [])) k d).kind ≡ false
+    go from h k d le true b m = ap (λ (t : Slot). begins_link t.kind) (get_or_append_left ss (s ∷ []) d k (ltb-true k (length ss) b)) ∙ h k d le (ltb-true k (length ss) b)
+    go from h k d le false b m = ap (λ (t : Slot). begins_link t.kind) (get_or_push ss s d k (let g = ltb-false k (length ss) b in let q : length ss ≡ k = omega (arith, g, m) in q)) ∙ e
+
+-- one slot more
+pub no-new : (ss ts : List Slot) (s : Slot) → begins_link s.kind ≡ false → ts ≡ ss ++ (s ∷ []) → NoNewLink ss ts
+no-new ss ts s e p = subst (NoNewLink ss) (sym p) (no-new-push ss s e)
+
+pub free-on : (ss ts : List Slot) (bs : List Bracket) (shut : ℕ) → AreFree ss bs shut → NoNewLink ss ts → AreFree ts bs shut
+free-on ss ts bs shut h new = λ i d le lt. new (get_or bs i d).slot (h i d le lt)
+
+-- a bracket more, with its own slot
+pub free-push : (ss : List Slot) (bs cs : List Bracket) (b : Bracket) (shut : ℕ) → AreFree ss bs shut → HoldNoLink ss b.slot → cs ≡ bs ++ (b ∷ []) → AreFree ss cs shut
+free-push ss bs cs b shut h new p = subst (λ l. AreFree ss l shut) (sym p) (λ i d le lt. go i d le (nat_lt i (length bs)) refl (let l = length_push bs b in let q : i ≤ length bs = omega (arith, lt, l) in q))
+  where
+    go : (i : ℕ) (d : Bracket) → shut ≤ i → (z : Bool) → nat_lt i (length bs) ≡ z → i ≤ length bs → HoldNoLink ss (get_or (bs ++ (b ∷ [])) i d).slot
+    go i d le true e m = subst (λ (c : Bracket). HoldNoLink ss c.slot) (sym (get_or_append_left bs (b ∷ []) d i (ltb-true i (length bs) e))) (h i d le (ltb-true i (length bs) e))
+    go i d le false e m = subst (λ (c : Bracket). HoldNoLink ss c.slot) (sym (get_or_push bs b d i (let g = ltb-false i (length bs) e in let q : length bs ≡ i = omega (arith, g, m) in q))) new
+
+-- no link begins in the last slot
+pub last-holds-none : (ss ts : List Slot) (s : Slot) → begins_link s.kind ≡ false → ts ≡ ss ++ (s ∷ []) → HoldNoLink ts (length ss)
+last-holds-none ss ts s e p = subst (λ l. HoldNoLink l (length ss)) (sym p) (λ k d le lt.
+    let l = length_push ss s in
+    ap (λ (t : Slot). begins_link t.kind) (get_or_push ss s d k (let q : length ss ≡ k = omega (arith, le, lt, l) in q)) ∙ e)
+
+pub record Keeps (text : List ℕ) (at : ℕ) (ss : List Slot) (bs : List Bracket) (shut bytes : ℕ) : Type 0 where
   pub slots : AreSlots text at ss
   pub brackets : AreBrackets text at bs
+  pub few : length ss ≤ at
+  pub free : AreFree ss bs shut
   pub runs : bytes ≤ length ss
 
 module _ (text : List ℕ) where
@@ -24,35 +54,40 @@ module _ (text : List ℕ) where
   pub brackets-on : (a b : ℕ) (bs : List Bracket) → AreBrackets text a bs → a ≤ b → AreBrackets text b bs
   brackets-on a b bs h le = λ k d lt. let s = h k d lt in record { part = s.part; before = (let e = s.before in let l : (get_or bs k d).inside ≤ b = omega (arith, e, le) in l) }
 
-  pub keeps-on : (a b : ℕ) (ss : List Slot) (bs : List Bracket) (n : ℕ) → Keeps text a ss bs n → a ≤ b → Keeps text b ss bs n
-  keeps-on a b ss bs n h le = record { slots = slots-on a b ss h.slots le; brackets = brackets-on a b bs h.brackets le; runs = h.runs }
+  pub keeps-on : (a b : ℕ) (ss : List Slot) (bs : List Bracket) (shut n : ℕ) → Keeps text a ss bs shut n → a ≤ b → Keeps text b ss bs shut n
+  keeps-on a b ss bs shut n h le = record { slots = slots-on a b ss h.slots le; brackets = brackets-on a b bs h.brackets le; few = (let f = h.few in let q : length ss ≤ b = omega (arith, f, le) in q); free = h.free; runs = h.runs }
 
-  pub keeps-push : (a b : ℕ) (ss ts : List Slot) (s : Slot) (bs : List Bracket) (n : ℕ) → Keeps text a ss bs n → a ≤ b → IsSlot text b s → ts ≡ ss ++ (s ∷ []) → Keeps text b ts bs n
-  keeps-push a b ss ts s bs n h le new e =
+  pub keeps-push : (a b : ℕ) (ss ts : List Slot) (s : Slot) (bs : List Bracket) (shut n : ℕ) → Keeps text a ss bs shut n → a ≤ b → length ss < b → begins_link s.kind ≡ false → IsSlot text b s → ts ≡ ss ++ (s ∷ []) → Keeps text b ts bs shut n
+  keeps-push a b ss ts s bs shut n h le room none new e =
       let l = length_push ss s in
       let m = ap length e in
       let r = h.runs in
       record {
         slots = subst (AreSlots text b) (sym e) (All-push (IsSlot text b) ss s (slots-on a b ss h.slots le) new);
         brackets = brackets-on a b bs h.brackets le;
+        few = (let q : length ts ≤ b = omega (arith, l, m, room) in q);
+        free = free-on ss ts bs shut h.free (no-new ss ts s none e);
         runs = let q : n ≤ length ts = omega (arith, l, m, r) in q;
       }
 
-  pub keeps-text : (a b : ℕ) (ss ts : List Slot) (bs : List Bracket) (n : ℕ) → Keeps text a ss bs n → a ≤ b → IsCharBoundary text a → IsCharBoundary text b → PushesText a b ss ts → Keeps text b ts bs n
-  keeps-text a b ss ts bs n h le starts ends pushed = go (nat_lt a b) refl
+  pub keeps-text : (a b : ℕ) (ss ts : List Slot) (bs : List Bracket) (shut n : ℕ) → Keeps text a ss bs shut n → a ≤ b → IsCharBoundary text a → IsCharBoundary text b → PushesText a b ss ts → Keeps text b ts bs shut n
+  keeps-text a b ss ts bs shut n h le starts ends pushed = go (nat_lt a b) refl
     where
-      go : (z : Bool) → nat_lt a b ≡ z → Keeps text b ts bs n
+      go : (z : Bool) → nat_lt a b ≡ z → Keeps text b ts bs shut n
       go true e =
           let lt = ltb-true a b e in
           let w = ends.0 in
-          keeps-push a b ss ts (record { kind = kind.Text; start = a; end = b }) bs n h le
+          let f = h.few in
+          keeps-push a b ss ts (record { kind = kind.Text; start = a; end = b }) bs shut n h le (let q : length ss < b = omega (arith, f, lt) in q) refl
           (record { part = record { some = lt; within = w; starts = starts; ends = ends }; before = (let l : b ≤ b = omega arith in l); content = tt }) (pushed.0 lt)
       go false e =
           let g = ltb-false a b e in
-          let k = keeps-on a b ss bs n h le in
+          let k = keeps-on a b ss bs shut n h le in
           record {
             slots = subst (AreSlots text b) (sym (pushed.1 g)) k.slots;
             brackets = k.brackets;
+            few = subst (λ (l : List Slot). length l ≤ b) (sym (pushed.1 g)) k.few;
+            free = subst (λ (l : List Slot). AreFree l bs shut) (sym (pushed.1 g)) k.free;
             runs = subst (λ (l : List Slot). n ≤ length l) (sym (pushed.1 g)) k.runs;
           }
 

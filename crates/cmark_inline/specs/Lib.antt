@@ -1,2 +1,4 @@
 pub mod Asking
+pub mod Linked
+pub mod Quoted
 pub mod Stands

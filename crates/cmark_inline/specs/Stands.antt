@@ -1,5 +1,5 @@
 -- What holds while the text of a leaf is read.
-use Rattle.std.specs.Prelude.{◌≡◌, ℕ, ◌≤◌, ◌<◌, List, [], ◌∷◌, ◌++◌, length, All}
+use Rattle.std.specs.Prelude.{◌≡◌, ℕ, ◌≤◌, ◌<◌, Bool, true, false, List, [], ◌∷◌, ◌++◌, length, get_or, All}
 use Rattle.std.specs.List.{sum_by}
 use Rattle.std.specs.Str.{IsCharBoundary}
 use Rattle.cmark_leaf_text.specs.Reads.{IsPart}
@@ -8,6 +8,8 @@ use Rattle.cmark_inline.specs.declared.delimiter.PlacedRun.{PlacedRun}
 use Rattle.cmark_inline.specs.declared.event.Opened.{Opened}
 use Rattle.cmark_inline.specs.declared.link.Asked.{Asked}
 use Rattle.cmark_inline.specs.declared.link.Target.{Target}
+use Rattle.cmark_inline.specs.declared.slot.Element.{Element}
+use Rattle.cmark_inline.specs.declared.slot.Element.TheVariants as element
 use Rattle.cmark_inline.specs.declared.slot.Slot.{Slot}
 use Rattle.cmark_inline.specs.declared.slot.SlotKind.{SlotKind}
 use Rattle.cmark_inline.specs.declared.slot.SlotKind.TheVariants as kind
@@ -18,6 +20,8 @@ use Rattle.cmark_inline.specs.declared.step.Cursor.{Cursor}
 abbrev pub IsContent : List ℕ → SlotKind → Type 0
 IsContent text kind.Text = Unit {0}
 IsContent text (kind.OwnedText index) = Unit {0}
+IsContent text (kind.Character character) = Unit {0}
+IsContent text (kind.Whole last) = Unit {0}
 IsContent text kind.SoftBreak = Unit {0}
 IsContent text kind.HardBreak = Unit {0}
 IsContent text (kind.Code from to) = IsCharBoundary text from × IsCharBoundary text to
@@ -43,14 +47,53 @@ pub record IsBracket (text : List ℕ) (at : ℕ) (bracket : Bracket) : Type 0 w
 abbrev pub AreBrackets : (text : List ℕ) → (at : ℕ) → List Bracket → Type 0
 AreBrackets text at brackets = All (IsBracket text at) brackets
 
+-- a link begins that is neither an autolink nor an image
+abbrev pub is_link : Element → Bool
+is_link element.Emphasis = false
+is_link element.Strong = false
+is_link element.Strikethrough = false
+is_link element.Superscript = false
+is_link element.Subscript = false
+is_link (element.Link index) = true
+is_link (element.Autolink index) = false
+is_link (element.Image index) = false
+
+abbrev pub begins_link : SlotKind → Bool
+begins_link kind.Text = false
+begins_link (kind.OwnedText index) = false
+begins_link (kind.Character character) = false
+begins_link (kind.Whole last) = false
+begins_link kind.SoftBreak = false
+begins_link kind.HardBreak = false
+begins_link (kind.Code from to) = false
+begins_link kind.InlineHtml = false
+begins_link (kind.Begin element) = is_link element
+begins_link kind.End = false
+begins_link kind.Nothing = false
+
+-- no link begins in a slot from this one on
+abbrev pub HoldNoLink : (slots : List Slot) → (from : ℕ) → Type 0
+HoldNoLink slots from = (k : ℕ) (d : Slot) → from ≤ k → k < length slots → begins_link (get_or slots k d).kind ≡ false
+
+-- no link begins where none began before
+abbrev pub NoNewLink : (old new : List Slot) → Type 0
+NoNewLink old new = (from : ℕ) → HoldNoLink old from → HoldNoLink new from
+
+-- behind each bracket that may still form a link no link begins: a link holds no other (CommonMark 6.3)
+abbrev pub AreFree : List Slot → (brackets : List Bracket) → (shut : ℕ) → Type 0
+AreFree slots brackets shut = (i : ℕ) (d : Bracket) → shut ≤ i → i < length brackets → HoldNoLink slots (get_or brackets i d).slot
+
 -- how many bytes delimiter runs have
 abbrev pub bytes_of : List PlacedRun → ℕ
 bytes_of placed = sum_by (λ (p : PlacedRun). p.run.size) placed
 
--- all slots and brackets stand before this place of the text, and there is a slot for each byte of the delimiter runs
+-- all slots and brackets stand before this place of the text, there are no more slots than bytes before it, no link begins
+-- behind a bracket that may form one, and there is a slot for each byte of the delimiter runs
 pub record Stands (text : List ℕ) (at : ℕ) (state : InlineState) : Type 0 where
   pub slots : AreSlots text at state.slots.items
   pub brackets : AreBrackets text at state.brackets.standing.items
+  pub few : length state.slots.items ≤ at
+  pub free : AreFree state.slots.items state.brackets.standing.items state.brackets.shut
   pub runs : bytes_of state.delimiters.placed.items ≤ length state.slots.items
 
 -- a place that is reached, and the one from which on the text stands in no slot, cut no character
@@ -64,6 +107,10 @@ pub record Moves (text : List ℕ) (at : ℕ) (state : InlineState) (next : Curs
   pub stands : Stands text next.pending state
   pub cursor : IsCursor text next
   pub further : at < next.at
+
+-- the end of an element is a slot of the text
+abbrev pub IsEnd : (text : List ℕ) → (at close end : ℕ) → Type 0
+IsEnd text at close end = IsSlot text at (record { kind = kind.End; start = close; end = end })
 
 -- a text was appended as a slot, unless it is empty
 abbrev pub PushesText : (start end : ℕ) → (old new : List Slot) → Type 0

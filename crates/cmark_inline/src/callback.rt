@@ -1,6 +1,9 @@
 //! What is asked of the caller for references without a definition.
 
-ghost use Rattle.std.specs.Prelude.{◌≡◌, Option, None};
+ghost use Rattle.std.specs.Prelude.{◌≡◌, ℕ, List, IfOk, Option, None};
+ghost use Rattle.cmark_text.specs.Shown.{text_bytes};
+ghost use Rattle.cmark_inline.specs.Linked.{IsQuestion};
+ghost use Rattle.cmark_text.specs.declared.kind.LinkType.{LinkType as Kind};
 ghost use Rattle.cmark_text.specs.declared.text.CowStr.{CowStr};
 ghost use Rattle.cmark_inline.specs.declared.callback.BrokenLink.{BrokenLink as Question};
 
@@ -21,7 +24,9 @@ pub struct BrokenLink<'a> {
 
 impl<'a> BrokenLink<'a> {
     /// The same in a value that borrows nothing.
-    pub fn into_static(self, alloc: Global) -> Result<BrokenLink<'static>, AllocError> {
+    pub fn into_static(self, alloc: Global) -> Result<BrokenLink<'static>, AllocError>
+        ensures { IfOk result (λ made. IsQuestion self.entry.link_type (text_bytes self.entry.reference) self.entry.span.start self.entry.span.end made) }
+    {
         let BrokenLink {
             span,
             link_type,
@@ -60,5 +65,39 @@ impl<'input> BrokenLinkCallback<'input> for DefaultBrokenLinkCallback {
         _link: BrokenLink<'input>,
     ) -> Option<(CowStr<'input>, CowStr<'input>)> {
         None
+    }
+}
+
+/// A callback that borrows nothing, so that a box of it is one for every source.
+pub trait OwnedLinkCallback: Drop {
+    ghost says: { Self → ℕ → ℕ → Kind → List ℕ → Option (CowStr × CowStr) → Self → Type 0 };
+
+    /// Where a reference without a definition leads and its title; `None` where it is no link. `start` and `end` are the ends of
+    /// its span, byte offsets of the source, and `reference` is the normal form of its label.
+    fn handle_owned(
+        &mut self,
+        start: usize,
+        end: usize,
+        link_type: LinkType,
+        reference: &str,
+    ) -> Option<(CowStr<'static>, CowStr<'static>)>
+        ensures { says self.old start end link_type reference.now result self.new };
+}
+
+impl<'input> BrokenLinkCallback<'input> for Box<dyn OwnedLinkCallback> {
+    // What the boxed callback answers has no name here.
+    ghost answers = { λ before link answer after. Unit {0} };
+
+    /// Hands on both ends of the span, the type and the text of the label, and answers what it is answered.
+    fn handle_broken_link(
+        &mut self,
+        link: BrokenLink<'input>,
+    ) -> Option<(CowStr<'input>, CowStr<'input>)> {
+        let BrokenLink {
+            span,
+            link_type,
+            reference,
+        } = link;
+        self.handle_owned(span.start, span.end, link_type, reference.as_str())
     }
 }

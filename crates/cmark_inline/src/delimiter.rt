@@ -1,11 +1,11 @@
 //! Delimiter runs and the elements that they become (CommonMark 6.2).
 
-ghost use Rattle.std.specs.Prelude.{◌≡◌, ◌+◌, ◌≤◌, ℕ, List, [], length, map, OnOk, IfOk};
+ghost use Rattle.std.specs.Prelude.{◌≡◌, ◌+◌, ◌≤◌, ℕ, false, List, [], length, map, OnOk, IfOk, IfSome};
 ghost use Rattle.cmark_emphasis.specs.Shown.{shown_run};
 ghost use Rattle.cmark_emphasis.specs.Slots.{AreRuns};
-ghost use Rattle.cmark_inline.specs.Stands.{AreSlots, bytes_of};
+ghost use Rattle.cmark_inline.specs.Stands.{AreSlots, NoNewLink, bytes_of, is_link};
 
-use crate::slot::{Element, Slot, begin, use_up};
+use crate::slot::{Element, Slot, begin, merge, use_up};
 use bitflags::Flags;
 use cmark_emphasis::{PairingRoom, Run, Slot as Mark, SpanKind, slots_of_runs};
 use cmark_text::Options;
@@ -67,6 +67,7 @@ impl Delimiters {
         requires { bytes_of self.old.placed.items ≤ length slots.old.items }
         ensures slots { OnOk result ((text : List ℕ) (place : ℕ) → AreSlots text place slots.old.items → AreSlots text place slots.new.items) }
         ensures length { OnOk result (length slots.new.items ≡ length slots.old.items) }
+        ensures links { OnOk result (NoNewLink slots.old.items slots.new.items) }
         ensures runs { OnOk result (bytes_of self.new.placed.items ≤ bytes_of self.old.placed.items) }
     {
         let bound = slots.len();
@@ -131,6 +132,7 @@ fn write_run<'m>(
 ) -> Result<&'m [Mark], AllocError>
     ensures slots { IfOk result (λ rest. (text : List ℕ) (place : ℕ) → AreSlots text place slots.old.items → AreSlots text place slots.new.items) }
     ensures length { IfOk result (λ rest. length slots.new.items ≡ length slots.old.items) }
+    ensures links { IfOk result (λ rest. NoNewLink slots.old.items slots.new.items) }
 {
     let mut rest = marks;
     let mut slot = placed.slot;
@@ -155,20 +157,37 @@ fn write_mark(
 ) -> Result<(), AllocError>
     ensures slots { OnOk result ((text : List ℕ) (place : ℕ) → AreSlots text place slots.old.items → AreSlots text place slots.new.items) }
     ensures length { OnOk result (length slots.new.items ≡ length slots.old.items) }
+    ensures links { OnOk result (NoNewLink slots.old.items slots.new.items) }
 {
     match mark {
         Mark::Single => {}
         Mark::Blank => use_up(slots, slot, false),
         Mark::Begin(_) => begun.push(slot)?,
-        Mark::End(kind) => end_last(slots, slot, element_of(kind, options), begun),
+        Mark::End(kind) => match element_of(kind, options) {
+            Some(element) => end_last(slots, slot, element, begun),
+            None => merge_last(slots, slot, begun),
+        },
     }
     Ok(())
 }
 
-/// Ends the element that began last, at a slot.
-fn end_last(slots: &mut Vec<Slot>, slot: usize, element: Element, begun: &mut Vec<usize>)
+/// Makes one text of the element that began last and ends at a slot.
+fn merge_last(slots: &mut Vec<Slot>, slot: usize, begun: &mut Vec<usize>)
     ensures slots { (text : List ℕ) (place : ℕ) → AreSlots text place slots.old.items → AreSlots text place slots.new.items }
     ensures length { length slots.new.items ≡ length slots.old.items }
+    ensures links { NoNewLink slots.old.items slots.new.items }
+{
+    if let Some(first) = begun.pop() {
+        merge(slots, first, slot);
+    }
+}
+
+/// Ends the element that began last, at a slot.
+fn end_last(slots: &mut Vec<Slot>, slot: usize, element: Element, begun: &mut Vec<usize>)
+    requires { is_link element ≡ false }
+    ensures slots { (text : List ℕ) (place : ℕ) → AreSlots text place slots.old.items → AreSlots text place slots.new.items }
+    ensures length { length slots.new.items ≡ length slots.old.items }
+    ensures links { NoNewLink slots.old.items slots.new.items }
 {
     if slot < slots.len() {
         let end = slots[slot].end;
@@ -179,13 +198,18 @@ fn end_last(slots: &mut Vec<Slot>, slot: usize, element: Element, begun: &mut Ve
     }
 }
 
-/// What stands around a span, by the options.
-fn element_of(kind: SpanKind, options: Options) -> Element {
+/// What stands around a span, by the options. Double tildes without strikethrough make one text of all (this profile's own).
+fn element_of(kind: SpanKind, options: Options) -> Option<Element>
+    ensures { IfSome result (λ element. is_link element ≡ false) }
+{
     match kind {
-        SpanKind::Emphasis => Element::Emphasis,
-        SpanKind::Strong => Element::Strong,
-        SpanKind::SingleTilde if options.contains(Options::ENABLE_SUBSCRIPT) => Element::Subscript,
-        SpanKind::SingleTilde | SpanKind::DoubleTilde => Element::Strikethrough,
-        SpanKind::Caret => Element::Superscript,
+        SpanKind::Emphasis => Some(Element::Emphasis),
+        SpanKind::Strong => Some(Element::Strong),
+        SpanKind::SingleTilde if options.contains(Options::ENABLE_SUBSCRIPT) => {
+            Some(Element::Subscript)
+        }
+        SpanKind::DoubleTilde if !options.contains(Options::ENABLE_STRIKETHROUGH) => None,
+        SpanKind::SingleTilde | SpanKind::DoubleTilde => Some(Element::Strikethrough),
+        SpanKind::Caret => Some(Element::Superscript),
     }
 }

@@ -1,8 +1,12 @@
 //! The events of a leaf's slots, one after the other.
 
-ghost use Rattle.std.specs.Prelude.{◌≡◌, ℕ, List, [], IfOk, IfSome, length};
+ghost use Rattle.std.specs.Prelude.{◌≡◌, ◌+◌, ◌-◌, ℕ, List, [], IfOk, IfSome, length};
 ghost use Rattle.std.specs.Str.{IsCharBoundary};
-ghost use Rattle.cmark_leaf_text.specs.Reads.{IsRead, IsPart, text_of, source_of};
+ghost use Rattle.cmark_grammar.specs.CodeSpans.{code_text};
+ghost use Rattle.cmark_grammar.specs.Tokens.{slice};
+ghost use Rattle.cmark_leaf_text.specs.Reads.{IsRead, IsPart, place_of, text_of, source_of};
+ghost use Rattle.cmark_scan_parts.specs.Shown.{IsBorrowed};
+ghost use Rattle.cmark_text.specs.Shown.{text_bytes};
 ghost use Rattle.cmark_inline.specs.Stands.{AreOpened, AreSlots, IsSlot};
 
 use crate::link::LinkParts;
@@ -148,7 +152,7 @@ impl<'a> InlineState<'a> {
             Element::Strikethrough => Tag::Strikethrough,
             Element::Superscript => Tag::Superscript,
             Element::Subscript => Tag::Subscript,
-            Element::Link(index) => link_tag(self.take_link(index)),
+            Element::Link(index) | Element::Autolink(index) => link_tag(self.take_link(index)),
             Element::Image(index) => image_tag(self.take_link(index)),
         }
     }
@@ -181,6 +185,10 @@ impl<'a> InlineState<'a> {
     {
         match slot.kind {
             SlotKind::OwnedText(index) => Ok(Event::Text(self.take_text(index))),
+            SlotKind::Character(character) => Ok(Event::Text(CowStr::from(character))),
+            SlotKind::Whole(_) => Ok(Event::Text(CowStr::Borrowed(leaf.source_between(
+                slot.start, slot.end,
+            )))),
             SlotKind::SoftBreak => Ok(Event::SoftBreak),
             SlotKind::HardBreak => Ok(Event::HardBreak),
             SlotKind::Code(from, to) => Ok(Event::Code(code_of(self.alloc, leaf, from, to)?)),
@@ -231,6 +239,8 @@ pub fn text_between<'a>(
 ) -> Result<CowStr<'a>, AllocError>
     requires read { IsRead leaf.now }
     requires part { IsPart (text_of leaf.now) from to }
+    ensures value { IfOk result (λ text. text_bytes text ≡ slice (text_of leaf.now) from to) }
+    ensures lent { place_of leaf.now (to - 1) + 1 ≡ place_of leaf.now from + (to - from) → IfOk result IsBorrowed }
 {
     match leaf.slice(from, to) {
         Some(text) => Ok(CowStr::Borrowed(text)),
@@ -248,6 +258,7 @@ fn code_of<'a>(
     requires read { IsRead leaf.now }
     requires starts { IsCharBoundary (text_of leaf.now) from }
     requires ends { IsCharBoundary (text_of leaf.now) to }
+    ensures { IfOk result (λ text. text_bytes text ≡ code_text (slice (text_of leaf.now) from to)) }
 {
     if from >= to {
         return Ok(CowStr::Borrowed(""));

@@ -7,13 +7,22 @@ mod callback;
 mod delimiter;
 mod event;
 mod link;
+mod place;
+mod quote;
 mod read;
+mod reference;
+mod run;
 mod slot;
+mod smart;
+mod span;
 mod special;
 mod state;
 mod step;
+#[cfg(test)]
+mod tests;
+mod text;
 
-pub use callback::{BrokenLink, BrokenLinkCallback, DefaultBrokenLinkCallback};
+pub use callback::{BrokenLink, BrokenLinkCallback, DefaultBrokenLinkCallback, OwnedLinkCallback};
 pub use event::Given;
 pub use read::Reader;
 pub use state::InlineState;

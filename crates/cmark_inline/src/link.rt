@@ -1,8 +1,12 @@
 //! Links and images: what stands behind their closing bracket (CommonMark 6.3 and 6.4).
 
-ghost use Rattle.std.specs.Prelude.{◌≡◌, ◌<◌, ◌≤◌, ◌+◌, IfOk, IfSome, length};
+ghost use Rattle.std.specs.Prelude.{◌≡◌, ◌<◌, ◌≤◌, ◌+◌, drop, IfOk, IfSome, length, option_map};
 ghost use Rattle.std.specs.Str.{IsCharBoundary};
 ghost use Rattle.cmark_leaf_text.specs.Reads.{IsRead, IsPart, text_of};
+ghost use Rattle.cmark_grammar.specs.Labels.{fold};
+ghost use Rattle.cmark_grammar.specs.Tokens.{slice};
+ghost use Rattle.cmark_items.specs.Definitions.{definition};
+ghost use Rattle.cmark_inline.specs.Linked.{by_own_label, reference_behind, said_by, shown_asked, shown_destination};
 ghost use Rattle.cmark_inline.specs.Stands.{IsAsked, IsBracket, IsTarget};
 
 use crate::bracket::Bracket;
@@ -143,7 +147,8 @@ pub fn asked_at<'t>(
 ) -> Option<Asked<'t>>
     requires bracket { IsBracket text.now close bracket }
     requires close { IsPart text.now close (close + 1) }
-    ensures { IfSome result (IsAsked text.entry.now close) }
+    ensures value { option_map (shown_asked text.entry.now) result ≡ reference_behind is_shut (slice text.entry.now bracket.inside close) (drop (close + 1) text.entry.now) }
+    ensures ends { IfSome result (IsAsked text.entry.now close) }
 {
     if let Some(label) = reference_label(text, close + 1) {
         return Some(Asked {
@@ -159,10 +164,12 @@ pub fn asked_at<'t>(
     own_label_at(text, bracket, close)
 }
 
+// The reference by the bracket's own label.
 fn own_label_at<'t>(text: &'t str, bracket: Bracket, close: usize) -> Option<Asked<'t>>
     requires bracket { IsBracket text.now close bracket }
     requires close { IsPart text.now close (close + 1) }
-    ensures { IfSome result (IsAsked text.entry.now close) }
+    ensures value { option_map (shown_asked text.entry.now) result ≡ by_own_label (slice text.entry.now bracket.inside close) (drop (close + 1) text.entry.now) }
+    ensures ends { IfSome result (IsAsked text.entry.now close) }
 {
     let label = &text[bracket.inside..close];
     if !is_bracketed_label(label) {
@@ -197,7 +204,9 @@ pub fn defined<'a>(
     alloc: Global,
     references: &RefDefs<'a>,
     label: &str,
-) -> Result<Option<Destination<'a>>, AllocError> {
+) -> Result<Option<Destination<'a>>, AllocError>
+    ensures { IfOk result (λ found. option_map shown_destination found ≡ option_map said_by (definition references.now (fold label.now))) }
+{
     let Some(definition) = references.get(label)? else {
         return Ok(None);
     };

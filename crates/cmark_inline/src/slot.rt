@@ -1,8 +1,9 @@
 //! Slots: what stands in a leaf's text, one behind the other.
 
-ghost use Rattle.std.specs.Prelude.{◌≡◌, ◌≤◌, ◌++◌, ◌∷◌, [], ℕ, List, length, OnOk};
+ghost use Rattle.std.specs.Prelude.{◌≡◌, ◌<◌, ◌≤◌, ◌+◌, ◌++◌, ◌∷◌, false, [], ℕ, List, length, OnOk};
 ghost use Rattle.std.specs.Str.{IsCharBoundary};
-ghost use Rattle.cmark_inline.specs.Stands.{AreSlots, PushesText};
+ghost use Rattle.cmark_inline.specs.Quoted.{with_character};
+ghost use Rattle.cmark_inline.specs.Stands.{AreSlots, HoldNoLink, NoNewLink, PushesText, is_link};
 
 use std::alloc::AllocError;
 
@@ -16,6 +17,8 @@ pub enum Element {
     Subscript,
     /// The link of this index.
     Link(usize),
+    /// The autolink of this index.
+    Autolink(usize),
     /// The image of this index.
     Image(usize),
 }
@@ -27,6 +30,10 @@ pub enum SlotKind {
     Text,
     /// The owned text of this index.
     OwnedText(usize),
+    /// This character.
+    Character(char),
+    /// The bytes of the source that its range reaches over. The slots behind it up to that of this index are nothing any more.
+    Whole(usize),
     SoftBreak,
     HardBreak,
     /// A code span, with the range of what it holds.
@@ -77,6 +84,8 @@ pub fn push_text(slots: &mut Vec<Slot>, start: usize, end: usize) -> Result<(), 
 pub fn begin(slots: &mut Vec<Slot>, at: usize, element: Element, end: usize)
     ensures slots { (text : List ℕ) (place : ℕ) → AreSlots text place slots.old.items → IsCharBoundary text end → end ≤ place → AreSlots text place slots.new.items }
     ensures length { length slots.new.items ≡ length slots.old.items }
+    ensures links { is_link element ≡ false → NoNewLink slots.old.items slots.new.items }
+    ensures behind { HoldNoLink slots.old.items at → HoldNoLink slots.new.items (at + 1) }
 {
     if at < slots.len() {
         let slot = slots[at];
@@ -92,6 +101,7 @@ pub fn begin(slots: &mut Vec<Slot>, at: usize, element: Element, end: usize)
 pub fn use_up(slots: &mut Vec<Slot>, at: usize, ends: bool)
     ensures slots { (text : List ℕ) (place : ℕ) → AreSlots text place slots.old.items → AreSlots text place slots.new.items }
     ensures length { length slots.new.items ≡ length slots.old.items }
+    ensures links { NoNewLink slots.old.items slots.new.items }
 {
     if at < slots.len() {
         let slot = slots[at];
@@ -101,5 +111,78 @@ pub fn use_up(slots: &mut Vec<Slot>, at: usize, ends: bool)
             SlotKind::Nothing
         };
         slots[at] = Slot { kind, ..slot };
+    }
+}
+
+/// Makes a slot that of a character.
+pub fn become_character(slots: &mut Vec<Slot>, at: usize, character: char)
+    ensures value { slots.new.items ≡ with_character at character slots.old.items }
+    ensures slots { (text : List ℕ) (place : ℕ) → AreSlots text place slots.old.items → AreSlots text place slots.new.items }
+    ensures length { length slots.new.items ≡ length slots.old.items }
+    ensures links { NoNewLink slots.old.items slots.new.items }
+{
+    if at < slots.len() {
+        let slot = slots[at];
+        slots[at] = Slot {
+            kind: SlotKind::Character(character),
+            ..slot
+        };
+    }
+}
+
+/// Makes one text of the slots from one to another: the bytes of the source from the begin of the first to the end of the last.
+pub fn merge(slots: &mut Vec<Slot>, first: usize, last: usize)
+    ensures slots { (text : List ℕ) (place : ℕ) → AreSlots text place slots.old.items → AreSlots text place slots.new.items }
+    ensures length { length slots.new.items ≡ length slots.old.items }
+    ensures links { NoNewLink slots.old.items slots.new.items }
+{
+    if first < last && last < slots.len() {
+        let end = slots[last].end;
+        use_up_between(slots, first, last);
+        become_whole(slots, first, last, end);
+    }
+}
+
+// Makes a slot the text of all slots up to another, which reaches at least up to a place.
+fn become_whole(slots: &mut Vec<Slot>, at: usize, last: usize, end: usize)
+    ensures slots { (text : List ℕ) (place : ℕ) → AreSlots text place slots.old.items → IsCharBoundary text end → end ≤ place → AreSlots text place slots.new.items }
+    ensures length { length slots.new.items ≡ length slots.old.items }
+    ensures links { NoNewLink slots.old.items slots.new.items }
+{
+    if at < slots.len() {
+        let slot = slots[at];
+        slots[at] = Slot {
+            kind: SlotKind::Whole(last),
+            start: slot.start,
+            end: slot.end.max(end),
+        };
+    }
+}
+
+// Makes the slots behind one up to another nothing any more. Those that are nothing already, behind a whole text, are passed
+// over.
+fn use_up_between(slots: &mut Vec<Slot>, first: usize, last: usize)
+    requires ordered { first < last }
+    requires within { last < length slots.old.items }
+    ensures slots { (text : List ℕ) (place : ℕ) → AreSlots text place slots.old.items → AreSlots text place slots.new.items }
+    ensures length { length slots.new.items ≡ length slots.old.items }
+    ensures links { NoNewLink slots.old.items slots.new.items }
+{
+    let mut at = first;
+    while at < last {
+        at += 1;
+        let end = last_of(slots[at].kind, at);
+        use_up(slots, at, false);
+        at = end.min(last);
+    }
+}
+
+// The index of the last slot that belongs to that of this index.
+fn last_of(kind: SlotKind, at: usize) -> usize
+    ensures { at ≤ result }
+{
+    match kind {
+        SlotKind::Whole(last) => last.max(at),
+        _ => at,
     }
 }

@@ -2,6 +2,7 @@
 
 ghost use Rattle.std.specs.Prelude.{◌≤◌, ◌<◌, length, slice_index};
 
+use cmark_finds::next_special;
 use cmark_text::Options;
 
 /// For each byte whether it may begin a span, an escape, an entity or a line end (CommonMark 6).
@@ -25,9 +26,9 @@ impl SpecialBytes {
         ensures within { result ≤ length bytes.now }
         ensures ascii { result < length bytes.now → slice_index bytes.now result < 128 }
     {
-        let mut at = from;
-        while at < bytes.len() && (bytes[at] >= 128 || !self.is_special[bytes[at] as usize]) {
-            at += 1;
+        let mut at = next_special(&self.is_special, bytes, from);
+        while at < bytes.len() && bytes[at] >= 128 {
+            at = next_special(&self.is_special, bytes, at + 1);
         }
         at
     }

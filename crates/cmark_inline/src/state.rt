@@ -1,6 +1,6 @@
 //! The state of the inline pass.
 
-ghost use Rattle.std.specs.Prelude.{◌≡◌, ◌<◌, ℕ, List, IfSome};
+ghost use Rattle.std.specs.Prelude.{◌≡◌, ◌<◌, ℕ, List, [], max, IfSome};
 ghost use Rattle.std.specs.Str.{IsCharBoundary};
 ghost use Rattle.cmark_inline.specs.Stands.{Stands};
 
@@ -8,6 +8,7 @@ use crate::bracket::Brackets;
 use crate::delimiter::Delimiters;
 use crate::event::Walk;
 use crate::link::LinkParts;
+use crate::quote::Quotes;
 use crate::slot::Slot;
 use cmark_finds::inline_html;
 use cmark_text::CowStr;
@@ -23,6 +24,7 @@ pub struct InlineState<'a> {
     pub(crate) slots: Vec<Slot>,
     pub(crate) brackets: Brackets,
     pub(crate) delimiters: Delimiters,
+    pub(crate) quotes: Quotes,
     pub(crate) texts: Vec<CowStr<'a>>,
     pub(crate) links: Vec<LinkParts<'a>>,
     pub(crate) expansion: usize,
@@ -115,12 +117,16 @@ impl HtmlKind {
 
 impl<'a> InlineState<'a> {
     /// A state for the leaves of a source of so many bytes.
-    pub fn new(alloc: Global, source_len: usize) -> InlineState<'a> {
+    pub fn new(alloc: Global, source_len: usize) -> InlineState<'a>
+        ensures expansion { result.expansion ≡ max source_len 100000 }
+        ensures slots { result.slots.items ≡ [] }
+    {
         InlineState {
             alloc,
             slots: Vec::new(alloc),
             brackets: Brackets::new(alloc),
             delimiters: Delimiters::new(alloc),
+            quotes: Quotes::new(alloc),
             texts: Vec::new(alloc),
             links: Vec::new(alloc),
             expansion: source_len.max(LEAST_EXPANSION),
@@ -131,11 +137,13 @@ impl<'a> InlineState<'a> {
     }
 
     pub(crate) fn clear(&mut self)
-        ensures { (text : List ℕ) → Stands text 0 self.new }
+        ensures stands { (text : List ℕ) → Stands text 0 self.new }
+        ensures expansion { self.new.expansion ≡ self.old.expansion }
     {
         self.slots.clear();
         self.brackets.clear();
         self.delimiters.clear();
+        self.quotes.clear();
         self.texts.clear();
         self.links.clear();
         self.shut_close = None;

@@ -1,1 +1,2 @@
+pub mod Gapless
 pub mod StretchSteps

@@ -18,7 +18,7 @@ module _ (source : List ℕ) where
       ∙ sym (take-add (b - a) (c - b) (drop a source))
       ∙ ap (λ n. take n (drop a source)) (let s : (b - a) + (c - b) ≡ c - a = omega (arith, le, lf) in s)
 
-  slice-length : (a b : ℕ) → b ≤ length source → length (slice source a b) ≡ b - a
+  pub slice-length : (a b : ℕ) → b ≤ length source → length (slice source a b) ≡ b - a
   slice-length a b le =
       let t = length-take (b - a) (drop a source) in
       let d = length-drop a source in
@@ -102,7 +102,7 @@ module _ (source : List ℕ) where
       let l = r.0 in
       ((let m : at ≤ s.at = omega (arith, l) in m), record { place = refl; behind = (let m : from ≤ s.start = omega (arith, b, o, f) in m); ordered = r.1.ordered; within = r.1.within; starts = r.1.starts; ends = r.1.ends })
 
-  size-joined : (x : Stretch) (ss : List Stretch) → x.end ≤ length source → length (joined source (x ∷ ss)) ≡ size_of x + length (joined source ss)
+  pub size-joined : (x : Stretch) (ss : List Stretch) → x.end ≤ length source → length (joined source (x ∷ ss)) ≡ size_of x + length (joined source ss)
   size-joined x ss le = length-append (slice source x.start x.end) (joined source ss) ∙ ap (λ n. n + length (joined source ss)) (slice-length x.start x.end le)
 
   pub record Placed (ss : List Stretch) (at : ℕ) (s : Stretch) : Type 0 where
@@ -218,7 +218,7 @@ module _ (source : List ℕ) where
   found ss at i s all e le next lt = finds 0 0 ss at i s all e le (λ t h. next t (ap (slice_get ss) (let n : i + 1 ≡ suc i = omega arith in n) ∙ h)) (let n : at < 0 + length (joined source ss) = omega (arith, lt) in n)
 
   -- bytes in their places
-  byte-in-slice : (a b k : ℕ) → k < b - a → b ≤ length source → get_or (slice source a b) k 0 ≡ get_or source (a + k) 0
+  pub byte-in-slice : (a b k : ℕ) → k < b - a → b ≤ length source → get_or (slice source a b) k 0 ≡ get_or source (a + k) 0
   byte-in-slice a b k lt le = get_or-take (b - a) (drop a source) k 0 lt ∙ get_or-drop a source k 0
 
   pub record PlacedByte (ss : List Stretch) (first at : ℕ) : Type 0 where

@@ -1,6 +1,6 @@
 //! The text of a leaf.
 
-ghost use Rattle.std.specs.Prelude.{◌≡◌, ◌<◌, ◌≤◌, ◌+◌, ◌-◌, ◌++◌, [], length, OnOk, IfOk, IfSome, None, ◌∷◌, string_bytes};
+ghost use Rattle.std.specs.Prelude.{◌≡◌, ◌<◌, ◌≤◌, ◌+◌, ◌-◌, ◌++◌, ◌≢◌, [], length, OnOk, IfOk, IfSome, None, ◌∷◌, string_bytes};
 ghost use Rattle.cmark_grammar.specs.Tokens.{slice};
 ghost use Rattle.cmark_leaf_text.specs.Reads.{IsRead, IsPart, text_of, source_of, place_of};
 ghost use Rattle.cmark_leaf_text.specs.Stretches.{AreLines, AreStretches, IsOpen, IsLine, joined, leaf_bytes, line_end, FindsStretch};
@@ -104,7 +104,9 @@ impl<'a> LeafText<'a> {
     pub fn slice(&self, from: usize, to: usize) -> Option<&'a str>
         requires read { IsRead self.now }
         requires part { IsPart (text_of self.now) from to }
-        ensures { IfSome result (λ part. part.now ≡ slice (source_of self.now) (place_of self.now from) (place_of self.now (to - 1) + 1)) }
+        ensures source { IfSome result (λ part. part.now ≡ slice (source_of self.now) (place_of self.now from) (place_of self.now (to - 1) + 1)) }
+        ensures text { IfSome result (λ part. part.now ≡ slice (text_of self.now) from to) }
+        ensures apart { result ≡ None → place_of self.now (to - 1) + 1 ≢ place_of self.now from + (to - from) }
     {
         let range = self.range(from, to);
         if range.end - range.start == to - from {
@@ -112,6 +114,16 @@ impl<'a> LeafText<'a> {
         } else {
             None
         }
+    }
+
+    /// The bytes of the source from the first of these bytes of the text to behind the last, with what stands between the lines.
+    pub fn source_between(&self, from: usize, to: usize) -> &'a str
+        requires read { IsRead self.now }
+        requires part { IsPart (text_of self.now) from to }
+        ensures { result.now ≡ slice (source_of self.now) (place_of self.now from) (place_of self.now (to - 1) + 1) }
+    {
+        let range = self.range(from, to);
+        &self.source[range.start..range.end]
     }
 
     // The stretches of these lines: each line with its line end, but for the last.

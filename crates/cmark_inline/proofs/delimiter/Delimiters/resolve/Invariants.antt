@@ -1,9 +1,9 @@
 use Rattle.std.proofs.Common.{◌≡◌, ℕ, List, length}
-use Rattle.cmark_inline.specs.Stands.{AreSlots}
+use Rattle.cmark_inline.specs.Stands.{AreSlots, NoNewLink}
 use Rattle.cmark_inline.proofs.delimiter.Delimiters.resolve.Given as goal
 
 abbrev pub invariant-loop-placed : goal.invariant-loop-placed
-invariant-loop-placed l = ((text : List ℕ) (place : ℕ) → AreSlots text place l.initial.slots.items → AreSlots text place l.slots.items) × (length l.slots.items ≡ length l.initial.slots.items)
+invariant-loop-placed l = ((text : List ℕ) (place : ℕ) → AreSlots text place l.initial.slots.items → AreSlots text place l.slots.items) × (length l.slots.items ≡ length l.initial.slots.items) × NoNewLink l.initial.slots.items l.slots.items
 
 abbrev pub decreases-loop-placed : goal.decreases-loop-placed
 decreases-loop-placed l = length l.rest

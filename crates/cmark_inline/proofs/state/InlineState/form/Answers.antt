@@ -1,52 +1,64 @@
-use Rattle.std.proofs.Common.{◌≡◌, ◌≤◌, ◌+◌, ◌++◌, ◌∷◌, [], List, ℕ, length, sym, ap, subst, arith}
-use Rattle.std.proofs.lemmas.List.{length_push}
-use Rattle.cmark_inline.specs.Stands.{IsSlot, IsTarget, AreSlots, AreBrackets, bytes_of}
+use Rattle.std.proofs.Common.{◌≤◌, ◌<◌, ◌+◌, List, ℕ, length, refl, sym, ap, subst, arith}
+use Rattle.cmark_inline.specs.Stands.{IsSlot, IsTarget, AreBrackets, AreFree, bytes_of}
 use Rattle.cmark_leaf_text.specs.Reads.{IsPart}
+use Rattle.cmark_inline.specs.declared.bracket.Brackets.{Brackets}
 use Rattle.cmark_inline.specs.declared.link.Target.{Target}
 use Rattle.cmark_inline.specs.declared.slot.Slot.{Slot}
 use Rattle.cmark_inline.specs.declared.slot.SlotKind.TheVariants as kind
-use Rattle.cmark_inline.proofs.Steps.{slots-on, brackets-on, slots-push, part-from}
+use Rattle.cmark_inline.proofs.Steps.{slots-on, brackets-on, free-on, part-from}
 use Rattle.cmark_inline.proofs.state.InlineState.form.Goals as goal
 
 last-slot : (text : List ℕ) (close : ℕ) (target : Target) → IsPart text close (close + 1) → IsTarget text close target → IsSlot text target.past (record { kind = kind.End; start = close; end = target.end })
 last-slot text close target p t = record { part = part-from text close target.end p.starts t.ends t.behind; before = t.ordered; content = tt }
 
-record Formed (text : List ℕ) (past m : ℕ) (s3 : List Slot) : Type 0 where
-  pub slots : AreSlots text past s3
-  pub runs : m ≤ length s3
-
-formed : (text : List ℕ) (close past : ℕ) (ss s1 s2 s3 : List Slot) (e : Slot) (n m : ℕ) → AreSlots text close ss → close ≤ past → (AreSlots text past ss → AreSlots text past s1) → length s1 ≡ length ss
-    → IsSlot text past e → s2 ≡ s1 ++ (e ∷ []) → (AreSlots text past s2 → AreSlots text past s3) → length s3 ≡ length s2 → m ≤ n → n ≤ length ss → Formed text past m s3
-formed text close past ss s1 s2 s3 e n m h le first same new pushed second also fewer within =
-    let l = length_push s1 e in
-    let k = ap length pushed in
+pub returns-then-bracket-clause-stands : goal.returns-then-bracket-clause-stands
+returns-then-bracket-clause-stands c =
+    let t = c.requires.target in
+    let s = c.requires.stands in
+    let text : List ℕ = c.args.text.now in
+    let past : ℕ = c.args.target.past in
+    let b = t.behind in
+    let o = t.ordered in
+    let few = s.few in
+    let fewer = s.runs in
+    let lt : c.args.close < past = omega (arith, b, o) in
+    let le : c.args.close ≤ past = omega (arith, lt) in
+    let ss : List Slot = c.args.self.now.slots.items in
+    let i = c.begin.ensures.length in
+    let j = c.in_ok-finish.ensures.length in
+    let r = c.in_ok-finish.ensures.runs in
     record {
-      slots = second (slots-push text past past s1 s2 e (first (slots-on text close past ss h le)) (omega arith) new pushed);
-      runs = let q : m ≤ length s3 = omega (arith, same, also, fewer, within, l, k) in q;
+      slots = c.in_ok-finish.ensures.slots text past (c.begin.ensures.slots text past (slots-on text c.args.close past ss s.slots le) t.ends o) (last-slot text c.args.close c.args.target c.requires.close t);
+      brackets = subst (λ (v : Brackets). AreBrackets text past v.standing.items) (sym c.finish.ensures.brackets) (brackets-on text c.args.close past c.args.self.now.brackets.standing.items s.brackets le);
+      few = (let q : length c.finish.new.self.slots.items ≤ past = omega (arith, i, j, few, lt) in q);
+      free = subst (λ (v : Brackets). AreFree c.finish.new.self.slots.items v.standing.items v.shut) (sym c.finish.ensures.brackets)
+          (free-on ss c.finish.new.self.slots.items c.args.self.now.brackets.standing.items c.args.self.now.brackets.shut s.free (λ from h. c.in_ok-finish.ensures.links from (c.begin.ensures.links refl from h)));
+      runs = (let q : bytes_of c.finish.new.self.delimiters.placed.items ≤ length c.finish.new.self.slots.items = omega (arith, i, j, r, fewer) in q);
     }
 
-pub returns-then-not-bracket : goal.returns-then-not-bracket
-returns-then-not-bracket c =
+pub returns-clause-stands : goal.returns-clause-stands
+returns-clause-stands c =
     let t = c.requires.target in
     let s = c.requires.stands in
     let text : List ℕ = c.args.text.now in
     let past : ℕ = c.args.target.past in
     let b = t.behind in
     let o = t.ordered in
-    let le : c.args.close ≤ past = omega (arith, b, o) in
-    let f = formed text c.args.close past c.args.self.now.slots.items c.begin.new.slots.items c.push_slot.new.slots.items c.resolve.new.slots.items (record { kind = kind.End; start = c.args.close; end = c.args.target.end }) (bytes_of c.args.self.now.delimiters.placed.items) (bytes_of c.resolve.new.self.placed.items)
-    s.slots le (λ h. c.begin.ensures.slots text past h t.ends o) c.begin.ensures.length (last-slot text c.args.close c.args.target c.requires.close t) c.in_ok-push_slot.ensures (λ h. c.in_ok-resolve.ensures.slots text past h) c.in_ok-resolve.ensures.length c.in_ok-resolve.ensures.runs s.runs in
-    record { slots = f.slots; brackets = subst (λ v. AreBrackets text past v) (sym (ap (λ v. v.items) c.shut_all.ensures)) (brackets-on text c.args.close past c.args.self.now.brackets.standing.items s.brackets le); runs = f.runs }
+    let few = s.few in
+    let fewer = s.runs in
+    let lt : c.args.close < past = omega (arith, b, o) in
+    let le : c.args.close ≤ past = omega (arith, lt) in
+    let ss : List Slot = c.args.self.now.slots.items in
+    let i = c.begin-2.ensures.length in
+    let j = c.in_ok-finish-2.ensures.length in
+    let r = c.in_ok-finish-2.ensures.runs in
+    record {
+      slots = c.in_ok-finish-2.ensures.slots text past (c.begin-2.ensures.slots text past (slots-on text c.args.close past ss s.slots le) t.ends o) (last-slot text c.args.close c.args.target c.requires.close t);
+      brackets = subst (AreBrackets text past) (sym (ap (λ v. v.items) c.shut_all.ensures.standing)) (subst (λ (v : Brackets). AreBrackets text past v.standing.items) (sym c.finish-2.ensures.brackets) (brackets-on text c.args.close past c.args.self.now.brackets.standing.items s.brackets le));
+      few = (let q : length c.finish-2.new.self.slots.items ≤ past = omega (arith, i, j, few, lt) in q);
+      free = c.shut_all.ensures.free c.finish-2.new.self.slots.items;
+      runs = (let q : bytes_of c.finish-2.new.self.delimiters.placed.items ≤ length c.finish-2.new.self.slots.items = omega (arith, i, j, r, fewer) in q);
+    }
 
-pub returns-else-not-bracket : goal.returns-else-not-bracket
-returns-else-not-bracket c =
-    let t = c.requires.target in
-    let s = c.requires.stands in
-    let text : List ℕ = c.args.text.now in
-    let past : ℕ = c.args.target.past in
-    let b = t.behind in
-    let o = t.ordered in
-    let le : c.args.close ≤ past = omega (arith, b, o) in
-    let f = formed text c.args.close past c.args.self.now.slots.items c.begin.new.slots.items c.push_slot.new.slots.items c.resolve.new.slots.items (record { kind = kind.End; start = c.args.close; end = c.args.target.end }) (bytes_of c.args.self.now.delimiters.placed.items) (bytes_of c.resolve.new.self.placed.items)
-    s.slots le (λ h. c.begin.ensures.slots text past h t.ends o) c.begin.ensures.length (last-slot text c.args.close c.args.target c.requires.close t) c.in_ok-push_slot.ensures (λ h. c.in_ok-resolve.ensures.slots text past h) c.in_ok-resolve.ensures.length c.in_ok-resolve.ensures.runs s.runs in
-    record { slots = f.slots; brackets = brackets-on text c.args.close past c.args.self.now.brackets.standing.items s.brackets le; runs = f.runs }
+pub returns-clause-link : goal.returns-clause-link
+returns-clause-link c = λ plain. c.in_ok-finish-2.ensures.links (c.args.bracket.slot + 1) (c.begin-2.ensures.behind (c.requires.free plain))

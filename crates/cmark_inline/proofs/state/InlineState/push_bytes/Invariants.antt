@@ -1,6 +1,6 @@
 use Rattle.std.proofs.Common.{◌≡◌, ◌≤◌, ◌+◌, ◌-◌, length}
 use Rattle.std.specs.Str.{IsCharBoundary}
-use Rattle.cmark_inline.specs.Stands.{AreSlots}
+use Rattle.cmark_inline.specs.Stands.{AreSlots, NoNewLink}
 use Rattle.cmark_inline.proofs.state.InlineState.push_bytes.Given as goal
 
 abbrev pub invariant-loop-at : goal.invariant-loop-at
@@ -10,6 +10,8 @@ invariant-loop-at l = record {
   place : IsCharBoundary l.text l.at;
   slots : AreSlots l.text l.at l.self.slots.items;
   brackets : l.self.brackets ≡ l.initial.self.brackets;
+  links : NoNewLink l.initial.self.slots.items l.self.slots.items;
+  expansion : l.self.expansion ≡ l.initial.self.expansion;
   delimiters : l.self.delimiters ≡ l.initial.self.delimiters;
   size : length l.self.slots.items ≡ length l.initial.self.slots.items + (l.at - l.start);
 }

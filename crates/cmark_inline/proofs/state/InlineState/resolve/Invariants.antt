@@ -1,9 +1,14 @@
-use Rattle.std.proofs.Common.{◌-◌, length}
+use Rattle.std.proofs.Common.{◌≡◌, ◌-◌, length, take}
+use Rattle.cmark_inline.specs.Asking.{AsksUpTo, closing_brackets}
 use Rattle.cmark_inline.specs.Stands.{Stands, IsCursor}
 use Rattle.cmark_inline.proofs.state.InlineState.resolve.Given as goal
 
 abbrev pub invariant-loop-cursor : goal.invariant-loop-cursor
-invariant-loop-cursor g l = Stands l.text l.cursor.pending l.self × IsCursor l.text l.cursor
+invariant-loop-cursor g l =
+    Stands l.text l.cursor.pending l.self
+    × IsCursor l.text l.cursor
+    × AsksUpTo g.F.BrokenLinkCallback.answers (closing_brackets (take l.cursor.at l.text)) l.initial.callback l.callback
+    × (l.initial.self.expansion ≡ 0 → (l.callback ≡ l.initial.callback) × (l.self.expansion ≡ 0))
 
 abbrev pub decreases-loop-cursor : goal.decreases-loop-cursor
 decreases-loop-cursor g l = length l.text - l.cursor.at

@@ -1,5 +1,5 @@
 use Rattle.std.proofs.Common.{◌≡◌, ◌≤◌, ◌<◌, ◌-◌, ℕ, length, get_or}
-use Rattle.cmark_inline.proofs.step.run_end.Given as goal
+use Rattle.cmark_inline.proofs.place.run_end.Given as goal
 
 abbrev pub invariant-loop-end : goal.invariant-loop-end
 invariant-loop-end l = (l.at < l.end) × (l.end ≤ length l.bytes) × (l.bytes ≡ l.text) × (l.mark < 128) × (get_or l.bytes (l.end - 1) 0 ≡ l.mark) × ((k : ℕ) → l.at ≤ k → k < l.end → get_or l.bytes k 0 < 128)

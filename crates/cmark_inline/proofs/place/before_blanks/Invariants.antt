@@ -1,6 +1,6 @@
 use Rattle.std.proofs.Common.{◌≡◌, ◌≤◌}
 use Rattle.std.specs.Str.{IsCharBoundary}
-use Rattle.cmark_inline.proofs.step.before_blanks.Given as goal
+use Rattle.cmark_inline.proofs.place.before_blanks.Given as goal
 
 abbrev pub invariant-loop-stop : goal.invariant-loop-stop
 invariant-loop-stop l = (l.here.pending ≤ l.stop) × (l.stop ≤ l.here.at) × (l.bytes ≡ l.text) × IsCharBoundary l.bytes l.stop

@@ -1,7 +1,7 @@
 use Rattle.std.proofs.Common.{◌≡◌, ◌<◌, ◌-◌, ◌+◌, ℕ, List, length, get_or, ap, subst, arith}
 use Rattle.std.specs.Str.{IsCharBoundary}
 use Rattle.std.proofs.lemmas.Str.{IsCharBoundary-after_ascii}
-use Rattle.cmark_inline.proofs.step.run_end.Goals as goal
+use Rattle.cmark_inline.proofs.place.run_end.Goals as goal
 
 pub returns-else-bytes-end-clause-boundary : goal.returns-else-bytes-end-clause-boundary
 returns-else-bytes-end-clause-boundary c =

@@ -1,0 +1,25 @@
+-- Dashes in the place of hyphens, where smart punctuation is read (this profile's own).
+use Rattle.std.specs.Prelude.{ℕ, zero, suc, ◌==◌, ◌-◌, ◌/◌, ◌%◌, if◌then◌else◌, encode_utf8, List, [], ◌++◌}
+
+-- so many em dashes, U+2014, and then so many en dashes, U+2013
+pub record Dashes : Type 0 where
+  pub em : ℕ
+  pub en : ℕ
+
+-- an em dash stands for three hyphens and an en dash for two: em dashes alone where 3 divides their number, else en dashes
+-- alone where it is even, else em dashes and then the fewest en dashes
+abbrev pub dashes_of : (hyphens : ℕ) → Dashes
+dashes_of n =
+    if (n % 3) == 0 then record { em = n / 3; en = 0 }
+    else if (n % 2) == 0 then record { em = 0; en = n / 2 }
+    else if (n % 3) == 2 then record { em = (n - 2) / 3; en = 1 }
+    else record { em = (n - 4) / 3; en = 2 }
+
+-- the bytes of a character so many times
+abbrev pub repeated : (character : ℕ) → (times : ℕ) → List ℕ
+repeated character zero = []
+repeated character (suc times) = encode_utf8 character ++ repeated character times
+
+-- the text of dashes
+abbrev pub dash_text : Dashes → List ℕ
+dash_text dashes = repeated 8212 dashes.em ++ repeated 8211 dashes.en

@@ -1,0 +1,38 @@
+-- What a reference leads to.
+use Rattle.std.proofs.Common.{◌≡◌, ℕ, List, refl, sym, ap, ◌∙◌, subst, Some, None}
+use Rattle.std.specs.Prelude.{Option, option_map}
+use Rattle.cmark_items.specs.declared.definitions.LinkDef.{LinkDef}
+use Rattle.cmark_text.specs.Shown.{text_bytes, shown_link_type}
+use Rattle.cmark_text.specs.declared.kind.LinkType.{LinkType}
+use Rattle.cmark_text.specs.declared.text.CowStr.{CowStr}
+use Rattle.cmark_inline.specs.Linked.{Answers, IsAnswered, Refers, said_by, said_in, shown_destination, Said}
+use Rattle.cmark_inline.specs.declared.callback.BrokenLink.{BrokenLink}
+use Rattle.cmark_inline.specs.declared.link.Destination.{Destination}
+use Rattle.cmark_inline.specs.declared.link.Target.{Target}
+
+module _ {F : Type 0} (R : F → BrokenLink → Option (CowStr × CowStr) → F → Type 0) where
+  pub by-definition : (def : Option LinkDef) (form : LinkType) (label : List ℕ) (start end : ℕ) (before after : F) (found : Destination) (target : Target)
+      → option_map shown_destination (Some found) ≡ option_map said_by def → after ≡ before
+      → target.parts.link_type ≡ form → text_bytes target.parts.id ≡ label → target.parts.dest_url ≡ found.dest_url → target.parts.title ≡ found.title
+      → Refers R def form label start end before after (Some target)
+  by-definition None form label start end before after found target e same kind id url title = absurd (none e)
+    where
+      none : Some (shown_destination found) ≡ None → ⊥
+      none q = let z : ⊥ = cc in z
+  by-definition (Some def) form label start end before after found target e same kind id url title = (same, (kind, id, said ∙ some e))
+    where
+      said : said_in target.parts ≡ shown_destination found
+      said = ap (λ (c : CowStr). record { destination = text_bytes c; title = text_bytes target.parts.title }) url ∙ ap (λ (c : CowStr). record { destination = text_bytes found.dest_url; title = text_bytes c }) title
+
+      some : Some (shown_destination found) ≡ Some (said_by def) → shown_destination found ≡ said_by def
+      some q = let z : shown_destination found ≡ said_by def = cc in z
+
+  pub by-answer : (def : Option LinkDef) (form : LinkType) (label : List ℕ) (start end : ℕ) (before after : F) (destination : Option Destination) (found : Option Target)
+      → option_map shown_destination None ≡ option_map said_by def
+      → Answers R form label start end before after destination → IsAnswered form label destination found
+      → Refers R def form label start end before after found
+  by-answer None form label start end before after destination found e answers is = (destination, answers, is)
+  by-answer (Some def) form label start end before after destination found e answers is = absurd (none e)
+    where
+      none : None ≡ Some (said_by def) → ⊥
+      none q = let z : ⊥ = cc in z

@@ -1,0 +1,103 @@
+-- What a reference leads to: what its definition says, or what the callback answers.
+use Rattle.std.specs.Prelude.{◌≡◌, ◌-◌, ℕ, length, List, [], drop, Option, Some, None, Bool, false, if◌then◌else◌, option_map}
+use Rattle.cmark_grammar.specs.Labels.{fold, normal_form}
+use Rattle.cmark_grammar.specs.LinkDefinitions.{Found}
+use Rattle.cmark_grammar.specs.LinkTails.{behind_collapsed, is_bracketed_label, reference_label_in}
+use Rattle.cmark_grammar.specs.LinkType as link
+use Rattle.cmark_text.specs.declared.kind.LinkType.{LinkType}
+use Rattle.cmark_grammar.specs.Tokens.{slice}
+use Rattle.cmark_items.specs.Definitions.{definition}
+use Rattle.cmark_items.specs.declared.definitions.LinkDef.{LinkDef}
+use Rattle.cmark_text.specs.Shown.{shown_link_type, text_bytes}
+use Rattle.cmark_text.specs.declared.text.CowStr.{CowStr}
+use Rattle.cmark_inline.specs.declared.bracket.Bracket.{Bracket}
+use Rattle.cmark_inline.specs.declared.callback.BrokenLink.{BrokenLink}
+use Rattle.cmark_inline.specs.declared.link.Asked.{Asked}
+use Rattle.cmark_inline.specs.declared.link.Destination.{Destination}
+use Rattle.cmark_inline.specs.declared.link.LinkParts.{LinkParts}
+use Rattle.cmark_inline.specs.declared.link.Target.{Target}
+
+-- a title, which is empty where there is none
+abbrev pub title_or_none : Option CowStr → List ℕ
+title_or_none None = []
+title_or_none (Some title) = text_bytes title
+
+-- a link's destination and its title
+pub record Said : Type 0 where
+  pub destination : List ℕ
+  pub title : List ℕ
+
+abbrev pub said_by : LinkDef → Said
+said_by def = record { destination = text_bytes def.dest; title = title_or_none def.title }
+
+abbrev pub shown_destination : Destination → Said
+shown_destination found = record { destination = text_bytes found.dest_url; title = text_bytes found.title }
+
+abbrev pub said_in : LinkParts → Said
+said_in parts = record { destination = text_bytes parts.dest_url; title = text_bytes parts.title }
+
+-- a reference as it is written (CommonMark 6.3): its label, its form, and what is behind it, without and with a following `[]`
+pub record Reference : Type 0 where
+  pub label : List ℕ
+  pub form : link.LinkType
+  pub behind : List ℕ
+  pub past : List ℕ
+
+abbrev pub shown_asked : (text : List ℕ) → Asked → Reference
+shown_asked text asked = record { label = asked.label.now; form = shown_link_type asked.link_type; behind = drop asked.end text; past = drop asked.past text }
+
+-- a collapsed reference where `[]` follows, and else a shortcut one
+abbrev pub collapsed_or_shortcut : (label behind : List ℕ) → Option (List ℕ) → Reference
+collapsed_or_shortcut label behind (Some past) = record { label = label; form = link.Collapsed; behind = behind; past = past }
+collapsed_or_shortcut label behind None = record { label = label; form = link.Shortcut; behind = behind; past = behind }
+
+-- the reference by the bracket's own label, if that is one
+abbrev pub by_own_label : (label behind : List ℕ) → Option Reference
+by_own_label label behind = if is_bracketed_label label then Some (collapsed_or_shortcut label behind (behind_collapsed behind)) else None
+
+-- the full reference where a label follows in brackets, and else that by the bracket's own label, unless the bracket is shut
+-- off for it
+abbrev pub full_or_own : Option Found → (is_shut : Bool) → (label behind : List ℕ) → Option Reference
+full_or_own (Some found) is_shut label behind = Some (record { label = found.bytes; form = link.Reference; behind = found.behind; past = found.behind })
+full_or_own None is_shut label behind = if is_shut then None else by_own_label label behind
+
+abbrev pub reference_behind : (is_shut : Bool) → (label behind : List ℕ) → Option Reference
+reference_behind is_shut label behind = full_or_own (reference_label_in behind) is_shut label behind
+
+-- the question that a reference puts whose label has no definition: its bytes of the source, its form, and its label's normal
+-- form
+pub record IsQuestion (kind : LinkType) (name : List ℕ) (from to : ℕ) (question : BrokenLink) : Type 0 where
+  pub form : question.link_type ≡ kind
+  pub label : text_bytes question.reference ≡ name
+  pub start : question.span.start ≡ from
+  pub end : question.span.end ≡ to
+
+abbrev pub parted : Destination → CowStr × CowStr
+parted found = (found.dest_url, found.title)
+
+-- the callback answered the question so
+abbrev pub Answers : {F : Type 0} → (F → BrokenLink → Option (CowStr × CowStr) → F → Type 0) → LinkType → (label : List ℕ) → (start end : ℕ) → (before after : F) → Option Destination → Type 0
+Answers R form label start end before after found = (question : BrokenLink) × IsQuestion form label start end question × R before question (option_map parted found) after
+
+-- what a reference leads to by its definition: it keeps its form
+abbrev pub IsDefined : LinkType → (label : List ℕ) → LinkDef → Option Target → Type 0
+IsDefined form label def None = ⊥
+IsDefined form label def (Some target) = (target.parts.link_type ≡ form) × (text_bytes target.parts.id ≡ label) × (said_in target.parts ≡ said_by def)
+
+-- what it leads to by the callback's answer: its form is an unknown one then
+abbrev pub IsAnswered : LinkType → (label : List ℕ) → Option Destination → Option Target → Type 0
+IsAnswered form label None None = Unit {0}
+IsAnswered form label None (Some target) = ⊥
+IsAnswered form label (Some found) None = ⊥
+IsAnswered form label (Some found) (Some target) = (shown_link_type target.parts.link_type ≡ link.to_unknown (shown_link_type form)) × (text_bytes target.parts.id ≡ label) × (target.parts.dest_url ≡ found.dest_url) × (target.parts.title ≡ found.title)
+
+-- what a reference leads to: by the definition of its label, and where there is none, by what the callback answers, which is
+-- asked in that case alone; its id is the label's normal form
+abbrev pub Refers : {F : Type 0} → (F → BrokenLink → Option (CowStr × CowStr) → F → Type 0) → Option LinkDef → LinkType → (label : List ℕ) → (start end : ℕ) → (before after : F) → Option Target → Type 0
+Refers R (Some def) form label start end before after found = (after ≡ before) × IsDefined form label def found
+Refers R None form label start end before after found = (destination : Option Destination) × Answers R form label start end before after destination × IsAnswered form label destination found
+
+-- how much expansion is left behind a reference: its destination and its title are taken off, if it forms a link
+abbrev pub left_behind : (left : ℕ) → Option Target → ℕ
+left_behind left None = left
+left_behind left (Some target) = (left - length (text_bytes target.parts.dest_url)) - length (text_bytes target.parts.title)

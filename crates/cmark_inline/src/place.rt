@@ -1,0 +1,152 @@
+//! Places in a leaf's text.
+
+ghost use Rattle.std.specs.Prelude.{◌≡◌, ◌⊎◌, true, ◌<◌, ◌≤◌, ◌+◌, ◌-◌, ◌++◌, ℕ, List, [], length, slice_index, IfOk, OnOk, IfSome};
+ghost use Rattle.std.specs.Str.{IsCharBoundary};
+ghost use Rattle.cmark_leaf_text.specs.Reads.{IsRead, IsPart, text_of};
+ghost use Rattle.cmark_inline.specs.Stands.{AreSlots, AreBrackets, IsBracket, IsCursor, IsSlot, IsTarget, Moves, SameSpans, Stands, bytes_of};
+
+use crate::step::Cursor;
+use cmark_scan_parts::scan_autolink;
+
+// The place behind the run of the byte at this place.
+pub(crate) fn run_end(text: &str, at: usize) -> usize
+    requires within { at < length text.now }
+    requires ascii { slice_index text.now at < 128 }
+    ensures further { at < result }
+    ensures boundary { IsCharBoundary text.now result }
+    ensures ascii { (k : ℕ) → at ≤ k → k < result → slice_index text.now k < 128 }
+{
+    let bytes = text.as_bytes();
+    let mark = bytes[at];
+    let mut end = at + 1;
+    while end < bytes.len() && bytes[end] == mark {
+        end += 1;
+    }
+    end
+}
+
+// Where the blanks before this place begin.
+pub(crate) fn before_blanks(text: &str, here: Cursor) -> usize
+    requires { IsCursor text.now here }
+    ensures behind { here.pending ≤ result }
+    ensures before { result ≤ here.at }
+    ensures boundary { IsCharBoundary text.now result }
+{
+    let bytes = text.as_bytes();
+    let mut stop = here.at;
+    while stop > here.pending && (bytes[stop - 1] == b' ' || bytes[stop - 1] == b'\t') {
+        stop -= 1;
+    }
+    stop
+}
+
+// Where the text of a run of backticks that is no code span begins: with the escaped backtick before it, if one is pending.
+pub(crate) fn text_start(text: &str, here: Cursor) -> usize
+    requires here { here.at < length text.now }
+    requires cursor { IsCursor text.now here }
+    ensures { (result ≡ here.at) ⊎ (result ≡ here.pending) }
+{
+    if here.pending < here.at
+        && here.at - here.pending == 1
+        && text.as_bytes()[here.pending] == b'`'
+    {
+        return here.pending;
+    }
+    here.at
+}
+
+// The place behind a byte of ASCII.
+#[tactic(auto, using(std::proofs::lemmas::Str::lead_after_ascii))]
+pub(crate) fn behind(text: &str, at: usize) -> usize
+    requires place { IsCharBoundary text.now at }
+    requires within { at < length text.now }
+    requires ascii { slice_index text.now at < 128 }
+    ensures value { result ≡ at + 1 }
+    ensures part { IsPart text.now at result }
+{
+    at + 1
+}
+
+// The byte at this place stands for itself.
+#[tactic(auto, using(std::proofs::lemmas::Str::lead_after_ascii))]
+pub(crate) fn pass(text: &str, here: Cursor) -> Cursor
+    requires cursor { IsCursor text.now here }
+    requires here { here.at < length text.now }
+    requires ascii { slice_index text.now here.at < 128 }
+    ensures cursor { IsCursor text.now result }
+    ensures pending { result.pending ≡ here.pending }
+    ensures further { here.at < result.at }
+{
+    Cursor {
+        pending: here.pending,
+        at: here.at + 1,
+    }
+}
+
+// The place behind so many bytes, if they are some and no character is cut there.
+pub(crate) fn end_behind(text: &str, at: usize, size: usize) -> Option<usize>
+    requires { IsCharBoundary text.now at }
+    ensures { IfSome result (IsPart text.now at) }
+{
+    if size > text.len() - at {
+        return None;
+    }
+    let end = at + size;
+    if end > at && text.is_char_boundary(end) {
+        Some(end)
+    } else {
+        None
+    }
+}
+
+// The place behind the autolink whose `<` stands at this place (CommonMark 6.5).
+#[tactic(auto, using(std::proofs::lemmas::Str::lead_after_ascii))]
+pub(crate) fn autolink_end(text: &str, at: usize) -> Option<usize>
+    requires place { IsCharBoundary text.now at }
+    requires within { at < length text.now }
+    requires ascii { slice_index text.now at < 128 }
+    ensures whole { IfSome result (IsPart text.now at) }
+    ensures inside { IfSome result (λ end. IsPart text.now (at + 1) (end - 1)) }
+{
+    let end = scan_autolink(text, at + 1)?.end;
+    if end > at + 2 && text.is_char_boundary(end - 1) {
+        Some(end)
+    } else {
+        None
+    }
+}
+
+// Whether ASCII punctuation follows the byte at this place, which a backslash there escapes.
+pub(crate) fn is_escape(text: &str, at: usize) -> bool
+    requires { at < length text.now }
+    ensures within { result ≡ true → at + 1 < length text.now }
+    ensures ascii { result ≡ true → slice_index text.now (at + 1) < 128 }
+{
+    let bytes = text.as_bytes();
+    if at + 1 >= bytes.len() {
+        return false;
+    }
+    bytes[at + 1].is_ascii_punctuation()
+}
+
+// Whether this byte of ASCII follows the byte at this place.
+pub(crate) fn is_followed_by(text: &str, at: usize, byte: u8) -> bool
+    requires within { at < length text.now }
+    ensures within { result ≡ true → at + 1 < length text.now }
+    ensures byte { result ≡ true → slice_index text.now (at + 1) ≡ byte }
+{
+    let bytes = text.as_bytes();
+    if at + 1 >= bytes.len() {
+        return false;
+    }
+    bytes[at + 1] == byte
+}
+
+// Whether a run of one backtick stands at this place.
+pub(crate) fn is_lone_backtick(text: &str, at: usize) -> bool {
+    match text.as_bytes().get(at..).unwrap_or(&[]) {
+        [b'`', b'`', ..] => false,
+        [b'`', ..] => true,
+        _ => false,
+    }
+}

@@ -1,0 +1,109 @@
+//! Quotes, and the characters that they become (this profile's own).
+
+ghost use Rattle.std.specs.Prelude.{◌≡◌, ℕ, List, [], drop, length, map, OnOk};
+ghost use Rattle.cmark_inline.specs.Quoted.{characters_of, with_characters};
+ghost use Rattle.cmark_inline.specs.Stands.{AreSlots, NoNewLink};
+ghost use Rattle.cmark_inline.specs.declared.quote.PlacedQuote.{PlacedQuote};
+
+use crate::slot::{Slot, SlotKind, become_character};
+use cmark_emphasis::{Quote, quote_characters};
+use std::alloc::{AllocError, Global};
+
+/// A quote and the place of its slot.
+#[derive(Clone, Copy, Debug)]
+pub struct PlacedQuote {
+    pub slot: usize,
+    pub quote: Quote,
+}
+
+/// The quotes of the siblings that are not resolved, and room for their characters.
+#[derive(Drop)]
+pub struct Quotes {
+    placed: Vec<PlacedQuote>,
+    quotes: Vec<Quote>,
+    characters: Vec<char>,
+}
+
+impl Quotes {
+    pub fn new(alloc: Global) -> Quotes {
+        Quotes {
+            placed: Vec::new(alloc),
+            quotes: Vec::new(alloc),
+            characters: Vec::new(alloc),
+        }
+    }
+
+    pub fn clear(&mut self) {
+        self.placed.clear();
+    }
+
+    /// How many quotes there are.
+    pub fn len(&self) -> usize {
+        self.placed.len()
+    }
+
+    pub fn push(&mut self, slot: usize, quote: Quote) -> Result<(), AllocError> {
+        self.placed.push(PlacedQuote { slot, quote })?;
+        Ok(())
+    }
+
+    /// Gives the quotes from this one on, which are those of one list of siblings, their characters, and forgets them.
+    pub fn resolve(&mut self, first: usize, slots: &mut Vec<Slot>) -> Result<(), AllocError>
+        ensures value { OnOk result (slots.new.items ≡ with_characters (drop first self.old.placed.items) (characters_of (drop first self.old.placed.items)) slots.old.items) }
+        ensures slots { OnOk result ((text : List ℕ) (place : ℕ) → AreSlots text place slots.old.items → AreSlots text place slots.new.items) }
+        ensures length { OnOk result (length slots.new.items ≡ length slots.old.items) }
+        ensures links { OnOk result (NoNewLink slots.old.items slots.new.items) }
+    {
+        gather(&mut self.quotes, quotes_from(self.placed.as_slice(), first))?;
+        quote_characters(&self.quotes, &mut self.characters)?;
+        write(
+            slots,
+            quotes_from(self.placed.as_slice(), first),
+            self.characters.as_slice(),
+        );
+        self.placed.truncate(first);
+        Ok(())
+    }
+}
+
+/// The quotes from this one on.
+fn quotes_from(placed: &[PlacedQuote], first: usize) -> &[PlacedQuote]
+    ensures { result.now ≡ drop first placed.entry.now }
+{
+    if first >= placed.len() {
+        return &[];
+    }
+    &placed[first..]
+}
+
+/// Puts the quotes in `quotes`, which held others.
+fn gather(quotes: &mut Vec<Quote>, placed: &[PlacedQuote]) -> Result<(), AllocError>
+    ensures { OnOk result (quotes.new.items ≡ map (λ (p : PlacedQuote). p.quote) placed.now) }
+{
+    quotes.clear();
+    let mut rest = placed;
+    while let Some((next, others)) = rest.split_first() {
+        quotes.push(next.quote)?;
+        rest = others;
+    }
+    Ok(())
+}
+
+/// Writes each character into the slot of its quote.
+fn write(slots: &mut Vec<Slot>, placed: &[PlacedQuote], characters: &[char])
+    ensures value { slots.new.items ≡ with_characters placed.now characters.now slots.old.items }
+    ensures slots { (text : List ℕ) (place : ℕ) → AreSlots text place slots.old.items → AreSlots text place slots.new.items }
+    ensures length { length slots.new.items ≡ length slots.old.items }
+    ensures links { NoNewLink slots.old.items slots.new.items }
+{
+    let mut rest = placed;
+    let mut left = characters;
+    while let Some((next, others)) = rest.split_first() {
+        let Some((character, behind)) = left.split_first() else {
+            return;
+        };
+        become_character(slots, next.slot, *character);
+        rest = others;
+        left = behind;
+    }
+}

@@ -1,0 +1,306 @@
+//! Brackets, and the links and images that they form (CommonMark 6.3 and 6.4).
+
+ghost use Rattle.std.specs.Prelude.{◌≡◌, ◌⊎◌, true, false, ◌<◌, ◌≤◌, ◌+◌, ◌-◌, ◌++◌, ℕ, List, [], length, slice_index, IfOk, OnOk, IfSome, Some};
+ghost use Rattle.std.specs.Str.{IsCharBoundary};
+ghost use Rattle.cmark_leaf_text.specs.Reads.{IsRead, IsPart, place_of, text_of};
+ghost use Rattle.cmark_grammar.specs.Labels.{fold, normal_form};
+ghost use Rattle.cmark_items.specs.Definitions.{definition};
+ghost use Rattle.cmark_text.specs.Labelled.{link_text};
+ghost use Rattle.cmark_inline.specs.Linked.{Answers, Refers, left_behind};
+ghost use Rattle.cmark_inline.specs.Asking.{AsksOnce};
+ghost use Rattle.cmark_inline.specs.Stands.{HoldNoLink, IsEnd, NoNewLink, AreSlots, AreBrackets, IsBracket, IsCursor, IsSlot, IsTarget, Moves, SameSpans, Stands, bytes_of};
+
+use crate::bracket::Bracket;
+use crate::callback::{BrokenLink, BrokenLinkCallback};
+use crate::link::{Asked, Destination, LinkParts, Target, asked_at, defined, inline_target};
+use crate::place::{behind, is_followed_by, pass};
+use crate::read::Reader;
+use crate::slot::{Element, Slot, SlotKind, begin, push_slot};
+use crate::state::InlineState;
+use crate::step::Cursor;
+use cmark_leaf_text::LeafText;
+use cmark_text::{CowStr, EntityLookup, LinkLabel, LinkType, Options};
+use std::alloc::{AllocError, Global};
+
+impl<'a> InlineState<'a> {
+    // `!`: with a bracket behind it the begin of an image.
+    #[tactic(auto, using(std::proofs::lemmas::Str::lead_after_ascii))]
+    pub(crate) fn exclamation(&mut self, text: &str, here: Cursor) -> Result<Cursor, AllocError>
+        requires stands { Stands text.now here.pending self.old }
+        requires cursor { IsCursor text.now here }
+        requires here { here.at < length text.now }
+        requires ascii { slice_index text.now here.at < 128 }
+        ensures expansion { self.new.expansion ≡ self.old.expansion }
+        ensures moves { IfOk result (Moves text.now here.at self.new) }
+    {
+        if is_followed_by(text, here.at, b'[') {
+            let inside = behind(text, behind(text, here.at));
+            let next = self.open_bracket(text, here, inside, true)?;
+            return Ok(next);
+        }
+        Ok(pass(text, here))
+    }
+
+    // A bracket that may open a link or an image.
+    pub(crate) fn open_bracket(
+        &mut self,
+        text: &str,
+        here: Cursor,
+        inside: usize,
+        is_image: bool,
+    ) -> Result<Cursor, AllocError>
+        requires stands { Stands text.now here.pending self.old }
+        requires cursor { IsCursor text.now here }
+        requires part { IsPart text.now here.at inside }
+        ensures expansion { self.new.expansion ≡ self.old.expansion }
+        ensures moves { IfOk result (Moves text.now here.at self.new) }
+    {
+        self.flush(text, here, here.at)?;
+        let bracket = Bracket {
+            slot: self.slots.len(),
+            runs: self.delimiters.len(),
+            quotes: self.quotes.len(),
+            start: here.at,
+            inside,
+            is_image,
+        };
+        push_slot(&mut self.slots, SlotKind::Text, here.at, inside)?;
+        self.brackets.push(bracket)?;
+        Ok(Cursor {
+            pending: inside,
+            at: inside,
+        })
+    }
+
+    #[tactic(auto, using(std::proofs::lemmas::Str::lead_after_ascii))]
+    pub(crate) fn close_bracket<E: EntityLookup, F: BrokenLinkCallback<'a>>(
+        &mut self,
+        leaf: &LeafText<'a>,
+        reader: &Reader<'_, 'a, E>,
+        callback: &mut F,
+        text: &str,
+        here: Cursor,
+    ) -> Result<Cursor, AllocError>
+        requires stands { Stands text.now here.pending self.old }
+        requires cursor { IsCursor text.now here }
+        requires here { here.at < length text.now }
+        requires ascii { slice_index text.now here.at < 128 }
+        requires read { IsRead leaf.now }
+        requires same { text.now ≡ text_of leaf.now }
+        ensures asks { AsksOnce F.answers callback.old callback.new }
+        ensures spent { self.old.expansion ≡ 0 → (callback.new ≡ callback.old) × (self.new.expansion ≡ 0) }
+        ensures moves { IfOk result (Moves text.now here.at self.new) }
+    {
+        self.flush(text, here, here.at)?;
+        let behind_it = behind(text, here.at);
+        if let Some(bracket) = self.take_bracket(text, here.at) {
+            if let Some(target) = self.target(leaf, reader, callback, text, bracket, here.at)? {
+                let past = target.past;
+                self.form(reader.options, text, bracket, here.at, target)?;
+                return Ok(Cursor {
+                    pending: past,
+                    at: past,
+                });
+            }
+        }
+        let slot = Slot {
+            kind: SlotKind::Text,
+            start: here.at,
+            end: behind_it,
+        };
+        let flushed = Cursor {
+            pending: here.at,
+            at: here.at,
+        };
+        let next = self.put(text, flushed, here.at, slot)?;
+        Ok(next)
+    }
+
+    // The nearest opening bracket, which is used up, if it can form a link or an image.
+    fn take_bracket(&mut self, text: &str, at: usize) -> Option<Bracket>
+        requires { Stands text.now at self.old }
+        ensures stands { Stands text.now at self.new }
+        ensures expansion { self.new.expansion ≡ self.old.expansion }
+        ensures bracket { IfSome result (IsBracket text.now at) }
+        ensures link { IfSome result (λ bracket. bracket.is_image ≡ false → HoldNoLink self.new.slots.items bracket.slot) }
+    {
+        let (bracket, forms) = self.brackets.take()?;
+        if forms { Some(bracket) } else { None }
+    }
+
+    fn target<E: EntityLookup, F: BrokenLinkCallback<'a>>(
+        &mut self,
+        leaf: &LeafText<'a>,
+        reader: &Reader<'_, 'a, E>,
+        callback: &mut F,
+        text: &str,
+        bracket: Bracket,
+        close: usize,
+    ) -> Result<Option<Target<'a>>, AllocError>
+        requires stands { Stands text.now close self.old }
+        requires bracket { IsBracket text.now close bracket }
+        requires close { IsPart text.now close (close + 1) }
+        requires read { IsRead leaf.now }
+        requires same { text.now ≡ text_of leaf.now }
+        ensures asks { AsksOnce F.answers callback.old callback.new }
+        ensures spent { self.old.expansion ≡ 0 → (callback.new ≡ callback.old) × (self.new.expansion ≡ 0) }
+        ensures same { SameSpans self.old self.new }
+        ensures stands { Stands text.now close self.new }
+        ensures target { IfOk result (λ found. IfSome found (IsTarget text.now close)) }
+    {
+        if let Some(target) = inline_target(self.alloc, leaf, text, close + 1, reader.entities)? {
+            return Ok(Some(target));
+        }
+        let is_shut = self.shut_close == Some(close);
+        let Some(asked) = asked_at(text, bracket, close, is_shut) else {
+            return Ok(None);
+        };
+        if asked.link_type == LinkType::Reference {
+            self.shut_close = Some(asked.end - 1);
+        }
+        if self.expansion == 0 {
+            return Ok(None);
+        }
+        let found = self.reference(leaf, reader, callback, text, bracket.start, asked)?;
+        Ok(found)
+    }
+
+    // What a reference leads to, and what it takes off the expansion.
+    fn reference<E: EntityLookup, F: BrokenLinkCallback<'a>>(
+        &mut self,
+        leaf: &LeafText<'a>,
+        reader: &Reader<'_, 'a, E>,
+        callback: &mut F,
+        text: &str,
+        start: usize,
+        asked: Asked<'_>,
+    ) -> Result<Option<Target<'a>>, AllocError>
+        requires part { IsPart text.now start asked.end }
+        requires read { IsRead leaf.now }
+        requires same { text.now ≡ text_of leaf.now }
+        ensures asks { AsksOnce F.answers callback.old callback.new }
+        ensures refers { IfOk result (λ found. Refers F.answers (definition reader.now.references.now (fold asked.entry.label.now)) asked.entry.link_type (normal_form asked.entry.label.now)
+            (place_of leaf.now start) (place_of leaf.now (asked.entry.end - 1) + 1) callback.old callback.new found) }
+        ensures expansion { IfOk result (λ found. self.new.expansion ≡ left_behind self.old.expansion found) }
+        ensures same { SameSpans self.old self.new }
+        ensures target { IfOk result (λ found. IfSome found (λ target. (target.end ≡ asked.entry.end) × (target.past ≡ asked.entry.past))) }
+    {
+        let label = LinkLabel::new(self.alloc, asked.label)?;
+        let id = CowStr::Borrowed(label.as_str()).into_static(self.alloc)?;
+        if let Some(found) = defined(self.alloc, reader.references, asked.label)? {
+            return Ok(Some(self.resolved(found, asked.link_type, id, asked)));
+        }
+        let Some(found) = ask(self.alloc, leaf, callback, start, asked, &label)? else {
+            return Ok(None);
+        };
+        Ok(Some(self.resolved(found, asked.link_type.to_unknown(), id, asked)))
+    }
+
+    // The target that a reference leads to; its destination and its title are taken off the expansion.
+    fn resolved(
+        &mut self,
+        found: Destination<'a>,
+        link_type: LinkType,
+        id: CowStr<'a>,
+        asked: Asked<'_>,
+    ) -> Target<'a>
+        ensures parts { result.parts ≡ record { link_type = link_type; dest_url = found.entry.dest_url; title = found.entry.title; id = id.entry } }
+        ensures end { result.end ≡ asked.entry.end }
+        ensures past { result.past ≡ asked.entry.past }
+        ensures expansion { self.new.expansion ≡ left_behind self.old.expansion (Some result) }
+        ensures same { SameSpans self.old self.new }
+    {
+        let Destination { dest_url, title } = found;
+        self.expansion = self.expansion.saturating_sub(dest_url.as_str().len());
+        self.expansion = self.expansion.saturating_sub(title.as_str().len());
+        Target {
+            parts: LinkParts {
+                link_type,
+                dest_url,
+                title,
+                id,
+            },
+            end: asked.end,
+            past: asked.past,
+        }
+    }
+
+    fn form(
+        &mut self,
+        options: Options,
+        text: &str,
+        bracket: Bracket,
+        close: usize,
+        target: Target<'a>,
+    ) -> Result<(), AllocError>
+        requires stands { Stands text.now close self.old }
+        requires close { IsPart text.now close (close + 1) }
+        requires target { IsTarget text.now close target }
+        requires free { bracket.is_image ≡ false → HoldNoLink self.old.slots.items bracket.slot }
+        ensures expansion { self.new.expansion ≡ self.old.expansion }
+        ensures stands { OnOk result (Stands text.now target.entry.past self.new) }
+        ensures link { OnOk result (bracket.is_image ≡ false → HoldNoLink self.new.slots.items (bracket.slot + 1)) }
+    {
+        let Target { parts, end, .. } = target;
+        let index = self.links.len();
+        self.links.push(parts)?;
+        if bracket.is_image {
+            begin(&mut self.slots, bracket.slot, Element::Image(index), end);
+            self.finish(options, bracket, close, end)?;
+            return Ok(());
+        }
+        begin(&mut self.slots, bracket.slot, Element::Link(index), end);
+        self.finish(options, bracket, close, end)?;
+        self.brackets.shut_all();
+        Ok(())
+    }
+
+    // Ends the link or the image that a bracket began, and resolves the quotes and the delimiter runs in it.
+    fn finish(
+        &mut self,
+        options: Options,
+        bracket: Bracket,
+        close: usize,
+        end: usize,
+    ) -> Result<(), AllocError>
+        requires { bytes_of self.old.delimiters.placed.items ≤ length self.old.slots.items }
+        ensures expansion { self.new.expansion ≡ self.old.expansion }
+        ensures brackets { self.new.brackets ≡ self.old.brackets }
+        ensures slots { OnOk result ((text : List ℕ) (place : ℕ) → AreSlots text place self.old.slots.items → IsEnd text place close end → AreSlots text place self.new.slots.items) }
+        ensures length { OnOk result (length self.new.slots.items ≡ length self.old.slots.items + 1) }
+        ensures links { OnOk result (NoNewLink self.old.slots.items self.new.slots.items) }
+        ensures runs { OnOk result (bytes_of self.new.delimiters.placed.items ≤ bytes_of self.old.delimiters.placed.items) }
+    {
+        push_slot(&mut self.slots, SlotKind::End, close, end)?;
+        self.quotes.resolve(bracket.quotes, &mut self.slots)?;
+        self.delimiters
+            .resolve(bracket.runs, options, &mut self.slots)?;
+        Ok(())
+    }
+}
+
+// Asks the callback where a reference leads whose label has no definition.
+fn ask<'a, F: BrokenLinkCallback<'a>>(
+    alloc: Global,
+    leaf: &LeafText<'a>,
+    callback: &mut F,
+    start: usize,
+    asked: Asked<'_>,
+    label: &LinkLabel,
+) -> Result<Option<Destination<'a>>, AllocError>
+    requires read { IsRead leaf.now }
+    requires part { IsPart (text_of leaf.now) start asked.end }
+    ensures asks { AsksOnce F.answers callback.old callback.new }
+    ensures answers { IfOk result (λ found. Answers F.answers asked.entry.link_type (link_text label.now) (place_of leaf.now start) (place_of leaf.now (asked.entry.end - 1) + 1) callback.old callback.new found) }
+{
+    let reference = CowStr::Borrowed(label.as_str()).into_static(alloc)?;
+    let link = BrokenLink {
+        span: leaf.range(start, asked.end),
+        link_type: asked.link_type,
+        reference,
+    };
+    match callback.handle_broken_link(link) {
+        Some((dest_url, title)) => Ok(Some(Destination { dest_url, title })),
+        None => Ok(None),
+    }
+}

@@ -1,0 +1,79 @@
+//! Delimiter runs where they stand (CommonMark 6.2).
+
+ghost use Rattle.std.specs.Prelude.{◌≡◌, ◌⊎◌, true, ◌<◌, ◌≤◌, ◌+◌, ◌-◌, ◌++◌, ℕ, List, [], length, slice_index, IfOk, OnOk, IfSome};
+ghost use Rattle.std.specs.Str.{IsCharBoundary};
+ghost use Rattle.cmark_leaf_text.specs.Reads.{IsRead, IsPart, text_of};
+ghost use Rattle.cmark_inline.specs.Stands.{AreSlots, AreBrackets, IsBracket, IsCursor, IsSlot, IsTarget, Moves, NoNewLink, Stands, bytes_of};
+
+use crate::place::run_end;
+use crate::slot::{SlotKind, push_slot};
+use crate::state::InlineState;
+use crate::step::Cursor;
+use cmark_emphasis::{Run, flanking_of};
+use cmark_text::Options;
+use std::alloc::AllocError;
+
+impl<'a> InlineState<'a> {
+    pub(crate) fn run(
+        &mut self,
+        text: &str,
+        options: Options,
+        mark: u8,
+        here: Cursor,
+    ) -> Result<Cursor, AllocError>
+        requires stands { Stands text.now here.pending self.old }
+        requires cursor { IsCursor text.now here }
+        requires here { here.at < length text.now }
+        requires ascii { slice_index text.now here.at < 128 }
+        ensures expansion { self.new.expansion ≡ self.old.expansion }
+        ensures moves { IfOk result (Moves text.now here.at self.new) }
+    {
+        let end = run_end(text, here.at);
+        let before = text[..here.at].chars().next_back();
+        let after = text[end..].chars().next();
+        let size = end - here.at;
+        let flanking = flanking_of(options, mark, size, before, after);
+        if !flanking.opens && !flanking.closes {
+            return Ok(Cursor {
+                pending: here.pending,
+                at: end,
+            });
+        }
+        self.flush(text, here, here.at)?;
+        let first = self.slots.len();
+        self.push_bytes(text, here.at, end)?;
+        let run = Run {
+            mark,
+            size,
+            at: 0,
+            left: size,
+            opens: flanking.opens,
+            closes: flanking.closes,
+        };
+        self.delimiters.push(first, run)?;
+        Ok(Cursor {
+            pending: end,
+            at: end,
+        })
+    }
+
+    // Appends a text for each of these bytes of ASCII.
+    fn push_bytes(&mut self, text: &str, start: usize, end: usize) -> Result<(), AllocError>
+        requires stands { Stands text.now start self.old }
+        requires part { IsPart text.now start end }
+        requires ascii { (k : ℕ) → start ≤ k → k < end → slice_index text.now k < 128 }
+        ensures expansion { self.new.expansion ≡ self.old.expansion }
+        ensures slots { OnOk result (AreSlots text.now end self.new.slots.items) }
+        ensures brackets { OnOk result (self.new.brackets ≡ self.old.brackets) }
+        ensures delimiters { OnOk result (self.new.delimiters ≡ self.old.delimiters) }
+        ensures links { OnOk result (NoNewLink self.old.slots.items self.new.slots.items) }
+        ensures length { OnOk result (length self.new.slots.items ≡ length self.old.slots.items + (end - start)) }
+    {
+        let mut at = start;
+        while at < end {
+            push_slot(&mut self.slots, SlotKind::Text, at, at + 1)?;
+            at += 1;
+        }
+        Ok(())
+    }
+}

@@ -1,0 +1,151 @@
+//! Typographic punctuation: dots, hyphens and quotes (this profile's own).
+
+ghost use Rattle.std.specs.Prelude.{◌≡◌, ◌⊎◌, true, ◌<◌, ◌≤◌, ◌+◌, ◌-◌, ◌*◌, ◌++◌, string_bytes, ℕ, List, [], length, slice_index, IfOk, OnOk, IfSome};
+ghost use Rattle.std.specs.Str.{IsCharBoundary};
+ghost use Rattle.cmark_grammar.specs.Dashes as grammar;
+ghost use Rattle.cmark_inline.specs.Stands.{IsCursor, IsSlot, Moves, Stands};
+
+use crate::place::{behind, pass, run_end};
+use crate::slot::{Slot, SlotKind, push_slot};
+use crate::state::InlineState;
+use crate::step::Cursor;
+use cmark_emphasis::quote_of;
+use cmark_text::CowStr;
+use std::alloc::{AllocError, Global};
+
+impl<'a> InlineState<'a> {
+    // A dot: three of them are an ellipsis.
+    pub(crate) fn dots(&mut self, text: &str, here: Cursor) -> Result<Cursor, AllocError>
+        requires stands { Stands text.now here.pending self.old }
+        requires cursor { IsCursor text.now here }
+        requires here { here.at < length text.now }
+        requires ascii { slice_index text.now here.at < 128 }
+        ensures expansion { self.new.expansion ≡ self.old.expansion }
+        ensures moves { IfOk result (Moves text.now here.at self.new) }
+    {
+        if !text[here.at..].starts_with("...") {
+            return Ok(pass(text, here));
+        }
+        let slot = Slot {
+            kind: SlotKind::Character('\u{2026}'),
+            start: here.at,
+            end: here.at + 3,
+        };
+        let next = self.put(text, here, here.at, slot)?;
+        Ok(next)
+    }
+
+    // A run of hyphens: two and more are dashes.
+    pub(crate) fn hyphens(&mut self, text: &str, here: Cursor) -> Result<Cursor, AllocError>
+        requires stands { Stands text.now here.pending self.old }
+        requires cursor { IsCursor text.now here }
+        requires here { here.at < length text.now }
+        requires ascii { slice_index text.now here.at < 128 }
+        ensures expansion { self.new.expansion ≡ self.old.expansion }
+        ensures moves { IfOk result (Moves text.now here.at self.new) }
+    {
+        let end = run_end(text, here.at);
+        let size = end - here.at;
+        if size < 2 {
+            return Ok(pass(text, here));
+        }
+        let slot = Slot {
+            kind: SlotKind::OwnedText(self.texts.len()),
+            start: here.at,
+            end,
+        };
+        let owned = CowStr::from_string(dash_text(self.alloc, size)?)?;
+        self.texts.push(owned)?;
+        let next = self.put(text, here, here.at, slot)?;
+        Ok(next)
+    }
+
+    // A quote, whose character stands with those of its siblings.
+    #[tactic(auto, using(std::proofs::lemmas::Str::lead_after_ascii))]
+    pub(crate) fn quote(&mut self, text: &str, here: Cursor) -> Result<Cursor, AllocError>
+        requires stands { Stands text.now here.pending self.old }
+        requires cursor { IsCursor text.now here }
+        requires here { here.at < length text.now }
+        requires ascii { slice_index text.now here.at < 128 }
+        ensures expansion { self.new.expansion ≡ self.old.expansion }
+        ensures moves { IfOk result (Moves text.now here.at self.new) }
+    {
+        let end = behind(text, here.at);
+        let before = text[..here.at].chars().next_back();
+        let after = text[end..].chars().next();
+        let quote = quote_of(text.as_bytes()[here.at] == b'"', before, after);
+        self.flush(text, here, here.at)?;
+        self.quotes.push(self.slots.len(), quote)?;
+        let slot = Slot {
+            kind: SlotKind::Text,
+            start: here.at,
+            end,
+        };
+        self.add(text, end, slot)?;
+        Ok(Cursor {
+            pending: end,
+            at: end,
+        })
+    }
+}
+
+/// So many em dashes, and then so many en dashes.
+#[derive(Clone, Copy)]
+struct Dashes {
+    em: usize,
+    en: usize,
+}
+
+/// The dashes that so many hyphens are.
+fn dashes_of(size: usize) -> Dashes
+    requires { 2 ≤ size }
+    ensures value { record { em = result.em; en = result.en } ≡ grammar.dashes_of size }
+    ensures whole { 3 * result.em + 2 * result.en ≡ size }
+{
+    if size % 3 == 0 {
+        return Dashes {
+            em: size / 3,
+            en: 0,
+        };
+    }
+    if size % 2 == 0 {
+        return Dashes {
+            em: 0,
+            en: size / 2,
+        };
+    }
+    if size % 3 == 2 {
+        return Dashes {
+            em: (size - 2) / 3,
+            en: 1,
+        };
+    }
+    Dashes {
+        em: (size - 4) / 3,
+        en: 2,
+    }
+}
+
+/// The dashes that so many hyphens are.
+fn dash_text(alloc: Global, size: usize) -> Result<String, AllocError>
+    requires { 2 ≤ size }
+    ensures { IfOk result (λ text. string_bytes text ≡ grammar.dash_text (grammar.dashes_of size)) }
+{
+    let counts = dashes_of(size);
+    let mut out = String::new(alloc);
+    push_times(&mut out, '\u{2014}', counts.em)?;
+    push_times(&mut out, '\u{2013}', counts.en)?;
+    Ok(out)
+}
+
+/// Appends a character so many times.
+fn push_times(out: &mut String, character: char, times: usize) -> Result<(), AllocError>
+    ensures { OnOk result (string_bytes out.new ≡ string_bytes out.old ++ grammar.repeated character times) }
+{
+    let mut left = times;
+    while left > 0 {
+        out.push(character)?;
+        left -= 1;
+    }
+    Ok(())
+}

@@ -1,0 +1,134 @@
+//! Code spans, autolinks and inline HTML (CommonMark 6.1, 6.5 and 6.6).
+
+ghost use Rattle.std.specs.Prelude.{◌≡◌, ◌⊎◌, true, ◌<◌, ◌≤◌, ◌+◌, ◌-◌, ◌++◌, ℕ, List, [], length, slice_index, IfOk, OnOk, IfSome};
+ghost use Rattle.std.specs.Str.{IsCharBoundary};
+ghost use Rattle.cmark_leaf_text.specs.Reads.{IsRead, IsPart, text_of};
+ghost use Rattle.cmark_inline.specs.Stands.{AreSlots, AreBrackets, IsBracket, IsCursor, IsSlot, IsTarget, Moves, SameSpans, Stands, bytes_of};
+
+use crate::event::text_between;
+use crate::link::LinkParts;
+use crate::place::{autolink_end, behind, is_followed_by, pass, run_end, text_start};
+use crate::slot::{Element, Slot, SlotKind};
+use crate::state::InlineState;
+use crate::step::Cursor;
+use cmark_finds::code_span;
+use cmark_leaf_text::LeafText;
+use cmark_text::{CowStr, LinkType};
+use std::alloc::AllocError;
+
+impl<'a> InlineState<'a> {
+    // A run of backticks: a code span (CommonMark 6.1), or text.
+    pub(crate) fn backticks(&mut self, text: &str, here: Cursor) -> Result<Cursor, AllocError>
+        requires stands { Stands text.now here.pending self.old }
+        requires cursor { IsCursor text.now here }
+        requires here { here.at < length text.now }
+        requires ascii { slice_index text.now here.at < 128 }
+        ensures expansion { self.new.expansion ≡ self.old.expansion }
+        ensures moves { IfOk result (Moves text.now here.at self.new) }
+    {
+        if let Some(span) = code_span(text, here.at) {
+            let slot = Slot {
+                kind: SlotKind::Code(span.content_start, span.content_end),
+                start: here.at,
+                end: span.end,
+            };
+            let next = self.put(text, here, here.at, slot)?;
+            return Ok(next);
+        }
+        let start = text_start(text, here);
+        let slot = Slot {
+            kind: SlotKind::Text,
+            start,
+            end: run_end(text, here.at),
+        };
+        let next = self.put(text, here, start, slot)?;
+        Ok(next)
+    }
+
+    // `<`: an autolink (CommonMark 6.5), inline HTML (CommonMark 6.6), or text.
+    #[tactic(auto, using(std::proofs::lemmas::Str::lead_after_ascii))]
+    pub(crate) fn less_than(
+        &mut self,
+        leaf: &LeafText<'a>,
+        text: &str,
+        here: Cursor,
+    ) -> Result<Cursor, AllocError>
+        requires stands { Stands text.now here.pending self.old }
+        requires cursor { IsCursor text.now here }
+        requires here { here.at < length text.now }
+        requires ascii { slice_index text.now here.at < 128 }
+        requires read { IsRead leaf.now }
+        requires same { text.now ≡ text_of leaf.now }
+        ensures expansion { self.new.expansion ≡ self.old.expansion }
+        ensures moves { IfOk result (Moves text.now here.at self.new) }
+    {
+        if is_followed_by(text, here.at, b'\\') {
+            return Ok(pass(text, here));
+        }
+        if let Some(end) = autolink_end(text, here.at) {
+            let next = self.autolink(leaf, text, here, end)?;
+            return Ok(next);
+        }
+        if let Some(end) = self.unclosed.inline_html(text, here.at) {
+            let slot = Slot {
+                kind: SlotKind::InlineHtml,
+                start: here.at,
+                end,
+            };
+            let next = self.put(text, here, here.at, slot)?;
+            return Ok(next);
+        }
+        let slot = Slot {
+            kind: SlotKind::Text,
+            start: here.at,
+            end: behind(text, here.at),
+        };
+        let next = self.put(text, here, here.at, slot)?;
+        Ok(next)
+    }
+
+    // An autolink, whose text and destination is its URI.
+    fn autolink(
+        &mut self,
+        leaf: &LeafText<'a>,
+        text: &str,
+        here: Cursor,
+        end: usize,
+    ) -> Result<Cursor, AllocError>
+        requires stands { Stands text.now here.pending self.old }
+        requires cursor { IsCursor text.now here }
+        requires whole { IsPart text.now here.at end }
+        requires inside { IsPart text.now (here.at + 1) (end - 1) }
+        requires read { IsRead leaf.now }
+        requires same { text.now ≡ text_of leaf.now }
+        ensures expansion { self.new.expansion ≡ self.old.expansion }
+        ensures moves { IfOk result (Moves text.now here.at self.new) }
+    {
+        let dest_url = text_between(self.alloc, leaf, here.at + 1, end - 1)?;
+        let slot = Slot {
+            kind: SlotKind::Begin(Element::Autolink(self.links.len())),
+            start: here.at,
+            end,
+        };
+        self.links.push(LinkParts {
+            link_type: LinkType::Autolink,
+            dest_url,
+            title: CowStr::Borrowed(""),
+            id: CowStr::Borrowed(""),
+        })?;
+        let next = self.put(text, here, here.at, slot)?;
+        let uri = Slot {
+            kind: SlotKind::Text,
+            start: here.at + 1,
+            end: end - 1,
+        };
+        self.add(text, end, uri)?;
+        let last = Slot {
+            kind: SlotKind::End,
+            start: end - 1,
+            end,
+        };
+        self.add(text, end, last)?;
+        Ok(next)
+    }
+}

@@ -1,0 +1,114 @@
+//! Line breaks, escapes and entities (CommonMark 2.4, 2.5, 6.7 and 6.8).
+
+ghost use Rattle.std.specs.Prelude.{◌≡◌, ◌⊎◌, true, ◌<◌, ◌≤◌, ◌+◌, ◌-◌, ◌++◌, ℕ, List, [], length, slice_index, IfOk, OnOk, IfSome};
+ghost use Rattle.std.specs.Str.{IsCharBoundary};
+ghost use Rattle.cmark_inline.specs.Stands.{AreSlots, AreBrackets, IsBracket, IsCursor, IsSlot, IsTarget, Moves, SameSpans, Stands, bytes_of};
+
+use crate::place::{before_blanks, behind, end_behind, is_escape, is_lone_backtick, pass};
+use crate::slot::{Slot, SlotKind};
+use crate::state::InlineState;
+use crate::step::Cursor;
+use cmark_finds::line_break;
+use cmark_scan_parts::scan_entity;
+use cmark_text::EntityLookup;
+use std::alloc::AllocError;
+
+impl<'a> InlineState<'a> {
+    // A line ends: a soft break, or a hard one where two spaces stand before it (CommonMark 6.7 and 6.8).
+    pub(crate) fn line_end(&mut self, text: &str, here: Cursor) -> Result<Cursor, AllocError>
+        requires stands { Stands text.now here.pending self.old }
+        requires cursor { IsCursor text.now here }
+        requires here { here.at < length text.now }
+        requires ascii { slice_index text.now here.at < 128 }
+        ensures expansion { self.new.expansion ≡ self.old.expansion }
+        ensures moves { IfOk result (Moves text.now here.at self.new) }
+    {
+        let stop = before_blanks(text, here);
+        let Some(found) = line_break(text, here.at) else {
+            return Ok(pass(text, here));
+        };
+        let (kind, start) = if text.as_bytes()[stop..here.at].ends_with(b"  ") {
+            (SlotKind::HardBreak, stop)
+        } else {
+            (SlotKind::SoftBreak, here.at)
+        };
+        let slot = Slot {
+            kind,
+            start,
+            end: found.end,
+        };
+        let next = self.put(text, here, stop, slot)?;
+        Ok(next)
+    }
+
+    // A backslash: a hard break before a line end (CommonMark 6.7), or an escape (CommonMark 2.4).
+    #[tactic(auto, using(std::proofs::lemmas::Str::lead_after_ascii))]
+    pub(crate) fn backslash(&mut self, text: &str, here: Cursor) -> Result<Cursor, AllocError>
+        requires stands { Stands text.now here.pending self.old }
+        requires cursor { IsCursor text.now here }
+        requires here { here.at < length text.now }
+        requires ascii { slice_index text.now here.at < 128 }
+        ensures expansion { self.new.expansion ≡ self.old.expansion }
+        ensures moves { IfOk result (Moves text.now here.at self.new) }
+    {
+        if let Some(found) = line_break(text, here.at) {
+            let slot = Slot {
+                kind: SlotKind::HardBreak,
+                start: here.at,
+                end: found.end,
+            };
+            let next = self.put(text, here, here.at, slot)?;
+            return Ok(next);
+        }
+        if !is_escape(text, here.at) {
+            return Ok(pass(text, here));
+        }
+        let escaped = behind(text, here.at);
+        let end = behind(text, escaped);
+        if is_lone_backtick(text, escaped) {
+            let slot = Slot {
+                kind: SlotKind::Text,
+                start: escaped,
+                end,
+            };
+            let next = self.put(text, here, here.at, slot)?;
+            return Ok(next);
+        }
+        self.flush(text, here, here.at)?;
+        Ok(Cursor {
+            pending: escaped,
+            at: end,
+        })
+    }
+
+    // An entity or a numeric character reference (CommonMark 2.5).
+    pub(crate) fn entity<E: EntityLookup>(
+        &mut self,
+        text: &str,
+        entities: &E,
+        here: Cursor,
+    ) -> Result<Cursor, AllocError>
+        requires stands { Stands text.now here.pending self.old }
+        requires cursor { IsCursor text.now here }
+        requires here { here.at < length text.now }
+        requires ascii { slice_index text.now here.at < 128 }
+        ensures expansion { self.new.expansion ≡ self.old.expansion }
+        ensures moves { IfOk result (Moves text.now here.at self.new) }
+    {
+        let Some(entity) = scan_entity(text[here.at..].as_bytes(), entities) else {
+            return Ok(pass(text, here));
+        };
+        let Some(end) = end_behind(text, here.at, entity.len) else {
+            return Ok(pass(text, here));
+        };
+        let slot = Slot {
+            kind: SlotKind::OwnedText(self.texts.len()),
+            start: here.at,
+            end,
+        };
+        let owned = entity.text.into_static(self.alloc)?;
+        self.texts.push(owned)?;
+        let next = self.put(text, here, here.at, slot)?;
+        Ok(next)
+    }
+}

@@ -1,0 +1,20 @@
+use Rattle.std.proofs.Common.{◌≡◌, ◌+◌, ◌-◌, ℕ, List, sym, ap, ◌∙◌, arith}
+use Rattle.cmark_grammar.specs.Tokens.{slice}
+use Rattle.cmark_leaf_text.specs.Stretches.{joined, place_in}
+use Rattle.cmark_leaf_text.specs.declared.stretch.Stretch.{Stretch}
+use Rattle.cmark_leaf_text.proofs.Gapless.{same-bytes}
+use Rattle.cmark_leaf_text.proofs.leaf_text.LeafText.slice.Goals as goal
+
+pub returns-then-range-to-clause-text : goal.returns-then-range-to-clause-text
+returns-then-range-to-clause-text c =
+    let source : List ℕ = c.args.self.now.source.now in
+    let items : List Stretch = c.args.self.now.stretches.items in
+    let first : ℕ = place_in items c.args.from in
+    let last : ℕ = place_in items (c.args.to - 1) + 1 in
+    let s = c.range-range.ensures.start in
+    let e = c.range-range.ensures.end in
+    let t = c.if-range-to.true in
+    c.range.ensures.value
+    ∙ ap (λ (k : ℕ). slice source k c.range-range.result.end) s
+    ∙ ap (λ (k : ℕ). slice source first k) e
+    ∙ same-bytes source items c.args.from c.args.to c.requires.read.stretches c.requires.part (let q : last - first ≡ c.args.to - c.args.from = omega (arith, s, e, t) in q)
