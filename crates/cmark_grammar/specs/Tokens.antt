@@ -3,18 +3,11 @@
 use Rattle.std.specs.Char.{encode_utf8}
 use Rattle.std.specs.Prelude.{ℕ, zero, suc, ◌+◌, ◌-◌, ◌*◌, Bool, true, false, ◌==◌, ◌&&◌, ◌||◌, not, nat_lt, nat_le, if◌then◌else◌, List, [], ◌∷◌, ◌++◌, length, drop, take, take_while, replicate, fold, Option, Some, None}
 use Rattle.cmark_grammar.specs.Answers.{Lookup}
-use Rattle.cmark_grammar.specs.Columns.{Column, is_blank_byte, without_indent, drop_end, without_trailing_blanks, bytes_of}
+use Rattle.cmark_grammar.specs.Columns.{Column, is_blank_byte, without_indent, drop_end, without_trailing_blanks}
 use Rattle.cmark_grammar.specs.Rows.{Row, is_bare, first_place, indent_of, start_of}
 use Rattle.cmark_grammar.specs.Leaves.{Fence, closes_fence, is_empty}
 use Rattle.cmark_grammar.specs.HtmlBlocks.{is_alphanumeric, is_number, lower, first_is}
 use Rattle.cmark_grammar.specs.BlockDocument.{BlockKind, BlockDocument, Nil, Node, node, Text, OwnedText, Html, SoftBreak}
-
--- a piece of text: the bytes that it stands for and those that it takes in the text; owned if they differ
-pub record Piece : Type 0 where
-  pub owned : Bool
-  pub bytes : List ℕ
-  pub start : ℕ
-  pub end : ℕ
 
 -- ASCII punctuation (CommonMark 2.1)
 abbrev pub is_punctuation : ℕ → Bool
@@ -102,53 +95,22 @@ size_behind Stands = 0
 size_behind EscapesNext = 0
 size_behind (Begins entity) = entity.size - 1
 
-abbrev pub plain_of : Column → Piece
-plain_of c = record { owned = false; bytes = c.byte ∷ []; start = c.at; end = suc c.at }
+-- the bytes that it stands for, in front of others
+abbrev pub add_bytes : Does → ℕ → List ℕ → List ℕ
+add_bytes Stands b bs = b ∷ bs
+add_bytes EscapesNext b bs = bs
+add_bytes (Begins entity) b bs = entity.bytes ++ bs
 
-abbrev pub grown : Column → Piece → Piece
-grown c p = record { owned = false; bytes = c.byte ∷ p.bytes; start = c.at; end = p.end }
+abbrev pub resolved_from : Lookup → (escaped : Bool) → (skip : ℕ) → List ℕ → List ℕ
+resolved_from lookup escaped skip [] = []
+resolved_from lookup escaped (suc skip) (b ∷ bs) = resolved_from lookup false skip bs
+resolved_from lookup escaped zero (b ∷ bs) =
+    let what = does lookup escaped b bs in add_bytes what b (resolved_from lookup (is_escape what) (size_behind what) bs)
 
--- a byte in front of pieces: it goes onto a piece of the text that begins directly behind it
-abbrev pub onto : Column → List Piece → List Piece
-onto c [] = plain_of c ∷ []
-onto c (p ∷ ps) = if not p.owned && (p.start == suc c.at) then grown c p ∷ ps else plain_of c ∷ p ∷ ps
-
-abbrev pub add : Does → Column → List Piece → List Piece
-add Stands c ps = onto c ps
-add EscapesNext c ps = ps
-add (Begins entity) c ps = record { owned = true; bytes = entity.bytes; start = c.at; end = c.at + entity.size } ∷ ps
-
--- the pieces of these bytes: a backslash before punctuation is dropped, and an entity is a piece of its own
-abbrev pub pieces_from : Lookup → (escaped : Bool) → (skip : ℕ) → List Column → List Piece
-pieces_from lookup escaped skip [] = []
-pieces_from lookup escaped (suc skip) (c ∷ cs) = pieces_from lookup false skip cs
-pieces_from lookup escaped zero (c ∷ cs) =
-    let what = does lookup escaped c.byte (bytes_of cs) in add what c (pieces_from lookup (is_escape what) (size_behind what) cs)
-
--- the columns in which bytes begin
-abbrev pub put_column : Bool → Column → List Column → List Column
-put_column true c cs = c ∷ cs
-put_column false c cs = cs
-
-abbrev pub byte_columns : List Column → List Column
-byte_columns [] = []
-byte_columns (c ∷ cs) = put_column (c.part == 0) c (byte_columns cs)
-
-abbrev pub pieces : Lookup → List Column → List Piece
-pieces lookup cs = pieces_from lookup false 0 (byte_columns cs)
-
--- bytes that stand in no line, as columns
-abbrev pub columns_of : ℕ → List ℕ → List Column
-columns_of at [] = []
-columns_of at (b ∷ bs) = record { byte = b; at = at; part = 0 } ∷ columns_of (suc at) bs
-
-abbrev pub piece_bytes : List Piece → List ℕ
-piece_bytes [] = []
-piece_bytes (p ∷ ps) = p.bytes ++ piece_bytes ps
-
--- bytes with escapes and entities resolved (info strings, destinations and titles)
+-- bytes with escapes and entities resolved (info strings, destinations and titles): a backslash before punctuation is dropped, and an
+-- entity stands for its text
 abbrev pub resolved : Lookup → List ℕ → List ℕ
-resolved lookup bs = piece_bytes (pieces lookup (columns_of 0 bs))
+resolved lookup bs = resolved_from lookup false 0 bs
 
 -- a title's lines: each line end and the blanks behind it are one line feed (this profile's own)
 abbrev pub title_byte : (front : Bool) → ℕ → List ℕ → List ℕ
@@ -157,6 +119,13 @@ title_byte front b bs = if (b == 13) || (front && is_blank_byte b) then bs else 
 abbrev pub title_lines : (front : Bool) → List ℕ → List ℕ
 title_lines front [] = []
 title_lines front (b ∷ bs) = title_byte front b (title_lines ((b == 10) || (front && is_blank_byte b)) bs)
+
+-- a piece of a leaf: its bytes, and those that it takes in the text; owned if they differ
+pub record Piece : Type 0 where
+  pub owned : Bool
+  pub bytes : List ℕ
+  pub start : ℕ
+  pub end : ℕ
 
 abbrev pub text_kind_of : Piece → BlockKind
 text_kind_of p = if p.owned then OwnedText p.bytes else Text p.bytes
