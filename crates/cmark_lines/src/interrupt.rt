@@ -117,8 +117,10 @@ fn html_interrupts(words: &[u8]) -> bool
 pub fn underlines(rest: LineRest<'_>) -> Option<HeadingLevel>
     ensures { option_map level_number result ≡ underlines (row_of rest.entry) }
 {
-    if rest.indent_upto(4) == 4 {
-        return None;
+    let level = scan_setext_heading(rest.words())?;
+    if rest.indent_upto(4) < 4 {
+        Some(level)
+    } else {
+        None
     }
-    scan_setext_heading(rest.words())
 }
