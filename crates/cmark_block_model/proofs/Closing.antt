@@ -8,7 +8,7 @@ use Rattle.cmark_grammar.specs.Containers.{is_bare_start, bare_after}
 use Rattle.cmark_grammar.specs.Openings.{Leaf, ThematicBreak, AtxHeading, IndentedCode, FencedCode, HtmlBlock, LinkDefinition}
 use Rattle.cmark_grammar.specs.Blocks.{Blocks, Nil as NoBlocks, Paragraph, LeafBlock, ContainerBlock, join as join_blocks}
 use Rattle.cmark_grammar.specs.BlocksByLine.{Verbatim, Indented, Fenced, HtmlLines, leaf_in, OpenLines, Between, InParagraph, InLeaf, InVerbatim, InContainer, blank_lines, close_lines}
-use Rattle.cmark_grammar.specs.Tokens.{resolved, pieces, line_columns, stop_at, html_tokens, fenced_lines, code_tokens, code_columns}
+use Rattle.cmark_grammar.specs.Tokens.{resolved, line_words, stop_at, html_tokens, fenced_lines, code_tokens, code_columns}
 use Rattle.cmark_grammar.specs.BlockDocument as document
 use Rattle.cmark_grammar.specs.BlockDocument.{BlockDocument, BlockKind, Nil, Node, node, join}
 use Rattle.cmark_block_model.specs.CodeLines.{texts_of}
@@ -88,7 +88,7 @@ module _ (text : List ℕ) (options : Options) (lookup : Lookup) where
   leaf-closes (Between closed) b n l outer bare f = refl
   leaf-closes (InParagraph closed first more) b n l outer bare f =
       let c = replay text lookup closed l in
-      ap (λ p. pass_with (noded document.Paragraph (start_of first) p (join (lines_drawn text lookup first more) (texts_of (pieces lookup (line_columns (last_of first more))))) (begun c)) outer bare Closed n) (sym f.1)
+      ap (λ p. pass_with (noded document.Paragraph (start_of first) p (join (lines_drawn text lookup first more) (line_words text (last_of first more) Nil)) (begun c)) outer bare Closed n) (sym f.1)
       ∙ ap (λ t. pass_with (noded document.Paragraph (start_of first) (past_of first more) t (begun c)) outer bare Closed n) (sym (drawn-tokens text lookup first more))
       ∙ ap (λ q. pass_with q outer bare Closed n) (sym (replay-join text lookup closed (Paragraph first more NoBlocks) l))
   leaf-closes (InLeaf closed leaf first had left) b n l outer bare f =

@@ -38,7 +38,7 @@ item-keeps mark number start l (Some o) = go (o.mark == mark)
 module _ (text : List ℕ) (lookup : Lookup) where
   leaf-references : (leaf : Leaf) (first : Row) (more : List Row) (rs : List Reference) (d : BlockDocument) → (leaf_references text lookup leaf first more rs ++ references d) ≡ (rs ++ references (leaf_then text lookup leaf first more d))
   leaf-references ThematicBreak first more rs d = refl
-  leaf-references (AtxHeading level) first more rs d = ap (λ r. rs ++ (r ++ references d)) (sym (heading_plain lookup level first).defines)
+  leaf-references (AtxHeading level) first more rs d = ap (λ r. rs ++ (r ++ references d)) (sym (heading_plain text level first).defines)
   leaf-references IndentedCode first more rs d = ap (λ r. rs ++ (r ++ references d)) (sym (code_plain text 4 (first ∷ more)).defines)
   leaf-references (FencedCode fence) first more rs d = ap (λ r. rs ++ (r ++ references d)) (sym (code_plain text fence.indented (fenced_lines fence more)).defines)
   leaf-references (HtmlBlock kind) first more rs d = ap (λ r. rs ++ (r ++ references d)) (sym (html_tokens_plain text (first ∷ more)).defines)
@@ -49,10 +49,10 @@ module _ (text : List ℕ) (lookup : Lookup) where
   defines (BlankLine line after) direct before l = defines after direct before (blank_level l)
   defines (Paragraph first more after) direct before l =
       defines after direct None (paragraph_level text lookup first more l)
-      ∙ ap (λ r. l.references ++ r) (sym (paragraph-references direct (start_of first) (past_of first more) _ (document_of text lookup direct None after) (paragraph_plain lookup first more)))
+      ∙ ap (λ r. l.references ++ r) (sym (paragraph-references direct (start_of first) (past_of first more) _ (document_of text lookup direct None after) (paragraph_plain text first more)))
   defines (SetextHeading level first more underline after) direct before l =
       defines after direct None (heading_level text lookup level first more underline l)
-      ∙ ap (λ r. l.references ++ (r ++ references (document_of text lookup direct None after))) (sym (paragraph_plain lookup first more).defines)
+      ∙ ap (λ r. l.references ++ (r ++ references (document_of text lookup direct None after))) (sym (paragraph_plain text first more).defines)
   defines (LeafBlock leaf first more after) direct before l =
       defines after direct None (leaf_level text lookup leaf first more l) ∙ leaf-references leaf first more l.references (document_of text lookup direct None after)
   defines (ContainerBlock Quote first more inside after) direct before l =

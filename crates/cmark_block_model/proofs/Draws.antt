@@ -152,10 +152,10 @@ module _ (text : List ℕ) (lookup : Lookup) where
   draws (BlankLine line after) h Behind v here up blank p rs = draws after h Behind v here up true p rs
   draws (BlankLine line after) h (InList o) v here up blank p rs = draws after h (InList o) v here up true p rs
   draws (Paragraph first more after) h s v here up blank p rs =
-      alone after (draws after h) s v here up (Node (node document.Paragraph (start_of first) (past_of first more)) (paragraph_tokens lookup first more) Nil) _ (p || blank) rs refl
+      alone after (draws after h) s v here up (Node (node document.Paragraph (start_of first) (past_of first more)) (paragraph_tokens text first more) Nil) _ (p || blank) rs refl
       (loose_at s blank (Paragraph first more after)) (loose-none s blank (Paragraph first more after) (λ mark. refl))
   draws (SetextHeading level first more underline after) h s v here up blank p rs =
-      alone after (draws after h) s v here up (Node (node (document.Heading level no_attributes) (start_of first) underline.past) (paragraph_tokens lookup first more) Nil) _ (p || blank) rs refl
+      alone after (draws after h) s v here up (Node (node (document.Heading level no_attributes) (start_of first) underline.past) (paragraph_tokens text first more) Nil) _ (p || blank) rs refl
       (loose_at s blank (SetextHeading level first more underline after)) (loose-none s blank (SetextHeading level first more underline after) (λ mark. refl))
   draws (LeafBlock leaf first more after) h s v here up blank p rs =
       alone after (draws after h) s v here up (leaf_raw text lookup leaf first more Nil) _ (p || blank) (leaf_references text lookup leaf first more rs) (leaf-drawing leaf first more (list_closed (list_of s) (drawing_at s v here up)))

@@ -9,29 +9,22 @@ use Rattle.cmark_grammar.specs.Leaves.{underlines}
 use Rattle.cmark_grammar.specs.Openings.{Leaf, ThematicBreak, AtxHeading, IndentedCode, FencedCode, HtmlBlock, LinkDefinition, texts}
 use Rattle.cmark_grammar.specs.Blocks.{Blocks, Nil as NoBlocks, Paragraph, SetextHeading, LeafBlock, join as join_blocks, may_lazy}
 use Rattle.cmark_grammar.specs.BlocksByLine.{Between, InParagraph, InLeaf, lines_underline_or, lines_go_on_or, lines_begin, lines_feed}
-use Rattle.cmark_grammar.specs.Tokens.{LineEnd, Soft, Spaces, Backslash, line_end, broken}
 use Rattle.cmark_grammar.specs.BlockDocument as document
 use Rattle.cmark_grammar.specs.BlockDocument.{BlockDocument, Nil, Node, node, join}
 use Rattle.cmark_block_model.specs.OpenBlocks.{OpenContainer, OpenLeaf, Closed, InParagraph as InParagraphLeaf, InDefinition, Pass}
 use Rattle.cmark_block_model.specs.BlockPass.{ahead_in, begin, leaf_closed, leaf_fed, underlined_or, heading_made, paragraph_line}
 use Rattle.cmark_block_model.proofs.Replay.{Level, begun, level_opened, level_drawn, leaf_level, replay, replay-join}
-use Rattle.cmark_block_model.proofs.Mirror.{whole, whole-same, last_of, last_push, pass_with, leaf_left, Fits, lines_drawn, drawn-tokens, drawn-push, paragraph_open, inner_at, leaf_at, pass_at}
+use Rattle.cmark_block_model.proofs.Mirror.{whole, whole-same, last_of, last_push, pass_with, leaf_left, Fits, ended_line, lines_drawn, drawn-tokens, drawn-push, paragraph_open, inner_at, leaf_at, pass_at}
 use Rattle.cmark_block_model.proofs.Closing.{noded, leaf-closes}
 use Rattle.cmark_block_model.proofs.Beginning.{starts}
 
 module _ (text : List ℕ) (options : Options) (lookup : Lookup) where
-  broken-whole : (e : LineEnd) (r : Row) → broken lookup e (whole r) Nil ≡ broken lookup e r Nil
-  broken-whole Soft r = refl
-  broken-whole Spaces r = refl
-  broken-whole Backslash r = refl
-
   -- a paragraph goes on
   pub paragraph-goes : (first : Row) (more : List Row) (r s : Row) (l : Level) (outer : List OpenContainer) (leaf : OpenLeaf) (n : ℕ) → whole s ≡ r
       → paragraph_line text options lookup (whole (last_of first more)) r (pass_with (paragraph_open text lookup first more l) outer false leaf n)
       ≡ pass_with (paragraph_open text lookup first (more ++ s ∷ []) l) outer false (InParagraphLeaf (whole (last_of first (more ++ s ∷ [])))) n
   paragraph-goes first more r s l outer leaf n e =
-      ap (λ t. pass_with (level_drawn (join (lines_drawn text lookup first more) t) (level_opened (start_of first) document.Paragraph (begun l))) outer false (InParagraphLeaf r) n) (broken-whole (line_end (last_of first more)) (last_of first more)) ∙
-      ap (λ x. pass_with (level_drawn (join (lines_drawn text lookup first more) (broken lookup (line_end (last_of first more)) (last_of first more) Nil)) (level_opened (start_of first) document.Paragraph (begun l))) outer false (InParagraphLeaf x) n)
+      ap (λ x. pass_with (level_drawn (join (lines_drawn text lookup first more) (ended_line text lookup (last_of first more) Nil)) (level_opened (start_of first) document.Paragraph (begun l))) outer false (InParagraphLeaf x) n)
       (sym (ap whole (last_push first more s) ∙ e))
       ∙ ap (λ d. pass_with (level_drawn d (level_opened (start_of first) document.Paragraph (begun l))) outer false (InParagraphLeaf (whole (last_of first (more ++ s ∷ [])))) n) (sym (drawn-push text lookup first more s))
 

@@ -8,12 +8,12 @@ use Rattle.cmark_grammar.specs.Openings.{Leaf, ThematicBreak, AtxHeading, Indent
 use Rattle.cmark_grammar.specs.Blocks.{may_lazy}
 use Rattle.cmark_grammar.specs.BlocksModel.{within}
 use Rattle.cmark_grammar.specs.BlocksByLine.{Verbatim, Indented, Fenced, HtmlLines, OpenLines, Between, InParagraph, InLeaf, InVerbatim, InContainer}
-use Rattle.cmark_grammar.specs.Tokens.{resolved, pieces, line_columns, line_end, broken, paragraph_tokens, html_tokens, html_then, verbatim_line, code_columns}
+use Rattle.cmark_grammar.specs.Tokens.{resolved, line_words, paragraph_tokens, html_tokens, html_then, verbatim_line, code_columns}
 use Rattle.cmark_grammar.specs.BlockDocument as document
-use Rattle.cmark_grammar.specs.BlockDocument.{BlockDocument, Nil, join}
+use Rattle.cmark_grammar.specs.BlockDocument.{BlockDocument, Nil, Node, node, join}
 use Rattle.cmark_block_model.specs.CodeLines.{no_run, texts_of}
 use Rattle.cmark_block_model.specs.OpenBlocks.{OpenContainer, OpenLeaf, Closed, InParagraph as InParagraphLeaf, InDefinition, InIndented, InFenced, InHtml, Pass}
-use Rattle.cmark_block_model.proofs.PlainTokens.{broken-join, html-join}
+use Rattle.cmark_block_model.proofs.PlainTokens.{words-join, html-join}
 use Rattle.cmark_block_model.proofs.CodeRuns.{code_run}
 use Rattle.cmark_block_model.proofs.Replay.{Level, begun, level_opened, level_drawn, standing, entered, leaf_level, replay}
 
@@ -75,22 +75,25 @@ Fits bare (InContainer closed k first more inside) ahead n =
     (bare ≡ false) × (past_of first more ≡ n) × Fits (bare_after (is_bare_start k first) more) inside (within k (bare_after (is_bare_start k first) more) ahead) n
 
 module _ (text : List ℕ) (lookup : Lookup) where
+  -- a line with its ending
+  abbrev pub ended_line : Row → BlockDocument → BlockDocument
+  ended_line r after = line_words text r (Node (node document.SoftBreak r.stop r.past) Nil after)
+
+  ended-join : (r : Row) (a b : BlockDocument) → join (ended_line r a) b ≡ ended_line r (join a b)
+  ended-join r a b = words-join text r (Node (node document.SoftBreak r.stop r.past) Nil a) b
+
   -- the lines of a paragraph but the last
   abbrev pub lines_drawn : Row → List Row → BlockDocument
   lines_drawn first [] = Nil
-  lines_drawn first (r ∷ more) = broken lookup (line_end first) first (lines_drawn r more)
+  lines_drawn first (r ∷ more) = ended_line first (lines_drawn r more)
 
-  pub drawn-tokens : (first : Row) (more : List Row) → paragraph_tokens lookup first more ≡ join (lines_drawn first more) (texts_of (pieces lookup (line_columns (last_of first more))))
+  pub drawn-tokens : (first : Row) (more : List Row) → paragraph_tokens text first more ≡ join (lines_drawn first more) (line_words text (last_of first more) Nil)
   drawn-tokens first [] = refl
-  drawn-tokens first (r ∷ more) =
-      ap (broken lookup (line_end first) first) (drawn-tokens r more)
-      ∙ sym (broken-join lookup (line_end first) first (lines_drawn r more) (texts_of (pieces lookup (line_columns (last_of r more)))))
+  drawn-tokens first (r ∷ more) = ap (ended_line first) (drawn-tokens r more) ∙ sym (ended-join first (lines_drawn r more) (line_words text (last_of r more) Nil))
 
-  pub drawn-push : (first : Row) (more : List Row) (r : Row) → lines_drawn first (more ++ r ∷ []) ≡ join (lines_drawn first more) (broken lookup (line_end (last_of first more)) (last_of first more) Nil)
+  pub drawn-push : (first : Row) (more : List Row) (r : Row) → lines_drawn first (more ++ r ∷ []) ≡ join (lines_drawn first more) (ended_line (last_of first more) Nil)
   drawn-push first [] r = refl
-  drawn-push first (s ∷ more) r =
-      ap (broken lookup (line_end first) first) (drawn-push s more r)
-      ∙ sym (broken-join lookup (line_end first) first (lines_drawn s more) (broken lookup (line_end (last_of s more)) (last_of s more) Nil))
+  drawn-push first (s ∷ more) r = ap (ended_line first) (drawn-push s more r) ∙ sym (ended-join first (lines_drawn s more) (ended_line (last_of s more) Nil))
 
   pub html-push : (rs : List Row) (r : Row) → html_tokens text (rs ++ r ∷ []) ≡ join (html_tokens text rs) (html_then (verbatim_line text r.columns r) Nil)
   html-push [] r = refl

@@ -1,10 +1,10 @@
 -- Tokens are neither settled nor left out, and define nothing.
 use Rattle.std.proofs.Common.{◌≡◌, ℕ, Bool, true, false, List, [], ◌∷◌, ◌++◌, refl, ap}
 use Rattle.std.specs.Prelude.{if◌then◌else◌}
-use Rattle.cmark_grammar.specs.Answers.{Lookup}
-use Rattle.cmark_grammar.specs.Rows.{Row, start_of}
-use Rattle.cmark_grammar.specs.Tokens.{Piece, LineEnd, Soft, Spaces, Backslash, line_end, line_columns, end_place, pieces, texts_then, broken, paragraph_tokens, html_then, html_tokens, text_kind_of, html_kind_of, verbatim_line, heading_columns, heading_tokens, code_pieces, code_tokens, without_last}
-use Rattle.cmark_grammar.specs.BlockDocument.{Text, OwnedText, Html, SoftBreak, HardBreak, BlockDocument, Nil, Node, node, join}
+use Rattle.cmark_grammar.specs.Columns.{Column}
+use Rattle.cmark_grammar.specs.Rows.{Row, first_place, start_of}
+use Rattle.cmark_grammar.specs.Tokens.{Piece, line_columns, end_place, piece_if, texts_then, words_then, line_words, paragraph_tokens, html_then, html_tokens, text_kind_of, html_kind_of, verbatim_line, behind_hashes, heading_columns, heading_tokens, code_pieces, code_tokens}
+use Rattle.cmark_grammar.specs.BlockDocument.{Text, OwnedText, Html, SoftBreak, BlockDocument, Nil, Node, node, join}
 use Rattle.cmark_grammar.specs.DrawnDocument.{settled, without_definitions}
 use Rattle.cmark_grammar.specs.References.{references}
 
@@ -31,17 +31,13 @@ texts_plain (p ∷ ps) after h = text_plain p.owned p.bytes p.start p.end (texts
 soft_plain : (start end : ℕ) (after : BlockDocument) → IsPlain after → IsPlain (Node (node SoftBreak start end) Nil after)
 soft_plain start end after h = record { still = λ tight. ap (Node (node SoftBreak start end) Nil) (h.still tight); whole = ap (Node (node SoftBreak start end) Nil) h.whole; defines = h.defines }
 
-hard_plain : (start end : ℕ) (after : BlockDocument) → IsPlain after → IsPlain (Node (node HardBreak start end) Nil after)
-hard_plain start end after h = record { still = λ tight. ap (Node (node HardBreak start end) Nil) (h.still tight); whole = ap (Node (node HardBreak start end) Nil) h.whole; defines = h.defines }
+words_plain : (text : List ℕ) (start : ℕ) (cs : List Column) (after : BlockDocument) → IsPlain after → IsPlain (words_then text start cs after)
+words_plain text start cs after h = texts_plain (piece_if text start (end_place start cs) []) after h
 
-broken_plain : (lookup : Lookup) (e : LineEnd) (r : Row) (after : BlockDocument) → IsPlain after → IsPlain (broken lookup e r after)
-broken_plain lookup Soft r after h = texts_plain (pieces lookup (line_columns r)) (Node (node SoftBreak r.stop r.past) Nil after) (soft_plain r.stop r.past after h)
-broken_plain lookup Spaces r after h = texts_plain (pieces lookup (line_columns r)) (Node (node HardBreak (end_place (start_of r) (line_columns r)) r.past) Nil after) (hard_plain (end_place (start_of r) (line_columns r)) r.past after h)
-broken_plain lookup Backslash r after h = texts_plain (pieces lookup (without_last (line_columns r))) (Node (node HardBreak (end_place (start_of r) (without_last (line_columns r))) r.past) Nil after) (hard_plain (end_place (start_of r) (without_last (line_columns r))) r.past after h)
-
-pub paragraph_plain : (lookup : Lookup) (r : Row) (more : List Row) → IsPlain (paragraph_tokens lookup r more)
-paragraph_plain lookup r [] = texts_plain (pieces lookup (line_columns r)) Nil nil_plain
-paragraph_plain lookup r (s ∷ more) = broken_plain lookup (line_end r) r (paragraph_tokens lookup s more) (paragraph_plain lookup s more)
+pub paragraph_plain : (text : List ℕ) (r : Row) (more : List Row) → IsPlain (paragraph_tokens text r more)
+paragraph_plain text r [] = words_plain text (start_of r) (line_columns r) Nil nil_plain
+paragraph_plain text r (s ∷ more) =
+    words_plain text (start_of r) (line_columns r) (Node (node SoftBreak r.stop r.past) Nil (paragraph_tokens text s more)) (soft_plain r.stop r.past (paragraph_tokens text s more) (paragraph_plain text s more))
 
 html_then_plain : (ps : List Piece) (after : BlockDocument) → IsPlain after → IsPlain (html_then ps after)
 html_then_plain [] after h = h
@@ -51,8 +47,8 @@ pub html_tokens_plain : (text : List ℕ) (rs : List Row) → IsPlain (html_toke
 html_tokens_plain text [] = nil_plain
 html_tokens_plain text (r ∷ rs) = html_then_plain (verbatim_line text r.columns r) (html_tokens text rs) (html_tokens_plain text rs)
 
-pub heading_plain : (lookup : Lookup) (level : ℕ) (r : Row) → IsPlain (heading_tokens lookup level r)
-heading_plain lookup level r = texts_plain (pieces lookup (heading_columns level r)) Nil nil_plain
+pub heading_plain : (text : List ℕ) (level : ℕ) (r : Row) → IsPlain (heading_tokens text level r)
+heading_plain text level r = words_plain text (first_place r.stop (behind_hashes level r)) (heading_columns level r) Nil nil_plain
 
 pub code_plain : (text : List ℕ) (most : ℕ) (rs : List Row) → IsPlain (code_tokens text most rs)
 code_plain text most rs = texts_plain (code_pieces text most rs) Nil nil_plain
@@ -77,7 +73,5 @@ pub html-join : (ps : List Piece) (a b : BlockDocument) → join (html_then ps a
 html-join [] a b = refl
 html-join (p ∷ ps) a b = ap (Node (node (html_kind_of p) p.start p.end) Nil) (html-join ps a b)
 
-pub broken-join : (lookup : Lookup) (e : LineEnd) (r : Row) (a b : BlockDocument) → join (broken lookup e r a) b ≡ broken lookup e r (join a b)
-broken-join lookup Soft r a b = texts-join (pieces lookup (line_columns r)) (Node (node SoftBreak r.stop r.past) Nil a) b
-broken-join lookup Spaces r a b = texts-join (pieces lookup (line_columns r)) (Node (node HardBreak (end_place (start_of r) (line_columns r)) r.past) Nil a) b
-broken-join lookup Backslash r a b = texts-join (pieces lookup (without_last (line_columns r))) (Node (node HardBreak (end_place (start_of r) (without_last (line_columns r))) r.past) Nil a) b
+pub words-join : (text : List ℕ) (r : Row) (a b : BlockDocument) → join (line_words text r a) b ≡ line_words text r (join a b)
+words-join text r a b = texts-join (piece_if text (start_of r) (end_place (start_of r) (line_columns r)) []) a b

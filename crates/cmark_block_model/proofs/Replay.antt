@@ -72,11 +72,11 @@ blank_level l = record l { inner = record l.inner { blank = l.inner.has_block } 
 module _ (text : List ℕ) (lookup : Lookup) where
   abbrev pub paragraph_level : Row → List Row → Level → Level
   paragraph_level first more l =
-      level_drawn (Node (node document.Paragraph (start_of first) (past_of first more)) (paragraph_tokens lookup first more) document.Nil) (begun l)
+      level_drawn (Node (node document.Paragraph (start_of first) (past_of first more)) (paragraph_tokens text first more) document.Nil) (begun l)
 
   abbrev pub heading_level : (level : ℕ) → Row → List Row → Row → Level → Level
   heading_level level first more underline l =
-      level_drawn (Node (node (document.Heading level no_attributes) (start_of first) underline.past) (paragraph_tokens lookup first more) document.Nil) (begun l)
+      level_drawn (Node (node (document.Heading level no_attributes) (start_of first) underline.past) (paragraph_tokens text first more) document.Nil) (begun l)
 
   abbrev pub leaf_drawing : Leaf → Row → List Row → Drawing → Drawing
   leaf_drawing ThematicBreak first more d = drawn (leaf_then text lookup ThematicBreak first more document.Nil) d

@@ -51,7 +51,7 @@ paragraph-settles false start end t x d h e = node-same (node document.Paragraph
 module _ (text : List ℕ) (lookup : Lookup) where
   leaf-settles : (leaf : Leaf) (first : Row) (more : List Row) (direct : Bool) (x d : BlockDocument) → settled direct x ≡ without_definitions d → settled direct (leaf_raw text lookup leaf first more x) ≡ without_definitions (leaf_then text lookup leaf first more d)
   leaf-settles ThematicBreak first more direct x d e = ap (Node (node document.ThematicBreak (start_of first) (past_of first more)) Nil) e
-  leaf-settles (AtxHeading level) first more direct x d e = let h = heading_plain lookup level first in node-same (node (document.Heading level no_attributes) (start_of first) (past_of first more)) (h.still false ∙ sym h.whole) e
+  leaf-settles (AtxHeading level) first more direct x d e = let h = heading_plain text level first in node-same (node (document.Heading level no_attributes) (start_of first) (past_of first more)) (h.still false ∙ sym h.whole) e
   leaf-settles IndentedCode first more direct x d e = let h = code_plain text 4 (first ∷ more) in node-same _ (h.still false ∙ sym h.whole) e
   leaf-settles (FencedCode fence) first more direct x d e = let h = code_plain text fence.indented (fenced_lines fence more) in node-same _ (h.still false ∙ sym h.whole) e
   leaf-settles (HtmlBlock kind) first more direct x d e = let h = html_tokens_plain text (first ∷ more) in node-same _ (h.still false ∙ sym h.whole) e
@@ -98,9 +98,9 @@ module _ (text : List ℕ) (lookup : Lookup) where
   settles (BlankLine line after) direct None = settles after direct None
   settles (BlankLine line after) direct (Some before) = settles after direct (Some before)
   settles (Paragraph first more after) direct before =
-      stands direct before _ _ (paragraph-settles direct (start_of first) (past_of first more) (paragraph_tokens lookup first more) (split text lookup None after).after (document_of text lookup direct None after) (paragraph_plain lookup first more) (settles after direct None))
+      stands direct before _ _ (paragraph-settles direct (start_of first) (past_of first more) (paragraph_tokens text first more) (split text lookup None after).after (document_of text lookup direct None after) (paragraph_plain text first more) (settles after direct None))
   settles (SetextHeading level first more underline after) direct before =
-      let h = paragraph_plain lookup first more in
+      let h = paragraph_plain text first more in
       stands direct before _ _ (node-same (node (document.Heading level no_attributes) (start_of first) underline.past) (h.still false ∙ sym h.whole) (settles after direct None))
   settles (LeafBlock leaf first more after) direct before =
       stands direct before _ _ (leaf-settles leaf first more direct (split text lookup None after).after (document_of text lookup direct None after) (settles after direct None))

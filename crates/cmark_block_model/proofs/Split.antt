@@ -49,9 +49,9 @@ module _ (text : List ℕ) (lookup : Lookup) where
   split mark NoBlocks = lone Nil
   split mark (BlankLine line after) = split mark after
   split mark (Paragraph first more after) =
-      lone (Node (node document.Paragraph (start_of first) (past_of first more)) (paragraph_tokens lookup first more) (split None after).after)
+      lone (Node (node document.Paragraph (start_of first) (past_of first more)) (paragraph_tokens text first more) (split None after).after)
   split mark (SetextHeading level first more underline after) =
-      lone (Node (node (document.Heading level no_attributes) (start_of first) underline.past) (paragraph_tokens lookup first more) (split None after).after)
+      lone (Node (node (document.Heading level no_attributes) (start_of first) underline.past) (paragraph_tokens text first more) (split None after).after)
   split mark (LeafBlock leaf first more after) = lone (leaf_raw leaf first more (split None after).after)
   split mark (ContainerBlock Quote first more inside after) =
       lone (Node (node (document.BlockQuote None) (start_of first) (past_of first more)) (split None inside).after (split None after).after)

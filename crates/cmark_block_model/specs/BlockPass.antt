@@ -8,7 +8,7 @@ use Rattle.cmark_grammar.specs.Leaves.{Further, GoesOn, Closes, Waits, Stops, un
 use Rattle.cmark_grammar.specs.HtmlBlocks.{holds_end, html_further}
 use Rattle.cmark_grammar.specs.Containers.{Container, Quote, Item, enter, keeps, strips}
 use Rattle.cmark_grammar.specs.Openings.{Leaf, ThematicBreak, AtxHeading, IndentedCode, FencedCode, HtmlBlock, LinkDefinition, Opening, Blank, Nests, Takes, Plain, opens, texts, lazily}
-use Rattle.cmark_grammar.specs.Tokens.{Piece, resolved, pieces, line_columns, line_end, broken, heading_tokens, verbatim_line, html_then, code_columns}
+use Rattle.cmark_grammar.specs.Tokens.{Piece, resolved, line_words, heading_tokens, verbatim_line, html_then, code_columns}
 use Rattle.cmark_grammar.specs.Derivation.{stop_of, reference_of}
 use Rattle.cmark_grammar.specs.BlockDocument as document
 use Rattle.cmark_grammar.specs.BlockDocument.{BlockDocument, BlockKind, Reference, Nil, Node, node}
@@ -107,7 +107,11 @@ module _ (text : List ℕ) (options : Options) (lookup : Lookup) where
 
   -- the last line of a paragraph
   abbrev pub last_line : Row → BlockDocument
-  last_line r = texts_of (pieces lookup (line_columns r))
+  last_line r = line_words text r Nil
+
+  -- one that is not the last, with its line ending
+  abbrev pub further_line : Row → BlockDocument
+  further_line r = line_words text r (Node (node document.SoftBreak r.stop r.past) Nil Nil)
 
   -- the leaf closed, if one is open
   abbrev pub close_leaf : OpenLeaf → Pass → Pass
@@ -132,7 +136,7 @@ module _ (text : List ℕ) (options : Options) (lookup : Lookup) where
   paragraph_begun r p = let q = node_opened (start_of r) document.Paragraph (block_begun p) in record q { leaf = InParagraph r }
 
   abbrev pub paragraph_line : Row → Row → Pass → Pass
-  paragraph_line last r p = let q = with_drawn (broken lookup (line_end last) last Nil) p in record q { leaf = InParagraph r }
+  paragraph_line last r p = let q = with_drawn (further_line last) p in record q { leaf = InParagraph r }
 
   -- a paragraph that an underline makes a heading
   abbrev pub heading_made : (level : ℕ) → Row → Row → Pass → Pass
@@ -162,7 +166,7 @@ module _ (text : List ℕ) (options : Options) (lookup : Lookup) where
   abbrev pub leaf_begun : Leaf → (more : ℕ) → Row → (ahead : List Row) → Pass → Pass
   leaf_begun ThematicBreak more r ahead p = with_drawn (Node (node document.ThematicBreak (start_of r) r.past) Nil Nil) (block_begun p)
   leaf_begun (AtxHeading level) more r ahead p =
-      with_drawn (Node (node (document.Heading level no_attributes) (start_of r) r.past) (heading_tokens lookup level r) Nil) (block_begun p)
+      with_drawn (Node (node (document.Heading level no_attributes) (start_of r) r.past) (heading_tokens text level r) Nil) (block_begun p)
   leaf_begun IndentedCode more r ahead p = indented_line r None (node_opened (first_place r.stop (code_columns 4 r)) document.IndentedCode (block_begun p))
   leaf_begun (FencedCode fence) more r ahead p =
       let q = node_opened (start_of r) (document.FencedCode (resolved lookup fence.info)) (block_begun p) in record q { leaf = InFenced fence None }

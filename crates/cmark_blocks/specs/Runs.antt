@@ -1,5 +1,5 @@
 -- Which state of its model the block pass is in.
-use Rattle.std.specs.Prelude.{◌≡◌, ℕ, List, [], option_map, map, All, Option, None}
+use Rattle.std.specs.Prelude.{◌≡◌, ℕ, List, [], option_map, map, Option, None}
 use Rattle.std.specs.Str.{IsCharBoundary}
 use Rattle.cmark_tree.specs.Building.{IsPlaced}
 use Rattle.cmark_grammar.specs.Answers.{Lookup}
@@ -49,22 +49,12 @@ IsVerbatim (leaf.Indented others end) waits = ⊥
 IsVerbatim (leaf.Fenced mark size indent others) waits = waits ≡ others
 IsVerbatim (leaf.Html kind) waits = waits ≡ None
 
--- the lines of the open leaf stand in the text
-abbrev pub LeafIsIn : List ℕ → OpenLeaf → Type 0
-LeafIsIn text leaf.Closed = Unit {0}
-LeafIsIn text (leaf.Paragraph last) = IsRead text last
-LeafIsIn text (leaf.Definition left) = Unit {0}
-LeafIsIn text (leaf.Indented waits end) = Unit {0}
-LeafIsIn text (leaf.Fenced mark size indent waits) = Unit {0}
-LeafIsIn text (leaf.Html kind) = Unit {0}
-
 module _ {E : Type 0} where
-  -- what holds of the pass whatever happens, want of memory too: nodes can be added, and its lines stand in the text
+  -- what holds of the pass whatever happens, want of memory too: nodes can be added, and no character is cut where the next line
+  -- begins
   pub record IsGood (pass : Pass E) : Type 0 where
     pub placed : IsPlaced pass.builder.tree
     pub begins : IsCharBoundary pass.text.now pass.past
-    pub leaf : LeafIsIn pass.text.now pass.leaf
-    pub blanks : All (IsRead pass.text.now) pass.blank_lines.items
 
 abbrev pub shown_reference : Reference → ShownDefinition
 shown_reference r = record { destination = r.destination; title = r.title; start = r.start; end = r.end }

@@ -22,13 +22,12 @@ use std::alloc::AllocError;
 
 impl<'a, E: EntityLookup> Pass<'a, E> {
     ghost use Rattle.cmark_blocks.specs.declared.state.OpenLeaf.TheVariants as leaf;
-    ghost use Rattle.cmark_blocks.specs.Runs.{Runs, IsGood, IsRead};
+    ghost use Rattle.cmark_blocks.specs.Runs.{Runs, IsGood};
     ghost use Rattle.cmark_blocks.specs.Steps.{BeginsParagraph, BeginsLeaf};
 
     /// A paragraph begins on a line, with no leaf open.
     pub(crate) fn begin_paragraph(&mut self, rest: LineRest<'a>) -> Result<(), AllocError>
         requires good { IsGood self.old }
-        requires placed { IsRead self.old.text.now rest }
         requires closed { self.old.leaf ≡ leaf.Closed }
         ensures good { IsGood self.new }
         ensures runs { OnOk result (BeginsParagraph E.replacement rest.entry self.old self.new) }
@@ -60,7 +59,6 @@ impl<'a, E: EntityLookup> Pass<'a, E> {
         rest: LineRest<'a>,
     ) -> Result<(), AllocError>
         requires good { IsGood self.old }
-        requires placed { IsRead self.old.text.now rest }
         requires level { level_number level ≡ run 35 (words_of (row_of rest)) }
         ensures good { IsGood self.new }
         ensures runs { OnOk result (BeginsLeaf E.replacement (AtxHeading (level_number level)) 0 rest.entry self.old self.new) }
@@ -69,13 +67,7 @@ impl<'a, E: EntityLookup> Pass<'a, E> {
         self.begin_block();
         let body = ItemBody::Heading(level, None);
         self.builder.open(rest.words_begin(), body)?;
-        draw_heading(
-            &mut self.builder,
-            self.alloc,
-            self.text,
-            rest,
-            self.entities,
-        )?;
+        draw_heading(&mut self.builder, rest)?;
         self.builder.close(rest.past());
         Ok(())
     }

@@ -91,7 +91,6 @@ impl<'a, E: EntityLookup> Pass<'a, E> {
     fn keep_blank_line(&mut self, rest: LineRest<'a>) -> Result<(), AllocError>
         requires good { IsGood self.old }
         requires is { (waits : Option Stretch) × (end : ℕ) × (self.old.leaf ≡ leaf.Indented waits end) }
-        requires line { IsRead self.old.text.now rest }
         requires waits { code_further (row_of rest) ≡ grammar.Waits }
         ensures good { IsGood self.new }
         ensures runs { OnOk result (FeedsLeaf E.replacement rest.entry self.old self.new) }

@@ -93,7 +93,6 @@ impl<'a, E: EntityLookup> Pass<'a, E> {
     /// A lazy line: it goes on with a paragraph, or begins one behind a link reference definition (CommonMark 4.7 and 4.8).
     fn feed_lazily(&mut self, rest: LineRest<'a>) -> Result<(), AllocError>
         requires good { IsGood self.old }
-        requires line { IsRead self.old.text.now rest }
         ensures good { IsGood self.new }
         ensures runs { OnOk result (FeedsLazily E.replacement rest.entry self.old self.new) }
         ensures text { self.new.text ≡ self.old.text }

@@ -23,13 +23,12 @@ fn has_lines(lines: &[LineRest<'_>]) -> bool
 impl<'a, E: EntityLookup> Pass<'a, E> {
     ghost use Rattle.std.specs.Prelude.{[]};
     ghost use Rattle.cmark_blocks.specs.declared.state.OpenLeaf.TheVariants as leaf;
-    ghost use Rattle.cmark_blocks.specs.Runs.{IsGood, IsRead, IsVerbatim};
+    ghost use Rattle.cmark_blocks.specs.Runs.{IsGood, IsVerbatim};
     ghost use Rattle.cmark_blocks.specs.Steps.{ClosesLeaf};
 
     /// Closes a paragraph, whose last line this is.
     fn close_paragraph(&mut self, last: LineRest<'a>) -> Result<(), AllocError>
         requires good { IsGood self.old }
-        requires line { IsRead self.old.text.now last }
         requires is { self.old.leaf ≡ leaf.Paragraph last }
         ensures good { IsGood self.new }
         ensures runs { OnOk result (ClosesLeaf E.replacement self.old self.new) }
@@ -37,13 +36,7 @@ impl<'a, E: EntityLookup> Pass<'a, E> {
         ensures text { self.new.text ≡ self.old.text }
         ensures bare { self.new.bare ≡ self.old.bare }
     {
-        draw_last_line(
-            &mut self.builder,
-            self.alloc,
-            self.text,
-            last,
-            self.entities,
-        )?;
+        draw_last_line(&mut self.builder, last)?;
         self.builder.close(self.past);
         self.leaf = OpenLeaf::Closed;
         Ok(())

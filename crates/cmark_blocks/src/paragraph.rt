@@ -12,30 +12,22 @@ use std::alloc::AllocError;
 
 impl<'a, E: EntityLookup> Pass<'a, E> {
     ghost use Rattle.cmark_blocks.specs.declared.state.OpenLeaf.TheVariants as leaf;
-    ghost use Rattle.cmark_blocks.specs.Runs.{IsGood, IsRead};
+    ghost use Rattle.cmark_blocks.specs.Runs.{IsGood};
     ghost use Rattle.cmark_blocks.specs.Steps.{AddsLine, MakesHeading};
 
-    /// One more line of a paragraph, whose last line is drawn: a break stands behind it.
+    /// One more line of a paragraph, whose last line is drawn: a line ending stands behind it.
     pub(crate) fn add_to_paragraph(
         &mut self,
         last: LineRest<'a>,
         rest: LineRest<'a>,
     ) -> Result<(), AllocError>
         requires good { IsGood self.old }
-        requires last { IsRead self.old.text.now last }
-        requires line { IsRead self.old.text.now rest }
         requires is { self.old.leaf ≡ leaf.Paragraph last }
         ensures good { IsGood self.new }
         ensures runs { OnOk result (AddsLine E.replacement last.entry rest.entry self.old self.new) }
         ensures text { self.new.text ≡ self.old.text }
     {
-        draw_line(
-            &mut self.builder,
-            self.alloc,
-            self.text,
-            last,
-            self.entities,
-        )?;
+        draw_line(&mut self.builder, last)?;
         self.leaf = OpenLeaf::Paragraph(rest);
         Ok(())
     }
@@ -48,19 +40,12 @@ impl<'a, E: EntityLookup> Pass<'a, E> {
         rest: LineRest<'a>,
     ) -> Result<(), AllocError>
         requires good { IsGood self.old }
-        requires last { IsRead self.old.text.now last }
         requires is { self.old.leaf ≡ leaf.Paragraph last }
         ensures good { IsGood self.new }
         ensures runs { OnOk result (MakesHeading E.replacement (level_number level) last.entry rest.entry self.old self.new) }
         ensures text { self.new.text ≡ self.old.text }
     {
-        draw_last_line(
-            &mut self.builder,
-            self.alloc,
-            self.text,
-            last,
-            self.entities,
-        )?;
+        draw_last_line(&mut self.builder, last)?;
         self.builder
             .close_as(rest.past(), ItemBody::Heading(level, None));
         self.leaf = OpenLeaf::Closed;

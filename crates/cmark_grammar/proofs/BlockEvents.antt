@@ -69,11 +69,7 @@ nested_list : ranges_of (codes "7. a\n   - b\n")
 unfolding blocks begin opens texts lazily enter keeps underlines
 nested_list = refl
 
--- an entity has the range of all it is written as, and behind an escape a new text begins
-entity_and_escape : ranges_of (codes "a&amp;b\\*c\n") ≡ (0, 11) ∷ (0, 1) ∷ (1, 6) ∷ (6, 7) ∷ (8, 10) ∷ (0, 11) ∷ []
+-- a line is one event, and so is the line ending, without the spaces before it
+raw_lines : ranges_of (codes "a&amp;b\\*c  \nd\n") ≡ (0, 15) ∷ (0, 10) ∷ (12, 13) ∷ (13, 14) ∷ (0, 15) ∷ []
 unfolding blocks begin opens texts lazily enter keeps underlines
-entity_and_escape = refl
-
-hard_break : ranges_of (codes "a  \nb\n") ≡ (0, 6) ∷ (0, 1) ∷ (1, 4) ∷ (4, 5) ∷ (0, 6) ∷ []
-unfolding blocks begin opens texts lazily enter keeps underlines
-hard_break = refl
+raw_lines = refl

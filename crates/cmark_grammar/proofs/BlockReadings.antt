@@ -2,13 +2,14 @@
 use Rattle.std.specs.Prelude.{◌≡◌, ℕ, List, [], ◌∷◌, codes, None}
 use Rattle.std.specs.Fmt.{digits}
 use Rattle.std.proofs.Common.{refl}
+use Rattle.cmark_grammar.specs.Attributes.{no_attributes}
 use Rattle.cmark_grammar.specs.Leaves.{underlines}
 use Rattle.cmark_grammar.specs.Containers.{enter, keeps}
 use Rattle.cmark_grammar.specs.Options.{no_options}
 use Rattle.cmark_grammar.specs.Openings.{opens, texts, lazily}
 use Rattle.cmark_grammar.specs.BlocksModel.{begin, blocks}
 use Rattle.cmark_grammar.specs.Entities.{basic_entity}
-use Rattle.cmark_grammar.specs.BlockDocument.{BlockQuote, IndentedCode, FencedCode, HtmlBlock, Text, OwnedText, Html, BlockNode, outline, node}
+use Rattle.cmark_grammar.specs.BlockDocument.{Paragraph, Heading, SoftBreak, BlockQuote, IndentedCode, FencedCode, HtmlBlock, Text, OwnedText, Html, BlockNode, outline, node}
 use Rattle.cmark_grammar.specs.Derivation.{document}
 use Rattle.cmark_grammar.proofs.BlockSamples.{written}
 
@@ -82,13 +83,15 @@ backslash_at_the_end : written (document (codes "a\\\n") no_options basic_entity
 unfolding blocks begin opens texts lazily enter keeps underlines
 backslash_at_the_end = refl
 
-hard_breaks : written (document (codes "a  \nb\\\nc\\\\\nd\n") no_options basic_entity) ≡ codes "<p>a<br />\nb<br />\nc\\\nd</p>\n"
+-- a line's text is as it is written, and the spaces at its end are no part of it
+raw_lines : outline (document (codes " \\*a&amp;  \n\tb\\\nc \n") no_options basic_entity) ≡
+    node Paragraph 1 19 ∷ node (Text (codes "\\*a&amp;")) 1 9 ∷ node SoftBreak 11 12 ∷ node (Text (codes "b\\")) 13 15 ∷ node SoftBreak 15 16 ∷ node (Text (codes "c")) 16 17 ∷ []
 unfolding blocks begin opens texts lazily enter keeps underlines
-hard_breaks = refl
+raw_lines = refl
 
-escapes_and_entities : written (document (codes "\\*a&amp;\\b&x;\\&lt;\n") no_options basic_entity) ≡ codes "<p>*a&amp;\\b&amp;x;&amp;lt;</p>\n"
+raw_heading : outline (document (codes "## \\*a  #\n") no_options basic_entity) ≡ node (Heading 2 no_attributes) 0 10 ∷ node (Text (codes "\\*a")) 3 6 ∷ []
 unfolding blocks begin opens texts lazily enter keeps underlines
-escapes_and_entities = refl
+raw_heading = refl
 
 -- a lazy line begins no list
 lazy_marker : written (document (codes "> a\n    - b\n") no_options basic_entity) ≡ codes "<blockquote>\n<p>a\n- b</p>\n</blockquote>\n"
@@ -162,8 +165,3 @@ html_indent = refl
 code_ranges : outline (document (codes "```\na\n\nb\n```\n") no_options basic_entity) ≡ node (FencedCode []) 0 13 ∷ node (Text (codes "a\n\nb\n")) 4 9 ∷ []
 unfolding blocks begin opens texts lazily enter keeps underlines
 code_ranges = refl
-
--- a hard break stands over the trailing spaces and the line end, a soft break over the line end alone
-break_ranges : ranges_in (codes "a   \nb \nc\n") ≡ 0 ∷ 10 ∷ 0 ∷ 1 ∷ 1 ∷ 5 ∷ 5 ∷ 6 ∷ 7 ∷ 8 ∷ 8 ∷ 9 ∷ []
-unfolding blocks begin opens texts lazily enter keeps underlines
-break_ranges = refl

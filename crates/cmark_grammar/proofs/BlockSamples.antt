@@ -1,5 +1,5 @@
--- Examples of CommonMark, most of its block sections: what the definitions give for each text is the standard's HTML, with each
--- `"` of a text as it stands.
+-- Examples of CommonMark, most of its block sections, that hold no spans: what the definitions give for each text is the standard's
+-- HTML, with each `"` of a text as it stands.
 use Rattle.std.specs.Prelude.{◌≡◌, ℕ, List, codes, map}
 use Rattle.std.specs.Fmt.{digits}
 use Rattle.std.proofs.Common.{refl}
@@ -37,31 +37,6 @@ tabs_in_items = refl
 tab_nests : written (document (codes " - foo\n   - bar\n\t - baz\n") no_options basic_entity) ≡ codes "<ul>\n<li>foo\n<ul>\n<li>bar\n<ul>\n<li>baz</li>\n</ul>\n</li>\n</ul>\n</li>\n</ul>\n"
 unfolding blocks begin opens texts lazily enter keeps underlines
 tab_nests = refl
-
--- example 12
-every_escape : written (document (codes "\\!\\\"\\#\\$\\%\\&\\'\\(\\)\\*\\+\\,\\-\\.\\/\\:\\;\\<\\=\\>\\?\\@\\[\\\\\\]\\^\\_\\`\\{\\|\\}\\~\n") no_options basic_entity) ≡ codes "<p>!\"#$%&amp;'()*+,-./:;&lt;=&gt;?@[\\]^_`{|}~</p>\n"
-unfolding blocks begin opens texts lazily enter keeps underlines
-every_escape = refl
-
--- example 14
-escapes : written (document (codes "\\*not emphasized*\n\\<br/> not a tag\n\\[not a link](/foo)\n\\`not code`\n1\\. not a list\n\\* not a list\n\\# not a heading\n\\[foo]: /url \"not a reference\"\n\\&ouml; not a character entity\n") no_options basic_entity) ≡ codes "<p>*not emphasized*\n&lt;br/&gt; not a tag\n[not a link](/foo)\n`not code`\n1. not a list\n* not a list\n# not a heading\n[foo]: /url \"not a reference\"\n&amp;ouml; not a character entity</p>\n"
-unfolding blocks begin opens texts lazily enter keeps underlines
-escapes = refl
-
--- example 38
-character_that_is_no_marker : written (document (codes "&#42; foo\n\n* foo\n") no_options basic_entity) ≡ codes "<p>* foo</p>\n<ul>\n<li>foo</li>\n</ul>\n"
-unfolding blocks begin opens texts lazily enter keeps underlines lib.Utf8.encode
-character_that_is_no_marker = refl
-
--- example 39
-line_feeds_in_text : written (document (codes "foo&#10;&#10;bar\n") no_options basic_entity) ≡ codes "<p>foo\n\nbar</p>\n"
-unfolding blocks begin opens texts lazily enter keeps underlines lib.Utf8.encode
-line_feeds_in_text = refl
-
--- example 40
-tab_in_text : written (document (codes "&#9;foo\n") no_options basic_entity) ≡ codes "<p>\tfoo</p>\n"
-unfolding blocks begin opens texts lazily enter keeps underlines lib.Utf8.encode
-tab_in_text = refl
 
 -- example 47
 breaks : written (document (codes " ***\n  ***\n   ***\n") no_options basic_entity) ≡ codes "<hr />\n<hr />\n<hr />\n"
@@ -352,16 +327,6 @@ inner_loose = refl
 outer_tight : written (document (codes "- a\n  - b\n  - c\n\n- d\n  - e\n  - f\n") no_options basic_entity) ≡ codes "<ul>\n<li>\n<p>a</p>\n<ul>\n<li>b</li>\n<li>c</li>\n</ul>\n</li>\n<li>\n<p>d</p>\n<ul>\n<li>e</li>\n<li>f</li>\n</ul>\n</li>\n</ul>\n"
 unfolding blocks begin opens texts lazily enter keeps underlines
 outer_tight = refl
-
--- example 633
-hard_break : written (document (codes "foo  \nbaz\n") no_options basic_entity) ≡ codes "<p>foo<br />\nbaz</p>\n"
-unfolding blocks begin opens texts lazily enter keeps underlines
-hard_break = refl
-
--- example 637
-hard_break_of_a_backslash : written (document (codes "foo\\\n     bar\n") no_options basic_entity) ≡ codes "<p>foo<br />\nbar</p>\n"
-unfolding blocks begin opens texts lazily enter keeps underlines
-hard_break_of_a_backslash = refl
 
 -- example 644
 backslash_at_the_end : written (document (codes "foo\\\n") no_options basic_entity) ≡ codes "<p>foo\\</p>\n"

@@ -32,7 +32,7 @@ module _ (E : ℕ → Type 0) where
 
   leaf-edged : (text : List ℕ) (lookup : Lookup) (leaf : Leaf) (first : Row) (more : List Row) (after : BlockDocument) → GoodRow E first → GoodRows E more → LeafFront E first leaf → AllAt E after → AllAt E (leaf_then text lookup leaf first more after)
   leaf-edged text lookup ThematicBreakLeaf first more after g gs f a = (start-E E first g, past-edge first more g gs, tt, a)
-  leaf-edged text lookup (AtxHeadingLeaf level) first more after g gs f a = (start-E E first g, past-edge first more g gs, heading-edged E lookup level first g f, a)
+  leaf-edged text lookup (AtxHeadingLeaf level) first more after g gs f a = (start-E E first g, past-edge first more g gs, heading-edged E text level first g f, a)
   leaf-edged text lookup IndentedCodeLeaf first more after g gs f a = (code_place-edge E 4 first g, past-edge first more g gs, code-edged E text 4 (first ∷ more) (g, gs), a)
   leaf-edged text lookup (FencedCodeLeaf fence) first more after g gs f a = (start-E E first g, past-edge first more g gs, code-edged E text fence.indented (fenced_lines fence more) (fenced-good E fence more gs), a)
   leaf-edged text lookup (HtmlBlockLeaf kind) first more after g gs f a = (g.begin, past-edge first more g gs, html-edged E text (first ∷ more) (g, gs), a)
@@ -46,11 +46,11 @@ module _ (E : ℕ → Type 0) where
   document-edged text options lookup direct before behind all (ParagraphBlock first more after) body g =
       let c : GoodRows E (first ∷ (more ++ body.rest)) = subst (GoodRows E) body.cut g in
       let s = split-good E more body.rest c.1 in
-      (start-E E first c.0, past-edge first more c.0 s.0, paragraph-edged E lookup first more c.0 s.0, document-edged text options lookup direct None false body.rest after body.after s.1)
+      (start-E E first c.0, past-edge first more c.0 s.0, paragraph-edged E text first more c.0 s.0, document-edged text options lookup direct None false body.rest after body.after s.1)
   document-edged text options lookup direct before behind all (SetextHeading level first more underline after) body g =
       let c : GoodRows E (first ∷ (more ++ (underline ∷ body.rest))) = subst (GoodRows E) body.cut g in
       let s = split-good E more (underline ∷ body.rest) c.1 in
-      (start-E E first c.0, s.1.0.past, paragraph-edged E lookup first more c.0 s.0, document-edged text options lookup direct None false body.rest after body.after s.1.1)
+      (start-E E first c.0, s.1.0.past, paragraph-edged E text first more c.0 s.0, document-edged text options lookup direct None false body.rest after body.after s.1.1)
   document-edged text options lookup direct before behind all (LeafBlock leaf first more after) body g =
       let c : GoodRows E (first ∷ (more ++ body.rest)) = subst (GoodRows E) body.cut g in
       let s = split-good E more body.rest c.1 in

@@ -12,13 +12,13 @@ use Rattle.cmark_grammar.specs.Containers.{Container, Quote, Item, keeps, strip_
 use Rattle.cmark_grammar.specs.Openings.{Leaf, ThematicBreak as ThematicBreakLeaf, AtxHeading as AtxHeadingLeaf, IndentedCode as IndentedCodeLeaf, FencedCode as FencedCodeLeaf, HtmlBlock as HtmlBlockLeaf, LinkDefinition as LinkDefinitionLeaf, Blank, Nests, Takes, Plain, opens}
 use Rattle.cmark_grammar.specs.Blocks.{Blocks, Nil as NoBlocks, BlankLine, Paragraph as ParagraphBlock, SetextHeading, LeafBlock, ContainerBlock, MayBegin, Body, may_lazy}
 use Rattle.cmark_grammar.specs.Lists.{ListBefore, tight_behind, goes_on}
-use Rattle.cmark_grammar.specs.BlockDocument.{ListItem, BlockNode, BlockDocument, Nil, Node, node, SoftBreak, HardBreak}
+use Rattle.cmark_grammar.specs.BlockDocument.{ListItem, BlockNode, BlockDocument, Nil, Node, node, SoftBreak}
 use Rattle.cmark_grammar.specs.Derivation.{leaf_then, item_then, document_of, Derives}
 use Rattle.cmark_grammar.specs.Ranges.{count_nodes}
-use Rattle.cmark_grammar.specs.Tokens.{Piece, Does, Stands, EscapesNext, Begins, does, is_escape, size_behind, onto as onto_piece, grown, plain_of, add, pieces_from, put_column, byte_columns, pieces, texts_then, line_columns, without_last, LineEnd, Soft, Spaces, Backslash, line_end, broken, paragraph_tokens, heading_columns, heading_tokens, piece_if, plain_line, left_columns, spaces_if, verbatim_line, touches, merge, merge_all, code_columns, code_pieces, stop_at, fenced_lines, html_then, html_tokens, slice, end_place}
+use Rattle.cmark_grammar.specs.Tokens.{Piece, texts_then, line_columns, words_then, paragraph_tokens, heading_columns, heading_tokens, piece_if, plain_line, left_columns, spaces_if, verbatim_line, touches, merge, merge_all, code_columns, code_pieces, stop_at, fenced_lines, html_then, html_tokens, slice, end_place}
 use Rattle.cmark_grammar.proofs.BlockLaws.{opens-whole, opens-words, texts-words, IsWide, wide_opens}
 use Rattle.cmark_grammar.proofs.RowPlaces.{Runs, Runs-le, first_place-Runs, drop-Runs, drop-mono, Lies, begin-start, start-Runs, start-stop, Lies-without, strip-Lies, kept-without, strip-past, Along, text-Along}
-use Rattle.cmark_grammar.proofs.TokenRanges.{line-UpTo, without_last-UpTo, drop_end-UpTo, without_closing-UpTo}
+use Rattle.cmark_grammar.proofs.TokenRanges.{UpTo, up-more, end_place-Runs, line-UpTo, drop_end-UpTo, without_closing-UpTo}
 
 -- a column in which no byte begins is of a tab
 abbrev AreTabs : List Column → Type 0
@@ -124,89 +124,46 @@ html_then-count : (ps : List Piece) (after : BlockDocument) → count_nodes (htm
 html_then-count [] after = omega arith
 html_then-count (p ∷ ps) after = let ih = html_then-count ps after in omega (arith, ih)
 
-onto-count : (c : Column) (ps : List Piece) → length (onto_piece c ps) ≤ suc (length ps)
-onto-count c [] = omega arith
-onto-count c (p ∷ ps) = go (not p.owned && (p.start == suc c.at))
-  where
-    go : (z : Bool) → length (if z then grown c p ∷ ps else plain_of c ∷ p ∷ ps) ≤ suc (suc (length ps))
-    go true = omega arith
-    go false = omega arith
-
-add-count : (w : Does) (c : Column) (ps : List Piece) → length (add w c ps) ≤ suc (length ps)
-add-count Stands c ps = onto-count c ps
-add-count EscapesNext c ps = omega arith
-add-count (Begins e) c ps = omega arith
-
-pieces_from-count : (lookup : Lookup) (escaped : Bool) (skip : ℕ) (cs : List Column) → length (pieces_from lookup escaped skip cs) ≤ length cs
-pieces_from-count lookup escaped skip [] = omega arith
-pieces_from-count lookup escaped (suc skip) (c ∷ cs) = let ih = pieces_from-count lookup false skip cs in omega (arith, ih)
-pieces_from-count lookup escaped zero (c ∷ cs) =
-    let w = does lookup escaped c.byte (bytes_of cs) in
-    let ih = pieces_from-count lookup (is_escape w) (size_behind w) cs in
-    let a = add-count w c (pieces_from lookup (is_escape w) (size_behind w) cs) in
-    omega (arith, ih, a)
-
-bytes-count : (from : ℕ) (cs : List Column) (to : ℕ) → Runs from cs to → from + length (byte_columns cs) ≡ to
-bytes-count from [] to h = let e : from ≡ to = h in omega (arith, e)
-bytes-count from (c ∷ cs) to h = go (c.part == 0) h.0 (bytes-count (suc c.at) cs to h.1)
-  where
-    go : (z : Bool) → (if z then c.at else suc c.at) ≡ from → suc c.at + length (byte_columns cs) ≡ to → from + length (put_column z c (byte_columns cs)) ≡ to
-    go true e ih = omega (arith, e, ih)
-    go false e ih = omega (arith, e, ih)
-
-pieces-count : (lookup : Lookup) (from : ℕ) (cs : List Column) (to : ℕ) → Runs from cs to → from + length (pieces lookup cs) ≤ to
-pieces-count lookup from cs to h =
-    let a = bytes-count from cs to h in
-    let b = pieces_from-count lookup false 0 (byte_columns cs) in
-    omega (arith, a, b)
-
-broken-count : (lookup : Lookup) (from : ℕ) (r : Row) (after : BlockDocument) → Lies from r → (e : LineEnd) → start_of r + count_nodes (broken lookup e r after) ≤ r.stop + (1 + count_nodes after)
-broken-count lookup from r after h Soft =
-    let u = line-UpTo from r h in
-    let l : u.mid ≤ r.stop = u.low in
-    let p = pieces-count lookup (start_of r) (line_columns r) u.mid u.runs in
-    let t = texts-count (pieces lookup (line_columns r)) (Node (node SoftBreak r.stop r.past) Nil after) in
-    omega (arith, l, p, t)
-broken-count lookup from r after h Spaces =
-    let u = line-UpTo from r h in
-    let l : u.mid ≤ r.stop = u.low in
-    let p = pieces-count lookup (start_of r) (line_columns r) u.mid u.runs in
-    let t = texts-count (pieces lookup (line_columns r)) (Node (node HardBreak (end_place (start_of r) (line_columns r)) r.past) Nil after) in
-    omega (arith, l, p, t)
-broken-count lookup from r after h Backslash =
-    let v = line-UpTo from r h in
-    let k : v.mid ≤ r.stop = v.low in
-    let u = without_last-UpTo (start_of r) (line_columns r) v.mid v.runs in
-    let l : u.mid ≤ v.mid = u.low in
-    let p = pieces-count lookup (start_of r) (without_last (line_columns r)) u.mid u.runs in
-    let t = texts-count (pieces lookup (without_last (line_columns r))) (Node (node HardBreak (end_place (start_of r) (without_last (line_columns r))) r.past) Nil after) in
-    omega (arith, k, l, p, t)
-
-from-start : (from : ℕ) (r : Row) → Lies from r → from ≤ start_of r
-from-start from r h = let a : from ≤ begin_of r = h.0 in let b = begin-start from r h in omega (arith, a, b)
-
-paragraph-count : (lookup : Lookup) (from : ℕ) (r : Row) (more : List Row) → Lies from r → Fed r.past more (past_of r more) → (start_of r + count_nodes (paragraph_tokens lookup r more)) + 4 * r.past ≤ (r.stop + 1) + 4 * past_of r more
-paragraph-count lookup from r [] h f =
-    let u = line-UpTo from r h in
-    let l : u.mid ≤ r.stop = u.low in
-    let p = pieces-count lookup (start_of r) (line_columns r) u.mid u.runs in
-    let t = texts-count (pieces lookup (line_columns r)) Nil in
-    omega (arith, l, p, t)
-paragraph-count lookup from r (s ∷ more) h f =
-    let b = broken-count lookup from r (paragraph_tokens lookup s more) h (line_end r) in
-    let ih = paragraph-count lookup r.past s more f.1.0 f.2 in
-    let a = from-start r.past s f.1.0 in
-    let c = start-stop r.past s f.1.0 in
-    let d : s.stop ≤ s.past = f.1.0.2 in
-    let e : r.past < s.past = f.0 in
-    omega (arith, b, ih, a, c, d, e)
-
 piece_if-count : (text : List ℕ) (start end : ℕ) (ps : List Piece) → length (piece_if text start end ps) ≤ suc (length ps)
 piece_if-count text start end ps = go (nat_lt start end)
   where
     go : (z : Bool) → length (if z then record { owned = false; bytes = slice text start end; start = start; end = end } ∷ ps else ps) ≤ suc (length ps)
     go true = omega arith
     go false = omega arith
+
+-- a text takes a byte
+stretch-count : (text : List ℕ) (start end to : ℕ) → start ≤ end → end ≤ to → start + length (piece_if text start end []) ≤ to
+stretch-count text start end to some le = go (nat_lt start end) refl
+  where
+    less : (a b : ℕ) → nat_lt a b ≡ true → a < b
+    less a b e = grind (arith)
+
+    go : (z : Bool) → nat_lt start end ≡ z → start + length {A = Piece} (if z then record { owned = false; bytes = slice text start end; start = start; end = end } ∷ [] else []) ≤ to
+    go true e = let l = less start end e in omega (arith, l, le)
+    go false e = omega (arith, some, le)
+
+words-count : (text : List ℕ) (from : ℕ) (cs : List Column) (stop : ℕ) (after : BlockDocument) → UpTo from cs stop → from + count_nodes (words_then text from cs after) ≤ stop + count_nodes after
+words-count text from cs stop after u =
+    let e : end_place from cs ≡ u.mid = end_place-Runs from cs u.mid u.runs in
+    let b : from ≤ u.mid = Runs-le from cs u.mid u.runs in
+    let l : u.mid ≤ stop = u.low in
+    let p = stretch-count text from (end_place from cs) stop (omega (arith, e, b)) (omega (arith, e, l)) in
+    let t = texts-count (piece_if text from (end_place from cs) []) after in
+    omega (arith, p, t)
+
+from-start : (from : ℕ) (r : Row) → Lies from r → from ≤ start_of r
+from-start from r h = let a : from ≤ begin_of r = h.0 in let b = begin-start from r h in omega (arith, a, b)
+
+paragraph-count : (text : List ℕ) (from : ℕ) (r : Row) (more : List Row) → Lies from r → Fed r.past more (past_of r more) → (start_of r + count_nodes (paragraph_tokens text r more)) + 4 * r.past ≤ (r.stop + 1) + 4 * past_of r more
+paragraph-count text from r [] h f = let w = words-count text (start_of r) (line_columns r) r.stop Nil (line-UpTo from r h) in omega (arith, w)
+paragraph-count text from r (s ∷ more) h f =
+    let w = words-count text (start_of r) (line_columns r) r.stop (Node (node SoftBreak r.stop r.past) Nil (paragraph_tokens text s more)) (line-UpTo from r h) in
+    let ih = paragraph-count text r.past s more f.1.0 f.2 in
+    let a = from-start r.past s f.1.0 in
+    let c = start-stop r.past s f.1.0 in
+    let d : s.stop ≤ s.past = f.1.0.2 in
+    let e : r.past < s.past = f.0 in
+    omega (arith, w, ih, a, c, d, e)
 
 plain_line-count : (text : List ℕ) (from : ℕ) (r : Row) → length (plain_line text from r) ≤ 2
 plain_line-count text from r = go (r.past - r.stop == 2)
@@ -263,8 +220,8 @@ html-count text from (r ∷ rs) to f =
     let ih = html-count text r.past rs to f.2 in
     omega (arith, a, b, c, ih)
 
-heading-count : (lookup : Lookup) (level from : ℕ) (r : Row) → Lies from r → start_of r + count_nodes (heading_tokens lookup level r) ≤ r.stop
-heading-count lookup level from r h =
+heading-count : (text : List ℕ) (level from : ℕ) (r : Row) → Lies from r → start_of r + count_nodes (heading_tokens text level r) ≤ r.stop
+heading-count text level from r h =
     let d = drop-Runs level (start_of r) (without_indent r.columns) r.stop (start-Runs from r h) in
     let cs = drop level (without_indent r.columns) in
     let e = drop-Runs (indent cs) (first_place r.stop cs) cs r.stop d.0 in
@@ -273,11 +230,8 @@ heading-count lookup level from r h =
     let w = without_closing-UpTo f (without_trailing_blanks (without_indent cs)) u.mid u.runs in
     let a : start_of r ≤ first_place r.stop cs = d.1 in
     let b : first_place r.stop cs ≤ f = e.1 in
-    let c : w.mid ≤ u.mid = w.low in
-    let g : u.mid ≤ r.stop = u.low in
-    let p = pieces-count lookup f (heading_columns level r) w.mid w.runs in
-    let t = texts-count (pieces lookup (heading_columns level r)) Nil in
-    omega (arith, a, b, c, g, p, t)
+    let p = words-count text f (heading_columns level r) r.stop Nil (up-more f (heading_columns level r) u.mid r.stop u.low w) in
+    omega (arith, a, b, p)
 
 -- a leaf's nodes, where its first line is not blank
 leaf-count : (text : List ℕ) (lookup : Lookup) (from : ℕ) (leaf : Leaf) (first : Row) (more : List Row) (after : BlockDocument) → Sits from first → is_blank_line first ≡ false → Fed first.past more (past_of first more) → 4 * from + count_nodes (leaf_then text lookup leaf first more after) ≤ 4 * past_of first more + count_nodes after
@@ -297,7 +251,7 @@ leaf-count text lookup from leaf first more after s e f = go leaf
 
     go : (leaf : Leaf) → 4 * from + count_nodes (leaf_then text lookup leaf first more after) ≤ 4 * past_of first more + count_nodes after
     go ThematicBreakLeaf = omega (arith, low, some, high, up)
-    go (AtxHeadingLeaf level) = let h = heading-count lookup level from first s.0 in omega (arith, low, some, high, up, h)
+    go (AtxHeadingLeaf level) = let h = heading-count text level from first s.0 in omega (arith, low, some, high, up, h)
     go IndentedCodeLeaf =
         let b = verbatim-count text (code_columns 4 first) first in
         let c = merge_all-count (verbatim_line text (code_columns 4 first) first) (code_pieces text 4 more) in
@@ -361,7 +315,7 @@ module _ (text : List ℕ) (options : Options) (lookup : Lookup) where
       let a = from-start from first c.0.0 in
       let b = words-stop from first c.0 (begun-words behind first _ body.begun body.opened) in
       let d : first.stop ≤ first.past = c.0.0.2 in
-      let p = paragraph-count lookup from first more c.0.0 s.0 in
+      let p = paragraph-count text from first more c.0.0 s.0 in
       let ih = document-count direct None false (past_of first more) body.rest after to body.after (fed-behind (past_of first more) body.rest to s.1) in
       omega (arith, a, b, d, p, ih)
   document-count direct before behind from all (SetextHeading level first more underline after) to body f =
@@ -370,7 +324,7 @@ module _ (text : List ℕ) (options : Options) (lookup : Lookup) where
       let a = from-start from first c.0.0 in
       let b = words-stop from first c.0 (begun-words behind first _ body.begun body.opened) in
       let d : first.stop ≤ first.past = c.0.0.2 in
-      let p = paragraph-count lookup from first more c.0.0 s.0 in
+      let p = paragraph-count text from first more c.0.0 s.0 in
       let g : past_of first more < underline.past = s.1.0 in
       let ih = document-count direct None false underline.past body.rest after to body.after (fed-behind underline.past body.rest to s.1.2) in
       omega (arith, a, b, d, p, g, ih)

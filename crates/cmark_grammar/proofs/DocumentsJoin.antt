@@ -109,8 +109,8 @@ module _ (text : List ℕ) (lookup : Lookup) where
   document-join direct None NoBlocks b p = refl
   document-join direct (Some before) NoBlocks b p = list-off direct before b p
   document-join direct before (BlankLine line after) b p = document-join direct before after b p
-  document-join direct before (ParagraphBlock first more after) b p = ap (Node (node (paragraph_kind direct) (start_of first) (past_of first more)) (paragraph_tokens lookup first more)) (document-join direct None after b p)
-  document-join direct before (SetextHeading level first more underline after) b p = ap (Node (node (Heading level no_attributes) (start_of first) underline.past) (paragraph_tokens lookup first more)) (document-join direct None after b p)
+  document-join direct before (ParagraphBlock first more after) b p = ap (Node (node (paragraph_kind direct) (start_of first) (past_of first more)) (paragraph_tokens text first more)) (document-join direct None after b p)
+  document-join direct before (SetextHeading level first more underline after) b p = ap (Node (node (Heading level no_attributes) (start_of first) underline.past) (paragraph_tokens text first more)) (document-join direct None after b p)
   document-join direct before (LeafBlock leaf first more after) b p = ap (leaf_then text lookup leaf first more) (document-join direct None after b p) ∙ leaf-join text lookup leaf first more (document_of text lookup direct None after) (document_of text lookup direct None b)
   document-join direct before (ContainerBlock Quote first more inside after) b p = ap (Node (node (BlockQuote None) (start_of first) (past_of first more)) (document_of text lookup false None inside)) (document-join direct None after b p)
   document-join direct before (ContainerBlock (Item mark number width) first more inside after) b p =

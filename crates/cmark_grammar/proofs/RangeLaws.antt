@@ -29,7 +29,7 @@ leaf-order : (text : List ℕ) (lookup : Lookup) (from : ℕ) (leaf : Leaf) (fir
 leaf-order text lookup from ThematicBreakLeaf first more after to h a o =
     let p : start_of first ≤ first.past = start-past from first h in let q : first.past ≤ past_of first more = past-le first more a in
     (from-start from first h, omega (arith, p, q), o)
-leaf-order text lookup from (AtxHeadingLeaf level) first more after to h a o = (from-start from first h, heading-order lookup level from first (past_of first more) h (past-le first more a), o)
+leaf-order text lookup from (AtxHeadingLeaf level) first more after to h a o = (from-start from first h, heading-order text level from first (past_of first more) h (past-le first more a), o)
 leaf-order text lookup from IndentedCodeLeaf first more after to h a o =
     let d = code_place 4 from first h in
     let b : from ≤ begin_of first = h.0 in
@@ -86,14 +86,14 @@ module _ (text : List ℕ) (options : Options) (lookup : Lookup) where
   document-order direct before behind from all (ParagraphBlock first more after) to body a =
       let c : Along from (first ∷ (more ++ body.rest)) to = subst (λ ls. Along from ls to) body.cut a in
       let s = Along-split first more body.rest to c.1 in
-      (from-start from first c.0, paragraph-order lookup from first more c.0 s.0, document-order direct None false (past_of first more) body.rest after to body.after s.1)
+      (from-start from first c.0, paragraph-order text from first more c.0 s.0, document-order direct None false (past_of first more) body.rest after to body.after s.1)
   document-order direct before behind from all (SetextHeading level first more underline after) to body a =
       let c : Along from (first ∷ (more ++ (underline ∷ body.rest))) to = subst (λ ls. Along from ls to) body.cut a in
       let s = Along-split first more (underline ∷ body.rest) to c.1 in
       let p : past_of first more ≤ start_of underline = from-start (past_of first more) underline s.1.0 in
       let q : start_of underline ≤ underline.past = start-past (past_of first more) underline s.1.0 in (
         from-start from first c.0,
-        InOrder-upper (start_of first) (paragraph_tokens lookup first more) (past_of first more) underline.past (omega (arith, p, q)) (paragraph-order lookup from first more c.0 s.0),
+        InOrder-upper (start_of first) (paragraph_tokens text first more) (past_of first more) underline.past (omega (arith, p, q)) (paragraph-order text from first more c.0 s.0),
         document-order direct None false underline.past body.rest after to body.after s.1.1,
       )
   document-order direct before behind from all (LeafBlock leaf first more after) to body a =

@@ -3,13 +3,14 @@ use Rattle.std.proofs.Common.{◌≡◌, ℕ, Bool, true, false, ◌==◌, List,
 use Rattle.std.specs.Prelude.{if◌then◌else◌}
 use Rattle.cmark_grammar.specs.Answers.{Lookup}
 use Rattle.cmark_grammar.specs.Options.{Options}
-use Rattle.cmark_grammar.specs.Rows.{Row, start_of, past_of, begin_of}
+use Rattle.cmark_grammar.specs.Columns.{Column}
+use Rattle.cmark_grammar.specs.Rows.{Row, first_place, start_of, past_of, begin_of}
 use Rattle.cmark_grammar.specs.Containers.{Quote, Item}
 use Rattle.cmark_grammar.specs.Openings.{Leaf, ThematicBreak as ThematicBreakLeaf, AtxHeading as AtxHeadingLeaf, IndentedCode as IndentedCodeLeaf, FencedCode as FencedCodeLeaf, HtmlBlock as HtmlBlockLeaf, LinkDefinition as LinkDefinitionLeaf}
 use Rattle.cmark_grammar.specs.Blocks.{Blocks, Nil as NoBlocks, BlankLine, Paragraph as ParagraphBlock, SetextHeading, LeafBlock, ContainerBlock}
 use Rattle.cmark_grammar.specs.Lists.{ListBefore, tight_behind, goes_on, is_tight}
-use Rattle.cmark_grammar.specs.Tokens.{Piece, LineEnd, Soft, Spaces, Backslash, line_end, line_columns, end_place, pieces, texts_then, broken, paragraph_tokens, html_then, html_tokens, html_kind_of, verbatim_line, heading_columns, code_pieces, fenced_lines, without_last}
-use Rattle.cmark_grammar.specs.BlockDocument.{BlockKind, Text, OwnedText, SoftBreak, HardBreak, BlockList, ListItem, BlockNode, BlockDocument, Nil, Node, node}
+use Rattle.cmark_grammar.specs.Tokens.{Piece, line_columns, end_place, piece_if, texts_then, words_then, paragraph_tokens, html_then, html_tokens, html_kind_of, verbatim_line, behind_hashes, heading_columns, code_pieces, fenced_lines}
+use Rattle.cmark_grammar.specs.BlockDocument.{BlockKind, Text, OwnedText, SoftBreak, BlockList, ListItem, BlockNode, BlockDocument, Nil, Node, node}
 use Rattle.cmark_grammar.specs.Derivation.{leaf_then, item_then, paragraph_kind, document_of, Derives}
 use Rattle.cmark_grammar.specs.Tightness.{tight_within, IsElement, HasTightParagraphs}
 
@@ -21,17 +22,13 @@ texts_tight tight (p ∷ ps) after h = (text_piece p.owned, tt, texts_tight tigh
     text_piece true = tt
     text_piece false = tt
 
-break_tight : (tight : Bool) (ps : List Piece) (kind : BlockKind) (start end : ℕ) (after : BlockDocument) → IsElement tight kind → HasTightParagraphs tight after → HasTightParagraphs tight (texts_then ps (Node (node kind start end) Nil after))
-break_tight tight ps kind start end after is h = texts_tight tight ps (Node (node kind start end) Nil after) (is, tt, h)
+words_tight : (tight : Bool) (text : List ℕ) (start : ℕ) (cs : List Column) (after : BlockDocument) → HasTightParagraphs tight after → HasTightParagraphs tight (words_then text start cs after)
+words_tight tight text start cs after h = texts_tight tight (piece_if text start (end_place start cs) []) after h
 
-broken_tight : (tight : Bool) (lookup : Lookup) (e : LineEnd) (r : Row) (after : BlockDocument) → HasTightParagraphs tight after → HasTightParagraphs tight (broken lookup e r after)
-broken_tight tight lookup Soft r after h = break_tight tight (pieces lookup (line_columns r)) SoftBreak r.stop r.past after tt h
-broken_tight tight lookup Spaces r after h = break_tight tight (pieces lookup (line_columns r)) HardBreak (end_place (start_of r) (line_columns r)) r.past after tt h
-broken_tight tight lookup Backslash r after h = break_tight tight (pieces lookup (without_last (line_columns r))) HardBreak (end_place (start_of r) (without_last (line_columns r))) r.past after tt h
-
-paragraph_tight : (tight : Bool) (lookup : Lookup) (r : Row) (more : List Row) → HasTightParagraphs tight (paragraph_tokens lookup r more)
-paragraph_tight tight lookup r [] = texts_tight tight (pieces lookup (line_columns r)) Nil tt
-paragraph_tight tight lookup r (s ∷ more) = broken_tight tight lookup (line_end r) r (paragraph_tokens lookup s more) (paragraph_tight tight lookup s more)
+paragraph_tight : (tight : Bool) (text : List ℕ) (r : Row) (more : List Row) → HasTightParagraphs tight (paragraph_tokens text r more)
+paragraph_tight tight text r [] = words_tight tight text (start_of r) (line_columns r) Nil tt
+paragraph_tight tight text r (s ∷ more) =
+    words_tight tight text (start_of r) (line_columns r) (Node (node SoftBreak r.stop r.past) Nil (paragraph_tokens text s more)) (tt, tt, paragraph_tight tight text s more)
 
 html_piece : (tight owned : Bool) (bytes : List ℕ) (start end : ℕ) → IsElement tight (html_kind_of (record { owned = owned; bytes = bytes; start = start; end = end }))
 html_piece tight true bytes start end = tt
@@ -50,7 +47,7 @@ html_tight text tight (r ∷ rs) = html_then_tight tight (verbatim_line text r.c
 
 leaf_tight : (text : List ℕ) (lookup : Lookup) (tight : Bool) (leaf : Leaf) (first : Row) (more : List Row) (after : BlockDocument) → HasTightParagraphs tight after → HasTightParagraphs tight (leaf_then text lookup leaf first more after)
 leaf_tight text lookup tight ThematicBreakLeaf first more after h = (tt, tt, h)
-leaf_tight text lookup tight (AtxHeadingLeaf level) first more after h = (tt, texts_tight false (pieces lookup (heading_columns level first)) Nil tt, h)
+leaf_tight text lookup tight (AtxHeadingLeaf level) first more after h = (tt, words_tight false text (first_place first.stop (behind_hashes level first)) (heading_columns level first) Nil tt, h)
 leaf_tight text lookup tight IndentedCodeLeaf first more after h = (tt, texts_tight false (code_pieces text 4 (first ∷ more)) Nil tt, h)
 leaf_tight text lookup tight (FencedCodeLeaf fence) first more after h = (tt, texts_tight false (code_pieces text fence.indented (fenced_lines fence more)) Nil tt, h)
 leaf_tight text lookup tight (HtmlBlockLeaf kind) first more after h = (tt, html_tight text false (first ∷ more), h)
@@ -102,10 +99,10 @@ module _ (text : List ℕ) (lookup : Lookup) where
   document-tight direct before (BlankLine line after) = document-tight direct before after
   document-tight direct before (ParagraphBlock first more after) = kind direct (document-tight direct None after)
     where
-      kind : (z : Bool) → HasTightParagraphs z (document_of text lookup z None after) → HasTightParagraphs z (Node (node (paragraph_kind z) (start_of first) (past_of first more)) (paragraph_tokens lookup first more) (document_of text lookup z None after))
-      kind true h = (refl, paragraph_tight false lookup first more, h)
-      kind false h = (refl, paragraph_tight false lookup first more, h)
-  document-tight direct before (SetextHeading level first more underline after) = (tt, paragraph_tight false lookup first more, document-tight direct None after)
+      kind : (z : Bool) → HasTightParagraphs z (document_of text lookup z None after) → HasTightParagraphs z (Node (node (paragraph_kind z) (start_of first) (past_of first more)) (paragraph_tokens text first more) (document_of text lookup z None after))
+      kind true h = (refl, paragraph_tight false text first more, h)
+      kind false h = (refl, paragraph_tight false text first more, h)
+  document-tight direct before (SetextHeading level first more underline after) = (tt, paragraph_tight false text first more, document-tight direct None after)
   document-tight direct before (LeafBlock leaf first more after) = leaf_tight text lookup direct leaf first more (document_of text lookup direct None after) (document-tight direct None after)
   document-tight direct before (ContainerBlock Quote first more inside after) = (tt, document-tight false None inside, document-tight direct None after)
   document-tight direct before (ContainerBlock (Item mark number width) first more inside after) =

@@ -1,14 +1,12 @@
 -- The tokens of a leaf stand in order, where its lines stand.
-use Rattle.std.proofs.Common.{◌≡◌, ℕ, zero, suc, ◌+◌, ◌-◌, ◌≤◌, ◌<◌, Bool, true, false, ◌==◌, ◌&&◌, ◌||◌, not, List, [], ◌∷◌, ◌++◌, length, drop, take_while, refl, sym, subst, arith, Option, Some, None, true≢false}
-use Rattle.std.specs.Prelude.{if◌then◌else◌, nat_le, nat_lt}
-use Rattle.cmark_grammar.specs.Answers.{Lookup}
-use Rattle.cmark_grammar.specs.Columns.{Column, indent, without_indent, drop_end, put_before, without_trailing_blanks, bytes_of, is_blank}
+use Rattle.std.proofs.Common.{◌≡◌, ℕ, zero, suc, ◌+◌, ◌-◌, ◌≤◌, Bool, true, false, ◌==◌, List, [], ◌∷◌, ◌++◌, drop, refl, subst, arith}
+use Rattle.std.specs.Prelude.{if◌then◌else◌, nat_lt}
+use Rattle.cmark_grammar.specs.Columns.{Column, indent, without_indent, drop_end, put_before, without_trailing_blanks, is_blank}
 use Rattle.cmark_grammar.specs.Rows.{Row, first_place, begin_of, start_of, past_of}
-use Rattle.cmark_grammar.specs.Leaves.{is_empty, Fence, closes_fence}
-use Rattle.cmark_grammar.specs.HtmlBlocks.{first_is, is_alphanumeric, is_number}
-use Rattle.cmark_grammar.specs.BlockDocument.{BlockDocument, Nil, Node, node, SoftBreak, HardBreak}
+use Rattle.cmark_grammar.specs.Leaves.{Fence, closes_fence}
+use Rattle.cmark_grammar.specs.BlockDocument.{BlockDocument, Nil, Node, node, SoftBreak}
 use Rattle.cmark_grammar.specs.Ranges.{InOrder}
-use Rattle.cmark_grammar.specs.Tokens.{slice, character, value_of, Piece, Entity, Does, Stands, EscapesNext, Begins, does, does_at, begins_if, is_escape, size_behind, entity_if, entity_in, numeric_in, hexadecimal_in, decimal_in, numeric, named_in, is_hexadecimal, plain_of, grown, onto, add, pieces_from, put_column, byte_columns, pieces, texts_then, line_columns, end_place, without_last, LineEnd, Soft, Spaces, Backslash, line_end, broken, paragraph_tokens, is_hash, without_closing, heading_columns, heading_tokens, piece_if, plain_line, left_columns, spaces_if, verbatim_line, touches, merge, merge_all, code_columns, code_pieces, code_tokens, stop_at, fenced_lines, html_then, html_tokens}
+use Rattle.cmark_grammar.specs.Tokens.{slice, Piece, texts_then, line_columns, end_place, words_then, paragraph_tokens, is_hash, without_closing, heading_columns, heading_tokens, piece_if, plain_line, left_columns, spaces_if, verbatim_line, touches, merge, merge_all, code_columns, code_pieces, code_tokens, stop_at, fenced_lines, html_then, html_tokens}
 use Rattle.cmark_grammar.proofs.RowPlaces.{Runs, Runs-le, first_place-Runs, drop-Runs, Lies, begin-start, start-Runs, Along, Along-le}
 
 pub InOrder-le : (from : ℕ) (d : BlockDocument) (to : ℕ) → InOrder from d to → from ≤ to
@@ -52,161 +50,11 @@ html_then-order : (from : ℕ) (ps : List Piece) (mid : ℕ) (after : BlockDocum
 html_then-order from [] mid after to h a = InOrder-lower from mid after to h a
 html_then-order from (p ∷ ps) mid after to h a = (h.0, h.1, html_then-order p.end ps mid after to h.2 a)
 
--- bytes one behind the other
-abbrev ByteRuns : ℕ → List Column → ℕ → Type 0
-ByteRuns from [] to = from ≡ to
-ByteRuns from (c ∷ cs) to = (c.at ≡ from) × ByteRuns (suc from) cs to
-
-byte-Runs : (from : ℕ) (cs : List Column) (to : ℕ) → Runs from cs to → ByteRuns from (byte_columns cs) to
-byte-Runs from [] to h = h
-byte-Runs from (c ∷ cs) to h = go (c.part == 0) h.0 (byte-Runs (suc c.at) cs to h.1)
-  where
-    go : (z : Bool) → (if z then c.at else suc c.at) ≡ from → ByteRuns (suc c.at) (byte_columns cs) to → ByteRuns from (put_column z c (byte_columns cs)) to
-    go true e ih = (e, subst (λ f. ByteRuns (suc f) (byte_columns cs) to) e ih)
-    go false e ih = subst (λ f. ByteRuns f (byte_columns cs) to) e ih
-
-put-len : (z : Bool) (c : Column) (cs : List Column) → length (bytes_of cs) ≤ length cs → length (if z then c.byte ∷ bytes_of cs else bytes_of cs) ≤ suc (length cs)
-put-len true c cs le = omega (arith, le)
-put-len false c cs le = omega (arith, le)
-
-bytes-len : (cs : List Column) → length (bytes_of cs) ≤ length cs
-bytes-len [] = omega arith
-bytes-len (c ∷ cs) = put-len (c.part == 0) c cs (bytes-len cs)
-
--- an entity takes no more bytes than there are
-abbrev SizedEntity : Option Entity → ℕ → Type 0
-SizedEntity None n = Unit {0}
-SizedEntity (Some e) n = (0 < e.size) × (e.size ≤ suc n)
-
-abbrev Sized : Does → ℕ → Type 0
-Sized Stands n = Unit {0}
-Sized EscapesNext n = Unit {0}
-Sized (Begins e) n = (0 < e.size) × (e.size ≤ suc n)
-
-no : {A : Type 0} → false ≡ true → A
-no e = absurd (true≢false (sym e))
-
-behind-len : (p : ℕ → Bool) (n : ℕ) (bs : List ℕ) → first_is p (drop n bs) ≡ true → n < length bs
-behind-len p zero [] e = no e
-behind-len p zero (b ∷ bs) e = omega arith
-behind-len p (suc n) [] e = no e
-behind-len p (suc n) (b ∷ bs) e = let ih = behind-len p n bs e in omega (arith, ih)
-
-one-len : (p : ℕ → Bool) (bs : List ℕ) → first_is p bs ≡ true → length (drop 1 bs) < length bs
-one-len p [] e = no e
-one-len p (b ∷ bs) e = omega arith
-
-both-right : (x y : Bool) → (x && y) ≡ true → y ≡ true
-both-right true y e = e
-both-right false y e = no e
-
-numeric-size : (base most size : ℕ) (ds behind : List ℕ) (n : ℕ) → 0 < size → (first_is (λ b. b == 59) behind ≡ true → length ds + size ≤ suc n) → SizedEntity (numeric base most size ds behind) n
-numeric-size base most size ds behind n some fits = go (nat_lt 0 (length ds) && (nat_le (length ds) most && first_is (λ b. b == 59) behind)) refl
-  where
-    go : (z : Bool) → (nat_lt 0 (length ds) && (nat_le (length ds) most && first_is (λ b. b == 59) behind)) ≡ z → SizedEntity (if z then Some (record { bytes = character (value_of base ds); size = length ds + size }) else None) n
-    go true e = let f = fits (both-right (nat_le (length ds) most) _ (both-right (nat_lt 0 (length ds)) _ e)) in (omega (arith, some), f)
-    go false e = tt
-
-named-size : (o : Option (List ℕ)) (size n : ℕ) → 0 < size → size ≤ suc n → SizedEntity (entity_if o size) n
-named-size None size n some le = tt
-named-size (Some bytes) size n some le = (some, le)
-
-named_in-size : (lookup : Lookup) (bs : List ℕ) → SizedEntity (named_in lookup bs) (length bs)
-named_in-size lookup bs = go (not (is_empty (take_while is_alphanumeric bs)) && first_is (λ b. b == 59) (drop (length (take_while is_alphanumeric bs)) bs)) refl
-  where
-    go : (z : Bool) → (not (is_empty (take_while is_alphanumeric bs)) && first_is (λ b. b == 59) (drop (length (take_while is_alphanumeric bs)) bs)) ≡ z → SizedEntity (if z then entity_if (lookup (take_while is_alphanumeric bs)) (length (take_while is_alphanumeric bs) + 2) else None) (length bs)
-    go true e = let l = behind-len (λ b. b == 59) (length (take_while is_alphanumeric bs)) bs (both-right (not (is_empty (take_while is_alphanumeric bs))) _ e) in named-size (lookup (take_while is_alphanumeric bs)) (length (take_while is_alphanumeric bs) + 2) (length bs) (omega arith) (omega (arith, l))
-    go false e = tt
-
-numeric_in-size : (bs : List ℕ) (n : ℕ) → length bs < n → SizedEntity (numeric_in bs) n
-numeric_in-size bs n lt = go (first_is (λ b. (b == 120) || (b == 88)) bs) refl
-  where
-    go : (z : Bool) → first_is (λ b. (b == 120) || (b == 88)) bs ≡ z → SizedEntity (if z then hexadecimal_in (drop 1 bs) else decimal_in bs) n
-    go true e =
-        let one = one-len (λ b. (b == 120) || (b == 88)) bs e in
-        numeric-size 16 6 4 (take_while is_hexadecimal (drop 1 bs)) (drop (length (take_while is_hexadecimal (drop 1 bs))) (drop 1 bs)) n (omega arith)
-        (λ f. let l = behind-len (λ b. b == 59) (length (take_while is_hexadecimal (drop 1 bs))) (drop 1 bs) f in omega (arith, lt, one, l))
-    go false e =
-        numeric-size 10 7 3 (take_while is_number bs) (drop (length (take_while is_number bs)) bs) n (omega arith)
-        (λ f. let l = behind-len (λ b. b == 59) (length (take_while is_number bs)) bs f in omega (arith, lt, l))
-
-entity-size : (lookup : Lookup) (bs : List ℕ) → SizedEntity (entity_in lookup bs) (length bs)
-entity-size lookup bs = go (first_is (λ b. b == 35) bs) refl
-  where
-    go : (z : Bool) → first_is (λ b. b == 35) bs ≡ z → SizedEntity (if z then numeric_in (drop 1 bs) else named_in lookup bs) (length bs)
-    go true e = numeric_in-size (drop 1 bs) (length bs) (one-len (λ b. b == 35) bs e)
-    go false e = named_in-size lookup bs
-
-begins-size : (o : Option Entity) (n : ℕ) → SizedEntity o n → Sized (begins_if o) n
-begins-size None n h = tt
-begins-size (Some e) n h = h
-
-does_at-size : (lookup : Lookup) (x y : Bool) (bs : List ℕ) → Sized (does_at lookup x y bs) (length bs)
-does_at-size lookup true y bs = begins-size (entity_in lookup bs) (length bs) (entity-size lookup bs)
-does_at-size lookup false true bs = go (first_is _ bs)
-  where
-    go : (z : Bool) → Sized (if z then EscapesNext else Stands) (length bs)
-    go true = tt
-    go false = tt
-does_at-size lookup false false bs = tt
-
-does-size : (lookup : Lookup) (escaped : Bool) (b : ℕ) (bs : List ℕ) → Sized (does lookup escaped b bs) (length bs)
-does-size lookup true b bs = tt
-does-size lookup false b bs = does_at-size lookup (b == 38) (b == 92) bs
-
-size-fits : (w : Does) (n m : ℕ) → n ≤ m → Sized w n → size_behind w ≤ m
-size-fits Stands n m le s = omega arith
-size-fits EscapesNext n m le s = omega arith
-size-fits (Begins e) n m le s = let a : 0 < e.size = s.0 in let b : e.size ≤ suc n = s.1 in omega (arith, le, a, b)
-
-onto-order : (c : Column) (ps : List Piece) (to : ℕ) → InPieces (suc c.at) ps to → InPieces c.at (onto c ps) to
-onto-order c [] to h = (omega arith, omega arith, h)
-onto-order c (p ∷ ps) to h = go (not p.owned && (p.start == suc c.at))
-  where
-    go : (z : Bool) → InPieces c.at (if z then grown c p ∷ ps else plain_of c ∷ p ∷ ps) to
-    go true = let a : suc c.at ≤ p.start = h.0 in let b : p.start ≤ p.end = h.1 in (omega arith, omega (arith, a, b), h.2)
-    go false = (omega arith, omega arith, h)
-
-pieces_from-order : (lookup : Lookup) (escaped : Bool) (skip from : ℕ) (cs : List Column) (to : ℕ) → skip ≤ length cs → ByteRuns from cs to → InPieces (from + skip) (pieces_from lookup escaped skip cs) to
-pieces_from-order lookup escaped skip from [] to le h = let e : from ≡ to = h in omega (arith, le, e)
-pieces_from-order lookup escaped (suc skip) from (c ∷ cs) to le h =
-    pieces-lower (from + suc skip) (suc from + skip) (pieces_from lookup false skip cs) to (omega arith)
-    (pieces_from-order lookup false skip (suc from) cs to (omega (arith, le)) h.1)
-pieces_from-order lookup escaped zero from (c ∷ cs) to le h =
-    go (does lookup escaped c.byte (bytes_of cs)) (does-size lookup escaped c.byte (bytes_of cs))
-    (pieces_from-order lookup (is_escape (does lookup escaped c.byte (bytes_of cs))) (size_behind (does lookup escaped c.byte (bytes_of cs))) (suc from) cs to (size-fits (does lookup escaped c.byte (bytes_of cs)) (length (bytes_of cs)) (length cs) (bytes-len cs) (does-size lookup escaped c.byte (bytes_of cs))) h.1)
-  where
-    at : c.at ≡ from
-    at = h.0
-
-    go : (w : Does) → Sized w (length (bytes_of cs)) → InPieces (suc from + size_behind w) (pieces_from lookup (is_escape w) (size_behind w) cs) to → InPieces (from + 0) (add w c (pieces_from lookup (is_escape w) (size_behind w) cs)) to
-    go Stands s ih =
-        pieces-lower (from + 0) c.at (onto c (pieces_from lookup false 0 cs)) to (omega (arith, at))
-        (onto-order c (pieces_from lookup false 0 cs) to (pieces-lower (suc c.at) (suc from + 0) (pieces_from lookup false 0 cs) to (omega (arith, at)) ih))
-    go EscapesNext s ih = pieces-lower (from + 0) (suc from + 0) (pieces_from lookup true 0 cs) to (omega arith) ih
-    go (Begins e) s ih =
-        let a : 0 < e.size = s.0 in
-        (omega (arith, at), omega arith, pieces-lower (c.at + e.size) (suc from + (e.size - 1)) (pieces_from lookup false (e.size - 1) cs) to (omega (arith, at, a)) ih)
-
-pub pieces-order : (lookup : Lookup) (from : ℕ) (cs : List Column) (to : ℕ) → Runs from cs to → InPieces from (pieces lookup cs) to
-pieces-order lookup from cs to h =
-    pieces-lower from (from + 0) (pieces lookup cs) to (omega arith) (pieces_from-order lookup false 0 from (byte_columns cs) to (omega arith) (byte-Runs from cs to h))
-
 -- columns up to some place not behind that one
 pub record UpTo (from : ℕ) (cs : List Column) (to : ℕ) : Type 0 where
   pub mid : ℕ
   pub runs : Runs from cs mid
   pub low : mid ≤ to
-
-pub without_last-UpTo : (from : ℕ) (cs : List Column) (to : ℕ) → Runs from cs to → UpTo from (without_last cs) to
-without_last-UpTo from [] to h = record { mid = to; runs = h; low = omega arith }
-without_last-UpTo from (c ∷ []) to h = go (c.byte == 92)
-  where
-    go : (z : Bool) → UpTo from (if z then [] else c ∷ []) to
-    go true = record { mid = from; runs = refl; low = Runs-le from (c ∷ []) to h }
-    go false = record { mid = to; runs = h; low = omega arith }
-without_last-UpTo from (c ∷ (d ∷ cs)) to h =
-    let ih = without_last-UpTo (suc c.at) (d ∷ cs) to h.1 in record { mid = ih.mid; runs = (h.0, ih.runs); low = ih.low }
 
 pub drop_end-UpTo : (p : Column → Bool) (from : ℕ) (cs : List Column) (to : ℕ) → Runs from cs to → UpTo from (drop_end p cs) to
 drop_end-UpTo p from [] to h = record { mid = to; runs = h; low = omega arith }
@@ -223,46 +71,36 @@ drop_end-UpTo p from (c ∷ cs) to h = go (drop_end p cs) (p c) (drop_end-UpTo p
     go [] false u = record { mid = suc c.at; runs = (h.0, refl); low = le }
     go (d ∷ ds) z u = record { mid = u.mid; runs = (h.0, u.runs); low = u.low }
 
-up-more : (from : ℕ) (cs : List Column) (a b : ℕ) → a ≤ b → UpTo from cs a → UpTo from cs b
+pub up-more : (from : ℕ) (cs : List Column) (a b : ℕ) → a ≤ b → UpTo from cs a → UpTo from cs b
 up-more from cs a b le u = let l : u.mid ≤ a = u.low in record { mid = u.mid; runs = u.runs; low = omega (arith, le, l) }
 
-end_place-Runs : (from : ℕ) (cs : List Column) (to : ℕ) → Runs from cs to → end_place from cs ≡ to
+pub end_place-Runs : (from : ℕ) (cs : List Column) (to : ℕ) → Runs from cs to → end_place from cs ≡ to
 end_place-Runs from [] to h = h
 end_place-Runs from (c ∷ cs) to h = end_place-Runs (suc c.at) cs to h.1
 
 pub line-UpTo : (from : ℕ) (r : Row) → Lies from r → UpTo (start_of r) (line_columns r) r.stop
 line-UpTo from r h = drop_end-UpTo is_blank (start_of r) (without_indent r.columns) r.stop (start-Runs from r h)
 
--- a text behind which a break stands
-hard-order : (lookup : Lookup) (from : ℕ) (cs : List Column) (stop past : ℕ) (after : BlockDocument) (to : ℕ) → UpTo from cs stop → stop ≤ past → InOrder past after to → InOrder from (texts_then (pieces lookup cs) (Node (node HardBreak (end_place from cs) past) Nil after)) to
-hard-order lookup from cs stop past after to u le a =
+piece_if-order : (text : List ℕ) (from start end : ℕ) (ps : List Piece) (to : ℕ) → from ≤ start → start ≤ end → InPieces end ps to → InPieces from (piece_if text start end ps) to
+piece_if-order text from start end ps to a b h = go (nat_lt start end)
+  where
+    go : (z : Bool) → InPieces from (if z then record { owned = false; bytes = slice text start end; start = start; end = end } ∷ ps else ps) to
+    go true = (a, b, h)
+    go false = pieces-lower from end ps to (omega (arith, a, b)) h
+
+words-order : (text : List ℕ) (from : ℕ) (cs : List Column) (stop : ℕ) (after : BlockDocument) (to : ℕ) → UpTo from cs stop → InOrder stop after to → InOrder from (words_then text from cs after) to
+words-order text from cs stop after to u a =
     let e : end_place from cs ≡ u.mid = end_place-Runs from cs u.mid u.runs in
+    let b : from ≤ u.mid = Runs-le from cs u.mid u.runs in
     let l : u.mid ≤ stop = u.low in
-    let n : InOrder u.mid (Node (node HardBreak (end_place from cs) past) Nil after) to = (omega (arith, e), omega (arith, e, l, le), a) in
-    texts-order from (pieces lookup cs) u.mid (Node (node HardBreak (end_place from cs) past) Nil after) to (pieces-order lookup from cs u.mid u.runs) n
+    texts-order from (piece_if text from (end_place from cs) []) stop after to
+    (piece_if-order text from from (end_place from cs) [] stop (omega arith) (omega (arith, e, b)) (omega (arith, e, l))) a
 
-broken-order : (lookup : Lookup) (from : ℕ) (r : Row) (after : BlockDocument) (to : ℕ) → Lies from r → (e : LineEnd) → InOrder r.past after to → InOrder (start_of r) (broken lookup e r after) to
-broken-order lookup from r after to h Soft a =
-    let u = line-UpTo from r h in
-    let l : u.mid ≤ r.stop = u.low in
-    let p : r.stop ≤ r.past = h.2 in
-    let n : InOrder u.mid (Node (node SoftBreak r.stop r.past) Nil after) to = (l, p, a) in
-    texts-order (start_of r) (pieces lookup (line_columns r)) u.mid (Node (node SoftBreak r.stop r.past) Nil after) to (pieces-order lookup (start_of r) (line_columns r) u.mid u.runs) n
-broken-order lookup from r after to h Spaces a = hard-order lookup (start_of r) (line_columns r) r.stop r.past after to (line-UpTo from r h) h.2 a
-broken-order lookup from r after to h Backslash a =
-    let u = line-UpTo from r h in
-    hard-order lookup (start_of r) (without_last (line_columns r)) r.stop r.past after to
-    (up-more (start_of r) (without_last (line_columns r)) u.mid r.stop u.low (without_last-UpTo (start_of r) (line_columns r) u.mid u.runs)) h.2 a
-
-pub paragraph-order : (lookup : Lookup) (from : ℕ) (r : Row) (more : List Row) → Lies from r → Along r.past more (past_of r more) → InOrder (start_of r) (paragraph_tokens lookup r more) (past_of r more)
-paragraph-order lookup from r [] h a =
-    let u = line-UpTo from r h in
-    let l : u.mid ≤ r.stop = u.low in
-    let p : r.stop ≤ r.past = h.2 in
-    texts-order (start_of r) (pieces lookup (line_columns r)) u.mid Nil r.past (pieces-order lookup (start_of r) (line_columns r) u.mid u.runs) (omega (arith, l, p))
-paragraph-order lookup from r (s ∷ more) h a =
-    broken-order lookup from r (paragraph_tokens lookup s more) (past_of s more) h (line_end r)
-    (InOrder-lower r.past (start_of s) (paragraph_tokens lookup s more) (past_of s more) past-start (paragraph-order lookup r.past s more a.0 a.1))
+pub paragraph-order : (text : List ℕ) (from : ℕ) (r : Row) (more : List Row) → Lies from r → Along r.past more (past_of r more) → InOrder (start_of r) (paragraph_tokens text r more) (past_of r more)
+paragraph-order text from r [] h a = words-order text (start_of r) (line_columns r) r.stop Nil r.past (line-UpTo from r h) h.2
+paragraph-order text from r (s ∷ more) h a =
+    words-order text (start_of r) (line_columns r) r.stop (Node (node SoftBreak r.stop r.past) Nil (paragraph_tokens text s more)) (past_of s more) (line-UpTo from r h)
+    (omega arith, h.2, InOrder-lower r.past (start_of s) (paragraph_tokens text s more) (past_of s more) past-start (paragraph-order text r.past s more a.0 a.1))
   where
     past-start : r.past ≤ start_of s
     past-start = let b : r.past ≤ begin_of s = a.0.0 in let c : begin_of s ≤ start_of s = begin-start r.past s a.0 in omega (arith, b, c)
@@ -274,8 +112,8 @@ without_closing-UpTo from cs to h = go _
     go true = let u = drop_end-UpTo is_hash from cs to h in up-more from (without_trailing_blanks (drop_end is_hash cs)) u.mid to u.low (drop_end-UpTo is_blank from (drop_end is_hash cs) u.mid u.runs)
     go false = record { mid = to; runs = h; low = omega arith }
 
-pub heading-order : (lookup : Lookup) (level from : ℕ) (r : Row) (to : ℕ) → Lies from r → r.past ≤ to → InOrder (start_of r) (heading_tokens lookup level r) to
-heading-order lookup level from r to h le =
+pub heading-order : (text : List ℕ) (level from : ℕ) (r : Row) (to : ℕ) → Lies from r → r.past ≤ to → InOrder (start_of r) (heading_tokens text level r) to
+heading-order text level from r to h le =
     let d = drop-Runs level (start_of r) (without_indent r.columns) r.stop (start-Runs from r h) in
     let cs = drop level (without_indent r.columns) in
     let e = drop-Runs (indent cs) (first_place r.stop cs) cs r.stop d.0 in
@@ -284,20 +122,11 @@ heading-order lookup level from r to h le =
     let w = without_closing-UpTo f (without_trailing_blanks (without_indent cs)) u.mid u.runs in
     let a : start_of r ≤ first_place r.stop cs = d.1 in
     let b : first_place r.stop cs ≤ f = e.1 in
-    let c : w.mid ≤ u.mid = w.low in
-    let g : u.mid ≤ r.stop = u.low in
     let p : r.stop ≤ r.past = h.2 in
-    InOrder-lower (start_of r) f (heading_tokens lookup level r) to (omega (arith, a, b))
-    (texts-order f (pieces lookup (heading_columns level r)) w.mid Nil to (pieces-order lookup f (heading_columns level r) w.mid w.runs) (omega (arith, c, g, p, le)))
+    InOrder-lower (start_of r) f (heading_tokens text level r) to (omega (arith, a, b))
+    (words-order text f (heading_columns level r) r.stop Nil to (up-more f (heading_columns level r) u.mid r.stop u.low w) (omega (arith, p, le)))
 
 -- lines as they are
-piece_if-order : (text : List ℕ) (from start end : ℕ) (ps : List Piece) (to : ℕ) → from ≤ start → start ≤ end → InPieces end ps to → InPieces from (piece_if text start end ps) to
-piece_if-order text from start end ps to a b h = go (nat_lt start end)
-  where
-    go : (z : Bool) → InPieces from (if z then record { owned = false; bytes = slice text start end; start = start; end = end } ∷ ps else ps) to
-    go true = (a, b, h)
-    go false = pieces-lower from end ps to (omega (arith, a, b)) h
-
 two_of : (n : ℕ) → (n == 2) ≡ true → n ≡ 2
 two_of n e = grind (arith)
 

@@ -38,7 +38,7 @@ reference_of lookup definition start end = record {
 abbrev pub leaf_then : List ℕ → Lookup → Leaf → Row → List Row → BlockDocument → BlockDocument
 leaf_then text lookup ThematicBreakLeaf first more after = Node (node ThematicBreak (start_of first) (past_of first more)) Nil after
 leaf_then text lookup (AtxHeadingLeaf level) first more after =
-    Node (node (Heading level no_attributes) (start_of first) (past_of first more)) (heading_tokens lookup level first) after
+    Node (node (Heading level no_attributes) (start_of first) (past_of first more)) (heading_tokens text level first) after
 leaf_then text lookup IndentedCodeLeaf first more after =
     Node (node IndentedCode (first_place first.stop (code_columns 4 first)) (past_of first more)) (code_tokens text 4 (first ∷ more)) after
 leaf_then text lookup (FencedCodeLeaf fence) first more after =
@@ -65,9 +65,9 @@ abbrev pub document_of : List ℕ → Lookup → (direct : Bool) → (list : Opt
 document_of text lookup direct list NoBlocks = Nil
 document_of text lookup direct list (BlankLine line after) = document_of text lookup direct list after
 document_of text lookup direct list (ParagraphBlock first more after) =
-    Node (node (paragraph_kind direct) (start_of first) (past_of first more)) (paragraph_tokens lookup first more) (document_of text lookup direct None after)
+    Node (node (paragraph_kind direct) (start_of first) (past_of first more)) (paragraph_tokens text first more) (document_of text lookup direct None after)
 document_of text lookup direct list (SetextHeading level first more underline after) =
-    Node (node (Heading level no_attributes) (start_of first) underline.past) (paragraph_tokens lookup first more) (document_of text lookup direct None after)
+    Node (node (Heading level no_attributes) (start_of first) underline.past) (paragraph_tokens text first more) (document_of text lookup direct None after)
 document_of text lookup direct list (LeafBlock leaf first more after) = leaf_then text lookup leaf first more (document_of text lookup direct None after)
 document_of text lookup direct list (ContainerBlock Quote first more inside after) =
     Node (node (BlockQuote None) (start_of first) (past_of first more)) (document_of text lookup false None inside) (document_of text lookup direct None after)

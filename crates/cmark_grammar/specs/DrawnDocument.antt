@@ -1,7 +1,7 @@
 -- A document as a tree keeps it, and how much of it is read: link reference definitions stand in a table of their own, and whether
 -- a paragraph stands directly in an item of a tight list is seen from the list around it.
 use Rattle.std.specs.Prelude.{Bool, true, false, if◌then◌else◌}
-use Rattle.cmark_grammar.specs.BlockDocument.{BlockKind, Paragraph, TightParagraph, Heading, ThematicBreak, IndentedCode, FencedCode, HtmlBlock, LinkDefinition, BlockQuote, BlockList, ListItem, Text, OwnedText, Html, SoftBreak, HardBreak, BlockNode, BlockDocument, Nil, Node}
+use Rattle.cmark_grammar.specs.BlockDocument.{BlockKind, Paragraph, TightParagraph, Heading, ThematicBreak, IndentedCode, FencedCode, HtmlBlock, LinkDefinition, BlockQuote, BlockList, ListItem, Text, OwnedText, Html, SoftBreak, BlockNode, BlockDocument, Nil, Node}
 use Rattle.cmark_grammar.specs.Tightness.{tight_within}
 
 abbrev pub is_definition : BlockKind → Bool
@@ -20,7 +20,6 @@ is_definition (Text bytes) = false
 is_definition (OwnedText bytes) = false
 is_definition (Html bytes) = false
 is_definition SoftBreak = false
-is_definition HardBreak = false
 
 abbrev pub node_unless : Bool → BlockNode → (inside after : BlockDocument) → BlockDocument
 node_unless true node inside after = after
@@ -49,7 +48,6 @@ kind_within tight (Text bytes) = Text bytes
 kind_within tight (OwnedText bytes) = OwnedText bytes
 kind_within tight (Html bytes) = Html bytes
 kind_within tight SoftBreak = SoftBreak
-kind_within tight HardBreak = HardBreak
 
 -- the paragraphs that stand directly in items of tight lists are no elements of their own (CommonMark 5.3)
 abbrev pub settled : (tight : Bool) → BlockDocument → BlockDocument

@@ -1,19 +1,13 @@
--- What stands in a leaf: texts, line breaks, HTML (CommonMark 2.4, 2.5, 4.4 to 4.8, 6.7 and 6.8).
+-- What stands in a leaf: texts, line endings, HTML (CommonMark 4.2 to 4.8 and 6.8), and bytes with escapes and entities resolved
+-- (CommonMark 2.4 and 2.5).
 use Rattle.std.specs.Char.{encode_utf8}
-use Rattle.std.specs.Prelude.{ℕ, zero, suc, ◌+◌, ◌-◌, ◌*◌, ◌%◌, Bool, true, false, ◌==◌, ◌&&◌, ◌||◌, not, nat_lt, nat_le, if◌then◌else◌, List, [], ◌∷◌, ◌++◌, length, drop, take, take_while, reverse, replicate, fold, Option, Some, None}
+use Rattle.std.specs.Prelude.{ℕ, zero, suc, ◌+◌, ◌-◌, ◌*◌, Bool, true, false, ◌==◌, ◌&&◌, ◌||◌, not, nat_lt, nat_le, if◌then◌else◌, List, [], ◌∷◌, ◌++◌, length, drop, take, take_while, replicate, fold, Option, Some, None}
 use Rattle.cmark_grammar.specs.Answers.{Lookup}
-use Rattle.cmark_grammar.specs.Columns.{Column, is_blank_byte, without_indent, drop_end, without_trailing_blanks, bytes_of}
+use Rattle.cmark_grammar.specs.Columns.{Column, is_blank_byte, without_indent, drop_end, without_trailing_blanks}
 use Rattle.cmark_grammar.specs.Rows.{Row, is_bare, first_place, indent_of, start_of}
-use Rattle.cmark_grammar.specs.Leaves.{Fence, closes_fence, is_empty, run}
+use Rattle.cmark_grammar.specs.Leaves.{Fence, closes_fence, is_empty}
 use Rattle.cmark_grammar.specs.HtmlBlocks.{is_alphanumeric, is_number, lower, first_is}
-use Rattle.cmark_grammar.specs.BlockDocument.{BlockKind, BlockDocument, Nil, Node, node, Text, OwnedText, Html, SoftBreak, HardBreak}
-
--- a piece of text: the bytes that it stands for and those that it takes in the text; owned if they differ
-pub record Piece : Type 0 where
-  pub owned : Bool
-  pub bytes : List ℕ
-  pub start : ℕ
-  pub end : ℕ
+use Rattle.cmark_grammar.specs.BlockDocument.{BlockKind, BlockDocument, Nil, Node, node, Text, OwnedText, Html, SoftBreak}
 
 -- ASCII punctuation (CommonMark 2.1)
 abbrev pub is_punctuation : ℕ → Bool
@@ -101,53 +95,22 @@ size_behind Stands = 0
 size_behind EscapesNext = 0
 size_behind (Begins entity) = entity.size - 1
 
-abbrev pub plain_of : Column → Piece
-plain_of c = record { owned = false; bytes = c.byte ∷ []; start = c.at; end = suc c.at }
+-- the bytes that it stands for, in front of others
+abbrev pub add_bytes : Does → ℕ → List ℕ → List ℕ
+add_bytes Stands b bs = b ∷ bs
+add_bytes EscapesNext b bs = bs
+add_bytes (Begins entity) b bs = entity.bytes ++ bs
 
-abbrev pub grown : Column → Piece → Piece
-grown c p = record { owned = false; bytes = c.byte ∷ p.bytes; start = c.at; end = p.end }
+abbrev pub resolved_from : Lookup → (escaped : Bool) → (skip : ℕ) → List ℕ → List ℕ
+resolved_from lookup escaped skip [] = []
+resolved_from lookup escaped (suc skip) (b ∷ bs) = resolved_from lookup false skip bs
+resolved_from lookup escaped zero (b ∷ bs) =
+    let what = does lookup escaped b bs in add_bytes what b (resolved_from lookup (is_escape what) (size_behind what) bs)
 
--- a byte in front of pieces: it goes onto a piece of the text that begins directly behind it
-abbrev pub onto : Column → List Piece → List Piece
-onto c [] = plain_of c ∷ []
-onto c (p ∷ ps) = if not p.owned && (p.start == suc c.at) then grown c p ∷ ps else plain_of c ∷ p ∷ ps
-
-abbrev pub add : Does → Column → List Piece → List Piece
-add Stands c ps = onto c ps
-add EscapesNext c ps = ps
-add (Begins entity) c ps = record { owned = true; bytes = entity.bytes; start = c.at; end = c.at + entity.size } ∷ ps
-
--- the pieces of these bytes: a backslash before punctuation is dropped, and an entity is a piece of its own
-abbrev pub pieces_from : Lookup → (escaped : Bool) → (skip : ℕ) → List Column → List Piece
-pieces_from lookup escaped skip [] = []
-pieces_from lookup escaped (suc skip) (c ∷ cs) = pieces_from lookup false skip cs
-pieces_from lookup escaped zero (c ∷ cs) =
-    let what = does lookup escaped c.byte (bytes_of cs) in add what c (pieces_from lookup (is_escape what) (size_behind what) cs)
-
--- the columns in which bytes begin
-abbrev pub put_column : Bool → Column → List Column → List Column
-put_column true c cs = c ∷ cs
-put_column false c cs = cs
-
-abbrev pub byte_columns : List Column → List Column
-byte_columns [] = []
-byte_columns (c ∷ cs) = put_column (c.part == 0) c (byte_columns cs)
-
-abbrev pub pieces : Lookup → List Column → List Piece
-pieces lookup cs = pieces_from lookup false 0 (byte_columns cs)
-
--- bytes that stand in no line, as columns
-abbrev pub columns_of : ℕ → List ℕ → List Column
-columns_of at [] = []
-columns_of at (b ∷ bs) = record { byte = b; at = at; part = 0 } ∷ columns_of (suc at) bs
-
-abbrev pub piece_bytes : List Piece → List ℕ
-piece_bytes [] = []
-piece_bytes (p ∷ ps) = p.bytes ++ piece_bytes ps
-
--- bytes with escapes and entities resolved (info strings, destinations and titles)
+-- bytes with escapes and entities resolved (info strings, destinations and titles): a backslash before punctuation is dropped, and an
+-- entity stands for its text
 abbrev pub resolved : Lookup → List ℕ → List ℕ
-resolved lookup bs = piece_bytes (pieces lookup (columns_of 0 bs))
+resolved lookup bs = resolved_from lookup false 0 bs
 
 -- a title's lines: each line end and the blanks behind it are one line feed (this profile's own)
 abbrev pub title_byte : (front : Bool) → ℕ → List ℕ → List ℕ
@@ -156,6 +119,13 @@ title_byte front b bs = if (b == 13) || (front && is_blank_byte b) then bs else 
 abbrev pub title_lines : (front : Bool) → List ℕ → List ℕ
 title_lines front [] = []
 title_lines front (b ∷ bs) = title_byte front b (title_lines ((b == 10) || (front && is_blank_byte b)) bs)
+
+-- a piece of a leaf: its bytes, and those that it takes in the text; owned if they differ
+pub record Piece : Type 0 where
+  pub owned : Bool
+  pub bytes : List ℕ
+  pub start : ℕ
+  pub end : ℕ
 
 abbrev pub text_kind_of : Piece → BlockKind
 text_kind_of p = if p.owned then OwnedText p.bytes else Text p.bytes
@@ -169,49 +139,31 @@ texts_then (p ∷ ps) after = Node (node (text_kind_of p) p.start p.end) Nil (te
 abbrev pub line_columns : Row → List Column
 line_columns r = without_trailing_blanks (without_indent r.columns)
 
+-- the place behind the last of these columns
 abbrev pub end_place : ℕ → List Column → ℕ
 end_place none [] = none
 end_place none (c ∷ cs) = end_place (suc c.at) cs
 
--- two spaces at the line's end (CommonMark 6.7), on the columns from the last one
-abbrev pub two_spaces : List Column → Bool
-two_spaces [] = false
-two_spaces (c ∷ []) = false
-two_spaces (c ∷ (d ∷ cs)) = (c.byte == 32) && (d.byte == 32)
+-- the bytes of the text from start to before end
+abbrev pub slice : List ℕ → ℕ → ℕ → List ℕ
+slice text start end = take (end - start) (drop start text)
 
--- a backslash that no backslash escapes, on the bytes from the last one
-abbrev pub is_open_backslash : List ℕ → Bool
-is_open_backslash bs = run 92 bs % 2 == 1
+abbrev pub piece_if : List ℕ → ℕ → ℕ → List Piece → List Piece
+piece_if text start end ps = if nat_lt start end then record { owned = false; bytes = slice text start end; start = start; end = end } ∷ ps else ps
 
--- how a line that is not its leaf's last ends: softly, or hard by spaces or by a backslash
-pub data LineEnd : Type 0 where
-  Soft : LineEnd
-  Spaces : LineEnd
-  Backslash : LineEnd
+-- the text in which these columns stand, from that place on, as it is: one text, and nothing where it is empty
+abbrev pub words_then : List ℕ → (start : ℕ) → List Column → BlockDocument → BlockDocument
+words_then text start cs after = texts_then (piece_if text start (end_place start cs) []) after
 
-abbrev pub line_end : Row → LineEnd
-line_end r =
-    if two_spaces (reverse r.columns) then Spaces
-    else if is_open_backslash (reverse (bytes_of r.columns)) then Backslash
-    else Soft
+abbrev pub line_words : List ℕ → Row → BlockDocument → BlockDocument
+line_words text r after = words_then text (start_of r) (line_columns r) after
 
--- without a backslash at the end
-abbrev pub without_last : List Column → List Column
-without_last [] = []
-without_last (c ∷ []) = if c.byte == 92 then [] else c ∷ []
-without_last (c ∷ (d ∷ cs)) = c ∷ without_last (d ∷ cs)
-
--- a line's text, the break behind it, and what follows. A hard break begins where the text has ended
-abbrev pub broken : Lookup → LineEnd → Row → BlockDocument → BlockDocument
-broken lookup Soft r after = texts_then (pieces lookup (line_columns r)) (Node (node SoftBreak r.stop r.past) Nil after)
-broken lookup Spaces r after = texts_then (pieces lookup (line_columns r)) (Node (node HardBreak (end_place (start_of r) (line_columns r)) r.past) Nil after)
-broken lookup Backslash r after =
-    texts_then (pieces lookup (without_last (line_columns r))) (Node (node HardBreak (end_place (start_of r) (without_last (line_columns r))) r.past) Nil after)
-
--- the lines of a paragraph or setext heading
-abbrev pub paragraph_tokens : Lookup → Row → List Row → BlockDocument
-paragraph_tokens lookup r [] = texts_then (pieces lookup (line_columns r)) Nil
-paragraph_tokens lookup r (s ∷ more) = broken lookup (line_end r) r (paragraph_tokens lookup s more)
+-- the raw content of a paragraph or setext heading: its lines one behind the other, of each the text without the spaces and tabs
+-- at both ends (CommonMark 4.8), and between two of them the line ending (CommonMark 6.8). What a line's text says, and whether
+-- the line ending is a hard line break, is for the inline pass to read
+abbrev pub paragraph_tokens : List ℕ → Row → List Row → BlockDocument
+paragraph_tokens text r [] = line_words text r Nil
+paragraph_tokens text r (s ∷ more) = line_words text r (Node (node SoftBreak r.stop r.past) Nil (paragraph_tokens text s more))
 
 abbrev pub is_hash : Column → Bool
 is_hash c = c.byte == 35
@@ -222,19 +174,16 @@ without_closing cs =
     if is_bare (drop_end is_hash cs) || nat_lt (length (without_trailing_blanks (drop_end is_hash cs))) (length (drop_end is_hash cs))
     then without_trailing_blanks (drop_end is_hash cs) else cs
 
--- what stands behind a heading's opening sequence
+-- what stands behind a heading's opening sequence and the blanks there
+abbrev pub behind_hashes : (level : ℕ) → Row → List Column
+behind_hashes level r = without_indent (drop level (without_indent r.columns))
+
+-- the raw content of a heading: no opening or closing sequence, and no spaces or tabs at both ends (CommonMark 4.2)
 abbrev pub heading_columns : (level : ℕ) → Row → List Column
-heading_columns level r = without_closing (without_trailing_blanks (without_indent (drop level (without_indent r.columns))))
+heading_columns level r = without_closing (without_trailing_blanks (behind_hashes level r))
 
-abbrev pub heading_tokens : Lookup → (level : ℕ) → Row → BlockDocument
-heading_tokens lookup level r = texts_then (pieces lookup (heading_columns level r)) Nil
-
--- the bytes of the text from start to before end
-abbrev pub slice : List ℕ → ℕ → ℕ → List ℕ
-slice text start end = take (end - start) (drop start text)
-
-abbrev pub piece_if : List ℕ → ℕ → ℕ → List Piece → List Piece
-piece_if text start end ps = if nat_lt start end then record { owned = false; bytes = slice text start end; start = start; end = end } ∷ ps else ps
+abbrev pub heading_tokens : List ℕ → (level : ℕ) → Row → BlockDocument
+heading_tokens text level r = words_then text (first_place r.stop (behind_hashes level r)) (heading_columns level r) Nil
 
 -- a line as it is, from there on: of CR LF, the line feed is a piece of its own and the CR is left out
 abbrev pub plain_line : List ℕ → ℕ → Row → List Piece

@@ -20,7 +20,7 @@ use Rattle.cmark_leaves.specs.declared.stretch.Stretch.{Stretch}
 use Rattle.cmark_leaves.specs.Stretches.{shown_stretch, shown_waits, run_of, Goes}
 use Rattle.cmark_leaves.proofs.ColumnCuts.{goes_on, expand-whole}
 use Rattle.cmark_leaves.proofs.DrawSteps.{drawn-Nil, drawn-join, texts-append}
-use Rattle.cmark_leaves.proofs.PieceSteps.{Adds}
+use Rattle.cmark_leaves.proofs.WordSteps.{Adds}
 
 -- the stretch that waits, as a node
 pub draws-waiting : (text : List ℕ) (old new : Builder) (waits : Option Stretch) (s : Stretch) (d : Drawing) → waits ≡ Some s →

@@ -1,7 +1,6 @@
 -- The columns of an ATX heading's text, and its bytes.
-use Rattle.std.proofs.Common.{◌≡◌, ◌≢◌, ℕ, zero, suc, ◌+◌, ◌-◌, ◌≤◌, ◌<◌, Bool, true, false, ◌==◌, ◌||◌, not, List, [], ◌∷◌, length, drop, take_while, refl, sym, ap, ◌∙◌, subst, arith, true≢false, cond}
+use Rattle.std.proofs.Common.{◌≡◌, ◌≢◌, ℕ, zero, suc, ◌+◌, ◌-◌, ◌≤◌, ◌<◌, Bool, true, false, ◌==◌, ◌||◌, not, List, [], ◌∷◌, ◌++◌, append_assoc, append-nil, length, drop, take_while, refl, sym, ap, ◌∙◌, subst, arith, true≢false, cond}
 use Rattle.std.specs.Prelude.{if◌then◌else◌, nat_lt}
-use Rattle.std.specs.Str.{IsCharBoundary}
 use Rattle.std.proofs.lemmas.List.Sums.{take_while-cons}
 use Rattle.cmark_grammar.specs.Columns.{Column, is_blank, is_blank_byte, indent, without_indent, drop_end, put_before, without_trailing_blanks, bytes_of}
 use Rattle.cmark_grammar.specs.Leaves.{run, is_empty}
@@ -9,11 +8,10 @@ use Rattle.cmark_grammar.specs.Rows.{Row, is_bare, first_place, start_of, words_
 use Rattle.cmark_grammar.specs.Tokens.{is_hash, without_closing, heading_columns, end_place}
 use Rattle.cmark_grammar.proofs.RowPlaces.{Runs, drop-Runs}
 use Rattle.cmark_grammar.proofs.RowEdges.{Front, IsAsciiColumn, AreGood, drop-good, drop-E, indent-front, is-ascii}
-use Rattle.cmark_lines.specs.Rests.{row_of, IsIn}
+use Rattle.cmark_lines.specs.Rests.{row_of}
 use Rattle.cmark_lines.specs.declared.line_rest.LineRest.{LineRest}
-use Rattle.cmark_leaves.specs.Told.{AreTold}
 use Rattle.cmark_leaves.specs.Closings.{behind_opening, without_closing_bytes}
-use Rattle.cmark_leaves.proofs.ColumnCuts.{goes_on, AreTabbed, Stands, Cut, drop-tabbed, front-tabbed, drop-told, end-runs, drop_end-cut, drop_end-bytes, blanks-cut, cut-stands, words-stand, words-runs, rest-tabbed, bytes-end}
+use Rattle.cmark_leaves.proofs.ColumnCuts.{goes_on, AreTabbed, Cut, drop-tabbed, front-tabbed, front-runs, end-runs, drop_end-cut, drop_end-bytes, blanks-cut, words-runs, rest-tabbed, bytes-end}
 
 nine : (b : ℕ) → (b == 35) ≡ true → b ≢ 9
 nine b e z = absurd (true≢false (sym e ∙ ap (λ x. x == 35) z))
@@ -130,7 +128,7 @@ last-bytes (c ∷ (d ∷ cs)) b bs t e = go (c.part == 0) e (bytes_of (d ∷ cs)
     go true i (x ∷ es) f ih = subst (λ l. last_passes is_blank (d ∷ cs) ≡ last_passes is_blank_byte l) (ap (λ l. c.byte ∷ l) (sym f) ∙ i) (ih x es f)
 
 hashes-cut : (cs : List Column) → Cut cs (drop_end is_hash cs)
-hashes-cut cs = drop_end-cut is_hash (λ c e. is-ascii c.byte 35 (omega arith) e) cs
+hashes-cut cs = drop_end-cut is_hash cs
 
 -- the closing sequence
 pub closing-bytes : (cs : List Column) → AreTabbed cs → goes_on cs ≡ false → bytes_of (without_closing cs) ≡ without_closing_bytes (bytes_of cs)
@@ -172,12 +170,15 @@ closing-bytes cs t w = go (drop_end is_hash cs) refl
             one true = drop_end-bytes is_blank_byte (x ∷ xs) tabbed
             one false = refl
 
-closing-stands : (text : List ℕ) (from : ℕ) (cs : List Column) → Stands text from cs → Stands text from (without_closing cs)
-closing-stands text from cs h = go (is_bare (drop_end is_hash cs) || nat_lt (length (without_trailing_blanks (drop_end is_hash cs))) (length (drop_end is_hash cs)))
+cut-cut : {a b c : List Column} → Cut a b → Cut b c → Cut a c
+cut-cut {a} {b} {c} x y = record { behind = y.behind ++ x.behind; is = x.is ∙ ap (λ l. l ++ x.behind) y.is ∙ append_assoc c y.behind x.behind }
+
+closing-cut : (cs : List Column) → Cut cs (without_closing cs)
+closing-cut cs = go (is_bare (drop_end is_hash cs) || nat_lt (length (without_trailing_blanks (drop_end is_hash cs))) (length (drop_end is_hash cs)))
   where
-    go : (z : Bool) → Stands text from (if z then without_trailing_blanks (drop_end is_hash cs) else cs)
-    go true = cut-stands text from (drop_end is_hash cs) (without_trailing_blanks (drop_end is_hash cs)) (cut-stands text from cs (drop_end is_hash cs) h (hashes-cut cs)) (blanks-cut (drop_end is_hash cs))
-    go false = h
+    go : (z : Bool) → Cut cs (if z then without_trailing_blanks (drop_end is_hash cs) else cs)
+    go true = cut-cut (hashes-cut cs) (blanks-cut (drop_end is_hash cs))
+    go false = record { behind = []; is = sym (append-nil cs) }
 
 -- what stands behind the opening sequence and the blanks there
 abbrev pub behind_columns : Row → List Column
@@ -223,30 +224,15 @@ heading-bytes rest =
     first cs w [] cut = refl
     first cs w (x ∷ xs) cut = sym (ap goes_on cut.is) ∙ w
 
-pub heading-stands : (text : List ℕ) (rest : LineRest) → IsIn text rest → AreTold text (row_of rest).columns → Stands text (heading_place (row_of rest)) (heading_columns (run 35 (words_of (row_of rest))) (row_of rest))
-heading-stands text rest h told =
+heading-runs : (rest : LineRest) →
+    let cs = heading_columns (run 35 (words_of (row_of rest))) (row_of rest) in Runs (heading_place (row_of rest)) cs (end_place (heading_place (row_of rest)) cs)
+heading-runs rest =
     let r = row_of rest in
-    let w = without_indent r.columns in
-    let level = run 35 (words_of r) in
-    let s = words-stand text rest h told in
-    let t : AreTabbed w = s.tabbed in
-    let o = opening-bytes level w t (indent-bytes r.columns (rest-tabbed rest)).1 (let l : level ≤ run 35 (bytes_of w) = omega arith in l) in
-    let cs = drop level w in
-    let d = drop-Runs level (start_of r) w r.stop (words-runs rest) in
-    let gc : AreGood (IsCharBoundary text) cs = drop-good (IsCharBoundary text) level w s.good in
-    let ed : IsCharBoundary text (first_place r.stop cs) = drop-E (IsCharBoundary text) level (start_of r) w r.stop (words-runs rest) s.good o.1 s.starts h.good.stop in
+    let cs = drop (run 35 (words_of r)) (without_indent r.columns) in
+    let d = drop-Runs (run 35 (words_of r)) (start_of r) (without_indent r.columns) r.stop (words-runs rest) in
     let e = drop-Runs (indent cs) (first_place r.stop cs) cs r.stop d.0 in
-    let ee : IsCharBoundary text (heading_place r) = drop-E (IsCharBoundary text) (indent cs) (first_place r.stop cs) cs r.stop d.0 gc (indent-front cs) ed h.good.stop in
-    let z : end_place (heading_place r) (behind_columns r) ≡ r.stop = end-runs (heading_place r) (behind_columns r) r.stop e.0 in
-    let b : Stands text (heading_place r) (behind_columns r) = record {
-      runs = subst (Runs (heading_place r) (behind_columns r)) (sym z) e.0;
-      good = drop-good (IsCharBoundary text) (indent cs) cs gc;
-      told = drop-told text (indent cs) cs (drop-told text level w s.told);
-      tabbed = drop-tabbed (indent cs) cs (drop-tabbed level w t);
-      starts = ee;
-      ends = subst (IsCharBoundary text) (sym z) h.good.stop;
-    } in
-    closing-stands text (heading_place r) (without_trailing_blanks (behind_columns r)) (cut-stands text (heading_place r) (behind_columns r) (without_trailing_blanks (behind_columns r)) b (blanks-cut (behind_columns r)))
+    let cut = cut-cut (blanks-cut (behind_columns r)) (closing-cut (without_trailing_blanks (behind_columns r))) in
+    front-runs (heading_place r) (heading_columns (run 35 (words_of r)) r) cut.behind r.stop (subst (λ x. Runs (heading_place r) x r.stop) cut.is e.0)
 
 -- where a heading's text begins and ends, by the lengths of bytes
 pub heading-from : (rest : LineRest) (stop size : ℕ) → stop ≡ (row_of rest).stop → size ≡ length (behind_opening (words_of (row_of rest))) → (size ≤ stop) × (stop - size ≡ heading_place (row_of rest))
@@ -255,11 +241,10 @@ heading-from rest stop size e f =
     let l : length (bytes_of (behind_columns (row_of rest))) ≡ length (behind_opening (words_of (row_of rest))) = ap length (behind-bytes rest).0 in
     (omega (arith, s, l, e, f), omega (arith, s, l, e, f))
 
-pub heading-to : (text : List ℕ) (rest : LineRest) (h : IsIn text rest) (told : AreTold text (row_of rest).columns) (from size : ℕ) → from ≡ heading_place (row_of rest) →
+pub heading-to : (rest : LineRest) (from size : ℕ) → from ≡ heading_place (row_of rest) →
     size ≡ length (without_closing_bytes (drop_end is_blank_byte (behind_opening (words_of (row_of rest))))) →
     from + size ≡ end_place (heading_place (row_of rest)) (heading_columns (run 35 (words_of (row_of rest))) (row_of rest))
-heading-to text rest h told from size e f =
-    let s = heading-stands text rest h told in
-    let b = bytes-end (heading_place (row_of rest)) (heading_columns (run 35 (words_of (row_of rest))) (row_of rest)) s.runs in
+heading-to rest from size e f =
+    let b = bytes-end (heading_place (row_of rest)) (heading_columns (run 35 (words_of (row_of rest))) (row_of rest)) (heading-runs rest) in
     let l : length (bytes_of (heading_columns (run 35 (words_of (row_of rest))) (row_of rest))) ≡ length (without_closing_bytes (drop_end is_blank_byte (behind_opening (words_of (row_of rest))))) = ap length (heading-bytes rest) in
     omega (arith, b, l, e, f)

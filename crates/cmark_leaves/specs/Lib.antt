@@ -1,4 +1,3 @@
-pub mod Breaks
 pub mod Closings
 pub mod Stretches
 pub mod Told

@@ -1,6 +1,6 @@
 //! The text of ATX headings (CommonMark 4.2).
 
-ghost use Rattle.std.specs.Prelude.{◌≡◌, ◌≤◌, length, OnOk};
+ghost use Rattle.std.specs.Prelude.{◌≡◌, ◌≤◌, ℕ, List, length, OnOk};
 ghost use Rattle.std.specs.List.{take_while};
 ghost use Rattle.cmark_tree.specs.Building.{IsPlaced};
 ghost use Rattle.cmark_items.specs.Tables.{tables};
@@ -10,16 +10,14 @@ ghost use Rattle.cmark_grammar.specs.Rows.{words_of};
 ghost use Rattle.cmark_grammar.specs.Tokens.{heading_tokens};
 ghost use Rattle.cmark_block_model.specs.Drawing.{Drawing, drawn};
 ghost use Rattle.cmark_builder.specs.Drawn.{Draws};
-ghost use Rattle.cmark_lines.specs.Rests.{row_of, IsIn};
+ghost use Rattle.cmark_lines.specs.Rests.{row_of};
 ghost use Rattle.cmark_leaves.specs.Closings.{behind_opening, without_closing_bytes};
-ghost use Rattle.cmark_leaves.specs.Told.{AreTold};
 
-use crate::pieces::draw_pieces;
 use crate::trailing::{is_blank, without_trailing, without_trailing_blanks};
+use crate::words::draw_words;
 use cmark_builder::Builder;
 use cmark_lines::LineRest;
-use cmark_text::EntityLookup;
-use std::alloc::{AllocError, Global};
+use std::alloc::AllocError;
 
 /// How many `#` stand in front.
 fn count_hashes(bytes: &[u8]) -> usize
@@ -59,25 +57,17 @@ fn without_closing(bytes: &[u8]) -> &[u8]
     }
 }
 
-/// The text of an ATX heading, without the opening sequence, the closing one and the blanks at both ends, as nodes behind the last
-/// sibling. Escapes and entities are resolved. Where memory is refused, a part of the nodes may stand there.
-pub fn draw_heading<'a, E: EntityLookup>(
-    builder: &mut Builder<'a>,
-    alloc: Global,
-    text: &'a str,
-    rest: LineRest<'a>,
-    entities: &'a E,
-) -> Result<(), AllocError>
-    requires placed { IsPlaced builder.old.tree }
-    requires line { IsIn text.now rest }
-    requires told { AreTold text.now (row_of rest).columns }
+/// The text of an ATX heading as it is, without the opening sequence, the closing one and the blanks at both ends, as a node behind
+/// the last sibling, unless it is empty.
+pub fn draw_heading(builder: &mut Builder<'_>, rest: LineRest<'_>) -> Result<(), AllocError>
+    requires { IsPlaced builder.old.tree }
     ensures placed { IsPlaced builder.new.tree }
-    ensures drawn { OnOk result ((d : Drawing) → Draws text.now builder.old d
-        → Draws text.now builder.new (drawn (heading_tokens (E.replacement entities.now) (run 35 (words_of (row_of rest.entry))) (row_of rest.entry)) d)) }
+    ensures drawn { OnOk result ((text : List ℕ) (d : Drawing) → Draws text builder.old d
+        → Draws text builder.new (drawn (heading_tokens text (run 35 (words_of (row_of rest.entry))) (row_of rest.entry)) d)) }
     ensures references { (tables builder.new.allocations).references ≡ (tables builder.old.allocations).references }
 {
     let behind = behind_opening(rest.words());
     let content = without_closing(without_trailing_blanks(behind));
     let from = rest.stop() - behind.len();
-    draw_pieces(builder, alloc, text, from, from + content.len(), entities)
+    draw_words(builder, from, from + content.len())
 }

@@ -1,15 +1,15 @@
-//! The lines of leaf blocks as nodes of a document's tree: texts, line breaks, code, HTML.
+//! The lines of leaf blocks as nodes of a document's tree: texts as they are, line endings, code, HTML.
 #![tactic(auto)]
 
 mod code;
 mod heading;
 mod html;
 mod paragraph;
-mod pieces;
 mod stretch;
 #[cfg(test)]
 mod tests;
 mod trailing;
+mod words;
 
 pub use code::{draw_code_line, draw_stretch};
 pub use heading::draw_heading;

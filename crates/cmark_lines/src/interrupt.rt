@@ -2,7 +2,8 @@
 
 ghost use Rattle.std.specs.Prelude.{◌≡◌, ℕ, List, option_map};
 ghost use Rattle.cmark_grammar.specs.Options.{Options};
-ghost use Rattle.cmark_grammar.specs.Rows.{Row};
+ghost use Rattle.cmark_grammar.specs.Letters.{is_letter, first_is};
+ghost use Rattle.cmark_grammar.specs.Rows.{Row, words_of};
 ghost use Rattle.cmark_grammar.specs.Leaves.{is_atx_heading, fence_of, underlines};
 ghost use Rattle.cmark_grammar.specs.Containers.{is_quote};
 ghost use Rattle.cmark_grammar.specs.Openings.{interrupts, is_one, item_interrupts, is_some_fence, html_interrupts};
@@ -25,9 +26,23 @@ use cmark_text::HeadingLevel;
 pub fn interrupts(rest: LineRest<'_>, same: bool) -> bool
     ensures { (options : Options) (ahead : List Row) → result ≡ interrupts options same (row_of rest.entry) ahead }
 {
+    if begins_with_letter(rest) {
+        return false;
+    }
     rest.is_blank()
         || (rest.indent_upto(4) < 4
             && (is_quote(rest) || item_interrupts(rest, same) || leaf_interrupts(rest.words())))
+}
+
+/// Whether the words of the line begin with an ASCII letter: most lines of prose do, and what does begins nothing but text.
+#[inline]
+fn begins_with_letter(rest: LineRest<'_>) -> bool
+    ensures { result ≡ first_is is_letter (words_of (row_of rest.entry)) }
+{
+    match rest.words() {
+        [first, ..] => first.is_ascii_alphabetic(),
+        [] => false,
+    }
 }
 
 /// Whether the line begins a block quote.
@@ -102,8 +117,10 @@ fn html_interrupts(words: &[u8]) -> bool
 pub fn underlines(rest: LineRest<'_>) -> Option<HeadingLevel>
     ensures { option_map level_number result ≡ underlines (row_of rest.entry) }
 {
-    if rest.indent_upto(4) == 4 {
-        return None;
+    let level = scan_setext_heading(rest.words())?;
+    if rest.indent_upto(4) < 4 {
+        Some(level)
+    } else {
+        None
     }
-    scan_setext_heading(rest.words())
 }

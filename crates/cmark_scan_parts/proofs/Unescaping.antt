@@ -6,99 +6,52 @@ use Rattle.std.proofs.lemmas.Bool.{or_parts, or_cases, false_from_ne_true}
 use Rattle.std.proofs.lemmas.Str.{IsCharBoundary-at_seam, IsCharBoundary-from_rest, IsCharBoundary-after_ascii}
 use Rattle.memchr.specs.Find.{IsFirstByte, is_byte2, OccursAt, FindsNeedle}
 use Rattle.cmark_grammar.specs.Answers.{Lookup}
-use Rattle.cmark_grammar.specs.Columns.{Column, bytes_of}
 use Rattle.std.specs.Option.{IfSome}
-use Rattle.cmark_grammar.specs.Tokens.{Piece, Entity, Does, Stands, EscapesNext, Begins, does, does_at, is_escape, size_behind, add, onto, pieces_from, byte_columns, columns_of, piece_bytes, resolved}
+use Rattle.cmark_grammar.specs.Tokens.{Entity, Does, Stands, EscapesNext, Begins, does, does_at, is_escape, size_behind, add_bytes, resolved_from, resolved}
 use Rattle.cmark_grammar.specs.Unescaped.{escaped_pipe, with_escaped_pipes}
 use Rattle.cmark_scan_parts.specs.declared.entity.Entity as declared
 use Rattle.cmark_scan_parts.specs.Shown.{Closes}
 use Rattle.cmark_scan_parts.proofs.Closers.{starts_here, here_starts, onward, back}
 use Rattle.cmark_scan_parts.specs.Resolved.{part_of, resolved_front, HasNoEscapes, Resolves}
 
--- a byte in front of pieces
-onto_bytes : (c : Column) (ps : List Piece) → piece_bytes (onto c ps) ≡ c.byte ∷ piece_bytes ps
-onto_bytes c [] = refl
-onto_bytes c (p ∷ ps) = by_case (not p.owned && (p.start == suc c.at))
-  where
-    by_case : (t : Bool) → piece_bytes (if t then record { owned = false; bytes = c.byte ∷ p.bytes; start = c.at; end = p.end } ∷ ps else record { owned = false; bytes = c.byte ∷ []; start = c.at; end = suc c.at } ∷ p ∷ ps) ≡ c.byte ∷ (p.bytes ++ piece_bytes ps)
-    by_case true = refl
-    by_case false = refl
-
-bytes_of_columns : (at : ℕ) (bs : List ℕ) → bytes_of (columns_of at bs) ≡ bs
-bytes_of_columns at [] = refl
-bytes_of_columns at (b ∷ bs) = ap (λ l. b ∷ l) (bytes_of_columns (suc at) bs)
-
-byte_columns_of : (at : ℕ) (bs : List ℕ) → byte_columns (columns_of at bs) ≡ columns_of at bs
-byte_columns_of at [] = refl
-byte_columns_of at (b ∷ bs) = ap (λ cs. record { byte = b; at = at; part = 0 } ∷ cs) (byte_columns_of (suc at) bs)
-
--- the bytes that stand for a byte, in front of others
-abbrev pub add_bytes : Does → ℕ → List ℕ → List ℕ
-add_bytes Stands b bs = b ∷ bs
-add_bytes EscapesNext b bs = bs
-add_bytes (Begins entity) b bs = entity.bytes ++ bs
-
 module _ (lookup : Lookup) where
-  -- resolved from byte to byte
-  abbrev pub plain : (escaped : Bool) → (skip : ℕ) → List ℕ → List ℕ
-  plain escaped skip [] = []
-  plain escaped (suc skip) (b ∷ bs) = plain false skip bs
-  plain escaped zero (b ∷ bs) = let what = does lookup escaped b bs in add_bytes what b (plain (is_escape what) (size_behind what) bs)
-
-  add_plain : (what : Does) (c : Column) (cs : List Column) (bs : List ℕ) → ((e : Bool) (k : ℕ) → piece_bytes (pieces_from lookup e k cs) ≡ plain e k bs)
-      → piece_bytes (add what c (pieces_from lookup (is_escape what) (size_behind what) cs)) ≡ add_bytes what c.byte (plain (is_escape what) (size_behind what) bs)
-  add_plain Stands c cs bs same = onto_bytes c (pieces_from lookup false 0 cs) ∙ ap (λ l. c.byte ∷ l) (same false 0)
-  add_plain EscapesNext c cs bs same = same true 0
-  add_plain (Begins entity) c cs bs same = ap (λ l. entity.bytes ++ l) (same false (entity.size - 1))
-
-  pieces_plain : (escaped : Bool) (skip at : ℕ) (bs : List ℕ) → piece_bytes (pieces_from lookup escaped skip (columns_of at bs)) ≡ plain escaped skip bs
-  pieces_plain escaped skip at [] = refl
-  pieces_plain escaped (suc skip) at (b ∷ bs) = pieces_plain false skip (suc at) bs
-  pieces_plain escaped zero at (b ∷ bs) =
-      let c : Column = record { byte = b; at = at; part = 0 } in
-      ap (λ ds. let what = does lookup escaped b ds in piece_bytes (add what c (pieces_from lookup (is_escape what) (size_behind what) (columns_of (suc at) bs)))) (bytes_of_columns (suc at) bs)
-      ∙ add_plain (does lookup escaped b bs) c (columns_of (suc at) bs) bs (λ e k. pieces_plain e k (suc at) bs)
-
-  resolved_plain : (bs : List ℕ) → resolved lookup bs ≡ plain false 0 bs
-  resolved_plain bs = ap (λ cs. piece_bytes (pieces_from lookup false 0 cs)) (byte_columns_of 0 bs) ∙ pieces_plain false 0 0 bs
-
-  plain_skip : (k : ℕ) (bs : List ℕ) → plain false k bs ≡ plain false 0 (drop k bs)
+  plain_skip : (k : ℕ) (bs : List ℕ) → resolved_from lookup false k bs ≡ resolved_from lookup false 0 (drop k bs)
   plain_skip zero bs = refl
   plain_skip (suc k) [] = refl
   plain_skip (suc k) (b ∷ bs) = plain_skip k bs
 
   -- a byte that stands for itself
-  plain_one : (what : Does) (b : ℕ) (bs : List ℕ) → part_of what bs ≡ None → add_bytes what b (plain (is_escape what) (size_behind what) bs) ≡ b ∷ plain false 0 bs
+  plain_one : (what : Does) (b : ℕ) (bs : List ℕ) → part_of what bs ≡ None → add_bytes what b (resolved_from lookup (is_escape what) (size_behind what) bs) ≡ b ∷ resolved_from lookup false 0 bs
   plain_one Stands b bs e = refl
   plain_one EscapesNext b bs e = cc
   plain_one (Begins entity) b bs e = cc
 
   -- an escape or an entity
-  plain_escaped : (bs : List ℕ) → plain true 0 bs ≡ take 1 bs ++ plain false 0 (drop 1 bs)
+  plain_escaped : (bs : List ℕ) → resolved_from lookup true 0 bs ≡ take 1 bs ++ resolved_from lookup false 0 (drop 1 bs)
   plain_escaped [] = refl
   plain_escaped (b ∷ bs) = refl
 
   plain_part : (what : Does) (b : ℕ) (bs : List ℕ) (part : Entity) → part_of what bs ≡ Some part → 0 < part.size
-      → add_bytes what b (plain (is_escape what) (size_behind what) bs) ≡ part.bytes ++ plain false 0 (drop part.size (b ∷ bs))
+      → add_bytes what b (resolved_from lookup (is_escape what) (size_behind what) bs) ≡ part.bytes ++ resolved_from lookup false 0 (drop part.size (b ∷ bs))
   plain_part Stands b bs part e some = cc
   plain_part EscapesNext b bs part e some =
       let escape : Entity = record { bytes = take 1 bs; size = 2 } in
       let is : escape ≡ part = cc in
-      plain_escaped bs ∙ ap (λ (p : Entity). p.bytes ++ plain false 0 (drop p.size (b ∷ bs))) is
+      plain_escaped bs ∙ ap (λ (p : Entity). p.bytes ++ resolved_from lookup false 0 (drop p.size (b ∷ bs))) is
   plain_part (Begins entity) b bs part e some =
       let is : entity ≡ part = cc in
       let size : suc (entity.size - 1) ≡ entity.size = let n = ap (λ (p : Entity). p.size) is in omega arith in
-      ap (λ l. entity.bytes ++ l) (plain_skip (entity.size - 1) bs ∙ ap (λ n. plain false 0 (drop n (b ∷ bs))) size)
-      ∙ ap (λ (p : Entity). p.bytes ++ plain false 0 (drop p.size (b ∷ bs))) is
+      ap (λ l. entity.bytes ++ l) (plain_skip (entity.size - 1) bs ∙ ap (λ n. resolved_from lookup false 0 (drop n (b ∷ bs))) size)
+      ∙ ap (λ (p : Entity). p.bytes ++ resolved_from lookup false 0 (drop p.size (b ∷ bs))) is
 
   -- the same of what is resolved
   resolved_one : (b : ℕ) (bs : List ℕ) → resolved_front lookup (b ∷ bs) ≡ None → resolved lookup (b ∷ bs) ≡ b ∷ resolved lookup bs
-  resolved_one b bs e = resolved_plain (b ∷ bs) ∙ plain_one (does lookup false b bs) b bs e ∙ ap (λ l. b ∷ l) (sym (resolved_plain bs))
+  resolved_one b bs e = plain_one (does lookup false b bs) b bs e
 
   resolved_part : (bs : List ℕ) (part : Entity) → resolved_front lookup bs ≡ Some part → 0 < part.size → resolved lookup bs ≡ part.bytes ++ resolved lookup (drop part.size bs)
   resolved_part [] part e some = cc
   resolved_part (b ∷ bs) part e some =
-      resolved_plain (b ∷ bs) ∙ plain_part (does lookup false b bs) b bs part e some ∙ ap (λ l. part.bytes ++ l) (sym (resolved_plain (drop part.size (b ∷ bs))))
+      plain_part (does lookup false b bs) b bs part e some
 
   -- bytes that are neither `&` nor a backslash
   unmarked : (b : ℕ) (bs : List ℕ) → is_byte2 38 92 b ≡ false → resolved_front lookup (b ∷ bs) ≡ None

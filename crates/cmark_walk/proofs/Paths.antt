@@ -133,7 +133,7 @@ kind-within text texts start end tight (body.SynthesizeChar x0) kind e = ap (tig
 kind-within text texts start end tight body.Html kind e = ap (tight_within tight) (sym (same_Some (document.Html (slice text start end)) kind e))
 kind-within text texts start end tight (body.Text x0) kind e = ap (tight_within tight) (sym (same_Some (document.Text (slice text start end)) kind e))
 kind-within text texts start end tight body.SoftBreak kind e = ap (tight_within tight) (sym (same_Some document.SoftBreak kind e))
-kind-within text texts start end tight (body.HardBreak x0) kind e = ap (tight_within tight) (sym (same_Some document.HardBreak kind e))
+kind-within text texts start end tight (body.HardBreak x0) kind e = absurd (let q : None ≡ Some kind = e in cc)
 kind-within text texts start end tight body.Root kind e = absurd (let q : None ≡ Some kind = e in cc)
 kind-within text texts start end tight body.Paragraph kind e = ap (tight_within tight) (sym (same_Some document.Paragraph kind e))
 kind-within text texts start end tight body.TightParagraph kind e = ap (tight_within tight) (sym (same_Some document.TightParagraph kind e))

@@ -185,7 +185,6 @@ impl<'a> Walk<'a> {
             }
             ItemBody::SynthesizeChar(c) => Ok(Some(Event::Text(CowStr::from(c)))),
             ItemBody::SoftBreak => Ok(Some(Event::SoftBreak)),
-            ItemBody::HardBreak(_) => Ok(Some(Event::HardBreak)),
             ItemBody::Rule => Ok(Some(Event::Rule)),
             _ => Ok(None),
         }

@@ -1,27 +1,21 @@
-use Rattle.std.proofs.Common.{sym, subst}
+use Rattle.std.proofs.Common.{[], subst}
 use Rattle.std.proofs.lemmas.Result.{on_ok_weaker}
-use Rattle.std.specs.Str.{IsCharBoundary}
-use Rattle.cmark_grammar.specs.Tokens.{line_end}
+use Rattle.cmark_grammar.specs.BlockDocument.{SoftBreak, Nil, Node, node}
+use Rattle.cmark_grammar.specs.Rows.{start_of}
+use Rattle.cmark_grammar.specs.Tokens.{line_columns, end_place, line_words, piece_if}
 use Rattle.cmark_lines.specs.Rests.{row_of}
-use Rattle.cmark_leaves.specs.Breaks.{text_columns}
-use Rattle.cmark_leaves.proofs.BreakSteps.{text-stands, draws-broken}
-use Rattle.cmark_leaves.proofs.ColumnCuts.{stands-order}
-use Rattle.cmark_leaves.proofs.PieceSteps.{draws-pieces}
+use Rattle.cmark_block_model.specs.Drawing.{drawn}
+use Rattle.cmark_builder.specs.Drawn.{Draws}
+use Rattle.cmark_leaves.proofs.WordSteps.{draws-ended}
 use Rattle.cmark_leaves.proofs.paragraph.draw_line.Goals as goal
 
-pub draw_pieces-requires-clause-ordered : goal.draw_pieces-requires-clause-ordered
-draw_pieces-requires-clause-ordered g c =
-    stands-order c.args.text.now _ _ _ _ (text-stands c.args.text.now c.args.rest (line_end (row_of c.args.rest)) c.requires.line c.requires.told) c.words_begin.ensures.place c.line_break-text_end.ensures.text
-
-pub draw_pieces-requires-clause-ends : goal.draw_pieces-requires-clause-ends
-draw_pieces-requires-clause-ends g c =
-    subst (IsCharBoundary c.args.text.now) (sym c.line_break-text_end.ensures.text) (text-stands c.args.text.now c.args.rest (line_end (row_of c.args.rest)) c.requires.line c.requires.told).ends
-
 pub returns-clause-drawn : goal.returns-clause-drawn
-returns-clause-drawn g c = on_ok_weaker c.add.result
-    (λ step. draws-broken (g.E.EntityLookup.replacement c.args.entities.now) c.args.text.now c.args.builder.now c.draw_pieces.new.builder c.add.new.self (line_end (row_of c.args.rest)) (row_of c.args.rest)
-    c.line_break-text_end.result.start c.past.result c.line_break-text_end.result.body c.line_break-text_end.ensures.start c.past.ensures.place c.line_break-text_end.ensures.body
-    (draws-pieces (g.E.EntityLookup.replacement c.args.entities.now) c.args.text.now _ _ (text_columns (line_end (row_of c.args.rest)) (row_of c.args.rest)) _ _ _
-    (text-stands c.args.text.now c.args.rest (line_end (row_of c.args.rest)) c.requires.line c.requires.told) c.words_begin.ensures.place c.line_break-text_end.ensures.text c.in_ok-draw_pieces.ensures.drawn)
-    step c.add.ensures.tables)
+returns-clause-drawn c =
+    let row = row_of c.args.rest in
+    let new = c.add.new.self in
+    on_ok_weaker c.add.result
+    (λ step text d draws. subst (λ stop. Draws text new (drawn (line_words text row (Node (node SoftBreak stop row.past) Nil Nil)) d)) c.stop.ensures.place
+    (subst (λ past. Draws text new (drawn (line_words text row (Node (node SoftBreak c.stop.result past) Nil Nil)) d)) c.past.ensures.place
+    (draws-ended text c.draw_last_line.new.builder new (piece_if text (start_of row) (end_place (start_of row) (line_columns row)) []) c.stop.result c.past.result d
+    (c.in_ok-draw_last_line.ensures.drawn text d draws) step c.add.ensures.tables)))
     c.add.ensures.ok

@@ -3,7 +3,7 @@ use Rattle.std.proofs.lemmas.Result.{on_ok_weaker}
 use Rattle.cmark_grammar.specs.BlockDocument.{OwnedText, Nil, Node, node}
 use Rattle.cmark_block_model.specs.Drawing.{drawn}
 use Rattle.cmark_builder.specs.Drawn.{Draws}
-use Rattle.cmark_leaves.proofs.PieceSteps.{draws-owned}
+use Rattle.cmark_leaves.proofs.WordSteps.{draws-owned}
 use Rattle.cmark_leaves.proofs.stretch.draw_spaces.Goals as goal
 
 pub returns-clause-drawn : goal.returns-clause-drawn

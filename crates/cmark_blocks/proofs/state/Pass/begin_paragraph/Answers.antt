@@ -1,7 +1,6 @@
-use Rattle.std.proofs.Common.{refl, sym, ap, ◌∙◌, subst}
+use Rattle.std.proofs.Common.{refl, ap, ◌∙◌, subst}
 use Rattle.cmark_grammar.specs.BlockDocument.{Paragraph}
 use Rattle.cmark_lines.specs.Rests.{row_of}
-use Rattle.cmark_blocks.specs.Runs.{IsRead}
 use Rattle.cmark_block_model.specs.BlockPass.{block_begun}
 use Rattle.cmark_block_model.specs.Drawing.{opened}
 use Rattle.cmark_block_model.specs.OpenBlocks as model
@@ -9,14 +8,6 @@ use Rattle.cmark_builder.specs.Drawn.{Draws}
 use Rattle.cmark_builder.proofs.DrawnSteps.{draws-open}
 use Rattle.cmark_blocks.proofs.RunSteps.{runs-builder, runs-leaf, none_behind_closed}
 use Rattle.cmark_blocks.proofs.state.Pass.begin_paragraph.Goals as goal
-
-pub returns-clause-good : goal.returns-clause-good
-returns-clause-good g c = record {
-  placed = c.open.ensures.placed;
-  begins = c.begin_block.ensures.good.begins;
-  leaf = subst (λ t. IsRead t.now c.args.rest) (sym c.begin_block.ensures.text) c.requires.placed;
-  blanks = c.begin_block.ensures.good.blanks;
-}
 
 pub returns-clause-runs : goal.returns-clause-runs
 returns-clause-runs g c text options lookup m runs =

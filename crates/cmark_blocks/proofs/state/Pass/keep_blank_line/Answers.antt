@@ -1,23 +1,13 @@
 use Rattle.std.proofs.Common.{[], ◌∷◌, ◌++◌, map, refl, sym, ap, ◌∙◌, subst}
 use Rattle.std.proofs.lemmas.List.{map-append}
-use Rattle.std.proofs.lemmas.List.Elements.{All-push, All-same}
 use Rattle.cmark_lines.specs.Rests.{row_of}
 use Rattle.cmark_block_model.specs.OpenBlocks as model
 use Rattle.cmark_leaves.specs.Stretches.{shown_waits}
 use Rattle.cmark_blocks.specs.Ahead.{lines_at}
-use Rattle.cmark_blocks.specs.Runs.{Runs, ShowsLeaf, IsRead}
+use Rattle.cmark_blocks.specs.Runs.{Runs, ShowsLeaf}
 use Rattle.cmark_blocks.proofs.CodeSteps.{indented-shown}
 use Rattle.cmark_blocks.proofs.IndentedSteps.{indented-waits, runs-waiting}
 use Rattle.cmark_blocks.proofs.state.Pass.keep_blank_line.Goals as goal
-
-pub returns-clause-good : goal.returns-clause-good
-returns-clause-good g c =
-    let good = c.requires.good in record {
-      placed = good.placed;
-      begins = good.begins;
-      leaf = good.leaf;
-      blanks = All-same (IsRead c.args.self.now.text.now) _ _ c.in_ok-push.ensures.items (All-push (IsRead c.args.self.now.text.now) c.args.self.now.blank_lines.items c.args.rest good.blanks c.requires.line);
-    }
 
 pub returns-clause-runs : goal.returns-clause-runs
 returns-clause-runs g c text options lookup m runs =

@@ -10,6 +10,4 @@ pub returns-clause-good : goal.returns-clause-good
 returns-clause-good g c = record {
   placed = at-place c.in_ok-new.field-0.tree Nil [] c.in_ok-new.ensures.tree;
   begins = IsCharBoundary-start c.args.text.now c.utf8.text;
-  leaf = tt;
-  blanks = subst (All (IsRead c.args.text.now)) (sym c.new-3.ensures.items) (λ k d lt. absurd (omega (arith, lt)));
 }

@@ -1,0 +1,34 @@
+//! Texts as they are, as nodes.
+
+ghost use Rattle.std.specs.Prelude.{◌≡◌, [], List, ℕ, OnOk};
+ghost use Rattle.cmark_tree.specs.Building.{IsPlaced};
+ghost use Rattle.cmark_items.specs.Tables.{tables};
+ghost use Rattle.cmark_grammar.specs.Tokens.{piece_if};
+ghost use Rattle.cmark_block_model.specs.Drawing.{Drawing, drawn};
+ghost use Rattle.cmark_block_model.specs.CodeLines.{texts_of};
+ghost use Rattle.cmark_builder.specs.Drawn.{Draws};
+
+use cmark_builder::Builder;
+use cmark_items::ItemBody;
+use std::alloc::AllocError;
+
+/// The text from one byte offset to before another as it is, as a node behind the last sibling, unless it is empty.
+pub(crate) fn draw_words(
+    builder: &mut Builder<'_>,
+    start: usize,
+    end: usize,
+) -> Result<(), AllocError>
+    requires { IsPlaced builder.old.tree }
+    ensures placed { IsPlaced builder.new.tree }
+    ensures drawn { OnOk result ((text : List ℕ) (d : Drawing) → Draws text builder.old d
+        → Draws text builder.new (drawn (texts_of (piece_if text start end [])) d)) }
+    ensures references { (tables builder.new.allocations).references ≡ (tables builder.old.allocations).references }
+{
+    if start >= end {
+        return Ok(());
+    }
+    let body = ItemBody::Text {
+        backslash_escaped: false,
+    };
+    builder.add(start, end, body)
+}

@@ -1,0 +1,112 @@
+-- A line whose words begin with a letter begins nothing but a paragraph's text.
+use Rattle.std.proofs.Common.{◌≡◌, ℕ, ◌+◌, Bool, true, false, ◌==◌, ◌&&◌, ◌||◌, not, List, [], ◌∷◌, length, drop, take_while, Option, Some, None, refl, sym, ap, ◌∙◌, subst, arith, cond, true≢false}
+use Rattle.std.specs.Prelude.{if◌then◌else◌, nat_lt, nat_le, count_by}
+use Rattle.std.proofs.lemmas.List.Sums.{take_while-cons}
+use Rattle.cmark_grammar.specs.Options.{Options}
+use Rattle.cmark_grammar.specs.Columns.{Column, is_blank_byte, without_indent, bytes_of}
+use Rattle.cmark_grammar.specs.Rows.{Row, is_bare, is_blank_line, indent_of, words_of}
+use Rattle.cmark_grammar.specs.Leaves.{Fence, all_pass, is_parted, run, is_break_of, is_thematic_break, is_atx_heading, fence_of, fence_with}
+use Rattle.cmark_grammar.specs.Letters.{is_letter, first_is}
+use Rattle.cmark_grammar.specs.HtmlBlocks.{html_kind, kind_behind}
+use Rattle.cmark_grammar.specs.Containers.{Container, is_bullet, is_digit, digits, delimited, marker_of, item_with, item_of, begins_with, is_quote}
+use Rattle.cmark_grammar.specs.Openings.{item_interrupts, is_some_fence, html_interrupts, interrupts}
+
+-- a letter is no other byte
+apart : (b k : ℕ) → is_letter b ≡ true → is_letter k ≡ false → (b == k) ≡ false
+apart b k l n = go (b == k) refl
+  where
+    same : (b k : ℕ) → (b == k) ≡ true → b ≡ k
+    same b k e = grind (arith)
+
+    go : (z : Bool) → (b == k) ≡ z → z ≡ false
+    go true e = absurd (true≢false (sym l ∙ ap is_letter (same b k e) ∙ n))
+    go false e = refl
+
+and-false : (z : Bool) → (z && false) ≡ false
+and-false true = refl
+and-false false = refl
+
+digit-none : (b : ℕ) → is_letter b ≡ true → is_digit b ≡ false
+digit-none b l = go (is_digit b) refl
+  where
+    no : (b : ℕ) → is_digit b ≡ true → is_letter b ≡ false
+    no b d = grind (arith)
+
+    go : (z : Bool) → is_digit b ≡ z → z ≡ false
+    go true e = absurd (true≢false (sym l ∙ no b e))
+    go false e = refl
+
+module _ (b : ℕ) (bs : List ℕ) (letter : is_letter b ≡ true) where
+  run-none : (k : ℕ) → is_letter k ≡ false → run k (b ∷ bs) ≡ 0
+  run-none k n =
+      ap length (take_while-cons (λ c. c == k) b bs) ∙ ap (λ z. length (cond z (b ∷ take_while (λ c. c == k) bs) [])) (apart b k letter n)
+
+  break-none : (k : ℕ) → is_letter k ≡ false → is_break_of k (b ∷ bs) ≡ false
+  break-none k n =
+      ap (λ z. nat_le 3 (count_by (λ c. c == k) (b ∷ bs)) && ((z || is_blank_byte b) && all_pass (λ c. (c == k) || is_blank_byte c) bs)) (apart b k letter n)
+      ∙ ap (λ z. nat_le 3 (count_by (λ c. c == k) (b ∷ bs)) && ((z || (b == 9)) && all_pass (λ c. (c == k) || is_blank_byte c) bs)) (apart b 32 letter refl)
+      ∙ ap (λ z. nat_le 3 (count_by (λ c. c == k) (b ∷ bs)) && (z && all_pass (λ c. (c == k) || is_blank_byte c) bs)) (apart b 9 letter refl)
+      ∙ and-false (nat_le 3 (count_by (λ c. c == k) (b ∷ bs)))
+
+  no-break : is_thematic_break (b ∷ bs) ≡ false
+  no-break =
+      ap (λ z. z || (is_break_of 45 (b ∷ bs) || is_break_of 95 (b ∷ bs))) (break-none 42 refl)
+      ∙ ap (λ z. z || is_break_of 95 (b ∷ bs)) (break-none 45 refl) ∙ break-none 95 refl
+
+  no-heading : is_atx_heading (b ∷ bs) ≡ false
+  no-heading = ap (λ n. nat_lt 0 n && (nat_le n 6 && is_parted (drop n (b ∷ bs)))) (run-none 35 refl)
+
+  no-fence : (indented : ℕ) → fence_of indented (b ∷ bs) ≡ None
+  no-fence indented =
+      ap (λ n. if nat_le 3 n && (count_by (λ c. c == 96) (drop n (b ∷ bs)) == 0) then Some (fence_with indented 96 (b ∷ bs)) else if nat_le 3 (run 126 (b ∷ bs)) then Some (fence_with indented 126 (b ∷ bs)) else None) (run-none 96 refl)
+      ∙ ap (λ n. if nat_le 3 n then Some (fence_with indented 126 (b ∷ bs)) else None) (run-none 126 refl)
+
+  no-html : html_kind (b ∷ bs) ≡ None
+  no-html = ap (λ z. if z then kind_behind bs else None) (apart b 60 letter refl)
+
+  no-digits : digits (b ∷ bs) ≡ []
+  no-digits = take_while-cons is_digit b bs ∙ ap (λ z. cond z (b ∷ take_while is_digit bs) []) (digit-none b letter)
+
+  no-bullet : is_bullet b ≡ false
+  no-bullet = ap (λ z. z || ((b == 43) || (b == 42))) (apart b 45 letter refl) ∙ ap (λ z. z || (b == 42)) (apart b 43 letter refl) ∙ apart b 42 letter refl
+
+  no-marker : marker_of (b ∷ bs) ≡ None
+  no-marker =
+      ap (λ z. if z then Some (record { mark = b; number = None; size = 1 }) else delimited (digits (b ∷ bs)) (drop (length (digits (b ∷ bs))) (b ∷ bs))) no-bullet
+      ∙ ap (λ ds. delimited ds (drop (length ds) (b ∷ bs))) no-digits
+
+-- a line that begins with a letter is not blank
+no-blank : (cs : List Column) (b : ℕ) (bs : List ℕ) → bytes_of cs ≡ b ∷ bs → is_bare cs ≡ false
+no-blank [] b bs e = absurd (let q : [] ≡ b ∷ bs = e in cc)
+no-blank (c ∷ cs) b bs e = refl
+
+first-letter : (bs : List ℕ) → first_is is_letter bs ≡ true → (b : ℕ) × ((rest : List ℕ) × (bs ≡ b ∷ rest) × (is_letter b ≡ true))
+first-letter [] e = absurd (true≢false (sym e))
+first-letter (b ∷ bs) e = (b, (bs, refl, e))
+
+pub letter-interrupts-not : (options : Options) (same : Bool) (r : Row) (ahead : List Row) → first_is is_letter (words_of r) ≡ true → interrupts options same r ahead ≡ false
+letter-interrupts-not options same r ahead e =
+    let first = first-letter (words_of r) e in
+    let b : ℕ = first.0 in
+    let bs : List ℕ = first.1.0 in
+    let is : words_of r ≡ b ∷ bs = first.1.1 in
+    let letter : is_letter b ≡ true = first.1.2 in
+    ap (λ z. z || rest (words_of r)) (no-blank (without_indent r.columns) b bs is)
+    ∙ ap rest is
+    ∙ ap (λ z. nat_le (indent_of r) 3 && ((nat_le (indent_of r) 3 && z) || others (b ∷ bs))) (apart b 62 letter refl)
+    ∙ ap (λ z. nat_le (indent_of r) 3 && (z || others (b ∷ bs))) (and-false (nat_le (indent_of r) 3))
+    ∙ ap (λ m. nat_le (indent_of r) 3 && (item_interrupts same r (item_with r m) || leaves (b ∷ bs))) (no-marker b bs letter)
+    ∙ ap (λ z. nat_le (indent_of r) 3 && (z || (is_atx_heading (b ∷ bs) || (is_some_fence (fence_of (indent_of r) (b ∷ bs)) || html_interrupts (html_kind (b ∷ bs)))))) (no-break b bs letter)
+    ∙ ap (λ z. nat_le (indent_of r) 3 && (z || (is_some_fence (fence_of (indent_of r) (b ∷ bs)) || html_interrupts (html_kind (b ∷ bs))))) (no-heading b bs letter)
+    ∙ ap (λ f. nat_le (indent_of r) 3 && (is_some_fence f || html_interrupts (html_kind (b ∷ bs)))) (no-fence b bs letter (indent_of r))
+    ∙ ap (λ k. nat_le (indent_of r) 3 && html_interrupts k) (no-html b bs letter)
+    ∙ and-false (nat_le (indent_of r) 3)
+  where
+    leaves : List ℕ → Bool
+    leaves ws = is_thematic_break ws || (is_atx_heading ws || (is_some_fence (fence_of (indent_of r) ws) || html_interrupts (html_kind ws)))
+
+    others : List ℕ → Bool
+    others ws = item_interrupts same r (item_with r (marker_of ws)) || leaves ws
+
+    rest : List ℕ → Bool
+    rest ws = nat_le (indent_of r) 3 && ((nat_le (indent_of r) 3 && begins_with 62 ws) || others ws)

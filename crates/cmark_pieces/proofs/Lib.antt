@@ -1,2 +1,0 @@
-pub mod MarkSteps
-pub mod PieceSteps

@@ -1,3 +1,0 @@
-pub mod Fronts
-pub mod Left
-pub mod Shown
