@@ -12,6 +12,7 @@ pub mod ColumnSteps
 pub mod CountLaws
 pub mod DocumentsJoin
 pub mod EmphasisSamples
+pub mod LeafSpanLaws
 pub mod LineSteps
 pub mod NotDerived
 pub mod QuoteSamples

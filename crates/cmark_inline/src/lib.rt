@@ -16,4 +16,5 @@ mod step;
 pub use callback::{BrokenLink, BrokenLinkCallback, DefaultBrokenLinkCallback};
 pub use event::Given;
 pub use read::Reader;
+pub use special::{SpecialBytes, special_bytes};
 pub use state::InlineState;
