@@ -13,6 +13,7 @@ pub mod CountLaws
 pub mod DocumentsJoin
 pub mod EmphasisSamples
 pub mod HtmlSamples
+pub mod LeafSpanLaws
 pub mod LineSteps
 pub mod NotDerived
 pub mod QuoteSamples

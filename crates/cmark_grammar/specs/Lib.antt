@@ -30,6 +30,7 @@ pub mod HtmlBlocks
 pub mod InlineHtml
 pub mod Labels
 pub mod LabelsOverLines
+pub mod LeafSpans
 pub mod Leaves
 pub mod Letters
 pub mod LineBreaks

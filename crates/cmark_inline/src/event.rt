@@ -1,12 +1,14 @@
 //! The events of a leaf's slots, one after the other.
 
-ghost use Rattle.std.specs.Prelude.{◌≡◌, ◌+◌, ◌-◌, ℕ, List, [], IfOk, IfSome, length};
+ghost use Rattle.std.specs.Prelude.{◌≡◌, ◌<◌, ◌+◌, ◌-◌, ℕ, List, [], IfOk, OnOk, OnSome, length};
 ghost use Rattle.std.specs.Str.{IsCharBoundary};
 ghost use Rattle.cmark_grammar.specs.CodeSpans.{code_text};
+ghost use Rattle.cmark_grammar.specs.LeafSpans.{IsInline, IsSpan};
 ghost use Rattle.cmark_grammar.specs.Tokens.{slice};
 ghost use Rattle.cmark_leaf_text.specs.Reads.{IsRead, IsPart, place_of, text_of, source_of};
 ghost use Rattle.cmark_scan_parts.specs.Shown.{IsBorrowed};
-ghost use Rattle.cmark_text.specs.Shown.{text_bytes};
+ghost use Rattle.cmark_text.specs.Shown.{shown, shown_tag, text_bytes};
+ghost use Rattle.cmark_inline.specs.Opens.{Follows, Gives, Passes, events_left, shown_given};
 ghost use Rattle.cmark_inline.specs.Stands.{AreOpened, AreSlots, IsSlot};
 
 use crate::link::LinkParts;
@@ -64,7 +66,9 @@ impl<'a> InlineState<'a> {
         requires opened { AreOpened (source_of leaf.now) self.old.walk.opened.items }
         ensures slots { self.new.slots ≡ self.old.slots }
         ensures opened { AreOpened (source_of leaf.now) self.new.walk.opened.items }
-        ensures range { IfOk result (λ found. IfSome found (λ given. IsPart (source_of leaf.now) given.range.start given.range.end)) }
+        ensures gives { IfOk result (λ given. Gives (source_of leaf.now) self.old.walk.opened.items given self.new.walk.opened.items) }
+        ensures fewer { IfOk result (λ given. OnSome given (events_left self.new < events_left self.old)) }
+        ensures few { OnOk result (length self.new.slots.items < 18446744073709551616) }
     {
         while self.walk.next < self.slots.len() {
             let slot = self.slots[self.walk.next];
@@ -85,7 +89,7 @@ impl<'a> InlineState<'a> {
         ensures slots { self.new.slots ≡ self.old.slots }
         ensures place { self.new.walk.next ≡ self.old.walk.next }
         ensures opened { AreOpened (source_of leaf.now) self.new.walk.opened.items }
-        ensures range { IfOk result (λ found. IfSome found (λ given. IsPart (source_of leaf.now) given.range.start given.range.end)) }
+        ensures gives { IfOk result (λ given. Passes (source_of leaf.now) self.old.walk.opened.items given self.new.walk.opened.items) }
     {
         match slot.kind {
             SlotKind::Begin(element) => {
@@ -114,7 +118,7 @@ impl<'a> InlineState<'a> {
         ensures slots { self.new.slots ≡ self.old.slots }
         ensures place { self.new.walk.next ≡ self.old.walk.next }
         ensures opened { AreOpened (source_of leaf.now) self.new.walk.opened.items }
-        ensures range { IfOk result (λ given. IsPart (source_of leaf.now) given.range.start given.range.end) }
+        ensures gives { IfOk result (λ given. Follows (source_of leaf.now) self.old.walk.opened.items (shown_given given) self.new.walk.opened.items) }
     {
         let range = leaf.range(slot.start, slot.end);
         let tag = self.tag(element);
@@ -133,7 +137,8 @@ impl<'a> InlineState<'a> {
         ensures slots { self.new.slots ≡ self.old.slots }
         ensures place { self.new.walk.next ≡ self.old.walk.next }
         ensures opened { (source : List ℕ) → AreOpened source self.old.walk.opened.items → AreOpened source self.new.walk.opened.items }
-        ensures range { (source : List ℕ) → AreOpened source self.old.walk.opened.items → IfSome result (λ given. IsPart source given.range.start given.range.end) }
+        ensures gives { (source : List ℕ) → AreOpened source self.old.walk.opened.items → Gives source self.old.walk.opened.items result self.new.walk.opened.items }
+        ensures fewer { OnSome result (length self.new.walk.opened.items < length self.old.walk.opened.items) }
     {
         let opened = self.walk.opened.pop()?;
         Some(Given {
@@ -143,6 +148,7 @@ impl<'a> InlineState<'a> {
     }
 
     fn tag(&mut self, element: Element) -> Tag<'a>
+        ensures span { IsSpan (shown_tag result) }
         ensures slots { self.new.slots ≡ self.old.slots }
         ensures walk { self.new.walk ≡ self.old.walk }
     {
@@ -182,6 +188,7 @@ impl<'a> InlineState<'a> {
         requires slot { IsSlot (text_of leaf.now) (length (text_of leaf.now)) slot }
         ensures slots { self.new.slots ≡ self.old.slots }
         ensures walk { self.new.walk ≡ self.old.walk }
+        ensures inline { IfOk result (λ event. IsInline (shown event)) }
     {
         match slot.kind {
             SlotKind::OwnedText(index) => Ok(Event::Text(self.take_text(index))),
@@ -200,7 +207,9 @@ impl<'a> InlineState<'a> {
     }
 }
 
-fn link_tag<'a>(link: LinkParts<'a>) -> Tag<'a> {
+fn link_tag<'a>(link: LinkParts<'a>) -> Tag<'a>
+    ensures { IsSpan (shown_tag result) }
+{
     let LinkParts {
         link_type,
         dest_url,
@@ -215,7 +224,9 @@ fn link_tag<'a>(link: LinkParts<'a>) -> Tag<'a> {
     }
 }
 
-fn image_tag<'a>(link: LinkParts<'a>) -> Tag<'a> {
+fn image_tag<'a>(link: LinkParts<'a>) -> Tag<'a>
+    ensures { IsSpan (shown_tag result) }
+{
     let LinkParts {
         link_type,
         dest_url,

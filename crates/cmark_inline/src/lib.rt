@@ -25,4 +25,5 @@ mod text;
 pub use callback::{BrokenLink, BrokenLinkCallback, DefaultBrokenLinkCallback, OwnedLinkCallback};
 pub use event::Given;
 pub use read::Reader;
+pub use special::{SpecialBytes, special_bytes};
 pub use state::InlineState;

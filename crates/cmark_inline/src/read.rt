@@ -1,6 +1,6 @@
 //! What a leaf's text is read with.
 
-use crate::special::{SpecialBytes, special_bytes};
+use crate::special::SpecialBytes;
 use cmark_items::RefDefs;
 use cmark_text::Options;
 
@@ -14,21 +14,5 @@ pub struct Reader<'p, 'a, E> {
     /// The extensions.
     pub options: Options,
     /// The bytes that may begin a span, by the options.
-    pub(crate) special: SpecialBytes,
-}
-
-impl<'p, 'a, E> Reader<'p, 'a, E> {
-    /// A reader with these definitions and options.
-    pub fn new(
-        entities: &'p E,
-        references: &'p RefDefs<'a>,
-        options: Options,
-    ) -> Reader<'p, 'a, E> {
-        Reader {
-            entities,
-            references,
-            options,
-            special: special_bytes(options),
-        }
-    }
+    pub special: &'p SpecialBytes,
 }

@@ -1,0 +1,101 @@
+-- A document's events with the spans of its leaves (CommonMark 6).
+use Rattle.std.specs.Prelude.{◌≡◌, ◌⊎◌, ℕ, ◌≤◌, ◌<◌, Bool, true, false, List, [], ◌∷◌, ◌++◌, length}
+use Rattle.std.specs.Str.{IsCharBoundary}
+use Rattle.cmark_grammar.specs.Tag.{Tag, CodeBlock, Emphasis, Strong, Strikethrough, Superscript, Subscript, Link, Image}
+use Rattle.cmark_grammar.specs.TagEnd as end
+use Rattle.cmark_grammar.specs.TagEnd.{TagEnd, end_of}
+use Rattle.cmark_grammar.specs.Event.{Event, Start, End, Text, Code, InlineHtml, SoftBreak, HardBreak, Ranged}
+
+-- before its spans are read, the content of a leaf is read as texts and line breaks
+abbrev pub is_content : Event → Bool
+is_content (Text text) = true
+is_content SoftBreak = true
+is_content HardBreak = true
+is_content _ = false
+
+-- whether events stand in a code block, whose content has no spans, behind an event
+abbrev pub in_code_after_start : Bool → Tag → Bool
+in_code_after_start in_code (CodeBlock kind) = true
+in_code_after_start in_code _ = in_code
+
+abbrev pub in_code_after_end : Bool → TagEnd → Bool
+in_code_after_end in_code end.CodeBlock = false
+in_code_after_end in_code _ = in_code
+
+abbrev pub in_code_after : Bool → Event → Bool
+in_code_after in_code (Start tag) = in_code_after_start in_code tag
+in_code_after in_code (End tag) = in_code_after_end in_code tag
+in_code_after in_code _ = in_code
+
+-- the elements that spans are, and their other events
+abbrev pub IsSpan : Tag → Type 0
+IsSpan Emphasis = Unit {0}
+IsSpan Strong = Unit {0}
+IsSpan Strikethrough = Unit {0}
+IsSpan Superscript = Unit {0}
+IsSpan Subscript = Unit {0}
+IsSpan (Link linked) = Unit {0}
+IsSpan (Image linked) = Unit {0}
+IsSpan _ = ⊥
+
+abbrev pub IsInline : Event → Type 0
+IsInline (Text text) = Unit {0}
+IsInline (Code text) = Unit {0}
+IsInline (InlineHtml text) = Unit {0}
+IsInline SoftBreak = Unit {0}
+IsInline HardBreak = Unit {0}
+IsInline _ = ⊥
+
+-- some bytes of the text, which begin and end where characters do
+pub record IsRange (text : List ℕ) (start end : ℕ) : Type 0 where
+  pub some : start < end
+  pub within : end ≤ length text
+  pub starts : IsCharBoundary text start
+  pub ends : IsCharBoundary text end
+
+abbrev pub ranged : Event → (start end : ℕ) → Ranged
+ranged event start end = record { event = event; start = start; end = end }
+
+-- events by themselves, and elements around others: each start has its end behind it, of the same tag and with the same range
+pub data Nested (text : List ℕ) : List Ranged → Type 0 where
+  Nothing : Nested text []
+  Single : (r : Ranged) (after : List Ranged) → IsInline r.event → IsRange text r.start r.end → Nested text after → Nested text (r ∷ after)
+  Element : (tag : Tag) (start end : ℕ) (inside after : List Ranged) → IsSpan tag → IsRange text start end → Nested text inside → Nested text after
+      → Nested text (ranged (Start tag) start end ∷ (inside ++ (ranged (End (end_of tag)) start end ∷ after)))
+
+-- the content of a leaf with its spans
+pub record AreSpans (text : List ℕ) (content spans : List Ranged) : Type 0 where
+  pub nested : Nested text spans
+
+-- all of these are content, and what follows is none
+abbrev pub AreContent : List Ranged → Type 0
+AreContent [] = Unit {0}
+AreContent (r ∷ rs) = (is_content r.event ≡ true) × AreContent rs
+
+abbrev pub BeginsApart : List Ranged → Type 0
+BeginsApart [] = Unit {0}
+BeginsApart (r ∷ rs) = is_content r.event ≡ false
+
+-- the events of a document of blocks, in which the content of each leaf, which is a longest run of such events outside of
+-- code, stands with its spans, and all others stand as they are
+pub data WithSpans (text : List ℕ) : (in_code : Bool) → (blocks events : List Ranged) → Type 0 where
+  Nothing : (in_code : Bool) → WithSpans text in_code [] []
+  Same : (in_code : Bool) (r : Ranged) (blocks events : List Ranged) → (in_code ≡ true) ⊎ (is_content r.event ≡ false)
+      → WithSpans text (in_code_after in_code r.event) blocks events → WithSpans text in_code (r ∷ blocks) (r ∷ events)
+  Leaf : (first : Ranged) (more blocks spans events : List Ranged) → is_content first.event ≡ true → AreContent more → BeginsApart blocks
+      → AreSpans text (first ∷ more) spans → WithSpans text false blocks events → WithSpans text false (first ∷ (more ++ blocks)) (spans ++ events)
+
+-- content that stands together has its ranges in turn, from a place on
+pub record TakesTurn (text : List ℕ) (from : ℕ) (r : Ranged) : Type 0 where
+  pub behind : from ≤ r.start
+  pub ordered : r.start ≤ r.end
+  pub starts : IsCharBoundary text r.start
+  pub ends : IsCharBoundary text r.end
+
+abbrev pub InTurnAs : (text : List ℕ) → (from : ℕ) → (content : Bool) → Ranged → (Others : ℕ → Type 0) → Type 0
+InTurnAs text from true r Others = TakesTurn text from r × Others r.end
+InTurnAs text from false r Others = Others 0
+
+abbrev pub InTurn : (text : List ℕ) → (from : ℕ) → List Ranged → Type 0
+InTurn text from [] = Unit {0}
+InTurn text from (r ∷ rs) = InTurnAs text from (is_content r.event) r (λ place. InTurn text place rs)

@@ -1,0 +1,4 @@
+pub mod Completing
+pub mod Gathers
+pub mod Nexts
+pub mod Walks

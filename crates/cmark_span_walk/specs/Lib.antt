@@ -1,0 +1,3 @@
+pub mod Callback
+pub mod Lines
+pub mod Walking

@@ -1,0 +1,27 @@
+//! A callback that may be absent.
+
+ghost use Rattle.cmark_span_walk.specs.Callback.{AnswersIfAny};
+
+use cmark_inline::{BrokenLink, BrokenLinkCallback};
+use cmark_text::CowStr;
+
+/// A callback, or none, in whose place no reference without a definition is a link.
+#[derive(Drop)]
+pub struct OptionalCallback<F> {
+    /// The callback.
+    pub callback: Option<F>,
+}
+
+impl<'input, F: BrokenLinkCallback<'input>> BrokenLinkCallback<'input> for OptionalCallback<F> {
+    ghost answers = { λ before link answer after. AnswersIfAny F.answers before.callback link answer after.callback };
+
+    fn handle_broken_link(
+        &mut self,
+        link: BrokenLink<'input>,
+    ) -> Option<(CowStr<'input>, CowStr<'input>)> {
+        match &mut self.callback {
+            Some(callback) => callback.handle_broken_link(link),
+            None => None,
+        }
+    }
+}

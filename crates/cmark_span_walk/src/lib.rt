@@ -1,0 +1,9 @@
+//! The events of a document with the spans of its leaves.
+#![tactic(auto)]
+
+mod callback;
+mod lines;
+mod span_walk;
+
+pub use callback::OptionalCallback;
+pub use span_walk::SpanWalk;
