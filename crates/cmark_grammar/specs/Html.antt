@@ -1,7 +1,9 @@
 -- The HTML of a list of events: the joined list of their pieces.
 use Rattle.std.specs.Prelude.{ℕ, ◌+◌, ◌-◌, Bool, true, false, not, ◌==◌, if◌then◌else◌, List, [], ◌∷◌, ◌++◌, codes, nat_eq, take_while, Option, Some, None}
+use Rattle.std.specs.Cmp.Lexicographic.{pointwise}
 use Rattle.std.specs.Fmt.{decimal}
-use Rattle.std.specs.List.{ends_with}
+use Rattle.std.specs.List.{ends_with, slice_get, list_any, position_or_len}
+use Rattle.cmark_grammar.specs.Alignment.{Alignment, Unaligned, Left, Center, Right}
 use Rattle.cmark_grammar.specs.BlockQuoteKind.{BlockQuoteKind, Note, Tip, Important, Warning, Caution}
 use Rattle.cmark_grammar.specs.CodeBlockKind.{CodeBlockKind, Indented, Fenced}
 use Rattle.cmark_grammar.specs.LinkType.{LinkType, Email}
@@ -18,15 +20,30 @@ pub record OpenImage : Type 0 where
   pub depth : ℕ
   pub title : List ℕ
 
+-- the table that is being written: whether its cells are those of a head, which they are until a head has ended; the
+-- alignments of its columns, which stay until the next table; and how many cells of the row have ended
+pub record TableState : Type 0 where
+  pub in_head : Bool
+  pub alignments : List Alignment
+  pub column : ℕ
+
 -- what is kept from one event to the next: whether the writer is at a line start, which it is before the first piece
--- and behind a piece that ended in a line feed; and the image whose alternative text is being written, if there is one
+-- and behind a piece that ended in a line feed; the image whose alternative text is being written, if there is one;
+-- whether a metadata block is open, whose text is not written; the table; and the names of the footnotes that were
+-- numbered, in order
 pub record Writing : Type 0 where
   pub line_start : Bool
   pub image : Option OpenImage
+  pub in_metadata : Bool
+  pub table : TableState
+  pub names : List (List ℕ)
 
 -- nothing was written before the first event
+abbrev pub no_table : TableState
+no_table = record { in_head = true; alignments = []; column = 0 }
+
 abbrev pub at_line_start : Writing
-at_line_start = record { line_start = true; image = None }
+at_line_start = record { line_start = true; image = None; in_metadata = false; table = no_table; names = [] }
 
 -- a line feed unless the writer is at a line start
 abbrev pub fresh_line : Bool → List ℕ
@@ -121,78 +138,120 @@ image_start destination = codes "<img src=\"" ++ (escaped_href destination ++ co
 abbrev pub image_end : List ℕ → List ℕ
 image_end title = codes "\"" ++ (title_attribute title ++ codes " />")
 
--- nothing is written for the start and the end of an HTML block. Footnote definitions, tables and metadata blocks, whose
--- pieces follow from more than the line start, are not written yet
-abbrev pub start_piece : Bool → Tag → List ℕ
-start_piece at_start tag.Paragraph = fresh_line at_start ++ codes "<p>"
-start_piece at_start (tag.Heading level attributes) = fresh_line at_start ++ (codes "<h" ++ (digit level ∷ (heading_attributes attributes ++ codes ">")))
-start_piece at_start (tag.BlockQuote kind) = fresh_line at_start ++ block_quote_start kind
-start_piece at_start (tag.CodeBlock kind) = fresh_line at_start ++ code_block_start kind
-start_piece at_start tag.HtmlBlock = []
-start_piece at_start (tag.Listing first) = fresh_line at_start ++ list_start first
-start_piece at_start tag.ListItem = fresh_line at_start ++ codes "<li>"
-start_piece at_start (tag.FootnoteDefinition label) = []
-start_piece at_start tag.DefinitionList = fresh_line at_start ++ codes "<dl>\n"
-start_piece at_start tag.DefinitionListTitle = fresh_line at_start ++ codes "<dt>"
-start_piece at_start tag.DefinitionListDefinition = fresh_line at_start ++ codes "<dd>"
-start_piece at_start (tag.Table alignments) = []
-start_piece at_start tag.TableHead = []
-start_piece at_start tag.TableRow = []
-start_piece at_start tag.TableCell = []
-start_piece at_start tag.Emphasis = codes "<em>"
-start_piece at_start tag.Strong = codes "<strong>"
-start_piece at_start tag.Strikethrough = codes "<del>"
-start_piece at_start tag.Superscript = codes "<sup>"
-start_piece at_start tag.Subscript = codes "<sub>"
-start_piece at_start (tag.Link linked) = link_start linked
-start_piece at_start (tag.Image linked) = image_start linked.destination
-start_piece at_start (tag.MetadataBlock kind) = []
+-- a cell of a table up to its text, with the alignment of its column, and behind it; none past the last column is aligned
+abbrev pub cell_tag : Bool → List ℕ
+cell_tag true = codes "<th"
+cell_tag false = codes "<td"
 
-abbrev pub end_piece : TagEnd → List ℕ
-end_piece end.Paragraph = codes "</p>\n"
-end_piece (end.Heading level) = codes "</h" ++ (digit level ∷ codes ">\n")
-end_piece (end.BlockQuote kind) = codes "</blockquote>\n"
-end_piece end.CodeBlock = codes "</code></pre>\n"
-end_piece end.HtmlBlock = []
-end_piece (end.Listing is_ordered) = list_end is_ordered
-end_piece end.ListItem = codes "</li>\n"
-end_piece end.FootnoteDefinition = []
-end_piece end.DefinitionList = codes "</dl>\n"
-end_piece end.DefinitionListTitle = codes "</dt>\n"
-end_piece end.DefinitionListDefinition = codes "</dd>\n"
-end_piece end.Table = []
-end_piece end.TableHead = []
-end_piece end.TableRow = []
-end_piece end.TableCell = []
-end_piece end.Emphasis = codes "</em>"
-end_piece end.Strong = codes "</strong>"
-end_piece end.Strikethrough = codes "</del>"
-end_piece end.Superscript = codes "</sup>"
-end_piece end.Subscript = codes "</sub>"
-end_piece end.Link = codes "</a>"
-end_piece end.Image = []
-end_piece (end.MetadataBlock kind) = []
+abbrev pub alignment_style : Option Alignment → List ℕ
+alignment_style None = []
+alignment_style (Some Unaligned) = []
+alignment_style (Some Left) = codes " style=\"text-align: left\""
+alignment_style (Some Center) = codes " style=\"text-align: center\""
+alignment_style (Some Right) = codes " style=\"text-align: right\""
+
+abbrev pub cell_start : TableState → List ℕ
+cell_start t = cell_tag t.in_head ++ (alignment_style (slice_get t.alignments t.column) ++ codes ">")
+
+abbrev pub cell_end : Bool → List ℕ
+cell_end true = codes "</th>"
+cell_end false = codes "</td>"
+
+-- a footnote has the number of its name, in digits: names are numbered from 1 on as they come, references and definitions
+-- alike, and are told apart by their exact texts
+abbrev pub footnote_number : List (List ℕ) → List ℕ → ℕ
+footnote_number names name = position_or_len (pointwise nat_eq name) names + 1
+
+abbrev pub named : List (List ℕ) → List ℕ → List (List ℕ)
+named names name = if list_any (pointwise nat_eq name) names then names else names ++ name ∷ []
+
+abbrev pub footnote_start : List ℕ → List ℕ → List ℕ
+footnote_start name digits =
+    codes "<div class=\"footnote-definition\" id=\"" ++ (escaped_html name ++ (codes "\"><sup class=\"footnote-definition-label\">" ++ (digits ++ codes "</sup>")))
+
+abbrev pub footnote_reference : List ℕ → List ℕ → List ℕ
+footnote_reference name digits = codes "<sup class=\"footnote-reference\"><a href=\"#" ++ (escaped_html name ++ (codes "\">" ++ (digits ++ codes "</a></sup>")))
+
+abbrev pub alt_footnote_reference : List ℕ → List ℕ
+alt_footnote_reference digits = codes "[" ++ (digits ++ codes "]")
+
+-- nothing is written for the start and the end of an HTML block or a metadata block
+abbrev pub start_piece : Writing → Tag → List ℕ
+start_piece w tag.Paragraph = fresh_line w.line_start ++ codes "<p>"
+start_piece w (tag.Heading level attributes) = fresh_line w.line_start ++ (codes "<h" ++ (digit level ∷ (heading_attributes attributes ++ codes ">")))
+start_piece w (tag.BlockQuote kind) = fresh_line w.line_start ++ block_quote_start kind
+start_piece w (tag.CodeBlock kind) = fresh_line w.line_start ++ code_block_start kind
+start_piece w tag.HtmlBlock = []
+start_piece w (tag.Listing first) = fresh_line w.line_start ++ list_start first
+start_piece w tag.ListItem = fresh_line w.line_start ++ codes "<li>"
+start_piece w (tag.FootnoteDefinition label) = fresh_line w.line_start ++ footnote_start label (decimal (footnote_number w.names label))
+start_piece w tag.DefinitionList = fresh_line w.line_start ++ codes "<dl>\n"
+start_piece w tag.DefinitionListTitle = fresh_line w.line_start ++ codes "<dt>"
+start_piece w tag.DefinitionListDefinition = fresh_line w.line_start ++ codes "<dd>"
+start_piece w (tag.Table alignments) = codes "<table>"
+start_piece w tag.TableHead = codes "<thead><tr>"
+start_piece w tag.TableRow = codes "<tr>"
+start_piece w tag.TableCell = cell_start w.table
+start_piece w tag.Emphasis = codes "<em>"
+start_piece w tag.Strong = codes "<strong>"
+start_piece w tag.Strikethrough = codes "<del>"
+start_piece w tag.Superscript = codes "<sup>"
+start_piece w tag.Subscript = codes "<sub>"
+start_piece w (tag.Link linked) = link_start linked
+start_piece w (tag.Image linked) = image_start linked.destination
+start_piece w (tag.MetadataBlock kind) = []
+
+abbrev pub heading_end : ℕ → List ℕ
+heading_end level = codes "</h" ++ (digit level ∷ codes ">\n")
+
+abbrev pub end_piece : Bool → TagEnd → List ℕ
+end_piece in_head end.Paragraph = codes "</p>\n"
+end_piece in_head (end.Heading level) = heading_end level
+end_piece in_head (end.BlockQuote kind) = codes "</blockquote>\n"
+end_piece in_head end.CodeBlock = codes "</code></pre>\n"
+end_piece in_head end.HtmlBlock = []
+end_piece in_head (end.Listing is_ordered) = list_end is_ordered
+end_piece in_head end.ListItem = codes "</li>\n"
+end_piece in_head end.FootnoteDefinition = codes "</div>\n"
+end_piece in_head end.DefinitionList = codes "</dl>\n"
+end_piece in_head end.DefinitionListTitle = codes "</dt>\n"
+end_piece in_head end.DefinitionListDefinition = codes "</dd>\n"
+end_piece in_head end.Table = codes "</tbody></table>\n"
+end_piece in_head end.TableHead = codes "</tr></thead><tbody>\n"
+end_piece in_head end.TableRow = codes "</tr>\n"
+end_piece in_head end.TableCell = cell_end in_head
+end_piece in_head end.Emphasis = codes "</em>"
+end_piece in_head end.Strong = codes "</strong>"
+end_piece in_head end.Strikethrough = codes "</del>"
+end_piece in_head end.Superscript = codes "</sup>"
+end_piece in_head end.Subscript = codes "</sub>"
+end_piece in_head end.Link = codes "</a>"
+end_piece in_head end.Image = []
+end_piece in_head (end.MetadataBlock kind) = []
 
 abbrev pub task_list_marker : Bool → List ℕ
 task_list_marker true = codes "<input disabled=\"\" type=\"checkbox\" checked=\"\"/>\n"
 task_list_marker false = codes "<input disabled=\"\" type=\"checkbox\"/>\n"
 
--- what is written for an event outside of images; references to footnotes, whose numbers follow from those before, are
--- not written yet
-abbrev pub piece_outside : Bool → Event → List ℕ
-piece_outside at_start (Start tag) = start_piece at_start tag
-piece_outside at_start (End tag) = end_piece tag
-piece_outside at_start (Text text) = escaped_body_text text
-piece_outside at_start (Code text) = codes "<code>" ++ (escaped_body_text text ++ codes "</code>")
-piece_outside at_start (InlineMath text) = codes "<span class=\"math math-inline\">" ++ (escaped_html text ++ codes "</span>")
-piece_outside at_start (DisplayMath text) = codes "<span class=\"math math-display\">" ++ (escaped_html text ++ codes "</span>")
-piece_outside at_start (Html text) = text
-piece_outside at_start (InlineHtml text) = text
-piece_outside at_start (FootnoteReference label) = []
-piece_outside at_start SoftBreak = 10 ∷ []
-piece_outside at_start HardBreak = codes "<br />\n"
-piece_outside at_start Rule = fresh_line at_start ++ codes "<hr />\n"
-piece_outside at_start (TaskListMarker is_checked) = task_list_marker is_checked
+abbrev pub text_piece : Bool → List ℕ → List ℕ
+text_piece true text = []
+text_piece false text = escaped_body_text text
+
+-- what is written for an event outside of images
+abbrev pub piece_outside : Writing → Event → List ℕ
+piece_outside w (Start tag) = start_piece w tag
+piece_outside w (End tag) = end_piece w.table.in_head tag
+piece_outside w (Text text) = text_piece w.in_metadata text
+piece_outside w (Code text) = codes "<code>" ++ (escaped_body_text text ++ codes "</code>")
+piece_outside w (InlineMath text) = codes "<span class=\"math math-inline\">" ++ (escaped_html text ++ codes "</span>")
+piece_outside w (DisplayMath text) = codes "<span class=\"math math-display\">" ++ (escaped_html text ++ codes "</span>")
+piece_outside w (Html text) = text
+piece_outside w (InlineHtml text) = text
+piece_outside w (FootnoteReference label) = footnote_reference label (decimal (footnote_number w.names label))
+piece_outside w SoftBreak = 10 ∷ []
+piece_outside w HardBreak = codes "<br />\n"
+piece_outside w Rule = fresh_line w.line_start ++ codes "<hr />\n"
+piece_outside w (TaskListMarker is_checked) = task_list_marker is_checked
 
 abbrev pub alt_task_list_marker : Bool → List ℕ
 alt_task_list_marker true = codes "[x]"
@@ -200,33 +259,33 @@ alt_task_list_marker false = codes "[ ]"
 
 -- what an event adds to the alternative text of an image around it, which is the text of what is inside without the
 -- elements (CommonMark 6.4)
-abbrev pub alt_text : Event → List ℕ
-alt_text (Start tag) = []
-alt_text (End tag) = []
-alt_text (Text text) = escaped_html text
-alt_text (Code text) = escaped_html text
-alt_text (InlineMath text) = codes "$" ++ (escaped_html text ++ codes "$")
-alt_text (DisplayMath text) = codes "$$" ++ (escaped_html text ++ codes "$$")
-alt_text (Html text) = []
-alt_text (InlineHtml text) = escaped_html text
-alt_text (FootnoteReference label) = []
-alt_text SoftBreak = codes " "
-alt_text HardBreak = codes " "
-alt_text Rule = codes " "
-alt_text (TaskListMarker is_checked) = alt_task_list_marker is_checked
+abbrev pub alt_text : List (List ℕ) → Event → List ℕ
+alt_text names (Start tag) = []
+alt_text names (End tag) = []
+alt_text names (Text text) = escaped_html text
+alt_text names (Code text) = escaped_html text
+alt_text names (InlineMath text) = codes "$" ++ (escaped_html text ++ codes "$")
+alt_text names (DisplayMath text) = codes "$$" ++ (escaped_html text ++ codes "$$")
+alt_text names (Html text) = []
+alt_text names (InlineHtml text) = escaped_html text
+alt_text names (FootnoteReference label) = alt_footnote_reference (decimal (footnote_number names label))
+alt_text names SoftBreak = codes " "
+alt_text names HardBreak = codes " "
+alt_text names Rule = codes " "
+alt_text names (TaskListMarker is_checked) = alt_task_list_marker is_checked
 
 -- what is written for an event inside of an image: the end that matches the image's start closes it, whatever its element
-abbrev pub piece_inside : OpenImage → Event → List ℕ
-piece_inside image (End tag) = if image.depth == 0 then image_end image.title else []
-piece_inside image e = alt_text e
+abbrev pub piece_inside : List (List ℕ) → OpenImage → Event → List ℕ
+piece_inside names image (End tag) = if image.depth == 0 then image_end image.title else []
+piece_inside names image e = alt_text names e
 
-abbrev pub piece_in : Option OpenImage → Bool → Event → List ℕ
-piece_in None at_start e = piece_outside at_start e
-piece_in (Some image) at_start e = piece_inside image e
+abbrev pub piece_in : Option OpenImage → Writing → Event → List ℕ
+piece_in None w e = piece_outside w e
+piece_in (Some image) w e = piece_inside w.names image e
 
 -- what is written for an event
 abbrev pub piece : Writing → Event → List ℕ
-piece w e = piece_in w.image w.line_start e
+piece w e = piece_in w.image w e
 
 -- whether the writer is then at a line start, behind a start
 abbrev pub line_start_after_start : Bool → Tag → Bool
@@ -237,14 +296,14 @@ line_start_after_start at_start (tag.CodeBlock kind) = false
 line_start_after_start at_start tag.HtmlBlock = at_start
 line_start_after_start at_start (tag.Listing first) = true
 line_start_after_start at_start tag.ListItem = false
-line_start_after_start at_start (tag.FootnoteDefinition label) = at_start
+line_start_after_start at_start (tag.FootnoteDefinition label) = false
 line_start_after_start at_start tag.DefinitionList = true
 line_start_after_start at_start tag.DefinitionListTitle = false
 line_start_after_start at_start tag.DefinitionListDefinition = false
-line_start_after_start at_start (tag.Table alignments) = at_start
-line_start_after_start at_start tag.TableHead = at_start
-line_start_after_start at_start tag.TableRow = at_start
-line_start_after_start at_start tag.TableCell = at_start
+line_start_after_start at_start (tag.Table alignments) = false
+line_start_after_start at_start tag.TableHead = false
+line_start_after_start at_start tag.TableRow = false
+line_start_after_start at_start tag.TableCell = false
 line_start_after_start at_start tag.Emphasis = false
 line_start_after_start at_start tag.Strong = false
 line_start_after_start at_start tag.Strikethrough = false
@@ -262,14 +321,14 @@ line_start_after_end at_start end.CodeBlock = true
 line_start_after_end at_start end.HtmlBlock = at_start
 line_start_after_end at_start (end.Listing is_ordered) = true
 line_start_after_end at_start end.ListItem = true
-line_start_after_end at_start end.FootnoteDefinition = at_start
+line_start_after_end at_start end.FootnoteDefinition = true
 line_start_after_end at_start end.DefinitionList = true
 line_start_after_end at_start end.DefinitionListTitle = true
 line_start_after_end at_start end.DefinitionListDefinition = true
-line_start_after_end at_start end.Table = at_start
-line_start_after_end at_start end.TableHead = at_start
-line_start_after_end at_start end.TableRow = at_start
-line_start_after_end at_start end.TableCell = at_start
+line_start_after_end at_start end.Table = true
+line_start_after_end at_start end.TableHead = true
+line_start_after_end at_start end.TableRow = true
+line_start_after_end at_start end.TableCell = false
 line_start_after_end at_start end.Emphasis = false
 line_start_after_end at_start end.Strong = false
 line_start_after_end at_start end.Strikethrough = false
@@ -284,25 +343,52 @@ abbrev pub line_start_after_html : Bool → List ℕ → Bool
 line_start_after_html at_start [] = at_start
 line_start_after_html at_start (b ∷ bs) = ends_in_line_feed (b ∷ bs)
 
-abbrev pub line_start_after : Bool → Event → Bool
-line_start_after at_start (Start tag) = line_start_after_start at_start tag
-line_start_after at_start (End tag) = line_start_after_end at_start tag
-line_start_after at_start (Text text) = ends_in_line_feed text
-line_start_after at_start (Code text) = false
-line_start_after at_start (InlineMath text) = false
-line_start_after at_start (DisplayMath text) = false
-line_start_after at_start (Html text) = line_start_after_html at_start text
-line_start_after at_start (InlineHtml text) = line_start_after_html at_start text
-line_start_after at_start (FootnoteReference label) = at_start
-line_start_after at_start SoftBreak = true
-line_start_after at_start HardBreak = true
-line_start_after at_start Rule = true
-line_start_after at_start (TaskListMarker is_checked) = true
+abbrev pub line_start_after : Writing → Event → Bool
+line_start_after w (Start tag) = line_start_after_start w.line_start tag
+line_start_after w (End tag) = line_start_after_end w.line_start tag
+line_start_after w (Text text) = if w.in_metadata then w.line_start else ends_in_line_feed text
+line_start_after w (Code text) = false
+line_start_after w (InlineMath text) = false
+line_start_after w (DisplayMath text) = false
+line_start_after w (Html text) = line_start_after_html w.line_start text
+line_start_after w (InlineHtml text) = line_start_after_html w.line_start text
+line_start_after w (FootnoteReference label) = false
+line_start_after w SoftBreak = true
+line_start_after w HardBreak = true
+line_start_after w Rule = true
+line_start_after w (TaskListMarker is_checked) = true
 
 -- the image that an event opens
+abbrev pub opened_by : Tag → Option OpenImage
+opened_by (tag.Image linked) = Some (record { depth = 0; title = linked.title })
+opened_by _ = None
+
 abbrev pub opened_image : Event → Option OpenImage
-opened_image (Start (tag.Image linked)) = Some (record { depth = 0; title = linked.title })
+opened_image (Start tag) = opened_by tag
 opened_image _ = None
+
+-- whether a metadata block is open behind an event
+abbrev pub metadata_after : Bool → Event → Bool
+metadata_after in_metadata (Start (tag.MetadataBlock kind)) = true
+metadata_after in_metadata (End (end.MetadataBlock kind)) = false
+metadata_after in_metadata _ = in_metadata
+
+-- the table behind an event
+abbrev pub table_after_start : TableState → Tag → TableState
+table_after_start t (tag.Table alignments) = record { in_head = t.in_head; alignments = alignments; column = t.column }
+table_after_start t tag.TableHead = record { in_head = true; alignments = t.alignments; column = 0 }
+table_after_start t tag.TableRow = record { in_head = t.in_head; alignments = t.alignments; column = 0 }
+table_after_start t _ = t
+
+abbrev pub table_after_end : TableState → TagEnd → TableState
+table_after_end t end.TableHead = record { in_head = false; alignments = t.alignments; column = t.column }
+table_after_end t end.TableCell = record { in_head = t.in_head; alignments = t.alignments; column = t.column + 1 }
+table_after_end t _ = t
+
+abbrev pub table_after : TableState → Event → TableState
+table_after t (Start tag) = table_after_start t tag
+table_after t (End tag) = table_after_end t tag
+table_after t _ = t
 
 -- the image around an event that is still open behind it: starts and ends count how deep the text is
 abbrev pub deeper : OpenImage → OpenImage
@@ -316,13 +402,45 @@ still_open image (Start tag) = Some (deeper image)
 still_open image (End tag) = if image.depth == 0 then None else Some (less_deep image)
 still_open image _ = Some image
 
+-- the names of footnotes behind an event outside of images, and behind one inside, where a definition has no piece
+abbrev pub names_after_start : List (List ℕ) → Tag → List (List ℕ)
+names_after_start names (tag.FootnoteDefinition label) = named names label
+names_after_start names _ = names
+
+abbrev pub names_after : List (List ℕ) → Event → List (List ℕ)
+names_after names (Start tag) = names_after_start names tag
+names_after names (FootnoteReference label) = named names label
+names_after names _ = names
+
+abbrev pub names_after_inside : List (List ℕ) → Event → List (List ℕ)
+names_after_inside names (FootnoteReference label) = named names label
+names_after_inside names _ = names
+
 -- what is kept behind an event; behind an image the writer is at no line start
-abbrev pub moved_in : Option OpenImage → Bool → Event → Writing
-moved_in None at_start e = record { line_start = line_start_after at_start e; image = opened_image e }
-moved_in (Some image) at_start e = record { line_start = false; image = still_open image e }
+abbrev pub moved_outside : Writing → Event → Writing
+moved_outside w e = record {
+  line_start = line_start_after w e;
+  image = opened_image e;
+  in_metadata = metadata_after w.in_metadata e;
+  table = table_after w.table e;
+  names = names_after w.names e;
+}
+
+abbrev pub moved_inside : Writing → OpenImage → Event → Writing
+moved_inside w image e = record {
+  line_start = false;
+  image = still_open image e;
+  in_metadata = w.in_metadata;
+  table = w.table;
+  names = names_after_inside w.names e;
+}
+
+abbrev pub moved_in : Option OpenImage → Writing → Event → Writing
+moved_in None w e = moved_outside w e
+moved_in (Some image) w e = moved_inside w image e
 
 abbrev pub moved : Writing → Event → Writing
-moved w e = moved_in w.image w.line_start e
+moved w e = moved_in w.image w e
 
 abbrev pub moved_all : Writing → List Event → Writing
 moved_all w [] = w

@@ -2,7 +2,8 @@
 
 use pulldown_cmark::html::push_html;
 use pulldown_cmark::{
-    BlockQuoteKind, CodeBlockKind, CowStr, Event, HeadingLevel, LinkType, Tag, TagEnd,
+    Alignment, BlockQuoteKind, CodeBlockKind, CowStr, Event, HeadingLevel, LinkType,
+    MetadataBlockKind, Tag, TagEnd,
 };
 use std::alloc::{AllocError, Global};
 use std::test::Fail;
@@ -281,6 +282,134 @@ fn writes_images(rt: HostRuntime) -> Result<(), Fail> {
     assert_eq!(rt;
         html_behind(alloc, "", leaves)?.as_str(),
         "<img src=\"d\" alt=\"$a&#x27;$ $$b$$ &lt;i&gt; [x][ ]\n\" />\n<hr />\n"
+    );
+    Ok(())
+}
+
+/// A cell's events.
+fn push_cell<'a>(events: &mut Vec<Event<'a>>, text: &'a str) -> Result<(), AllocError> {
+    events.push(Event::Start(Tag::TableCell))?;
+    events.push(Event::Text(text_of(text)))?;
+    events.push(Event::End(TagEnd::TableCell))?;
+    Ok(())
+}
+
+#[test]
+fn writes_tables(rt: HostRuntime) -> Result<(), Fail> {
+    let alloc = rt.alloc();
+    let alignments = vec![in alloc;
+        Alignment::Left,
+        Alignment::None,
+        Alignment::Center,
+        Alignment::Right,
+    ]?;
+    let mut events = vec![in alloc;
+        Event::Start(Tag::Table(alignments)),
+        Event::Start(Tag::TableHead),
+    ]?;
+    push_cell(&mut events, "a")?;
+    push_cell(&mut events, "b")?;
+    events.push(Event::End(TagEnd::TableHead))?;
+    events.push(Event::Start(Tag::TableRow))?;
+    for text in ["c", "d", "e", "f", "g"] {
+        push_cell(&mut events, text)?;
+    }
+    events.push(Event::End(TagEnd::TableRow))?;
+    events.push(Event::End(TagEnd::Table))?;
+    assert_eq!(rt;
+        html_behind(alloc, "", events)?.as_str(),
+        "<table><thead><tr><th style=\"text-align: left\">a</th><th>b</th></tr></thead><tbody>\n\
+         <tr><td style=\"text-align: left\">c</td><td>d</td><td style=\"text-align: center\">e</td>\
+         <td style=\"text-align: right\">f</td><td>g</td></tr>\n</tbody></table>\n"
+    );
+    Ok(())
+}
+
+#[test]
+fn aligns_by_the_last_table(rt: HostRuntime) -> Result<(), Fail> {
+    let alloc = rt.alloc();
+    let mut events = Vec::new(alloc);
+    push_cell(&mut events, "a")?;
+    let alignments = vec![in alloc; Alignment::Left, Alignment::Right]?;
+    events.push(Event::Start(Tag::Table(alignments)))?;
+    push_cell(&mut events, "b")?;
+    events.push(Event::End(TagEnd::TableHead))?;
+    push_cell(&mut events, "c")?;
+    events.push(Event::Start(Tag::TableHead))?;
+    push_cell(&mut events, "d")?;
+    assert_eq!(rt;
+        html_behind(alloc, "", events)?.as_str(),
+        "<th>a</th><table><th style=\"text-align: right\">b</th></tr></thead><tbody>\n<td>c</td>\
+         <thead><tr><th style=\"text-align: left\">d</th>"
+    );
+    Ok(())
+}
+
+#[test]
+fn writes_no_text_of_metadata(rt: HostRuntime) -> Result<(), Fail> {
+    let alloc = rt.alloc();
+    let events = vec![in alloc;
+        Event::Start(Tag::MetadataBlock(MetadataBlockKind::YamlStyle)),
+        Event::Text(text_of("a")),
+        image("d", ""),
+        Event::Text(text_of("b")),
+        Event::End(TagEnd::Image),
+        Event::End(TagEnd::MetadataBlock(MetadataBlockKind::YamlStyle)),
+        Event::Start(Tag::Paragraph),
+        Event::Text(text_of("c")),
+        Event::End(TagEnd::Paragraph),
+    ]?;
+    assert_eq!(rt;
+        html_behind(alloc, "", events)?.as_str(),
+        "<img src=\"d\" alt=\"b\" />\n<p>c</p>\n"
+    );
+    let text_alone = vec![in alloc;
+        Event::Start(Tag::MetadataBlock(MetadataBlockKind::PlusesStyle)),
+        Event::Text(text_of("a")),
+        Event::End(TagEnd::MetadataBlock(MetadataBlockKind::PlusesStyle)),
+        Event::Rule,
+    ]?;
+    assert_eq!(rt; html_behind(alloc, "", text_alone)?.as_str(), "<hr />\n");
+    Ok(())
+}
+
+#[test]
+fn numbers_footnotes_as_they_come(rt: HostRuntime) -> Result<(), Fail> {
+    let alloc = rt.alloc();
+    let events = vec![in alloc;
+        Event::Start(Tag::Paragraph),
+        Event::Text(text_of("a")),
+        Event::FootnoteReference(text_of("1")),
+        Event::End(TagEnd::Paragraph),
+        Event::Start(Tag::FootnoteDefinition(text_of("1"))),
+        Event::Start(Tag::Paragraph),
+        Event::Text(text_of("b")),
+        Event::End(TagEnd::Paragraph),
+        Event::End(TagEnd::FootnoteDefinition),
+    ]?;
+    assert_eq!(rt;
+        html_behind(alloc, "", events)?.as_str(),
+        "<p>a<sup class=\"footnote-reference\"><a href=\"#1\">1</a></sup></p>\n\
+         <div class=\"footnote-definition\" id=\"1\"><sup class=\"footnote-definition-label\">1</sup>\n\
+         <p>b</p>\n</div>\n"
+    );
+    let mixed = vec![in alloc;
+        Event::Start(Tag::FootnoteDefinition(text_of("\""))),
+        Event::End(TagEnd::FootnoteDefinition),
+        image("d", ""),
+        Event::FootnoteReference(text_of("A")),
+        Event::Start(Tag::FootnoteDefinition(text_of("b"))),
+        Event::End(TagEnd::FootnoteDefinition),
+        Event::End(TagEnd::Image),
+        Event::FootnoteReference(text_of("a")),
+        Event::FootnoteReference(text_of("A")),
+    ]?;
+    assert_eq!(rt;
+        html_behind(alloc, "", mixed)?.as_str(),
+        "<div class=\"footnote-definition\" id=\"&quot;\"><sup class=\"footnote-definition-label\">1</sup></div>\n\
+         <img src=\"d\" alt=\"[2]\" />\
+         <sup class=\"footnote-reference\"><a href=\"#a\">3</a></sup>\
+         <sup class=\"footnote-reference\"><a href=\"#A\">2</a></sup>"
     );
     Ok(())
 }

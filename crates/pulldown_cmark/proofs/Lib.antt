@@ -1,3 +1,4 @@
+pub mod FootnoteSteps
 pub mod FrontSteps
 pub mod HtmlSteps
 pub mod ParseSteps

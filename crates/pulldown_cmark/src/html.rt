@@ -8,11 +8,13 @@ ghost use Rattle.cmark_text.specs.Shown.{shown};
 ghost use Rattle.pulldown_cmark.specs.Pushed.{Stops, StopsAt};
 
 mod end;
+mod footnote;
 mod heading;
 mod image;
 mod parts;
 mod start;
 mod state;
+mod table;
 mod writer;
 
 use crate::html::state::Writer;
@@ -20,11 +22,12 @@ use crate::html::writer::{finish, write_event};
 use cmark_text::Event;
 use std::alloc::AllocError;
 
-/// Appends the HTML of the events that the iterator gives, any iterator that ends.
+/// Appends the HTML of the events that the iterator gives, any iterator that ends. An image that they leave open is closed.
 ///
 /// An error item, or want of memory, ends it with that error; the string then holds its old text and a beginning of the
 /// HTML of the events that were given. The iterator is asked no more after its `None` and after an error item. A line feed
-/// that a block wants before it is judged by what this call wrote, not by the string's old text.
+/// that a block wants before it is judged by what this call wrote, not by the string's old text. More than `u64::MAX`
+/// elements open in an image, or cells in a row, count as want of memory.
 ///
 /// ```text
 /// let mut html = String::new(alloc);
@@ -56,7 +59,7 @@ fn push_lent<'a, I: Iterator<Item = Result<Event<'a>, AllocError>>>(
         × (string_bytes out.new ≡ string_bytes out.old ++ html (map shown events))) }
     ensures err { OnErr result (StopsAt I.next_gives iter.old iter.new (string_bytes out.old) (string_bytes out.new)) }
 {
-    let mut writer = Writer::new();
+    let mut writer = Writer::new(*out.allocator());
     while let Some(event) = iter.next() {
         write_event(out, &mut writer, event?)?;
     }

@@ -4,12 +4,14 @@ ghost use Rattle.std.specs.Prelude.{◌≡◌, ◌++◌, ◌==◌, if◌then◌e
 ghost use Rattle.cmark_grammar.specs.Html.{image_start, image_end, alt_text, alt_task_list_marker, piece_inside, deeper, less_deep, still_open};
 ghost use Rattle.cmark_text.specs.Appended.{AppendsFront};
 ghost use Rattle.cmark_text.specs.Shown.{shown};
-ghost use Rattle.pulldown_cmark.specs.Writer.{shown_image};
+ghost use Rattle.pulldown_cmark.specs.Writer.{shown_image, shown_names};
 
+use crate::html::footnote::{FootnoteNames, append_alt_reference};
 use crate::html::parts::{Part, append, append_parts};
 use crate::html::state::OpenImage;
 use cmark_text::Event;
 use cmark_text::escape::escape_html;
+use itoa::Buffer;
 use std::alloc::AllocError;
 
 /// Appends an image up to its alternative text.
@@ -53,17 +55,18 @@ pub fn append_image_end(out: &mut String, title: &str) -> Result<(), AllocError>
 pub fn write_inside<'a>(
     out: &mut String,
     image: OpenImage<'a>,
-    event: &Event<'_>,
+    names: &FootnoteNames<'a>,
+    event: &Event<'a>,
 ) -> Result<Option<OpenImage<'a>>, AllocError>
-    ensures ok { OnOk result (string_bytes out.new ≡ string_bytes out.old ++ piece_inside (shown_image image.entry) (shown event.now)) }
+    ensures ok { OnOk result (string_bytes out.new ≡ string_bytes out.old ++ piece_inside (shown_names names.now) (shown_image image.entry) (shown event.now)) }
     ensures state { IfOk result (λ next. option_map shown_image next ≡ still_open (shown_image image.entry) (shown event.now)) }
-    ensures err { OnErr result (AppendsFront (string_bytes out.old) (string_bytes out.new) (piece_inside (shown_image image.entry) (shown event.now))) }
+    ensures err { OnErr result (AppendsFront (string_bytes out.old) (string_bytes out.new) (piece_inside (shown_names names.now) (shown_image image.entry) (shown event.now))) }
 {
     match event {
         Event::Start(_) => Ok(Some(deepen(image)?)),
         Event::End(_) => write_end_inside(out, image),
         _ => {
-            append_alt_text(out, event)?;
+            append_alt_text(out, names, event)?;
             Ok(Some(image))
         }
     }
@@ -102,12 +105,19 @@ fn write_end_inside<'a>(
 }
 
 /// Appends what an event adds to an alternative text.
-fn append_alt_text(out: &mut String, event: &Event<'_>) -> Result<(), AllocError>
-    ensures ok { OnOk result (string_bytes out.new ≡ string_bytes out.old ++ alt_text (shown event.now)) }
-    ensures err { OnErr result (AppendsFront (string_bytes out.old) (string_bytes out.new) (alt_text (shown event.now))) }
+fn append_alt_text<'a>(
+    out: &mut String,
+    names: &FootnoteNames<'a>,
+    event: &Event<'a>,
+) -> Result<(), AllocError>
+    ensures ok { OnOk result (string_bytes out.new ≡ string_bytes out.old ++ alt_text (shown_names names.now) (shown event.now)) }
+    ensures err { OnErr result (AppendsFront (string_bytes out.old) (string_bytes out.new) (alt_text (shown_names names.now) (shown event.now))) }
 {
     match event {
-        Event::Start(_) | Event::End(_) | Event::Html(_) | Event::FootnoteReference(_) => Ok(()),
+        Event::Start(_) | Event::End(_) | Event::Html(_) => Ok(()),
+        Event::FootnoteReference(name) => {
+            append_alt_reference(out, Buffer::new().format(names.number(name)))
+        }
         Event::Text(text) | Event::Code(text) | Event::InlineHtml(text) => {
             escape_html(out, text.as_str())
         }

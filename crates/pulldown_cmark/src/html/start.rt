@@ -5,20 +5,28 @@ ghost use Rattle.cmark_grammar.specs.Html.{start_piece, line_start_after_start, 
 ghost use Rattle.cmark_text.specs.Appended.{AppendsFront};
 ghost use Rattle.cmark_text.specs.Shown.{shown_tag, shown_block_quote_kind, shown_code_block_kind, shown_link_type};
 ghost use Rattle.pulldown_cmark.specs.Parts.{linked};
+ghost use Rattle.pulldown_cmark.specs.Writer.{writing};
 
+use crate::html::footnote::append_footnote_start;
 use crate::html::heading::append_heading;
 use crate::html::image::append_image_start;
 use crate::html::parts::{Part, append, append_parts, new_line};
+use crate::html::state::Writer;
 use cmark_text::{BlockQuoteKind, CodeBlockKind, LinkType, Tag};
 use itoa::Buffer;
 use memchr::memchr;
 use std::alloc::AllocError;
 
 /// Appends the piece of a start.
-pub fn append_start(out: &mut String, line_start: bool, tag: &Tag<'_>) -> Result<(), AllocError>
-    ensures ok { OnOk result (string_bytes out.new ≡ string_bytes out.old ++ start_piece line_start (shown_tag tag.now)) }
-    ensures err { OnErr result (AppendsFront (string_bytes out.old) (string_bytes out.new) (start_piece line_start (shown_tag tag.now))) }
+pub fn append_start<'a>(
+    out: &mut String,
+    writer: &Writer<'a>,
+    tag: &Tag<'a>,
+) -> Result<(), AllocError>
+    ensures ok { OnOk result (string_bytes out.new ≡ string_bytes out.old ++ start_piece (writing writer.now) (shown_tag tag.now)) }
+    ensures err { OnErr result (AppendsFront (string_bytes out.old) (string_bytes out.new) (start_piece (writing writer.now) (shown_tag tag.now))) }
 {
+    let line_start = writer.line_start;
     match tag {
         Tag::Paragraph => append_parts(out, &[Part::Raw(new_line(line_start)), Part::Raw("<p>")]),
         Tag::Heading {
@@ -61,13 +69,16 @@ pub fn append_start(out: &mut String, line_start: bool, tag: &Tag<'_>) -> Result
             id: _,
         } => append_link(out, *link_type, dest_url.as_str(), title.as_str()),
         Tag::Image { dest_url, .. } => append_image_start(out, dest_url.as_str()),
-        Tag::HtmlBlock
-        | Tag::FootnoteDefinition(_)
-        | Tag::Table(_)
-        | Tag::TableHead
-        | Tag::TableRow
-        | Tag::TableCell
-        | Tag::MetadataBlock(_) => Ok(()),
+        Tag::Table(_) => append(out, "<table>"),
+        Tag::TableHead => append(out, "<thead><tr>"),
+        Tag::TableRow => append(out, "<tr>"),
+        Tag::TableCell => writer.table.append_cell_start(out),
+        Tag::FootnoteDefinition(name) => {
+            let mut buffer = Buffer::new();
+            let digits = buffer.format(writer.names.number(name));
+            append_footnote_start(out, line_start, name.as_str(), digits)
+        }
+        Tag::HtmlBlock | Tag::MetadataBlock(_) => Ok(()),
     }
 }
 
@@ -81,8 +92,13 @@ pub fn line_start_after_start(line_start: bool, tag: &Tag<'_>) -> bool
         | Tag::Heading { .. }
         | Tag::CodeBlock(_)
         | Tag::Item
+        | Tag::FootnoteDefinition(_)
         | Tag::DefinitionListTitle
         | Tag::DefinitionListDefinition
+        | Tag::Table(_)
+        | Tag::TableHead
+        | Tag::TableRow
+        | Tag::TableCell
         | Tag::Emphasis
         | Tag::Strong
         | Tag::Strikethrough
@@ -90,13 +106,7 @@ pub fn line_start_after_start(line_start: bool, tag: &Tag<'_>) -> bool
         | Tag::Subscript
         | Tag::Link { .. }
         | Tag::Image { .. } => false,
-        Tag::HtmlBlock
-        | Tag::FootnoteDefinition(_)
-        | Tag::Table(_)
-        | Tag::TableHead
-        | Tag::TableRow
-        | Tag::TableCell
-        | Tag::MetadataBlock(_) => line_start,
+        Tag::HtmlBlock | Tag::MetadataBlock(_) => line_start,
     }
 }
 

@@ -1,19 +1,22 @@
 //! The pieces of events.
 
-ghost use Rattle.std.specs.Prelude.{◌≡◌, ◌++◌, OnOk, OnErr, None, codes, option_map, string_bytes};
+ghost use Rattle.std.specs.Prelude.{◌≡◌, ◌++◌, IfOk, OnOk, OnErr, codes, option_map, string_bytes};
 ghost use Rattle.cmark_grammar.specs.Escapes.{escaped_body_text, escaped_html};
-ghost use Rattle.cmark_grammar.specs.Html.{piece, piece_outside, moved, moved_in, opened_image, last_piece, line_start_after, line_start_after_html, ends_in_line_feed, task_list_marker};
+ghost use Rattle.cmark_grammar.specs.Html.{piece, piece_outside, moved, moved_outside, metadata_after, table_after, table_after_start, names_after, names_after_start, names_after_inside, opened_by, opened_image, last_piece, line_start_after, line_start_after_html, ends_in_line_feed, task_list_marker};
 ghost use Rattle.cmark_text.specs.Appended.{AppendsFront};
-ghost use Rattle.cmark_text.specs.Shown.{shown};
-ghost use Rattle.pulldown_cmark.specs.Writer.{shown_image, writing};
+ghost use Rattle.cmark_text.specs.Shown.{shown, shown_tag};
+ghost use Rattle.pulldown_cmark.specs.Writer.{shown_image, shown_names, shown_table, writing};
 
 use crate::html::end::{append_end, line_start_after_end};
+use crate::html::footnote::{FootnoteNames, append_footnote_reference};
 use crate::html::image::{append_image_end, write_inside};
 use crate::html::parts::{Part, append, append_parts, new_line};
 use crate::html::start::{append_start, line_start_after_start};
 use crate::html::state::{OpenImage, Writer};
+use crate::html::table::TableState;
 use cmark_text::escape::escape_html_body_text;
-use cmark_text::{Event, Tag};
+use cmark_text::{Event, Tag, TagEnd};
+use itoa::Buffer;
 use std::alloc::AllocError;
 
 /// Appends the piece of an event.
@@ -29,9 +32,9 @@ pub fn write_event<'a>(
     match writer.image.take() {
         None => write_outside(out, writer, event),
         Some(image) => {
-            writer.image = write_inside(out, image, &event)?;
+            writer.image = write_inside(out, image, &writer.names, &event)?;
             writer.line_start = false;
-            Ok(())
+            keep_inside(&mut writer.names, event)
         }
     }
 }
@@ -42,14 +45,93 @@ fn write_outside<'a>(
     writer: &mut Writer<'a>,
     event: Event<'a>,
 ) -> Result<(), AllocError>
-    ensures ok { OnOk result (string_bytes out.new ≡ string_bytes out.old ++ piece_outside writer.old.line_start (shown event.entry)) }
-    ensures state { OnOk result (writing writer.new ≡ moved_in None writer.old.line_start (shown event.entry)) }
-    ensures err { OnErr result (AppendsFront (string_bytes out.old) (string_bytes out.new) (piece_outside writer.old.line_start (shown event.entry))) }
+    ensures ok { OnOk result (string_bytes out.new ≡ string_bytes out.old ++ piece_outside (writing writer.old) (shown event.entry)) }
+    ensures state { OnOk result (writing writer.new ≡ moved_outside (writing writer.old) (shown event.entry)) }
+    ensures err { OnErr result (AppendsFront (string_bytes out.old) (string_bytes out.new) (piece_outside (writing writer.old) (shown event.entry))) }
 {
-    append_piece(out, writer.line_start, &event)?;
-    writer.line_start = line_start_after(writer.line_start, &event);
-    writer.image = opened_image(event);
+    append_piece(out, writer, &event)?;
+    writer.line_start = line_start_after(writer, &event);
+    writer.in_metadata = metadata_after(writer.in_metadata, &event);
+    writer.image = keep_event(&mut writer.table, &mut writer.names, event)?;
     Ok(())
+}
+
+/// Keeps what an event inside of an image says.
+fn keep_inside<'a>(names: &mut FootnoteNames<'a>, event: Event<'a>) -> Result<(), AllocError>
+    ensures { OnOk result (shown_names names.new ≡ names_after_inside (shown_names names.old) (shown event.entry)) }
+{
+    match event {
+        Event::FootnoteReference(name) => names.add(name),
+        _ => Ok(()),
+    }
+}
+
+/// Keeps what an event says of the table and of footnotes, and answers the image that it opens.
+fn keep_event<'a>(
+    table: &mut TableState,
+    names: &mut FootnoteNames<'a>,
+    event: Event<'a>,
+) -> Result<Option<OpenImage<'a>>, AllocError>
+    ensures table { OnOk result (shown_table table.new ≡ table_after (shown_table table.old) (shown event.entry)) }
+    ensures names { OnOk result (shown_names names.new ≡ names_after (shown_names names.old) (shown event.entry)) }
+    ensures image { IfOk result (λ image. option_map shown_image image ≡ opened_image (shown event.entry)) }
+{
+    match event {
+        Event::Start(tag) => keep_start(table, names, tag),
+        Event::End(tag) => {
+            table.end(tag)?;
+            Ok(None)
+        }
+        Event::FootnoteReference(name) => {
+            names.add(name)?;
+            Ok(None)
+        }
+        _ => Ok(None),
+    }
+}
+
+/// The same for a start.
+fn keep_start<'a>(
+    table: &mut TableState,
+    names: &mut FootnoteNames<'a>,
+    tag: Tag<'a>,
+) -> Result<Option<OpenImage<'a>>, AllocError>
+    ensures table { OnOk result (shown_table table.new ≡ table_after_start (shown_table table.old) (shown_tag tag.entry)) }
+    ensures names { OnOk result (shown_names names.new ≡ names_after_start (shown_names names.old) (shown_tag tag.entry)) }
+    ensures image { IfOk result (λ image. option_map shown_image image ≡ opened_by (shown_tag tag.entry)) }
+{
+    match tag {
+        Tag::Image { title, .. } => Ok(Some(OpenImage { depth: 0, title })),
+        Tag::FootnoteDefinition(name) => {
+            names.add(name)?;
+            Ok(None)
+        }
+        Tag::Table(alignments) => {
+            table.alignments = alignments;
+            Ok(None)
+        }
+        Tag::TableHead => {
+            table.in_head = true;
+            table.column = 0;
+            Ok(None)
+        }
+        Tag::TableRow => {
+            table.column = 0;
+            Ok(None)
+        }
+        _ => Ok(None),
+    }
+}
+
+/// Whether a metadata block is open behind an event.
+fn metadata_after(in_metadata: bool, event: &Event<'_>) -> bool
+    ensures { result ≡ metadata_after in_metadata (shown event.now) }
+{
+    match event {
+        Event::Start(Tag::MetadataBlock(_)) => true,
+        Event::End(TagEnd::MetadataBlock(_)) => false,
+        _ => in_metadata,
+    }
 }
 
 /// Appends what closes an image that is open behind the last event.
@@ -63,24 +145,19 @@ pub fn finish(out: &mut String, writer: &Writer<'_>) -> Result<(), AllocError>
     }
 }
 
-/// The image that an event opens.
-fn opened_image(event: Event<'_>) -> Option<OpenImage<'_>>
-    ensures { option_map shown_image result ≡ opened_image (shown event.entry) }
-{
-    match event {
-        Event::Start(Tag::Image { title, .. }) => Some(OpenImage { depth: 0, title }),
-        _ => None,
-    }
-}
-
 /// Appends this piece, which an event has outside of images.
-fn append_piece(out: &mut String, line_start: bool, event: &Event<'_>) -> Result<(), AllocError>
-    ensures ok { OnOk result (string_bytes out.new ≡ string_bytes out.old ++ piece_outside line_start (shown event.now)) }
-    ensures err { OnErr result (AppendsFront (string_bytes out.old) (string_bytes out.new) (piece_outside line_start (shown event.now))) }
+fn append_piece<'a>(
+    out: &mut String,
+    writer: &Writer<'a>,
+    event: &Event<'a>,
+) -> Result<(), AllocError>
+    ensures ok { OnOk result (string_bytes out.new ≡ string_bytes out.old ++ piece_outside (writing writer.now) (shown event.now)) }
+    ensures err { OnErr result (AppendsFront (string_bytes out.old) (string_bytes out.new) (piece_outside (writing writer.now) (shown event.now))) }
 {
     match event {
-        Event::Start(tag) => append_start(out, line_start, tag),
-        Event::End(tag) => append_end(out, *tag),
+        Event::Start(tag) => append_start(out, writer, tag),
+        Event::End(tag) => append_end(out, writer.table.in_head, *tag),
+        Event::Text(_) if writer.in_metadata => Ok(()),
         Event::Text(text) => escape_html_body_text(out, text.as_str()),
         Event::Code(text) => append_parts(
             out,
@@ -107,30 +184,40 @@ fn append_piece(out: &mut String, line_start: bool, event: &Event<'_>) -> Result
             ],
         ),
         Event::Html(text) | Event::InlineHtml(text) => append(out, text.as_str()),
-        Event::FootnoteReference(_) => Ok(()),
+        Event::FootnoteReference(name) => {
+            let mut buffer = Buffer::new();
+            let digits = buffer.format(writer.names.number(name));
+            append_footnote_reference(out, name.as_str(), digits)
+        }
         Event::SoftBreak => append(out, "\n"),
         Event::HardBreak => append(out, "<br />\n"),
         Event::Rule => append_parts(
             out,
-            &[Part::Raw(new_line(line_start)), Part::Raw("<hr />\n")],
+            &[
+                Part::Raw(new_line(writer.line_start)),
+                Part::Raw("<hr />\n"),
+            ],
         ),
         Event::TaskListMarker(is_checked) => append(out, task_list_marker_text(*is_checked)),
     }
 }
 
 /// Whether the writer is at a line start behind an event outside of images.
-fn line_start_after(line_start: bool, event: &Event<'_>) -> bool
-    ensures { result ≡ line_start_after line_start (shown event.now) }
+fn line_start_after(writer: &Writer<'_>, event: &Event<'_>) -> bool
+    ensures { result ≡ line_start_after (writing writer.now) (shown event.now) }
 {
     match event {
-        Event::Start(tag) => line_start_after_start(line_start, tag),
-        Event::End(tag) => line_start_after_end(line_start, *tag),
+        Event::Start(tag) => line_start_after_start(writer.line_start, tag),
+        Event::End(tag) => line_start_after_end(writer.line_start, *tag),
+        Event::Text(_) if writer.in_metadata => writer.line_start,
         Event::Text(text) => ends_in_line_feed(text.as_str()),
         Event::Html(text) | Event::InlineHtml(text) => {
-            line_start_after_html(line_start, text.as_str())
+            line_start_after_html(writer.line_start, text.as_str())
         }
-        Event::Code(_) | Event::InlineMath(_) | Event::DisplayMath(_) => false,
-        Event::FootnoteReference(_) => line_start,
+        Event::Code(_)
+        | Event::InlineMath(_)
+        | Event::DisplayMath(_)
+        | Event::FootnoteReference(_) => false,
         Event::SoftBreak | Event::HardBreak | Event::Rule | Event::TaskListMarker(_) => true,
     }
 }
