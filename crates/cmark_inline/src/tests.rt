@@ -85,7 +85,7 @@ fn events<'a, F: BrokenLinkCallback<'a>>(
     };
     let entities = BasicEntities;
     let reader = Reader::new(&entities, references, options);
-    let mut state = InlineState::new(alloc, 0);
+    let mut state: InlineState<'a> = InlineState::new(alloc, 0);
     state.resolve(&leaf, &reader, callback)?;
     for _ in 0..500 {
         let Some(given) = state.next(&leaf)? else {
@@ -152,7 +152,7 @@ impl<'input> BrokenLinkCallback<'input> for Noted {
 /// What is asked about a source that is one leaf.
 fn asked_of(
     alloc: Global,
-    source: &str,
+    source: &'static str,
     references: &RefDefs<'static>,
     answers: bool,
 ) -> Result<String, Fail> {
@@ -166,7 +166,11 @@ fn asked_of(
 }
 
 /// The events of a source that is one leaf, with these definitions.
-fn defined_in(alloc: Global, source: &str, references: &RefDefs<'static>) -> Result<String, Fail> {
+fn defined_in(
+    alloc: Global,
+    source: &'static str,
+    references: &RefDefs<'static>,
+) -> Result<String, Fail> {
     let mut callback = DefaultBrokenLinkCallback;
     let leaf = whole(alloc, source)?;
     events(alloc, leaf, references, Options::empty(), &mut callback)
