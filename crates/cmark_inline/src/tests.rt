@@ -84,7 +84,13 @@ fn events<'a, F: BrokenLinkCallback<'a>>(
         return Ok(out);
     };
     let entities = BasicEntities;
-    let reader = Reader::new(&entities, references, options);
+    let special = special_bytes(options);
+    let reader = Reader {
+        entities: &entities,
+        references,
+        options,
+        special: &special,
+    };
     let mut state: InlineState<'a> = InlineState::new(alloc, 0);
     state.resolve(&leaf, &reader, callback)?;
     for _ in 0..500 {
