@@ -1,4 +1,5 @@
 pub mod Asking
+pub mod Elements
 pub mod Linked
 pub mod Opens
 pub mod Quoted

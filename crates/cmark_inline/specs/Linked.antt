@@ -1,11 +1,12 @@
 -- What a reference leads to: what its definition says, or what the callback answers.
-use Rattle.std.specs.Prelude.{◌≡◌, ◌-◌, ℕ, length, List, [], drop, Option, Some, None, Bool, false, if◌then◌else◌, option_map}
+use Rattle.std.specs.Prelude.{◌≡◌, ◌+◌, ◌-◌, ℕ, length, List, [], drop, Option, Some, None, Bool, false, if◌then◌else◌, option_map}
 use Rattle.cmark_grammar.specs.Labels.{fold, normal_form}
 use Rattle.cmark_grammar.specs.LinkDefinitions.{Found}
-use Rattle.cmark_grammar.specs.LinkTails.{behind_collapsed, is_bracketed_label, reference_label_in}
+use Rattle.cmark_grammar.specs.LinkTails.{LinkTail, behind_collapsed, is_bracketed_label, reference_label_in, title_lines}
 use Rattle.cmark_grammar.specs.LinkType as link
 use Rattle.cmark_text.specs.declared.kind.LinkType.{LinkType}
-use Rattle.cmark_grammar.specs.Tokens.{slice}
+use Rattle.cmark_grammar.specs.Answers.{Lookup}
+use Rattle.cmark_grammar.specs.Tokens.{resolved, slice}
 use Rattle.cmark_items.specs.Definitions.{definition}
 use Rattle.cmark_items.specs.declared.definitions.LinkDef.{LinkDef}
 use Rattle.cmark_text.specs.Shown.{shown_link_type, text_bytes}
@@ -101,3 +102,33 @@ Refers R None form label start end before after found = (destination : Option De
 abbrev pub left_behind : (left : ℕ) → Option Target → ℕ
 left_behind left None = left
 left_behind left (Some target) = (left - length (text_bytes target.parts.dest_url)) - length (text_bytes target.parts.title)
+
+-- an inline link, and what is behind it; it has no id
+pub record InlineLink : Type 0 where
+  pub form : link.LinkType
+  pub id : List ℕ
+  pub said : Said
+  pub behind : List ℕ
+
+abbrev pub resolved_title : Lookup → Option (List ℕ) → List ℕ
+resolved_title lookup None = []
+resolved_title lookup (Some title) = resolved lookup (title_lines title)
+
+-- its destination and its title with escapes and entities resolved (CommonMark 6.3)
+abbrev pub inline_link : Lookup → LinkTail → InlineLink
+inline_link lookup tail = record {
+  form = link.Inline;
+  id = [];
+  said = record { destination = resolved lookup tail.destination; title = resolved_title lookup tail.title };
+  behind = tail.behind;
+}
+
+abbrev pub shown_target : (text : List ℕ) → Target → InlineLink
+shown_target text target = record { form = shown_link_type target.parts.link_type; id = text_bytes target.parts.id; said = said_in target.parts; behind = drop target.end text }
+
+-- an autolink (CommonMark 6.5): its destination are the bytes between the angle brackets
+pub record IsAutolink (text : List ℕ) (at end : ℕ) (parts : LinkParts) : Type 0 where
+  pub form : shown_link_type parts.link_type ≡ link.Autolink
+  pub destination : text_bytes parts.dest_url ≡ slice text (at + 1) (end - 1)
+  pub title : text_bytes parts.title ≡ []
+  pub id : text_bytes parts.id ≡ []

@@ -1,8 +1,10 @@
 //! Delimiter runs and the elements that they become (CommonMark 6.2).
 
 ghost use Rattle.std.specs.Prelude.{◌≡◌, ◌+◌, ◌≤◌, ℕ, false, List, [], length, map, OnOk, IfOk, IfSome};
-ghost use Rattle.cmark_emphasis.specs.Shown.{shown_run};
+ghost use Rattle.cmark_emphasis.specs.Shown.{shown_kind, shown_run};
 ghost use Rattle.cmark_emphasis.specs.Slots.{AreRuns};
+ghost use Rattle.cmark_text.specs.Shown.{shown_options};
+ghost use Rattle.cmark_inline.specs.Elements.{IsElementOf};
 ghost use Rattle.cmark_inline.specs.Stands.{AreSlots, NoNewLink, bytes_of, is_link};
 
 use crate::slot::{Element, Slot, begin, merge, use_up};
@@ -200,7 +202,8 @@ fn end_last(slots: &mut Vec<Slot>, slot: usize, element: Element, begun: &mut Ve
 
 /// What stands around a span, by the options. Double tildes without strikethrough make one text of all (this profile's own).
 fn element_of(kind: SpanKind, options: Options) -> Option<Element>
-    ensures { IfSome result (λ element. is_link element ≡ false) }
+    ensures value { IsElementOf (shown_options options) (shown_kind kind) result }
+    ensures links { IfSome result (λ element. is_link element ≡ false) }
 {
     match kind {
         SpanKind::Emphasis => Some(Element::Emphasis),

@@ -1,12 +1,14 @@
 //! Links and images: what stands behind their closing bracket (CommonMark 6.3 and 6.4).
 
-ghost use Rattle.std.specs.Prelude.{◌≡◌, ◌<◌, ◌≤◌, ◌+◌, drop, IfOk, IfSome, length, option_map};
+ghost use Rattle.std.specs.Prelude.{◌≡◌, ◌<◌, ◌≤◌, ◌+◌, List, ℕ, drop, IfOk, IfSome, length, option_copied, option_map};
 ghost use Rattle.std.specs.Str.{IsCharBoundary};
 ghost use Rattle.cmark_leaf_text.specs.Reads.{IsRead, IsPart, text_of};
 ghost use Rattle.cmark_grammar.specs.Labels.{fold};
+ghost use Rattle.cmark_grammar.specs.LinkTails.{link_tail_in};
 ghost use Rattle.cmark_grammar.specs.Tokens.{slice};
+ghost use Rattle.cmark_text.specs.Shown.{text_bytes};
 ghost use Rattle.cmark_items.specs.Definitions.{definition};
-ghost use Rattle.cmark_inline.specs.Linked.{by_own_label, reference_behind, said_by, shown_asked, shown_destination};
+ghost use Rattle.cmark_inline.specs.Linked.{by_own_label, inline_link, reference_behind, resolved_title, said_by, shown_asked, shown_destination, shown_target};
 ghost use Rattle.cmark_inline.specs.Stands.{IsAsked, IsBracket, IsTarget};
 
 use crate::bracket::Bracket;
@@ -56,16 +58,14 @@ fn inline_in<'t, E: EntityLookup>(
     entities: &E,
 ) -> Result<Option<Target<'t>>, AllocError>
     requires { IsCharBoundary text.now at }
-    ensures { IfOk result (λ found. IfSome found (IsTarget text.entry.now at)) }
+    ensures value { IfOk result (λ found. option_map (shown_target text.entry.now) found ≡ option_map (inline_link (E.replacement entities.now)) (link_tail_in (drop at text.entry.now))) }
+    ensures target { IfOk result (λ found. IfSome found (IsTarget text.entry.now at)) }
 {
     let Some(tail) = link_tail(text, at) else {
         return Ok(None);
     };
     let dest_url = unescape(alloc, CowStr::Borrowed(tail.destination), false, entities)?;
-    let title = match tail.title {
-        Some(title) => title_text(alloc, title, entities)?,
-        None => CowStr::Borrowed(""),
-    };
+    let title = resolved_title(alloc, tail.title, entities)?;
     Ok(Some(Target {
         parts: LinkParts {
             link_type: LinkType::Inline,
@@ -78,9 +78,24 @@ fn inline_in<'t, E: EntityLookup>(
     }))
 }
 
+/// The text of a title, which is empty where there is none.
+fn resolved_title<'t, E: EntityLookup>(
+    alloc: Global,
+    title: Option<&'t str>,
+    entities: &E,
+) -> Result<CowStr<'t>, AllocError>
+    ensures { IfOk result (λ made. text_bytes made ≡ resolved_title (E.replacement entities.now) (option_copied title.entry)) }
+{
+    match title {
+        Some(title) => title_text(alloc, title, entities),
+        None => Ok(CowStr::Borrowed("")),
+    }
+}
+
 /// The same in a value that borrows nothing.
 fn own_target(alloc: Global, target: Target<'_>) -> Result<Target<'static>, AllocError>
-    ensures { IfOk result (λ made. (made.end ≡ target.entry.end) × (made.past ≡ target.entry.past)) }
+    ensures value { IfOk result (λ made. (text : List ℕ) → shown_target text made ≡ shown_target text target.entry) }
+    ensures ends { IfOk result (λ made. (made.end ≡ target.entry.end) × (made.past ≡ target.entry.past)) }
 {
     let Target { parts, end, past } = target;
     let LinkParts {
@@ -115,7 +130,8 @@ pub fn inline_target<'a, E: EntityLookup>(
     requires read { IsRead leaf.now }
     requires same { text.now ≡ text_of leaf.now }
     requires place { IsCharBoundary text.now at }
-    ensures { IfOk result (λ found. IfSome found (IsTarget text.now at)) }
+    ensures value { IfOk result (λ found. option_map (shown_target text.now) found ≡ option_map (inline_link (E.replacement entities.now)) (link_tail_in (drop at text.now))) }
+    ensures target { IfOk result (λ found. IfSome found (IsTarget text.now at)) }
 {
     if let Some(source) = leaf.as_source() {
         let found = inline_in(alloc, source, at, entities)?;

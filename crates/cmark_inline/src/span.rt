@@ -1,8 +1,10 @@
 //! Code spans, autolinks and inline HTML (CommonMark 6.1, 6.5 and 6.6).
 
-ghost use Rattle.std.specs.Prelude.{◌≡◌, ◌⊎◌, true, ◌<◌, ◌≤◌, ◌+◌, ◌-◌, ◌++◌, ℕ, List, [], length, slice_index, IfOk, OnOk, IfSome};
+ghost use Rattle.std.specs.Prelude.{◌≡◌, ◌⊎◌, true, ◌<◌, ◌≤◌, ◌+◌, ◌-◌, ◌++◌, ◌∷◌, ℕ, List, [], length, slice_index, IfOk, OnOk, IfSome};
 ghost use Rattle.std.specs.Str.{IsCharBoundary};
 ghost use Rattle.cmark_leaf_text.specs.Reads.{IsRead, IsPart, text_of};
+ghost use Rattle.cmark_inline.specs.Linked.{IsAutolink};
+ghost use Rattle.cmark_inline.specs.declared.link.LinkParts.{LinkParts as Parts};
 ghost use Rattle.cmark_inline.specs.Stands.{AreSlots, AreBrackets, IsBracket, IsCursor, IsSlot, IsTarget, Moves, SameSpans, Stands, bytes_of};
 
 use crate::event::text_between;
@@ -101,6 +103,7 @@ impl<'a> InlineState<'a> {
         requires inside { IsPart text.now (here.at + 1) (end - 1) }
         requires read { IsRead leaf.now }
         requires same { text.now ≡ text_of leaf.now }
+        ensures link { IfOk result (λ next. (parts : Parts) × IsAutolink text.now here.at end parts × (self.new.links.items ≡ self.old.links.items ++ (parts ∷ []))) }
         ensures expansion { self.new.expansion ≡ self.old.expansion }
         ensures moves { IfOk result (Moves text.now here.at self.new) }
     {

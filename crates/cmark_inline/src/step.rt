@@ -131,6 +131,7 @@ impl<'a> InlineState<'a> {
         requires room { length self.old.slots.items < place }
         requires kind { begins_link slot.kind ≡ false }
         ensures expansion { self.new.expansion ≡ self.old.expansion }
+        ensures table { self.new.links ≡ self.old.links }
         ensures stands { OnOk result (Stands text.now place self.new) }
         ensures length { OnOk result (length self.new.slots.items ≡ length self.old.slots.items + 1) }
     {
@@ -144,6 +145,7 @@ impl<'a> InlineState<'a> {
         requires starts { IsCharBoundary text.now here.pending }
         requires stops { IsCharBoundary text.now stop }
         requires ordered { here.pending ≤ stop }
+        ensures table { self.new.links ≡ self.old.links }
         ensures expansion { self.new.expansion ≡ self.old.expansion }
         ensures stands { OnOk result (Stands text.now stop self.new) }
     {
@@ -168,6 +170,7 @@ impl<'a> InlineState<'a> {
         requires further { here.at < slot.end }
         requires kind { begins_link slot.kind ≡ false }
         ensures expansion { self.new.expansion ≡ self.old.expansion }
+        ensures table { self.new.links ≡ self.old.links }
         ensures length { IfOk result (λ next. length self.new.slots.items ≤ stop + 1) }
         ensures moves { IfOk result (Moves text.now here.at self.new) }
         ensures end { IfOk result (λ next. next.pending ≡ slot.end) }

@@ -122,8 +122,8 @@ impl<'a> LeafText<'a> {
         requires part { IsPart (text_of self.now) from to }
         ensures { result.now ≡ slice (source_of self.now) (place_of self.now from) (place_of self.now (to - 1) + 1) }
     {
-        let range = self.range(from, to);
-        &self.source[range.start..range.end]
+        let bytes = self.range(from, to);
+        &self.source[bytes.start..bytes.end]
     }
 
     // The stretches of these lines: each line with its line end, but for the last.
