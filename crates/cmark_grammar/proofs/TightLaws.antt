@@ -10,7 +10,7 @@ use Rattle.cmark_grammar.specs.Openings.{Leaf, ThematicBreak as ThematicBreakLea
 use Rattle.cmark_grammar.specs.Blocks.{Blocks, Nil as NoBlocks, BlankLine, Paragraph as ParagraphBlock, SetextHeading, LeafBlock, ContainerBlock}
 use Rattle.cmark_grammar.specs.Lists.{ListBefore, tight_behind, goes_on, is_tight}
 use Rattle.cmark_grammar.specs.Tokens.{Piece, line_columns, end_place, piece_if, texts_then, words_then, paragraph_tokens, html_then, html_tokens, html_kind_of, verbatim_line, behind_hashes, heading_columns, code_pieces, fenced_lines}
-use Rattle.cmark_grammar.specs.BlockDocument.{BlockKind, Text, OwnedText, SoftBreak, BlockList, ListItem, BlockNode, BlockDocument, Nil, Node, node}
+use Rattle.cmark_grammar.specs.BlockDocument.{Text, OwnedText, SoftBreak, BlockList, ListItem, BlockNode, BlockDocument, Nil, Node, node}
 use Rattle.cmark_grammar.specs.Derivation.{leaf_then, item_then, paragraph_kind, document_of, Derives}
 use Rattle.cmark_grammar.specs.Tightness.{tight_within, IsElement, HasTightParagraphs}
 

@@ -7,7 +7,7 @@ use Rattle.cmark_grammar.specs.Leaves.{run, is_empty}
 use Rattle.cmark_grammar.specs.Rows.{Row, is_bare, first_place, start_of, words_of}
 use Rattle.cmark_grammar.specs.Tokens.{is_hash, without_closing, heading_columns, end_place}
 use Rattle.cmark_grammar.proofs.RowPlaces.{Runs, drop-Runs}
-use Rattle.cmark_grammar.proofs.RowEdges.{Front, IsAsciiColumn, AreGood, drop-good, drop-E, indent-front, is-ascii}
+use Rattle.cmark_grammar.proofs.RowEdges.{Front, IsAsciiColumn, is-ascii}
 use Rattle.cmark_lines.specs.Rests.{row_of}
 use Rattle.cmark_lines.specs.declared.line_rest.LineRest.{LineRest}
 use Rattle.cmark_leaves.specs.Closings.{behind_opening, without_closing_bytes}

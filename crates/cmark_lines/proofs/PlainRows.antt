@@ -1,14 +1,14 @@
 -- A line whose words begin with a letter begins nothing but a paragraph's text.
-use Rattle.std.proofs.Common.{◌≡◌, ℕ, ◌+◌, Bool, true, false, ◌==◌, ◌&&◌, ◌||◌, not, List, [], ◌∷◌, length, drop, take_while, Option, Some, None, refl, sym, ap, ◌∙◌, subst, arith, cond, true≢false}
+use Rattle.std.proofs.Common.{◌≡◌, ℕ, Bool, true, false, ◌==◌, ◌&&◌, ◌||◌, not, List, [], ◌∷◌, length, drop, take_while, Some, None, refl, sym, ap, ◌∙◌, arith, cond, true≢false}
 use Rattle.std.specs.Prelude.{if◌then◌else◌, nat_lt, nat_le, count_by}
 use Rattle.std.proofs.lemmas.List.Sums.{take_while-cons}
 use Rattle.cmark_grammar.specs.Options.{Options}
 use Rattle.cmark_grammar.specs.Columns.{Column, is_blank_byte, without_indent, bytes_of}
-use Rattle.cmark_grammar.specs.Rows.{Row, is_bare, is_blank_line, indent_of, words_of}
-use Rattle.cmark_grammar.specs.Leaves.{Fence, all_pass, is_parted, run, is_break_of, is_thematic_break, is_atx_heading, fence_of, fence_with}
+use Rattle.cmark_grammar.specs.Rows.{Row, is_bare, indent_of, words_of}
+use Rattle.cmark_grammar.specs.Leaves.{all_pass, is_parted, run, is_break_of, is_thematic_break, is_atx_heading, fence_of, fence_with}
 use Rattle.cmark_grammar.specs.Letters.{is_letter, first_is}
 use Rattle.cmark_grammar.specs.HtmlBlocks.{html_kind, kind_behind}
-use Rattle.cmark_grammar.specs.Containers.{Container, is_bullet, is_digit, digits, delimited, marker_of, item_with, item_of, begins_with, is_quote}
+use Rattle.cmark_grammar.specs.Containers.{is_bullet, is_digit, digits, delimited, marker_of, item_with, begins_with}
 use Rattle.cmark_grammar.specs.Openings.{item_interrupts, is_some_fence, html_interrupts, interrupts}
 
 -- a letter is no other byte
