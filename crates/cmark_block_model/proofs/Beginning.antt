@@ -3,7 +3,7 @@ use Rattle.std.proofs.Common.{◌≡◌, ℕ, zero, suc, ◌≤◌, ◌<◌, ◌
 use Rattle.std.specs.Prelude.{nat_le, if◌then◌else◌}
 use Rattle.cmark_grammar.specs.Answers.{Lookup}
 use Rattle.cmark_grammar.specs.Options.{Options}
-use Rattle.cmark_grammar.specs.Rows.{Row, begin_of, words_of, is_blank_line, shown}
+use Rattle.cmark_grammar.specs.Rows.{Row, start_of, begin_of, words_of, is_blank_line, shown}
 use Rattle.cmark_grammar.specs.HtmlBlocks.{holds_end}
 use Rattle.cmark_grammar.specs.Containers.{Container, Quote, Item, enter, strips, is_bare_start}
 use Rattle.cmark_grammar.specs.Openings.{Leaf, ThematicBreak, AtxHeading, IndentedCode, FencedCode, HtmlBlock, LinkDefinition, Opening, Blank, Nests, Takes, Plain, opens}
@@ -182,8 +182,8 @@ module _ (text : List ℕ) (options : Options) (lookup : Lookup) where
           leaf-begins leaf more closed r ahead l outer b n t
           ∙ ap (λ o. pass_with (inner_at text lookup i ahead l) o (bare_at b i) (leaf_at text lookup i) n) (sym (ap (λ x. outer ++ x) (leaf-alone leaf more closed r l) ∙ append-nil outer))
       go Plain q t ih =
-          ap (λ x. pass_with (paragraph_open text lookup r [] (replay text lookup closed l)) outer false (InParagraphLeaf x) n) (sym (whole-same r e))
-          ∙ ap (λ o. pass_with (paragraph_open text lookup r [] (replay text lookup closed l)) o false (InParagraphLeaf (whole r)) n) (sym (append-nil outer))
+          ap (λ x. pass_with (paragraph_open text lookup r [] (replay text lookup closed l)) outer false (InParagraphLeaf (start_of x) x) n) (sym (whole-same r e))
+          ∙ ap (λ o. pass_with (paragraph_open text lookup r [] (replay text lookup closed l)) o false (InParagraphLeaf (start_of r) (whole r)) n) (sym (append-nil outer))
 
   -- where nothing but a blank line may begin, no line that is bare begins something
   not-bare : (b : Bool) (r : Row) (ahead : List Row) → r.lazy ≡ false → (b ≡ true → is_blank_line r ≡ true) → (opens options r ahead ≡ Blank → ⊥) → b ≡ false

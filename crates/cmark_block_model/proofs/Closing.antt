@@ -8,14 +8,14 @@ use Rattle.cmark_grammar.specs.Containers.{is_bare_start, bare_after}
 use Rattle.cmark_grammar.specs.Openings.{Leaf, ThematicBreak, AtxHeading, IndentedCode, FencedCode, HtmlBlock, LinkDefinition}
 use Rattle.cmark_grammar.specs.Blocks.{Blocks, Nil as NoBlocks, Paragraph, LeafBlock, ContainerBlock, join as join_blocks}
 use Rattle.cmark_grammar.specs.BlocksByLine.{Verbatim, Indented, Fenced, HtmlLines, leaf_in, OpenLines, Between, InParagraph, InLeaf, InVerbatim, InContainer, blank_lines, close_lines}
-use Rattle.cmark_grammar.specs.Tokens.{resolved, line_words, stop_at, html_tokens, fenced_lines, code_tokens, code_columns}
+use Rattle.cmark_grammar.specs.Tokens.{resolved, words_end, stretch_then, stop_at, html_tokens, fenced_lines, code_tokens, code_columns}
 use Rattle.cmark_grammar.specs.BlockDocument as document
 use Rattle.cmark_grammar.specs.BlockDocument.{BlockDocument, BlockKind, Nil, Node, node, join}
 use Rattle.cmark_block_model.specs.OpenBlocks.{OpenContainer, Closed}
 use Rattle.cmark_block_model.specs.BlockPass.{close_leaf, is_some, containers_closed, container_closed}
 use Rattle.cmark_block_model.proofs.CodeRuns.{run-tokens}
 use Rattle.cmark_block_model.proofs.Replay.{Level, begun, level_drawn, standing, entered, leaf_level, left_by, blank_level, replay, replay-join}
-use Rattle.cmark_block_model.proofs.Mirror.{last_of, pass_with, leaf_left, AreCode, FitsVerbatim, Fits, lines_drawn, drawn-tokens, verbatim_level, verbatim_leaf, inner_at, leaf_at, container_at, containers_at}
+use Rattle.cmark_block_model.proofs.Mirror.{last_of, last_begin, pass_with, leaf_left, AreCode, FitsVerbatim, Fits, lines_drawn, drawn-tokens, verbatim_level, verbatim_leaf, inner_at, leaf_at, container_at, containers_at}
 
 pub take-none : (n : ℕ) → take {A = Row} n [] ≡ []
 take-none zero = refl
@@ -87,8 +87,8 @@ module _ (text : List ℕ) (options : Options) (lookup : Lookup) where
   leaf-closes (Between closed) b n l outer bare f = refl
   leaf-closes (InParagraph closed first more) b n l outer bare f =
       let c = replay text lookup closed l in
-      ap (λ p. pass_with (noded document.Paragraph (start_of first) p (join (lines_drawn text lookup first more) (line_words text (last_of first more) Nil)) (begun c)) outer bare Closed n) (sym f.1)
-      ∙ ap (λ t. pass_with (noded document.Paragraph (start_of first) (past_of first more) t (begun c)) outer bare Closed n) (sym (drawn-tokens text lookup first more))
+      ap (λ p. pass_with (noded document.Paragraph (start_of first) p (join (lines_drawn text lookup (start_of first) first more) (stretch_then text (last_begin (start_of first) first more) (words_end (last_of first more)) Nil)) (begun c)) outer bare Closed n) (sym f.1)
+      ∙ ap (λ t. pass_with (noded document.Paragraph (start_of first) (past_of first more) t (begun c)) outer bare Closed n) (sym (drawn-tokens text lookup (start_of first) first more))
       ∙ ap (λ q. pass_with q outer bare Closed n) (sym (replay-join text lookup closed (Paragraph first more NoBlocks) l))
   leaf-closes (InLeaf closed leaf first had left) b n l outer bare f =
       leaf-left leaf left (leaf_level text lookup leaf first (had ++ take left []) (replay text lookup closed l)) outer bare n

@@ -5,7 +5,7 @@ use Rattle.cmark_grammar.specs.Answers.{Lookup}
 use Rattle.cmark_grammar.specs.Options.{Options}
 use Rattle.cmark_grammar.specs.Event.{End, Ranged}
 use Rattle.cmark_grammar.specs.TagEnd.{end_of}
-use Rattle.cmark_grammar.specs.BlockDocument.{BlockKind, Paragraph, TightParagraph, Heading, ThematicBreak, IndentedCode, FencedCode, HtmlBlock, LinkDefinition, BlockQuote, BlockList, ListItem, Text, OwnedText, Html, SoftBreak, BlockNode, BlockDocument, Nil, Node}
+use Rattle.cmark_grammar.specs.BlockDocument.{BlockKind, Paragraph, TightParagraph, Heading, ThematicBreak, IndentedCode, FencedCode, HtmlBlock, LinkDefinition, BlockQuote, BlockList, ListItem, Text, OwnedText, Html, BlockNode, BlockDocument, Nil, Node}
 use Rattle.cmark_grammar.specs.BlockReading.{Reads, Around, Inside, Alone, Silent, read_as, over, node_events, block_reading}
 use Rattle.cmark_grammar.specs.Derivation.{Derives, document}
 use Rattle.cmark_grammar.specs.DrawnDocument.{is_definition, node_unless, settled, without_definitions}
@@ -36,7 +36,6 @@ silent ListItem e = absurd (let q : false ≡ true = e in cc)
 silent (Text bytes) e = absurd (let q : false ≡ true = e in cc)
 silent (OwnedText bytes) e = absurd (let q : false ≡ true = e in cc)
 silent (Html bytes) e = absurd (let q : false ≡ true = e in cc)
-silent SoftBreak e = absurd (let q : false ≡ true = e in cc)
 
 -- so a document without its definitions is read as the document is
 pub whole-read : (d : BlockDocument) → block_reading (without_definitions d) ≡ block_reading d

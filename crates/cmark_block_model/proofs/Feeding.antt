@@ -1,5 +1,5 @@
 -- One more line behind what is open in the innermost container.
-use Rattle.std.proofs.Common.{◌≡◌, ℕ, zero, suc, Bool, true, false, List, [], ◌∷◌, ◌++◌, take, refl, ap, ◌∙◌, sym, append_assoc, append-nil, Option, Some, None, arith}
+use Rattle.std.proofs.Common.{◌≡◌, ℕ, zero, suc, Bool, true, false, ◌==◌, List, [], ◌∷◌, ◌++◌, take, refl, ap, ◌∙◌, sym, append_assoc, append-nil, Option, Some, None, arith}
 use Rattle.std.specs.Prelude.{if◌then◌else◌}
 use Rattle.cmark_grammar.specs.Answers.{Lookup}
 use Rattle.cmark_grammar.specs.Attributes.{no_attributes}
@@ -9,24 +9,43 @@ use Rattle.cmark_grammar.specs.Leaves.{underlines}
 use Rattle.cmark_grammar.specs.Openings.{Leaf, ThematicBreak, AtxHeading, IndentedCode, FencedCode, HtmlBlock, LinkDefinition, texts}
 use Rattle.cmark_grammar.specs.Blocks.{Blocks, Nil as NoBlocks, Paragraph, SetextHeading, LeafBlock, join as join_blocks, may_lazy}
 use Rattle.cmark_grammar.specs.BlocksByLine.{Between, InParagraph, InLeaf, lines_underline_or, lines_go_on_or, lines_begin, lines_feed}
+use Rattle.cmark_grammar.specs.Tokens.{stretch_then}
 use Rattle.cmark_grammar.specs.BlockDocument as document
 use Rattle.cmark_grammar.specs.BlockDocument.{BlockDocument, Nil, Node, node, join}
 use Rattle.cmark_block_model.specs.OpenBlocks.{OpenContainer, OpenLeaf, Closed, InParagraph as InParagraphLeaf, InDefinition, Pass}
 use Rattle.cmark_block_model.specs.BlockPass.{ahead_in, begin, leaf_closed, leaf_fed, underlined_or, heading_made, paragraph_line}
 use Rattle.cmark_block_model.proofs.Replay.{Level, begun, level_opened, level_drawn, leaf_level, replay, replay-join}
-use Rattle.cmark_block_model.proofs.Mirror.{whole, whole-same, last_of, last_push, pass_with, leaf_left, Fits, ended_line, lines_drawn, drawn-tokens, drawn-push, paragraph_open, inner_at, leaf_at, pass_at}
+use Rattle.cmark_block_model.proofs.Mirror.{whole, whole-same, last_of, last_push, last_begin, begin_push, pass_with, leaf_left, Fits, lines_drawn, drawn-tokens, one_more, drawn-push, paragraph_open, paragraph_leaf, inner_at, leaf_at, pass_at}
 use Rattle.cmark_block_model.proofs.Closing.{noded, leaf-closes}
 use Rattle.cmark_block_model.proofs.Beginning.{starts}
 
 module _ (text : List ℕ) (options : Options) (lookup : Lookup) where
   -- a paragraph goes on
   pub paragraph-goes : (first : Row) (more : List Row) (r s : Row) (l : Level) (outer : List OpenContainer) (leaf : OpenLeaf) (n : ℕ) → whole s ≡ r
-      → paragraph_line text options lookup (whole (last_of first more)) r (pass_with (paragraph_open text lookup first more l) outer false leaf n)
-      ≡ pass_with (paragraph_open text lookup first (more ++ s ∷ []) l) outer false (InParagraphLeaf (whole (last_of first (more ++ s ∷ [])))) n
+      → paragraph_line text options lookup (last_begin (start_of first) first more) (whole (last_of first more)) r (pass_with (paragraph_open text lookup first more l) outer false leaf n)
+      ≡ pass_with (paragraph_open text lookup first (more ++ s ∷ []) l) outer false (paragraph_leaf text lookup first (more ++ s ∷ [])) n
   paragraph-goes first more r s l outer leaf n e =
-      ap (λ x. pass_with (level_drawn (join (lines_drawn text lookup first more) (ended_line text lookup (last_of first more) Nil)) (level_opened (start_of first) document.Paragraph (begun l))) outer false (InParagraphLeaf x) n)
-      (sym (ap whole (last_push first more s) ∙ e))
-      ∙ ap (λ d. pass_with (level_drawn d (level_opened (start_of first) document.Paragraph (begun l))) outer false (InParagraphLeaf (whole (last_of first (more ++ s ∷ [])))) n) (sym (drawn-push text lookup first more s))
+      ap (λ x. paragraph_line text options lookup from (whole (last_of first more)) x (pass_with (paragraph_open text lookup first more l) outer false leaf n)) (sym e)
+      ∙ go (start_of s == past)
+      ∙ ap (λ x. goes (one_more text lookup (start_of s == past) from past before) (if start_of s == past then from else start_of s) x) (sym (last_push first more s))
+      ∙ ap (λ x. goes (one_more text lookup (start_of s == past) from past before) x (last_of first (more ++ s ∷ []))) (sym (begin_push (start_of first) first more s))
+      ∙ ap (λ x. goes x (last_begin (start_of first) first (more ++ s ∷ [])) (last_of first (more ++ s ∷ []))) (sym (drawn-push text lookup (start_of first) first more s))
+    where
+      from : ℕ
+      from = last_begin (start_of first) first more
+
+      past : ℕ
+      past = (last_of first more).past
+
+      before : BlockDocument
+      before = lines_drawn text lookup (start_of first) first more
+
+      goes : BlockDocument → ℕ → Row → Pass
+      goes d at x = pass_with (level_drawn d (level_opened (start_of first) document.Paragraph (begun l))) outer false (InParagraphLeaf at (whole x)) n
+
+      go : (z : Bool) → (if z then goes before from s else goes (join before (stretch_then text from past Nil)) (start_of s) s) ≡ goes (one_more text lookup z from past before) (if z then from else start_of s) s
+      go true = refl
+      go false = refl
 
   pub paragraph-feeds : (closed : Blocks) (first : Row) (more : List Row) (r : Row) (next ahead : List Row) (l : Level) (outer : List OpenContainer) (b : Bool) (n : ℕ) → r.lazy ≡ false → ahead_in text options lookup outer next ≡ ahead
       → Fits b (InParagraph closed first more) (r ∷ ahead) n
@@ -37,30 +56,30 @@ module _ (text : List ℕ) (options : Options) (lookup : Lookup) where
       c : Level
       c = replay text lookup closed l
 
-      last : Row
-      last = whole (last_of first more)
+      from : ℕ
+      from = last_begin (start_of first) first more
 
       p : Pass
-      p = pass_with (paragraph_open text lookup first more (replay text lookup closed l)) outer false (InParagraphLeaf (whole (last_of first more))) n
+      p = pass_with (paragraph_open text lookup first more (replay text lookup closed l)) outer false (paragraph_leaf text lookup first more) n
 
       end : (o : List OpenContainer) (x : Level) (leaf : OpenLeaf) → pass_with x o false leaf n ≡ pass_with x (o ++ []) false leaf n
       end o x leaf = ap (λ y. pass_with x y false leaf n) (sym (append-nil o))
 
-      text-goes : (z : Bool) → (if z then paragraph_line text options lookup (whole (last_of first more)) r p else begin text options lookup r next (leaf_closed text options lookup p))
+      text-goes : (z : Bool) → (if z then paragraph_line text options lookup from (whole (last_of first more)) r p else begin text options lookup r next (leaf_closed text options lookup p))
           ≡ pass_at text lookup (lines_go_on_or z (InParagraph closed first (more ++ r ∷ [])) (lines_begin options (join_blocks closed (Paragraph first more NoBlocks)) r ahead)) ahead l outer false n
-      text-goes true = paragraph-goes first more r r c outer (InParagraphLeaf (whole (last_of first more))) n (whole-same r e) ∙ end outer (paragraph_open text lookup first (more ++ r ∷ []) c) (InParagraphLeaf (whole (last_of first (more ++ r ∷ []))))
+      text-goes true = paragraph-goes first more r r c outer (paragraph_leaf text lookup first more) n (whole-same r e) ∙ end outer (paragraph_open text lookup first (more ++ r ∷ []) c) (paragraph_leaf text lookup first (more ++ r ∷ []))
       text-goes false =
           ap (begin text options lookup r next) (leaf-closes text options lookup (InParagraph closed first more) b n l outer false f)
           ∙ starts text options lookup (join_blocks closed (Paragraph first more NoBlocks)) r next ahead l outer n e a
 
-      go : (u : Option ℕ) → underlined_or text options lookup u (λ level. heading_made text options lookup level (whole (last_of first more)) r p) (if texts options r (ahead_in text options lookup outer next) then paragraph_line text options lookup (whole (last_of first more)) r p else begin text options lookup r next (leaf_closed text options lookup p))
+      go : (u : Option ℕ) → underlined_or text options lookup u (λ level. heading_made text options lookup level from (whole (last_of first more)) r p) (if texts options r (ahead_in text options lookup outer next) then paragraph_line text options lookup from (whole (last_of first more)) r p else begin text options lookup r next (leaf_closed text options lookup p))
           ≡ pass_at text lookup (lines_underline_or u (λ level. Between (join_blocks closed (SetextHeading level first more r NoBlocks))) (lines_go_on_or (texts options r ahead) (InParagraph closed first (more ++ r ∷ [])) (lines_begin options (join_blocks closed (Paragraph first more NoBlocks)) r ahead))) ahead l outer false n
       go (Some level) =
-          ap (λ t. pass_with (noded text options lookup (document.Heading level no_attributes) (start_of first) r.past t (begun c)) outer false Closed n) (sym (drawn-tokens text lookup first more))
+          ap (λ t. pass_with (noded text options lookup (document.Heading level no_attributes) (start_of first) r.past t (begun c)) outer false Closed n) (sym (drawn-tokens text lookup (start_of first) first more))
           ∙ ap (λ q. pass_with q outer false Closed n) (sym (replay-join text lookup closed (SetextHeading level first more r NoBlocks) l))
           ∙ end outer (replay text lookup (join_blocks closed (SetextHeading level first more r NoBlocks)) l) Closed
       go None =
-          ap (λ x. if texts options r x then paragraph_line text options lookup (whole (last_of first more)) r p else begin text options lookup r next (leaf_closed text options lookup p)) a
+          ap (λ x. if texts options r x then paragraph_line text options lookup from (whole (last_of first more)) r p else begin text options lookup r next (leaf_closed text options lookup p)) a
           ∙ text-goes (texts options r ahead)
 
   pub leaf-feeds : (closed : Blocks) (leaf : Leaf) (first : Row) (had : List Row) (left : ℕ) (r : Row) (next ahead : List Row) (l : Level) (outer : List OpenContainer) (b : Bool) (n : ℕ) → r.lazy ≡ false → ahead_in text options lookup outer next ≡ ahead

@@ -2,7 +2,7 @@
 use Rattle.std.proofs.Common.{◌≡◌, ℕ, zero, suc, ◌≤◌, ◌&&◌, Bool, true, false, List, [], ◌∷◌, ◌++◌, length, refl, ap, ◌∙◌, sym, append_assoc, append-nil, None, arith, true≢false}
 use Rattle.cmark_grammar.specs.Answers.{Lookup}
 use Rattle.cmark_grammar.specs.Options.{Options}
-use Rattle.cmark_grammar.specs.Rows.{Row, lazy_row}
+use Rattle.cmark_grammar.specs.Rows.{Row, start_of, lazy_row}
 use Rattle.cmark_grammar.specs.Containers.{Container, enter, strip, is_bare_start, bare_after}
 use Rattle.cmark_grammar.specs.Openings.{Leaf, ThematicBreak, AtxHeading, IndentedCode, FencedCode, HtmlBlock, LinkDefinition, texts, lazily}
 use Rattle.cmark_grammar.specs.Blocks.{Blocks, Nil as NoBlocks, Paragraph, SetextHeading, LeafBlock, ContainerBlock, join as join_blocks, may_lazy}
@@ -13,7 +13,7 @@ use Rattle.cmark_grammar.proofs.BlocksSound.{bare_push}
 use Rattle.cmark_block_model.specs.OpenBlocks.{OpenContainer, InParagraph as InParagraphLeaf}
 use Rattle.cmark_block_model.specs.BlockPass.{lazy_fed}
 use Rattle.cmark_block_model.proofs.Replay.{Level, entered, leaf_level, replay, replay-join}
-use Rattle.cmark_block_model.proofs.Mirror.{whole, whole-same, last_of, pass_with, Fits, paragraph_open, inner_at, leaf_at, container_at, containers_at, pass_at, bare_at}
+use Rattle.cmark_block_model.proofs.Mirror.{whole, whole-same, last_of, pass_with, Fits, paragraph_open, paragraph_leaf, inner_at, leaf_at, container_at, containers_at, pass_at, bare_at}
 use Rattle.cmark_block_model.proofs.Feeding.{paragraph-goes}
 
 module _ (options : Options) where
@@ -61,7 +61,7 @@ module _ (text : List ℕ) (options : Options) (lookup : Lookup) where
       ≡ pass_at text lookup (lines_feed options o (lazy_row r) ahead) ahead l outer false n
   lazy-feeds (Between closed) b r ahead x l outer n e f t z = absurd (true≢false (sym t))
   lazy-feeds (InParagraph closed first more) b r ahead x l outer n e f t z =
-      paragraph-goes text options lookup first more r (lazy_row r) (replay text lookup closed l) (outer ++ []) (InParagraphLeaf (whole (last_of first more))) n (whole-same r e)
+      paragraph-goes text options lookup first more r (lazy_row r) (replay text lookup closed l) (outer ++ []) (paragraph_leaf text lookup first more) n (whole-same r e)
       ∙ ap (λ o. pass_at text lookup o ahead l outer false n) (sym (lazy-paragraph options closed first more r ahead x z))
   lazy-feeds (InLeaf closed leaf first had zero) b r ahead x l outer n e f t z = go leaf t
     where
@@ -74,9 +74,9 @@ module _ (text : List ℕ) (options : Options) (lookup : Lookup) where
       go (HtmlBlock kind) y = absurd (true≢false (sym y))
       go (LinkDefinition definition) y =
           let d = LinkDefinition definition in
-          ap (λ h. pass_with (paragraph_open text lookup r [] (leaf_level text lookup d first h (replay text lookup closed l))) (outer ++ []) false (InParagraphLeaf r) n) (append-nil had)
-          ∙ ap (λ q. pass_with (paragraph_open text lookup r [] q) (outer ++ []) false (InParagraphLeaf r) n) (sym (replay-join text lookup closed (LeafBlock d first had NoBlocks) l))
-          ∙ ap (λ q. pass_with (paragraph_open text lookup r [] (replay text lookup (join_blocks closed (LeafBlock d first had NoBlocks)) l)) (outer ++ []) false (InParagraphLeaf q) n) (sym (whole-same r e))
+          ap (λ h. pass_with (paragraph_open text lookup r [] (leaf_level text lookup d first h (replay text lookup closed l))) (outer ++ []) false (InParagraphLeaf (start_of r) r) n) (append-nil had)
+          ∙ ap (λ q. pass_with (paragraph_open text lookup r [] q) (outer ++ []) false (InParagraphLeaf (start_of r) r) n) (sym (replay-join text lookup closed (LeafBlock d first had NoBlocks) l))
+          ∙ ap (λ q. pass_with (paragraph_open text lookup r [] (replay text lookup (join_blocks closed (LeafBlock d first had NoBlocks)) l)) (outer ++ []) false (InParagraphLeaf (start_of q) q) n) (sym (whole-same r e))
           ∙ ap (λ o. pass_at text lookup o ahead l outer false n) (sym (lazy-begins options (join_blocks closed (LeafBlock d first had NoBlocks)) r ahead))
   lazy-feeds (InLeaf closed leaf first had (suc left)) b r ahead x l outer n e f t z = absurd (let le : suc left ≤ 0 = f.1 in omega (arith, le))
   lazy-feeds (InVerbatim closed verbatim first had waiting) b r ahead x l outer n e f t z = absurd (true≢false (sym t))

@@ -1,5 +1,6 @@
 -- The pass as what is open in the model: each field as a function of the open lines, with the lines ahead.
-use Rattle.std.proofs.Common.{◌≡◌, ℕ, ◌≤◌, Bool, false, List, [], ◌∷◌, ◌++◌, length, take, refl, ap, ◌∙◌, sym}
+use Rattle.std.proofs.Common.{◌≡◌, ℕ, ◌≤◌, Bool, true, false, ◌==◌, List, [], ◌∷◌, ◌++◌, length, take, refl, ap, ◌∙◌, sym}
+use Rattle.std.specs.Prelude.{if◌then◌else◌}
 use Rattle.cmark_grammar.specs.Answers.{Lookup}
 use Rattle.cmark_grammar.specs.Rows.{Row, start_of, begin_of, past_of, first_place}
 use Rattle.cmark_grammar.specs.Leaves.{Fence, closes_fence}
@@ -8,12 +9,12 @@ use Rattle.cmark_grammar.specs.Openings.{Leaf, ThematicBreak, AtxHeading, Indent
 use Rattle.cmark_grammar.specs.Blocks.{may_lazy}
 use Rattle.cmark_grammar.specs.BlocksModel.{within}
 use Rattle.cmark_grammar.specs.BlocksByLine.{Verbatim, Indented, Fenced, HtmlLines, OpenLines, Between, InParagraph, InLeaf, InVerbatim, InContainer}
-use Rattle.cmark_grammar.specs.Tokens.{resolved, line_words, paragraph_tokens, html_tokens, html_then, verbatim_line, code_columns}
+use Rattle.cmark_grammar.specs.Tokens.{resolved, words_end, stretch_then, stretches, html_tokens, html_then, verbatim_line, code_columns}
 use Rattle.cmark_grammar.specs.BlockDocument as document
 use Rattle.cmark_grammar.specs.BlockDocument.{BlockDocument, Nil, Node, node, join}
 use Rattle.cmark_block_model.specs.CodeLines.{no_run, texts_of}
 use Rattle.cmark_block_model.specs.OpenBlocks.{OpenContainer, OpenLeaf, Closed, InParagraph as InParagraphLeaf, InDefinition, InIndented, InFenced, InHtml, Pass}
-use Rattle.cmark_block_model.proofs.PlainTokens.{words-join, html-join}
+use Rattle.cmark_block_model.proofs.PlainTokens.{stretch-join, html-join}
 use Rattle.cmark_block_model.proofs.CodeRuns.{code_run}
 use Rattle.cmark_block_model.proofs.Replay.{Level, begun, level_opened, level_drawn, standing, entered, leaf_level, replay}
 
@@ -35,6 +36,26 @@ last_push first (s ∷ more) r = last_push s more r
 pub past_push : (first : Row) (more : List Row) (r : Row) → past_of first (more ++ r ∷ []) ≡ r.past
 past_push first [] r = refl
 past_push first (s ∷ more) r = past_push s more r
+
+-- where the stretch begins that the last of these lines stands in, if the one of the first begins there
+abbrev pub last_begin : (begin : ℕ) → Row → List Row → ℕ
+last_begin begin first [] = begin
+last_begin begin first (r ∷ more) = if start_of r == first.past then last_begin begin r more else last_begin (start_of r) r more
+
+pub begin_push : (begin : ℕ) (first : Row) (more : List Row) (r : Row)
+    → last_begin begin first (more ++ r ∷ []) ≡ (if start_of r == (last_of first more).past then last_begin begin first more else start_of r)
+begin_push begin first [] r = refl
+begin_push begin first (s ∷ more) r = go (start_of s == first.past) (begin_push begin s more r) (begin_push (start_of s) s more r)
+  where
+    touches : Bool
+    touches = start_of r == (last_of s more).past
+
+    go : (z : Bool) → last_begin begin s (more ++ r ∷ []) ≡ (if touches then last_begin begin s more else start_of r)
+        → last_begin (start_of s) s (more ++ r ∷ []) ≡ (if touches then last_begin (start_of s) s more else start_of r)
+        → (if z then last_begin begin s (more ++ r ∷ []) else last_begin (start_of s) s (more ++ r ∷ []))
+        ≡ (if touches then (if z then last_begin begin s more else last_begin (start_of s) s more) else start_of r)
+    go true p q = p
+    go false p q = q
 
 abbrev pub pass_with : Level → List OpenContainer → Bool → OpenLeaf → ℕ → Pass
 pass_with l outer bare leaf past = record { drawing = l.drawing; inner = l.inner; outer = outer; bare = bare; leaf = leaf; past = past; references = l.references }
@@ -75,25 +96,49 @@ Fits bare (InContainer closed k first more inside) ahead n =
     (bare ≡ false) × (past_of first more ≡ n) × Fits (bare_after (is_bare_start k first) more) inside (within k (bare_after (is_bare_start k first) more) ahead) n
 
 module _ (text : List ℕ) (lookup : Lookup) where
-  -- a line with its ending
-  abbrev pub ended_line : Row → BlockDocument → BlockDocument
-  ended_line r after = line_words text r (Node (node document.SoftBreak r.stop r.past) Nil after)
+  -- the stretches of a paragraph but the last
+  abbrev pub lines_drawn : (begin : ℕ) → Row → List Row → BlockDocument
+  lines_drawn begin first [] = Nil
+  lines_drawn begin first (r ∷ more) = if start_of r == first.past then lines_drawn begin r more else stretch_then text begin first.past (lines_drawn (start_of r) r more)
 
-  ended-join : (r : Row) (a b : BlockDocument) → join (ended_line r a) b ≡ ended_line r (join a b)
-  ended-join r a b = words-join text r (Node (node document.SoftBreak r.stop r.past) Nil a) b
+  pub drawn-tokens : (begin : ℕ) (first : Row) (more : List Row) → stretches text begin first more ≡ join (lines_drawn begin first more) (stretch_then text (last_begin begin first more) (words_end (last_of first more)) Nil)
+  drawn-tokens begin first [] = refl
+  drawn-tokens begin first (r ∷ more) = go (start_of r == first.past) (drawn-tokens begin r more) (drawn-tokens (start_of r) r more)
+    where
+      last : ℕ → BlockDocument
+      last at = stretch_then text at (words_end (last_of r more)) Nil
 
-  -- the lines of a paragraph but the last
-  abbrev pub lines_drawn : Row → List Row → BlockDocument
-  lines_drawn first [] = Nil
-  lines_drawn first (r ∷ more) = ended_line first (lines_drawn r more)
+      go : (z : Bool) → stretches text begin r more ≡ join (lines_drawn begin r more) (last (last_begin begin r more)) → stretches text (start_of r) r more ≡ join (lines_drawn (start_of r) r more) (last (last_begin (start_of r) r more))
+          → (if z then stretches text begin r more else stretch_then text begin first.past (stretches text (start_of r) r more))
+          ≡ join (if z then lines_drawn begin r more else stretch_then text begin first.past (lines_drawn (start_of r) r more)) (last (if z then last_begin begin r more else last_begin (start_of r) r more))
+      go true p q = p
+      go false p q = ap (stretch_then text begin first.past) q ∙ sym (stretch-join text begin first.past (lines_drawn (start_of r) r more) (last (last_begin (start_of r) r more)))
 
-  pub drawn-tokens : (first : Row) (more : List Row) → paragraph_tokens text first more ≡ join (lines_drawn first more) (line_words text (last_of first more) Nil)
-  drawn-tokens first [] = refl
-  drawn-tokens first (r ∷ more) = ap (ended_line first) (drawn-tokens r more) ∙ sym (ended-join first (lines_drawn r more) (line_words text (last_of r more) Nil))
+  -- what one more line draws
+  abbrev pub one_more : Bool → (begin past : ℕ) → BlockDocument → BlockDocument
+  one_more touches begin past before = if touches then before else join before (stretch_then text begin past Nil)
 
-  pub drawn-push : (first : Row) (more : List Row) (r : Row) → lines_drawn first (more ++ r ∷ []) ≡ join (lines_drawn first more) (ended_line (last_of first more) Nil)
-  drawn-push first [] r = refl
-  drawn-push first (s ∷ more) r = ap (ended_line first) (drawn-push s more r) ∙ sym (ended-join first (lines_drawn s more) (ended_line (last_of s more) Nil))
+  pub drawn-push : (begin : ℕ) (first : Row) (more : List Row) (r : Row)
+      → lines_drawn begin first (more ++ r ∷ []) ≡ one_more (start_of r == (last_of first more).past) (last_begin begin first more) (last_of first more).past (lines_drawn begin first more)
+  drawn-push begin first [] r = refl
+  drawn-push begin first (s ∷ more) r = go (start_of s == first.past) (drawn-push begin s more r) (drawn-push (start_of s) s more r)
+    where
+      touches : Bool
+      touches = start_of r == (last_of s more).past
+
+      past : ℕ
+      past = (last_of s more).past
+
+      inside : (z : Bool) (at : ℕ) (d : BlockDocument) → stretch_then text begin first.past (one_more z at past d) ≡ one_more z at past (stretch_then text begin first.past d)
+      inside true at d = refl
+      inside false at d = sym (stretch-join text begin first.past d (stretch_then text at past Nil))
+
+      go : (z : Bool) → lines_drawn begin s (more ++ r ∷ []) ≡ one_more touches (last_begin begin s more) past (lines_drawn begin s more)
+          → lines_drawn (start_of s) s (more ++ r ∷ []) ≡ one_more touches (last_begin (start_of s) s more) past (lines_drawn (start_of s) s more)
+          → (if z then lines_drawn begin s (more ++ r ∷ []) else stretch_then text begin first.past (lines_drawn (start_of s) s (more ++ r ∷ [])))
+          ≡ one_more touches (if z then last_begin begin s more else last_begin (start_of s) s more) past (if z then lines_drawn begin s more else stretch_then text begin first.past (lines_drawn (start_of s) s more))
+      go true p q = p
+      go false p q = ap (stretch_then text begin first.past) q ∙ inside touches (last_begin (start_of s) s more) (lines_drawn (start_of s) s more)
 
   pub html-push : (rs : List Row) (r : Row) → html_tokens text (rs ++ r ∷ []) ≡ join (html_tokens text rs) (html_then (verbatim_line text r.columns r) Nil)
   html-push [] r = refl
@@ -102,7 +147,7 @@ module _ (text : List ℕ) (lookup : Lookup) where
       ∙ sym (html-join (verbatim_line text s.columns s) (html_tokens text rs) (html_then (verbatim_line text r.columns r) Nil))
 
   abbrev pub paragraph_open : Row → List Row → Level → Level
-  paragraph_open first more l = level_drawn (lines_drawn first more) (level_opened (start_of first) document.Paragraph (begun l))
+  paragraph_open first more l = level_drawn (lines_drawn (start_of first) first more) (level_opened (start_of first) document.Paragraph (begun l))
 
   abbrev pub verbatim_level : Verbatim → Row → List Row → Level → Level
   verbatim_level Indented first had l =
@@ -117,6 +162,9 @@ module _ (text : List ℕ) (lookup : Lookup) where
   verbatim_leaf (Fenced fence) first had waiting = InFenced fence (code_run text fence.indented no_run had).waits
   verbatim_leaf (HtmlLines kind) first had waiting = InHtml kind
 
+  abbrev pub paragraph_leaf : Row → List Row → OpenLeaf
+  paragraph_leaf first more = InParagraphLeaf (last_begin (start_of first) first more) (whole (last_of first more))
+
   -- the innermost level
   abbrev pub inner_at : OpenLines → List Row → Level → Level
   inner_at (Between closed) ahead l = replay text lookup closed l
@@ -128,7 +176,7 @@ module _ (text : List ℕ) (lookup : Lookup) where
 
   abbrev pub leaf_at : OpenLines → OpenLeaf
   leaf_at (Between closed) = Closed
-  leaf_at (InParagraph closed first more) = InParagraphLeaf (whole (last_of first more))
+  leaf_at (InParagraph closed first more) = paragraph_leaf first more
   leaf_at (InLeaf closed leaf first had left) = leaf_left leaf left
   leaf_at (InVerbatim closed verbatim first had waiting) = verbatim_leaf verbatim first had waiting
   leaf_at (InContainer closed k first more inside) = leaf_at inside

@@ -1,10 +1,10 @@
 -- Tokens are neither settled nor left out, and define nothing.
 use Rattle.std.proofs.Common.{◌≡◌, ℕ, Bool, true, false, List, [], ◌∷◌, ◌++◌, refl, ap}
-use Rattle.std.specs.Prelude.{if◌then◌else◌}
+use Rattle.std.specs.Prelude.{◌==◌, if◌then◌else◌}
 use Rattle.cmark_grammar.specs.Columns.{Column}
 use Rattle.cmark_grammar.specs.Rows.{Row, first_place, start_of}
-use Rattle.cmark_grammar.specs.Tokens.{Piece, line_columns, end_place, piece_if, texts_then, words_then, line_words, paragraph_tokens, html_then, html_tokens, text_kind_of, html_kind_of, verbatim_line, behind_hashes, heading_columns, heading_tokens, code_pieces, code_tokens}
-use Rattle.cmark_grammar.specs.BlockDocument.{Text, OwnedText, Html, SoftBreak, BlockDocument, Nil, Node, node, join}
+use Rattle.cmark_grammar.specs.Tokens.{Piece, line_columns, end_place, piece_if, texts_then, words_end, stretch_then, stretches, paragraph_tokens, html_then, html_tokens, text_kind_of, html_kind_of, verbatim_line, behind_hashes, heading_columns, heading_tokens, code_pieces, code_tokens}
+use Rattle.cmark_grammar.specs.BlockDocument.{Text, OwnedText, Html, BlockDocument, Nil, Node, node, join}
 use Rattle.cmark_grammar.specs.DrawnDocument.{settled, without_definitions}
 use Rattle.cmark_grammar.specs.References.{references}
 
@@ -28,16 +28,20 @@ pub texts_plain : (ps : List Piece) (after : BlockDocument) → IsPlain after �
 texts_plain [] after h = h
 texts_plain (p ∷ ps) after h = text_plain p.owned p.bytes p.start p.end (texts_then ps after) (texts_plain ps after h)
 
-soft_plain : (start end : ℕ) (after : BlockDocument) → IsPlain after → IsPlain (Node (node SoftBreak start end) Nil after)
-soft_plain start end after h = record { still = λ tight. ap (Node (node SoftBreak start end) Nil) (h.still tight); whole = ap (Node (node SoftBreak start end) Nil) h.whole; defines = h.defines }
+stretch_plain : (text : List ℕ) (start end : ℕ) (after : BlockDocument) → IsPlain after → IsPlain (stretch_then text start end after)
+stretch_plain text start end after h = texts_plain (piece_if text start end []) after h
 
-words_plain : (text : List ℕ) (start : ℕ) (cs : List Column) (after : BlockDocument) → IsPlain after → IsPlain (words_then text start cs after)
-words_plain text start cs after h = texts_plain (piece_if text start (end_place start cs) []) after h
+stretches_plain : (text : List ℕ) (begin : ℕ) (r : Row) (more : List Row) → IsPlain (stretches text begin r more)
+stretches_plain text begin r [] = stretch_plain text begin (words_end r) Nil nil_plain
+stretches_plain text begin r (s ∷ more) = go (start_of s == r.past) (stretches_plain text begin s more) (stretches_plain text (start_of s) s more)
+  where
+    go : (z : Bool) → IsPlain (stretches text begin s more) → IsPlain (stretches text (start_of s) s more)
+        → IsPlain (if z then stretches text begin s more else stretch_then text begin r.past (stretches text (start_of s) s more))
+    go true p q = p
+    go false p q = stretch_plain text begin r.past (stretches text (start_of s) s more) q
 
 pub paragraph_plain : (text : List ℕ) (r : Row) (more : List Row) → IsPlain (paragraph_tokens text r more)
-paragraph_plain text r [] = words_plain text (start_of r) (line_columns r) Nil nil_plain
-paragraph_plain text r (s ∷ more) =
-    words_plain text (start_of r) (line_columns r) (Node (node SoftBreak r.stop r.past) Nil (paragraph_tokens text s more)) (soft_plain r.stop r.past (paragraph_tokens text s more) (paragraph_plain text s more))
+paragraph_plain text r more = stretches_plain text (start_of r) r more
 
 html_then_plain : (ps : List Piece) (after : BlockDocument) → IsPlain after → IsPlain (html_then ps after)
 html_then_plain [] after h = h
@@ -48,7 +52,8 @@ html_tokens_plain text [] = nil_plain
 html_tokens_plain text (r ∷ rs) = html_then_plain (verbatim_line text r.columns r) (html_tokens text rs) (html_tokens_plain text rs)
 
 pub heading_plain : (text : List ℕ) (level : ℕ) (r : Row) → IsPlain (heading_tokens text level r)
-heading_plain text level r = words_plain text (first_place r.stop (behind_hashes level r)) (heading_columns level r) Nil nil_plain
+heading_plain text level r =
+    stretch_plain text (first_place r.stop (behind_hashes level r)) (end_place (first_place r.stop (behind_hashes level r)) (heading_columns level r)) Nil nil_plain
 
 pub code_plain : (text : List ℕ) (most : ℕ) (rs : List Row) → IsPlain (code_tokens text most rs)
 code_plain text most rs = texts_plain (code_pieces text most rs) Nil nil_plain
@@ -73,5 +78,5 @@ pub html-join : (ps : List Piece) (a b : BlockDocument) → join (html_then ps a
 html-join [] a b = refl
 html-join (p ∷ ps) a b = ap (Node (node (html_kind_of p) p.start p.end) Nil) (html-join ps a b)
 
-pub words-join : (text : List ℕ) (r : Row) (a b : BlockDocument) → join (line_words text r a) b ≡ line_words text r (join a b)
-words-join text r a b = texts-join (piece_if text (start_of r) (end_place (start_of r) (line_columns r)) []) a b
+pub stretch-join : (text : List ℕ) (start end : ℕ) (a b : BlockDocument) → join (stretch_then text start end a) b ≡ stretch_then text start end (join a b)
+stretch-join text start end a b = texts-join (piece_if text start end []) a b

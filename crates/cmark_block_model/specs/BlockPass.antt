@@ -8,7 +8,7 @@ use Rattle.cmark_grammar.specs.Leaves.{Further, GoesOn, Closes, Waits, Stops, un
 use Rattle.cmark_grammar.specs.HtmlBlocks.{holds_end, html_further}
 use Rattle.cmark_grammar.specs.Containers.{Container, Quote, Item, enter, keeps, strips}
 use Rattle.cmark_grammar.specs.Openings.{Leaf, ThematicBreak, AtxHeading, IndentedCode, FencedCode, HtmlBlock, LinkDefinition, Opening, Blank, Nests, Takes, Plain, opens, texts, lazily}
-use Rattle.cmark_grammar.specs.Tokens.{Piece, resolved, line_words, heading_tokens, verbatim_line, html_then, code_columns}
+use Rattle.cmark_grammar.specs.Tokens.{Piece, resolved, words_end, stretch_then, heading_tokens, verbatim_line, html_then, code_columns}
 use Rattle.cmark_grammar.specs.Derivation.{stop_of, reference_of}
 use Rattle.cmark_grammar.specs.BlockDocument as document
 use Rattle.cmark_grammar.specs.BlockDocument.{BlockDocument, BlockKind, Reference, Nil, Node, node}
@@ -105,18 +105,14 @@ module _ (text : List ℕ) (options : Options) (lookup : Lookup) where
   ahead_in [] rs = rs
   ahead_in (c ∷ cs) rs = ahead_in cs (shown (strips c.container false rs))
 
-  -- the last line of a paragraph
-  abbrev pub last_line : Row → BlockDocument
-  last_line r = line_words text r Nil
-
-  -- one that is not the last, with its line ending
-  abbrev pub further_line : Row → BlockDocument
-  further_line r = line_words text r (Node (node document.SoftBreak r.stop r.past) Nil Nil)
+  -- the last stretch of a paragraph, without the blanks at the end of its last line
+  abbrev pub last_stretch : (from : ℕ) → (last : Row) → BlockDocument
+  last_stretch from last = stretch_then text from (words_end last) Nil
 
   -- the leaf closed, if one is open
   abbrev pub close_leaf : OpenLeaf → Pass → Pass
   close_leaf Closed p = p
-  close_leaf (InParagraph last) p = node_closed p.past (with_drawn (last_line last) p)
+  close_leaf (InParagraph from last) p = node_closed p.past (with_drawn (last_stretch from last) p)
   close_leaf (InDefinition left) p = record p { leaf = Closed }
   close_leaf (InIndented waits end blank) p =
       let q = node_closed end (with_drawn (texts_of (rest_of waits)) p) in record q { inner = record q.inner { blank = is_some blank } }
@@ -131,16 +127,19 @@ module _ (text : List ℕ) (options : Options) (lookup : Lookup) where
   containers_closed outer [] p = p
   containers_closed outer (c ∷ cs) p = container_closed c outer (containers_closed (outer ++ c ∷ []) cs p)
 
-  -- a paragraph begins, or goes on
+  -- a paragraph begins, or goes on: one more line stands in the stretch at hand if it begins where the last one has ended, else
+  -- that stretch is drawn with its line ending, and another one begins
   abbrev pub paragraph_begun : Row → Pass → Pass
-  paragraph_begun r p = let q = node_opened (start_of r) document.Paragraph (block_begun p) in record q { leaf = InParagraph r }
+  paragraph_begun r p = let q = node_opened (start_of r) document.Paragraph (block_begun p) in record q { leaf = InParagraph (start_of r) r }
 
-  abbrev pub paragraph_line : Row → Row → Pass → Pass
-  paragraph_line last r p = let q = with_drawn (further_line last) p in record q { leaf = InParagraph r }
+  abbrev pub paragraph_line : (from : ℕ) → (last : Row) → Row → Pass → Pass
+  paragraph_line from last r p =
+      if start_of r == last.past then record p { leaf = InParagraph from r }
+      else let q = with_drawn (stretch_then text from last.past Nil) p in record q { leaf = InParagraph (start_of r) r }
 
   -- a paragraph that an underline makes a heading
-  abbrev pub heading_made : (level : ℕ) → Row → Row → Pass → Pass
-  heading_made level last r p = let q = with_drawn (last_line last) p in record q { drawing = closed_as (document.Heading level no_attributes) r.past q.drawing; leaf = Closed }
+  abbrev pub heading_made : (level from : ℕ) → (last : Row) → Row → Pass → Pass
+  heading_made level from last r p = let q = with_drawn (last_stretch from last) p in record q { drawing = closed_as (document.Heading level no_attributes) r.past q.drawing; leaf = Closed }
 
   -- a line of code, with the columns of indent that are taken off at most
   abbrev pub code_drawn : (most : ℕ) → Row → Option Piece → (Option Piece → OpenLeaf) → Pass → Pass
@@ -212,9 +211,9 @@ module _ (text : List ℕ) (options : Options) (lookup : Lookup) where
   -- a line that lacks no prefix, behind the open leaf
   abbrev pub leaf_fed : OpenLeaf → Row → (next : List Row) → Pass → Pass
   leaf_fed Closed r next p = begin r next p
-  leaf_fed (InParagraph last) r next p =
-      underlined_or (underlines r) (λ level. heading_made level last r p)
-      (if texts options r (ahead_in p.outer next) then paragraph_line last r p else begin r next (leaf_closed p))
+  leaf_fed (InParagraph from last) r next p =
+      underlined_or (underlines r) (λ level. heading_made level from last r p)
+      (if texts options r (ahead_in p.outer next) then paragraph_line from last r p else begin r next (leaf_closed p))
   leaf_fed (InDefinition zero) r next p = begin r next (leaf_closed p)
   leaf_fed (InDefinition (suc left)) r next p = record p { leaf = InDefinition left }
   leaf_fed (InIndented waits end blank) r next p = indented_further (code_further r) waits end blank r next p
@@ -224,7 +223,7 @@ module _ (text : List ℕ) (options : Options) (lookup : Lookup) where
 
   -- a lazy line: it goes on with a paragraph, or begins one behind a definition
   abbrev pub lazy_fed : OpenLeaf → Row → Pass → Pass
-  lazy_fed (InParagraph last) r p = paragraph_line last r p
+  lazy_fed (InParagraph from last) r p = paragraph_line from last r p
   lazy_fed (InDefinition left) r p = paragraph_begun r p
   lazy_fed Closed r p = p
   lazy_fed (InIndented waits end blank) r p = p

@@ -31,12 +31,12 @@ pub record OpenContainer : Type 0 where
   pub container : Container
   pub around : Siblings
 
--- The open leaf, if there is one. A paragraph has its last line, which is drawn when it is seen what follows; a link reference
--- definition has lines to come; indented code has the stretch of the text that waits, the place where its last line ends,
--- and the blank lines behind that.
+-- The open leaf, if there is one. A paragraph has its last line, and the place where the stretch of the text begins that this
+-- line stands in, which is drawn when it is seen what follows; a link reference definition has lines to come; indented code has
+-- the stretch of the text that waits, the place where its last line ends, and the blank lines behind that.
 pub data OpenLeaf : Type 0 where
   Closed : OpenLeaf
-  InParagraph : (last : Row) → OpenLeaf
+  InParagraph : (from : ℕ) → (last : Row) → OpenLeaf
   InDefinition : (left : ℕ) → OpenLeaf
   InIndented : (waits : Option Piece) → (end : ℕ) → (blank : List Row) → OpenLeaf
   InFenced : (fence : Fence) → (waits : Option Piece) → OpenLeaf
@@ -45,7 +45,7 @@ pub data OpenLeaf : Type 0 where
 -- a lazy line may stand behind the leaf
 abbrev pub takes_lazy : OpenLeaf → Bool
 takes_lazy Closed = false
-takes_lazy (InParagraph last) = true
+takes_lazy (InParagraph from last) = true
 takes_lazy (InDefinition left) = true
 takes_lazy (InIndented waits end blank) = false
 takes_lazy (InFenced fence waits) = false

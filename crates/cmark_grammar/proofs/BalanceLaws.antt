@@ -4,7 +4,7 @@ use Rattle.std.specs.Prelude.{map}
 use Rattle.std.proofs.lemmas.List.{append_assoc, map-append}
 use Rattle.cmark_grammar.specs.TagEnd.{end_of}
 use Rattle.cmark_grammar.specs.Event.{Event, Start, End, Ranged}
-use Rattle.cmark_grammar.specs.BlockDocument.{BlockKind, Paragraph, TightParagraph, Heading, ThematicBreak, IndentedCode, FencedCode, HtmlBlock, LinkDefinition, BlockQuote, BlockList, ListItem, Text, OwnedText, Html, SoftBreak, BlockNode, BlockDocument, Nil, Node}
+use Rattle.cmark_grammar.specs.BlockDocument.{BlockKind, Paragraph, TightParagraph, Heading, ThematicBreak, IndentedCode, FencedCode, HtmlBlock, LinkDefinition, BlockQuote, BlockList, ListItem, Text, OwnedText, Html, BlockNode, BlockDocument, Nil, Node}
 use Rattle.cmark_grammar.specs.BlockReading.{Reads, Around, Inside, Alone, Silent, read_as, node_events, block_reading}
 use Rattle.cmark_grammar.specs.Balance.{IsSingle, Balanced, Nothing, Single, Element}
 
@@ -39,7 +39,6 @@ fit ListItem = tt
 fit (Text bytes) = tt
 fit (OwnedText bytes) = tt
 fit (Html bytes) = tt
-fit SoftBreak = tt
 
 node-balanced : (reads : Reads) (node : BlockNode) (inside : List Ranged) → IsFit reads → Balanced (events inside) → Balanced (events (node_events reads node inside))
 node-balanced (Around tag) node inside fits b =

@@ -31,7 +31,7 @@ unfolding blocks begin opens texts lazily enter keeps underlines
 atx_heading = refl
 
 -- the underline belongs to the heading
-setext_heading : ranges_of (codes "a\nb\n===\n") ≡ (0, 8) ∷ (0, 1) ∷ (1, 2) ∷ (2, 3) ∷ (0, 8) ∷ []
+setext_heading : ranges_of (codes "a\nb\n===\n") ≡ (0, 8) ∷ (0, 3) ∷ (0, 8) ∷ []
 unfolding blocks begin opens texts lazily enter keeps underlines
 setext_heading = refl
 
@@ -49,7 +49,7 @@ link_definition : ranges_of (codes "[a]: /u\nb\n") ≡ (8, 10) ∷ (8, 9) ∷ (8
 unfolding blocks begin opens texts lazily enter keeps underlines
 link_definition = refl
 
-lazy_line : ranges_of (codes "> a\nb\n") ≡ (0, 6) ∷ (2, 6) ∷ (2, 3) ∷ (3, 4) ∷ (4, 5) ∷ (2, 6) ∷ (0, 6) ∷ []
+lazy_line : ranges_of (codes "> a\nb\n") ≡ (0, 6) ∷ (2, 6) ∷ (2, 5) ∷ (2, 6) ∷ (0, 6) ∷ []
 unfolding blocks begin opens texts lazily enter keeps underlines
 lazy_line = refl
 
@@ -69,7 +69,7 @@ nested_list : ranges_of (codes "7. a\n   - b\n")
 unfolding blocks begin opens texts lazily enter keeps underlines
 nested_list = refl
 
--- a line is one event, and so is the line ending, without the spaces before it
-raw_lines : ranges_of (codes "a&amp;b\\*c  \nd\n") ≡ (0, 15) ∷ (0, 10) ∷ (12, 13) ∷ (13, 14) ∷ (0, 15) ∷ []
+-- lines that touch are one event, and behind a prefix or an indent a new one begins
+raw_lines : ranges_of (codes "a&amp;b\\*c  \nd\n e\n") ≡ (0, 18) ∷ (0, 15) ∷ (16, 17) ∷ (0, 18) ∷ []
 unfolding blocks begin opens texts lazily enter keeps underlines
 raw_lines = refl

@@ -9,7 +9,7 @@ use Rattle.cmark_grammar.specs.Options.{no_options}
 use Rattle.cmark_grammar.specs.Openings.{opens, texts, lazily}
 use Rattle.cmark_grammar.specs.BlocksModel.{begin, blocks}
 use Rattle.cmark_grammar.specs.Entities.{basic_entity}
-use Rattle.cmark_grammar.specs.BlockDocument.{Paragraph, Heading, SoftBreak, BlockQuote, IndentedCode, FencedCode, HtmlBlock, Text, OwnedText, Html, BlockNode, outline, node}
+use Rattle.cmark_grammar.specs.BlockDocument.{Paragraph, Heading, BlockQuote, IndentedCode, FencedCode, HtmlBlock, Text, OwnedText, Html, BlockNode, outline, node}
 use Rattle.cmark_grammar.specs.Derivation.{document}
 use Rattle.cmark_grammar.proofs.BlockSamples.{written}
 
@@ -83,9 +83,9 @@ backslash_at_the_end : written (document (codes "a\\\n") no_options basic_entity
 unfolding blocks begin opens texts lazily enter keeps underlines
 backslash_at_the_end = refl
 
--- a line's text is as it is written, and the spaces at its end are no part of it
+-- lines stand as they are written, and the spaces in front of a line and at the end of the last one are no part of it
 raw_lines : outline (document (codes " \\*a&amp;  \n\tb\\\nc \n") no_options basic_entity) ≡
-    node Paragraph 1 19 ∷ node (Text (codes "\\*a&amp;")) 1 9 ∷ node SoftBreak 11 12 ∷ node (Text (codes "b\\")) 13 15 ∷ node SoftBreak 15 16 ∷ node (Text (codes "c")) 16 17 ∷ []
+    node Paragraph 1 19 ∷ node (Text (codes "\\*a&amp;  \n")) 1 12 ∷ node (Text (codes "b\\\nc")) 13 17 ∷ []
 unfolding blocks begin opens texts lazily enter keeps underlines
 raw_lines = refl
 
@@ -116,8 +116,8 @@ quote_in_item_ends_code : written (document (codes "- a\n\n      b\n\n\n  c\n") 
 unfolding blocks begin opens texts lazily enter keeps underlines
 quote_in_item_ends_code = refl
 
--- CR LF and lone CR end lines too
-line_ends : written (document (97 ∷ 13 ∷ 10 ∷ 98 ∷ 13 ∷ 13 ∷ 35 ∷ 32 ∷ 99 ∷ 13 ∷ []) no_options basic_entity) ≡ codes "<p>a\nb</p>\n<h1>c</h1>\n"
+-- CR LF and lone CR end lines too; in the raw content of a paragraph they stand as they are
+line_ends : written (document (97 ∷ 13 ∷ 10 ∷ 98 ∷ 13 ∷ 13 ∷ 35 ∷ 32 ∷ 99 ∷ 13 ∷ []) no_options basic_entity) ≡ codes "<p>a\r\nb</p>\n<h1>c</h1>\n"
 unfolding blocks begin opens texts lazily enter keeps underlines
 line_ends = refl
 
@@ -134,8 +134,8 @@ list_ranges : ranges_in (codes " - a\n\n - b\n") ≡ 0 ∷ 11 ∷ 0 ∷ 6 ∷ 3 
 unfolding blocks begin opens texts lazily enter keeps underlines
 list_ranges = refl
 
--- a block quote from its marker
-quote_ranges : ranges_in (codes " > a\n > b\n") ≡ 1 ∷ 10 ∷ 3 ∷ 10 ∷ 3 ∷ 4 ∷ 4 ∷ 5 ∷ 8 ∷ 9 ∷ []
+-- a block quote from its marker; behind a prefix a new stretch begins
+quote_ranges : ranges_in (codes " > a\n > b\n") ≡ 1 ∷ 10 ∷ 3 ∷ 10 ∷ 3 ∷ 5 ∷ 8 ∷ 9 ∷ []
 unfolding blocks begin opens texts lazily enter keeps underlines
 quote_ranges = refl
 

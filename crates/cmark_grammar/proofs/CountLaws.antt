@@ -12,10 +12,10 @@ use Rattle.cmark_grammar.specs.Containers.{Container, Quote, Item, keeps, strip_
 use Rattle.cmark_grammar.specs.Openings.{Leaf, ThematicBreak as ThematicBreakLeaf, AtxHeading as AtxHeadingLeaf, IndentedCode as IndentedCodeLeaf, FencedCode as FencedCodeLeaf, HtmlBlock as HtmlBlockLeaf, LinkDefinition as LinkDefinitionLeaf, Blank, Nests, Takes, Plain, opens}
 use Rattle.cmark_grammar.specs.Blocks.{Blocks, Nil as NoBlocks, BlankLine, Paragraph as ParagraphBlock, SetextHeading, LeafBlock, ContainerBlock, MayBegin, Body, may_lazy}
 use Rattle.cmark_grammar.specs.Lists.{ListBefore, tight_behind, goes_on}
-use Rattle.cmark_grammar.specs.BlockDocument.{ListItem, BlockNode, BlockDocument, Nil, Node, node, SoftBreak}
+use Rattle.cmark_grammar.specs.BlockDocument.{ListItem, BlockNode, BlockDocument, Nil, Node, node}
 use Rattle.cmark_grammar.specs.Derivation.{leaf_then, item_then, document_of, Derives}
 use Rattle.cmark_grammar.specs.Ranges.{count_nodes}
-use Rattle.cmark_grammar.specs.Tokens.{Piece, texts_then, line_columns, words_then, paragraph_tokens, heading_columns, heading_tokens, piece_if, plain_line, left_columns, spaces_if, verbatim_line, touches, merge, merge_all, code_columns, code_pieces, stop_at, fenced_lines, html_then, html_tokens, slice, end_place}
+use Rattle.cmark_grammar.specs.Tokens.{Piece, texts_then, line_columns, words_end, stretch_then, stretches, paragraph_tokens, heading_columns, heading_tokens, piece_if, plain_line, left_columns, spaces_if, verbatim_line, touches, merge, merge_all, code_columns, code_pieces, stop_at, fenced_lines, html_then, html_tokens, slice, end_place}
 use Rattle.cmark_grammar.proofs.BlockLaws.{opens-whole, opens-words, texts-words, IsWide, wide_opens}
 use Rattle.cmark_grammar.proofs.RowPlaces.{Runs, Runs-le, first_place-Runs, drop-Runs, drop-mono, Lies, begin-start, start-Runs, start-stop, Lies-without, strip-Lies, kept-without, strip-past, Along, text-Along}
 use Rattle.cmark_grammar.proofs.TokenRanges.{UpTo, up-more, end_place-Runs, line-UpTo, drop_end-UpTo, without_closing-UpTo}
@@ -142,28 +142,52 @@ stretch-count text start end to some le = go (nat_lt start end) refl
     go true e = let l = less start end e in omega (arith, l, le)
     go false e = omega (arith, some, le)
 
-words-count : (text : List ℕ) (from : ℕ) (cs : List Column) (stop : ℕ) (after : BlockDocument) → UpTo from cs stop → from + count_nodes (words_then text from cs after) ≤ stop + count_nodes after
+stretch_then-count : (text : List ℕ) (start end to : ℕ) (after : BlockDocument) → start ≤ end → end ≤ to → start + count_nodes (stretch_then text start end after) ≤ to + count_nodes after
+stretch_then-count text start end to after some le =
+    let p = stretch-count text start end to some le in
+    let t = texts-count (piece_if text start end []) after in
+    omega (arith, p, t)
+
+words-count : (text : List ℕ) (from : ℕ) (cs : List Column) (stop : ℕ) (after : BlockDocument) → UpTo from cs stop → from + count_nodes (stretch_then text from (end_place from cs) after) ≤ stop + count_nodes after
 words-count text from cs stop after u =
     let e : end_place from cs ≡ u.mid = end_place-Runs from cs u.mid u.runs in
     let b : from ≤ u.mid = Runs-le from cs u.mid u.runs in
     let l : u.mid ≤ stop = u.low in
-    let p = stretch-count text from (end_place from cs) stop (omega (arith, e, b)) (omega (arith, e, l)) in
-    let t = texts-count (piece_if text from (end_place from cs) []) after in
-    omega (arith, p, t)
+    stretch_then-count text from (end_place from cs) stop after (omega (arith, e, b)) (omega (arith, e, l))
 
 from-start : (from : ℕ) (r : Row) → Lies from r → from ≤ start_of r
 from-start from r h = let a : from ≤ begin_of r = h.0 in let b = begin-start from r h in omega (arith, a, b)
 
-paragraph-count : (text : List ℕ) (from : ℕ) (r : Row) (more : List Row) → Lies from r → Fed r.past more (past_of r more) → (start_of r + count_nodes (paragraph_tokens text r more)) + 4 * r.past ≤ (r.stop + 1) + 4 * past_of r more
-paragraph-count text from r [] h f = let w = words-count text (start_of r) (line_columns r) r.stop Nil (line-UpTo from r h) in omega (arith, w)
-paragraph-count text from r (s ∷ more) h f =
-    let w = words-count text (start_of r) (line_columns r) r.stop (Node (node SoftBreak r.stop r.past) Nil (paragraph_tokens text s more)) (line-UpTo from r h) in
-    let ih = paragraph-count text r.past s more f.1.0 f.2 in
-    let a = from-start r.past s f.1.0 in
-    let c = start-stop r.past s f.1.0 in
-    let d : s.stop ≤ s.past = f.1.0.2 in
-    let e : r.past < s.past = f.0 in
-    omega (arith, w, ih, a, c, d, e)
+stretches-count : (text : List ℕ) (from begin : ℕ) (r : Row) (more : List Row) → Lies from r → begin ≤ start_of r → Fed r.past more (past_of r more) → begin + count_nodes (stretches text begin r more) ≤ past_of r more
+stretches-count text from begin r [] h b f =
+    let u = line-UpTo from r h in
+    let e : words_end r ≡ u.mid = end_place-Runs (start_of r) (line_columns r) u.mid u.runs in
+    let c : start_of r ≤ u.mid = Runs-le (start_of r) (line_columns r) u.mid u.runs in
+    let l : u.mid ≤ r.stop = u.low in
+    let p : r.stop ≤ r.past = h.2 in
+    let w = stretch_then-count text begin (words_end r) r.past Nil (omega (arith, b, e, c)) (omega (arith, e, l, p)) in
+    omega (arith, w)
+stretches-count text from begin r (s ∷ more) h b f =
+    go (start_of s == r.past) (stretches-count text r.past begin s more f.1.0 (omega (arith, b, c, d, a)) f.2) (stretches-count text r.past (start_of s) s more f.1.0 (omega arith) f.2)
+  where
+    a : r.past ≤ start_of s
+    a = from-start r.past s f.1.0
+
+    c : start_of r ≤ r.stop
+    c = start-stop from r h
+
+    d : r.stop ≤ r.past
+    d = h.2
+
+    go : (z : Bool) → begin + count_nodes (stretches text begin s more) ≤ past_of s more → start_of s + count_nodes (stretches text (start_of s) s more) ≤ past_of s more
+        → begin + count_nodes (if z then stretches text begin s more else stretch_then text begin r.past (stretches text (start_of s) s more)) ≤ past_of s more
+    go true p q = p
+    go false p q =
+        let w = stretch_then-count text begin r.past r.past (stretches text (start_of s) s more) (omega (arith, b, c, d)) (omega arith) in
+        omega (arith, w, q, a)
+
+paragraph-count : (text : List ℕ) (from : ℕ) (r : Row) (more : List Row) → Lies from r → Fed r.past more (past_of r more) → start_of r + count_nodes (paragraph_tokens text r more) ≤ past_of r more
+paragraph-count text from r more h f = stretches-count text from (start_of r) r more h (omega arith) f
 
 plain_line-count : (text : List ℕ) (from : ℕ) (r : Row) → length (plain_line text from r) ≤ 2
 plain_line-count text from r = go (r.past - r.stop == 2)
@@ -316,8 +340,9 @@ module _ (text : List ℕ) (options : Options) (lookup : Lookup) where
       let b = words-stop from first c.0 (begun-words behind first _ body.begun body.opened) in
       let d : first.stop ≤ first.past = c.0.0.2 in
       let p = paragraph-count text from first more c.0.0 s.0 in
+      let u = fed-le first.past more (past_of first more) s.0 in
       let ih = document-count direct None false (past_of first more) body.rest after to body.after (fed-behind (past_of first more) body.rest to s.1) in
-      omega (arith, a, b, d, p, ih)
+      omega (arith, a, b, d, p, u, ih)
   document-count direct before behind from all (SetextHeading level first more underline after) to body f =
       let c : FedBehind from (first ∷ (more ++ (underline ∷ body.rest))) to = subst (λ ls. FedBehind from ls to) body.cut f in
       let s = fed-split first more (underline ∷ body.rest) to c.1 in
@@ -325,9 +350,10 @@ module _ (text : List ℕ) (options : Options) (lookup : Lookup) where
       let b = words-stop from first c.0 (begun-words behind first _ body.begun body.opened) in
       let d : first.stop ≤ first.past = c.0.0.2 in
       let p = paragraph-count text from first more c.0.0 s.0 in
+      let u = fed-le first.past more (past_of first more) s.0 in
       let g : past_of first more < underline.past = s.1.0 in
       let ih = document-count direct None false underline.past body.rest after to body.after (fed-behind underline.past body.rest to s.1.2) in
-      omega (arith, a, b, d, p, g, ih)
+      omega (arith, a, b, d, p, u, g, ih)
   document-count direct before behind from all (LeafBlock leaf first more after) to body f =
       let c : FedBehind from (first ∷ (more ++ body.rest)) to = subst (λ ls. FedBehind from ls to) body.cut f in
       let s = fed-split first more body.rest to c.1 in

@@ -9,10 +9,10 @@ use Rattle.cmark_grammar.specs.Containers.{Quote, Item}
 use Rattle.cmark_grammar.specs.Openings.{Leaf, ThematicBreak as ThematicBreakLeaf, AtxHeading as AtxHeadingLeaf, IndentedCode as IndentedCodeLeaf, FencedCode as FencedCodeLeaf, HtmlBlock as HtmlBlockLeaf, LinkDefinition as LinkDefinitionLeaf}
 use Rattle.cmark_grammar.specs.Blocks.{Blocks, Nil as NoBlocks, BlankLine, Paragraph as ParagraphBlock, SetextHeading, LeafBlock, ContainerBlock}
 use Rattle.cmark_grammar.specs.Lists.{ListBefore, tight_behind, goes_on}
-use Rattle.cmark_grammar.specs.BlockDocument.{Text, OwnedText, Html, SoftBreak, ListItem, BlockNode, BlockDocument, Nil, Node, node}
+use Rattle.cmark_grammar.specs.BlockDocument.{BlockKind, Text, OwnedText, Html, ListItem, BlockNode, BlockDocument, Nil, Node, node}
 use Rattle.cmark_grammar.specs.Derivation.{leaf_then, item_then, paragraph_kind, document_of, Derives}
 use Rattle.cmark_grammar.specs.Ranges.{IsSlice, HasSlices}
-use Rattle.cmark_grammar.specs.Tokens.{slice, Piece, texts_then, line_columns, end_place, words_then, paragraph_tokens, behind_hashes, heading_columns, piece_if, plain_line, left_columns, spaces_if, verbatim_line, touches, merge, merge_all, code_columns, code_pieces, fenced_lines, html_then, html_tokens}
+use Rattle.cmark_grammar.specs.Tokens.{slice, Piece, texts_then, line_columns, end_place, words_end, stretch_then, stretches, paragraph_tokens, behind_hashes, heading_columns, piece_if, plain_line, left_columns, spaces_if, verbatim_line, touches, merge, merge_all, code_columns, code_pieces, fenced_lines, html_then, html_tokens}
 
 both : (x y : Bool) → (x && y) ≡ true → (x ≡ true) × (y ≡ true)
 both true y e = (refl, e)
@@ -63,12 +63,20 @@ module _ (text : List ℕ) where
       go true e = ((λ o. ((let l = less start end e in omega (arith, l)), refl)), h)
       go false e = h
 
-  words-sliced : (start : ℕ) (cs : List Column) (after : BlockDocument) → HasSlices text after → HasSlices text (words_then text start cs after)
-  words-sliced start cs after a = texts-sliced (piece_if text start (end_place start cs) []) after (piece_if-sliced start (end_place start cs) [] tt) a
+  stretch-sliced : (start end : ℕ) (after : BlockDocument) → HasSlices text after → HasSlices text (stretch_then text start end after)
+  stretch-sliced start end after a = texts-sliced (piece_if text start end []) after (piece_if-sliced start end [] tt) a
+
+  stretches-sliced : (begin : ℕ) (r : Row) (more : List Row) → HasSlices text (stretches text begin r more)
+  stretches-sliced begin r [] = stretch-sliced begin (words_end r) Nil tt
+  stretches-sliced begin r (s ∷ more) = go (start_of s == r.past) (stretches-sliced begin s more) (stretches-sliced (start_of s) s more)
+    where
+      go : (z : Bool) → HasSlices text (stretches text begin s more) → HasSlices text (stretches text (start_of s) s more)
+          → HasSlices text (if z then stretches text begin s more else stretch_then text begin r.past (stretches text (start_of s) s more))
+      go true p q = p
+      go false p q = stretch-sliced begin r.past (stretches text (start_of s) s more) q
 
   paragraph-sliced : (r : Row) (more : List Row) → HasSlices text (paragraph_tokens text r more)
-  paragraph-sliced r [] = words-sliced (start_of r) (line_columns r) Nil tt
-  paragraph-sliced r (s ∷ more) = words-sliced (start_of r) (line_columns r) (Node (node SoftBreak r.stop r.past) Nil (paragraph_tokens text s more)) (tt, tt, paragraph-sliced s more)
+  paragraph-sliced r more = stretches-sliced (start_of r) r more
 
   plain_line-sliced : (from : ℕ) (r : Row) → AreSliced (plain_line text from r)
   plain_line-sliced from r = go (r.past - r.stop == 2)
@@ -114,7 +122,7 @@ module _ (text : List ℕ) where
 
   leaf-sliced : (lookup : Lookup) (leaf : Leaf) (first : Row) (more : List Row) (after : BlockDocument) → HasSlices text after → HasSlices text (leaf_then text lookup leaf first more after)
   leaf-sliced lookup ThematicBreakLeaf first more after a = (tt, tt, a)
-  leaf-sliced lookup (AtxHeadingLeaf level) first more after a = (tt, words-sliced (first_place first.stop (behind_hashes level first)) (heading_columns level first) Nil tt, a)
+  leaf-sliced lookup (AtxHeadingLeaf level) first more after a = (tt, stretch-sliced (first_place first.stop (behind_hashes level first)) (end_place (first_place first.stop (behind_hashes level first)) (heading_columns level first)) Nil tt, a)
   leaf-sliced lookup IndentedCodeLeaf first more after a = (tt, texts-sliced (code_pieces text 4 (first ∷ more)) Nil (code-sliced 4 (first ∷ more)) tt, a)
   leaf-sliced lookup (FencedCodeLeaf fence) first more after a = (tt, texts-sliced (code_pieces text fence.indented (fenced_lines fence more)) Nil (code-sliced fence.indented (fenced_lines fence more)) tt, a)
   leaf-sliced lookup (HtmlBlockLeaf kind) first more after a = (tt, html-sliced (first ∷ more), a)

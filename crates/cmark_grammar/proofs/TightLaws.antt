@@ -9,8 +9,8 @@ use Rattle.cmark_grammar.specs.Containers.{Quote, Item}
 use Rattle.cmark_grammar.specs.Openings.{Leaf, ThematicBreak as ThematicBreakLeaf, AtxHeading as AtxHeadingLeaf, IndentedCode as IndentedCodeLeaf, FencedCode as FencedCodeLeaf, HtmlBlock as HtmlBlockLeaf, LinkDefinition as LinkDefinitionLeaf}
 use Rattle.cmark_grammar.specs.Blocks.{Blocks, Nil as NoBlocks, BlankLine, Paragraph as ParagraphBlock, SetextHeading, LeafBlock, ContainerBlock}
 use Rattle.cmark_grammar.specs.Lists.{ListBefore, tight_behind, goes_on, is_tight}
-use Rattle.cmark_grammar.specs.Tokens.{Piece, line_columns, end_place, piece_if, texts_then, words_then, paragraph_tokens, html_then, html_tokens, html_kind_of, verbatim_line, behind_hashes, heading_columns, code_pieces, fenced_lines}
-use Rattle.cmark_grammar.specs.BlockDocument.{Text, OwnedText, SoftBreak, BlockList, ListItem, BlockNode, BlockDocument, Nil, Node, node}
+use Rattle.cmark_grammar.specs.Tokens.{Piece, line_columns, end_place, piece_if, texts_then, words_end, stretch_then, stretches, paragraph_tokens, html_then, html_tokens, html_kind_of, verbatim_line, behind_hashes, heading_columns, code_pieces, fenced_lines}
+use Rattle.cmark_grammar.specs.BlockDocument.{BlockKind, Text, OwnedText, BlockList, ListItem, BlockNode, BlockDocument, Nil, Node, node}
 use Rattle.cmark_grammar.specs.Derivation.{leaf_then, item_then, paragraph_kind, document_of, Derives}
 use Rattle.cmark_grammar.specs.Tightness.{tight_within, IsElement, HasTightParagraphs}
 
@@ -22,13 +22,20 @@ texts_tight tight (p ∷ ps) after h = (text_piece p.owned, tt, texts_tight tigh
     text_piece true = tt
     text_piece false = tt
 
-words_tight : (tight : Bool) (text : List ℕ) (start : ℕ) (cs : List Column) (after : BlockDocument) → HasTightParagraphs tight after → HasTightParagraphs tight (words_then text start cs after)
-words_tight tight text start cs after h = texts_tight tight (piece_if text start (end_place start cs) []) after h
+stretch_tight : (tight : Bool) (text : List ℕ) (start end : ℕ) (after : BlockDocument) → HasTightParagraphs tight after → HasTightParagraphs tight (stretch_then text start end after)
+stretch_tight tight text start end after h = texts_tight tight (piece_if text start end []) after h
+
+stretches_tight : (tight : Bool) (text : List ℕ) (begin : ℕ) (r : Row) (more : List Row) → HasTightParagraphs tight (stretches text begin r more)
+stretches_tight tight text begin r [] = stretch_tight tight text begin (words_end r) Nil tt
+stretches_tight tight text begin r (s ∷ more) = go (start_of s == r.past) (stretches_tight tight text begin s more) (stretches_tight tight text (start_of s) s more)
+  where
+    go : (z : Bool) → HasTightParagraphs tight (stretches text begin s more) → HasTightParagraphs tight (stretches text (start_of s) s more)
+        → HasTightParagraphs tight (if z then stretches text begin s more else stretch_then text begin r.past (stretches text (start_of s) s more))
+    go true p q = p
+    go false p q = stretch_tight tight text begin r.past (stretches text (start_of s) s more) q
 
 paragraph_tight : (tight : Bool) (text : List ℕ) (r : Row) (more : List Row) → HasTightParagraphs tight (paragraph_tokens text r more)
-paragraph_tight tight text r [] = words_tight tight text (start_of r) (line_columns r) Nil tt
-paragraph_tight tight text r (s ∷ more) =
-    words_tight tight text (start_of r) (line_columns r) (Node (node SoftBreak r.stop r.past) Nil (paragraph_tokens text s more)) (tt, tt, paragraph_tight tight text s more)
+paragraph_tight tight text r more = stretches_tight tight text (start_of r) r more
 
 html_piece : (tight owned : Bool) (bytes : List ℕ) (start end : ℕ) → IsElement tight (html_kind_of (record { owned = owned; bytes = bytes; start = start; end = end }))
 html_piece tight true bytes start end = tt
@@ -47,7 +54,7 @@ html_tight text tight (r ∷ rs) = html_then_tight tight (verbatim_line text r.c
 
 leaf_tight : (text : List ℕ) (lookup : Lookup) (tight : Bool) (leaf : Leaf) (first : Row) (more : List Row) (after : BlockDocument) → HasTightParagraphs tight after → HasTightParagraphs tight (leaf_then text lookup leaf first more after)
 leaf_tight text lookup tight ThematicBreakLeaf first more after h = (tt, tt, h)
-leaf_tight text lookup tight (AtxHeadingLeaf level) first more after h = (tt, words_tight false text (first_place first.stop (behind_hashes level first)) (heading_columns level first) Nil tt, h)
+leaf_tight text lookup tight (AtxHeadingLeaf level) first more after h = (tt, stretch_tight false text (first_place first.stop (behind_hashes level first)) (end_place (first_place first.stop (behind_hashes level first)) (heading_columns level first)) Nil tt, h)
 leaf_tight text lookup tight IndentedCodeLeaf first more after h = (tt, texts_tight false (code_pieces text 4 (first ∷ more)) Nil tt, h)
 leaf_tight text lookup tight (FencedCodeLeaf fence) first more after h = (tt, texts_tight false (code_pieces text fence.indented (fenced_lines fence more)) Nil tt, h)
 leaf_tight text lookup tight (HtmlBlockLeaf kind) first more after h = (tt, html_tight text false (first ∷ more), h)

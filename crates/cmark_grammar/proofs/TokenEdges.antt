@@ -4,9 +4,9 @@ use Rattle.std.specs.Prelude.{if◌then◌else◌, nat_le, nat_lt}
 use Rattle.cmark_grammar.specs.Columns.{Column, indent, without_indent, drop_end, put_before, without_trailing_blanks, is_blank}
 use Rattle.cmark_grammar.specs.Rows.{Row, place, first_place, begin_of, start_of, indent_of}
 use Rattle.cmark_grammar.specs.Leaves.{Fence, closes_fence}
-use Rattle.cmark_grammar.specs.BlockDocument.{BlockDocument, Nil, Node, node, SoftBreak}
+use Rattle.cmark_grammar.specs.BlockDocument.{BlockDocument, Nil, Node, node}
 use Rattle.cmark_grammar.specs.Ranges.{AllAt}
-use Rattle.cmark_grammar.specs.Tokens.{slice, Piece, texts_then, line_columns, end_place, words_then, paragraph_tokens, is_hash, without_closing, heading_columns, heading_tokens, piece_if, plain_line, left_columns, spaces_if, verbatim_line, touches, merge, merge_all, code_columns, code_pieces, code_tokens, stop_at, fenced_lines, html_then, html_tokens}
+use Rattle.cmark_grammar.specs.Tokens.{slice, Piece, texts_then, line_columns, end_place, words_end, stretch_then, stretches, paragraph_tokens, is_hash, without_closing, behind_hashes, heading_columns, heading_tokens, piece_if, plain_line, left_columns, spaces_if, verbatim_line, touches, merge, merge_all, code_columns, code_pieces, code_tokens, stop_at, fenced_lines, html_then, html_tokens}
 use Rattle.cmark_grammar.proofs.RowPlaces.{Runs, drop-Runs}
 use Rattle.cmark_grammar.proofs.RowEdges.{Front, front-less, IsAsciiColumn, is-ascii, blank-ascii, indent-front, Good, AreGood, drop-good, drop-E, GoodRow, start-E, GoodRows}
 
@@ -63,15 +63,24 @@ module _ (E : ℕ → Type 0) where
       go true = (a, b, h)
       go false = h
 
-  words-edged : (text : List ℕ) (from : ℕ) (cs : List Column) (after : BlockDocument) → E from → EdgeTo from cs → AllAt E after → AllAt E (words_then text from cs after)
-  words-edged text from cs after ef u a =
-      texts-edged (piece_if text from (end_place from cs) []) after (piece_if-edged text from (end_place from cs) [] ef (subst E (sym (end_place-is from cs u.mid u.runs)) u.edge) tt) a
+  stretch-edged : (text : List ℕ) (start end : ℕ) (after : BlockDocument) → E start → E end → AllAt E after → AllAt E (stretch_then text start end after)
+  stretch-edged text start end after es ee a = texts-edged (piece_if text start end []) after (piece_if-edged text start end [] es ee tt) a
+
+  end-edge : (from : ℕ) (cs : List Column) → EdgeTo from cs → E (end_place from cs)
+  end-edge from cs u = subst E (sym (end_place-is from cs u.mid u.runs)) u.edge
+
+  stretches-edged : (text : List ℕ) (begin : ℕ) (r : Row) (more : List Row) → E begin → GoodRow E r → GoodRows E more → AllAt E (stretches text begin r more)
+  stretches-edged text begin r [] b g gs = stretch-edged text begin (words_end r) Nil b (end-edge (start_of r) (line_columns r) (line-edge r g)) tt
+  stretches-edged text begin r (s ∷ more) b g gs =
+      go (start_of s == r.past) (stretches-edged text begin s more b gs.0 gs.1) (stretches-edged text (start_of s) s more (start-E E s gs.0) gs.0 gs.1)
+    where
+      go : (z : Bool) → AllAt E (stretches text begin s more) → AllAt E (stretches text (start_of s) s more)
+          → AllAt E (if z then stretches text begin s more else stretch_then text begin r.past (stretches text (start_of s) s more))
+      go true p q = p
+      go false p q = stretch-edged text begin r.past (stretches text (start_of s) s more) b g.past q
 
   pub paragraph-edged : (text : List ℕ) (r : Row) (more : List Row) → GoodRow E r → GoodRows E more → AllAt E (paragraph_tokens text r more)
-  paragraph-edged text r [] g gs = words-edged text (start_of r) (line_columns r) Nil (start-E E r g) (line-edge r g) tt
-  paragraph-edged text r (s ∷ more) g gs =
-      words-edged text (start_of r) (line_columns r) (Node (node SoftBreak r.stop r.past) Nil (paragraph_tokens text s more)) (start-E E r g) (line-edge r g)
-      (g.stop, g.past, tt, paragraph-edged text s more gs.0 gs.1)
+  paragraph-edged text r more g gs = stretches-edged text (start_of r) r more (start-E E r g) g gs
 
   closing-edge : (from : ℕ) (cs : List Column) (to : ℕ) → Runs from cs to → AreGood E cs → E to → EdgeTo from (without_closing cs)
   closing-edge from cs to h g et = go _
@@ -91,7 +100,7 @@ module _ (E : ℕ → Type 0) where
       let ee : E (first_place r.stop (without_indent cs)) = drop-E E (indent cs) (first_place r.stop cs) cs r.stop d.0 gc (indent-front cs) ed g.stop in
       let u = drop_end-edge is_blank (λ c q. blank-ascii c.byte q) (first_place r.stop (without_indent cs)) (without_indent cs) r.stop e.0 (drop-good E (indent cs) cs gc) g.stop in
       let w = closing-edge (first_place r.stop (without_indent cs)) (without_trailing_blanks (without_indent cs)) u.mid u.runs u.good u.edge in
-      words-edged text (first_place r.stop (without_indent cs)) (heading_columns level r) Nil ee w tt
+      stretch-edged text (first_place r.stop (without_indent cs)) (end_place (first_place r.stop (without_indent cs)) (heading_columns level r)) Nil ee (end-edge (first_place r.stop (without_indent cs)) (heading_columns level r) w) tt
 
   -- lines as they are
   two_of : (n : ℕ) → (n == 2) ≡ true → n ≡ 2

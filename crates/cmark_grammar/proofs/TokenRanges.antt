@@ -4,9 +4,9 @@ use Rattle.std.specs.Prelude.{if◌then◌else◌, nat_lt}
 use Rattle.cmark_grammar.specs.Columns.{Column, indent, without_indent, drop_end, put_before, without_trailing_blanks, is_blank}
 use Rattle.cmark_grammar.specs.Rows.{Row, first_place, begin_of, start_of, past_of}
 use Rattle.cmark_grammar.specs.Leaves.{Fence, closes_fence}
-use Rattle.cmark_grammar.specs.BlockDocument.{BlockDocument, Nil, Node, node, SoftBreak}
+use Rattle.cmark_grammar.specs.BlockDocument.{BlockDocument, Nil, Node, node}
 use Rattle.cmark_grammar.specs.Ranges.{InOrder}
-use Rattle.cmark_grammar.specs.Tokens.{slice, Piece, texts_then, line_columns, end_place, words_then, paragraph_tokens, is_hash, without_closing, heading_columns, heading_tokens, piece_if, plain_line, left_columns, spaces_if, verbatim_line, touches, merge, merge_all, code_columns, code_pieces, code_tokens, stop_at, fenced_lines, html_then, html_tokens}
+use Rattle.cmark_grammar.specs.Tokens.{slice, Piece, texts_then, line_columns, end_place, words_end, stretch_then, stretches, paragraph_tokens, is_hash, without_closing, heading_columns, heading_tokens, piece_if, plain_line, left_columns, spaces_if, verbatim_line, touches, merge, merge_all, code_columns, code_pieces, code_tokens, stop_at, fenced_lines, html_then, html_tokens}
 use Rattle.cmark_grammar.proofs.RowPlaces.{Runs, Runs-le, first_place-Runs, drop-Runs, Lies, begin-start, start-Runs, Along, Along-le}
 
 pub InOrder-le : (from : ℕ) (d : BlockDocument) (to : ℕ) → InOrder from d to → from ≤ to
@@ -88,22 +88,40 @@ piece_if-order text from start end ps to a b h = go (nat_lt start end)
     go true = (a, b, h)
     go false = pieces-lower from end ps to (omega (arith, a, b)) h
 
-words-order : (text : List ℕ) (from : ℕ) (cs : List Column) (stop : ℕ) (after : BlockDocument) (to : ℕ) → UpTo from cs stop → InOrder stop after to → InOrder from (words_then text from cs after) to
+stretch-order : (text : List ℕ) (start end stop : ℕ) (after : BlockDocument) (to : ℕ) → start ≤ end → end ≤ stop → InOrder stop after to → InOrder start (stretch_then text start end after) to
+stretch-order text start end stop after to some le a =
+    texts-order start (piece_if text start end []) stop after to (piece_if-order text start start end [] stop (omega arith) some le) a
+
+words-order : (text : List ℕ) (from : ℕ) (cs : List Column) (stop : ℕ) (after : BlockDocument) (to : ℕ) → UpTo from cs stop → InOrder stop after to → InOrder from (stretch_then text from (end_place from cs) after) to
 words-order text from cs stop after to u a =
     let e : end_place from cs ≡ u.mid = end_place-Runs from cs u.mid u.runs in
     let b : from ≤ u.mid = Runs-le from cs u.mid u.runs in
     let l : u.mid ≤ stop = u.low in
-    texts-order from (piece_if text from (end_place from cs) []) stop after to
-    (piece_if-order text from from (end_place from cs) [] stop (omega arith) (omega (arith, e, b)) (omega (arith, e, l))) a
+    stretch-order text from (end_place from cs) stop after to (omega (arith, e, b)) (omega (arith, e, l)) a
 
-pub paragraph-order : (text : List ℕ) (from : ℕ) (r : Row) (more : List Row) → Lies from r → Along r.past more (past_of r more) → InOrder (start_of r) (paragraph_tokens text r more) (past_of r more)
-paragraph-order text from r [] h a = words-order text (start_of r) (line_columns r) r.stop Nil r.past (line-UpTo from r h) h.2
-paragraph-order text from r (s ∷ more) h a =
-    words-order text (start_of r) (line_columns r) r.stop (Node (node SoftBreak r.stop r.past) Nil (paragraph_tokens text s more)) (past_of s more) (line-UpTo from r h)
-    (omega arith, h.2, InOrder-lower r.past (start_of s) (paragraph_tokens text s more) (past_of s more) past-start (paragraph-order text r.past s more a.0 a.1))
+stretches-order : (text : List ℕ) (from begin : ℕ) (r : Row) (more : List Row) → Lies from r → begin ≤ start_of r → Along r.past more (past_of r more) → InOrder begin (stretches text begin r more) (past_of r more)
+stretches-order text from begin r [] h b a =
+    let u = line-UpTo from r h in
+    let e : words_end r ≡ u.mid = end_place-Runs (start_of r) (line_columns r) u.mid u.runs in
+    let c : start_of r ≤ u.mid = Runs-le (start_of r) (line_columns r) u.mid u.runs in
+    let l : u.mid ≤ r.stop = u.low in
+    stretch-order text begin (words_end r) r.stop Nil r.past (omega (arith, b, e, c)) (omega (arith, e, l)) h.2
+stretches-order text from begin r (s ∷ more) h b a =
+    go (start_of s == r.past) (stretches-order text r.past begin s more a.0 (omega (arith, b, low, past-start)) a.1) (stretches-order text r.past (start_of s) s more a.0 (omega arith) a.1)
   where
     past-start : r.past ≤ start_of s
     past-start = let b : r.past ≤ begin_of s = a.0.0 in let c : begin_of s ≤ start_of s = begin-start r.past s a.0 in omega (arith, b, c)
+
+    low : start_of r ≤ r.past
+    low = let b : start_of r ≤ r.stop = Runs-le (start_of r) (without_indent r.columns) r.stop (start-Runs from r h) in let c : r.stop ≤ r.past = h.2 in omega (arith, b, c)
+
+    go : (z : Bool) → InOrder begin (stretches text begin s more) (past_of s more) → InOrder (start_of s) (stretches text (start_of s) s more) (past_of s more)
+        → InOrder begin (if z then stretches text begin s more else stretch_then text begin r.past (stretches text (start_of s) s more)) (past_of s more)
+    go true p q = p
+    go false p q = stretch-order text begin r.past (start_of s) (stretches text (start_of s) s more) (past_of s more) (omega (arith, b, low)) past-start q
+
+pub paragraph-order : (text : List ℕ) (from : ℕ) (r : Row) (more : List Row) → Lies from r → Along r.past more (past_of r more) → InOrder (start_of r) (paragraph_tokens text r more) (past_of r more)
+paragraph-order text from r more h a = stretches-order text from (start_of r) r more h (omega arith) a
 
 pub without_closing-UpTo : (from : ℕ) (cs : List Column) (to : ℕ) → Runs from cs to → UpTo from (without_closing cs) to
 without_closing-UpTo from cs to h = go _

@@ -13,8 +13,8 @@ pub record Reference : Type 0 where
 
 -- what a node is. A paragraph that stands directly in an item of a tight list is no element of its own; a heading has
 -- its attributes, a block quote its kind, if it is an alert, a list the number of its first item, if it is ordered. A
--- text and an HTML line stand as they are in the text; an owned text is the spaces that are left of a tab. The text of a
--- paragraph or heading is raw: what it says is for the inline pass to read, as is whether a line ending is a hard break
+-- text and an HTML line stand as they are in the text; an owned text is the spaces that are left of a tab. The texts of a
+-- paragraph or heading are raw, with their line endings: what they say is for the inline pass to read
 pub data BlockKind : Type 0 where
   Paragraph : BlockKind
   TightParagraph : BlockKind
@@ -30,7 +30,6 @@ pub data BlockKind : Type 0 where
   Text : (bytes : List ℕ) → BlockKind
   OwnedText : (bytes : List ℕ) → BlockKind
   Html : (bytes : List ℕ) → BlockKind
-  SoftBreak : BlockKind
 
 -- a node: its kind, and its bytes in the text, from start to before end
 pub record BlockNode : Type 0 where

@@ -6,7 +6,7 @@ use Rattle.cmark_grammar.specs.CodeBlockKind.{Indented, Fenced}
 use Rattle.cmark_grammar.specs.TagEnd.{end_of}
 use Rattle.cmark_grammar.specs.Event as event
 use Rattle.cmark_grammar.specs.Event.{Event, Start, End, Rule, Ranged}
-use Rattle.cmark_grammar.specs.BlockDocument.{BlockKind, Paragraph, TightParagraph, Heading, ThematicBreak, IndentedCode, FencedCode, HtmlBlock, LinkDefinition, BlockQuote, BlockList, ListItem, Text, OwnedText, Html, SoftBreak, BlockNode, BlockDocument, Nil, Node}
+use Rattle.cmark_grammar.specs.BlockDocument.{BlockKind, Paragraph, TightParagraph, Heading, ThematicBreak, IndentedCode, FencedCode, HtmlBlock, LinkDefinition, BlockQuote, BlockList, ListItem, Text, OwnedText, Html, BlockNode, BlockDocument, Nil, Node}
 
 -- how a node is read: as an element around what is inside it, as what is inside it alone, as one event, or not at all
 pub data Reads : Type 0 where
@@ -32,7 +32,6 @@ read_as ListItem = Around tag.ListItem
 read_as (Text bytes) = Alone (event.Text bytes)
 read_as (OwnedText bytes) = Alone (event.Text bytes)
 read_as (Html bytes) = Alone (event.Html bytes)
-read_as SoftBreak = Alone event.SoftBreak
 
 abbrev pub over : BlockNode → Event → Ranged
 over node event = record { event = event; start = node.start; end = node.end }

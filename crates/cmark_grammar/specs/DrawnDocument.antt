@@ -1,7 +1,7 @@
 -- A document as a tree keeps it, and how much of it is read: link reference definitions stand in a table of their own, and whether
 -- a paragraph stands directly in an item of a tight list is seen from the list around it.
 use Rattle.std.specs.Prelude.{Bool, true, false, if◌then◌else◌}
-use Rattle.cmark_grammar.specs.BlockDocument.{BlockKind, Paragraph, TightParagraph, Heading, ThematicBreak, IndentedCode, FencedCode, HtmlBlock, LinkDefinition, BlockQuote, BlockList, ListItem, Text, OwnedText, Html, SoftBreak, BlockNode, BlockDocument, Nil, Node}
+use Rattle.cmark_grammar.specs.BlockDocument.{BlockKind, Paragraph, TightParagraph, Heading, ThematicBreak, IndentedCode, FencedCode, HtmlBlock, LinkDefinition, BlockQuote, BlockList, ListItem, Text, OwnedText, Html, BlockNode, BlockDocument, Nil, Node}
 use Rattle.cmark_grammar.specs.Tightness.{tight_within}
 
 abbrev pub is_definition : BlockKind → Bool
@@ -19,7 +19,6 @@ is_definition ListItem = false
 is_definition (Text bytes) = false
 is_definition (OwnedText bytes) = false
 is_definition (Html bytes) = false
-is_definition SoftBreak = false
 
 abbrev pub node_unless : Bool → BlockNode → (inside after : BlockDocument) → BlockDocument
 node_unless true node inside after = after
@@ -47,7 +46,6 @@ kind_within tight ListItem = ListItem
 kind_within tight (Text bytes) = Text bytes
 kind_within tight (OwnedText bytes) = OwnedText bytes
 kind_within tight (Html bytes) = Html bytes
-kind_within tight SoftBreak = SoftBreak
 
 -- the paragraphs that stand directly in items of tight lists are no elements of their own (CommonMark 5.3)
 abbrev pub settled : (tight : Bool) → BlockDocument → BlockDocument

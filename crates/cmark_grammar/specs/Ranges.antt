@@ -1,7 +1,7 @@
 -- The ranges of a document's nodes.
 use Rattle.std.specs.Prelude.{◌≡◌, ℕ, suc, ◌+◌, ◌≤◌, List}
 use Rattle.cmark_grammar.specs.Tokens.{slice}
-use Rattle.cmark_grammar.specs.BlockDocument.{BlockKind, Paragraph, TightParagraph, Heading, ThematicBreak, IndentedCode, FencedCode, HtmlBlock, LinkDefinition, BlockQuote, BlockList, ListItem, Text, OwnedText, Html, SoftBreak, BlockDocument, Nil, Node}
+use Rattle.cmark_grammar.specs.BlockDocument.{BlockKind, Paragraph, TightParagraph, Heading, ThematicBreak, IndentedCode, FencedCode, HtmlBlock, LinkDefinition, BlockQuote, BlockList, ListItem, Text, OwnedText, Html, BlockDocument, Nil, Node}
 
 -- between these two places the nodes stand in order: none begins before the one before it has ended, and each holds what
 -- is inside it
@@ -34,7 +34,6 @@ IsSlice text (BlockQuote alert) start end = Unit {0}
 IsSlice text (BlockList number tight) start end = Unit {0}
 IsSlice text ListItem start end = Unit {0}
 IsSlice text (OwnedText bytes) start end = Unit {0}
-IsSlice text SoftBreak start end = Unit {0}
 
 abbrev pub HasSlices : List ℕ → BlockDocument → Type 0
 HasSlices text Nil = Unit {0}

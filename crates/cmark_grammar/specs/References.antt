@@ -1,6 +1,6 @@
 -- The link reference definitions of a document: the first of each label counts (CommonMark 4.7).
 use Rattle.std.specs.Prelude.{ℕ, Bool, true, false, List, [], ◌∷◌, ◌++◌, bytes_eq, Option, Some, None, ◌≡◌}
-use Rattle.cmark_grammar.specs.BlockDocument.{Reference, BlockKind, Paragraph, TightParagraph, Heading, ThematicBreak, IndentedCode, FencedCode, HtmlBlock, LinkDefinition, BlockQuote, BlockList, ListItem, Text, OwnedText, Html, SoftBreak, BlockDocument, Nil, Node}
+use Rattle.cmark_grammar.specs.BlockDocument.{Reference, BlockKind, Paragraph, TightParagraph, Heading, ThematicBreak, IndentedCode, FencedCode, HtmlBlock, LinkDefinition, BlockQuote, BlockList, ListItem, Text, OwnedText, Html, BlockDocument, Nil, Node}
 
 abbrev pub reference_of_kind : BlockKind → List Reference
 reference_of_kind Paragraph = []
@@ -17,7 +17,6 @@ reference_of_kind ListItem = []
 reference_of_kind (Text bytes) = []
 reference_of_kind (OwnedText bytes) = []
 reference_of_kind (Html bytes) = []
-reference_of_kind SoftBreak = []
 
 -- all definitions of a document, in its order
 abbrev pub references : BlockDocument → List Reference

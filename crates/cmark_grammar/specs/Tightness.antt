@@ -1,6 +1,6 @@
 -- Paragraphs of tight lists (CommonMark 5.3).
 use Rattle.std.specs.Prelude.{◌≡◌, Bool, true, false}
-use Rattle.cmark_grammar.specs.BlockDocument.{BlockKind, Paragraph, TightParagraph, Heading, ThematicBreak, IndentedCode, FencedCode, HtmlBlock, LinkDefinition, BlockQuote, BlockList, ListItem, Text, OwnedText, Html, SoftBreak, BlockDocument, Nil, Node}
+use Rattle.cmark_grammar.specs.BlockDocument.{BlockKind, Paragraph, TightParagraph, Heading, ThematicBreak, IndentedCode, FencedCode, HtmlBlock, LinkDefinition, BlockQuote, BlockList, ListItem, Text, OwnedText, Html, BlockDocument, Nil, Node}
 
 -- whether what is inside such a node stands in items of a tight list, or directly in one
 abbrev pub tight_within : Bool → BlockKind → Bool
@@ -18,7 +18,6 @@ tight_within tight (BlockQuote alert) = false
 tight_within tight (Text bytes) = false
 tight_within tight (OwnedText bytes) = false
 tight_within tight (Html bytes) = false
-tight_within tight SoftBreak = false
 
 -- a paragraph is an element of its own exactly where it does not stand directly in an item of a tight list
 abbrev pub IsElement : (tight : Bool) → BlockKind → Type 0
@@ -36,7 +35,6 @@ IsElement tight ListItem = Unit {0}
 IsElement tight (Text bytes) = Unit {0}
 IsElement tight (OwnedText bytes) = Unit {0}
 IsElement tight (Html bytes) = Unit {0}
-IsElement tight SoftBreak = Unit {0}
 
 abbrev pub HasTightParagraphs : (tight : Bool) → BlockDocument → Type 0
 HasTightParagraphs tight Nil = Unit {0}

@@ -1,5 +1,5 @@
--- What stands in a leaf: texts, line endings, HTML (CommonMark 4.2 to 4.8 and 6.8), and bytes with escapes and entities resolved
--- (CommonMark 2.4 and 2.5).
+-- What stands in a leaf: texts and HTML (CommonMark 4.2 to 4.8), and bytes with escapes and entities resolved (CommonMark 2.4
+-- and 2.5).
 use Rattle.std.specs.Char.{encode_utf8}
 use Rattle.std.specs.Prelude.{ℕ, zero, suc, ◌+◌, ◌-◌, ◌*◌, Bool, true, false, ◌==◌, ◌&&◌, ◌||◌, not, nat_lt, nat_le, if◌then◌else◌, List, [], ◌∷◌, ◌++◌, length, drop, take, take_while, replicate, fold, Option, Some, None}
 use Rattle.cmark_grammar.specs.Answers.{Lookup}
@@ -7,7 +7,7 @@ use Rattle.cmark_grammar.specs.Columns.{Column, is_blank_byte, without_indent, d
 use Rattle.cmark_grammar.specs.Rows.{Row, is_bare, first_place, indent_of, start_of}
 use Rattle.cmark_grammar.specs.Leaves.{Fence, closes_fence, is_empty}
 use Rattle.cmark_grammar.specs.HtmlBlocks.{is_alphanumeric, is_number, lower, first_is}
-use Rattle.cmark_grammar.specs.BlockDocument.{BlockKind, BlockDocument, Nil, Node, node, Text, OwnedText, Html, SoftBreak}
+use Rattle.cmark_grammar.specs.BlockDocument.{BlockKind, BlockDocument, Nil, Node, node, Text, OwnedText, Html}
 
 -- ASCII punctuation (CommonMark 2.1)
 abbrev pub is_punctuation : ℕ → Bool
@@ -151,19 +151,27 @@ slice text start end = take (end - start) (drop start text)
 abbrev pub piece_if : List ℕ → ℕ → ℕ → List Piece → List Piece
 piece_if text start end ps = if nat_lt start end then record { owned = false; bytes = slice text start end; start = start; end = end } ∷ ps else ps
 
--- the text in which these columns stand, from that place on, as it is: one text, and nothing where it is empty
-abbrev pub words_then : List ℕ → (start : ℕ) → List Column → BlockDocument → BlockDocument
-words_then text start cs after = texts_then (piece_if text start (end_place start cs) []) after
+-- where a line ends without the blanks at its end
+abbrev pub words_end : Row → ℕ
+words_end r = end_place (start_of r) (line_columns r)
 
-abbrev pub line_words : List ℕ → Row → BlockDocument → BlockDocument
-line_words text r after = words_then text (start_of r) (line_columns r) after
+-- a stretch of the text as it is, in front of others: one text, and nothing where it is empty
+abbrev pub stretch_then : List ℕ → (start end : ℕ) → BlockDocument → BlockDocument
+stretch_then text start end after = texts_then (piece_if text start end []) after
 
--- the raw content of a paragraph or setext heading: its lines one behind the other, of each the text without the spaces and tabs
--- at both ends (CommonMark 4.8), and between two of them the line ending (CommonMark 6.8). What a line's text says, and whether
--- the line ending is a hard line break, is for the inline pass to read
+-- lines without what stands in front of them, the first from that place on, and the last without the blanks at its end: a line
+-- that begins where the one before it has ended stands in one stretch with it, and another one begins a stretch of its own
+abbrev pub stretches : List ℕ → (begin : ℕ) → Row → List Row → BlockDocument
+stretches text begin r [] = stretch_then text begin (words_end r) Nil
+stretches text begin r (s ∷ more) =
+    if start_of s == r.past then stretches text begin s more else stretch_then text begin r.past (stretches text (start_of s) s more)
+
+-- The raw content of a paragraph or setext heading is "formed by concatenating the paragraph's lines and removing initial and
+-- final spaces or tabs" (CommonMark 4.8): stretches of the text, with the line endings in them, and without the prefixes and the
+-- spaces and tabs in front of a line. What it says, and which of its line endings are hard line breaks, is for the inline pass
+-- to read
 abbrev pub paragraph_tokens : List ℕ → Row → List Row → BlockDocument
-paragraph_tokens text r [] = line_words text r Nil
-paragraph_tokens text r (s ∷ more) = line_words text r (Node (node SoftBreak r.stop r.past) Nil (paragraph_tokens text s more))
+paragraph_tokens text first more = stretches text (start_of first) first more
 
 abbrev pub is_hash : Column → Bool
 is_hash c = c.byte == 35
@@ -183,7 +191,8 @@ abbrev pub heading_columns : (level : ℕ) → Row → List Column
 heading_columns level r = without_closing (without_trailing_blanks (behind_hashes level r))
 
 abbrev pub heading_tokens : List ℕ → (level : ℕ) → Row → BlockDocument
-heading_tokens text level r = words_then text (first_place r.stop (behind_hashes level r)) (heading_columns level r) Nil
+heading_tokens text level r =
+    let start = first_place r.stop (behind_hashes level r) in stretch_then text start (end_place start (heading_columns level r)) Nil
 
 -- a line as it is, from there on: of CR LF, the line feed is a piece of its own and the CR is left out
 abbrev pub plain_line : List ℕ → ℕ → Row → List Piece
