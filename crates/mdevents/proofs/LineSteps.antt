@@ -29,9 +29,9 @@ pub given_more : {E : Type 0} (all : List (Result (Event × Range ℕ) E)) (one 
     → all ++ one ∷ [] ≡ map Ok (items ++ item ∷ [])
 given_more all one items item p q = ap (λ l. l ++ one ∷ []) p ∙ ap (λ z. map Ok items ++ z ∷ []) q ∙ sym (map_push Ok items item)
 
-module _ {E : Type 0} where
+module _ {E F : Type 0} where
   -- the lines of all items of a walk from its start are what its text is rendered as
-  pub rendered : (parser : Parser E) (iter : OffsetIter E) (text : List ℕ) (lookup : Lookup) (items : List (Event × Range ℕ)) (output : List ℕ) → walk_of iter ≡ parser → Reads text no_options lookup parser
+  pub rendered : (parser : Parser E F) (iter : OffsetIter E F) (text : List ℕ) (lookup : Lookup) (items : List (Event × Range ℕ)) (output : List ℕ) → walk_of iter ≡ parser → Reads text no_options lookup parser
       → Drains GivesRanged iter (map Ok items) → output ≡ lines (map shown_item items) → Renders lookup text output
   rendered parser iter text lookup items output same reads drains is =
-      let d = drained_ranges parser iter text no_options lookup items same reads drains in record { document = d.0; derives = d.1; output_is = is ∙ ap lines d.2 }
+      record { events = map shown_item items; reading = drained_ranges parser iter text no_options lookup items same reads drains; output_is = is }

@@ -1,88 +1,93 @@
 -- Steps of a walk.
-use Rattle.std.proofs.Common.{◌≡◌, ◌+◌, ◌-◌, ◌*◌, ◌<◌, ℕ, List, [], ◌∷◌, length, Option, None, Some, Ok, inl, inr, refl, ap, ◌∙◌, subst, arith}
+use Rattle.std.proofs.Common.{◌≡◌, ◌+◌, ◌*◌, ◌<◌, ℕ, suc, Bool, true, false, if◌then◌else◌, List, [], ◌∷◌, length, Option, None, Some, Ok, inl, inr, refl, sym, ap, ◌∙◌, subst, arith, append-nil}
+use Rattle.std.specs.Str.{IsUtf8}
 use Rattle.cmark_block_model.proofs.Drawings.{derived, derived-few}
-use Rattle.cmark_grammar.specs.Answers.{Answers, Absent, Given, NoneAsked, Lookup}
-use Rattle.cmark_grammar.specs.BlockDocument.{BlockDocument}
+use Rattle.cmark_grammar.specs.Answers.{Lookup}
 use Rattle.cmark_grammar.specs.BlockReading.{block_reading}
-use Rattle.cmark_grammar.specs.Derivation.{Derives, document}
+use Rattle.cmark_grammar.specs.Derivation.{document}
 use Rattle.cmark_grammar.specs.Event.{Ranged}
+use Rattle.cmark_grammar.specs.LeafSpans.{InTurn, WithSpans}
 use Rattle.cmark_grammar.specs.Options.{Options}
+use Rattle.cmark_grammar.proofs.BoundaryLaws.{derived-boundaries}
+use Rattle.cmark_grammar.proofs.LeafSpanLaws.{reading-turn, some-spans}
+use Rattle.cmark_grammar.proofs.RangeLaws.{derived-order}
+use Rattle.cmark_span_walk.specs.Walking as walking
+use Rattle.cmark_span_walk.proofs.Walks.{some-left}
 use Rattle.cmark_walk.specs.declared.reading.Ranged.{Ranged as Item}
-use Rattle.cmark_walk.specs.Walking as walking
 use Rattle.cmark_walk.specs.Walking.{shown_ranged}
-use Rattle.cmark_walk.proofs.OneRemainder.{one-remainder}
 use Rattle.pulldown_cmark.specs.declared.parse.Parser.{Parser}
-use Rattle.pulldown_cmark.specs.Walking.{GoesOn, before}
-use Rattle.pulldown_cmark.specs.Parsing.{CanGo, IsOver, GivesStep, IsLeft, Reads, Remains, Shows, definitions}
+use Rattle.pulldown_cmark.specs.Walking.{GoesOn, IsReading}
+use Rattle.pulldown_cmark.specs.Parsing.{CanGo, IsOver, GivesStep, Left, Reads, Remains, Shows, ShowsStep, definitions, events_left}
 
-some-none : {A : Type 0} (x : A) → Some x ≡ None → ⊥
-some-none x e = let q : Some x ≡ None = e in cc
-
-module _ {E : Type 0} where
-  -- what is left of a walk that is not over
-  pub record Going (parser : Parser E) : Type 0 where
-    pub events : List Ranged
-    pub remains : walking.Remains parser.walk events
-    pub few : length events < parser.budget
-
-  going-left : (parser : Parser E) (events : List Ranged) → (parser.budget ≡ 0 → ⊥) → IsLeft parser events → walking.Remains parser.walk events × (length events < parser.budget)
-  going-left parser events some (inl over) = absurd (some over.0)
-  going-left parser events some (inr r) = r
-
-  pub going : (parser : Parser E) → (parser.budget ≡ 0 → ⊥) → CanGo parser → Going parser
-  going parser some can = go can.goes
+module _ {E F : Type 0} where
+  -- the walk of a parser that is not over
+  pub going : (parser : Parser E F) → parser.is_over ≡ false → CanGo parser → walking.Stands parser.spans
+  going parser e can = go can.goes
     where
-      go : GoesOn Remains IsOver Shows parser → Going parser
-      go (inl over) = absurd (some over)
-      go (inr l) = let r = going-left parser l.1 some l.2.left in record { events = l.1; remains = r.0; few = r.1 }
+      go : GoesOn Remains IsOver Shows parser → walking.Stands parser.spans
+      go (inl over) = absurd (let q : true ≡ false = sym over ∙ e in cc)
+      go (inr l) = let r = subst (λ b. Left b parser l.0) e l.1 in (r.blocks, r.stands)
 
-  not-over : (parser : Parser E) → Going parser → parser.budget ≡ 0 → ⊥
-  not-over parser g e = let f = g.few in omega (arith, f, e)
+  goes : (parser : Parser E F) → parser.is_over ≡ false → walking.Stands parser.spans → GoesOn Remains IsOver ShowsStep parser
+  goes parser e s = let l = some-left parser.spans s in inr (l.0, subst (λ b. Left b parser l.0) (sym e) l.1)
 
   -- an event is given, and the others are left
-  pub gives-some : (old new : Parser E) (given : Option Item) (item : Item) → given ≡ Some item → Going old → new.budget ≡ old.budget - 1 → ((events : List Ranged) → walking.Remains old.walk events → walking.Gives events given new.walk) → definitions new ≡ definitions old → GivesStep old (Some (Ok item)) new
-  gives-some old new given item is g less gives same = record {
+  pub gives-some : (old new : Parser E F) (item : Item) → old.is_over ≡ false → new.is_over ≡ false → walking.Stands new.spans → walking.Gives old.spans (Some item) new.spans
+      → walking.events_left new.spans < walking.events_left old.spans → definitions new ≡ definitions old → GivesStep old (Some (Ok item)) new
+  gives-some old new item e n stands gives less same = record {
     next = record {
-      taken = [];
-      silent = refl;
       first = (shown_ranged item, refl, back);
-      goes_on = inr (Absent, h.0, record { silent = refl; left = inr (h.2, few) });
-      over = λ none. absurd (not-over old g none);
+      goes_on = goes new n stands;
+      over = λ over. absurd (let q : true ≡ false = sym over ∙ e in cc);
     };
     definitions = same;
-    fewer = let f = g.few in omega (arith, f, less);
+    fewer = let a = left-of old e in let b = left-of new n in omega (arith, a, b, less);
   }
     where
-      h : walking.Gives g.events (Some item) new.walk
-      h = subst (λ o. walking.Gives g.events o new.walk) is (gives g.events g.remains)
+      left-of : (parser : Parser E F) → parser.is_over ≡ false → events_left parser ≡ suc (walking.events_left parser.spans)
+      left-of parser e = ap (λ b. if b then 0 else suc (walking.events_left parser.spans)) e
 
-      few : length h.0 < new.budget
-      few = let f = g.few in let e = ap length h.1 in omega (arith, f, e, less)
+      back : (events : List Ranged) → Remains new events → Remains old (shown_ranged item ∷ events)
+      back events r = subst (λ b. Left b old (shown_ranged item ∷ events)) (sym e) (gives events (subst (λ b. Left b new events) n r))
 
-      back : (answers : Answers) (events : List Ranged) → Remains new answers events → Remains old (before [] answers) (shown_ranged item ∷ events)
-      back Absent events r =
-          let w = going-left new events (λ z. let n = few in omega (arith, n, z)) r.left in
-          let same : g.events ≡ shown_ranged item ∷ events = h.1 ∙ ap (λ l. shown_ranged item ∷ l) (one-remainder new.walk h.0 events h.2 w.0) in
-          let bound : length (shown_ranged item ∷ events) < old.budget = let n = w.1 in omega (arith, n, less) in
-          record { silent = refl; left = inr (subst (walking.Remains old.walk) same g.remains, bound) }
-      back (Given later) events r = absurd (let q : Given later ≡ Absent = r.silent in cc)
+  -- no event was left
+  pub gives-none : (old new : Parser E F) → old.is_over ≡ false → new.is_over ≡ true → walking.Gives old.spans None new.spans → definitions new ≡ definitions old → GivesStep old None new
+  gives-none old new e n gives same = record {
+    next = record {
+      first = (subst (λ b. Left b old []) (sym e) gives, n);
+      goes_on = inl n;
+      over = λ over. absurd (let q : true ≡ false = sym over ∙ e in cc);
+    };
+    definitions = same;
+    fewer = tt;
+  }
 
   -- a parser at the start
-  pub reads-from : (parser : Parser E) (text : List ℕ) (options : Options) (lookup : Lookup) → walking.Remains parser.walk (block_reading (document text options lookup)) → parser.budget ≡ length text * 8 + 1 → Reads text options lookup parser
-  reads-from parser text options lookup remains most = record {
-    some = (block_reading (document text options lookup), record { silent = refl; left = inr (remains, bound) });
-    reads = reads;
-  }
-    where
-      bound : length (block_reading (document text options lookup)) < parser.budget
-      bound = let n = derived-few text options lookup (document text options lookup) (derived text options lookup) in omega (arith, n, most)
+  module _ (parser : Parser E F) (text : List ℕ) (options : Options) (lookup : Lookup) where
+    abbrev pub blocks : List Ranged
+    blocks = block_reading (document text options lookup)
 
-      reads : (answers : Answers) (events : List Ranged) → Remains parser answers events → (d : BlockDocument) × Derives text options lookup d × NoneAsked answers × (events ≡ block_reading d)
-      reads Absent events r =
-          let w = going-left parser events (λ z. omega (arith, z, most)) r.left in
-          (document text options lookup, derived text options lookup, tt, one-remainder parser.walk events (block_reading (document text options lookup)) w.0 remains)
-      reads (Given later) events r = absurd (let q : Given later ≡ Absent = r.silent in cc)
+    pub reads-from : parser.is_over ≡ false → ((events : List Ranged) → WithSpans text false blocks events → walking.Remains parser.spans events) → ((events : List Ranged) → walking.Remains parser.spans events → WithSpans text false blocks events)
+        → Reads text options lookup parser
+    reads-from e begins reads =
+        let l = some-spans text false blocks in
+        record {
+          some = (l.0, subst (λ b. Left b parser l.0) (sym e) (begins l.0 l.1));
+          reads = λ events r. record { document = document text options lookup; derives = derived text options lookup; spans = reads events (subst (λ b. Left b parser events) e r) };
+        }
 
-  -- at its start a parser can go
-  pub can-begin : (parser : Parser E) (text : List ℕ) (options : Options) (lookup : Lookup) → Reads text options lookup parser → CanGo parser
-  can-begin parser text options lookup r = record { goes = inr (Absent, r.some.0, r.some.1) }
+    -- at its start a parser can go
+    pub can-begin : Reads text options lookup parser → CanGo parser
+    can-begin r = record { goes = inr r.some }
+
+-- the content of a text's leaves is in turn
+pub begin-turn : (text : List ℕ) (options : Options) (lookup : Lookup) → IsUtf8 text → InTurn text 0 (block_reading (document text options lookup))
+begin-turn text options lookup utf8 =
+    let d = derived text options lookup in
+    subst (InTurn text 0) (append-nil (block_reading (document text options lookup)))
+    (reading-turn text 0 (document text options lookup) (length text) [] (derived-order text options lookup (document text options lookup) d)
+    (derived-boundaries text options lookup (document text options lookup) utf8 d) tt)
+
+-- the events of its document are few
+pub begin-few : (text : List ℕ) (options : Options) (lookup : Lookup) → length (block_reading (document text options lookup)) < length text * 8 + 1
+begin-few text options lookup = let n = derived-few text options lookup (document text options lookup) (derived text options lookup) in omega (arith, n)

@@ -1,9 +1,9 @@
 -- What a parser still has to give, and the definitions that it found.
-use Rattle.std.specs.Prelude.{◌≡◌, ◌⊎◌, ◌<◌, ℕ, List, [], length, OnSome, Option, option_map, Result}
+use Rattle.std.specs.Prelude.{◌≡◌, ◌<◌, ℕ, suc, Bool, true, false, if◌then◌else◌, List, [], OnSome, Option, option_map, Result}
 use Rattle.std.specs.declared.alloc.AllocError.{AllocError}
 use Rattle.std.specs.declared.ops.Range.{Range}
 use Rattle.cmark_blocks.specs.Runs.{shown_reference}
-use Rattle.cmark_grammar.specs.Answers.{Answers, Absent, Lookup}
+use Rattle.cmark_grammar.specs.Answers.{Lookup}
 use Rattle.cmark_grammar.specs.Derivation.{document}
 use Rattle.cmark_grammar.specs.Event.{Ranged}
 use Rattle.cmark_grammar.specs.Labels.{fold}
@@ -11,11 +11,11 @@ use Rattle.cmark_grammar.specs.Options.{Options}
 use Rattle.cmark_grammar.specs.References.{first_with, references}
 use Rattle.cmark_items.specs.Definitions.{definition, shown_definition}
 use Rattle.cmark_items.specs.declared.definitions.RefDefs.{RefDefs}
+use Rattle.cmark_span_walk.specs.Walking as walking
 use Rattle.cmark_text.specs.declared.event.Event.{Event}
 use Rattle.cmark_text.specs.Shown.{shown}
 use Rattle.cmark_walk.specs.declared.reading.Ranged.{Ranged as Given}
-use Rattle.cmark_walk.specs.Walking as walking
-use Rattle.cmark_walk.specs.Walking.{definitions_of, shown_ranged}
+use Rattle.cmark_walk.specs.Walking.{shown_ranged}
 use Rattle.pulldown_cmark.specs.declared.parse.Parser.{Parser}
 use Rattle.pulldown_cmark.specs.declared.parse.OffsetIter.{OffsetIter}
 use Rattle.pulldown_cmark.specs.Walking.{GoesOn, GivesNext, ReadsFrom}
@@ -33,70 +33,69 @@ shown_item item = record { event = shown item.0; start = item.1.start; end = ite
 abbrev pub ShowsRanged : Event × Range ℕ → Ranged → Type 0
 ShowsRanged item r = shown_item item ≡ r
 
-module _ {E : Type 0} where
+module _ {E F : Type 0} where
   -- how many events are left at most
-  abbrev pub events_left : Parser E → ℕ
-  events_left parser = parser.budget
+  abbrev pub events_left : Parser E F → ℕ
+  events_left parser = if parser.is_over then 0 else suc (walking.events_left parser.spans)
 
   -- the link reference definitions
-  abbrev pub definitions : Parser E → RefDefs
-  definitions parser = definitions_of parser.walk
+  abbrev pub definitions : Parser E F → RefDefs
+  definitions parser = walking.definitions_of parser.spans
 
   -- nothing is given any more
-  abbrev pub IsOver : Parser E → Type 0
-  IsOver parser = parser.budget ≡ 0
+  abbrev pub IsOver : Parser E F → Type 0
+  IsOver parser = parser.is_over ≡ true
 
-  -- nothing is left, or what remains of the walk
-  abbrev pub IsLeft : Parser E → List Ranged → Type 0
-  IsLeft parser events = (IsOver parser × (events ≡ [])) ⊎ (walking.Remains parser.walk events × (length events < parser.budget))
+  -- these events are left to give: none, or what remains of the walk
+  abbrev pub Left : (is_over : Bool) → Parser E F → List Ranged → Type 0
+  Left true parser events = events ≡ []
+  Left false parser events = walking.Remains parser.spans events
 
-  -- these events are left to give, where no question is answered
-  pub record Remains (parser : Parser E) (answers : Answers) (events : List Ranged) : Type 0 where
-    pub silent : answers ≡ Absent
-    pub left : IsLeft parser events
+  abbrev pub Remains : Parser E F → List Ranged → Type 0
+  Remains parser events = Left parser.is_over parser events
 
   -- a call may be made: the walk is over, or some events are left
-  pub record CanGo (parser : Parser E) : Type 0 where
+  pub record CanGo (parser : Parser E F) : Type 0 where
     pub goes : GoesOn Remains IsOver Shows parser
 
   -- one call: the first event of what was left, and the same definitions
-  pub record Gives (old : Parser E) (given : Option (Result Event AllocError)) (new : Parser E) : Type 0 where
+  pub record Gives (old : Parser E F) (given : Option (Result Event AllocError)) (new : Parser E F) : Type 0 where
     pub next : GivesNext Remains IsOver Shows old given new
     pub definitions : definitions new ≡ definitions old
 
-  pub record GivesStep (old : Parser E) (given : Option (Result Given AllocError)) (new : Parser E) : Type 0 where
+  pub record GivesStep (old : Parser E F) (given : Option (Result Given AllocError)) (new : Parser E F) : Type 0 where
     pub next : GivesNext Remains IsOver ShowsStep old given new
     pub definitions : definitions new ≡ definitions old
-    pub fewer : OnSome given (new.budget < old.budget)
+    pub fewer : OnSome given (events_left new < events_left old)
 
   -- the parser is at the start of a walk over a document that the text derives
-  abbrev pub Reads : List ℕ → Options → Lookup → Parser E → Type 0
+  abbrev pub Reads : List ℕ → Options → Lookup → Parser E F → Type 0
   Reads text options lookup parser = ReadsFrom Remains text options lookup parser
 
   -- its table answers for each folded label as the first definition of the text's document with that label (CommonMark 4.7)
-  abbrev pub Defines : List ℕ → Options → Lookup → Parser E → Type 0
+  abbrev pub Defines : List ℕ → Options → Lookup → Parser E F → Type 0
   Defines text options lookup parser =
       (folded : List ℕ) → option_map shown_definition (definition (definitions parser) folded) ≡ option_map shown_reference (first_with fold folded (references (document text options lookup)))
 
   -- the same of a walk that gives ranges
-  abbrev pub walk_of : OffsetIter E → Parser E
+  abbrev pub walk_of : OffsetIter E F → Parser E F
   walk_of iter = iter.parser
 
-  abbrev pub ranged_left : OffsetIter E → ℕ
+  abbrev pub ranged_left : OffsetIter E F → ℕ
   ranged_left iter = events_left iter.parser
 
-  abbrev pub ranged_definitions : OffsetIter E → RefDefs
+  abbrev pub ranged_definitions : OffsetIter E F → RefDefs
   ranged_definitions iter = definitions iter.parser
 
-  abbrev pub RemainsRanged : OffsetIter E → Answers → List Ranged → Type 0
-  RemainsRanged iter answers events = Remains iter.parser answers events
+  abbrev pub RemainsRanged : OffsetIter E F → List Ranged → Type 0
+  RemainsRanged iter events = Remains iter.parser events
 
-  abbrev pub IsRangedOver : OffsetIter E → Type 0
+  abbrev pub IsRangedOver : OffsetIter E F → Type 0
   IsRangedOver iter = IsOver iter.parser
 
-  abbrev pub CanGoRanged : OffsetIter E → Type 0
+  abbrev pub CanGoRanged : OffsetIter E F → Type 0
   CanGoRanged iter = CanGo iter.parser
 
-  pub record GivesRanged (old : OffsetIter E) (given : Option (Result (Event × Range ℕ) AllocError)) (new : OffsetIter E) : Type 0 where
+  pub record GivesRanged (old : OffsetIter E F) (given : Option (Result (Event × Range ℕ) AllocError)) (new : OffsetIter E F) : Type 0 where
     pub next : GivesNext RemainsRanged IsRangedOver ShowsRanged old given new
     pub definitions : ranged_definitions new ≡ ranged_definitions old

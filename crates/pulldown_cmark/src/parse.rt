@@ -7,7 +7,9 @@ ghost use Rattle.cmark_text.specs.Shown.{shown_options};
 
 use bitflags::Flags;
 use cmark_blocks::{FirstPass, run_first_pass};
+use cmark_inline::{BrokenLinkCallback, DefaultBrokenLinkCallback};
 use cmark_items::RefDefs;
+use cmark_span_walk::{OptionalCallback, SpanWalk};
 use cmark_text::{EntityLookup, Event, Options};
 use cmark_walk::{Ranged, Walk};
 use std::alloc::{AllocError, Global};
@@ -24,18 +26,17 @@ use std::ops::Range;
 /// }
 /// ```
 #[derive(Drop)]
-pub struct Parser<'input, E> {
-    entities: &'input E,
-    walk: Walk<'input>,
-    /// More than the number of events that are left; 0 where no item is given any more.
-    budget: u128,
+pub struct Parser<'input, E, F = DefaultBrokenLinkCallback> {
+    spans: SpanWalk<'input, 'input, E, OptionalCallback<F>>,
+    /// Whether no item is given any more.
+    is_over: bool,
 }
 
-/// The most events that a byte of text is read as.
+/// The most events that a byte of text is read as, before the spans.
 const EVENTS_A_BYTE: u128 = 8;
 
 impl<'input, E: EntityLookup> Parser<'input, E> {
-    ghost use Rattle.pulldown_cmark.specs.Parsing.{Reads, Defines, CanGo, CanGoRanged, GivesStep, definitions, walk_of};
+    ghost use Rattle.pulldown_cmark.specs.Parsing.{Reads, Defines, CanGo};
 
     /// A parser of `text`, with no extension. `entities` says what the entity names stand for. Where memory is refused
     /// there is no parser.
@@ -64,12 +65,34 @@ impl<'input, E: EntityLookup> Parser<'input, E> {
         ensures definitions { IfOk result (Defines text.entry.now (shown_options options) (E.replacement entities.entry.now)) }
         ensures goes { IfOk result CanGo }
     {
+        let parser = Parser::new_with_broken_link_callback(alloc, text, options, entities, None)?;
+        Ok(parser)
+    }
+}
+
+impl<'input, E: EntityLookup, F: BrokenLinkCallback<'input> + Drop> Parser<'input, E, F> {
+    ghost use Rattle.pulldown_cmark.specs.Parsing.{Reads, Defines, CanGo, CanGoRanged, GivesStep, definitions, walk_of};
+
+    /// A parser of `text` with these options, which asks the callback, if there is one, for each reference without a
+    /// definition. The callback is asked while the events are given.
+    pub fn new_with_broken_link_callback(
+        alloc: Global,
+        text: &'input str,
+        options: Options,
+        entities: &'input E,
+        callback: Option<F>,
+    ) -> Result<Parser<'input, E, F>, AllocError>
+        ensures reads { IfOk result (Reads text.entry.now (shown_options options) (E.replacement entities.entry.now)) }
+        ensures definitions { IfOk result (Defines text.entry.now (shown_options options) (E.replacement entities.entry.now)) }
+        ensures goes { IfOk result CanGo }
+    {
         let FirstPass { tree, allocations } = run_first_pass(alloc, text, options, entities)?;
         let budget = text.len() as u128 * EVENTS_A_BYTE + 1;
+        let walk = Walk::new(alloc, text, tree, allocations);
+        let callback = OptionalCallback { callback };
         Ok(Parser {
-            entities,
-            walk: Walk::new(alloc, text, tree, allocations),
-            budget,
+            spans: SpanWalk::new(alloc, text, walk, budget, options, entities, callback),
+            is_over: false,
         })
     }
 
@@ -78,11 +101,11 @@ impl<'input, E: EntityLookup> Parser<'input, E> {
     pub fn reference_definitions(&self) -> &RefDefs<'input>
         ensures { result.now ≡ definitions self.now }
     {
-        self.walk.definitions()
+        self.spans.definitions()
     }
 
     /// The same walk, from where it stands, with the range of each event.
-    pub fn into_offset_iter(self) -> OffsetIter<'input, E>
+    pub fn into_offset_iter(self) -> OffsetIter<'input, E, F>
         ensures walk { walk_of result ≡ self.entry }
         ensures goes { CanGo self.entry → CanGoRanged result }
     {
@@ -95,27 +118,25 @@ impl<'input, E: EntityLookup> Parser<'input, E> {
         requires { CanGo self.old }
         ensures { GivesStep self.old result self.new }
     {
-        if self.budget == 0 {
+        if self.is_over {
             return None;
         }
-        match self.walk.next() {
-            Ok(Some(given)) => {
-                self.budget -= 1;
-                Some(Ok(given))
-            }
+        match self.spans.next() {
+            Ok(Some(given)) => Some(Ok(given)),
             Ok(None) => {
-                self.budget = 0;
+                self.is_over = true;
                 None
             }
             Err(error) => {
-                self.budget = 0;
+                self.is_over = true;
                 Some(Err(error))
             }
         }
     }
 }
 
-impl<'input, E: EntityLookup> Iterator for Parser<'input, E> {
+impl<'input, E: EntityLookup, F: BrokenLinkCallback<'input> + Drop> Iterator
+    for Parser<'input, E, F> {
     ghost use Rattle.pulldown_cmark.specs.Parsing.{CanGo, Gives, events_left};
 
     type Item = Result<Event<'input>, AllocError>;
@@ -132,16 +153,20 @@ impl<'input, E: EntityLookup> Iterator for Parser<'input, E> {
             Err(error) => Some(Err(error)),
         }
     }
+
+    fn size_hint(&self) -> (usize, Option<usize>) {
+        (0, None)
+    }
 }
 
 /// An iterator over the events of a text's document with their ranges: the bytes of the text, from the start to before
 /// the end, that the event comes from. A start and its end have the range of the whole element.
 #[derive(Drop)]
-pub struct OffsetIter<'input, E> {
-    parser: Parser<'input, E>,
+pub struct OffsetIter<'input, E, F = DefaultBrokenLinkCallback> {
+    parser: Parser<'input, E, F>,
 }
 
-impl<'input, E: EntityLookup> OffsetIter<'input, E> {
+impl<'input, E: EntityLookup, F: BrokenLinkCallback<'input> + Drop> OffsetIter<'input, E, F> {
     ghost use Rattle.pulldown_cmark.specs.Parsing.{ranged_definitions};
 
     /// The link reference definitions of the text, as those of the parser.
@@ -152,7 +177,8 @@ impl<'input, E: EntityLookup> OffsetIter<'input, E> {
     }
 }
 
-impl<'input, E: EntityLookup> Iterator for OffsetIter<'input, E> {
+impl<'input, E: EntityLookup, F: BrokenLinkCallback<'input> + Drop> Iterator
+    for OffsetIter<'input, E, F> {
     ghost use Rattle.pulldown_cmark.specs.Parsing.{CanGoRanged, GivesRanged, ranged_left};
 
     type Item = Result<(Event<'input>, Range<usize>), AllocError>;
@@ -168,5 +194,9 @@ impl<'input, E: EntityLookup> Iterator for OffsetIter<'input, E> {
             Ok(given) => Some(Ok((given.event, given.range))),
             Err(error) => Some(Err(error)),
         }
+    }
+
+    fn size_hint(&self) -> (usize, Option<usize>) {
+        (0, None)
     }
 }

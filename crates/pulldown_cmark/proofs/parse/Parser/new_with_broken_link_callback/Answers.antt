@@ -1,0 +1,26 @@
+use Rattle.std.proofs.Common.{refl, subst}
+use Rattle.cmark_text.specs.Shown.{shown_options}
+use Rattle.cmark_block_model.specs.BlockPass.{pass_over}
+use Rattle.cmark_block_model.proofs.Drawings.{drawn-read, drawn-order, drawn-edges}
+use Rattle.cmark_grammar.specs.BlockReading.{block_reading}
+use Rattle.cmark_grammar.specs.Derivation.{document}
+use Rattle.cmark_walk.specs.Walking.{Remains}
+use Rattle.pulldown_cmark.proofs.ParseSteps.{begin-few, begin-turn, reads-from, can-begin}
+use Rattle.pulldown_cmark.proofs.parse.Parser.new_with_broken_link_callback.Goals as goal
+
+pub returns-clause-reads : goal.returns-clause-reads
+returns-clause-reads g c =
+    let text = c.args.text.now in
+    let options = shown_options c.args.options in
+    let lookup = g.E.EntityLookup.replacement c.args.entities.now in
+    let blocks = block_reading (document text options lookup) in
+    let leaves = c.in_ok-tree.ensures.document in
+    let drawn =
+    c.new-walk.ensures.remains leaves.forest (pass_over text options lookup).drawing.here leaves.tree_is leaves.drawn (drawn-order text options lookup)
+    (drawn-edges text options lookup c.utf8.text) in
+    let remains = subst (Remains c.new-walk.result) (drawn-read text options lookup) drawn in
+    reads-from _ text options lookup refl (λ events w. c.new.ensures.begins blocks events remains (begin-few text options lookup) (begin-turn text options lookup c.utf8.text) w)
+    (λ events r. c.new.ensures.reads blocks events remains r)
+
+pub returns-clause-goes : goal.returns-clause-goes
+returns-clause-goes g c = can-begin _ c.args.text.now (shown_options c.args.options) (g.E.EntityLookup.replacement c.args.entities.now) (returns-clause-reads g c)
