@@ -1,16 +1,18 @@
 -- One more line, behind what is open.
-use Rattle.std.proofs.Common.{◌≡◌, ℕ, suc, ◌≤◌, Bool, true, false, not, ◌&&◌, if◌then◌else◌, List, [], ◌∷◌, take, drop, length, Some, None, refl, sym, ap, subst, ◌∙◌, arith, true≢false}
+use Rattle.std.proofs.Common.{◌≡◌, ◌≢◌, ℕ, suc, ◌≤◌, Bool, true, false, not, ◌&&◌, if◌then◌else◌, List, [], ◌∷◌, take, drop, length, Some, None, refl, sym, ap, subst, ◌∙◌, arith, true≢false}
 use Rattle.std.proofs.lemmas.List.{drop_all}
 use Rattle.cmark_grammar.specs.Answers.{Lookup}
 use Rattle.cmark_grammar.specs.Leaves.{underlines}
 use Rattle.cmark_grammar.specs.Openings.{interrupts, texts, lazily}
 use Rattle.cmark_grammar.specs.Options.{Options}
 use Rattle.cmark_grammar.specs.Lines.{lines}
-use Rattle.cmark_grammar.specs.Rows.{Row, rows_from}
+use Rattle.cmark_grammar.specs.Rows.{Row, start_of, rows_from}
+use Rattle.cmark_grammar.specs.Tokens.{stretch_then}
+use Rattle.cmark_grammar.specs.BlockDocument.{Nil}
 use Rattle.cmark_lines.specs.Rests.{row_of}
 use Rattle.cmark_lines.specs.declared.line_rest.LineRest.{LineRest}
 use Rattle.cmark_lines.proofs.LazyRows.{whole-texts}
-use Rattle.cmark_block_model.specs.BlockPass.{ahead_in, leaf_fed, lazy_fed, begin, leaf_closed, close_leaf, heading_made, paragraph_line, paragraph_begun, underlined_or, line_with, line_fed, lines_fed, containers_closed}
+use Rattle.cmark_block_model.specs.BlockPass.{ahead_in, leaf_fed, lazy_fed, begin, leaf_closed, close_leaf, heading_made, paragraph_line, paragraph_begun, underlined_or, line_with, line_fed, lines_fed, containers_closed, with_drawn}
 use Rattle.cmark_block_model.specs.OpenBlocks as model
 use Rattle.cmark_block_model.specs.OpenBlocks.{takes_lazy}
 use Rattle.cmark_blocks.specs.declared.state.OpenLeaf.TheVariants as leaf
@@ -18,35 +20,47 @@ use Rattle.cmark_blocks.specs.declared.state.Pass.{Pass}
 use Rattle.cmark_blocks.specs.Ahead.{lines_at}
 use Rattle.cmark_blocks.specs.Fed.{Feeds, FeedsSoFar, FeedsAll}
 use Rattle.cmark_blocks.specs.Runs.{Runs, ShowsLeaf}
+use Rattle.cmark_leaves.proofs.EndSteps.{equal-true, equal-false}
 
 module _ {E : Type 0} (replacement : E → Lookup) (text : List ℕ) (lookup : Lookup) (m : model.Pass) (pass : Pass E) (runs : Runs replacement text lookup m pass) where
-  pub in_paragraph : (last : LineRest) → pass.leaf ≡ leaf.Paragraph last → m.leaf ≡ model.InParagraph (row_of last)
-  in_paragraph last is = (subst (λ l. ShowsLeaf text l pass.blank_lines.items m.leaf) is runs.leaf).0
+  pub in_paragraph : (from : ℕ) (last : LineRest) → pass.leaf ≡ leaf.Paragraph from last → m.leaf ≡ model.InParagraph from (row_of last)
+  in_paragraph from last is = (subst (λ l. ShowsLeaf text l pass.blank_lines.items m.leaf) is runs.leaf).0
 
   pub in_definition : (left : ℕ) → pass.leaf ≡ leaf.Definition left → m.leaf ≡ model.InDefinition left
   in_definition left is = (subst (λ l. ShowsLeaf text l pass.blank_lines.items m.leaf) is runs.leaf).0
 
+module _ (text : List ℕ) (options : Options) (lookup : Lookup) (r : Row) (m : model.Pass) where
+  -- a line that touches the last one, or not
+  pub line-touches : (from : ℕ) (last : Row) → start_of r ≡ last.past → paragraph_line text options lookup from last r m ≡ record m { leaf = model.InParagraph from r }
+  line-touches from last e =
+      ap (λ z. if z then record m { leaf = model.InParagraph from r } else record (with_drawn (stretch_then text from last.past Nil) m) { leaf = model.InParagraph (start_of r) r }) (equal-true (start_of r) last.past e)
+
+  pub line-apart : (from : ℕ) (last : Row) → start_of r ≢ last.past
+      → paragraph_line text options lookup from last r m ≡ record (with_drawn (stretch_then text from last.past Nil) m) { leaf = model.InParagraph (start_of r) r }
+  line-apart from last e =
+      ap (λ z. if z then record m { leaf = model.InParagraph from r } else record (with_drawn (stretch_then text from last.past Nil) m) { leaf = model.InParagraph (start_of r) r }) (equal-false (start_of r) last.past e)
+
 module _ (text : List ℕ) (options : Options) (lookup : Lookup) (r : Row) (next : List Row) (m : model.Pass) where
   -- behind a paragraph
-  pub feeds-underline : (last : Row) (level : ℕ) → Some level ≡ underlines r → m.leaf ≡ model.InParagraph last → leaf_fed text options lookup m.leaf r next m ≡ heading_made text options lookup level last r m
-  feeds-underline last level under is =
+  pub feeds-underline : (from : ℕ) (last : Row) (level : ℕ) → Some level ≡ underlines r → m.leaf ≡ model.InParagraph from last → leaf_fed text options lookup m.leaf r next m ≡ heading_made text options lookup level from last r m
+  feeds-underline from last level under is =
       ap (λ l. leaf_fed text options lookup l r next m) is
-      ∙ ap (λ u. underlined_or text options lookup u (λ level. heading_made text options lookup level last r m) (if texts options r (ahead_in text options lookup m.outer next) then paragraph_line text options lookup last r m else begin text options lookup r next (leaf_closed text options lookup m))) (sym under)
+      ∙ ap (λ u. underlined_or text options lookup u (λ level. heading_made text options lookup level from last r m) (if texts options r (ahead_in text options lookup m.outer next) then paragraph_line text options lookup from last r m else begin text options lookup r next (leaf_closed text options lookup m))) (sym under)
 
-  feeds-other : (last : Row) (goes_on : Bool) → None ≡ underlines r → r.lazy ≡ false → not (interrupts options true r (ahead_in text options lookup m.outer next)) ≡ goes_on → m.leaf ≡ model.InParagraph last →
-      leaf_fed text options lookup m.leaf r next m ≡ (if goes_on then paragraph_line text options lookup last r m else begin text options lookup r next (leaf_closed text options lookup m))
-  feeds-other last goes_on under whole on is =
+  feeds-other : (from : ℕ) (last : Row) (goes_on : Bool) → None ≡ underlines r → r.lazy ≡ false → not (interrupts options true r (ahead_in text options lookup m.outer next)) ≡ goes_on → m.leaf ≡ model.InParagraph from last →
+      leaf_fed text options lookup m.leaf r next m ≡ (if goes_on then paragraph_line text options lookup from last r m else begin text options lookup r next (leaf_closed text options lookup m))
+  feeds-other from last goes_on under whole on is =
       ap (λ l. leaf_fed text options lookup l r next m) is
-      ∙ ap (λ u. underlined_or text options lookup u (λ level. heading_made text options lookup level last r m) (if texts options r (ahead_in text options lookup m.outer next) then paragraph_line text options lookup last r m else begin text options lookup r next (leaf_closed text options lookup m))) (sym under)
-      ∙ ap (λ t. if t then paragraph_line text options lookup last r m else begin text options lookup r next (leaf_closed text options lookup m)) (whole-texts options r (ahead_in text options lookup m.outer next) whole ∙ on)
+      ∙ ap (λ u. underlined_or text options lookup u (λ level. heading_made text options lookup level from last r m) (if texts options r (ahead_in text options lookup m.outer next) then paragraph_line text options lookup from last r m else begin text options lookup r next (leaf_closed text options lookup m))) (sym under)
+      ∙ ap (λ t. if t then paragraph_line text options lookup from last r m else begin text options lookup r next (leaf_closed text options lookup m)) (whole-texts options r (ahead_in text options lookup m.outer next) whole ∙ on)
 
-  pub feeds-interrupted : (last : Row) → None ≡ underlines r → r.lazy ≡ false → true ≡ interrupts options true r (ahead_in text options lookup m.outer next) → m.leaf ≡ model.InParagraph last →
+  pub feeds-interrupted : (from : ℕ) (last : Row) → None ≡ underlines r → r.lazy ≡ false → true ≡ interrupts options true r (ahead_in text options lookup m.outer next) → m.leaf ≡ model.InParagraph from last →
       leaf_fed text options lookup m.leaf r next m ≡ begin text options lookup r next (leaf_closed text options lookup m)
-  feeds-interrupted last under whole on is = feeds-other last false under whole (ap not (sym on)) is
+  feeds-interrupted from last under whole on is = feeds-other from last false under whole (ap not (sym on)) is
 
-  pub feeds-text : (last : Row) → None ≡ underlines r → r.lazy ≡ false → false ≡ interrupts options true r (ahead_in text options lookup m.outer next) → m.leaf ≡ model.InParagraph last →
-      leaf_fed text options lookup m.leaf r next m ≡ paragraph_line text options lookup last r m
-  feeds-text last under whole on is = feeds-other last true under whole (ap not (sym on)) is
+  pub feeds-text : (from : ℕ) (last : Row) → None ≡ underlines r → r.lazy ≡ false → false ≡ interrupts options true r (ahead_in text options lookup m.outer next) → m.leaf ≡ model.InParagraph from last →
+      leaf_fed text options lookup m.leaf r next m ≡ paragraph_line text options lookup from last r m
+  feeds-text from last under whole on is = feeds-other from last true under whole (ap not (sym on)) is
 
   -- behind a link reference definition
   pub feeds-last : m.leaf ≡ model.InDefinition 0 → leaf_fed text options lookup m.leaf r next m ≡ begin text options lookup r next (leaf_closed text options lookup m)
@@ -56,8 +70,8 @@ module _ (text : List ℕ) (options : Options) (lookup : Lookup) (r : Row) (next
   feeds-left left is = ap (λ l. leaf_fed text options lookup l r next m) is
 
   -- lazy lines
-  pub lazy-paragraph : (last : Row) → m.leaf ≡ model.InParagraph last → lazy_fed text options lookup m.leaf r m ≡ paragraph_line text options lookup last r m
-  lazy-paragraph last is = ap (λ l. lazy_fed text options lookup l r m) is
+  pub lazy-paragraph : (from : ℕ) (last : Row) → m.leaf ≡ model.InParagraph from last → lazy_fed text options lookup m.leaf r m ≡ paragraph_line text options lookup from last r m
+  lazy-paragraph from last is = ap (λ l. lazy_fed text options lookup l r m) is
 
   pub lazy-definition : (left : ℕ) → m.leaf ≡ model.InDefinition left → lazy_fed text options lookup m.leaf r m ≡ paragraph_begun text options lookup r (leaf_closed text options lookup m)
   lazy-definition left is =
@@ -90,7 +104,7 @@ module _ (text : List ℕ) (options : Options) (lookup : Lookup) (m : model.Pass
   -- closing a leaf closes no container
   pub closed-outer : (l : model.OpenLeaf) → (close_leaf text options lookup l m).outer ≡ m.outer
   closed-outer model.Closed = refl
-  closed-outer (model.InParagraph last) = refl
+  closed-outer (model.InParagraph from last) = refl
   closed-outer (model.InDefinition left) = refl
   closed-outer (model.InIndented waits end blank) = refl
   closed-outer (model.InFenced fence waits) = refl

@@ -57,17 +57,17 @@ module _ {E : Type 0} (replacement : E → Lookup) where
       (text : List ℕ) (options : Options) (lookup : Lookup) (m : model.Pass) (ahead : List Row) → Runs replacement text lookup m old →
       Runs replacement text lookup (leaf_begun text options lookup leaf more (row_of rest) ahead m) new
 
-  -- one more line of a paragraph, behind this last one
-  abbrev pub AddsLine : (last rest : LineRest) → Pass E → Pass E → Type 0
-  AddsLine last rest old new =
+  -- one more line of a paragraph, behind this last one, which the lines from this place on touch
+  abbrev pub AddsLine : (from : ℕ) → (last rest : LineRest) → Pass E → Pass E → Type 0
+  AddsLine from last rest old new =
       (text : List ℕ) (options : Options) (lookup : Lookup) (m : model.Pass) → Runs replacement text lookup m old →
-      Runs replacement text lookup (paragraph_line text options lookup (row_of last) (row_of rest) m) new
+      Runs replacement text lookup (paragraph_line text options lookup from (row_of last) (row_of rest) m) new
 
   -- a paragraph with this last line was underlined
-  abbrev pub MakesHeading : (level : ℕ) → (last rest : LineRest) → Pass E → Pass E → Type 0
-  MakesHeading level last rest old new =
+  abbrev pub MakesHeading : (level from : ℕ) → (last rest : LineRest) → Pass E → Pass E → Type 0
+  MakesHeading level from last rest old new =
       (text : List ℕ) (options : Options) (lookup : Lookup) (m : model.Pass) → Runs replacement text lookup m old →
-      Runs replacement text lookup (heading_made text options lookup level (row_of last) (row_of rest) m) new
+      Runs replacement text lookup (heading_made text options lookup level from (row_of last) (row_of rest) m) new
 
   -- a line that may begin a link reference definition began one, or else a paragraph
   abbrev pub BeginsBracket : LineRest → Pass E → Pass E → Type 0

@@ -34,8 +34,9 @@ impl<'a, E: EntityLookup> Pass<'a, E> {
         ensures text { self.new.text ≡ self.old.text }
     {
         self.begin_block();
-        self.builder.open(rest.words_begin(), ItemBody::Paragraph)?;
-        self.leaf = OpenLeaf::Paragraph(rest);
+        let begin = rest.words_begin();
+        self.builder.open(begin, ItemBody::Paragraph)?;
+        self.leaf = OpenLeaf::Paragraph(begin, rest);
         Ok(())
     }
 

@@ -15,7 +15,7 @@ fn takes_lazy(leaf: OpenLeaf<'_>) -> bool
     ensures { TakesLazy leaf.entry result }
 {
     match leaf {
-        OpenLeaf::Paragraph(_) | OpenLeaf::Definition(_) => true,
+        OpenLeaf::Paragraph(_, _) | OpenLeaf::Definition(_) => true,
         OpenLeaf::Closed
         | OpenLeaf::Indented(_, _)
         | OpenLeaf::Fenced(_, _, _, _)
@@ -29,24 +29,30 @@ impl<'a, E: EntityLookup> Pass<'a, E> {
     ghost use Rattle.cmark_blocks.specs.Steps.{FeedsLeaf, FeedsLazily};
     ghost use Rattle.cmark_blocks.specs.Fed.{IsLazy, FeedsRest, Feeds};
 
-    /// One more line behind a paragraph with this last line: an underline, one more line of its text, or what ends it.
-    fn feed_paragraph(&mut self, last: LineRest<'a>, rest: LineRest<'a>) -> Result<(), AllocError>
+    /// One more line behind a paragraph with this last line, which the lines from this byte offset on touch: an underline, one more
+    /// line of its text, or what ends it.
+    fn feed_paragraph(
+        &mut self,
+        from: usize,
+        last: LineRest<'a>,
+        rest: LineRest<'a>,
+    ) -> Result<(), AllocError>
         requires good { IsGood self.old }
         requires line { IsRead self.old.text.now rest }
-        requires is { self.old.leaf ≡ leaf.Paragraph last }
+        requires is { self.old.leaf ≡ leaf.Paragraph from last }
         requires bare { self.old.bare ≡ false }
         ensures good { IsGood self.new }
         ensures runs { OnOk result (FeedsLeaf E.replacement rest.entry self.old self.new) }
         ensures text { self.new.text ≡ self.old.text }
     {
         if let Some(level) = underlines(rest) {
-            self.underline(last, level, rest)?;
+            self.underline(from, last, level, rest)?;
             return Ok(());
         }
         if interrupts(rest, true) {
             self.begin_anew(rest)?;
         } else {
-            self.add_to_paragraph(last, rest)?;
+            self.add_to_paragraph(from, last, rest)?;
         }
         Ok(())
     }
@@ -80,7 +86,7 @@ impl<'a, E: EntityLookup> Pass<'a, E> {
     {
         match self.leaf {
             OpenLeaf::Closed => self.begin(rest),
-            OpenLeaf::Paragraph(last) => self.feed_paragraph(last, rest),
+            OpenLeaf::Paragraph(from, last) => self.feed_paragraph(from, last, rest),
             OpenLeaf::Definition(left) => self.feed_definition(left, rest),
             OpenLeaf::Indented(waits, end) => self.feed_indented(waits, end, rest),
             OpenLeaf::Fenced(mark, size, indent, waits) => {
@@ -98,7 +104,7 @@ impl<'a, E: EntityLookup> Pass<'a, E> {
         ensures text { self.new.text ≡ self.old.text }
     {
         match self.leaf {
-            OpenLeaf::Paragraph(last) => self.add_to_paragraph(last, rest),
+            OpenLeaf::Paragraph(from, last) => self.add_to_paragraph(from, last, rest),
             OpenLeaf::Definition(_) => {
                 self.close_leaf()?;
                 self.begin_paragraph(rest)?;

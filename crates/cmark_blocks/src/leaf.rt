@@ -5,7 +5,7 @@ ghost use Rattle.cmark_block_model.specs.BlockPass.{is_some};
 ghost use Rattle.cmark_lines.specs.Rests.{row_of};
 
 use crate::state::{OpenLeaf, Pass};
-use cmark_leaves::{Stretch, draw_last_line, draw_stretch};
+use cmark_leaves::{Stretch, draw_last_lines, draw_stretch};
 use cmark_lines::LineRest;
 use cmark_text::EntityLookup;
 use std::alloc::AllocError;
@@ -26,17 +26,17 @@ impl<'a, E: EntityLookup> Pass<'a, E> {
     ghost use Rattle.cmark_blocks.specs.Runs.{IsGood, IsVerbatim};
     ghost use Rattle.cmark_blocks.specs.Steps.{ClosesLeaf};
 
-    /// Closes a paragraph, whose last line this is.
-    fn close_paragraph(&mut self, last: LineRest<'a>) -> Result<(), AllocError>
+    /// Closes a paragraph, whose last line this is; the lines that touch it begin at this byte offset.
+    fn close_paragraph(&mut self, from: usize, last: LineRest<'a>) -> Result<(), AllocError>
         requires good { IsGood self.old }
-        requires is { self.old.leaf ≡ leaf.Paragraph last }
+        requires is { self.old.leaf ≡ leaf.Paragraph from last }
         ensures good { IsGood self.new }
         ensures runs { OnOk result (ClosesLeaf E.replacement self.old self.new) }
         ensures closed { OnOk result (self.new.leaf ≡ leaf.Closed) }
         ensures text { self.new.text ≡ self.old.text }
         ensures bare { self.new.bare ≡ self.old.bare }
     {
-        draw_last_line(&mut self.builder, last)?;
+        draw_last_lines(&mut self.builder, from, last)?;
         self.builder.close(self.past);
         self.leaf = OpenLeaf::Closed;
         Ok(())
@@ -87,7 +87,7 @@ impl<'a, E: EntityLookup> Pass<'a, E> {
     {
         match self.leaf {
             OpenLeaf::Closed => Ok(()),
-            OpenLeaf::Paragraph(last) => self.close_paragraph(last),
+            OpenLeaf::Paragraph(from, last) => self.close_paragraph(from, last),
             OpenLeaf::Definition(_) => {
                 self.leaf = OpenLeaf::Closed;
                 Ok(())

@@ -5,7 +5,7 @@ ghost use Rattle.cmark_text.specs.Shown.{level_number};
 
 use crate::state::{OpenLeaf, Pass};
 use cmark_items::ItemBody;
-use cmark_leaves::{draw_last_line, draw_line};
+use cmark_leaves::{draw_last_lines, draw_lines};
 use cmark_lines::LineRest;
 use cmark_text::{EntityLookup, HeadingLevel};
 use std::alloc::AllocError;
@@ -15,37 +15,44 @@ impl<'a, E: EntityLookup> Pass<'a, E> {
     ghost use Rattle.cmark_blocks.specs.Runs.{IsGood};
     ghost use Rattle.cmark_blocks.specs.Steps.{AddsLine, MakesHeading};
 
-    /// One more line of a paragraph, whose last line is drawn: a line ending stands behind it.
+    /// One more line of a paragraph. If it does not touch the last one, the lines that do, from this byte offset on, become a node.
     pub(crate) fn add_to_paragraph(
         &mut self,
+        from: usize,
         last: LineRest<'a>,
         rest: LineRest<'a>,
     ) -> Result<(), AllocError>
         requires good { IsGood self.old }
-        requires is { self.old.leaf ≡ leaf.Paragraph last }
+        requires is { self.old.leaf ≡ leaf.Paragraph from last }
         ensures good { IsGood self.new }
-        ensures runs { OnOk result (AddsLine E.replacement last.entry rest.entry self.old self.new) }
+        ensures runs { OnOk result (AddsLine E.replacement from last.entry rest.entry self.old self.new) }
         ensures text { self.new.text ≡ self.old.text }
     {
-        draw_line(&mut self.builder, last)?;
-        self.leaf = OpenLeaf::Paragraph(rest);
+        let begin = rest.words_begin();
+        if begin == last.past() {
+            self.leaf = OpenLeaf::Paragraph(from, rest);
+            return Ok(());
+        }
+        draw_lines(&mut self.builder, from, last)?;
+        self.leaf = OpenLeaf::Paragraph(begin, rest);
         Ok(())
     }
 
     /// The paragraph becomes a heading, which ends with its underline.
     pub(crate) fn underline(
         &mut self,
+        from: usize,
         last: LineRest<'a>,
         level: HeadingLevel,
         rest: LineRest<'a>,
     ) -> Result<(), AllocError>
         requires good { IsGood self.old }
-        requires is { self.old.leaf ≡ leaf.Paragraph last }
+        requires is { self.old.leaf ≡ leaf.Paragraph from last }
         ensures good { IsGood self.new }
-        ensures runs { OnOk result (MakesHeading E.replacement (level_number level) last.entry rest.entry self.old self.new) }
+        ensures runs { OnOk result (MakesHeading E.replacement (level_number level) from last.entry rest.entry self.old self.new) }
         ensures text { self.new.text ≡ self.old.text }
     {
-        draw_last_line(&mut self.builder, last)?;
+        draw_last_lines(&mut self.builder, from, last)?;
         self.builder
             .close_as(rest.past(), ItemBody::Heading(level, None));
         self.leaf = OpenLeaf::Closed;

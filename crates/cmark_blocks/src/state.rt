@@ -14,8 +14,9 @@ use std::alloc::{AllocError, Global};
 pub(crate) enum OpenLeaf<'a> {
     /// None.
     Closed,
-    /// A paragraph: its last line becomes nodes when it is seen what follows.
-    Paragraph(LineRest<'a>),
+    /// A paragraph: the byte offset where the lines begin that touch the last one, and that line. They become a node when it is
+    /// seen what follows.
+    Paragraph(usize, LineRest<'a>),
     /// A link reference definition, with so many lines to come.
     Definition(usize),
     /// Indented code: the stretch of the text that waits, and where its last line ends.

@@ -51,7 +51,6 @@ shape (body.Text backslash_escaped) = TextSlice
 shape (body.SynthesizeText index) = Spelt document.OwnedText index.0
 shape (body.SynthesizeChar char) = Element (document.OwnedText (encode_utf8 char))
 shape body.Html = HtmlSlice
-shape body.SoftBreak = Element document.SoftBreak
 shape _ = NoNode
 
 -- what it is whatever its range

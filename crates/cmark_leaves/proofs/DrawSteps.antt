@@ -1,7 +1,7 @@
 -- Nodes drawn one behind the other.
 use Rattle.std.proofs.Common.{◌≡◌, List, [], ◌∷◌, ◌++◌, refl, sym, ap}
 use Rattle.cmark_grammar.specs.BlockDocument.{BlockDocument, Nil, Node, node, join}
-use Rattle.cmark_grammar.specs.Tokens.{Piece, text_kind_of, texts_then}
+use Rattle.cmark_grammar.specs.Tokens.{Piece, text_kind_of}
 use Rattle.cmark_block_model.specs.Drawing.{Drawing, drawn}
 use Rattle.cmark_block_model.specs.CodeLines.{texts_of}
 
@@ -19,10 +19,6 @@ drawn-Nil d = ap (λ here. record d { here = here }) (join-Nil d.here)
 -- one document behind another
 pub drawn-join : (a b : BlockDocument) (d : Drawing) → drawn (join a b) d ≡ drawn b (drawn a d)
 drawn-join a b d = ap (λ here. record d { here = here }) (sym (join-assoc d.here a b))
-
-pub texts-then : (ps : List Piece) (after : BlockDocument) → texts_then ps after ≡ join (texts_of ps) after
-texts-then [] after = refl
-texts-then (p ∷ ps) after = ap (Node (node (text_kind_of p) p.start p.end) Nil) (texts-then ps after)
 
 pub texts-append : (ps qs : List Piece) → texts_of (ps ++ qs) ≡ join (texts_of ps) (texts_of qs)
 texts-append [] qs = refl

@@ -6,8 +6,8 @@ use Rattle.cmark_text.specs.Shown.{text_bytes}
 use Rattle.cmark_tree.specs.Forest as forest
 use Rattle.cmark_tree.specs.Forest.{Forest, one, join as join_forests}
 use Rattle.cmark_tree.specs.Building.{Opened, Is}
-use Rattle.cmark_grammar.specs.BlockDocument.{Text, OwnedText, SoftBreak, Nil, Node, node}
-use Rattle.cmark_grammar.specs.Tokens.{Piece, slice, piece_if, texts_then}
+use Rattle.cmark_grammar.specs.BlockDocument.{Text, OwnedText, Nil, Node, node}
+use Rattle.cmark_grammar.specs.Tokens.{Piece, slice, piece_if}
 use Rattle.cmark_items.specs.declared.allocations.Allocations.{Allocations}
 use Rattle.cmark_items.specs.declared.allocations.CowIndex.{CowIndex}
 use Rattle.cmark_items.specs.declared.item.Item.{Item}
@@ -20,7 +20,7 @@ use Rattle.cmark_builder.specs.declared.builder.Builder.{Builder}
 use Rattle.cmark_builder.specs.Drawn.{Draws}
 use Rattle.cmark_builder.specs.Ended.{item_at}
 use Rattle.cmark_builder.proofs.DrawnSteps.{draws-add, draws-text}
-use Rattle.cmark_leaves.proofs.DrawSteps.{drawn-Nil, drawn-join, texts-then}
+use Rattle.cmark_leaves.proofs.DrawSteps.{drawn-Nil}
 
 -- the last text
 pub last-text : (texts : List CowStr) (text : CowStr) → text_at (texts ++ text ∷ []) (length texts) ≡ Some (text_bytes text)
@@ -65,12 +65,3 @@ draws-words text old new start end d some step same draws =
 pub draws-no_words : (text : List ℕ) (b : Builder) (start end : ℕ) (d : Drawing) → end ≤ start → Draws text b d → Draws text b (drawn (texts_of (piece_if text start end [])) d)
 draws-no_words text b start end d none draws =
     subst (λ ps. Draws text b (drawn (texts_of ps) d)) (if-less text start end false (no-less start end none)) (subst (Draws text b) (sym (drawn-Nil d)) draws)
-
--- and a line ending behind it
-pub draws-ended : (text : List ℕ) (mid new : Builder) (ps : List Piece) (start end : ℕ) (d : Drawing) →
-    Draws text mid (drawn (texts_of ps) d) → Adds mid new (item_at start end body.SoftBreak) → new.allocations ≡ mid.allocations →
-    Draws text new (drawn (texts_then ps (Node (node SoftBreak start end) Nil Nil)) d)
-draws-ended text mid new ps start end d draws step same =
-    let last = Node (node SoftBreak start end) Nil Nil in
-    subst (Draws text new) (sym (ap (λ x. drawn x d) (texts-then ps last) ∙ drawn-join (texts_of ps) last d))
-    (draws-add text mid new (item_at start end body.SoftBreak) (node SoftBreak start end) (drawn (texts_of ps) d) step same refl draws)

@@ -1,4 +1,4 @@
-//! The lines of leaf blocks as nodes of a document's tree: texts as they are, line endings, code, HTML.
+//! The lines of leaf blocks as nodes of a document's tree: texts as they are, code, HTML.
 #![tactic(auto)]
 
 mod code;
@@ -14,5 +14,5 @@ mod words;
 pub use code::{draw_code_line, draw_stretch};
 pub use heading::draw_heading;
 pub use html::draw_html_line;
-pub use paragraph::{draw_last_line, draw_line};
+pub use paragraph::{draw_last_lines, draw_lines};
 pub use stretch::Stretch;

@@ -1,10 +1,10 @@
 // Lines of leaves, drawn from the beginning of a document: what the last node is then. The texts are of CommonMark 2.2, 2.5, 4.2, 4.6
-// and 6.7.
+// and 4.8.
 
 ghost use Rattle.cmark_tree.specs.Building.{IsPlaced};
 
 use crate::{
-    Stretch, draw_code_line, draw_heading, draw_html_line, draw_last_line, draw_line, draw_stretch,
+    Stretch, draw_code_line, draw_heading, draw_html_line, draw_last_lines, draw_lines, draw_stretch,
 };
 use cmark_builder::Builder;
 use cmark_items::{Item, ItemBody};
@@ -34,18 +34,18 @@ const TEXT: ItemBody = ItemBody::Text {
 };
 
 #[test]
-fn a_line_stands_as_it_is(rt: HostRuntime) -> Result<(), Fail> {
+fn the_last_line_stands_as_it_is_without_the_blanks_behind_it(rt: HostRuntime) -> Result<(), Fail> {
     let mut builder = Builder::new(rt.alloc())?;
-    draw_last_line(&mut builder, first_line(" a\\* &amp; b \n"))?;
+    draw_last_lines(&mut builder, 1, first_line(" a\\* &amp; b \n"))?;
     assert_eq!(rt; last_item(builder), item(1, 12, TEXT));
     Ok(())
 }
 
 #[test]
-fn a_line_ending_stands_behind_the_blanks(rt: HostRuntime) -> Result<(), Fail> {
+fn a_line_stands_as_it_is_with_its_line_ending(rt: HostRuntime) -> Result<(), Fail> {
     let mut builder = Builder::new(rt.alloc())?;
-    draw_line(&mut builder, first_line("foo  \nbaz"))?;
-    assert_eq!(rt; last_item(builder), item(5, 6, ItemBody::SoftBreak));
+    draw_lines(&mut builder, 0, first_line("foo  \nbaz"))?;
+    assert_eq!(rt; last_item(builder), item(0, 6, TEXT));
     Ok(())
 }
 

@@ -132,7 +132,7 @@ kind-within text texts start end tight body.InlineHtml kind e = absurd (let q : 
 kind-within text texts start end tight (body.SynthesizeChar x0) kind e = ap (tight_within tight) (sym (same_Some (document.OwnedText (encode_utf8 x0)) kind e))
 kind-within text texts start end tight body.Html kind e = ap (tight_within tight) (sym (same_Some (document.Html (slice text start end)) kind e))
 kind-within text texts start end tight (body.Text x0) kind e = ap (tight_within tight) (sym (same_Some (document.Text (slice text start end)) kind e))
-kind-within text texts start end tight body.SoftBreak kind e = ap (tight_within tight) (sym (same_Some document.SoftBreak kind e))
+kind-within text texts start end tight body.SoftBreak kind e = absurd (let q : None ≡ Some kind = e in cc)
 kind-within text texts start end tight (body.HardBreak x0) kind e = absurd (let q : None ≡ Some kind = e in cc)
 kind-within text texts start end tight body.Root kind e = absurd (let q : None ≡ Some kind = e in cc)
 kind-within text texts start end tight body.Paragraph kind e = ap (tight_within tight) (sym (same_Some document.Paragraph kind e))

@@ -184,7 +184,6 @@ impl<'a> Walk<'a> {
                 Ok(Some(Event::Text(text)))
             }
             ItemBody::SynthesizeChar(c) => Ok(Some(Event::Text(CowStr::from(c)))),
-            ItemBody::SoftBreak => Ok(Some(Event::SoftBreak)),
             ItemBody::Rule => Ok(Some(Event::Rule)),
             _ => Ok(None),
         }

@@ -1,20 +1,37 @@
-use Rattle.std.proofs.Common.{refl}
-use Rattle.cmark_grammar.specs.BlockDocument.{SoftBreak, Nil, Node, node}
-use Rattle.cmark_grammar.specs.Tokens.{line_words}
+use Rattle.std.proofs.Common.{refl, sym, ap, subst, ◌∙◌}
+use Rattle.cmark_grammar.specs.BlockDocument.{Nil}
+use Rattle.cmark_grammar.specs.Rows.{start_of}
+use Rattle.cmark_grammar.specs.Tokens.{stretch_then}
 use Rattle.cmark_lines.specs.Rests.{row_of}
 use Rattle.cmark_block_model.specs.Drawing.{drawn}
 use Rattle.cmark_block_model.specs.OpenBlocks as model
+use Rattle.cmark_blocks.specs.Runs.{Runs}
 use Rattle.cmark_blocks.specs.declared.state.OpenLeaf.TheVariants as leaf
+use Rattle.cmark_blocks.proofs.FeedSteps.{line-touches, line-apart}
 use Rattle.cmark_blocks.proofs.RunSteps.{runs-builder, runs-leaf, none_behind_paragraph}
 use Rattle.cmark_blocks.proofs.state.Pass.add_to_paragraph.Goals as goal
+
+pub returns-then-begin-past-clause-runs : goal.returns-then-begin-past-clause-runs
+returns-then-begin-past-clause-runs g c text options lookup m runs =
+    let replacement = g.E.EntityLookup.replacement in
+    let before = c.args.self.now in
+    let row = row_of c.args.rest in
+    subst (λ p. Runs replacement text lookup p (record before { leaf = leaf.Paragraph c.args.from c.args.rest }))
+    (sym (line-touches text options lookup row m c.args.from (row_of c.args.last) (sym c.words_begin-begin.ensures.place ∙ c.if-begin-past.true ∙ c.past.ensures.place)))
+    (runs-leaf replacement text lookup m before (leaf.Paragraph c.args.from c.args.rest) (model.InParagraph c.args.from row) runs
+    (refl, none_behind_paragraph replacement text lookup m before c.args.from c.args.last c.requires.is runs))
 
 pub returns-clause-runs : goal.returns-clause-runs
 returns-clause-runs g c text options lookup m runs =
     let replacement = g.E.EntityLookup.replacement in
     let before = c.args.self.now in
-    let new = c.draw_line.new.builder in
-    let row = row_of c.args.last in
-    let line = c.in_ok-draw_line.ensures.drawn text m.drawing runs.drawing in
-    runs-leaf replacement text lookup _ _ (leaf.Paragraph c.args.rest) (model.InParagraph (row_of c.args.rest))
-    (runs-builder replacement text lookup m before new (drawn (line_words text row (Node (node SoftBreak row.stop row.past) Nil Nil)) m.drawing) runs line c.in_ok-draw_line.ensures.references)
-    (refl, none_behind_paragraph replacement text lookup m before c.args.last c.requires.is runs)
+    let new = c.draw_lines.new.builder in
+    let row = row_of c.args.rest in
+    let last = row_of c.args.last in
+    let lines = c.in_ok-draw_lines.ensures.drawn text m.drawing runs.drawing in
+    let leaf_open = leaf.Paragraph c.words_begin-begin.result c.args.rest in
+    subst (λ p. Runs replacement text lookup p (record before { builder = new; leaf = leaf_open }))
+    (sym (line-apart text options lookup row m c.args.from last (λ e. c.if-begin-past.false (c.words_begin-begin.ensures.place ∙ e ∙ sym c.past.ensures.place))))
+    (runs-leaf replacement text lookup _ _ leaf_open (model.InParagraph (start_of row) row)
+    (runs-builder replacement text lookup m before new (drawn (stretch_then text c.args.from last.past Nil) m.drawing) runs lines c.in_ok-draw_lines.ensures.references)
+    (ap (λ from. model.InParagraph from row) (sym c.words_begin-begin.ensures.place), none_behind_paragraph replacement text lookup m before c.args.from c.args.last c.requires.is runs))

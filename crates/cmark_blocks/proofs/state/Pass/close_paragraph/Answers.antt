@@ -1,6 +1,6 @@
 use Rattle.std.proofs.Common.{refl, sym, ap, ◌∙◌, subst}
 use Rattle.cmark_grammar.specs.BlockDocument.{Nil}
-use Rattle.cmark_grammar.specs.Tokens.{line_words}
+use Rattle.cmark_grammar.specs.Tokens.{words_end, stretch_then}
 use Rattle.cmark_lines.specs.Rests.{row_of}
 use Rattle.cmark_block_model.specs.BlockPass.{close_leaf}
 use Rattle.cmark_block_model.specs.Drawing.{Drawing, drawn, closed_at}
@@ -16,13 +16,13 @@ pub returns-clause-runs : goal.returns-clause-runs
 returns-clause-runs g c text options lookup m runs =
     let replacement = g.E.EntityLookup.replacement in
     let before = c.args.self.now in
-    let built = c.draw_last_line.new.builder in
+    let built = c.draw_last_lines.new.builder in
     let shows = subst (λ l. ShowsLeaf text l before.blank_lines.items m.leaf) c.requires.is runs.leaf in
-    let d : Drawing = drawn (line_words text (row_of c.args.last) Nil) m.drawing in
-    let line = c.in_ok-draw_last_line.ensures.drawn text m.drawing runs.drawing in
+    let d : Drawing = drawn (stretch_then text c.args.from (words_end (row_of c.args.last)) Nil) m.drawing in
+    let line = c.in_ok-draw_last_lines.ensures.drawn text m.drawing runs.drawing in
     let draws = subst (λ e. Draws text c.close.new.self (closed_at e d)) runs.past
     (draws-close text built c.close.new.self before.past d c.close.ensures.closed c.close.ensures.none c.close.ensures.tables line) in
     subst (λ l. Runs replacement text lookup (close_leaf text options lookup l m) (record before { builder = c.close.new.self; leaf = leaf.Closed })) (sym shows.0)
     (runs-leaf replacement text lookup _ _ leaf.Closed model.Closed
-    (runs-builder replacement text lookup m before c.close.new.self (closed_at m.past d) runs draws (ap (λ a. a.refdefs) c.close.ensures.tables ∙ c.in_ok-draw_last_line.ensures.references))
+    (runs-builder replacement text lookup m before c.close.new.self (closed_at m.past d) runs draws (ap (λ a. a.refdefs) c.close.ensures.tables ∙ c.in_ok-draw_last_lines.ensures.references))
     (refl, shows.1))

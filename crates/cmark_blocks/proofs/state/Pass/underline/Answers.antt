@@ -1,7 +1,7 @@
 use Rattle.std.proofs.Common.{refl, ap, ◌∙◌, subst}
 use Rattle.cmark_grammar.specs.Attributes.{no_attributes}
 use Rattle.cmark_grammar.specs.BlockDocument.{Heading, Nil}
-use Rattle.cmark_grammar.specs.Tokens.{line_words}
+use Rattle.cmark_grammar.specs.Tokens.{words_end, stretch_then}
 use Rattle.cmark_text.specs.Shown.{level_number}
 use Rattle.cmark_lines.specs.Rests.{row_of}
 use Rattle.cmark_block_model.specs.Drawing.{Drawing, drawn, closed_as}
@@ -16,12 +16,12 @@ pub returns-clause-runs : goal.returns-clause-runs
 returns-clause-runs g c text options lookup m runs =
     let replacement = g.E.EntityLookup.replacement in
     let before = c.args.self.now in
-    let built = c.draw_last_line.new.builder in
+    let built = c.draw_last_lines.new.builder in
     let kind = Heading (level_number c.args.level) no_attributes in
-    let line = c.in_ok-draw_last_line.ensures.drawn text m.drawing runs.drawing in
-    let d : Drawing = drawn (line_words text (row_of c.args.last) Nil) m.drawing in
+    let line = c.in_ok-draw_last_lines.ensures.drawn text m.drawing runs.drawing in
+    let d : Drawing = drawn (stretch_then text c.args.from (words_end (row_of c.args.last)) Nil) m.drawing in
     let draws = subst (λ past. Draws text c.close_as.new.self (closed_as kind past d)) c.past.ensures.place
     (draws-close_as text built c.close_as.new.self c.past.result _ kind d c.close_as.ensures.closed c.close_as.ensures.none c.close_as.ensures.tables refl line) in
     runs-leaf replacement text lookup _ _ leaf.Closed model.Closed
-    (runs-builder replacement text lookup m before c.close_as.new.self (closed_as kind (row_of c.args.rest).past d) runs draws (ap (λ a. a.refdefs) c.close_as.ensures.tables ∙ c.in_ok-draw_last_line.ensures.references))
-    (refl, none_behind_paragraph replacement text lookup m before c.args.last c.requires.is runs)
+    (runs-builder replacement text lookup m before c.close_as.new.self (closed_as kind (row_of c.args.rest).past d) runs draws (ap (λ a. a.refdefs) c.close_as.ensures.tables ∙ c.in_ok-draw_last_lines.ensures.references))
+    (refl, none_behind_paragraph replacement text lookup m before c.args.from c.args.last c.requires.is runs)
