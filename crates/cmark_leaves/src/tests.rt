@@ -4,7 +4,8 @@
 ghost use Rattle.cmark_tree.specs.Building.{IsPlaced};
 
 use crate::{
-    Stretch, draw_code_line, draw_heading, draw_html_line, draw_last_lines, draw_lines, draw_stretch,
+    Stretch, draw_code_line, draw_heading, draw_html_line, draw_last_lines, draw_lines,
+    draw_stretch,
 };
 use cmark_builder::Builder;
 use cmark_items::{Item, ItemBody};
