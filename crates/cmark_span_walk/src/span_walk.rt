@@ -216,7 +216,7 @@ impl<'input, 'e, E: EntityLookup, F: BrokenLinkCallback<'input> + Drop> SpanWalk
         ensures definitions { definitions_of self.new ≡ definitions_of self.old }
     {
         self.lines.clear();
-        let mut part = part_of(self.text, 0, &first);
+        let mut part = part_of(&first);
         while let Some(next) = self.gather_part(part)? {
             part = next;
         }
@@ -242,7 +242,7 @@ impl<'input, 'e, E: EntityLookup, F: BrokenLinkCallback<'input> + Drop> SpanWalk
             self.lines.push(part)?;
             return Ok(None);
         }
-        let next = part_of(self.text, part.past, &block);
+        let next = part_of(&block);
         if next.start == part.past {
             let start = part.start;
             return Ok(Some(LeafLine { start, ..next }));
