@@ -11,7 +11,6 @@ use Rattle.cmark_grammar.specs.BlocksByLine.{Verbatim, Indented, Fenced, HtmlLin
 use Rattle.cmark_grammar.specs.Tokens.{resolved, words_end, stretch_then, stop_at, html_tokens, fenced_lines, code_tokens, code_columns}
 use Rattle.cmark_grammar.specs.BlockDocument as document
 use Rattle.cmark_grammar.specs.BlockDocument.{BlockDocument, BlockKind, Nil, Node, node, join}
-use Rattle.cmark_block_model.specs.CodeLines.{texts_of}
 use Rattle.cmark_block_model.specs.OpenBlocks.{OpenContainer, Closed}
 use Rattle.cmark_block_model.specs.BlockPass.{close_leaf, is_some, containers_closed, container_closed}
 use Rattle.cmark_block_model.proofs.CodeRuns.{run-tokens}

@@ -1,8 +1,7 @@
 use Rattle.std.proofs.Common.{refl, sym, ap, ◌∙◌, subst}
 use Rattle.cmark_grammar.specs.Attributes.{no_attributes}
 use Rattle.cmark_grammar.specs.BlockDocument.{Heading, Node, Nil, node}
-use Rattle.cmark_grammar.specs.Leaves.{run}
-use Rattle.cmark_grammar.specs.Rows.{start_of, words_of}
+use Rattle.cmark_grammar.specs.Rows.{start_of}
 use Rattle.cmark_grammar.specs.Tokens.{heading_tokens}
 use Rattle.cmark_text.specs.Shown.{level_number}
 use Rattle.cmark_lines.specs.Rests.{row_of}

@@ -1,8 +1,6 @@
-use Rattle.std.proofs.Common.{[], sym, subst, arith}
-use Rattle.std.specs.Prelude.{All}
+use Rattle.std.proofs.Common.{[]}
 use Rattle.std.proofs.lemmas.Str.{IsCharBoundary-start}
 use Rattle.cmark_tree.specs.Forest.{Nil}
-use Rattle.cmark_blocks.specs.Runs.{IsRead}
 use Rattle.cmark_builder.proofs.BuilderSteps.{at-place}
 use Rattle.cmark_blocks.proofs.state.Pass.new.Goals as goal
 
