@@ -1,11 +1,11 @@
 -- A document has at most four nodes a byte.
-use Rattle.std.proofs.Common.{◌≡◌, inl, inr, ℕ, zero, suc, ◌+◌, ◌-◌, ◌*◌, ◌≤◌, ◌<◌, Bool, true, false, ◌==◌, ◌&&◌, not, List, [], ◌∷◌, ◌++◌, length, drop, take_while, refl, sym, ap, ◌∙◌, subst, arith, Option, Some, None, true≢false, drop-drop}
+use Rattle.std.proofs.Common.{◌≡◌, inl, inr, ℕ, zero, suc, ◌+◌, ◌-◌, ◌*◌, ◌≤◌, ◌<◌, Bool, true, false, ◌==◌, List, [], ◌∷◌, ◌++◌, length, drop, take_while, refl, sym, ap, ◌∙◌, subst, arith, Option, Some, None, true≢false, drop-drop}
 use Rattle.std.proofs.lemmas.List.Sums.{take_while-cons}
 use Rattle.std.specs.Prelude.{if◌then◌else◌, cond, nat_lt}
 use Rattle.cmark_grammar.specs.Answers.{Lookup}
 use Rattle.cmark_grammar.specs.Options.{Options}
 use Rattle.cmark_grammar.specs.Lines.{lines, ends_line, onto, content}
-use Rattle.cmark_grammar.specs.Columns.{Column, tab, expand, tab_columns, to_tab_stop, indent, without_indent, bytes_of, is_blank, without_trailing_blanks}
+use Rattle.cmark_grammar.specs.Columns.{Column, tab, expand, tab_columns, to_tab_stop, indent, without_indent, is_blank, without_trailing_blanks}
 use Rattle.cmark_grammar.specs.Rows.{Row, rows, rows_from, without, place, first_place, begin_of, start_of, past_of, is_bare, is_blank_line}
 use Rattle.cmark_grammar.specs.Leaves.{Fence, closes_fence}
 use Rattle.cmark_grammar.specs.Containers.{Container, Quote, Item, keeps, strip_as, strip, strips, enter, width_of, is_bare_start, insides}
