@@ -13,7 +13,7 @@ use Rattle.cmark_grammar.proofs.BlocksSound.{bare_push}
 use Rattle.cmark_block_model.specs.OpenBlocks.{OpenContainer, InParagraph as InParagraphLeaf}
 use Rattle.cmark_block_model.specs.BlockPass.{lazy_fed}
 use Rattle.cmark_block_model.proofs.Replay.{Level, entered, leaf_level, replay, replay-join}
-use Rattle.cmark_block_model.proofs.Mirror.{whole, whole-same, last_of, pass_with, Fits, paragraph_open, paragraph_leaf, inner_at, leaf_at, container_at, containers_at, pass_at, bare_at}
+use Rattle.cmark_block_model.proofs.Mirror.{whole-same, pass_with, Fits, paragraph_open, paragraph_leaf, inner_at, leaf_at, container_at, containers_at, pass_at, bare_at}
 use Rattle.cmark_block_model.proofs.Feeding.{paragraph-goes}
 
 module _ (options : Options) where

@@ -1,9 +1,8 @@
 -- Tokens are neither settled nor left out, and define nothing.
 use Rattle.std.proofs.Common.{◌≡◌, ℕ, Bool, true, false, List, [], ◌∷◌, ◌++◌, refl, ap}
 use Rattle.std.specs.Prelude.{◌==◌, if◌then◌else◌}
-use Rattle.cmark_grammar.specs.Columns.{Column}
 use Rattle.cmark_grammar.specs.Rows.{Row, first_place, start_of}
-use Rattle.cmark_grammar.specs.Tokens.{Piece, line_columns, end_place, piece_if, texts_then, words_end, stretch_then, stretches, paragraph_tokens, html_then, html_tokens, text_kind_of, html_kind_of, verbatim_line, behind_hashes, heading_columns, heading_tokens, code_pieces, code_tokens}
+use Rattle.cmark_grammar.specs.Tokens.{Piece, end_place, piece_if, texts_then, words_end, stretch_then, stretches, paragraph_tokens, html_then, html_tokens, text_kind_of, html_kind_of, verbatim_line, behind_hashes, heading_columns, heading_tokens, code_pieces, code_tokens}
 use Rattle.cmark_grammar.specs.BlockDocument.{Text, OwnedText, Html, BlockDocument, Nil, Node, node, join}
 use Rattle.cmark_grammar.specs.DrawnDocument.{settled, without_definitions}
 use Rattle.cmark_grammar.specs.References.{references}
