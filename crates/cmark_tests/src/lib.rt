@@ -2,8 +2,14 @@
 #![tactic(auto)]
 
 #[cfg(test)]
+mod asking;
+#[cfg(test)]
 mod blocks;
 #[cfg(test)]
+mod common;
+#[cfg(test)]
 mod reading;
+#[cfg(test)]
+mod spans;
 #[cfg(test)]
 mod writing;

@@ -1,27 +1,9 @@
 //! From texts to events, ranges and HTML.
 
-use pulldown_cmark::html::push_html;
+use crate::common::{html_of, ranges_of};
 use pulldown_cmark::{BasicEntities, Parser};
-use std::alloc::{AllocError, Global};
+use std::alloc::AllocError;
 use std::test::Fail;
-
-/// The HTML of a text.
-fn html_of(alloc: Global, text: &str) -> Result<String, AllocError> {
-    let mut html = String::new(alloc);
-    push_html(&mut html, Parser::new(alloc, text, &BasicEntities)?)?;
-    Ok(html)
-}
-
-/// The ranges of a text's events.
-fn ranges_of(alloc: Global, text: &str) -> Result<Vec<(usize, usize)>, AllocError> {
-    let mut ranges = Vec::new(alloc);
-    let iter = Parser::new(alloc, text, &BasicEntities)?.into_offset_iter();
-    for item in iter {
-        let (_event, range) = item?;
-        ranges.push((range.start, range.end))?;
-    }
-    Ok(ranges)
-}
 
 #[test]
 fn renders(rt: HostRuntime) -> Result<(), Fail> {
@@ -144,6 +126,16 @@ fn gives_ranges(rt: HostRuntime) -> Result<(), Fail> {
     assert_eq!(rt;
         nested.as_slice(),
         [(0, 6), (2, 6), (2, 6), (4, 5), (2, 6), (2, 6), (0, 6)].as_slice()
+    );
+    let link = ranges_of(rt.alloc(), "a [b](c) d")?;
+    assert_eq!(rt;
+        link.as_slice(),
+        [(0, 10), (0, 2), (2, 8), (3, 4), (2, 8), (8, 10), (0, 10)].as_slice()
+    );
+    let emphasis = ranges_of(rt.alloc(), "*hello* world")?;
+    assert_eq!(rt;
+        emphasis.as_slice(),
+        [(0, 13), (0, 7), (1, 6), (0, 7), (7, 13), (0, 13)].as_slice()
     );
     let none = ranges_of(rt.alloc(), "")?;
     assert_eq!(rt; none.len(), 0);

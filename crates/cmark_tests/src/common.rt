@@ -1,0 +1,23 @@
+//! What the tests share.
+
+use pulldown_cmark::html::push_html;
+use pulldown_cmark::{BasicEntities, Parser};
+use std::alloc::{AllocError, Global};
+
+/// The HTML of a text.
+pub fn html_of(alloc: Global, text: &str) -> Result<String, AllocError> {
+    let mut html = String::new(alloc);
+    push_html(&mut html, Parser::new(alloc, text, &BasicEntities)?)?;
+    Ok(html)
+}
+
+/// The ranges of a text's events.
+pub fn ranges_of(alloc: Global, text: &str) -> Result<Vec<(usize, usize)>, AllocError> {
+    let mut ranges = Vec::new(alloc);
+    let iter = Parser::new(alloc, text, &BasicEntities)?.into_offset_iter();
+    for item in iter {
+        let (_event, range) = item?;
+        ranges.push((range.start, range.end))?;
+    }
+    Ok(ranges)
+}
