@@ -19,9 +19,11 @@ struct Html<'a, E> {
 impl<'a, E: EntityLookup> Render for Html<'a, E> {
     ghost renders = { λ html text output. Renders (E.replacement html.entities.now) text output };
 
+    // There is room at once for the HTML of most texts, which are longer by their elements: a string that grows is there twice.
     fn render(&self, alloc: Global, text: &str) -> Result<String, AllocError> {
         let parser = Parser::new(alloc, text, self.entities)?;
-        let mut html = String::new(alloc);
+        let room = text.len().saturating_add(text.len() / 8);
+        let mut html = String::with_capacity(alloc, room)?;
         push_html(&mut html, parser)?;
         Ok(html)
     }
