@@ -8,6 +8,8 @@ mod blocks;
 #[cfg(test)]
 mod common;
 #[cfg(test)]
+mod extensions;
+#[cfg(test)]
 mod reading;
 #[cfg(test)]
 mod spans;

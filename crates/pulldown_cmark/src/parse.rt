@@ -53,8 +53,8 @@ impl<'input, E: EntityLookup> Parser<'input, E> {
         Ok(parser)
     }
 
-    /// A parser of `text` with these options. No option has an effect yet: each is read from the day on which the
-    /// grammar has its rules.
+    /// A parser of `text` with these options. Those for strikethrough, superscript, subscript and smart punctuation have an
+    /// effect, on spans; the others are read from the day on which the grammar has their rules.
     pub fn new_ext(
         alloc: Global,
         text: &'input str,
