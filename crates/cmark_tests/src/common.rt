@@ -1,7 +1,7 @@
 //! What the tests share.
 
-use pulldown_cmark::html::push_html;
 use bitflags::Flags;
+use pulldown_cmark::html::push_html;
 use pulldown_cmark::{BasicEntities, Options, Parser};
 use std::alloc::{AllocError, Global};
 
@@ -13,7 +13,10 @@ pub fn html_of(alloc: Global, text: &str) -> Result<String, AllocError> {
 /// The HTML of a text that is read with these options.
 pub fn html_with(alloc: Global, text: &str, options: Options) -> Result<String, AllocError> {
     let mut html = String::new(alloc);
-    push_html(&mut html, Parser::new_ext(alloc, text, options, &BasicEntities)?)?;
+    push_html(
+        &mut html,
+        Parser::new_ext(alloc, text, options, &BasicEntities)?,
+    )?;
     Ok(html)
 }
 

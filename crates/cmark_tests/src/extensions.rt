@@ -18,7 +18,11 @@ fn renders_by_options(rt: HostRuntime) -> Result<(), Fail> {
             "a ~~b *c* d~~ e",
             "<p>a ~~b *c* d~~ e</p>\n",
         ),
-        (Options::ENABLE_STRIKETHROUGH, "~~a~~", "<p><del>a</del></p>\n"),
+        (
+            Options::ENABLE_STRIKETHROUGH,
+            "~~a~~",
+            "<p><del>a</del></p>\n",
+        ),
         (
             Options::ENABLE_SMART_PUNCTUATION,
             "\"a\" -- 'b'...",
@@ -73,8 +77,9 @@ fn references_expand_up_to_a_limit(rt: HostRuntime) -> Result<(), Fail> {
     let url = "u".repeat(rt.alloc(), 60_000)?;
     let text = format!(in rt.alloc(); "[x] [x] [x]\n\n[x]: {url}")?;
     let html = html_of(rt.alloc(), text.as_str())?;
-    let wanted =
-        format!(in rt.alloc(); "<p><a href=\"{url}\">x</a> <a href=\"{url}\">x</a> [x]</p>\n")?;
+    let wanted = format!(in rt.alloc();
+        "<p><a href=\"{url}\">x</a> <a href=\"{url}\">x</a> [x]</p>\n"
+    )?;
     assert!(rt; html.as_str() == wanted.as_str());
     Ok(())
 }

@@ -4,7 +4,9 @@
 pub mod html;
 mod parse;
 
-pub use cmark_inline::{BrokenLink, BrokenLinkCallback, DefaultBrokenLinkCallback, OwnedLinkCallback};
+pub use cmark_inline::{
+    BrokenLink, BrokenLinkCallback, DefaultBrokenLinkCallback, OwnedLinkCallback,
+};
 pub use cmark_items::{LinkDef, RefDefs, RefDefsIter};
 pub use cmark_text::{
     Alignment, BasicEntities, BlockQuoteKind, CodeBlockKind, CowStr, EntityLookup, Event,
