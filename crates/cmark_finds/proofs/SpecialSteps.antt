@@ -1,9 +1,11 @@
 -- Special bytes are ASCII.
-use Rattle.std.proofs.Common.{◌≡◌, ℕ, ◌+◌, ◌<◌, ◌≤◌, Bool, true, false, ◌==◌, ◌&&◌, ◌||◌, not, List, [], ◌∷◌, length, drop, get_or, refl, sym, ap, ◌∙◌, arith, ⊎_elim, true≢false, eqb-true, length-drop}
+use Rattle.std.proofs.Common.{◌≡◌, ℕ, ◌+◌, ◌<◌, ◌≤◌, Bool, true, false, ◌==◌, ◌&&◌, ◌||◌, not, List, [], ◌∷◌, ◌++◌, length, drop, get_or, refl, sym, ap, ◌∙◌, arith, ⊎_elim, true≢false, eqb-true, length-drop, cond}
 use Rattle.std.specs.List.{prefix_len, list_any}
 use Rattle.std.specs.Prelude.{codes}
 use Rattle.std.specs.Str.{IsCharBoundary}
 use Rattle.std.proofs.lemmas.Bool.{and_parts, or_cases}
+use Rattle.std.proofs.Math.Bool.{or-false}
+use Rattle.cmark_scan_parts.proofs.Lists.{or_false}
 use Rattle.std.proofs.lemmas.List.{get_or-drop}
 use Rattle.std.proofs.lemmas.List.Sums.{prefix_len_stops, prefix_len-le-length}
 use Rattle.cmark_grammar.specs.Options.{Options}
@@ -66,3 +68,23 @@ next_boundary o table bytes at size is fits le e =
 
     absurd-high : get_or bytes (at + size) 0 < 128 → 128 ≤ get_or bytes (at + size) 0 → 192 ≤ get_or bytes (at + size) 0
     absurd-high low high = absurd (omega (arith, low, high))
+
+-- a test of several, in two ways of writing
+four_or : (a b c d : Bool) → (((a || b) || c) || d) ≡ (a || (b || (c || (d || false))))
+four_or true b c d = refl
+four_or false true c d = refl
+four_or false false true d = refl
+four_or false false false d = sym (or-false d)
+
+pub one_of_four : (table : List Bool) (a b c d : ℕ) → (((has_byte table a || has_byte table b) || has_byte table c) || has_byte table d) ≡ list_any (has_byte table) (a ∷ b ∷ c ∷ d ∷ [])
+one_of_four table a b c d = four_or (has_byte table a) (has_byte table b) (has_byte table c) (has_byte table d)
+
+-- bytes of which the table has none are passed
+pub passes : (table : List Bool) (front bs : List ℕ) → list_any (has_byte table) front ≡ false
+    → prefix_len (λ b. not (has_byte table b)) (front ++ bs) ≡ length front + prefix_len (λ b. not (has_byte table b)) bs
+passes table [] bs e = omega arith
+passes table (b ∷ front) bs e =
+    let parts = or_false (has_byte table b) (list_any (has_byte table) front) e in
+    let here : prefix_len (λ c. not (has_byte table c)) (b ∷ (front ++ bs)) ≡ 1 + prefix_len (λ c. not (has_byte table c)) (front ++ bs) = ap (λ x. cond (not x) (1 + prefix_len (λ c. not (has_byte table c)) (front ++ bs)) 0) parts.0 in
+    let rest = passes table front bs parts.1 in
+    omega (arith, here, rest)

@@ -1,6 +1,6 @@
 //! The events of a leaf's slots, one after the other.
 
-ghost use Rattle.std.specs.Prelude.{◌≡◌, ◌<◌, ◌+◌, ◌-◌, ℕ, List, [], IfOk, OnOk, OnSome, length};
+ghost use Rattle.std.specs.Prelude.{◌≡◌, ◌<◌, ◌≤◌, ◌+◌, ◌-◌, ℕ, List, [], IfOk, OnOk, OnSome, length};
 ghost use Rattle.std.specs.Str.{IsCharBoundary};
 ghost use Rattle.cmark_grammar.specs.CodeSpans.{code_text};
 ghost use Rattle.cmark_grammar.specs.LeafSpans.{IsInline, IsSpan};
@@ -60,6 +60,7 @@ pub struct Given<'a> {
 
 impl<'a> InlineState<'a> {
     /// The next event of the leaf that was resolved, with its range in the source; `None` behind the last.
+    #[inline(always)]
     pub fn next(&mut self, leaf: &LeafText<'a>) -> Result<Option<Given<'a>>, AllocError>
         requires read { IsRead leaf.now }
         requires slots { AreSlots (text_of leaf.now) (length (text_of leaf.now)) self.old.slots.items }
@@ -68,6 +69,7 @@ impl<'a> InlineState<'a> {
         ensures opened { AreOpened (source_of leaf.now) self.new.walk.opened.items }
         ensures gives { IfOk result (λ given. Gives (source_of leaf.now) self.old.walk.opened.items given self.new.walk.opened.items) }
         ensures fewer { IfOk result (λ given. OnSome given (events_left self.new < events_left self.old)) }
+        ensures most { OnOk result (events_left self.new ≤ events_left self.old) }
         ensures few { OnOk result (length self.new.slots.items < 18446744073709551616) }
     {
         while self.walk.next < self.slots.len() {
@@ -82,6 +84,7 @@ impl<'a> InlineState<'a> {
     }
 
     // The event of a slot, if it has one.
+    #[inline(always)]
     fn give(&mut self, leaf: &LeafText<'a>, slot: Slot) -> Result<Option<Given<'a>>, AllocError>
         requires read { IsRead leaf.now }
         requires slot { IsSlot (text_of leaf.now) (length (text_of leaf.now)) slot }
@@ -106,6 +109,7 @@ impl<'a> InlineState<'a> {
         }
     }
 
+    #[inline(always)]
     fn begin(
         &mut self,
         leaf: &LeafText<'a>,
@@ -133,12 +137,14 @@ impl<'a> InlineState<'a> {
         })
     }
 
+    #[inline(always)]
     fn end_last(&mut self) -> Option<Given<'a>>
         ensures slots { self.new.slots ≡ self.old.slots }
         ensures place { self.new.walk.next ≡ self.old.walk.next }
         ensures opened { (source : List ℕ) → AreOpened source self.old.walk.opened.items → AreOpened source self.new.walk.opened.items }
         ensures gives { (source : List ℕ) → AreOpened source self.old.walk.opened.items → Gives source self.old.walk.opened.items result self.new.walk.opened.items }
         ensures fewer { OnSome result (length self.new.walk.opened.items < length self.old.walk.opened.items) }
+        ensures most { length self.new.walk.opened.items ≤ length self.old.walk.opened.items }
     {
         let opened = self.walk.opened.pop()?;
         Some(Given {
@@ -183,6 +189,7 @@ impl<'a> InlineState<'a> {
         }
     }
 
+    #[inline(always)]
     fn single(&mut self, leaf: &LeafText<'a>, slot: Slot) -> Result<Event<'a>, AllocError>
         requires read { IsRead leaf.now }
         requires slot { IsSlot (text_of leaf.now) (length (text_of leaf.now)) slot }

@@ -1,5 +1,5 @@
 -- Steps of a walk with spans.
-use Rattle.std.proofs.Common.{◌≡◌, ◌⊎◌, inl, inr, ℕ, ◌<◌, ◌-◌, arith, Bool, true, false, List, [], ◌∷◌, ◌++◌, length, Option, Some, None, refl, sym, ap, ◌∙◌, subst}
+use Rattle.std.proofs.Common.{◌≡◌, ◌⊎◌, inl, inr, ℕ, ◌<◌, ◌-◌, arith, Bool, true, false, List, [], ◌∷◌, ◌++◌, length, Option, Some, None, refl, sym, ap, ◌∙◌, subst, is_some, true≢false}
 use Rattle.cmark_grammar.specs.Event.{Ranged}
 use Rattle.cmark_grammar.specs.LeafSpans.{is_content, in_code_after, AreContent, BeginsApart, AreSpans, InTurn, InTurnAs, WithSpans, Nothing, Same, Leaf}
 use Rattle.cmark_grammar.proofs.LeafSpanLaws.{some-spans, turn-before}
@@ -25,6 +25,10 @@ turn-behind text r rs h = go (is_content r.event) h
     go : (content : Bool) → InTurnAs text 0 content r (λ place. InTurn text place rs) → InTurn text 0 rs
     go true h = turn-before text 0 r.end rs (omega arith) h.1
     go false h = h
+
+pub none-held : (held : Option Given) → is_some held ≡ false → held ≡ None
+none-held None is = refl
+none-held (Some given) is = absurd (true≢false is)
 
 module _ {E F : Type 0} where
   -- what is left of the document is one list of events
@@ -186,12 +190,29 @@ module _ {E F : Type 0} where
         record { rest = g.0; remains = g.2; few = (let q : length g.0 < new.budget = omega (arith, f, l, less) in q); are = ap (λ (o : Option Given). held_events o ++ g.0) (sym new-none) },
       )
 
+  -- the event that was held is taken
+  pub block-held : (old new : SpanWalk E F) (given : Option Given) → is_some old.held ≡ true → old.held ≡ given → new.held ≡ None → new.walk ≡ old.walk → new.budget ≡ old.budget
+      → (blocks : List Ranged) → BlocksLeft old blocks → TakesBlock blocks given new
+  block-held old new None has is new-none walk same blocks h = absurd (true≢false (sym has ∙ ap is_some is))
+  block-held old new (Some block) has is new-none walk same blocks h =
+      let f = h.few in (
+        h.rest,
+        h.are ∙ ap (λ (o : Option Given). held_events o ++ h.rest) is,
+        record { rest = h.rest; remains = subst (λ w. walking.Remains w h.rest) (sym walk) h.remains; few = (let q : length h.rest < new.budget = omega (arith, f, same) in q); are = ap (λ (o : Option Given). held_events o ++ h.rest) (sym new-none) },
+      )
+
   -- before the event behind a leaf
   abbrev pub behind_leaf : SpanWalk E F → SpanWalk E F
   behind_leaf walk = record walk { in_leaf = false }
 
   at-behind : (old : SpanWalk E F) (blocks : List Ranged) → StandsAt old blocks → StandsAt (behind_leaf old) blocks
   at-behind old blocks at = record { left = left-same old (behind_leaf old) blocks refl refl refl at.left; in_turn = at.in_turn; same_text = at.same_text; leaf = tt }
+
+  pub behind-stands : (old : SpanWalk E F) → Stands old → Stands (behind_leaf old)
+  behind-stands old s = (s.0, at-behind old s.0 s.1)
+
+  pub behind-back : (old : SpanWalk E F) → Stands old → old.in_leaf ≡ true → opened_of old ≡ [] → (events : List Ranged) → Remains (behind_leaf old) events → Remains old events
+  behind-back old s inside none events r = left-leaf old (behind_leaf old) s.0 events s.1 inside none (at-behind old s.0 s.1).left refl refl refl r
 
   module _ (old mid : SpanWalk E F) (given : Option Given) (s : Stands old) (inside : old.in_leaf ≡ true) (none-open : opened_of old ≡ []) (taken : (blocks : List Ranged) → BlocksLeft (behind_leaf old) blocks → TakesBlock blocks given mid) (same : SameLeaf (behind_leaf old) mid) where
     at : StandsAt (behind_leaf old) s.0
@@ -223,22 +244,21 @@ module _ {E F : Type 0} where
           leave (shown_ranged block ∷ events) (passed-gives (behind_leaf old) mid new block s.0 t.0 at refl t.1 t.2 same passes (inr apart-block) events r)
 
   -- a leaf has no more spans
+  pub no-span-back : (old mid : SpanWalk E F) → Stands old → Stands mid → mid.walk ≡ old.walk → mid.budget ≡ old.budget → mid.held ≡ old.held → old.in_leaf ≡ true → mid.in_leaf ≡ true → source_of mid ≡ source_of old → mid.in_code ≡ old.in_code
+      → opened_of old ≡ [] → opened_of mid ≡ [] → (events : List Ranged) → Remains mid events → Remains old events
+  no-span-back old mid s t walk budget held inside mid-inside source code none mid-none events m =
+      let h = left-inside mid m.blocks events mid-inside m.left in
+      let same = one-left mid m.blocks s.0 m.stands.left (left-same old mid s.0 walk budget held s.1.left) in
+      let completes : Completes (source_of old) (opened_of old) h.0 = subst (λ l. Completes (source_of old) l h.0) (mid-none ∙ sym none) (subst (λ text. Completes text (opened_of mid) h.0) source h.3) in
+      let later : WithSpans (source_of old) old.in_code s.0 h.1 =
+      subst (λ b. WithSpans (source_of old) b s.0 h.1) code (subst (λ text. WithSpans text mid.in_code s.0 h.1) source (subst (λ bs. WithSpans (source_of mid) mid.in_code bs h.1) same h.4)) in
+      record { blocks = s.0; stands = s.1; left = inside-left old s.0 events inside (h.0, h.1, h.2, completes, later) }
+
   pub no-span : (old mid new : SpanWalk E F) (given : Option Given) → Stands old → Stands mid → mid.walk ≡ old.walk → mid.budget ≡ old.budget → mid.held ≡ old.held → old.in_leaf ≡ true → mid.in_leaf ≡ true → source_of mid ≡ source_of old → mid.in_code ≡ old.in_code
       → opened_of old ≡ [] → opened_of mid ≡ [] → Gives mid given new → Gives old given new
-  no-span old mid new given s t walk budget held inside mid-inside source code none mid-none = go given
-    where
-      back : (events : List Ranged) → Remains mid events → Remains old events
-      back events m =
-          let h = left-inside mid m.blocks events mid-inside m.left in
-          let same = one-left mid m.blocks s.0 m.stands.left (left-same old mid s.0 walk budget held s.1.left) in
-          let completes : Completes (source_of old) (opened_of old) h.0 = subst (λ l. Completes (source_of old) l h.0) (mid-none ∙ sym none) (subst (λ text. Completes text (opened_of mid) h.0) source h.3) in
-          let later : WithSpans (source_of old) old.in_code s.0 h.1 =
-          subst (λ b. WithSpans (source_of old) b s.0 h.1) code (subst (λ text. WithSpans text mid.in_code s.0 h.1) source (subst (λ bs. WithSpans (source_of mid) mid.in_code bs h.1) same h.4)) in
-          record { blocks = s.0; stands = s.1; left = inside-left old s.0 events inside (h.0, h.1, h.2, completes, later) }
-
-      go : (o : Option Given) → Gives mid o new → Gives old o new
-      go None g = back [] g
-      go (Some block) g = λ events r. back (shown_ranged block ∷ events) (g events r)
+  no-span old mid new None s t walk budget held inside mid-inside source code none mid-none g = no-span-back old mid s t walk budget held inside mid-inside source code none mid-none [] g
+  no-span old mid new (Some block) s t walk budget held inside mid-inside source code none mid-none g = λ events r.
+      no-span-back old mid s t walk budget held inside mid-inside source code none mid-none (shown_ranged block ∷ events) (g events r)
 
   -- the walk still stands in its leaf behind a call of the inline pass
   pub inline-stands : (walk : SpanWalk E F) (inline : InlineState) → Stands walk → walk.in_leaf ≡ true → inline.slots ≡ walk.inline.slots → AreOpened (source_of walk) inline.walk.opened.items → Stands (record walk { inline = inline })

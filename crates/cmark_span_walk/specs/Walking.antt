@@ -81,6 +81,11 @@ module _ {E F : Type 0} where
   Gives old None new = Remains old []
   Gives old (Some given) new = (events : List Ranged) → Remains new events → Remains old (shown_ranged given ∷ events)
 
+  -- a call gives the first of the events that are left, in a leaf; or the walk then stands in no leaf, and before the same events
+  abbrev pub GivesSpan : SpanWalk E F → Option Given → SpanWalk E F → Type 0
+  GivesSpan old None new = (new.in_leaf ≡ false) × ((events : List Ranged) → Remains new events → Remains old events)
+  GivesSpan old (Some given) new = Gives old (Some given) new
+
   -- more than the number of events of the document that are left without spans; and of all, where a leaf has fewer than 2^66
   abbrev pub blocks_left : SpanWalk E F → ℕ
   blocks_left walk = walk.budget + length (held_events walk.held)

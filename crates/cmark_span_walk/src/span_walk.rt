@@ -3,10 +3,11 @@
 ghost use Rattle.std.specs.Prelude.{◌≡◌, ◌<◌, ◌≤◌, true, false, None, List, [], length, IfOk, OnOk, OnSome};
 ghost use Rattle.cmark_grammar.specs.Event.{Ranged as Shown};
 ghost use Rattle.cmark_grammar.specs.LeafSpans.{InTurn, WithSpans};
+ghost use Rattle.cmark_inline.specs.Opens.{shown_given};
 ghost use Rattle.cmark_walk.specs.Walking.{Remains as BlocksRemain, definitions_of as block_definitions, shown_ranged};
 
 use crate::lines::{is_content, part_of};
-use cmark_inline::{BrokenLinkCallback, InlineState, Reader, SpecialBytes, special_bytes};
+use cmark_inline::{BrokenLinkCallback, Given, InlineState, Reader, SpecialBytes, special_bytes};
 use cmark_items::RefDefs;
 use cmark_leaf_text::{LeafLine, LeafText};
 use cmark_text::{EntityLookup, Event, Options, Tag, TagEnd};
@@ -36,7 +37,7 @@ pub struct SpanWalk<'input, 'e, E, F> {
 }
 
 impl<'input, 'e, E: EntityLookup, F: BrokenLinkCallback<'input> + Drop> SpanWalk<'input, 'e, E, F> {
-    ghost use Rattle.cmark_span_walk.specs.Walking.{definitions_of, source_of, opened_of, events_left, blocks_left, BlocksLeft, Stands, Remains, Gives, SameLeaf, TakesBlock, Gathering, GathersOne, BeginsLeaf, Collects, EntersLeaf, Passes};
+    ghost use Rattle.cmark_span_walk.specs.Walking.{definitions_of, source_of, opened_of, events_left, blocks_left, BlocksLeft, Stands, Remains, Gives, GivesSpan, SameLeaf, TakesBlock, Gathering, GathersOne, BeginsLeaf, Collects, EntersLeaf, Passes};
 
     /// A walk over the events of this walk over the text, which are fewer than `budget`. `entities` says what the entity
     /// names stand for; `callback` is asked for references without a definition.
@@ -94,9 +95,44 @@ impl<'input, 'e, E: EntityLookup, F: BrokenLinkCallback<'input> + Drop> SpanWalk
         ensures fewer { IfOk result (λ given. OnSome given (events_left self.new < events_left self.old)) }
         ensures definitions { definitions_of self.new ≡ definitions_of self.old }
     {
-        if self.in_leaf {
-            return self.next_in_leaf();
+        match self.next_span()? {
+            Some(given) => Ok(Some(given)),
+            None => self.next_outside(),
         }
+    }
+
+    // The next event of the leaf at hand; `None` where there is no leaf or it has no more, and the walk then stands in none.
+    #[inline(always)]
+    fn next_span(&mut self) -> Result<Option<Ranged<'input>>, AllocError>
+        requires { Stands self.old }
+        ensures stands { OnOk result (Stands self.new) }
+        ensures given { IfOk result (λ given. GivesSpan self.old given self.new) }
+        ensures fewer { IfOk result (λ given. OnSome given (events_left self.new < events_left self.old)) }
+        ensures most { OnOk result (events_left self.new ≤ events_left self.old) }
+        ensures definitions { definitions_of self.new ≡ definitions_of self.old }
+    {
+        if !self.in_leaf {
+            return Ok(None);
+        }
+        match self.inline.next(&self.leaf)? {
+            Some(given) => Ok(Some(ranged(given))),
+            None => {
+                self.in_leaf = false;
+                Ok(None)
+            }
+        }
+    }
+
+    // The next event outside of a leaf, or the first in the leaf that begins there.
+    #[inline(always)]
+    fn next_outside(&mut self) -> Result<Option<Ranged<'input>>, AllocError>
+        requires stands { Stands self.old }
+        requires outside { self.old.in_leaf ≡ false }
+        ensures stands { OnOk result (Stands self.new) }
+        ensures given { IfOk result (λ given. Gives self.old given self.new) }
+        ensures fewer { IfOk result (λ given. OnSome given (events_left self.new < events_left self.old)) }
+        ensures definitions { definitions_of self.new ≡ definitions_of self.old }
+    {
         let Some(block) = self.next_block()? else {
             return Ok(None);
         };
@@ -108,7 +144,6 @@ impl<'input, 'e, E: EntityLookup, F: BrokenLinkCallback<'input> + Drop> SpanWalk
     }
 
     // The next event in a leaf or, where it has no more, behind it.
-    #[inline(always)]
     fn next_in_leaf(&mut self) -> Result<Option<Ranged<'input>>, AllocError>
         requires stands { Stands self.old }
         requires inside { self.old.in_leaf ≡ true }
@@ -118,13 +153,10 @@ impl<'input, 'e, E: EntityLookup, F: BrokenLinkCallback<'input> + Drop> SpanWalk
         ensures few { OnOk result (length self.old.inline.slots.items < 18446744073709551616) }
         ensures definitions { definitions_of self.new ≡ definitions_of self.old }
     {
-        let Some(given) = self.inline.next(&self.leaf)? else {
-            return self.leave_leaf();
-        };
-        Ok(Some(Ranged {
-            event: given.event,
-            range: given.range,
-        }))
+        match self.inline.next(&self.leaf)? {
+            Some(given) => Ok(Some(ranged(given))),
+            None => self.leave_leaf(),
+        }
     }
 
     // The next event behind a leaf that has no more.
@@ -158,8 +190,8 @@ impl<'input, 'e, E: EntityLookup, F: BrokenLinkCallback<'input> + Drop> SpanWalk
         ensures most { OnOk result (blocks_left self.new ≤ blocks_left self.old) }
         ensures definitions { definitions_of self.new ≡ definitions_of self.old }
     {
-        if let Some(block) = self.held.take() {
-            return Ok(Some(block));
+        if self.held.is_some() {
+            return Ok(self.held.take());
         }
         match self.walk.next()? {
             Some(block) => {
@@ -249,5 +281,16 @@ impl<'input, 'e, E: EntityLookup, F: BrokenLinkCallback<'input> + Drop> SpanWalk
         }
         self.lines.push(part)?;
         Ok(Some(next))
+    }
+}
+
+// An event of a leaf, as an event of the document.
+#[inline(always)]
+fn ranged<'a>(given: Given<'a>) -> Ranged<'a>
+    ensures { shown_ranged result ≡ shown_given given.entry }
+{
+    Ranged {
+        event: given.event,
+        range: given.range,
     }
 }

@@ -147,6 +147,7 @@ impl<'input, E: EntityLookup, F: BrokenLinkCallback<'input> + Drop> Iterator
 
     ghost remaining = { λ parser. at_most (events_left parser) };
 
+    #[inline(always)]
     fn next(&mut self) -> Option<Result<Event<'input>, AllocError>> {
         match self.advance()? {
             Ok(given) => Some(Ok(given.event)),
@@ -189,6 +190,7 @@ impl<'input, E: EntityLookup, F: BrokenLinkCallback<'input> + Drop> Iterator
 
     ghost remaining = { λ iter. at_most (ranged_left iter) };
 
+    #[inline(always)]
     fn next(&mut self) -> Option<Result<(Event<'input>, Range<usize>), AllocError>> {
         match self.parser.advance()? {
             Ok(given) => Some(Ok((given.event, given.range))),

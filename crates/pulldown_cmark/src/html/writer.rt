@@ -1,6 +1,6 @@
 //! The pieces of events.
 
-ghost use Rattle.std.specs.Prelude.{◌≡◌, ◌++◌, IfOk, OnOk, OnErr, codes, option_map, string_bytes};
+ghost use Rattle.std.specs.Prelude.{◌≡◌, ◌++◌, true, IfOk, OnOk, OnErr, None, codes, is_some, option_map, string_bytes};
 ghost use Rattle.cmark_grammar.specs.Escapes.{escaped_body_text, escaped_html};
 ghost use Rattle.cmark_grammar.specs.Html.{piece, piece_outside, moved, moved_outside, metadata_after, table_after, table_after_start, names_after, names_after_start, names_after_inside, opened_by, opened_image, last_piece, line_start_after, line_start_after_html, ends_in_line_feed, task_list_marker};
 ghost use Rattle.cmark_text.specs.Appended.{AppendsFront};
@@ -20,6 +20,7 @@ use itoa::Buffer;
 use std::alloc::AllocError;
 
 /// Appends the piece of an event.
+#[inline(always)]
 pub fn write_event<'a>(
     out: &mut String,
     writer: &mut Writer<'a>,
@@ -29,22 +30,21 @@ pub fn write_event<'a>(
     ensures state { OnOk result (writing writer.new ≡ moved (writing writer.old) (shown event.entry)) }
     ensures err { OnErr result (AppendsFront (string_bytes out.old) (string_bytes out.new) (piece (writing writer.old) (shown event.entry))) }
 {
-    match writer.image.take() {
-        None => write_outside(out, writer, event),
-        Some(image) => {
-            writer.image = write_inside(out, image, &writer.names, &event)?;
-            writer.line_start = false;
-            keep_inside(&mut writer.names, event)
-        }
+    if writer.image.is_none() {
+        write_outside(out, writer, event)
+    } else {
+        write_in_image(out, writer, event)
     }
 }
 
 /// Appends the piece of an event outside of images.
+#[inline(always)]
 fn write_outside<'a>(
     out: &mut String,
     writer: &mut Writer<'a>,
     event: Event<'a>,
 ) -> Result<(), AllocError>
+    requires { writer.old.image ≡ None }
     ensures ok { OnOk result (string_bytes out.new ≡ string_bytes out.old ++ piece_outside (writing writer.old) (shown event.entry)) }
     ensures state { OnOk result (writing writer.new ≡ moved_outside (writing writer.old) (shown event.entry)) }
     ensures err { OnErr result (AppendsFront (string_bytes out.old) (string_bytes out.new) (piece_outside (writing writer.old) (shown event.entry))) }
@@ -52,8 +52,29 @@ fn write_outside<'a>(
     append_piece(out, writer, &event)?;
     writer.line_start = line_start_after(writer, &event);
     writer.in_metadata = metadata_after(writer.in_metadata, &event);
-    writer.image = keep_event(&mut writer.table, &mut writer.names, event)?;
+    if let Some(image) = keep_event(&mut writer.table, &mut writer.names, event)? {
+        writer.image = Some(image);
+    }
     Ok(())
+}
+
+/// Appends the piece of an event inside of an image.
+fn write_in_image<'a>(
+    out: &mut String,
+    writer: &mut Writer<'a>,
+    event: Event<'a>,
+) -> Result<(), AllocError>
+    requires { is_some writer.old.image ≡ true }
+    ensures ok { OnOk result (string_bytes out.new ≡ string_bytes out.old ++ piece (writing writer.old) (shown event.entry)) }
+    ensures state { OnOk result (writing writer.new ≡ moved (writing writer.old) (shown event.entry)) }
+    ensures err { OnErr result (AppendsFront (string_bytes out.old) (string_bytes out.new) (piece (writing writer.old) (shown event.entry))) }
+{
+    let Some(image) = writer.image.take() else {
+        return Ok(());
+    };
+    writer.image = write_inside(out, image, &writer.names, &event)?;
+    writer.line_start = false;
+    keep_inside(&mut writer.names, event)
 }
 
 /// Keeps what an event inside of an image says.
@@ -67,6 +88,7 @@ fn keep_inside<'a>(names: &mut FootnoteNames<'a>, event: Event<'a>) -> Result<()
 }
 
 /// Keeps what an event says of the table and of footnotes, and answers the image that it opens.
+#[inline(always)]
 fn keep_event<'a>(
     table: &mut TableState,
     names: &mut FootnoteNames<'a>,

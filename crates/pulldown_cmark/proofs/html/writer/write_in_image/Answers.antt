@@ -4,10 +4,10 @@ use Rattle.cmark_text.specs.Appended.{AppendsFront}
 use Rattle.cmark_text.specs.Shown.{shown}
 use Rattle.pulldown_cmark.specs.Writer.{shown_image, writing}
 use Rattle.pulldown_cmark.proofs.FrontSteps.{on_err, front_all}
-use Rattle.pulldown_cmark.proofs.html.writer.write_event.Goals as goal
+use Rattle.pulldown_cmark.proofs.html.writer.write_in_image.Goals as goal
 
-pub returns-in_ok-writer-in-Some-clause-err : goal.returns-in_ok-writer-in-Some-clause-err
-returns-in_ok-writer-in-Some-clause-err c =
+pub returns-clause-err : goal.returns-clause-err
+returns-clause-err c =
     on_err c.keep_inside.result
     (subst (λ image. AppendsFront (string_bytes c.args.out.now) (string_bytes c.write_inside.new.out) (piece_in (option_map shown_image image) (writing c.args.writer.now) (shown c.args.event))) c.in-Some.ensures.value
-    (front_all _ _ _ c.in_ok-writer-in-Some.ensures.ok))
+    (front_all _ _ _ c.in_ok-writer.ensures.ok))
