@@ -1,6 +1,7 @@
 //! Footnotes: the numbers of their names.
 
 ghost use Rattle.std.specs.Prelude.{◌≡◌, ◌++◌, [], OnOk, OnErr, string_bytes};
+ghost use Rattle.std.specs.Fmt.{decimal};
 ghost use Rattle.cmark_grammar.specs.Html.{alt_footnote_reference, footnote_number, footnote_reference, footnote_start, fresh_line, named};
 ghost use Rattle.cmark_text.specs.Appended.{AppendsFront};
 ghost use Rattle.cmark_text.specs.Shown.{text_bytes};
@@ -9,6 +10,7 @@ ghost use Rattle.pulldown_cmark.specs.Writer.{shown_names};
 use crate::html::parts::{Part, append_parts, new_line};
 use cmark_text::CowStr;
 use indexmap::IndexSet;
+use itoa::Buffer;
 use std::alloc::{AllocError, Global};
 
 /// The names of the footnotes that were numbered, in order.
@@ -48,7 +50,7 @@ impl<'a> FootnoteNames<'a> {
 }
 
 /// Appends the start of a footnote's definition; the number is in digits.
-pub fn append_footnote_start<'x>(
+fn append_footnote_start<'x>(
     out: &mut String,
     line_start: bool,
     name: &'x str,
@@ -71,7 +73,7 @@ pub fn append_footnote_start<'x>(
 }
 
 /// Appends a reference to a footnote; the number is in digits.
-pub fn append_footnote_reference<'x>(
+fn append_footnote_reference<'x>(
     out: &mut String,
     name: &'x str,
     digits: &'x str,
@@ -97,4 +99,35 @@ pub fn append_alt_reference(out: &mut String, digits: &str) -> Result<(), AllocE
     ensures err { OnErr result (AppendsFront (string_bytes out.old) (string_bytes out.new) (alt_footnote_reference digits.now)) }
 {
     append_parts(out, &[Part::Raw("["), Part::Raw(digits), Part::Raw("]")])
+}
+
+/// Appends the start of the definition of the footnote of this name.
+#[inline(never)]
+pub fn append_numbered_start<'a>(
+    out: &mut String,
+    line_start: bool,
+    names: &FootnoteNames<'a>,
+    name: &CowStr<'a>,
+) -> Result<(), AllocError>
+    ensures ok { OnOk result (string_bytes out.new ≡ string_bytes out.old ++ (fresh_line line_start ++ footnote_start (text_bytes name.now) (decimal (footnote_number (shown_names names.now) (text_bytes name.now))))) }
+    ensures err { OnErr result (AppendsFront (string_bytes out.old) (string_bytes out.new) (fresh_line line_start ++ footnote_start (text_bytes name.now) (decimal (footnote_number (shown_names names.now) (text_bytes name.now))))) }
+{
+    let mut buffer = Buffer::new();
+    let digits = buffer.format(names.number(name));
+    append_footnote_start(out, line_start, name.as_str(), digits)
+}
+
+/// Appends a reference to the footnote of this name.
+#[inline(never)]
+pub fn append_numbered_reference<'a>(
+    out: &mut String,
+    names: &FootnoteNames<'a>,
+    name: &CowStr<'a>,
+) -> Result<(), AllocError>
+    ensures ok { OnOk result (string_bytes out.new ≡ string_bytes out.old ++ footnote_reference (text_bytes name.now) (decimal (footnote_number (shown_names names.now) (text_bytes name.now)))) }
+    ensures err { OnErr result (AppendsFront (string_bytes out.old) (string_bytes out.new) (footnote_reference (text_bytes name.now) (decimal (footnote_number (shown_names names.now) (text_bytes name.now))))) }
+{
+    let mut buffer = Buffer::new();
+    let digits = buffer.format(names.number(name));
+    append_footnote_reference(out, name.as_str(), digits)
 }

@@ -49,6 +49,16 @@ pub fn append(out: &mut String, text: &str) -> Result<(), AllocError>
     out.push_str(text)
 }
 
+/// Appends a text on a line of its own: behind a line feed, unless the writer is at a line start.
+#[inline(never)]
+pub fn append_on_line(out: &mut String, line_start: bool, text: &str) -> Result<(), AllocError>
+    ensures ok { OnOk result (string_bytes out.new ≡ string_bytes out.old ++ (fresh_line line_start ++ text.now)) }
+    ensures err { OnErr result (AppendsFront (string_bytes out.old) (string_bytes out.new) (fresh_line line_start ++ text.now)) }
+{
+    append(out, new_line(line_start))?;
+    append(out, text)
+}
+
 /// Appends parts, one behind the other.
 pub fn append_parts(out: &mut String, parts: &[Part<'_>]) -> Result<(), AllocError>
     ensures ok { OnOk result (string_bytes out.new ≡ string_bytes out.old ++ joined parts.now) }
@@ -58,4 +68,18 @@ pub fn append_parts(out: &mut String, parts: &[Part<'_>]) -> Result<(), AllocErr
         append_part(out, *part)?;
     }
     Ok(())
+}
+
+/// Appends a part between two texts.
+#[inline(never)]
+pub fn append_around<'x>(
+    out: &mut String,
+    before: &'x str,
+    part: Part<'x>,
+    behind: &'x str,
+) -> Result<(), AllocError>
+    ensures ok { OnOk result (string_bytes out.new ≡ string_bytes out.old ++ (before.now ++ (part_bytes part.entry ++ behind.now))) }
+    ensures err { OnErr result (AppendsFront (string_bytes out.old) (string_bytes out.new) (before.now ++ (part_bytes part.entry ++ behind.now))) }
+{
+    append_parts(out, &[Part::Raw(before), part, Part::Raw(behind)])
 }

@@ -7,10 +7,10 @@ ghost use Rattle.cmark_text.specs.Shown.{shown_tag, shown_block_quote_kind, show
 ghost use Rattle.pulldown_cmark.specs.Parts.{linked};
 ghost use Rattle.pulldown_cmark.specs.Writer.{writing};
 
-use crate::html::footnote::append_footnote_start;
+use crate::html::footnote::append_numbered_start;
 use crate::html::heading::append_heading;
 use crate::html::image::append_image_start;
-use crate::html::parts::{Part, append, append_parts, new_line};
+use crate::html::parts::{Part, append, append_on_line, append_parts, new_line};
 use crate::html::state::Writer;
 use cmark_text::{BlockQuoteKind, CodeBlockKind, LinkType, Tag};
 use itoa::Buffer;
@@ -28,35 +28,20 @@ pub fn append_start<'a>(
 {
     let line_start = writer.line_start;
     match tag {
-        Tag::Paragraph => append_parts(out, &[Part::Raw(new_line(line_start)), Part::Raw("<p>")]),
+        Tag::Paragraph => append_on_line(out, line_start, "<p>"),
         Tag::Heading {
             level,
             id,
             classes,
             attrs,
         } => append_heading(out, line_start, *level, id, classes, attrs),
-        Tag::BlockQuote(kind) => append_parts(
-            out,
-            &[
-                Part::Raw(new_line(line_start)),
-                Part::Raw(block_quote_text(*kind)),
-            ],
-        ),
+        Tag::BlockQuote(kind) => append_on_line(out, line_start, block_quote_text(*kind)),
         Tag::CodeBlock(kind) => append_code_block(out, line_start, kind),
         Tag::List(first) => append_list(out, line_start, *first),
-        Tag::Item => append_parts(out, &[Part::Raw(new_line(line_start)), Part::Raw("<li>")]),
-        Tag::DefinitionList => append_parts(
-            out,
-            &[Part::Raw(new_line(line_start)), Part::Raw("<dl>\n")],
-        ),
-        Tag::DefinitionListTitle => append_parts(
-            out,
-            &[Part::Raw(new_line(line_start)), Part::Raw("<dt>")],
-        ),
-        Tag::DefinitionListDefinition => append_parts(
-            out,
-            &[Part::Raw(new_line(line_start)), Part::Raw("<dd>")],
-        ),
+        Tag::Item => append_on_line(out, line_start, "<li>"),
+        Tag::DefinitionList => append_on_line(out, line_start, "<dl>\n"),
+        Tag::DefinitionListTitle => append_on_line(out, line_start, "<dt>"),
+        Tag::DefinitionListDefinition => append_on_line(out, line_start, "<dd>"),
         Tag::Emphasis => append(out, "<em>"),
         Tag::Strong => append(out, "<strong>"),
         Tag::Strikethrough => append(out, "<del>"),
@@ -73,11 +58,12 @@ pub fn append_start<'a>(
         Tag::TableHead => append(out, "<thead><tr>"),
         Tag::TableRow => append(out, "<tr>"),
         Tag::TableCell => writer.table.append_cell_start(out),
-        Tag::FootnoteDefinition(name) => {
-            let mut buffer = Buffer::new();
-            let digits = buffer.format(writer.names.number(name));
-            append_footnote_start(out, line_start, name.as_str(), digits)
-        }
+        Tag::FootnoteDefinition(name) => append_numbered_start(
+            out,
+            line_start,
+            &writer.names,
+            name,
+        ),
         Tag::HtmlBlock | Tag::MetadataBlock(_) => Ok(()),
     }
 }
@@ -125,6 +111,7 @@ fn block_quote_text(kind: Option<BlockQuoteKind>) -> &'static str
 }
 
 /// Appends the start of a code block; the first word of the info names the language (CommonMark 4.5).
+#[inline(never)]
 fn append_code_block(
     out: &mut String,
     line_start: bool,
@@ -134,10 +121,7 @@ fn append_code_block(
     ensures err { OnErr result (AppendsFront (string_bytes out.old) (string_bytes out.new) (fresh_line line_start ++ code_block_start (shown_code_block_kind kind.now))) }
 {
     match kind {
-        CodeBlockKind::Indented => append_parts(
-            out,
-            &[Part::Raw(new_line(line_start)), Part::Raw("<pre><code>")],
-        ),
+        CodeBlockKind::Indented => append_on_line(out, line_start, "<pre><code>"),
         CodeBlockKind::Fenced(info) => append_fenced(out, line_start, first_word(info.as_str())),
     }
 }
@@ -148,10 +132,7 @@ fn append_fenced(out: &mut String, line_start: bool, language: &str) -> Result<(
     ensures err { OnErr result (AppendsFront (string_bytes out.old) (string_bytes out.new) (fresh_line line_start ++ language_start language.now)) }
 {
     if language.is_empty() {
-        return append_parts(
-            out,
-            &[Part::Raw(new_line(line_start)), Part::Raw("<pre><code>")],
-        );
+        return append_on_line(out, line_start, "<pre><code>");
     }
     append_parts(
         out,
@@ -175,15 +156,16 @@ fn first_word(text: &str) -> &str
 }
 
 /// Appends the start of a list, with its first number if that is not 1 (CommonMark 5.3).
+#[inline(never)]
 fn append_list(out: &mut String, line_start: bool, first: Option<u64>) -> Result<(), AllocError>
     ensures ok { OnOk result (string_bytes out.new ≡ string_bytes out.old ++ (fresh_line line_start ++ list_start first)) }
     ensures err { OnErr result (AppendsFront (string_bytes out.old) (string_bytes out.new) (fresh_line line_start ++ list_start first)) }
 {
     let Some(number) = first else {
-        return append_parts(out, &[Part::Raw(new_line(line_start)), Part::Raw("<ul>\n")]);
+        return append_on_line(out, line_start, "<ul>\n");
     };
     if number == 1 {
-        return append_parts(out, &[Part::Raw(new_line(line_start)), Part::Raw("<ol>\n")]);
+        return append_on_line(out, line_start, "<ol>\n");
     }
     let mut buffer = Buffer::new();
     append_numbered(out, line_start, buffer.format(number))
@@ -206,6 +188,7 @@ fn append_numbered(out: &mut String, line_start: bool, digits: &str) -> Result<(
 }
 
 /// Appends the start of a link.
+#[inline(never)]
 fn append_link<'x>(
     out: &mut String,
     link_type: LinkType,

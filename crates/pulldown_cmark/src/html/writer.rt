@@ -8,15 +8,14 @@ ghost use Rattle.cmark_text.specs.Shown.{shown, shown_tag};
 ghost use Rattle.pulldown_cmark.specs.Writer.{shown_image, shown_names, shown_table, writing};
 
 use crate::html::end::{append_end, line_start_after_end};
-use crate::html::footnote::{FootnoteNames, append_footnote_reference};
+use crate::html::footnote::{FootnoteNames, append_numbered_reference};
 use crate::html::image::{append_image_end, write_inside};
-use crate::html::parts::{Part, append, append_parts, new_line};
+use crate::html::parts::{Part, append, append_around, append_on_line};
 use crate::html::start::{append_start, line_start_after_start};
 use crate::html::state::{OpenImage, Writer};
 use crate::html::table::TableState;
 use cmark_text::escape::escape_html_body_text;
 use cmark_text::{Event, Tag, TagEnd};
-use itoa::Buffer;
 use std::alloc::AllocError;
 
 /// Appends the piece of an event.
@@ -181,45 +180,24 @@ fn append_piece<'a>(
         Event::End(tag) => append_end(out, writer.table.in_head, *tag),
         Event::Text(_) if writer.in_metadata => Ok(()),
         Event::Text(text) => escape_html_body_text(out, text.as_str()),
-        Event::Code(text) => append_parts(
+        Event::Code(text) => append_around(out, "<code>", Part::BodyText(text.as_str()), "</code>"),
+        Event::InlineMath(text) => append_around(
             out,
-            &[
-                Part::Raw("<code>"),
-                Part::BodyText(text.as_str()),
-                Part::Raw("</code>"),
-            ],
+            "<span class=\"math math-inline\">",
+            Part::Value(text.as_str()),
+            "</span>",
         ),
-        Event::InlineMath(text) => append_parts(
+        Event::DisplayMath(text) => append_around(
             out,
-            &[
-                Part::Raw("<span class=\"math math-inline\">"),
-                Part::Value(text.as_str()),
-                Part::Raw("</span>"),
-            ],
-        ),
-        Event::DisplayMath(text) => append_parts(
-            out,
-            &[
-                Part::Raw("<span class=\"math math-display\">"),
-                Part::Value(text.as_str()),
-                Part::Raw("</span>"),
-            ],
+            "<span class=\"math math-display\">",
+            Part::Value(text.as_str()),
+            "</span>",
         ),
         Event::Html(text) | Event::InlineHtml(text) => append(out, text.as_str()),
-        Event::FootnoteReference(name) => {
-            let mut buffer = Buffer::new();
-            let digits = buffer.format(writer.names.number(name));
-            append_footnote_reference(out, name.as_str(), digits)
-        }
+        Event::FootnoteReference(name) => append_numbered_reference(out, &writer.names, name),
         Event::SoftBreak => append(out, "\n"),
         Event::HardBreak => append(out, "<br />\n"),
-        Event::Rule => append_parts(
-            out,
-            &[
-                Part::Raw(new_line(writer.line_start)),
-                Part::Raw("<hr />\n"),
-            ],
-        ),
+        Event::Rule => append_on_line(out, writer.line_start, "<hr />\n"),
         Event::TaskListMarker(is_checked) => append(out, task_list_marker_text(*is_checked)),
     }
 }

@@ -8,7 +8,7 @@ use Rattle.pulldown_cmark.proofs.html.start.append_fenced.Goals as goal
 pub returns-clause-ok : goal.returns-clause-ok
 returns-clause-ok c =
     let language = c.args.language.now in
-    on_ok_weaker c.append_parts-2.result
-    (λ e. e ∙ ap (λ l. string_bytes c.args.out.now ++ (l ++ (codes "<pre><code class=\"language-" ++ (escaped_html language ++ codes "\">")))) c.new_line-2.ensures
+    on_ok_weaker c.append_parts.result
+    (λ e. e ∙ ap (λ l. string_bytes c.args.out.now ++ (l ++ (codes "<pre><code class=\"language-" ++ (escaped_html language ++ codes "\">")))) c.new_line.ensures
     ∙ ap (λ l. string_bytes c.args.out.now ++ (fresh_line c.args.line_start ++ l)) (fenced_piece language (sym c.is_empty.ensures ∙ c.if-is_empty.false)))
-    c.append_parts-2.ensures.ok
+    c.append_parts.ensures.ok
