@@ -72,6 +72,9 @@ impl Delimiters {
         ensures links { OnOk result (NoNewLink slots.old.items slots.new.items) }
         ensures runs { OnOk result (bytes_of self.new.placed.items ≤ bytes_of self.old.placed.items) }
     {
+        if self.placed.len() <= first {
+            return Ok(());
+        }
         let bound = slots.len();
         let count = gather(&mut self.runs, self.placed.as_slice(), first, bound)?;
         slots_of_runs(count, &self.runs, &mut self.room, &mut self.marks)?;

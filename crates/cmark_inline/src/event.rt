@@ -249,6 +249,7 @@ fn image_tag<'a>(link: LinkParts<'a>) -> Tag<'a>
 }
 
 // The bytes of a slot: borrowed where they stand in the source without a gap.
+#[inline(always)]
 pub fn text_between<'a>(
     alloc: Global,
     leaf: &LeafText<'a>,
@@ -262,8 +263,16 @@ pub fn text_between<'a>(
 {
     match leaf.slice(from, to) {
         Some(text) => Ok(CowStr::Borrowed(text)),
-        None => CowStr::Borrowed(&leaf.as_str()[from..to]).into_static(alloc),
+        None => copied(alloc, &leaf.as_str()[from..to]),
     }
+}
+
+// These bytes, which borrow nothing.
+#[inline(never)]
+fn copied<'a>(alloc: Global, text: &str) -> Result<CowStr<'a>, AllocError>
+    ensures { IfOk result (λ copy. text_bytes copy ≡ text.now) }
+{
+    CowStr::Borrowed(text).into_static(alloc)
 }
 
 // What a code span holds: borrowed where it stands in the source without a gap and no line ends in it.
