@@ -10,4 +10,6 @@ mod definitions;
 #[cfg(test)]
 mod leaves;
 #[cfg(test)]
+mod lines;
+#[cfg(test)]
 mod walk;

@@ -1,7 +1,7 @@
 use Rattle.std.proofs.Common.{◌≡◌, List, [], ◌∷◌, arith, rules, refl}
 use Rattle.std.proofs.lemmas.Str.{IsCharBoundary-from_ascii}
 use Rattle.cmark_tree.specs.declared.tree.Tree.{Tree}
-use Rattle.cmark_tree.specs.Forest.{Nil, one}
+use Rattle.cmark_tree.specs.Forest.{Nil}
 use Rattle.cmark_tree.specs.Zip.{nothing}
 use Rattle.cmark_tree.specs.Tree.{Holds}
 use Rattle.cmark_tree.specs.Building.{Is}
