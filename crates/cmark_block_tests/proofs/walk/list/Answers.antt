@@ -1,4 +1,4 @@
-use Rattle.std.proofs.Common.{◌≡◌, List, [], ◌∷◌, arith, rules, refl}
+use Rattle.std.proofs.Common.{[], ◌∷◌, arith, rules, refl}
 use Rattle.std.proofs.lemmas.Str.{IsCharBoundary-from_ascii}
 use Rattle.cmark_tree.specs.declared.tree.Tree.{Tree}
 use Rattle.cmark_tree.specs.Forest.{Nil}
