@@ -19,8 +19,6 @@ mod pass;
 mod prefixes;
 mod siblings;
 mod state;
-#[cfg(test)]
-mod tests;
 
 pub use first_pass::{FirstPass, run_first_pass};
 pub use prefixes::{scan_containers, skip_container_prefixes};

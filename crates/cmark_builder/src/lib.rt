@@ -2,7 +2,5 @@
 #![tactic(auto)]
 
 mod builder;
-#[cfg(test)]
-mod tests;
 
 pub use builder::Builder;

@@ -8,8 +8,6 @@ mod label;
 mod part;
 mod reference;
 mod settled;
-#[cfg(test)]
-mod tests;
 
 pub use blank::{behind_blanks, behind_byte};
 pub use definition::{Definition, scan_definition};

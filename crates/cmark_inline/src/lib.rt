@@ -18,8 +18,6 @@ mod span;
 mod special;
 mod state;
 mod step;
-#[cfg(test)]
-mod tests;
 mod text;
 
 pub use callback::{BrokenLink, BrokenLinkCallback, DefaultBrokenLinkCallback, OwnedLinkCallback};

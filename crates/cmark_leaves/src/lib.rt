@@ -6,8 +6,6 @@ mod heading;
 mod html;
 mod paragraph;
 mod stretch;
-#[cfg(test)]
-mod tests;
 mod trailing;
 mod words;
 

@@ -6,8 +6,6 @@ mod container;
 mod interrupt;
 mod line_rest;
 mod opening;
-#[cfg(test)]
-mod tests;
 mod verbatim;
 
 pub use cmark_scan::{CodeFence, HtmlKind};

@@ -3,8 +3,8 @@
 ghost use Rattle.std.specs.Prelude.{IfOk};
 ghost use Rattle.cmark_tree.specs.Tree.{IsTree};
 
-use crate::{run_first_pass, scan_containers, skip_container_prefixes};
 use bitflags::Flags;
+use cmark_blocks::{run_first_pass, scan_containers, skip_container_prefixes};
 use cmark_builder::Builder;
 use cmark_items::{Item, ItemBody, ListFlags};
 use cmark_scan::LineStart;

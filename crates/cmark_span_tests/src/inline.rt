@@ -4,8 +4,11 @@ ghost use Rattle.std.specs.Prelude.{◌≡◌, true, IfOk, IfSome};
 ghost use Rattle.cmark_leaf_text.specs.Reads.{IsRead};
 ghost use Rattle.cmark_leaf_text.specs.Stretches.{IsLine};
 
-use crate::*;
 use bitflags::Flags;
+use cmark_inline::{
+    BrokenLink, BrokenLinkCallback, DefaultBrokenLinkCallback, InlineState, OwnedLinkCallback,
+    Reader, special_bytes,
+};
 use cmark_items::{LinkDef, RefDefs};
 use cmark_leaf_text::{LeafLine, LeafText};
 use cmark_text::{BasicEntities, CowStr, Event, LinkLabel, LinkType, Options, Tag, TagEnd};

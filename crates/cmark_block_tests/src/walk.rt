@@ -3,10 +3,10 @@
 ghost use Rattle.std.specs.Prelude.{IfOk};
 ghost use Rattle.cmark_walk.specs.Walking.{Goes};
 
-use crate::Walk;
 use cmark_items::{Allocations, Item, ItemBody, ListFlags};
 use cmark_text::{CowStr, Event, Tag, TagEnd};
 use cmark_tree::Tree;
+use cmark_walk::Walk;
 use std::alloc::{AllocError, Global};
 use std::test::Fail;
 

@@ -3,12 +3,12 @@
 
 ghost use Rattle.cmark_tree.specs.Building.{IsPlaced};
 
-use crate::{
+use cmark_builder::Builder;
+use cmark_items::{Item, ItemBody};
+use cmark_leaves::{
     Stretch, draw_code_line, draw_heading, draw_html_line, draw_last_lines, draw_lines,
     draw_stretch,
 };
-use cmark_builder::Builder;
-use cmark_items::{Item, ItemBody};
 use cmark_lines::LineRest;
 use std::test::Fail;
 

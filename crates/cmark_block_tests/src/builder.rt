@@ -1,6 +1,6 @@
 // A document of one open and one closed node.
 
-use crate::Builder;
+use cmark_builder::Builder;
 use cmark_items::ItemBody;
 use cmark_text::CowStr;
 use std::test::Fail;

@@ -1,7 +1,7 @@
 use Rattle.std.proofs.Common.{subst, sym}
 use Rattle.cmark_tree.specs.Building.{IsPlaced}
 use Rattle.cmark_builder.proofs.BuilderSteps.{focus-node}
-use Rattle.cmark_builder.proofs.tests.nodes_are_closed_at_their_ends.Goals as goal
+use Rattle.cmark_block_tests.proofs.builder.nodes_are_closed_at_their_ends.Goals as goal
 
 pub item-requires : goal.item-requires
 item-requires g c =

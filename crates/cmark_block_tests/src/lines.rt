@@ -1,6 +1,6 @@
 //! Lines of the standard's examples, each call on its happy path.
 
-use crate::{
+use cmark_lines::{
     Container, ContainerStart, Further, HtmlKind, ItemStart, LineRest, Opening, Verbatim,
     ends_at_once, interrupts, underlines, what_opens,
 };

@@ -9,7 +9,7 @@ use Rattle.cmark_tree.specs.Tree.{entry_at, focus_of, HasNode}
 use Rattle.cmark_tree.proofs.Entries.{node_at-within}
 use Rattle.cmark_tree.proofs.StandsLemmas.{Stands-inner, Stands-right}
 use Rattle.cmark_items.specs.declared.item.Item.{Item}
-use Rattle.cmark_blocks.proofs.tests.a_text_leaves_its_blocks_and_definitions.Goals as goal
+use Rattle.cmark_block_tests.proofs.blocks.a_text_leaves_its_blocks_and_definitions.Goals as goal
 
 -- the focus is a node
 focus-node : (tree : Tree Item) (right : Forest (Placed Item)) (ix : TreeIndex) → Stands (entry_at tree) right → Some ix ≡ focus_of right → HasNode tree ix.ix

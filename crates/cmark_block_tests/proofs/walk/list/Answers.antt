@@ -1,13 +1,13 @@
-use Rattle.std.proofs.Common.{◌≡◌, List, [], ◌∷◌, arith, rules, refl}
+use Rattle.std.proofs.Common.{[], ◌∷◌, arith, rules, refl}
 use Rattle.std.proofs.lemmas.Str.{IsCharBoundary-from_ascii}
 use Rattle.cmark_tree.specs.declared.tree.Tree.{Tree}
-use Rattle.cmark_tree.specs.Forest.{Nil, one}
+use Rattle.cmark_tree.specs.Forest.{Nil}
 use Rattle.cmark_tree.specs.Zip.{nothing}
 use Rattle.cmark_tree.specs.Tree.{Holds}
 use Rattle.cmark_tree.specs.Building.{Is}
 use Rattle.cmark_grammar.specs.BlockDocument as document
 use Rattle.cmark_grammar.specs.BlockDocument.{node}
-use Rattle.cmark_walk.proofs.tests.list.Goals as goal
+use Rattle.cmark_block_tests.proofs.walk.list.Goals as goal
 
 at-first : {T : Type 0} (t : Tree T) → Holds t nothing → Is t Nil []
 at-first t h = record { z = nothing; holds = h; last = refl; at_end = tt; here_is = refl; up_is = refl }

@@ -1,0 +1,5 @@
+//! Tests of the inline pass.
+#![tactic(auto)]
+
+#[cfg(test)]
+mod inline;
