@@ -96,7 +96,7 @@ module _ (source : List ℕ) where
       }
 
 -- an event in turn
-turn-content : (text : List ℕ) (from : ℕ) (r : Ranged) (rs : List Ranged) → is_content r.event ≡ true → InTurn text from (r ∷ rs) → TakesTurn text from r × InTurn text r.end rs
+pub turn-content : (text : List ℕ) (from : ℕ) (r : Ranged) (rs : List Ranged) → is_content r.event ≡ true → InTurn text from (r ∷ rs) → TakesTurn text from r × InTurn text r.end rs
 turn-content text from r rs e h = subst (λ b. InTurnAs text from b r (λ place. InTurn text place rs)) e h
 
 turn-apart : (text : List ℕ) (from : ℕ) (r : Ranged) (rs : List Ranged) → is_content r.event ≡ false → InTurn text from (r ∷ rs) → InTurn text 0 (r ∷ rs)
@@ -171,7 +171,7 @@ module _ {E F : Type 0} (old mid : SpanWalk E F) (part : LeafLine) (given : Opti
 
 -- into a leaf whose content was gathered
 module _ {E F : Type 0} where
-  pub enters : (old mid : SpanWalk E F) (leaf : LeafText) (inline : InlineState) (callback : F) (first : Ranged) → SameLeaf old mid → ((blocks : List Ranged) → BeginsLeaf old first blocks → Collects blocks mid) → IsRead leaf
+  pub enters : (old mid : SpanWalk E F) (leaf : LeafText) (inline : InlineState) (callback : F) (first : LeafLine) → SameLeaf old mid → ((blocks : List Ranged) → BeginsLeaf old first blocks → Collects blocks mid) → IsRead leaf
       → leaf.source.now ≡ source_of mid → AreSlots (text_of leaf) (length (text_of leaf)) inline.slots.items → inline.walk.opened.items ≡ [] → (blocks : List Ranged) → BeginsLeaf old first blocks
       → EntersLeaf blocks (record mid { leaf = leaf; inline = inline; in_leaf = true; callback = callback })
   enters old mid leaf inline callback first same collects read source slots none blocks h =
@@ -193,22 +193,14 @@ module _ {E F : Type 0} where
       }
 
   -- the first part
-  pub first-turn : (walk : SpanWalk E F) (first : Ranged) (blocks : List Ranged) → BeginsLeaf walk first blocks → TakesTurn walk.text.now 0 first
-  first-turn walk first blocks h = subst (λ text. TakesTurn text 0 first) (sym h.same_text) (turn-content (source_of walk) 0 first blocks h.content h.in_turn).0
-
-  pub first-gathers : (walk : SpanWalk E F) (lines : Vec LeafLine) (first : Ranged) (part : LeafLine) → lines.items ≡ [] → IsPartOf walk.text.now 0 first part → (blocks : List Ranged) → BeginsLeaf walk first blocks
-      → Gathering (record walk { lines = lines }) part blocks
-  first-gathers walk lines first part none is blocks h =
-      let turn = turn-content (source_of walk) 0 first blocks h.content h.in_turn in
-      let line : IsLine (source_of walk) 0 part = subst (λ text. IsLine text 0 part) h.same_text is.line_is in
-      let new : SpanWalk E F = record walk { lines = lines } in
-      record {
-        left = left-same walk new blocks refl refl refl h.left;
-        none_held = h.none_held;
-        in_turn = subst (λ (p : ℕ). InTurn (source_of walk) p blocks) (sym is.ends) turn.1;
-        same_text = h.same_text;
-        lines = subst (λ ls. AreLines (source_of walk) 0 (ls ++ (part ∷ []))) (sym none) (line, tt);
-      }
+  pub first-gathers : (walk : SpanWalk E F) (lines : Vec LeafLine) (part : LeafLine) → lines.items ≡ [] → (blocks : List Ranged) → BeginsLeaf walk part blocks → Gathering (record walk { lines = lines }) part blocks
+  first-gathers walk lines part none blocks h = record {
+    left = left-same walk (record walk { lines = lines }) blocks refl refl refl h.left;
+    none_held = h.none_held;
+    in_turn = h.in_turn;
+    same_text = h.same_text;
+    lines = subst (λ ls. AreLines (source_of walk) 0 (ls ++ (part ∷ []))) (sym none) (h.line, tt);
+  }
 
 -- the part of the next event stands behind the part at hand
 module _ {E F : Type 0} (old mid : SpanWalk E F) (part next : LeafLine) (r : Ranged) (blocks : List Ranged) (h : Gathering old part blocks) (same : SameLeaf old mid) (is : IsPartOf mid.text.now part.past r next) where

@@ -1,12 +1,15 @@
 -- One call of a walk with spans that stands in no leaf.
-use Rattle.std.proofs.Common.{◌≡◌, ◌⊎◌, Bool, true, false, List, [], ◌∷◌, Option, Some, None, Result, Ok, Err, IfOk, sym, ap, ◌∙◌, subst}
+use Rattle.std.proofs.Common.{◌≡◌, ◌⊎◌, ℕ, Bool, true, false, List, [], ◌∷◌, Option, Some, None, Result, Ok, Err, IfOk, sym, ap, ◌∙◌, subst}
 use Rattle.cmark_grammar.specs.Event.{Ranged}
-use Rattle.cmark_grammar.specs.LeafSpans.{is_content, InTurn}
+use Rattle.cmark_grammar.specs.LeafSpans.{is_content, InTurn, TakesTurn}
 use Rattle.cmark_leaf_text.specs.declared.leaf_text.LeafText.{LeafText}
+use Rattle.cmark_leaf_text.specs.declared.stretch.LeafLine.{LeafLine}
 use Rattle.cmark_walk.specs.declared.reading.Ranged.{Ranged as Given}
 use Rattle.cmark_walk.specs.Walking.{shown_ranged}
 use Rattle.cmark_span_walk.specs.declared.span_walk.SpanWalk.{SpanWalk}
 use Rattle.cmark_span_walk.specs.Walking.{source_of, BlocksLeft, Stands, Remains, Gives, SameLeaf, TakesBlock, Passes, BeginsLeaf, EntersLeaf}
+use Rattle.cmark_span_walk.specs.Lines.{IsPartOf}
+use Rattle.cmark_span_walk.proofs.Gathers.{turn-content}
 use Rattle.cmark_span_walk.proofs.Walks.{entered, over-outside, passed-gives, passed-stands}
 
 pub if-ok-weaker : {T E : Type 0} (r : Result T E) (P Q : T → Type 0) → ((x : T) → P x → Q x) → IfOk r P → IfOk r Q
@@ -36,27 +39,31 @@ module _ {E F : Type 0} where
       source-same : source_of mid ≡ source_of old
       source-same = ap (λ (leaf : LeafText). leaf.source.now) same.leaf
 
-      begins-at : (t : TakesBlock s.0 (Some block) mid) → mid.held ≡ None → mid.in_code ≡ false → is_content (shown_ranged block).event ≡ true → BeginsLeaf mid (shown_ranged block) t.0
-      begins-at t none code content = record {
-        left = t.2;
-        none_held = none;
-        content = content;
-        outside = code;
-        in_turn = subst (λ text. InTurn text 0 (shown_ranged block ∷ t.0)) (sym source-same) (subst (InTurn (source_of old) 0) t.1 s.1.in_turn);
-        same_text = ap (λ text. text.now) same.text ∙ s.1.same_text ∙ sym source-same;
-      }
+      module _ (first : LeafLine) (part : (text : List ℕ) (from : ℕ) → TakesTurn text from (shown_ranged block) → IsPartOf text from (shown_ranged block) first) (none : mid.held ≡ None) (code : mid.in_code ≡ false) (content : is_content (shown_ranged block).event ≡ true) where
+        begins-at : (t : TakesBlock s.0 (Some block) mid) → BeginsLeaf mid first t.0
+        begins-at t =
+            let turn = turn-content (source_of mid) 0 (shown_ranged block) t.0 content (subst (λ text. InTurn text 0 (shown_ranged block ∷ t.0)) (sym source-same) (subst (InTurn (source_of old) 0) t.1 s.1.in_turn)) in
+            let is = part (source_of mid) 0 turn.0 in
+            record {
+              left = t.2;
+              none_held = none;
+              line = is.line_is;
+              outside = code;
+              in_turn = subst (λ (p : ℕ). InTurn (source_of mid) p t.0) (sym is.ends) turn.1;
+              same_text = ap (λ text. text.now) same.text ∙ s.1.same_text ∙ sym source-same;
+            }
 
-      pub begins : mid.held ≡ None → mid.in_code ≡ false → is_content (shown_ranged block).event ≡ true → (blocks : List Ranged) × BeginsLeaf mid (shown_ranged block) blocks
-      begins none code content = let t = took (Some block) is in (t.0, begins-at t none code content)
+        pub begins : (blocks : List Ranged) × BeginsLeaf mid first blocks
+        begins = let t = took (Some block) is in (t.0, begins-at t)
 
-      module _ (new : SpanWalk E F) (enters : (blocks : List Ranged) → BeginsLeaf mid (shown_ranged block) blocks → EntersLeaf blocks new) (none : mid.held ≡ None) (code : mid.in_code ≡ false) (content : is_content (shown_ranged block).event ≡ true) where
-        pub enter-stands : Stands new
-        enter-stands = let b = begins none code content in let e = enters b.0 b.1 in (e.others, e.stands)
+        module _ (new : SpanWalk E F) (enters : (blocks : List Ranged) → BeginsLeaf mid first blocks → EntersLeaf blocks new) where
+          pub enter-stands : Stands new
+          enter-stands = let b = begins in let e = enters b.0 b.1 in (e.others, e.stands)
 
-        pub enter-inside : new.in_leaf ≡ true
-        enter-inside = let b = begins none code content in (enters b.0 b.1).inside
+          pub enter-inside : new.in_leaf ≡ true
+          enter-inside = let b = begins in (enters b.0 b.1).inside
 
-        pub enter-back : new.in_code ≡ mid.in_code → source_of new ≡ source_of mid → (events : List Ranged) → Remains new events → Remains old events
-        enter-back same-code same-source events r =
-            let t = took (Some block) is in
-            entered old new (shown_ranged block) s.0 t.0 events s.1 out (sym same.in_code ∙ code) content t.1 (enters t.0 (begins-at t none code content)) (same-code ∙ code) (same-source ∙ source-same) r
+          pub enter-back : new.in_code ≡ mid.in_code → source_of new ≡ source_of mid → (events : List Ranged) → Remains new events → Remains old events
+          enter-back same-code same-source events r =
+              let t = took (Some block) is in
+              entered old new (shown_ranged block) s.0 t.0 events s.1 out (sym same.in_code ∙ code) content t.1 (enters t.0 (begins-at t)) (same-code ∙ code) (same-source ∙ source-same) r

@@ -10,7 +10,7 @@ use Rattle.cmark_inline.specs.Stands.{AreOpened, AreSlots}
 use Rattle.cmark_leaf_text.specs.declared.stretch.LeafLine.{LeafLine}
 use Rattle.cmark_leaf_text.specs.Reads as reads
 use Rattle.cmark_leaf_text.specs.Reads.{IsRead, text_of}
-use Rattle.cmark_leaf_text.specs.Stretches.{AreLines}
+use Rattle.cmark_leaf_text.specs.Stretches.{AreLines, IsLine}
 use Rattle.cmark_walk.specs.declared.reading.Ranged.{Ranged as Given}
 use Rattle.cmark_walk.specs.Walking as walking
 use Rattle.cmark_walk.specs.Walking.{shown_ranged}
@@ -137,13 +137,13 @@ module _ {E F : Type 0} where
   GathersOne blocks None new = Gathered new blocks
   GathersOne blocks (Some open_part) new = (r : Ranged) × (others : List Ranged) × (blocks ≡ r ∷ others) × (is_content r.event ≡ true) × Gathering new open_part others
 
-  -- a leaf begins with this event, before these
-  pub record BeginsLeaf (walk : SpanWalk E F) (first : Ranged) (blocks : List Ranged) : Type 0 where
+  -- a leaf begins with this part of the source, before these events
+  pub record BeginsLeaf (walk : SpanWalk E F) (first : LeafLine) (blocks : List Ranged) : Type 0 where
     pub left : BlocksLeft walk blocks
     pub none_held : walk.held ≡ None
-    pub content : is_content first.event ≡ true
+    pub line : IsLine (source_of walk) 0 first
     pub outside : walk.in_code ≡ false
-    pub in_turn : InTurn (source_of walk) 0 (first ∷ blocks)
+    pub in_turn : InTurn (source_of walk) first.past blocks
     pub same_text : walk.text.now ≡ source_of walk
 
   -- the content of the leaf goes on with some of these events

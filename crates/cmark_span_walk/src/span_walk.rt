@@ -139,8 +139,12 @@ impl<'input, 'e, E: EntityLookup, F: BrokenLinkCallback<'input> + Drop> SpanWalk
         if self.in_code || !is_content(&block.event) {
             return Ok(Some(self.pass(block)));
         }
-        self.enter_leaf(block)?;
-        self.next_in_leaf()
+        let first = part_of(&block);
+        drop(block);
+        self.enter_leaf(first)?;
+        // A call that is not inlined gets memory of its own for its result, so that the events made here stay in registers.
+        let given = self.next_in_leaf()?;
+        Ok(given)
     }
 
     // The next event in a leaf or, where it has no more, behind it.
@@ -216,10 +220,10 @@ impl<'input, 'e, E: EntityLookup, F: BrokenLinkCallback<'input> + Drop> SpanWalk
         block
     }
 
-    // Into the leaf whose content begins with this event.
-    fn enter_leaf(&mut self, first: Ranged<'input>) -> Result<(), AllocError>
-        requires { (blocks : List Shown) × BeginsLeaf self.old (shown_ranged first) blocks }
-        ensures enters { OnOk result ((blocks : List Shown) → BeginsLeaf self.old (shown_ranged first.entry) blocks → EntersLeaf blocks self.new) }
+    // Into the leaf whose content begins with this part of the source.
+    fn enter_leaf(&mut self, first: LeafLine) -> Result<(), AllocError>
+        requires { (blocks : List Shown) × BeginsLeaf self.old first blocks }
+        ensures enters { OnOk result ((blocks : List Shown) → BeginsLeaf self.old first blocks → EntersLeaf blocks self.new) }
         ensures outside { OnOk result (self.new.in_code ≡ self.old.in_code) }
         ensures source { OnOk result (source_of self.new ≡ source_of self.old) }
         ensures most { OnOk result (blocks_left self.new ≤ blocks_left self.old) }
@@ -239,16 +243,16 @@ impl<'input, 'e, E: EntityLookup, F: BrokenLinkCallback<'input> + Drop> SpanWalk
         Ok(())
     }
 
-    // Gathers the parts of the source over which the content stands that begins with this event; the event behind it is held.
-    fn gather(&mut self, first: Ranged<'input>) -> Result<(), AllocError>
-        requires { (blocks : List Shown) × BeginsLeaf self.old (shown_ranged first) blocks }
-        ensures collects { OnOk result ((blocks : List Shown) → BeginsLeaf self.old (shown_ranged first.entry) blocks → Collects blocks self.new) }
+    // Gathers the parts of the source over which the content stands that begins with this one; the event behind it is held.
+    fn gather(&mut self, first: LeafLine) -> Result<(), AllocError>
+        requires { (blocks : List Shown) × BeginsLeaf self.old first blocks }
+        ensures collects { OnOk result ((blocks : List Shown) → BeginsLeaf self.old first blocks → Collects blocks self.new) }
         ensures same { SameLeaf self.old self.new }
         ensures most { OnOk result (blocks_left self.new ≤ blocks_left self.old) }
         ensures definitions { definitions_of self.new ≡ definitions_of self.old }
     {
         self.lines.clear();
-        let mut part = part_of(&first);
+        let mut part = first;
         while let Some(next) = self.gather_part(part)? {
             part = next;
         }

@@ -1,7 +1,7 @@
 use Rattle.std.proofs.Common.{Some, inl, inr, refl, sym, ◌∙◌, subst}
 use Rattle.cmark_walk.specs.Walking.{shown_ranged}
 use Rattle.cmark_span_walk.specs.Walking.{Gives}
-use Rattle.cmark_span_walk.proofs.Nexts.{begins, enter-back, enter-inside, enter-stands, gives-back, if-ok-weaker, next-over, pass-gives, pass-stands}
+use Rattle.cmark_span_walk.proofs.Nexts.{begins, enter-back, enter-inside, enter-stands, gives-back, next-over, pass-gives, pass-stands}
 use Rattle.cmark_span_walk.proofs.span_walk.SpanWalk.next_outside.Goals as goal
 use Rattle.cmark_span_walk.proofs.span_walk.SpanWalk.next_outside.Goals.{then-self-via-then-self, then-self-via-else-self+then-not-is_content}
 
@@ -25,27 +25,25 @@ returns-then-self-clause-given g c =
 pub enter_leaf-requires : goal.enter_leaf-requires
 enter_leaf-requires g c κs = (
   (refl, tt),
-  begins c.args.self.now c.next_block.new.self c.in_ok-block.field-0 c.requires.stands c.requires.outside c.in_ok-block.ensures.taken c.in_ok-block.ensures.same c.in-Some.block c.in-Some.is c.in_ok-block.ensures.none_held c.if-self.false
-      (sym c.is_content.ensures ∙ c.if-not-is_content.false),
+  begins c.args.self.now c.next_block.new.self c.in_ok-block.field-0 c.requires.stands c.requires.outside c.in_ok-block.ensures.taken c.in_ok-block.ensures.same c.in-Some.block c.in-Some.is c.part_of-first.result c.part_of-first.ensures
+      c.in_ok-block.ensures.none_held c.if-self.false (sym c.is_content.ensures ∙ c.if-not-is_content.false),
 )
 
 pub next_in_leaf-requires : goal.next_in_leaf-requires
-next_in_leaf-requires g c κs =
-    let content = sym c.is_content.ensures ∙ c.if-not-is_content.false in (
-      (refl, tt),
-      (
-        enter-stands c.args.self.now c.next_block.new.self c.in_ok-block.field-0 c.requires.stands c.requires.outside c.in_ok-block.ensures.taken c.in_ok-block.ensures.same c.in-Some.block c.in-Some.is c.enter_leaf.new.self c.in_ok-enter_leaf.ensures.enters
-            c.in_ok-block.ensures.none_held c.if-self.false content,
-        enter-inside c.args.self.now c.next_block.new.self c.in_ok-block.field-0 c.requires.stands c.requires.outside c.in_ok-block.ensures.taken c.in_ok-block.ensures.same c.in-Some.block c.in-Some.is c.enter_leaf.new.self c.in_ok-enter_leaf.ensures.enters
-            c.in_ok-block.ensures.none_held c.if-self.false content,
-      ),
-    )
+next_in_leaf-requires g c κs = (
+  (refl, tt),
+  (
+    enter-stands c.args.self.now c.next_block.new.self c.in_ok-block.field-0 c.requires.stands c.requires.outside c.in_ok-block.ensures.taken c.in_ok-block.ensures.same c.in-Some.block c.in-Some.is c.part_of-first.result c.part_of-first.ensures
+        c.in_ok-block.ensures.none_held c.if-self.false (sym c.is_content.ensures ∙ c.if-not-is_content.false) c.enter_leaf.new.self c.in_ok-enter_leaf.ensures.enters,
+    enter-inside c.args.self.now c.next_block.new.self c.in_ok-block.field-0 c.requires.stands c.requires.outside c.in_ok-block.ensures.taken c.in_ok-block.ensures.same c.in-Some.block c.in-Some.is c.part_of-first.result c.part_of-first.ensures
+        c.in_ok-block.ensures.none_held c.if-self.false (sym c.is_content.ensures ∙ c.if-not-is_content.false) c.enter_leaf.new.self c.in_ok-enter_leaf.ensures.enters,
+  ),
+)
 
 pub returns-clause-given : goal.returns-clause-given
 returns-clause-given g c =
-    let content = sym c.is_content.ensures ∙ c.if-not-is_content.false in
-    if-ok-weaker c.next_in_leaf.result _ _
-    (λ given h. gives-back c.args.self.now c.enter_leaf.new.self _ given
-    (enter-back c.args.self.now c.next_block.new.self c.in_ok-block.field-0 c.requires.stands c.requires.outside c.in_ok-block.ensures.taken c.in_ok-block.ensures.same c.in-Some.block c.in-Some.is c.enter_leaf.new.self c.in_ok-enter_leaf.ensures.enters
-    c.in_ok-block.ensures.none_held c.if-self.false content c.in_ok-enter_leaf.ensures.outside c.in_ok-enter_leaf.ensures.source) h)
-    c.next_in_leaf.ensures.given
+    let back =
+    enter-back c.args.self.now c.next_block.new.self c.in_ok-block.field-0 c.requires.stands c.requires.outside c.in_ok-block.ensures.taken c.in_ok-block.ensures.same c.in-Some.block c.in-Some.is c.part_of-first.result c.part_of-first.ensures
+    c.in_ok-block.ensures.none_held c.if-self.false (sym c.is_content.ensures ∙ c.if-not-is_content.false) c.enter_leaf.new.self c.in_ok-enter_leaf.ensures.enters c.in_ok-enter_leaf.ensures.outside
+    c.in_ok-enter_leaf.ensures.source in
+    gives-back c.args.self.now c.enter_leaf.new.self c.next_in_leaf.new.self c.in_ok-given.given back c.in_ok-given.ensures.given
