@@ -76,8 +76,8 @@ fn has_one(table: &[bool; 256], a: u8, b: u8, c: u8, d: u8) -> bool
     has_byte(table, a) | has_byte(table, b) | has_byte(table, c) | has_byte(table, d)
 }
 
-/// How many bytes stand in front of the first that the table has, or in all, where it has none. They are looked at by eights,
-/// which takes half the time.
+/// How many bytes stand in front of the first that the table has, or in all, where it has none. They are looked at by eights
+/// while that many are left.
 fn plain_size(table: &[bool; 256], bytes: &[u8]) -> usize
     ensures value { result ≡ prefix_len (λ b. not (has_byte table.now b)) bytes.now }
     ensures within { result ≤ length bytes.now }

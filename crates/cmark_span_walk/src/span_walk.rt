@@ -142,7 +142,7 @@ impl<'input, 'e, E: EntityLookup, F: BrokenLinkCallback<'input> + Drop> SpanWalk
         let first = part_of(&block);
         drop(block);
         self.enter_leaf(first)?;
-        // A call that is not inlined gets memory of its own for its result, so that the events made here stay in registers.
+        // Bound to a name: a call that is not inlined and answered at once would have every result of this function in memory.
         let given = self.next_in_leaf()?;
         Ok(given)
     }
