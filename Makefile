@@ -9,6 +9,7 @@ all:
 
 test: edits gate programs
 	tests/refusals
+	tests/rows
 	tests/vectors
 	@tail -n 1 bin/gate.log
 
