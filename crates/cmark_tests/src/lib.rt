@@ -10,6 +10,8 @@ mod common;
 #[cfg(test)]
 mod extensions;
 #[cfg(test)]
+mod leaves;
+#[cfg(test)]
 mod reading;
 #[cfg(test)]
 mod spans;
