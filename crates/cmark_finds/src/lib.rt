@@ -5,6 +5,7 @@
 //! containers and without the indent of each line. Places are byte offsets of this text.
 #![tactic(auto)]
 
+mod backtick_runs;
 mod breaks;
 mod code;
 mod html;
@@ -16,6 +17,7 @@ mod special;
 #[cfg(test)]
 mod tests;
 
+pub use backtick_runs::BacktickRuns;
 pub use breaks::{LineBreak, line_break};
 pub use code::{CodeSpan, code_span, code_text};
 pub use html::inline_html;
