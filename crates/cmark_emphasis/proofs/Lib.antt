@@ -12,3 +12,7 @@ pub mod Placed
 pub mod Callers
 pub mod SlotsRead
 pub mod Alike
+pub mod NotShut
+pub mod Agreeing
+pub mod Shuts
+pub mod Noted

@@ -1,20 +1,20 @@
 -- Steps of a run that closes over a stack of open runs.
-use Rattle.std.proofs.Common.{◌≡◌, ◌⊎◌, inl, inr, ℕ, zero, suc, ◌+◌, ◌-◌, ◌<◌, Bool, true, false, nat_lt, List, [], ◌∷◌, ◌++◌, length, Option, Some, None, get_or, refl, sym, ap, ◌∙◌, subst, arith, append_assoc}
-use Rattle.std.specs.Prelude.{reverse, take, slice_get, map, filter}
-use Rattle.std.proofs.lemmas.List.{append-nil, reverse-append, map-append, map_more, length-reverse, length-map, length-take-le}
-use Rattle.std.proofs.lemmas.List.Elements.{filter-append}
+use Rattle.std.proofs.Common.{◌≡◌, ◌⊎◌, inl, inr, ℕ, zero, suc, ◌+◌, ◌-◌, ◌<◌, ◌≤◌, Bool, true, false, not, nat_lt, if◌then◌else◌, List, [], ◌∷◌, ◌++◌, length, Option, Some, None, get_or, refl, sym, ap, ◌∙◌, subst, arith, append_assoc, true≢false, drop-cons}
+use Rattle.std.specs.Prelude.{drop, take, slice_get, map}
+use Rattle.std.proofs.lemmas.List.{append-nil, map-append, length-reverse, length-map, length-take-le}
 use Rattle.std.proofs.lemmas.Bool.{ltb-true}
 use Rattle.std.proofs.lemmas.Option.{slice_get-get_or, slice_get_within}
-use Rattle.cmark_grammar.specs.Emphasis.{Run, Pair, agrees, paired_count, pair_of, rest_of_opener, rest_of_closer, shuts}
+use Rattle.cmark_grammar.specs.Emphasis.{Run, Pair, agrees, paired_count, pair_of, rest_of_opener, rest_of_closer, is_tilde_or_caret}
 use Rattle.cmark_emphasis.specs.Shown.{shown_run, shown_pair, open_runs}
-use Rattle.cmark_emphasis.specs.Stack.{Chased, and_then, put, stays_open, still_open, chase, or_same, chased, NoneAgree, IsNearest, course_from}
+use Rattle.cmark_emphasis.specs.Bottoms.{AreBottoms, bottom_of, class_of, not_shut, or_other, stays}
+use Rattle.cmark_emphasis.specs.Nearest.{IsNearest, with_opener, with_rest}
+use Rattle.cmark_emphasis.specs.Stack.{Chased, and_then, put, still_open, chase, or_same, chased, NoneAgree, course_from, pair_all, rest_on}
+use Rattle.cmark_emphasis.specs.declared.bottom.OpenersBottom.{OpenersBottom}
 use Rattle.cmark_emphasis.specs.declared.run.Run as code_run
 use Rattle.cmark_emphasis.specs.declared.run.Pair as code_pair
+use Rattle.cmark_emphasis.proofs.Agreeing.{mark_same, closing, class_no_tilde}
+use Rattle.cmark_emphasis.proofs.NotShut.{none_of, none_shut, not_shut-none, not_shut-push, open-push, tops_at}
 use Rattle.cmark_emphasis.proofs.Sound.{agrees-empty, one_empty}
-
-pub open-more : (stack : List code_run.Run) (i : ℕ) (d : code_run.Run) → i < length stack → open_runs (take (i + 1) stack) ≡ shown_run (get_or stack i d) ∷ open_runs (take i stack)
-open-more stack i d lt =
-    ap reverse (map_more shown_run stack i d lt) ∙ reverse-append (map shown_run (take i stack)) (shown_run (get_or stack i d) ∷ [])
 
 agree-append : (c o : Run) (passed : List Run) → NoneAgree c passed → agrees o c ≡ false → NoneAgree c (passed ++ o ∷ [])
 agree-append c o [] h e = (e, tt)
@@ -56,19 +56,36 @@ chased-pair c o xs ys h e = rw (chase-skip c xs (o ∷ ys) h) (rw e (go (one_emp
         same (chase (rest_of_closer o c) ys) (put (rest_of_opener o c) ys) p ∙ ap (λ l. with_pair (pair_of o c) (or_same (rest_of_closer o c) l (chase (rest_of_closer o c) l))) (sym p)
     go (inr z) = rw (chase-empty (rest_of_closer o c) ys z) (rw (chase-empty (rest_of_closer o c) (put (rest_of_opener o c) ys) z) refl)
 
-course_step : (c : Run) (o : code_run.Run) (stack next : List code_run.Run) (pairs : List code_pair.Pair) (i : ℕ) → IsNearest c stack i → slice_get stack i ≡ Some o → open_runs next ≡ put (rest_of_opener (shown_run o) c) (open_runs (take i stack)) → (m : code_pair.Pair) → shown_pair m ≡ pair_of (shown_run o) c → course_from (rest_of_closer (shown_run o) c) next (pairs ++ m ∷ []) ≡ course_from c stack pairs
-course_step c o stack next pairs i h read e m s =
+-- what is put back on the stack is open
+pub open-rest : (n : ℕ) (stack : List code_run.Run) (r : code_run.Run) → n ≤ length stack → open_runs (not_shut n (with_rest r stack)) ≡ put (shown_run r) (open_runs (not_shut n stack))
+open-rest n stack r le = go (nat_lt 0 r.left)
+  where
+    go : (b : Bool) → open_runs (not_shut n (if b then stack ++ r ∷ [] else stack)) ≡ (if b then shown_run r ∷ open_runs (not_shut n stack) else open_runs (not_shut n stack))
+    go true = ap open_runs (not_shut-push n stack r le) ∙ open-push (not_shut n stack) r
+    go false = refl
+
+pub open-opener : (n : ℕ) (stack : List code_run.Run) (r : code_run.Run) → n ≤ length stack → open_runs (not_shut n (with_opener r stack)) ≡ rest_on (shown_run r) (open_runs (not_shut n stack))
+open-opener n stack r le = go r.opens
+  where
+    go : (b : Bool) → open_runs (not_shut n (if b then with_rest r stack else stack)) ≡ (if b then put (shown_run r) (open_runs (not_shut n stack)) else open_runs (not_shut n stack))
+    go true = open-rest n stack r le
+    go false = refl
+
+course_step : (c : Run) (o : code_run.Run) (stack next : List code_run.Run) (pairs : List code_pair.Pair) (i n k : ℕ) → IsNearest c n stack i → slice_get stack i ≡ Some o → open_runs (not_shut k next) ≡ put (rest_of_opener (shown_run o) c) (open_runs (not_shut n (take i stack))) → (m : code_pair.Pair) → shown_pair m ≡ pair_of (shown_run o) c → course_from (rest_of_closer (shown_run o) c) (not_shut k next) (pairs ++ m ∷ []) ≡ course_from c (not_shut n stack) pairs
+course_step c o stack next pairs i n k h read e m s =
     let same : h.opener ≡ o = (let q : Some h.opener ≡ Some o = sym h.read ∙ read in cc) in
-    let cut : open_runs stack ≡ h.passed ++ (shown_run o ∷ open_runs (take i stack)) = h.cut ∙ ap (λ r. h.passed ++ (shown_run r ∷ open_runs (take i stack))) same in
+    let front : List Run = open_runs (not_shut n (take i stack)) in
+    let cut : open_runs (not_shut n stack) ≡ h.passed ++ (shown_run o ∷ front) = h.cut ∙ ap (λ r. h.passed ++ (shown_run r ∷ front)) same in
     let agree : agrees (shown_run o) c ≡ true = subst (λ r. agrees (shown_run r) c ≡ true) same h.agree in
-    let step = chased-pair c (shown_run o) h.passed (open_runs (take i stack)) h.miss agree in
+    let step = chased-pair c (shown_run o) h.passed front h.miss agree in
     let all : map shown_pair (pairs ++ m ∷ []) ≡ map shown_pair pairs ++ pair_of (shown_run o) c ∷ [] = map-append shown_pair pairs (m ∷ []) ∙ ap (λ p. map shown_pair pairs ++ p ∷ []) s in
+    let behind : Chased = chased (rest_of_closer (shown_run o) c) (open_runs (not_shut k next)) in
     sym (ap (λ l. pairs_after (map shown_pair pairs) (chased c l)) cut
     ∙ ap (λ (d : Chased). pairs_after (map shown_pair pairs) d) step
     ∙ ap (λ l. pairs_after (map shown_pair pairs) (with_pair (pair_of (shown_run o) c) (chased (rest_of_closer (shown_run o) c) l))) (sym e)
-    ∙ ap {B = Chased} (λ l. record { rest = (chased (rest_of_closer (shown_run o) c) (open_runs next)).rest; opens = (chased (rest_of_closer (shown_run o) c) (open_runs next)).opens; pairs = l })
-    (sym (append_assoc (map shown_pair pairs) (pair_of (shown_run o) c ∷ []) (chased (rest_of_closer (shown_run o) c) (open_runs next)).pairs)
-    ∙ ap (λ l. l ++ (chased (rest_of_closer (shown_run o) c) (open_runs next)).pairs) (sym all)))
+    ∙ ap {B = Chased} (λ l. record { rest = behind.rest; opens = behind.opens; pairs = l })
+    (sym (append_assoc (map shown_pair pairs) (pair_of (shown_run o) c ∷ []) behind.pairs)
+    ∙ ap (λ l. l ++ behind.pairs) (sym all)))
 
 pub course_end : (c : Run) (stack next : List code_run.Run) (pairs : List code_pair.Pair) → NoneAgree c (open_runs stack) → open_runs next ≡ still_open c (open_runs stack) → course_from c stack pairs ≡ record { rest = c; opens = open_runs next; pairs = map shown_pair pairs }
 course_end c stack next pairs h e =
@@ -86,6 +103,18 @@ agrees-some o c e = go c.left refl
 pub empty-agree : (c : Run) (xs : List Run) → c.left ≡ 0 → NoneAgree c xs
 empty-agree c [] e = tt
 empty-agree c (x ∷ xs) e = (agrees-empty x c e, empty-agree c xs e)
+
+pub unclosing-agree : (c : Run) (xs : List Run) → not c.closes ≡ true → NoneAgree c xs
+unclosing-agree c [] e = tt
+unclosing-agree c (x ∷ xs) e = (go (agrees x c) refl, unclosing-agree c xs e)
+  where
+    no : (b : Bool) → not b ≡ true → b ≡ true → ⊥
+    no true h k = true≢false (sym h)
+    no false h k = true≢false (sym k)
+
+    go : (b : Bool) → agrees x c ≡ b → agrees x c ≡ false
+    go true p = absurd (no c.closes e (closing x c p).closes)
+    go false p = p
 
 length-open : (stack : List code_run.Run) → length (open_runs stack) ≡ length stack
 length-open stack = length-reverse (map shown_run stack) ∙ length-map stack shown_run
@@ -112,65 +141,119 @@ course_smaller c o stack next i lt agree e = go (nat_lt o.left c.left) refl (nat
         let l : length next ≡ length (open_runs (take i stack)) = len ∙ rw q refl in
         omega (arith, l, front, some, lt)
 
-pub found_at : (c : Run) (d : code_run.Run) (stack : List code_run.Run) (passed : List Run) (i j : ℕ) → i ≡ j + 1 → j < length stack → open_runs stack ≡ passed ++ open_runs (take i stack) → NoneAgree c passed → agrees (shown_run (get_or stack j d)) c ≡ true → IsNearest c stack j
-found_at c d stack passed i j e lt cut miss agree = record {
-  opener = get_or stack j d;
-  passed = passed;
-  read = slice_get-get_or stack j d lt;
-  agree = agree;
-  cut = cut ∙ ap (λ n. passed ++ open_runs (take n stack)) e ∙ ap (λ l. passed ++ l) (open-more stack j d lt);
-  miss = miss;
-}
+-- what a step of a search comes to, at the run before this place
+module _ (c : Run) (n : ℕ) (stack : List code_run.Run) where
+  abbrev Passed : List Run → ℕ → Type 0
+  Passed passed i = open_runs (not_shut n stack) ≡ passed ++ open_runs (not_shut n (take i stack))
 
-pub passed_at : (c : Run) (d : code_run.Run) (stack : List code_run.Run) (passed : List Run) (i j : ℕ) → i ≡ j + 1 → j < length stack → open_runs stack ≡ passed ++ open_runs (take i stack) → NoneAgree c passed → agrees (shown_run (get_or stack j d)) c ≡ false → (next : List Run) × (open_runs stack ≡ next ++ open_runs (take j stack)) × NoneAgree c next
-passed_at c d stack passed i j e lt cut miss agree = (
-  passed ++ shown_run (get_or stack j d) ∷ [],
-  cut ∙ ap (λ n. passed ++ open_runs (take n stack)) e ∙ ap (λ l. passed ++ l) (open-more stack j d lt) ∙ sym (append_assoc passed (shown_run (get_or stack j d) ∷ []) (open_runs (take j stack))),
-  agree-append c (shown_run (get_or stack j d)) passed miss agree,
-)
+  module _ (d : code_run.Run) (passed : List Run) (i j : ℕ) (before : i ≡ j + 1) (lt : j < length stack) (cut : open_runs (not_shut n stack) ≡ passed ++ open_runs (not_shut n (take i stack))) (miss : NoneAgree c passed) where
+    now : Passed passed (j + 1)
+    now = cut ∙ ap (λ k. passed ++ open_runs (not_shut n (take k stack))) before
 
-pub none_left : (c : Run) (stack : List code_run.Run) (passed : List Run) (i : ℕ) → i ≡ 0 → open_runs stack ≡ passed ++ open_runs (take i stack) → NoneAgree c passed → NoneAgree c (open_runs stack)
-none_left c stack passed i z cut miss =
-    subst (NoneAgree c) (sym (cut ∙ ap (λ n. passed ++ open_runs (take n stack)) z ∙ append-nil passed)) miss
+    pub found_at : (is_tilde_or_caret c.mark ≡ true → n ≤ j) → agrees (shown_run (get_or stack j d)) c ≡ true → IsNearest c n stack j
+    found_at low agree = go (tops_at n stack j d lt)
+      where
+        go : (open_runs (not_shut n (take (j + 1) stack)) ≡ shown_run (get_or stack j d) ∷ open_runs (not_shut n (take j stack))) × ((n ≤ j) ⊎ (stays (get_or stack j d) ≡ true))
+            ⊎ (open_runs (not_shut n (take (j + 1) stack)) ≡ open_runs (not_shut n (take j stack))) × (j < n) × (stays (get_or stack j d) ≡ false) → IsNearest c n stack j
+        go (inl t) = record {
+          opener = get_or stack j d;
+          passed = passed;
+          read = slice_get-get_or stack j d lt;
+          agree = agree;
+          cut = now ∙ ap (λ l. passed ++ l) t.0;
+          miss = miss;
+        }
+        go (inr t) = absurd (let le = low (sym (ap is_tilde_or_caret (mark_same (shown_run (get_or stack j d)) c agree)) ∙ gone (is_tilde_or_caret (get_or stack j d).mark) t.2) in omega (arith, le, t.1))
+          where
+            gone : (b : Bool) → not b ≡ false → b ≡ true
+            gone true h = refl
+            gone false h = absurd (true≢false h)
 
-pub nearest_in : (c : Run) (stack : List code_run.Run) (i : ℕ) → IsNearest c stack i → i < length stack
-nearest_in c stack i h = slice_get_within stack i h.opener h.read
+    pub passed_at : agrees (shown_run (get_or stack j d)) c ≡ false → (next : List Run) × (open_runs (not_shut n stack) ≡ next ++ open_runs (not_shut n (take j stack))) × NoneAgree c next
+    passed_at agree = go (tops_at n stack j d lt)
+      where
+        go : (open_runs (not_shut n (take (j + 1) stack)) ≡ shown_run (get_or stack j d) ∷ open_runs (not_shut n (take j stack))) × ((n ≤ j) ⊎ (stays (get_or stack j d) ≡ true))
+            ⊎ (open_runs (not_shut n (take (j + 1) stack)) ≡ open_runs (not_shut n (take j stack))) × (j < n) × (stays (get_or stack j d) ≡ false)
+            → (next : List Run) × (open_runs (not_shut n stack) ≡ next ++ open_runs (not_shut n (take j stack))) × NoneAgree c next
+        go (inl t) = (
+          passed ++ shown_run (get_or stack j d) ∷ [],
+          now ∙ ap (λ l. passed ++ l) t.0 ∙ sym (append_assoc passed (shown_run (get_or stack j d) ∷ []) (open_runs (not_shut n (take j stack)))),
+          agree-append c (shown_run (get_or stack j d)) passed miss agree,
+        )
+        go (inr t) = (passed, now ∙ ap (λ l. passed ++ l) t.0, miss)
+
+agree-both : (c : Run) (xs ys : List Run) → NoneAgree c xs → NoneAgree c ys → NoneAgree c (xs ++ ys)
+agree-both c [] ys h k = k
+agree-both c (x ∷ xs) ys h k = (h.0, agree-both c xs ys h.1 k)
+
+-- at the bottom none is left that agrees
+pub none_left : (c : Run) (bottoms : OpenersBottom) (stack : List code_run.Run) (passed : List Run) (i : ℕ) → AreBottoms bottoms stack → i ≤ length stack → i ≤ bottom_of bottoms c → open_runs (not_shut bottoms.shut stack) ≡ passed ++ open_runs (not_shut bottoms.shut (take i stack)) → NoneAgree c passed → NoneAgree c (open_runs (not_shut bottoms.shut stack))
+none_left c bottoms stack passed i h le low cut miss =
+    subst (NoneAgree c) (sym cut) (agree-both c passed (open_runs (not_shut bottoms.shut (take i stack))) miss (by_class (class_of c) refl low))
+  where
+    Left : Type 0
+    Left = NoneAgree c (open_runs (not_shut bottoms.shut (take i stack)))
+
+    by_kind : (b : Bool) → is_tilde_or_caret c.mark ≡ b → i ≤ (if b then bottoms.shut else 0) → Left
+    by_kind true e l = none_shut c bottoms.shut stack e i le l
+    by_kind false e l = none_of c bottoms.shut stack i le (λ k d lt. absurd (omega (arith, l, lt)))
+
+    by_class : (o : Option ℕ) → class_of c ≡ o → i ≤ or_other o bottoms.heights (if is_tilde_or_caret c.mark then bottoms.shut else 0) → Left
+    by_class None e l = by_kind (is_tilde_or_caret c.mark) refl l
+    by_class (Some class) e l =
+        let b = h.emphasis c class e in
+        none_of c bottoms.shut stack i le (λ k d lt. b.none k d (omega (arith, l, lt)))
+
+-- a search that goes down to the bottom of tildes and carets stays above what they shut
+pub above_shut : (c : Run) (bottoms : OpenersBottom) (j : ℕ) → bottom_of bottoms c ≤ j → is_tilde_or_caret c.mark ≡ true → bottoms.shut ≤ j
+above_shut c bottoms j le tilde = by_class (class_of c) refl le
+  where
+    by_class : (o : Option ℕ) → class_of c ≡ o → or_other o bottoms.heights (if is_tilde_or_caret c.mark then bottoms.shut else 0) ≤ j → bottoms.shut ≤ j
+    by_class None e l = let s : bottoms.shut ≡ (if is_tilde_or_caret c.mark then bottoms.shut else 0) = rw tilde refl in omega (arith, l, s)
+    by_class (Some class) e l = absurd (true≢false (sym tilde ∙ class_no_tilde c class e))
+
+pub nearest_in : (c : Run) (n : ℕ) (stack : List code_run.Run) (i : ℕ) → IsNearest c n stack i → i < length stack
+nearest_in c n stack i h = slice_get_within stack i h.opener h.read
 
 -- one pair, with all that the loop needs
-pub course_next : (c : Run) (o : code_run.Run) (stack front next : List code_run.Run) (pairs more : List code_pair.Pair) (m : code_pair.Pair) (i : ℕ) → IsNearest c stack i → i < length stack → o ≡ get_or stack i o → front ≡ take i stack → open_runs next ≡ put (rest_of_opener (shown_run o) c) (open_runs front) → more ≡ pairs ++ m ∷ [] → shown_pair m ≡ pair_of (shown_run o) c → (course_from (rest_of_closer (shown_run o) c) next more ≡ course_from c stack pairs) × (length next + (rest_of_closer (shown_run o) c).left < length stack + c.left)
-course_next c o stack front next pairs more m i h lt at f e mo s =
+pub course_next : (c : Run) (o r : code_run.Run) (stack front next : List code_run.Run) (pairs more : List code_pair.Pair) (m : code_pair.Pair) (i n k : ℕ) → IsNearest c n stack i → i < length stack → o ≡ get_or stack i o → front ≡ take i stack → k ≤ length front → not_shut k front ≡ not_shut n front → next ≡ with_rest r front → shown_run r ≡ rest_of_opener (shown_run o) c → more ≡ pairs ++ m ∷ [] → shown_pair m ≡ pair_of (shown_run o) c
+    → (course_from (rest_of_closer (shown_run o) c) (not_shut k next) more ≡ course_from c (not_shut n stack) pairs) × (length next + (rest_of_closer (shown_run o) c).left < length stack + c.left)
+course_next c o r stack front next pairs more m i n k h lt at f low sh ne re mo s =
     let read : slice_get stack i ≡ Some o = slice_get-get_or stack i o lt ∙ ap (λ r. Some r) (sym at) in
     let same : h.opener ≡ o = (let q : Some h.opener ≡ Some o = sym h.read ∙ read in cc) in
-    let e' : open_runs next ≡ put (rest_of_opener (shown_run o) c) (open_runs (take i stack)) = e ∙ ap (λ l. put (rest_of_opener (shown_run o) c) (open_runs l)) f in (
-      ap (course_from (rest_of_closer (shown_run o) c) next) mo ∙ course_step c o stack next pairs i h read e' m s,
-      course_smaller c (shown_run o) stack next i lt (subst (λ r. agrees (shown_run r) c ≡ true) same h.agree) e',
+    let opens : open_runs (not_shut k next) ≡ put (rest_of_opener (shown_run o) c) (open_runs (not_shut n (take i stack))) =
+    ap (λ l. open_runs (not_shut k l)) ne ∙ open-rest k front r low ∙ ap (λ q. put q (open_runs (not_shut k front))) re ∙ ap (λ l. put (rest_of_opener (shown_run o) c) (open_runs l)) (sh ∙ ap (not_shut n) f) in
+    let plain : open_runs next ≡ put (rest_of_opener (shown_run o) c) (open_runs (take i stack)) =
+    ap open_runs (sym (not_shut-none next)) ∙ ap (λ l. open_runs (not_shut 0 l)) ne ∙ open-rest 0 front r (omega arith) ∙ ap (λ q. put q (open_runs (not_shut 0 front))) re ∙ ap (λ l. put (rest_of_opener (shown_run o) c) (open_runs l)) (not_shut-none front ∙ f) in (
+      ap (course_from (rest_of_closer (shown_run o) c) (not_shut k next)) mo ∙ course_step c o stack next pairs i n k h read opens m s,
+      course_smaller c (shown_run o) stack next i lt (subst (λ r. agrees (shown_run r) c ≡ true) same h.agree) plain,
     )
 
-abbrev pub stays : code_run.Run → Bool
-stays run = stays_open (shown_run run)
-
-filter-map : (stack : List code_run.Run) → map shown_run (filter stays stack) ≡ filter stays_open (map shown_run stack)
-filter-map [] = refl
-filter-map (r ∷ rs) = go (stays r) refl (filter-map rs)
+-- one run more
+pub round : (runs : List code_run.Run) (i : ℕ) (d : code_run.Run) (stack : List code_run.Run) (old new : List code_pair.Pair) (rest : Run) (opens next : List Run) (all : List Pair) → i < length runs
+    → course_from (shown_run (get_or runs i d)) stack old ≡ record { rest = rest; opens = opens; pairs = map shown_pair new } → next ≡ rest_on rest opens
+    → map shown_pair old ++ pair_all (map shown_run (drop i runs)) (open_runs stack) ≡ all → map shown_pair new ++ pair_all (map shown_run (drop (i + 1) runs)) next ≡ all
+round runs i d stack old new rest opens next all lt course on so =
+    ap (λ l. l ++ pair_all more next) (sym pairs)
+    ∙ append_assoc (map shown_pair old) mine.pairs (pair_all more next)
+    ∙ ap (λ l. map shown_pair old ++ (mine.pairs ++ pair_all more l)) (on ∙ ap (λ r. rest_on r opens) (sym rest_is) ∙ ap (rest_on mine.rest) (sym opens_are))
+    ∙ ap (λ l. map shown_pair old ++ pair_all (map shown_run l) (open_runs stack)) (sym step)
+    ∙ so
   where
-    go : (b : Bool) → stays r ≡ b → map shown_run (filter stays rs) ≡ filter stays_open (map shown_run rs) → map shown_run (filter stays (r ∷ rs)) ≡ filter stays_open (map shown_run (r ∷ rs))
-    go true e i = rw e (ap (λ l. shown_run r ∷ l) i)
-    go false e i = rw e i
+    step : drop i runs ≡ get_or runs i d ∷ drop (i + 1) runs
+    step = drop-cons runs i d lt ∙ ap (λ k. get_or runs i d ∷ drop k runs) (let e : suc i ≡ i + 1 = omega arith in e)
 
-filter-reverse : (xs : List Run) → reverse (filter stays_open xs) ≡ filter stays_open (reverse xs)
-filter-reverse [] = refl
-filter-reverse (x ∷ xs) = go (stays_open x) refl (filter-reverse xs)
-  where
-    ends : filter stays_open (reverse (x ∷ xs)) ≡ filter stays_open (reverse xs) ++ filter stays_open (x ∷ [])
-    ends = ap (filter stays_open) (reverse-append (x ∷ []) xs) ∙ filter-append stays_open (reverse xs) (x ∷ [])
+    mine : Chased
+    mine = chased (shown_run (get_or runs i d)) (open_runs stack)
 
-    go : (b : Bool) → stays_open x ≡ b → reverse (filter stays_open xs) ≡ filter stays_open (reverse xs) → reverse (filter stays_open (x ∷ xs)) ≡ filter stays_open (reverse (x ∷ xs))
-    go true e i = rw e (reverse-append (x ∷ []) (filter stays_open xs) ∙ ap (λ l. l ++ x ∷ []) i ∙ sym (ends ∙ ap (λ l. filter stays_open (reverse xs) ++ l) (rw e refl)))
-    go false e i = rw e (i ∙ sym (ends ∙ ap (λ l. filter stays_open (reverse xs) ++ l) (rw e refl) ∙ append-nil (filter stays_open (reverse xs))))
+    more : List Run
+    more = map shown_run (drop (i + 1) runs)
 
-pub shut_stack : (c : Run) (stack next : List code_run.Run) → shuts c ≡ true → next ≡ filter stays stack → open_runs next ≡ still_open c (open_runs stack)
-shut_stack c stack next on e =
-    rw on (ap open_runs e ∙ ap reverse (filter-map stack) ∙ filter-reverse (map shown_run stack))
+    pairs : map shown_pair old ++ mine.pairs ≡ map shown_pair new
+    pairs = ap (λ (c : Chased). c.pairs) course
 
-pub kept_stack : (c : Run) (stack : List code_run.Run) → shuts c ≡ false → open_runs stack ≡ still_open c (open_runs stack)
-kept_stack c stack off = rw off refl
+    rest_is : mine.rest ≡ rest
+    rest_is = ap (λ (c : Chased). c.rest) course
+
+    opens_are : mine.opens ≡ opens
+    opens_are = ap (λ (c : Chased). c.opens) course

@@ -1,7 +1,7 @@
 -- The pairs of a list of runs, by one pass with a stack of open runs, the nearest first.
-use Rattle.std.specs.Prelude.{◌≡◌, ℕ, Bool, true, false, not, nat_lt, if◌then◌else◌, Option, Some, None, List, [], ◌∷◌, ◌++◌, map, take, slice_get, filter}
+use Rattle.std.specs.Prelude.{◌≡◌, Bool, true, false, not, nat_lt, if◌then◌else◌, Option, Some, None, List, [], ◌∷◌, ◌++◌, map, filter}
 use Rattle.cmark_grammar.specs.Emphasis.{Run, Pair, agrees, pair_of, rest_of_opener, rest_of_closer, is_tilde_or_caret, shuts}
-use Rattle.cmark_emphasis.specs.Shown.{shown_run, shown_pair, open_runs}
+use Rattle.cmark_emphasis.specs.Shown.{shown_pair, open_runs}
 use Rattle.cmark_emphasis.specs.declared.run.Run as code_run
 use Rattle.cmark_emphasis.specs.declared.run.Pair as code_pair
 
@@ -65,15 +65,6 @@ run_pairs runs = pair_all runs []
 abbrev pub NoneAgree : Run → List Run → Type 0
 NoneAgree closer [] = Unit {0}
 NoneAgree closer (opener ∷ opens) = (agrees opener closer ≡ false) × NoneAgree closer opens
-
--- the last run of the stack that agrees
-pub record IsNearest (closer : Run) (stack : List code_run.Run) (i : ℕ) : Type 0 where
-  pub opener : code_run.Run
-  pub passed : List Run
-  pub read : slice_get stack i ≡ Some opener
-  pub agree : agrees (shown_run opener) closer ≡ true
-  pub cut : open_runs stack ≡ passed ++ (shown_run opener ∷ open_runs (take i stack))
-  pub miss : NoneAgree closer passed
 
 -- what the run comes to over this stack, with these pairs made before
 abbrev pub course_from : Run → List code_run.Run → List code_pair.Pair → Chased

@@ -1,6 +1,7 @@
 //! Emphasis: delimiter runs, which of them pair, and the spans that they become (CommonMark 6.2, GFM 6.5).
 #![tactic(auto)]
 
+mod bottom;
 mod flanking;
 pub mod laws;
 mod marking;

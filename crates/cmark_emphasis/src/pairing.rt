@@ -5,8 +5,11 @@ ghost use Rattle.cmark_grammar.specs.Emphasis.{Sibling, agrees, pair_of, runs_of
 ghost use Rattle.cmark_grammar.specs.EmphasisModel.{pairs_of};
 ghost use Rattle.cmark_grammar.specs.Emphasis as grammar;
 ghost use Rattle.cmark_emphasis.specs.Shown.{shown_run, shown_pair, open_runs, IsPlaced};
-ghost use Rattle.cmark_emphasis.specs.Stack.{Chased, IsNearest, NoneAgree, course_from, put, still_open};
+ghost use Rattle.cmark_emphasis.specs.Bottoms.{AreBottoms, not_shut};
+ghost use Rattle.cmark_emphasis.specs.Nearest.{IsNearest, with_opener, with_rest};
+ghost use Rattle.cmark_emphasis.specs.Stack.{Chased, NoneAgree, course_from};
 
+use crate::bottom::OpenersBottom;
 use crate::run::{Pair, Run};
 use std::alloc::AllocError;
 
@@ -31,15 +34,20 @@ fn can_close(opener: Run, closer: Run) -> bool
         && keeps_rule_of_three(opener, closer)
 }
 
-/// The last open run that the run can close.
-fn nearest(closer: Run, stack: &[Run]) -> Option<usize>
-    ensures { MatchOption result (NoneAgree (shown_run closer) (open_runs stack.now)) (IsNearest (shown_run closer) stack.now) }
+/// The last open run that the run can close. Below the bottom of its class there is none, and the search ends.
+fn nearest(closer: Run, stack: &[Run], bottoms: &OpenersBottom) -> Option<usize>
+    requires { AreBottoms bottoms.now stack.now }
+    ensures { MatchOption result (NoneAgree (shown_run closer) (open_runs (not_shut bottoms.now.shut stack.now))) (IsNearest (shown_run closer) bottoms.now.shut stack.now) }
 {
+    if !closer.closes {
+        return None;
+    }
     if closer.left == 0 {
         return None;
     }
+    let bottom = bottoms.below(closer);
     let mut i = stack.len();
-    while i > 0 {
+    while i > bottom {
         i -= 1;
         let opener = stack[i];
         if can_close(opener, closer) {
@@ -96,7 +104,7 @@ fn put_on(stack: &mut Vec<Run>, run: Run) -> Result<(), AllocError>
     requires run { IsPlaced run }
     requires stack { All IsPlaced stack.old.items }
     ensures placed { OnOk result (All IsPlaced stack.new.items) }
-    ensures value { OnOk result (open_runs stack.new.items ≡ put (shown_run run) (open_runs stack.old.items)) }
+    ensures value { OnOk result (stack.new.items ≡ with_rest run stack.old.items) }
 {
     if run.left == 0 {
         return Ok(());
@@ -105,51 +113,46 @@ fn put_on(stack: &mut Vec<Run>, run: Run) -> Result<(), AllocError>
     Ok(())
 }
 
-/// Whether the mark is a tilde or a caret.
-fn is_tilde_or_caret(mark: u8) -> bool
-    ensures { result ≡ grammar.is_tilde_or_caret mark }
-{
-    mark == b'~' || mark == b'^'
-}
-
-/// Whether the run, which found none, shuts all open tildes and carets.
-#[tactic(auto, unfolding(cmark_grammar::specs::Emphasis::shuts))]
-fn shuts(closer: Run) -> bool
-    ensures { result ≡ grammar.shuts (shown_run closer) }
-{
-    closer.closes && closer.left > 0 && is_tilde_or_caret(closer.mark)
-}
-
-/// Takes the tildes and carets off the stack that the run shuts.
-fn shut_open_ones(closer: Run, stack: &mut Vec<Run>)
-    requires { All IsPlaced stack.old.items }
-    ensures placed { All IsPlaced stack.new.items }
-    ensures value { open_runs stack.new.items ≡ still_open (shown_run closer) (open_runs stack.old.items) }
-{
-    if shuts(closer) {
-        stack.retain(|run| !is_tilde_or_caret(run.mark));
-    }
-}
-
-/// Closes what the run can, and says what is left of it. Each search goes over the whole stack, so all may take a time that
-/// grows with the square of the number of runs.
-fn close(run: Run, stack: &mut Vec<Run>, pairs: &mut Vec<Pair>) -> Result<Run, AllocError>
-    requires run { IsPlaced run }
+/// Leaves what is left of a run, which has closed what it could, on the stack, if it can open.
+fn keep_open(stack: &mut Vec<Run>, rest: Run) -> Result<(), AllocError>
+    requires run { IsPlaced rest }
     requires stack { All IsPlaced stack.old.items }
     ensures placed { OnOk result (All IsPlaced stack.new.items) }
+    ensures value { OnOk result (stack.new.items ≡ with_opener rest stack.old.items) }
+{
+    if !rest.opens {
+        return Ok(());
+    }
+    put_on(stack, rest)?;
+    Ok(())
+}
+
+/// Closes what the run can, and says what is left of it.
+fn close(
+    run: Run,
+    stack: &mut Vec<Run>,
+    bottoms: &mut OpenersBottom,
+    pairs: &mut Vec<Pair>,
+) -> Result<Run, AllocError>
+    requires run { IsPlaced run }
+    requires stack { All IsPlaced stack.old.items }
+    requires bottoms { AreBottoms bottoms.old stack.old.items }
+    ensures placed { OnOk result (All IsPlaced stack.new.items) }
+    ensures bottoms { OnOk result (AreBottoms bottoms.new stack.new.items) }
     ensures rest { IfOk result IsPlaced }
-    ensures value { IfOk result (λ rest. course_from (shown_run run) stack.old.items pairs.old.items
-        ≡ record { rest = shown_run rest; opens = open_runs stack.new.items; pairs = map shown_pair pairs.new.items }) }
+    ensures value { IfOk result (λ rest. course_from (shown_run run) (not_shut bottoms.old.shut stack.old.items) pairs.old.items
+        ≡ record { rest = shown_run rest; opens = open_runs (not_shut bottoms.new.shut stack.new.items); pairs = map shown_pair pairs.new.items }) }
 {
     let mut closer = run;
-    while let Some(found) = nearest(closer, stack) {
+    while let Some(found) = nearest(closer, stack, bottoms) {
         let opener = stack[found];
         stack.truncate(found);
+        bottoms.lower(found);
         pairs.push(pair_up(opener, closer))?;
         put_on(stack, rest_of_opener(opener, closer))?;
         closer = rest_of_closer(opener, closer);
     }
-    shut_open_ones(closer, stack);
+    bottoms.note(closer, stack);
     Ok(closer)
 }
 
@@ -157,7 +160,8 @@ fn close(run: Run, stack: &mut Vec<Run>, pairs: &mut Vec<Pair>) -> Result<Run, A
 /// list of siblings, in their order. `stack` is room for the call, whatever it holds. Where memory is refused, `pairs` may
 /// have some of them.
 ///
-/// Each search for an open run begins anew, so the time may grow with the square of the number of runs.
+/// A search that found none is not made again by a run of its class (`OpenersBottom`), and one that finds an open run takes
+/// all that it passed off the stack: so the time grows in proportion to the number of runs.
 pub fn pair_runs(
     runs: &[Run],
     stack: &mut Vec<Run>,
@@ -168,11 +172,10 @@ pub fn pair_runs(
         → map shown_pair pairs.new.items ≡ map shown_pair pairs.old.items ++ pairs_of siblings) }
 {
     stack.clear();
+    let mut bottoms = OpenersBottom::new();
     for run in runs.iter() {
-        let rest = close(*run, stack, pairs)?;
-        if rest.opens {
-            put_on(stack, rest)?;
-        }
+        let rest = close(*run, stack, &mut bottoms, pairs)?;
+        keep_open(stack, rest)?;
     }
     Ok(())
 }

@@ -9,7 +9,7 @@ use Rattle.cmark_grammar.specs.LinkDefinitions.{Found, put}
 use Rattle.cmark_finds.specs.Shown.{ClosesFirst}
 
 -- a backtick stands before that place
-abbrev before : (goes_on : Bool) → List ℕ → ℕ → Bool
+abbrev pub before : (goes_on : Bool) → List ℕ → ℕ → Bool
 before goes_on bs zero = goes_on
 before goes_on bs (suc k) = is_backtick (get_or bs k 0)
 
@@ -17,10 +17,10 @@ shifted : (goes_on : Bool) (b : ℕ) (bs : List ℕ) (k : ℕ) → before goes_o
 shifted goes_on b bs zero = refl
 shifted goes_on b bs (suc k) = refl
 
-record IsFirst (size : ℕ) (goes_on : Bool) (bs : List ℕ) (n : ℕ) : Type 0 where
-  whole : backticks (drop n bs) ≡ size
-  begins : before goes_on bs n ≡ false
-  none : (k : ℕ) → k < n → before goes_on bs k ≡ false → backticks (drop k bs) ≢ size
+pub record IsFirst (size : ℕ) (goes_on : Bool) (bs : List ℕ) (n : ℕ) : Type 0 where
+  pub whole : backticks (drop n bs) ≡ size
+  pub begins : before goes_on bs n ≡ false
+  pub none : (k : ℕ) → k < n → before goes_on bs k ≡ false → backticks (drop k bs) ≢ size
 
 not_true : (t : Bool) → not t ≡ true → t ≡ false
 not_true true e = sym e
@@ -45,7 +45,7 @@ module _ (size : ℕ) (some : 0 < size) where
       by_case true tick = true≢false (sym (eq-eqb (backticks (b ∷ bs)) size is) ∙ sym (ap (λ t. t && (backticks (b ∷ bs) == size)) tick) ∙ e)
       by_case false plain = let none : backticks (b ∷ bs) ≡ 0 = ap (λ t. cond t (1 + prefix_len is_backtick bs) 0) plain in omega (arith, some, is, none)
 
-  first_run : (goes_on : Bool) (bs : List ℕ) (found : Found) → up_to_run size goes_on bs ≡ Some found → IsFirst size goes_on bs (length found.bytes)
+  pub first_run : (goes_on : Bool) (bs : List ℕ) (found : Found) → up_to_run size goes_on bs ≡ Some found → IsFirst size goes_on bs (length found.bytes)
   first_run goes_on [] found e = cc
   first_run goes_on (b ∷ bs) found e = by_case (is_backtick b && (not goes_on && (backticks (b ∷ bs) == size))) refl e (first_run (is_backtick b) bs)
     where

@@ -6,3 +6,4 @@ pub mod IterateSteps
 pub mod LinkSteps
 pub mod PaddingSteps
 pub mod SpecialSteps
+pub mod Listed

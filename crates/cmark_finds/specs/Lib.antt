@@ -1,3 +1,4 @@
+pub mod Backticks
 pub mod Ends
 pub mod Shown
 pub mod Special

@@ -25,7 +25,7 @@ pub struct CodeSpan {
 }
 
 /// How many backticks stand in front.
-fn backticks(bytes: &[u8]) -> usize
+pub(crate) fn backticks(bytes: &[u8]) -> usize
     ensures value { result ≡ backticks bytes.now }
     ensures within { result ≤ length bytes.now }
 {

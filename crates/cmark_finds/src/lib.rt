@@ -6,6 +6,7 @@
 //! text that is handed in.
 #![tactic(auto)]
 
+mod backtick_runs;
 mod breaks;
 mod code;
 mod html;
@@ -15,6 +16,7 @@ mod link;
 mod place;
 mod special;
 
+pub use backtick_runs::BacktickRuns;
 pub use breaks::{LineBreak, line_break};
 pub use code::{CodeSpan, code_span, code_text};
 pub use html::inline_html;

@@ -2,6 +2,7 @@
 
 ghost use Rattle.std.specs.Prelude.{◌≡◌, ◌⊎◌, true, ◌<◌, ◌≤◌, ◌+◌, ◌-◌, ◌++◌, ◌∷◌, ℕ, List, [], length, slice_index, IfOk, OnOk, IfSome};
 ghost use Rattle.std.specs.Str.{IsCharBoundary};
+ghost use Rattle.cmark_finds.specs.Backticks.{AreRunsOf};
 ghost use Rattle.cmark_leaf_text.specs.Reads.{IsRead, IsPart, text_of};
 ghost use Rattle.cmark_inline.specs.Linked.{IsAutolink};
 ghost use Rattle.cmark_inline.specs.declared.link.LinkParts.{LinkParts as Parts};
@@ -13,22 +14,29 @@ use crate::place::{autolink_end, behind, is_followed_by, pass, run_end, text_sta
 use crate::slot::{Element, Slot, SlotKind};
 use crate::state::InlineState;
 use crate::step::Cursor;
-use cmark_finds::code_span;
+use cmark_finds::BacktickRuns;
 use cmark_leaf_text::LeafText;
 use cmark_text::{CowStr, LinkType};
 use std::alloc::AllocError;
 
 impl<'a> InlineState<'a> {
-    // A run of backticks: a code span (CommonMark 6.1), or text.
-    pub(crate) fn backticks(&mut self, text: &str, here: Cursor) -> Result<Cursor, AllocError>
+    // A run of backticks: a code span (CommonMark 6.1), or text. `runs` are those of this text.
+    pub(crate) fn backticks(
+        &mut self,
+        runs: &mut BacktickRuns,
+        text: &str,
+        here: Cursor,
+    ) -> Result<Cursor, AllocError>
+        requires runs { AreRunsOf text.now runs.old }
         requires stands { Stands text.now here.pending self.old }
         requires cursor { IsCursor text.now here }
         requires here { here.at < length text.now }
         requires ascii { slice_index text.now here.at < 128 }
+        ensures runs { AreRunsOf text.now runs.new }
         ensures expansion { self.new.expansion ≡ self.old.expansion }
         ensures moves { IfOk result (Moves text.now here.at self.new) }
     {
-        if let Some(span) = code_span(text, here.at) {
+        if let Some(span) = runs.code_span(text, here.at)? {
             let slot = Slot {
                 kind: SlotKind::Code(span.content_start, span.content_end),
                 start: here.at,

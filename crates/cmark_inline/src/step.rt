@@ -2,6 +2,7 @@
 
 ghost use Rattle.std.specs.Prelude.{◌≡◌, ◌⊎◌, true, false, ◌<◌, ◌≤◌, ◌+◌, ◌-◌, ◌++◌, ℕ, List, [], length, slice_index, IfOk, OnOk, IfSome};
 ghost use Rattle.std.specs.Str.{IsCharBoundary};
+ghost use Rattle.cmark_finds.specs.Backticks.{AreRunsOf};
 ghost use Rattle.cmark_leaf_text.specs.Reads.{IsRead, IsPart, text_of};
 ghost use Rattle.cmark_inline.specs.Asking.{AsksBetween, AsksUpTo, closing_brackets};
 ghost use Rattle.cmark_inline.specs.Stands.{AreSlots, AreBrackets, IsBracket, IsCursor, IsSlot, IsTarget, Moves, SameSpans, Stands, begins_link, bytes_of};
@@ -11,6 +12,7 @@ use crate::place::behind;
 use crate::read::Reader;
 use crate::slot::{Slot, push_slot, push_text};
 use crate::state::InlineState;
+use cmark_finds::BacktickRuns;
 use cmark_leaf_text::LeafText;
 use cmark_text::EntityLookup;
 use std::alloc::AllocError;
@@ -41,9 +43,10 @@ impl<'a> InlineState<'a> {
     {
         self.clear();
         let text = leaf.as_str();
+        let mut runs = BacktickRuns::new(self.alloc);
         let mut cursor = Cursor { pending: 0, at: 0 };
         while cursor.at < text.len() {
-            cursor = self.step(leaf, reader, callback, text, cursor)?;
+            cursor = self.step(leaf, reader, callback, &mut runs, text, cursor)?;
         }
         self.flush(text, cursor, text.len())?;
         self.quotes.resolve(0, &mut self.slots)?;
@@ -58,14 +61,17 @@ impl<'a> InlineState<'a> {
         leaf: &LeafText<'a>,
         reader: &Reader<'_, 'a, E>,
         callback: &mut F,
+        runs: &mut BacktickRuns,
         text: &str,
         cursor: Cursor,
     ) -> Result<Cursor, AllocError>
+        requires runs { AreRunsOf text.now runs.old }
         requires stands { Stands text.now cursor.pending self.old }
         requires cursor { IsCursor text.now cursor }
         requires more { cursor.at < length text.now }
         requires read { IsRead leaf.now }
         requires same { text.now ≡ text_of leaf.now }
+        ensures runs { AreRunsOf text.now runs.new }
         ensures asks { AsksBetween F.answers text.now cursor.at (length text.now) callback.old callback.new }
         ensures asks_here { IfOk result (λ next. AsksBetween F.answers text.now cursor.at next.at callback.old callback.new) }
         ensures spent { self.old.expansion ≡ 0 → (callback.new ≡ callback.old) × (self.new.expansion ≡ 0) }
@@ -86,7 +92,7 @@ impl<'a> InlineState<'a> {
         if bytes[at] == b']' {
             return self.close_bracket(leaf, reader, callback, text, here);
         }
-        self.span(leaf, reader, text, here)
+        self.span(leaf, reader, runs, text, here)
     }
 
     // Reads what begins with a special byte that is no closing bracket.
@@ -94,15 +100,18 @@ impl<'a> InlineState<'a> {
         &mut self,
         leaf: &LeafText<'a>,
         reader: &Reader<'_, 'a, E>,
+        runs: &mut BacktickRuns,
         text: &str,
         here: Cursor,
     ) -> Result<Cursor, AllocError>
+        requires runs { AreRunsOf text.now runs.old }
         requires stands { Stands text.now here.pending self.old }
         requires cursor { IsCursor text.now here }
         requires here { here.at < length text.now }
         requires ascii { slice_index text.now here.at < 128 }
         requires read { IsRead leaf.now }
         requires same { text.now ≡ text_of leaf.now }
+        ensures runs { AreRunsOf text.now runs.new }
         ensures expansion { self.new.expansion ≡ self.old.expansion }
         ensures moves { IfOk result (Moves text.now here.at self.new) }
     {
@@ -110,7 +119,7 @@ impl<'a> InlineState<'a> {
             b'\n' | b'\r' => self.line_end(text, here),
             b'\\' => self.backslash(text, here),
             b'&' => self.entity(text, reader.entities, here),
-            b'`' => self.backticks(text, here),
+            b'`' => self.backticks(runs, text, here),
             b'<' => self.less_than(leaf, text, here),
             b'!' => self.exclamation(text, here),
             b'[' => {

@@ -1,0 +1,44 @@
+-- How far down the stack the search for an open run goes (`openers_bottom` in the appendix of CommonMark).
+use Rattle.std.specs.Prelude.{◌≡◌, ℕ, zero, suc, ◌+◌, ◌%◌, ◌<◌, ◌≤◌, Bool, false, ◌==◌, if◌then◌else◌, Option, Some, None, List, [], ◌∷◌, length, get_or}
+use Rattle.cmark_grammar.specs.Emphasis.{Run, agrees, can_both, is_tilde_or_caret}
+use Rattle.cmark_emphasis.specs.Shown.{shown_run}
+use Rattle.cmark_emphasis.specs.Stack.{stays_open}
+use Rattle.cmark_emphasis.specs.declared.run.Run as code_run
+use Rattle.cmark_emphasis.specs.declared.bottom.OpenersBottom.{OpenersBottom}
+
+-- what counts of a run beside its mark: whether it can open as well as close, and its length modulo 3
+abbrev pub rank : Run → ℕ
+rank run = (if can_both run then 3 else 0) + run.size % 3
+
+-- the class of a run of `*` or `_`: all closing runs of one class agree with the same open runs
+abbrev pub class_of : Run → Option ℕ
+class_of run = if run.mark == 42 then Some (rank run) else if run.mark == 95 then Some (6 + rank run) else None
+
+-- neither a tilde nor a caret
+abbrev pub stays : code_run.Run → Bool
+stays run = stays_open (shown_run run)
+
+-- the open runs of a stack on which all tildes and carets below this height are shut
+abbrev pub not_shut : (shut : ℕ) → List code_run.Run → List code_run.Run
+not_shut shut [] = []
+not_shut zero (run ∷ stack) = run ∷ stack
+not_shut (suc shut) (run ∷ stack) = if stays run then run ∷ not_shut shut stack else not_shut shut stack
+
+-- no run below this height of the stack agrees with the closing one
+pub record NoneBelow (closer : Run) (stack : List code_run.Run) (height : ℕ) : Type 0 where
+  pub within : height ≤ length stack
+  pub none : (k : ℕ) (d : code_run.Run) → k < height → agrees (shown_run (get_or stack k d)) closer ≡ false
+
+-- the bottoms are those of this stack: below that of a class, no run agrees with a closing one of the class
+pub record AreBottoms (bottoms : OpenersBottom) (stack : List code_run.Run) : Type 0 where
+  pub emphasis : (closer : Run) (class : ℕ) → class_of closer ≡ Some class → NoneBelow closer stack (get_or bottoms.heights class 0)
+  pub shut : bottoms.shut ≤ length stack
+
+abbrev pub or_other : Option ℕ → (heights : List ℕ) → (other : ℕ) → ℕ
+or_other None heights other = other
+or_other (Some class) heights other = get_or heights class 0
+
+-- where the search of a closing run ends: at the bottom of its class, or of tildes and carets at the height up to which they
+-- are shut
+abbrev pub bottom_of : OpenersBottom → (closer : Run) → ℕ
+bottom_of bottoms closer = or_other (class_of closer) bottoms.heights (if is_tilde_or_caret closer.mark then bottoms.shut else 0)

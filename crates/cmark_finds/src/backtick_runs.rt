@@ -1,0 +1,100 @@
+//! Where the runs of backticks of a text stand, so that no search goes over it in vain twice (CommonMark 6.1).
+
+ghost use Rattle.std.specs.Prelude.{◌≡◌, ◌≤◌, true, ℕ, List, None, length, drop, IfOk, IfSome, OnOk, option_map};
+ghost use Rattle.std.specs.Str.{IsCharBoundary};
+ghost use Rattle.cmark_grammar.specs.CodeSpans.{code_in};
+ghost use Rattle.cmark_finds.specs.Backticks.{AreRunsOf, IsListed};
+ghost use Rattle.cmark_finds.specs.Shown.{shown_code, IsCodeAt, ClosesFirst};
+
+use crate::code::{CodeSpan, backticks, code_span};
+use memchr::memchr;
+use std::alloc::{AllocError, Global};
+
+/// The runs of backticks of one text. They are listed once, when a code span was sought in vain; from then on it is known which
+/// lengths have no closing run.
+#[derive(Drop)]
+pub struct BacktickRuns {
+    /// For each length the place of the last run of exactly so many backticks; 0 where there is none.
+    last: Vec<usize>,
+    /// The place behind which all runs are listed; `None` as long as no search was in vain.
+    from: Option<usize>,
+}
+
+impl BacktickRuns {
+    /// The runs of a text in which none was sought yet. They take no memory.
+    pub fn new(alloc: Global) -> BacktickRuns
+        ensures { (text : List ℕ) → AreRunsOf text result }
+    {
+        BacktickRuns {
+            last: Vec::new(alloc),
+            from: None,
+        }
+    }
+
+    /// The code span whose opening run of backticks stands at this place, as `code_span` finds it. All calls must be made with
+    /// the same text. Fails only where memory is refused.
+    pub fn code_span(&mut self, text: &str, at: usize) -> Result<Option<CodeSpan>, AllocError>
+        requires place { IsCharBoundary text.now at }
+        requires runs { AreRunsOf text.now self.old }
+        ensures runs { AreRunsOf text.now self.new }
+        ensures value { IfOk result (λ found. option_map (shown_code text.now) found ≡ code_in (drop at text.now)) }
+        ensures places { IfOk result (λ found. IfSome found (IsCodeAt text.now at)) }
+        ensures first { IfOk result (λ found. IfSome found (ClosesFirst text.now at)) }
+    {
+        if self.lacks(text, at) {
+            return Ok(None);
+        }
+        let found = code_span(text, at);
+        if found.is_none() {
+            self.list(text, at)?;
+        }
+        Ok(found)
+    }
+
+    /// Whether it is known that no run closes the one at this place.
+    fn lacks(&self, text: &str, at: usize) -> bool
+        requires place { at ≤ length text.now }
+        requires runs { AreRunsOf text.now self.now }
+        ensures { result ≡ true → code_in (drop at text.now) ≡ None }
+    {
+        let Some(from) = self.from else {
+            return false;
+        };
+        if at < from {
+            return false;
+        }
+        let size = backticks(&text.as_bytes()[at..]);
+        size >= self.last.len() || self.last[size] <= at
+    }
+
+    /// Lists the runs behind a place.
+    fn list(&mut self, text: &str, from: usize) -> Result<(), AllocError>
+        requires { from ≤ length text.now }
+        ensures { AreRunsOf text.now self.new }
+    {
+        self.from = None;
+        self.last.clear();
+        let bytes = text.as_bytes();
+        let mut at = from;
+        while let Some(found) = memchr(b'`', &bytes[at..]) {
+            let start = at + found;
+            let size = backticks(&bytes[start..]);
+            add_run(&mut self.last, start, size)?;
+            at = start + size;
+        }
+        self.from = Some(from);
+        Ok(())
+    }
+}
+
+/// Lists a run of so many backticks, which begins behind all that are listed.
+fn add_run(last: &mut Vec<usize>, start: usize, size: usize) -> Result<(), AllocError>
+    ensures added { OnOk result (IsListed last.new.items start size) }
+    ensures others { OnOk result ((place other : ℕ) → place ≤ start → IsListed last.old.items place other → IsListed last.new.items place other) }
+{
+    while last.len() <= size {
+        last.push(0)?;
+    }
+    last[size] = start;
+    Ok(())
+}
