@@ -10,6 +10,8 @@ pub mod BlockReading
 pub mod Blocks
 pub mod BlocksByLine
 pub mod BlocksModel
+pub mod BracketReading
+pub mod BracketStates
 pub mod CodeBlockKind
 pub mod CodeSpans
 pub mod Columns
@@ -28,6 +30,7 @@ pub mod Flanking
 pub mod Html
 pub mod HtmlBlocks
 pub mod InlineHtml
+pub mod Items
 pub mod Labels
 pub mod LabelsOverLines
 pub mod LeafSpans
@@ -43,6 +46,8 @@ pub mod Metadata
 pub mod MetadataBlockKind
 pub mod Openings
 pub mod Options
+pub mod Parts
+pub mod Questions
 pub mod Quotes
 pub mod Ranges
 pub mod References
