@@ -1,0 +1,4 @@
+pub mod BracketPass
+pub mod PartLists
+pub mod PassSteps
+pub mod Progress
