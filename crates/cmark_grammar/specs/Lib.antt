@@ -27,13 +27,16 @@ pub mod Entities
 pub mod Escapes
 pub mod Event
 pub mod Flanking
+pub mod Formulas
 pub mod Html
 pub mod HtmlBlocks
 pub mod InlineHtml
+pub mod InlineTokens
 pub mod Items
 pub mod Labels
 pub mod LabelsOverLines
 pub mod LeafSpans
+pub mod LeafText
 pub mod Leaves
 pub mod Letters
 pub mod LineBreaks
@@ -50,6 +53,7 @@ pub mod Parts
 pub mod Questions
 pub mod Quotes
 pub mod Ranges
+pub mod Readers
 pub mod References
 pub mod Rows
 pub mod Spans
