@@ -10,7 +10,7 @@ use Rattle.cmark_emphasis.specs.Shown.{shown_run, shown_pair, open_runs}
 use Rattle.cmark_emphasis.specs.Stack.{Chased, and_then, put, stays_open, still_open, chase, or_same, chased, NoneAgree, IsNearest, course_from}
 use Rattle.cmark_emphasis.specs.declared.run.Run as code_run
 use Rattle.cmark_emphasis.specs.declared.run.Pair as code_pair
-use Rattle.cmark_emphasis.proofs.Sound.{agrees-empty, one_empty}
+use Rattle.cmark_grammar.proofs.EmphasisSound.{agrees-empty, one_empty}
 
 pub open-more : (stack : List code_run.Run) (i : ℕ) (d : code_run.Run) → i < length stack → open_runs (take (i + 1) stack) ≡ shown_run (get_or stack i d) ∷ open_runs (take i stack)
 open-more stack i d lt =

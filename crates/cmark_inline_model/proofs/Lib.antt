@@ -4,4 +4,6 @@ pub mod BracketsOne
 pub mod BracketsShifted
 pub mod BracketsSound
 pub mod BracketsStep
+pub mod LinkNesting
 pub mod PartCuts
+pub mod ReadingLaws

@@ -1,12 +1,16 @@
 //! Theorems over the inline grammar, each the contract of a function that does nothing.
 
-ghost use Rattle.std.specs.Prelude.{◌≡◌, ℕ, List, [], ◌++◌};
+ghost use Rattle.std.specs.Prelude.{◌≡◌, ℕ, ◌+◌, ◌<◌, ◌≤◌, List, [], ◌∷◌, ◌++◌, length, sum};
 ghost use Rattle.cmark_grammar.specs.BracketReading.{Reads, ReadsWhole};
 ghost use Rattle.cmark_grammar.specs.BracketStates.{Decision, State};
 ghost use Rattle.cmark_grammar.specs.Items.{Bracket, Token};
 ghost use Rattle.cmark_grammar.specs.Parts.{Parts};
 ghost use Rattle.cmark_grammar.specs.Questions.{AnyAnswer, ByPlan, Exchange, IsNext, Plan};
 ghost use Rattle.cmark_inline_model.specs.BracketPass.{Pass, end_by, parts_by};
+ghost use Rattle.cmark_inline_model.specs.Expansion.{KeepsLimit, Spends, costs};
+ghost use Rattle.cmark_inline_model.specs.FormedParts.{closings};
+ghost use Rattle.cmark_inline_model.specs.NestedLinks.{HasLinksApart, KeepsLinksApart};
+ghost use Rattle.cmark_inline_model.specs.PartRanges.{KeepsRanges, StandBetween};
 ghost use Rattle.cmark_inline_model.specs.PassSteps.{Steps};
 ghost use Rattle.cmark_inline_model.specs.Progress.{IsForward, IsRecorded, IsShifted, asked_behind};
 
@@ -49,4 +53,29 @@ pub fn earlier_questions_are_not_seen()
     ensures { (token : ℕ → Token) (decide : State → Bracket → Decision) → IsShifted decide
         → (h all : List Exchange) (s : State) (parts : Parts) (t : State) → Reads token decide (IsNext all) s parts t
         → Reads token decide (IsNext (h ++ all)) (asked_behind h s) parts (asked_behind h t) }
+{}
+
+/// Where decisions keep links apart, no link of a reading holds another.
+pub fn no_link_holds_a_link()
+    ensures { (token : ℕ → Token) (decide : State → Bracket → Decision) → KeepsLinksApart decide
+        → (s : State) (parts : Parts) (t : State) → Reads token decide AnyAnswer s parts t → HasLinksApart parts }
+{}
+
+/// At most one question is put for each closing bracket.
+pub fn questions_are_few()
+    ensures { (token : ℕ → Token) (decide : State → Bracket → Decision) → IsRecorded decide
+        → (s : State) (parts : Parts) (t : State) → Reads token decide AnyAnswer s parts t → length t.asked ≤ closings parts + length s.asked }
+{}
+
+/// All references but the last cost less than there was of the expansion limit.
+pub fn references_keep_the_limit()
+    ensures spent { (token : ℕ → Token) (decide : State → Bracket → Decision) → KeepsLimit decide
+        → (s : State) (parts : Parts) (t : State) → Reads token decide AnyAnswer s parts t → Spends s.expansion (costs parts) t.expansion }
+    ensures below { (cs : List ℕ) (last before after : ℕ) → Spends before (cs ++ (last ∷ [])) after → sum cs < before }
+{}
+
+/// Parts stand between the two places from which and to which they are read, one behind the other.
+pub fn parts_stand_in_their_text()
+    ensures { (token : ℕ → Token) (decide : State → Bracket → Decision) (size : ℕ) → KeepsRanges token decide size
+        → (s : State) (parts : Parts) (t : State) → s.at ≤ size → Reads token decide AnyAnswer s parts t → StandBetween s.at parts t.at × (t.at ≤ size) }
 {}
