@@ -4,15 +4,14 @@ use Rattle.cmark_grammar.specs.Emphasis.{Run}
 use Rattle.cmark_grammar.specs.Quotes.{Quote}
 
 -- Plain: bytes that stand for themselves and are one text with those that they touch. Own: bytes that are a text of their own.
--- Whole: the same, as they stand in the source. Written: a text that stands for the bytes (CommonMark 2.4 and 2.5, and
--- typographic ones, this profile's own). Quoted: a quote (this profile's own). Delimiters: a run of `*` or `_` (6.2), of `~`
--- (GFM 6.5) or of `^` (this profile's own). Code: a code span (6.1). InlineMath and DisplayMath: this profile's own. Autolink:
--- 6.5. Html: inline HTML as it stands in the source (6.6); OwnedHtml: a tag over lines, whose bytes the prefixes of its lines
--- part. FootnoteReference: this profile's own. SoftBreak, HardBreak: line breaks (6.7 and 6.8)
+-- Written: a text that stands for the bytes (CommonMark 2.4 and 2.5, and typographic ones, this profile's own). Quoted: a quote
+-- (this profile's own). Delimiters: a run of `*` or `_` (6.2), of `~` (GFM 6.5) or of `^` (this profile's own). Code: a code span
+-- (6.1). InlineMath and DisplayMath: formulas (this profile's own). Autolink: 6.5. Html: inline HTML as it stands in the source
+-- (6.6); OwnedHtml: a tag over lines, whose bytes the prefixes of its lines part. FootnoteReference: this profile's own. SoftBreak,
+-- HardBreak: line breaks (6.7 and 6.8)
 pub data ItemKind : Type 0 where
   Plain : ItemKind
   Own : ItemKind
-  Whole : ItemKind
   Written : (text : List ℕ) → ItemKind
   Quoted : (quote : Quote) → ItemKind
   Delimiters : (run : Run) → ItemKind

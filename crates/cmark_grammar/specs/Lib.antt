@@ -10,6 +10,7 @@ pub mod BlockReading
 pub mod Blocks
 pub mod BlocksByLine
 pub mod BlocksModel
+pub mod BracketDecisions
 pub mod BracketReading
 pub mod BracketStates
 pub mod CodeBlockKind
@@ -31,10 +32,12 @@ pub mod Formulas
 pub mod Html
 pub mod HtmlBlocks
 pub mod InlineHtml
+pub mod InlineReading
 pub mod InlineTokens
 pub mod Items
 pub mod Labels
 pub mod LabelsOverLines
+pub mod LeafReading
 pub mod LeafSpans
 pub mod LeafText
 pub mod Leaves
@@ -47,6 +50,7 @@ pub mod LinkType
 pub mod Lists
 pub mod Metadata
 pub mod MetadataBlockKind
+pub mod OpenBrackets
 pub mod Openings
 pub mod Options
 pub mod Parts
@@ -56,6 +60,8 @@ pub mod Ranges
 pub mod Readers
 pub mod References
 pub mod Rows
+pub mod Siblings
+pub mod SiblingsModel
 pub mod Spans
 pub mod SpecialBytes
 pub mod Tables
