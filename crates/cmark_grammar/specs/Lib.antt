@@ -62,6 +62,7 @@ pub mod References
 pub mod Rows
 pub mod Siblings
 pub mod SiblingsModel
+pub mod SpanDocuments
 pub mod Spans
 pub mod SpecialBytes
 pub mod Tables
