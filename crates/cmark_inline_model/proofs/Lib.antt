@@ -4,6 +4,14 @@ pub mod BracketsOne
 pub mod BracketsShifted
 pub mod BracketsSound
 pub mod BracketsStep
+pub mod DocumentExamples1
+pub mod DocumentExamples2
+pub mod LeafExamples1
+pub mod LeafExamples2
+pub mod LeafExamples3
+pub mod LeafExamples4
+pub mod LeafExamples5
 pub mod LinkNesting
 pub mod PartCuts
 pub mod ReadingLaws
+pub mod SampleReading
