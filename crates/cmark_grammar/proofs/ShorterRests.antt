@@ -1,13 +1,16 @@
 -- What is read of a text leaves less of it behind: so each find leads on.
-use Rattle.std.specs.Prelude.{ℕ, zero, suc, ◌<◌, ◌≤◌, Bool, true, false, ◌==◌, ◌||◌, ◌&&◌, not, nat_le, if◌then◌else◌, List, [], ◌∷◌, length, drop, take_while, codes, Option, Some, None, option_map}
+use Rattle.std.specs.Prelude.{ℕ, cond, zero, suc, ◌<◌, ◌≤◌, Bool, true, false, ◌==◌, ◌||◌, ◌&&◌, not, nat_le, if◌then◌else◌, List, [], ◌∷◌, length, drop, take_while, codes, Option, Some, None, option_map}
 use Rattle.std.specs.Option.{option_or}
 use Rattle.std.specs.List.{prefix_len}
-use Rattle.std.proofs.Common.{arith, length-drop}
-use Rattle.cmark_grammar.specs.Autolinks.{closed_by}
-use Rattle.cmark_grammar.specs.CodeSpans.{is_backtick, backticks, up_to_run}
+use Rattle.std.proofs.Common.{◌≡◌, ◌≢◌, ◌+◌, refl, arith, length-drop}
+use Rattle.std.proofs.lemmas.Bool.{eq-eqb}
+use Rattle.std.proofs.lemmas.List.Sums.{prefix_len-le-length}
+use Rattle.cmark_grammar.specs.Autolinks.{closed_by, has_scheme, is_uri_byte, autolink_in}
+use Rattle.cmark_grammar.specs.CodeSpans.{is_backtick, backticks, up_to_run, behind_run, code_in}
 use Rattle.cmark_grammar.specs.Columns.{is_blank_byte}
 use Rattle.cmark_grammar.specs.Destinations.{link_destination_in}
-use Rattle.cmark_grammar.specs.InlineHtml.{behind_comment, declaration_in, cdata_in, opened_in, behind_opened}
+use Rattle.cmark_grammar.specs.Formulas.{is_dollar, is_ink, Braces, context_of, behind_byte, closes_formula, formula_to, inline_in, display_in}
+use Rattle.cmark_grammar.specs.InlineHtml.{behind_comment, declaration_in, cdata_in, opened_in, behind_opened, behind_markup}
 use Rattle.cmark_grammar.specs.Letters.{is_letter, first_is, starts, behind_all, behind_if, behind_start, behind_first, and_then}
 use Rattle.cmark_grammar.specs.LineBreaks.{LineBreak, hard_break, blank_break, backslash_break_in, blank_break_in, ends_with_two_spaces}
 use Rattle.cmark_grammar.specs.LinkDefinitions.{Found, put, is_label, label_if, label_in, escapes_next, up_to, ends_bare, bare_in, depth_after, title_in, behind_blanks}
@@ -339,3 +342,66 @@ blank_break-shorter bs = go (behind_ending (behind_blanks bs)) (ending-shorter (
         let e = blanks_within bs in
         either (λ (x : LineBreak). length x.behind < length bs) (ends_with_two_spaces (take_while is_blank_byte bs)) (hard_break rest) (record { is_hard = false; before = length (take_while is_blank_byte bs); behind = rest })
         (omega arith) (omega arith)
+
+-- ## Runs of backticks, autolinks, formulas and inline HTML from their first byte on
+
+pub prefix-some : (p : ℕ → Bool) (b : ℕ) (bs : List ℕ) → p b ≡ true → 0 < prefix_len p (b ∷ bs)
+prefix-some p b bs e = go (p b) e
+  where
+    go : (x : Bool) → x ≡ true → 0 < cond x (1 + prefix_len p bs) 0
+    go true k = omega arith
+    go false k = cc
+
+run_behind : (size n : ℕ) (o : Option Found) → FoundBelow n o → FoundBelow n (option_map (behind_run size) o)
+run_behind size n None h = tt
+run_behind size n (Some found) h = let e = dropped size found.behind in omega arith
+
+pub code-shorter : (bs : List ℕ) → FoundBelow (length bs) (code_in bs)
+code-shorter bs = go (backticks bs == 0) refl
+  where
+    rest : List ℕ
+    rest = behind_all is_backtick bs
+
+    found : Option Found
+    found = option_map (behind_run (backticks bs)) (up_to_run (backticks bs) false rest)
+
+    go : (x : Bool) → (backticks bs == 0) ≡ x → FoundBelow (length bs) (if x then None else found)
+    go true e = tt
+    go false e =
+        let n : backticks bs ≢ 0 = λ z. (let f : (backticks bs == 0) ≡ true = eq-eqb (backticks bs) 0 z in let d : ⊥ = cc in d) in
+        let l = length-drop (backticks bs) bs in
+        let w = prefix_len-le-length is_backtick bs in
+        more_found (suc (length rest)) (length bs) found (omega (arith, n, l, w)) (run_behind (backticks bs) (suc (length rest)) (up_to_run (backticks bs) false rest) (run-within (backticks bs) false rest))
+
+pub autolink-within : (bs : List ℕ) → FoundBelow (suc (length bs)) (autolink_in bs)
+autolink-within bs = either (FoundBelow (suc (length bs))) (has_scheme bs) (closed_by 62 (prefix_len is_uri_byte bs) bs) None (closed-shorter 62 (prefix_len is_uri_byte bs) bs) tt
+
+formula_shorter : (is_display : Bool) (context : ℕ) (escaped : Bool) (last : ℕ) (braces : Braces) (bs : List ℕ) → FoundBelow (length bs) (formula_to is_display context escaped last braces bs)
+formula_shorter is_display context escaped last braces [] = tt
+formula_shorter is_display context escaped last braces (b ∷ bs) =
+    let n = suc (length bs) in
+    let skip : ℕ = if is_display then 1 else 0 in
+    let closed : Option Found = Some (record { bytes = []; behind = drop skip bs }) in
+    let after : Option Found = formula_to is_display context (escapes_next escaped b) b (behind_byte escaped b braces) bs in
+    either (FoundBelow n) (not escaped && (is_dollar b && (context_of braces == context))) (if closes_formula is_display last bs then closed else None) (put b after)
+    (either (FoundBelow n) (closes_formula is_display last bs) closed None (let e = dropped skip bs in omega arith) tt)
+    (put_below n b after (more_found (length bs) n after (omega arith) (formula_shorter is_display context (escapes_next escaped b) b (behind_byte escaped b braces) bs)))
+
+pub inline-shorter : (braces : Braces) (bs : List ℕ) → FoundBelow (length bs) (inline_in braces bs)
+inline-shorter braces bs =
+    let found : Option Found = formula_to false (context_of braces) false 36 braces bs in
+    either (FoundBelow (length bs)) (first_is is_ink bs) found None (formula_shorter false (context_of braces) false 36 braces bs) tt
+
+pub display-shorter : (braces : Braces) (bs : List ℕ) → FoundBelow (length bs) (display_in braces bs)
+display-shorter braces bs = formula_shorter true (context_of braces) false 36 braces bs
+
+pub markup-shorter : (bs : List ℕ) → LeavesBelow (length bs) (behind_markup bs)
+markup-shorter [] = tt
+markup-shorter (b ∷ bs) =
+    let rest : List ℕ = drop 2 (b ∷ bs) in
+    let e = dropped 1 bs in
+    let n = suc (length bs) in
+    let instruction : Option (List ℕ) = behind_first (codes "?>") rest in
+    either (LeavesBelow n) (starts (codes "<!") (b ∷ bs)) (behind_opened (opened_in rest)) (if starts (codes "<?") (b ∷ bs) then instruction else None)
+    (more (suc (length rest)) n (behind_opened (opened_in rest)) (omega arith) (opened-within rest))
+    (either (LeavesBelow n) (starts (codes "<?") (b ∷ bs)) instruction None (more (suc (length rest)) n instruction (omega arith) (first_within (codes "?>") rest)) tt)

@@ -1,3 +1,4 @@
+pub mod Backwards
 pub mod BracketQuestions
 pub mod BracketsEnd
 pub mod BracketsOne
@@ -6,12 +7,17 @@ pub mod BracketsSound
 pub mod BracketsStep
 pub mod DocumentExamples1
 pub mod DocumentExamples2
+pub mod DocumentLaws
 pub mod LeafExamples1
 pub mod LeafExamples2
 pub mod LeafExamples3
 pub mod LeafExamples4
 pub mod LeafExamples5
+pub mod LeafLaws
+pub mod LeafPlaces
 pub mod LinkNesting
+pub mod Openers
 pub mod PartCuts
 pub mod ReadingLaws
 pub mod SampleReading
+pub mod SiblingsOne

@@ -1,6 +1,7 @@
 pub mod BracketPass
 pub mod Expansion
 pub mod FormedParts
+pub mod LeafModel
 pub mod NestedLinks
 pub mod PartLists
 pub mod PartRanges
