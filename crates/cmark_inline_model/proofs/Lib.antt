@@ -5,6 +5,8 @@ pub mod BracketsOne
 pub mod BracketsShifted
 pub mod BracketsSound
 pub mod BracketsStep
+pub mod DecisionLaws
+pub mod DecisionShape
 pub mod DocumentExamples1
 pub mod DocumentExamples2
 pub mod DocumentLaws
