@@ -17,9 +17,12 @@ pub mod LeafExamples4
 pub mod LeafExamples5
 pub mod LeafLaws
 pub mod LeafPlaces
+pub mod LeafRules
 pub mod LinkNesting
 pub mod Openers
+pub mod OptionExamples
 pub mod PartCuts
+pub mod RangeExamples
 pub mod ReadingLaws
 pub mod SampleReading
 pub mod SiblingsOne

@@ -4,36 +4,25 @@ use Rattle.cmark_grammar.specs.BlockDocument.{BlockDocument, Reference}
 use Rattle.cmark_grammar.specs.BracketDecisions.{decide}
 use Rattle.cmark_grammar.specs.Derivation.{document}
 use Rattle.cmark_grammar.specs.Entities.{basic_entity}
-use Rattle.cmark_grammar.specs.Event.{Event, Text, FootnoteReference, Ranged}
+use Rattle.cmark_grammar.specs.Event.{Event, Start, End, Text, FootnoteReference, Ranged}
 use Rattle.cmark_grammar.specs.Html as written
 use Rattle.cmark_grammar.specs.InlineReading.{inline_events}
 use Rattle.cmark_grammar.specs.InlineTokens.{token}
 use Rattle.cmark_grammar.specs.LeafReading.{Between, entering, leaving}
 use Rattle.cmark_grammar.specs.LeafText.{Stretch, Leaf, end_of}
+use Rattle.cmark_grammar.specs.LinkType.{LinkType}
 use Rattle.cmark_grammar.specs.Options.{Options, no_options}
 use Rattle.cmark_grammar.specs.Questions.{Question, Exchange, Plan}
 use Rattle.cmark_grammar.specs.Readers.{Reader}
 use Rattle.cmark_grammar.specs.SiblingsModel.{spans_in}
 use Rattle.cmark_grammar.specs.SpanDocuments.{Profile, reader_of, Segment, Given, Content, segments, at_start}
-use Rattle.cmark_inline_model.specs.BracketPass.{parts_by, end_by}
+use Rattle.cmark_grammar.specs.Tag.{Tag, Linked}
+use Rattle.cmark_grammar.specs.TagEnd.{end_of as end_tag}
+use Rattle.cmark_inline_model.specs.LeafModel.{leaf_events, leaf_after, all_events}
 
 -- no question is answered
 abbrev pub never : Plan
 never asked question = None
-
--- the events of a leaf, and what goes over to the next one
-abbrev pub leaf_events : Reader → Plan → Leaf → Between → List Ranged
-leaf_events reader plan leaf before =
-    inline_events reader.source (spans_in reader.options (parts_by (token reader leaf) (decide reader leaf) plan (end_of leaf.stretches) (entering leaf before)))
-
-abbrev pub leaf_after : Reader → Plan → Leaf → Between → Between
-leaf_after reader plan leaf before = leaving (end_by (token reader leaf) (decide reader leaf) plan (end_of leaf.stretches) (entering leaf before))
-
-abbrev pub all_events : Reader → Plan → List Segment → Between → List Ranged
-all_events reader plan [] before = []
-all_events reader plan (Given r ∷ others) before = r ∷ all_events reader plan others before
-all_events reader plan (Content leaf ∷ others) before =
-    leaf_events reader plan leaf before ++ all_events reader plan others (leaf_after reader plan leaf before)
 
 -- ## One leaf
 
@@ -108,3 +97,20 @@ events_of_document how text blocks = all_events (reader_of text how blocks) neve
 
 abbrev pub document_html : List ℕ → List ℕ
 document_html text = html_of (events_of_document (profile no_options text) text (document text no_options basic_entity))
+
+-- ## Events written out
+
+abbrev pub at : (start end : ℕ) → Event → Ranged
+at start end event = record { event = event; start = start; end = end }
+
+abbrev pub says : (start end : ℕ) → List ℕ → Ranged
+says start end text = at start end (Text text)
+
+abbrev pub begins : (start end : ℕ) → Tag → Ranged
+begins start end tag = at start end (Start tag)
+
+abbrev pub ends : (start end : ℕ) → Tag → Ranged
+ends start end tag = at start end (End (end_tag tag))
+
+abbrev pub leading : LinkType → (destination title id : List ℕ) → Linked
+leading link_type destination title id = record { link_type = link_type; destination = destination; title = title; id = id }
