@@ -19,9 +19,11 @@ pub mod LeafLaws
 pub mod LeafPlaces
 pub mod LeafRules
 pub mod LinkNesting
+pub mod NotRead
 pub mod Openers
 pub mod OptionExamples
 pub mod PartCuts
+pub mod QuestionExamples
 pub mod RangeExamples
 pub mod ReadingLaws
 pub mod SampleReading
