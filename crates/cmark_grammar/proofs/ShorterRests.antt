@@ -27,7 +27,7 @@ FoundBelow n None = Unit {0}
 FoundBelow n (Some found) = length found.behind < n
 
 -- one of two
-either : {A : Type 0} (P : A → Type 0) (b : Bool) (x y : A) → P x → P y → P (if b then x else y)
+pub either : {A : Type 0} (P : A → Type 0) (b : Bool) (x y : A) → P x → P y → P (if b then x else y)
 either P true x y h k = h
 either P false x y h k = k
 

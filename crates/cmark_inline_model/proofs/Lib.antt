@@ -7,6 +7,7 @@ pub mod BracketsSound
 pub mod BracketsStep
 pub mod DecisionLaws
 pub mod DecisionShape
+pub mod DecisionShifted
 pub mod DocumentExamples1
 pub mod DocumentExamples2
 pub mod DocumentLaws
