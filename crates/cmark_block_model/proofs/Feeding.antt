@@ -4,7 +4,7 @@ use Rattle.std.specs.Prelude.{if◌then◌else◌}
 use Rattle.cmark_grammar.specs.Answers.{Lookup}
 use Rattle.cmark_grammar.specs.Attributes.{no_attributes}
 use Rattle.cmark_grammar.specs.Options.{Options}
-use Rattle.cmark_grammar.specs.Rows.{Row, start_of}
+use Rattle.cmark_grammar.specs.Rows.{Row, begin_of, start_of}
 use Rattle.cmark_grammar.specs.Leaves.{underlines}
 use Rattle.cmark_grammar.specs.Openings.{Leaf, ThematicBreak, AtxHeading, IndentedCode, FencedCode, HtmlBlock, LinkDefinition, texts}
 use Rattle.cmark_grammar.specs.Blocks.{Blocks, Nil as NoBlocks, Paragraph, SetextHeading, LeafBlock, join as join_blocks, may_lazy}
@@ -26,9 +26,9 @@ module _ (text : List ℕ) (options : Options) (lookup : Lookup) where
       ≡ pass_with (paragraph_open text lookup first (more ++ s ∷ []) l) outer false (paragraph_leaf text lookup first (more ++ s ∷ [])) n
   paragraph-goes first more r s l outer leaf n e =
       ap (λ x. paragraph_line text options lookup from (whole (last_of first more)) x (pass_with (paragraph_open text lookup first more l) outer false leaf n)) (sym e)
-      ∙ go (start_of s == past)
-      ∙ ap (λ x. goes (one_more text lookup (start_of s == past) from past before) (if start_of s == past then from else start_of s) x) (sym (last_push first more s))
-      ∙ ap (λ x. goes (one_more text lookup (start_of s == past) from past before) x (last_of first (more ++ s ∷ []))) (sym (begin_push (start_of first) first more s))
+      ∙ go (begin_of s == past)
+      ∙ ap (λ x. goes (one_more text lookup (begin_of s == past) from past before) (if begin_of s == past then from else begin_of s) x) (sym (last_push first more s))
+      ∙ ap (λ x. goes (one_more text lookup (begin_of s == past) from past before) x (last_of first (more ++ s ∷ []))) (sym (begin_push (start_of first) first more s))
       ∙ ap (λ x. goes x (last_begin (start_of first) first (more ++ s ∷ [])) (last_of first (more ++ s ∷ []))) (sym (drawn-push text lookup (start_of first) first more s))
     where
       from : ℕ
@@ -43,7 +43,7 @@ module _ (text : List ℕ) (options : Options) (lookup : Lookup) where
       goes : BlockDocument → ℕ → Row → Pass
       goes d at x = pass_with (level_drawn d (level_opened (start_of first) document.Paragraph (begun l))) outer false (InParagraphLeaf at (whole x)) n
 
-      go : (z : Bool) → (if z then goes before from s else goes (join before (stretch_then text from past Nil)) (start_of s) s) ≡ goes (one_more text lookup z from past before) (if z then from else start_of s) s
+      go : (z : Bool) → (if z then goes before from s else goes (join before (stretch_then text from past Nil)) (begin_of s) s) ≡ goes (one_more text lookup z from past before) (if z then from else begin_of s) s
       go true = refl
       go false = refl
 

@@ -40,20 +40,20 @@ past_push first (s ∷ more) r = past_push s more r
 -- where the stretch begins that the last of these lines stands in, if the one of the first begins there
 abbrev pub last_begin : (begin : ℕ) → Row → List Row → ℕ
 last_begin begin first [] = begin
-last_begin begin first (r ∷ more) = if start_of r == first.past then last_begin begin r more else last_begin (start_of r) r more
+last_begin begin first (r ∷ more) = if begin_of r == first.past then last_begin begin r more else last_begin (begin_of r) r more
 
 pub begin_push : (begin : ℕ) (first : Row) (more : List Row) (r : Row)
-    → last_begin begin first (more ++ r ∷ []) ≡ (if start_of r == (last_of first more).past then last_begin begin first more else start_of r)
+    → last_begin begin first (more ++ r ∷ []) ≡ (if begin_of r == (last_of first more).past then last_begin begin first more else begin_of r)
 begin_push begin first [] r = refl
-begin_push begin first (s ∷ more) r = go (start_of s == first.past) (begin_push begin s more r) (begin_push (start_of s) s more r)
+begin_push begin first (s ∷ more) r = go (begin_of s == first.past) (begin_push begin s more r) (begin_push (begin_of s) s more r)
   where
     touches : Bool
-    touches = start_of r == (last_of s more).past
+    touches = begin_of r == (last_of s more).past
 
-    go : (z : Bool) → last_begin begin s (more ++ r ∷ []) ≡ (if touches then last_begin begin s more else start_of r)
-        → last_begin (start_of s) s (more ++ r ∷ []) ≡ (if touches then last_begin (start_of s) s more else start_of r)
-        → (if z then last_begin begin s (more ++ r ∷ []) else last_begin (start_of s) s (more ++ r ∷ []))
-        ≡ (if touches then (if z then last_begin begin s more else last_begin (start_of s) s more) else start_of r)
+    go : (z : Bool) → last_begin begin s (more ++ r ∷ []) ≡ (if touches then last_begin begin s more else begin_of r)
+        → last_begin (begin_of s) s (more ++ r ∷ []) ≡ (if touches then last_begin (begin_of s) s more else begin_of r)
+        → (if z then last_begin begin s (more ++ r ∷ []) else last_begin (begin_of s) s (more ++ r ∷ []))
+        ≡ (if touches then (if z then last_begin begin s more else last_begin (begin_of s) s more) else begin_of r)
     go true p q = p
     go false p q = q
 
@@ -99,32 +99,32 @@ module _ (text : List ℕ) (lookup : Lookup) where
   -- the stretches of a paragraph but the last
   abbrev pub lines_drawn : (begin : ℕ) → Row → List Row → BlockDocument
   lines_drawn begin first [] = Nil
-  lines_drawn begin first (r ∷ more) = if start_of r == first.past then lines_drawn begin r more else stretch_then text begin first.past (lines_drawn (start_of r) r more)
+  lines_drawn begin first (r ∷ more) = if begin_of r == first.past then lines_drawn begin r more else stretch_then text begin first.past (lines_drawn (begin_of r) r more)
 
   pub drawn-tokens : (begin : ℕ) (first : Row) (more : List Row) → stretches text begin first more ≡ join (lines_drawn begin first more) (stretch_then text (last_begin begin first more) (words_end (last_of first more)) Nil)
   drawn-tokens begin first [] = refl
-  drawn-tokens begin first (r ∷ more) = go (start_of r == first.past) (drawn-tokens begin r more) (drawn-tokens (start_of r) r more)
+  drawn-tokens begin first (r ∷ more) = go (begin_of r == first.past) (drawn-tokens begin r more) (drawn-tokens (begin_of r) r more)
     where
       last : ℕ → BlockDocument
       last at = stretch_then text at (words_end (last_of r more)) Nil
 
-      go : (z : Bool) → stretches text begin r more ≡ join (lines_drawn begin r more) (last (last_begin begin r more)) → stretches text (start_of r) r more ≡ join (lines_drawn (start_of r) r more) (last (last_begin (start_of r) r more))
-          → (if z then stretches text begin r more else stretch_then text begin first.past (stretches text (start_of r) r more))
-          ≡ join (if z then lines_drawn begin r more else stretch_then text begin first.past (lines_drawn (start_of r) r more)) (last (if z then last_begin begin r more else last_begin (start_of r) r more))
+      go : (z : Bool) → stretches text begin r more ≡ join (lines_drawn begin r more) (last (last_begin begin r more)) → stretches text (begin_of r) r more ≡ join (lines_drawn (begin_of r) r more) (last (last_begin (begin_of r) r more))
+          → (if z then stretches text begin r more else stretch_then text begin first.past (stretches text (begin_of r) r more))
+          ≡ join (if z then lines_drawn begin r more else stretch_then text begin first.past (lines_drawn (begin_of r) r more)) (last (if z then last_begin begin r more else last_begin (begin_of r) r more))
       go true p q = p
-      go false p q = ap (stretch_then text begin first.past) q ∙ sym (stretch-join text begin first.past (lines_drawn (start_of r) r more) (last (last_begin (start_of r) r more)))
+      go false p q = ap (stretch_then text begin first.past) q ∙ sym (stretch-join text begin first.past (lines_drawn (begin_of r) r more) (last (last_begin (begin_of r) r more)))
 
   -- what one more line draws
   abbrev pub one_more : Bool → (begin past : ℕ) → BlockDocument → BlockDocument
   one_more touches begin past before = if touches then before else join before (stretch_then text begin past Nil)
 
   pub drawn-push : (begin : ℕ) (first : Row) (more : List Row) (r : Row)
-      → lines_drawn begin first (more ++ r ∷ []) ≡ one_more (start_of r == (last_of first more).past) (last_begin begin first more) (last_of first more).past (lines_drawn begin first more)
+      → lines_drawn begin first (more ++ r ∷ []) ≡ one_more (begin_of r == (last_of first more).past) (last_begin begin first more) (last_of first more).past (lines_drawn begin first more)
   drawn-push begin first [] r = refl
-  drawn-push begin first (s ∷ more) r = go (start_of s == first.past) (drawn-push begin s more r) (drawn-push (start_of s) s more r)
+  drawn-push begin first (s ∷ more) r = go (begin_of s == first.past) (drawn-push begin s more r) (drawn-push (begin_of s) s more r)
     where
       touches : Bool
-      touches = start_of r == (last_of s more).past
+      touches = begin_of r == (last_of s more).past
 
       past : ℕ
       past = (last_of s more).past
@@ -134,11 +134,11 @@ module _ (text : List ℕ) (lookup : Lookup) where
       inside false at d = sym (stretch-join text begin first.past d (stretch_then text at past Nil))
 
       go : (z : Bool) → lines_drawn begin s (more ++ r ∷ []) ≡ one_more touches (last_begin begin s more) past (lines_drawn begin s more)
-          → lines_drawn (start_of s) s (more ++ r ∷ []) ≡ one_more touches (last_begin (start_of s) s more) past (lines_drawn (start_of s) s more)
-          → (if z then lines_drawn begin s (more ++ r ∷ []) else stretch_then text begin first.past (lines_drawn (start_of s) s (more ++ r ∷ [])))
-          ≡ one_more touches (if z then last_begin begin s more else last_begin (start_of s) s more) past (if z then lines_drawn begin s more else stretch_then text begin first.past (lines_drawn (start_of s) s more))
+          → lines_drawn (begin_of s) s (more ++ r ∷ []) ≡ one_more touches (last_begin (begin_of s) s more) past (lines_drawn (begin_of s) s more)
+          → (if z then lines_drawn begin s (more ++ r ∷ []) else stretch_then text begin first.past (lines_drawn (begin_of s) s (more ++ r ∷ [])))
+          ≡ one_more touches (if z then last_begin begin s more else last_begin (begin_of s) s more) past (if z then lines_drawn begin s more else stretch_then text begin first.past (lines_drawn (begin_of s) s more))
       go true p q = p
-      go false p q = ap (stretch_then text begin first.past) q ∙ inside touches (last_begin (start_of s) s more) (lines_drawn (start_of s) s more)
+      go false p q = ap (stretch_then text begin first.past) q ∙ inside touches (last_begin (begin_of s) s more) (lines_drawn (begin_of s) s more)
 
   pub html-push : (rs : List Row) (r : Row) → html_tokens text (rs ++ r ∷ []) ≡ join (html_tokens text rs) (html_then (verbatim_line text r.columns r) Nil)
   html-push [] r = refl

@@ -1,7 +1,7 @@
 -- Tokens are neither settled nor left out, and define nothing.
 use Rattle.std.proofs.Common.{◌≡◌, ℕ, Bool, true, false, List, [], ◌∷◌, ◌++◌, refl, ap}
 use Rattle.std.specs.Prelude.{◌==◌, if◌then◌else◌}
-use Rattle.cmark_grammar.specs.Rows.{Row, first_place, start_of}
+use Rattle.cmark_grammar.specs.Rows.{Row, first_place, begin_of, start_of}
 use Rattle.cmark_grammar.specs.Tokens.{Piece, end_place, piece_if, texts_then, words_end, stretch_then, stretches, paragraph_tokens, html_then, html_tokens, text_kind_of, html_kind_of, verbatim_line, behind_hashes, heading_columns, heading_tokens, code_pieces, code_tokens}
 use Rattle.cmark_grammar.specs.BlockDocument.{Text, OwnedText, Html, BlockDocument, Nil, Node, node, join}
 use Rattle.cmark_grammar.specs.DrawnDocument.{settled, without_definitions}
@@ -32,12 +32,12 @@ stretch_plain text start end after h = texts_plain (piece_if text start end []) 
 
 stretches_plain : (text : List ℕ) (begin : ℕ) (r : Row) (more : List Row) → IsPlain (stretches text begin r more)
 stretches_plain text begin r [] = stretch_plain text begin (words_end r) Nil nil_plain
-stretches_plain text begin r (s ∷ more) = go (start_of s == r.past) (stretches_plain text begin s more) (stretches_plain text (start_of s) s more)
+stretches_plain text begin r (s ∷ more) = go (begin_of s == r.past) (stretches_plain text begin s more) (stretches_plain text (begin_of s) s more)
   where
-    go : (z : Bool) → IsPlain (stretches text begin s more) → IsPlain (stretches text (start_of s) s more)
-        → IsPlain (if z then stretches text begin s more else stretch_then text begin r.past (stretches text (start_of s) s more))
+    go : (z : Bool) → IsPlain (stretches text begin s more) → IsPlain (stretches text (begin_of s) s more)
+        → IsPlain (if z then stretches text begin s more else stretch_then text begin r.past (stretches text (begin_of s) s more))
     go true p q = p
-    go false p q = stretch_plain text begin r.past (stretches text (start_of s) s more) q
+    go false p q = stretch_plain text begin r.past (stretches text (begin_of s) s more) q
 
 pub paragraph_plain : (text : List ℕ) (r : Row) (more : List Row) → IsPlain (paragraph_tokens text r more)
 paragraph_plain text r more = stretches_plain text (start_of r) r more

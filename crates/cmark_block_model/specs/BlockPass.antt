@@ -134,8 +134,8 @@ module _ (text : List ℕ) (options : Options) (lookup : Lookup) where
 
   abbrev pub paragraph_line : (from : ℕ) → (last : Row) → Row → Pass → Pass
   paragraph_line from last r p =
-      if start_of r == last.past then record p { leaf = InParagraph from r }
-      else let q = with_drawn (stretch_then text from last.past Nil) p in record q { leaf = InParagraph (start_of r) r }
+      if begin_of r == last.past then record p { leaf = InParagraph from r }
+      else let q = with_drawn (stretch_then text from last.past Nil) p in record q { leaf = InParagraph (begin_of r) r }
 
   -- a paragraph that an underline makes a heading
   abbrev pub heading_made : (level from : ℕ) → (last : Row) → Row → Pass → Pass

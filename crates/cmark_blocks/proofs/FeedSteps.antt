@@ -6,7 +6,7 @@ use Rattle.cmark_grammar.specs.Leaves.{underlines}
 use Rattle.cmark_grammar.specs.Openings.{interrupts, texts, lazily}
 use Rattle.cmark_grammar.specs.Options.{Options}
 use Rattle.cmark_grammar.specs.Lines.{lines}
-use Rattle.cmark_grammar.specs.Rows.{Row, start_of, rows_from}
+use Rattle.cmark_grammar.specs.Rows.{Row, begin_of, rows_from}
 use Rattle.cmark_grammar.specs.Tokens.{stretch_then}
 use Rattle.cmark_grammar.specs.BlockDocument.{Nil}
 use Rattle.cmark_lines.specs.Rests.{row_of}
@@ -31,14 +31,14 @@ module _ {E : Type 0} (replacement : E → Lookup) (text : List ℕ) (lookup : L
 
 module _ (text : List ℕ) (options : Options) (lookup : Lookup) (r : Row) (m : model.Pass) where
   -- a line that touches the last one, or not
-  pub line-touches : (from : ℕ) (last : Row) → start_of r ≡ last.past → paragraph_line text options lookup from last r m ≡ record m { leaf = model.InParagraph from r }
+  pub line-touches : (from : ℕ) (last : Row) → begin_of r ≡ last.past → paragraph_line text options lookup from last r m ≡ record m { leaf = model.InParagraph from r }
   line-touches from last e =
-      ap (λ z. if z then record m { leaf = model.InParagraph from r } else record (with_drawn (stretch_then text from last.past Nil) m) { leaf = model.InParagraph (start_of r) r }) (equal-true (start_of r) last.past e)
+      ap (λ z. if z then record m { leaf = model.InParagraph from r } else record (with_drawn (stretch_then text from last.past Nil) m) { leaf = model.InParagraph (begin_of r) r }) (equal-true (begin_of r) last.past e)
 
-  pub line-apart : (from : ℕ) (last : Row) → start_of r ≢ last.past
-      → paragraph_line text options lookup from last r m ≡ record (with_drawn (stretch_then text from last.past Nil) m) { leaf = model.InParagraph (start_of r) r }
+  pub line-apart : (from : ℕ) (last : Row) → begin_of r ≢ last.past
+      → paragraph_line text options lookup from last r m ≡ record (with_drawn (stretch_then text from last.past Nil) m) { leaf = model.InParagraph (begin_of r) r }
   line-apart from last e =
-      ap (λ z. if z then record m { leaf = model.InParagraph from r } else record (with_drawn (stretch_then text from last.past Nil) m) { leaf = model.InParagraph (start_of r) r }) (equal-false (start_of r) last.past e)
+      ap (λ z. if z then record m { leaf = model.InParagraph from r } else record (with_drawn (stretch_then text from last.past Nil) m) { leaf = model.InParagraph (begin_of r) r }) (equal-false (begin_of r) last.past e)
 
 module _ (text : List ℕ) (options : Options) (lookup : Lookup) (r : Row) (next : List Row) (m : model.Pass) where
   -- behind a paragraph

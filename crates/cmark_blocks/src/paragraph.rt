@@ -28,7 +28,7 @@ impl<'a, E: EntityLookup> Pass<'a, E> {
         ensures runs { OnOk result (AddsLine E.replacement from last.entry rest.entry self.old self.new) }
         ensures text { self.new.text ≡ self.old.text }
     {
-        let begin = rest.words_begin();
+        let begin = rest.begin();
         if begin == last.past() {
             self.leaf = OpenLeaf::Paragraph(from, rest);
             return Ok(());

@@ -33,7 +33,7 @@ blanks_fall (b ∷ bs) = by_case (is_blank_byte b) refl (blanks_fall bs)
         ∙ sym (ap (λ l. title_lines false (drop (length l) (b ∷ bs))) (take_while-cons is_blank_byte b bs ∙ ap (λ t. cond t (b ∷ take_while is_blank_byte bs) []) e))
 
 -- a byte of no line end
-plain_byte : (b : ℕ) (bs : List ℕ) → is_byte2 10 13 b ≡ false → title_lines false (b ∷ bs) ≡ b ∷ title_lines false bs
+pub plain_byte : (b : ℕ) (bs : List ℕ) → is_byte2 10 13 b ≡ false → title_lines false (b ∷ bs) ≡ b ∷ title_lines false bs
 plain_byte b bs e =
     let h = or_parts (b == 10) (b == 13) e in
     ap (λ t. title_step t (b == 10) (is_blank_byte b) false b bs) h.1 ∙ ap (λ t. title_step false t (is_blank_byte b) false b bs) h.0

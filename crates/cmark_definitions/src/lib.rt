@@ -13,5 +13,5 @@ pub use blank::{behind_blanks, behind_byte};
 pub use definition::{Definition, scan_definition};
 pub use label::{is_label, label_in};
 pub use part::{Part, title_in};
-pub use reference::link_definition;
+pub use reference::{link_definition, title_lines};
 pub use settled::is_settled;

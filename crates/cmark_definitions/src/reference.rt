@@ -43,7 +43,7 @@ fn behind_title_line(text: &str) -> &str
 }
 
 /// The lines of a title: each line end and the blanks behind it are one line feed (this profile's own).
-fn title_lines(alloc: Global, title: &str) -> Result<String, AllocError>
+pub fn title_lines(alloc: Global, title: &str) -> Result<String, AllocError>
     ensures { IfOk result (λ lines. string_bytes lines ≡ title_lines false title.now) }
 {
     let mut lines = String::new(alloc);

@@ -1,8 +1,9 @@
 //! What is found in the text of a leaf (CommonMark 6): code spans, inline HTML, what stands behind the brackets of links, and
 //! line breaks.
 //!
-//! The text of a leaf are its lines one behind the other, with the line endings between them, without the prefixes of
-//! containers and without the indent of each line. Places are byte offsets of this text.
+//! The text of a leaf are its lines one behind the other, with the line endings between them and the blanks in front of later
+//! lines, without the prefixes of containers. Inline HTML but tags is sought in the source itself. Places are byte offsets of the
+//! text that is handed in.
 #![tactic(auto)]
 
 mod breaks;

@@ -14,7 +14,7 @@ ghost use Rattle.cmark_finds.specs.Shown.{shown_tail, shown_inside};
 
 use crate::line_end::{behind_separator, has_line_ending, with_line_ends};
 use crate::place::place_of;
-use cmark_definitions::{Part, behind_byte, title_in};
+use cmark_definitions::{Part, behind_byte, title_in, title_lines};
 use cmark_scan_parts::{scan_link_dest, unescape};
 use cmark_text::{CowStr, EntityLookup};
 use std::alloc::{AllocError, Global};
@@ -104,8 +104,8 @@ pub fn link_tail(text: &str, at: usize) -> Option<LinkTail<'_>>
     })
 }
 
-/// The text of a title as it is written (CommonMark 6.3): each line ending is a line feed, and escapes and entities are
-/// resolved. It is borrowed where none of these is in it; fails only where memory is refused.
+/// The text of a title as it is written (CommonMark 6.3): each line ending and the blanks behind it are one line feed, and
+/// escapes and entities are resolved. It is borrowed where none of these is in it; fails only where memory is refused.
 pub fn title_text<'t, E: EntityLookup>(
     alloc: Global,
     title: &'t str,
@@ -116,6 +116,7 @@ pub fn title_text<'t, E: EntityLookup>(
     if !has_line_ending(title) {
         return unescape(alloc, CowStr::Borrowed(title), false, entities);
     }
-    let lines = CowStr::from_string(with_line_ends(alloc, title, "\n")?)?;
+    let feeds = with_line_ends(alloc, title, "\n")?;
+    let lines = CowStr::from_string(title_lines(alloc, feeds.as_str())?)?;
     unescape(alloc, lines, false, entities)
 }

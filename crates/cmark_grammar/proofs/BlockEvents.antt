@@ -69,7 +69,13 @@ nested_list : ranges_of (codes "7. a\n   - b\n")
 unfolding blocks begin opens texts lazily enter keeps underlines
 nested_list = refl
 
--- lines that touch are one event, and behind a prefix or an indent a new one begins
-raw_lines : ranges_of (codes "a&amp;b\\*c  \nd\n e\n") ≡ (0, 18) ∷ (0, 15) ∷ (16, 17) ∷ (0, 18) ∷ []
+-- lines that touch are one event, with the indent of later ones
+raw_lines : ranges_of (codes "a&amp;b\\*c  \nd\n e\n") ≡ (0, 18) ∷ (0, 17) ∷ (0, 18) ∷ []
 unfolding blocks begin opens texts lazily enter keeps underlines
 raw_lines = refl
+
+-- behind a prefix a new one begins, with what is left of the indent; a tab that the prefix cuts goes with it
+raw_lines_in_item : ranges_of (codes "- a\n  b\n   c\n\td\n")
+    ≡ (0, 16) ∷ (0, 16) ∷ (2, 4) ∷ (6, 8) ∷ (10, 13) ∷ (14, 15) ∷ (0, 16) ∷ (0, 16) ∷ []
+unfolding blocks begin opens texts lazily enter keeps underlines
+raw_lines_in_item = refl

@@ -83,9 +83,9 @@ backslash_at_the_end : written (document (codes "a\\\n") no_options basic_entity
 unfolding blocks begin opens texts lazily enter keeps underlines
 backslash_at_the_end = refl
 
--- lines stand as they are written, and the spaces in front of a line and at the end of the last one are no part of it
-raw_lines : outline (document (codes " \\*a&amp;  \n\tb\\\nc \n") no_options basic_entity) ≡
-    node Paragraph 1 19 ∷ node (Text (codes "\\*a&amp;  \n")) 1 12 ∷ node (Text (codes "b\\\nc")) 13 17 ∷ []
+-- lines stand as they are written, with the spaces in front of later ones; the spaces in front of the first line and at the end of
+-- the last one are no part of it
+raw_lines : outline (document (codes " \\*a&amp;  \n\tb\\\nc \n") no_options basic_entity) ≡ node Paragraph 1 19 ∷ node (Text (codes "\\*a&amp;  \n\tb\\\nc")) 1 17 ∷ []
 unfolding blocks begin opens texts lazily enter keeps underlines
 raw_lines = refl
 
@@ -94,7 +94,7 @@ unfolding blocks begin opens texts lazily enter keeps underlines
 raw_heading = refl
 
 -- a lazy line begins no list
-lazy_marker : written (document (codes "> a\n    - b\n") no_options basic_entity) ≡ codes "<blockquote>\n<p>a\n- b</p>\n</blockquote>\n"
+lazy_marker : written (document (codes "> a\n    - b\n") no_options basic_entity) ≡ codes "<blockquote>\n<p>a\n    - b</p>\n</blockquote>\n"
 unfolding blocks begin opens texts lazily enter keeps underlines
 lazy_marker = refl
 

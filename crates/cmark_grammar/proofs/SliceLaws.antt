@@ -4,7 +4,7 @@ use Rattle.std.specs.Prelude.{if◌then◌else◌, nat_lt}
 use Rattle.cmark_grammar.specs.Answers.{Lookup}
 use Rattle.cmark_grammar.specs.Options.{Options}
 use Rattle.cmark_grammar.specs.Columns.{Column}
-use Rattle.cmark_grammar.specs.Rows.{Row, first_place, start_of}
+use Rattle.cmark_grammar.specs.Rows.{Row, first_place, begin_of, start_of}
 use Rattle.cmark_grammar.specs.Containers.{Quote, Item}
 use Rattle.cmark_grammar.specs.Openings.{Leaf, ThematicBreak as ThematicBreakLeaf, AtxHeading as AtxHeadingLeaf, IndentedCode as IndentedCodeLeaf, FencedCode as FencedCodeLeaf, HtmlBlock as HtmlBlockLeaf, LinkDefinition as LinkDefinitionLeaf}
 use Rattle.cmark_grammar.specs.Blocks.{Blocks, Nil as NoBlocks, BlankLine, Paragraph as ParagraphBlock, SetextHeading, LeafBlock, ContainerBlock}
@@ -68,12 +68,12 @@ module _ (text : List ℕ) where
 
   stretches-sliced : (begin : ℕ) (r : Row) (more : List Row) → HasSlices text (stretches text begin r more)
   stretches-sliced begin r [] = stretch-sliced begin (words_end r) Nil tt
-  stretches-sliced begin r (s ∷ more) = go (start_of s == r.past) (stretches-sliced begin s more) (stretches-sliced (start_of s) s more)
+  stretches-sliced begin r (s ∷ more) = go (begin_of s == r.past) (stretches-sliced begin s more) (stretches-sliced (begin_of s) s more)
     where
-      go : (z : Bool) → HasSlices text (stretches text begin s more) → HasSlices text (stretches text (start_of s) s more)
-          → HasSlices text (if z then stretches text begin s more else stretch_then text begin r.past (stretches text (start_of s) s more))
+      go : (z : Bool) → HasSlices text (stretches text begin s more) → HasSlices text (stretches text (begin_of s) s more)
+          → HasSlices text (if z then stretches text begin s more else stretch_then text begin r.past (stretches text (begin_of s) s more))
       go true p q = p
-      go false p q = stretch-sliced begin r.past (stretches text (start_of s) s more) q
+      go false p q = stretch-sliced begin r.past (stretches text (begin_of s) s more) q
 
   paragraph-sliced : (r : Row) (more : List Row) → HasSlices text (paragraph_tokens text r more)
   paragraph-sliced r more = stretches-sliced (start_of r) r more

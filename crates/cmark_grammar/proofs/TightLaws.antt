@@ -26,12 +26,12 @@ stretch_tight tight text start end after h = texts_tight tight (piece_if text st
 
 stretches_tight : (tight : Bool) (text : List ℕ) (begin : ℕ) (r : Row) (more : List Row) → HasTightParagraphs tight (stretches text begin r more)
 stretches_tight tight text begin r [] = stretch_tight tight text begin (words_end r) Nil tt
-stretches_tight tight text begin r (s ∷ more) = go (start_of s == r.past) (stretches_tight tight text begin s more) (stretches_tight tight text (start_of s) s more)
+stretches_tight tight text begin r (s ∷ more) = go (begin_of s == r.past) (stretches_tight tight text begin s more) (stretches_tight tight text (begin_of s) s more)
   where
-    go : (z : Bool) → HasTightParagraphs tight (stretches text begin s more) → HasTightParagraphs tight (stretches text (start_of s) s more)
-        → HasTightParagraphs tight (if z then stretches text begin s more else stretch_then text begin r.past (stretches text (start_of s) s more))
+    go : (z : Bool) → HasTightParagraphs tight (stretches text begin s more) → HasTightParagraphs tight (stretches text (begin_of s) s more)
+        → HasTightParagraphs tight (if z then stretches text begin s more else stretch_then text begin r.past (stretches text (begin_of s) s more))
     go true p q = p
-    go false p q = stretch_tight tight text begin r.past (stretches text (start_of s) s more) q
+    go false p q = stretch_tight tight text begin r.past (stretches text (begin_of s) s more) q
 
 paragraph_tight : (tight : Bool) (text : List ℕ) (r : Row) (more : List Row) → HasTightParagraphs tight (paragraph_tokens text r more)
 paragraph_tight tight text r more = stretches_tight tight text (start_of r) r more

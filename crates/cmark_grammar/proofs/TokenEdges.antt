@@ -72,12 +72,12 @@ module _ (E : ℕ → Type 0) where
   stretches-edged : (text : List ℕ) (begin : ℕ) (r : Row) (more : List Row) → E begin → GoodRow E r → GoodRows E more → AllAt E (stretches text begin r more)
   stretches-edged text begin r [] b g gs = stretch-edged text begin (words_end r) Nil b (end-edge (start_of r) (line_columns r) (line-edge r g)) tt
   stretches-edged text begin r (s ∷ more) b g gs =
-      go (start_of s == r.past) (stretches-edged text begin s more b gs.0 gs.1) (stretches-edged text (start_of s) s more (start-E E s gs.0) gs.0 gs.1)
+      go (begin_of s == r.past) (stretches-edged text begin s more b gs.0 gs.1) (stretches-edged text (begin_of s) s more gs.0.begin gs.0 gs.1)
     where
-      go : (z : Bool) → AllAt E (stretches text begin s more) → AllAt E (stretches text (start_of s) s more)
-          → AllAt E (if z then stretches text begin s more else stretch_then text begin r.past (stretches text (start_of s) s more))
+      go : (z : Bool) → AllAt E (stretches text begin s more) → AllAt E (stretches text (begin_of s) s more)
+          → AllAt E (if z then stretches text begin s more else stretch_then text begin r.past (stretches text (begin_of s) s more))
       go true p q = p
-      go false p q = stretch-edged text begin r.past (stretches text (start_of s) s more) b g.past q
+      go false p q = stretch-edged text begin r.past (stretches text (begin_of s) s more) b g.past q
 
   pub paragraph-edged : (text : List ℕ) (r : Row) (more : List Row) → GoodRow E r → GoodRows E more → AllAt E (paragraph_tokens text r more)
   paragraph-edged text r more g gs = stretches-edged text (start_of r) r more (start-E E r g) g gs

@@ -107,18 +107,21 @@ stretches-order text from begin r [] h b a =
     let l : u.mid ≤ r.stop = u.low in
     stretch-order text begin (words_end r) r.stop Nil r.past (omega (arith, b, e, c)) (omega (arith, e, l)) h.2
 stretches-order text from begin r (s ∷ more) h b a =
-    go (start_of s == r.past) (stretches-order text r.past begin s more a.0 (omega (arith, b, low, past-start)) a.1) (stretches-order text r.past (start_of s) s more a.0 (omega arith) a.1)
+    go (begin_of s == r.past) (stretches-order text r.past begin s more a.0 (omega (arith, b, low, past-begin, begin-low)) a.1) (stretches-order text r.past (begin_of s) s more a.0 begin-low a.1)
   where
-    past-start : r.past ≤ start_of s
-    past-start = let b : r.past ≤ begin_of s = a.0.0 in let c : begin_of s ≤ start_of s = begin-start r.past s a.0 in omega (arith, b, c)
+    past-begin : r.past ≤ begin_of s
+    past-begin = a.0.0
+
+    begin-low : begin_of s ≤ start_of s
+    begin-low = begin-start r.past s a.0
 
     low : start_of r ≤ r.past
     low = let b : start_of r ≤ r.stop = Runs-le (start_of r) (without_indent r.columns) r.stop (start-Runs from r h) in let c : r.stop ≤ r.past = h.2 in omega (arith, b, c)
 
-    go : (z : Bool) → InOrder begin (stretches text begin s more) (past_of s more) → InOrder (start_of s) (stretches text (start_of s) s more) (past_of s more)
-        → InOrder begin (if z then stretches text begin s more else stretch_then text begin r.past (stretches text (start_of s) s more)) (past_of s more)
+    go : (z : Bool) → InOrder begin (stretches text begin s more) (past_of s more) → InOrder (begin_of s) (stretches text (begin_of s) s more) (past_of s more)
+        → InOrder begin (if z then stretches text begin s more else stretch_then text begin r.past (stretches text (begin_of s) s more)) (past_of s more)
     go true p q = p
-    go false p q = stretch-order text begin r.past (start_of s) (stretches text (start_of s) s more) (past_of s more) (omega (arith, b, low)) past-start q
+    go false p q = stretch-order text begin r.past (begin_of s) (stretches text (begin_of s) s more) (past_of s more) (omega (arith, b, low)) past-begin q
 
 pub paragraph-order : (text : List ℕ) (from : ℕ) (r : Row) (more : List Row) → Lies from r → Along r.past more (past_of r more) → InOrder (start_of r) (paragraph_tokens text r more) (past_of r more)
 paragraph-order text from r more h a = stretches-order text from (start_of r) r more h (omega arith) a

@@ -1,7 +1,7 @@
 -- A document's events with the spans of its leaves (CommonMark 6).
 use Rattle.std.specs.Prelude.{◌≡◌, ◌⊎◌, ℕ, ◌≤◌, ◌<◌, Bool, true, false, List, [], ◌∷◌, ◌++◌, length}
 use Rattle.std.specs.Str.{IsCharBoundary}
-use Rattle.cmark_grammar.specs.Tag.{Tag, CodeBlock, Emphasis, Strong, Strikethrough, Superscript, Subscript, Link, Image}
+use Rattle.cmark_grammar.specs.Tag.{Tag, CodeBlock, HtmlBlock, MetadataBlock, Emphasis, Strong, Strikethrough, Superscript, Subscript, Link, Image}
 use Rattle.cmark_grammar.specs.TagEnd as end
 use Rattle.cmark_grammar.specs.TagEnd.{TagEnd, end_of}
 use Rattle.cmark_grammar.specs.Event.{Event, Start, End, Text, Code, InlineHtml, SoftBreak, HardBreak, Ranged}
@@ -13,19 +13,23 @@ is_content SoftBreak = true
 is_content HardBreak = true
 is_content _ = false
 
--- whether events stand in a code block, whose content has no spans, behind an event
-abbrev pub in_code_after_start : Bool → Tag → Bool
-in_code_after_start in_code (CodeBlock kind) = true
-in_code_after_start in_code _ = in_code
+-- whether events stand in a block that is verbatim, behind an event: code, HTML and metadata have no spans
+abbrev pub is_verbatim_after_start : Bool → Tag → Bool
+is_verbatim_after_start is_verbatim (CodeBlock kind) = true
+is_verbatim_after_start is_verbatim HtmlBlock = true
+is_verbatim_after_start is_verbatim (MetadataBlock kind) = true
+is_verbatim_after_start is_verbatim _ = is_verbatim
 
-abbrev pub in_code_after_end : Bool → TagEnd → Bool
-in_code_after_end in_code end.CodeBlock = false
-in_code_after_end in_code _ = in_code
+abbrev pub is_verbatim_after_end : Bool → TagEnd → Bool
+is_verbatim_after_end is_verbatim end.CodeBlock = false
+is_verbatim_after_end is_verbatim end.HtmlBlock = false
+is_verbatim_after_end is_verbatim (end.MetadataBlock kind) = false
+is_verbatim_after_end is_verbatim _ = is_verbatim
 
-abbrev pub in_code_after : Bool → Event → Bool
-in_code_after in_code (Start tag) = in_code_after_start in_code tag
-in_code_after in_code (End tag) = in_code_after_end in_code tag
-in_code_after in_code _ = in_code
+abbrev pub is_verbatim_after : Bool → Event → Bool
+is_verbatim_after is_verbatim (Start tag) = is_verbatim_after_start is_verbatim tag
+is_verbatim_after is_verbatim (End tag) = is_verbatim_after_end is_verbatim tag
+is_verbatim_after is_verbatim _ = is_verbatim
 
 -- the elements that spans are, and their other events
 abbrev pub IsSpan : Tag → Type 0
@@ -77,11 +81,11 @@ BeginsApart [] = Unit {0}
 BeginsApart (r ∷ rs) = is_content r.event ≡ false
 
 -- the events of a document of blocks, in which the content of each leaf, which is a longest run of such events outside of
--- code, stands with its spans, and all others stand as they are
-pub data WithSpans (text : List ℕ) : (in_code : Bool) → (blocks events : List Ranged) → Type 0 where
-  Nothing : (in_code : Bool) → WithSpans text in_code [] []
-  Same : (in_code : Bool) (r : Ranged) (blocks events : List Ranged) → (in_code ≡ true) ⊎ (is_content r.event ≡ false)
-      → WithSpans text (in_code_after in_code r.event) blocks events → WithSpans text in_code (r ∷ blocks) (r ∷ events)
+-- verbatim blocks, stands with its spans, and all others stand as they are
+pub data WithSpans (text : List ℕ) : (is_verbatim : Bool) → (blocks events : List Ranged) → Type 0 where
+  Nothing : (is_verbatim : Bool) → WithSpans text is_verbatim [] []
+  Same : (is_verbatim : Bool) (r : Ranged) (blocks events : List Ranged) → (is_verbatim ≡ true) ⊎ (is_content r.event ≡ false)
+      → WithSpans text (is_verbatim_after is_verbatim r.event) blocks events → WithSpans text is_verbatim (r ∷ blocks) (r ∷ events)
   Leaf : (first : Ranged) (more blocks spans events : List Ranged) → is_content first.event ≡ true → AreContent more → BeginsApart blocks
       → AreSpans text (first ∷ more) spans → WithSpans text false blocks events → WithSpans text false (first ∷ (more ++ blocks)) (spans ++ events)
 

@@ -1,12 +1,11 @@
 -- What stands behind the closing bracket of a link (CommonMark 6.3): a destination and a title in parentheses, or a label.
-use Rattle.std.specs.Prelude.{ℕ, Bool, false, ◌==◌, ◌&&◌, ◌||◌, not, if◌then◌else◌, List, [], ◌∷◌, codes, Option, Some, None, option_map}
+use Rattle.std.specs.Prelude.{ℕ, Bool, false, ◌==◌, ◌&&◌, ◌||◌, not, List, [], ◌∷◌, codes, Option, Some, None, option_map}
 use Rattle.cmark_grammar.specs.CodeSpans.{with_line_ends}
-use Rattle.cmark_grammar.specs.Columns.{is_blank_byte}
 use Rattle.cmark_grammar.specs.Destinations.{link_destination_in}
 use Rattle.cmark_grammar.specs.Letters.{behind_if, behind_start, and_then}
 use Rattle.cmark_grammar.specs.LinkDefinitions.{Found, escapes_next, is_label, label_in, title_in, behind_blanks}
-use Rattle.cmark_grammar.specs.Lines.{is_content}
 use Rattle.cmark_grammar.specs.Tags.{behind_ending}
+use Rattle.cmark_grammar.specs.Tokens.{title_lines as lines_of_title}
 
 -- behind the blanks of the next line, where a line ends here
 abbrev pub behind_next_line : (here : List ℕ) → Option (List ℕ) → List ℕ
@@ -44,17 +43,9 @@ tail_inside bs = with_title (link_destination_in (behind_separator bs)) (title_b
 abbrev pub link_tail_in : List ℕ → Option LinkTail
 link_tail_in bs = and_then (behind_if (λ b. b == 40) bs) tail_inside
 
--- a title in which each line ending is a line feed
+-- a title in which each line ending and the blanks behind it are one line feed (this profile's own)
 abbrev pub title_lines : List ℕ → List ℕ
-title_lines bs = with_line_ends (codes "\n") bs
-
--- the same without the blanks in front of its later lines
-abbrev pub without_indents : (front : Bool) → List ℕ → List ℕ
-without_indents front [] = []
-without_indents front (b ∷ bs) = if front && is_blank_byte b then without_indents front bs else b ∷ without_indents (not (is_content b)) bs
-
-abbrev pub title_text : List ℕ → List ℕ
-title_text bs = title_lines (without_indents false bs)
+title_lines bs = lines_of_title false (with_line_ends (codes "\n") bs)
 
 -- the label of a full reference behind the bracket
 abbrev pub reference_label_in : List ℕ → Option Found

@@ -4,7 +4,7 @@ use Rattle.std.specs.Char.{encode_utf8}
 use Rattle.std.specs.Prelude.{ℕ, zero, suc, ◌+◌, ◌-◌, ◌*◌, Bool, true, false, ◌==◌, ◌&&◌, ◌||◌, not, nat_lt, nat_le, if◌then◌else◌, List, [], ◌∷◌, ◌++◌, length, drop, take, take_while, replicate, fold, Option, Some, None}
 use Rattle.cmark_grammar.specs.Answers.{Lookup}
 use Rattle.cmark_grammar.specs.Columns.{Column, is_blank_byte, without_indent, drop_end, without_trailing_blanks}
-use Rattle.cmark_grammar.specs.Rows.{Row, is_bare, first_place, indent_of, start_of}
+use Rattle.cmark_grammar.specs.Rows.{Row, is_bare, first_place, indent_of, begin_of, start_of}
 use Rattle.cmark_grammar.specs.Leaves.{Fence, closes_fence, is_empty}
 use Rattle.cmark_grammar.specs.HtmlBlocks.{is_alphanumeric, is_number, lower, first_is}
 use Rattle.cmark_grammar.specs.BlockDocument.{BlockKind, BlockDocument, Nil, Node, node, Text, OwnedText, Html}
@@ -159,17 +159,17 @@ words_end r = end_place (start_of r) (line_columns r)
 abbrev pub stretch_then : List ℕ → (start end : ℕ) → BlockDocument → BlockDocument
 stretch_then text start end after = texts_then (piece_if text start end []) after
 
--- lines without what stands in front of them, the first from that place on, and the last without the blanks at its end: a line
--- that begins where the one before it has ended stands in one stretch with it, and another one begins a stretch of its own
+-- lines behind their prefixes, the first from that place on, and the last without the blanks at its end: a line that begins where
+-- the one before it has ended stands in one stretch with it, and another one begins a stretch of its own
 abbrev pub stretches : List ℕ → (begin : ℕ) → Row → List Row → BlockDocument
 stretches text begin r [] = stretch_then text begin (words_end r) Nil
 stretches text begin r (s ∷ more) =
-    if start_of s == r.past then stretches text begin s more else stretch_then text begin r.past (stretches text (start_of s) s more)
+    if begin_of s == r.past then stretches text begin s more else stretch_then text begin r.past (stretches text (begin_of s) s more)
 
 -- The raw content of a paragraph or setext heading is "formed by concatenating the paragraph's lines and removing initial and
--- final spaces or tabs" (CommonMark 4.8): stretches of the text, with the line endings in them, and without the prefixes and the
--- spaces and tabs in front of a line. What it says, and which of its line endings are hard line breaks, is for the inline pass
--- to read
+-- final spaces or tabs" (CommonMark 4.8): stretches of the text, with the line endings in them, and without the prefixes of the
+-- containers. The spaces and tabs in front of a later line are in them too: a line break takes them away, and code spans and
+-- inline HTML keep them. What the content says is for the inline pass to read
 abbrev pub paragraph_tokens : List ℕ → Row → List Row → BlockDocument
 paragraph_tokens text first more = stretches text (start_of first) first more
 

@@ -1,5 +1,6 @@
 pub mod Asking
 pub mod Elements
+pub mod FoundInSource
 pub mod Linked
 pub mod Opens
 pub mod Quoted

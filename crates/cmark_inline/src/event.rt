@@ -3,6 +3,7 @@
 ghost use Rattle.std.specs.Prelude.{◌≡◌, ◌<◌, ◌≤◌, ◌+◌, ◌-◌, ℕ, List, [], IfOk, OnOk, OnSome, length};
 ghost use Rattle.std.specs.Str.{IsCharBoundary};
 ghost use Rattle.cmark_grammar.specs.CodeSpans.{code_text};
+ghost use Rattle.cmark_grammar.specs.Event.{InlineHtml};
 ghost use Rattle.cmark_grammar.specs.LeafSpans.{IsInline, IsSpan};
 ghost use Rattle.cmark_grammar.specs.Tokens.{slice};
 ghost use Rattle.cmark_leaf_text.specs.Reads.{IsRead, IsPart, place_of, text_of, source_of};
@@ -101,6 +102,7 @@ impl<'a> InlineState<'a> {
             }
             SlotKind::End => Ok(self.end_last()),
             SlotKind::Nothing => Ok(None),
+            SlotKind::SourceHtml(end) => Ok(Some(source_html(leaf, slot, end))),
             _ => {
                 let event = self.single(leaf, slot)?;
                 let range = leaf.range(slot.start, slot.end);
@@ -273,6 +275,23 @@ fn copied<'a>(alloc: Global, text: &str) -> Result<CowStr<'a>, AllocError>
     ensures { IfOk result (λ copy. text_bytes copy ≡ text.now) }
 {
     CowStr::Borrowed(text).into_static(alloc)
+}
+
+// Inline HTML that is a part of the source: borrowed, with the prefixes of its later lines.
+fn source_html<'a>(leaf: &LeafText<'a>, slot: Slot, end: usize) -> Given<'a>
+    requires read { IsRead leaf.now }
+    requires slot { IsSlot (text_of leaf.now) (length (text_of leaf.now)) slot }
+    ensures start { result.range.start ≡ place_of leaf.now slot.start }
+    ensures end { place_of leaf.now slot.start < end → IsCharBoundary (source_of leaf.now) end → result.range.end ≡ end }
+    ensures part { IsPart (source_of leaf.now) result.range.start result.range.end }
+    ensures value { shown result.event ≡ InlineHtml (slice (source_of leaf.now) result.range.start result.range.end) }
+{
+    let range = leaf.range_up_to(slot.start, slot.end, end);
+    let html = leaf.source_at(range.start, range.end);
+    Given {
+        event: Event::InlineHtml(CowStr::Borrowed(html)),
+        range,
+    }
 }
 
 // What a code span holds: borrowed where it stands in the source without a gap and no line ends in it.

@@ -40,6 +40,21 @@ pub(crate) fn before_blanks(text: &str, here: Cursor) -> usize
     stop
 }
 
+// The place behind the blanks that stand at this place.
+#[tactic(auto, using(std::proofs::lemmas::Str::lead_after_ascii))]
+fn behind_blanks(text: &str, at: usize) -> usize
+    requires { IsCharBoundary text.now at }
+    ensures order { at ≤ result }
+    ensures boundary { IsCharBoundary text.now result }
+{
+    let bytes = text.as_bytes();
+    let mut end = at;
+    while end < bytes.len() && (bytes[end] == b' ' || bytes[end] == b'\t') {
+        end += 1;
+    }
+    end
+}
+
 // Where the text of a run of backticks that is no code span begins: with the escaped backtick before it, if one is pending.
 pub(crate) fn text_start(text: &str, here: Cursor) -> usize
     requires here { here.at < length text.now }
@@ -97,6 +112,31 @@ pub(crate) fn end_behind(text: &str, at: usize, size: usize) -> Option<usize>
     } else {
         None
     }
+}
+
+// This place, if it is behind the other and no character is cut there.
+pub(crate) fn part_end(text: &str, at: usize, end: usize) -> Option<usize>
+    requires { IsCharBoundary text.now at }
+    ensures part { IfSome result (IsPart text.now at) }
+    ensures same { IfSome result (λ place. place ≡ end) }
+{
+    if end > at && text.is_char_boundary(end) {
+        Some(end)
+    } else {
+        None
+    }
+}
+
+// Where the words of the line begin that begins at this place; the place itself, where none does.
+pub(crate) fn words_from(text: &str, at: usize) -> usize
+    requires { IsCharBoundary text.now at }
+    ensures order { at ≤ result }
+    ensures boundary { IsCharBoundary text.now result }
+{
+    if at == 0 || !matches!(text.as_bytes()[at - 1], b'\n' | b'\r') {
+        return at;
+    }
+    behind_blanks(text, at)
 }
 
 // The place behind the autolink whose `<` stands at this place (CommonMark 6.5).

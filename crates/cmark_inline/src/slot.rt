@@ -38,8 +38,10 @@ pub enum SlotKind {
     HardBreak,
     /// A code span, with the range of what it holds.
     Code(usize, usize),
-    /// Inline HTML: the bytes of its range.
+    /// A tag: the bytes of its range.
     InlineHtml,
+    /// Inline HTML that is a part of the source, up to before this place there.
+    SourceHtml(usize),
     /// An element begins. The range is the whole element's.
     Begin(Element),
     /// The element that began last ends.

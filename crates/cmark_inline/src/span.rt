@@ -71,13 +71,13 @@ impl<'a> InlineState<'a> {
             let next = self.autolink(leaf, text, here, end)?;
             return Ok(next);
         }
-        if let Some(end) = self.unclosed.inline_html(text, here.at) {
+        if let Some(found) = self.unclosed.inline_html(leaf, text, here.at) {
             let slot = Slot {
-                kind: SlotKind::InlineHtml,
+                kind: found.kind,
                 start: here.at,
-                end,
+                end: found.end,
             };
-            let next = self.put(text, here, here.at, slot)?;
+            let next = self.put_before_words(text, here, here.at, slot)?;
             return Ok(next);
         }
         let slot = Slot {

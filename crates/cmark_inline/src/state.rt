@@ -1,16 +1,22 @@
 //! The state of the inline pass.
 
-ghost use Rattle.std.specs.Prelude.{◌≡◌, ◌<◌, ℕ, List, [], max, IfSome};
+ghost use Rattle.std.specs.Prelude.{◌≡◌, ◌⊎◌, ◌<◌, ◌+◌, ℕ, List, [], true, false, Some, length, drop, slice_index, max, IfSome};
 ghost use Rattle.std.specs.Str.{IsCharBoundary};
-ghost use Rattle.cmark_inline.specs.Stands.{Stands};
+ghost use Rattle.cmark_grammar.specs.InlineHtml.{behind_inline_html};
+ghost use Rattle.cmark_leaf_text.specs.Reads.{IsRead, IsPart, text_of};
+ghost use Rattle.cmark_inline.specs.FoundInSource.{IsFound, IsInSource};
+ghost use Rattle.cmark_inline.specs.declared.slot.SlotKind.TheVariants as slot_kind;
+ghost use Rattle.cmark_inline.specs.Stands.{IsContent, Stands, begins_link};
 
 use crate::bracket::Brackets;
 use crate::delimiter::Delimiters;
 use crate::event::Walk;
 use crate::link::LinkParts;
+use crate::place::{is_followed_by, part_end};
 use crate::quote::Quotes;
-use crate::slot::Slot;
+use crate::slot::{Slot, SlotKind};
 use cmark_finds::inline_html;
+use cmark_leaf_text::LeafText;
 use cmark_text::CowStr;
 use std::alloc::Global;
 
@@ -54,22 +60,40 @@ impl Unclosed {
     }
 }
 
+/// Inline HTML that was found.
+#[derive(Clone, Copy)]
+pub struct FoundHtml {
+    /// What the slot stands for.
+    pub kind: SlotKind,
+    /// The place behind it: the first byte of the leaf's text that does not belong to it.
+    pub end: usize,
+}
+
 impl Unclosed {
-    /// The end of the inline HTML whose `<` stands at this place. Where a closer was sought in vain, it is not sought again.
-    pub fn inline_html(&mut self, text: &str, at: usize) -> Option<usize>
-        requires { IsCharBoundary text.now at }
-        ensures further { IfSome result (λ end. at < end) }
-        ensures ends { IfSome result (λ end. IsCharBoundary text.now end) }
+    /// The inline HTML whose `<` stands at this place. A tag is sought in the text of the leaf. All else is sought in the source,
+    /// up to the end of the leaf's last line: prefixes of later lines are read as they stand there. Where a closer was sought in
+    /// vain, it is not sought again.
+    pub fn inline_html(&mut self, leaf: &LeafText<'_>, text: &str, at: usize) -> Option<FoundHtml>
+        requires read { IsRead leaf.now }
+        requires same { text.now ≡ text_of leaf.now }
+        requires part { IsPart text.now at (at + 1) }
+        ensures part { IfSome result (λ found. IsPart text.now at found.end) }
+        ensures content { IfSome result (λ found. IsContent text.now found.kind) }
+        ensures kind { IfSome result (λ found. begins_link found.kind ≡ false) }
+        ensures is { IfSome result (IsFound leaf.now at) }
     {
+        if !opens_in_source(text, at) {
+            return tag(text, at);
+        }
         let kind = HtmlKind::of(text, at);
         if self.has(kind) {
             return None;
         }
-        let end = inline_html(text, at);
-        if end.is_none() {
+        let found = source_html(leaf, text, at);
+        if found.is_none() {
             self.note(kind);
         }
-        end
+        found
     }
 
     fn has(&self, kind: HtmlKind) -> bool {
@@ -91,6 +115,50 @@ impl Unclosed {
             HtmlKind::Tag => {}
         }
     }
+}
+
+// Whether the `<` at this place begins what is sought in the source: all inline HTML but tags.
+fn opens_in_source(text: &str, at: usize) -> bool
+    requires { at < length text.now }
+    ensures { result ≡ true → (slice_index text.now (at + 1) ≡ 33) ⊎ (slice_index text.now (at + 1) ≡ 63) }
+{
+    is_followed_by(text, at, b'!') || is_followed_by(text, at, b'?')
+}
+
+// The tag whose `<` stands at this place.
+fn tag(text: &str, at: usize) -> Option<FoundHtml>
+    requires { IsCharBoundary text.now at }
+    ensures part { IfSome result (λ found. IsPart text.now at found.end) }
+    ensures content { IfSome result (λ found. IsContent text.now found.kind) }
+    ensures kind { IfSome result (λ found. begins_link found.kind ≡ false) }
+    ensures is { IfSome result (λ found. (found.kind ≡ slot_kind.InlineHtml) × (behind_inline_html (drop at text.now) ≡ Some (drop found.end text.now))) }
+{
+    let end = inline_html(text, at)?;
+    Some(FoundHtml {
+        kind: SlotKind::InlineHtml,
+        end,
+    })
+}
+
+// The inline HTML whose `<` stands at this place, as the source reads from there on.
+fn source_html(leaf: &LeafText<'_>, text: &str, at: usize) -> Option<FoundHtml>
+    requires read { IsRead leaf.now }
+    requires same { text.now ≡ text_of leaf.now }
+    requires part { IsPart text.now at (at + 1) }
+    requires opens { (slice_index text.now (at + 1) ≡ 33) ⊎ (slice_index text.now (at + 1) ≡ 63) }
+    ensures part { IfSome result (λ found. IsPart text.now at found.end) }
+    ensures content { IfSome result (λ found. IsContent text.now found.kind) }
+    ensures kind { IfSome result (λ found. begins_link found.kind ≡ false) }
+    ensures is { IfSome result (IsInSource leaf.now at) }
+{
+    let source = leaf.source_between(at, text.len());
+    let size = inline_html(source, 0)?;
+    let source_end = leaf.place(at) + size;
+    let end = part_end(text, at, leaf.first_from(source_end))?;
+    Some(FoundHtml {
+        kind: SlotKind::SourceHtml(source_end),
+        end,
+    })
 }
 
 /// What a `<` may begin.

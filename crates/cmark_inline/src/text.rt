@@ -1,10 +1,12 @@
 //! Line breaks, escapes and entities (CommonMark 2.4, 2.5, 6.7 and 6.8).
 
-ghost use Rattle.std.specs.Prelude.{◌≡◌, ◌⊎◌, true, ◌<◌, ◌≤◌, ◌+◌, ◌-◌, ◌++◌, ℕ, List, [], length, slice_index, IfOk, OnOk, IfSome};
+ghost use Rattle.std.specs.Prelude.{◌≡◌, ◌⊎◌, true, false, ◌<◌, ◌≤◌, ◌+◌, ◌-◌, ◌++◌, ℕ, List, [], length, slice_index, IfOk, OnOk, IfSome};
 ghost use Rattle.std.specs.Str.{IsCharBoundary};
-ghost use Rattle.cmark_inline.specs.Stands.{AreSlots, AreBrackets, IsBracket, IsCursor, IsSlot, IsTarget, Moves, SameSpans, Stands, bytes_of};
+ghost use Rattle.cmark_inline.specs.Stands.{AreSlots, AreBrackets, IsBracket, IsCursor, IsSlot, IsTarget, Moves, SameSpans, Stands, begins_link, bytes_of};
 
-use crate::place::{before_blanks, behind, end_behind, is_escape, is_lone_backtick, pass};
+use crate::place::{
+    before_blanks, behind, end_behind, is_escape, is_lone_backtick, pass, words_from,
+};
 use crate::slot::{Slot, SlotKind};
 use crate::state::InlineState;
 use crate::step::Cursor;
@@ -14,7 +16,8 @@ use cmark_text::EntityLookup;
 use std::alloc::AllocError;
 
 impl<'a> InlineState<'a> {
-    // A line ends: a soft break, or a hard one where two spaces stand before it (CommonMark 6.7 and 6.8).
+    // A line ends: a soft break, or a hard one where two spaces stand before it (CommonMark 6.7 and 6.8). The blanks in front of
+    // the next line go with it.
     pub(crate) fn line_end(&mut self, text: &str, here: Cursor) -> Result<Cursor, AllocError>
         requires stands { Stands text.now here.pending self.old }
         requires cursor { IsCursor text.now here }
@@ -37,8 +40,36 @@ impl<'a> InlineState<'a> {
             start,
             end: found.end,
         };
-        let next = self.put(text, here, stop, slot)?;
+        let next = self.put_before_words(text, here, stop, slot)?;
         Ok(next)
+    }
+
+    // Appends the text that is pending up to a place, and then a slot; the text is read on behind that and, where a line begins
+    // there, behind the blanks in front of it.
+    pub(crate) fn put_before_words(
+        &mut self,
+        text: &str,
+        here: Cursor,
+        stop: usize,
+        slot: Slot,
+    ) -> Result<Cursor, AllocError>
+        requires stands { Stands text.now here.pending self.old }
+        requires starts { IsCharBoundary text.now here.pending }
+        requires stops { IsCharBoundary text.now stop }
+        requires behind { here.pending ≤ stop }
+        requires ordered { stop < slot.end }
+        requires slot { IsSlot text.now slot.end slot }
+        requires further { here.at < slot.end }
+        requires kind { begins_link slot.kind ≡ false }
+        ensures expansion { self.new.expansion ≡ self.old.expansion }
+        ensures moves { IfOk result (Moves text.now here.at self.new) }
+    {
+        let next = self.put(text, here, stop, slot)?;
+        let words = words_from(text, next.pending);
+        Ok(Cursor {
+            pending: words,
+            at: words,
+        })
     }
 
     // A backslash: a hard break before a line end (CommonMark 6.7), or an escape (CommonMark 2.4).
@@ -57,7 +88,7 @@ impl<'a> InlineState<'a> {
                 start: here.at,
                 end: found.end,
             };
-            let next = self.put(text, here, here.at, slot)?;
+            let next = self.put_before_words(text, here, here.at, slot)?;
             return Ok(next);
         }
         if !is_escape(text, here.at) {

@@ -19,6 +19,12 @@ pub record IsRead (leaf : LeafText) : Type 0 where
   pub stretches : AreStretches leaf.source.now 0 0 leaf.stretches.items
   pub copied : 1 < length leaf.stretches.items → string_bytes leaf.copied ≡ joined leaf.source.now leaf.stretches.items
 
+-- all bytes of the text before this one stand before a place of the source, and no other does
+pub record IsFirstFrom (leaf : LeafText) (place at : ℕ) : Type 0 where
+  pub within : at ≤ length (text_of leaf)
+  pub before : (k : ℕ) → k < at → place_of leaf k < place
+  pub behind : (k : ℕ) → at ≤ k → k < length (text_of leaf) → place ≤ place_of leaf k
+
 -- bytes of the text from one place to behind another, both not inside a character
 pub record IsPart (text : List ℕ) (from to : ℕ) : Type 0 where
   pub some : from < to

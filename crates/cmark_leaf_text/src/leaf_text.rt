@@ -2,16 +2,17 @@
 
 ghost use Rattle.std.specs.Prelude.{◌≡◌, ◌<◌, ◌≤◌, ◌+◌, ◌-◌, ◌++◌, ◌≢◌, [], length, OnOk, IfOk, IfSome, None, ◌∷◌, string_bytes};
 ghost use Rattle.cmark_grammar.specs.Tokens.{slice};
-ghost use Rattle.cmark_leaf_text.specs.Reads.{IsRead, IsPart, text_of, source_of, place_of};
+ghost use Rattle.cmark_leaf_text.specs.Reads.{IsRead, IsPart, IsFirstFrom, text_of, source_of, place_of};
+ghost use Rattle.std.specs.Str.{IsCharBoundary};
 ghost use Rattle.cmark_leaf_text.specs.Stretches.{AreLines, AreStretches, IsOpen, IsLine, joined, leaf_bytes, line_end, FindsStretch};
 
 use crate::stretch::{LeafLine, Stretch};
 use std::alloc::{AllocError, Global};
 use std::ops::Range;
 
-/// The text of a leaf block (CommonMark 4): its lines one behind the other, without the prefixes of the containers and the
-/// indent of each, and with the line ends between them as they stand in the source. A value is used for one leaf after the
-/// other. Places are byte offsets, of the text or of the source.
+/// The text of a leaf block (CommonMark 4): its lines one behind the other, without the prefixes of the containers, and with
+/// the line ends between them and the blanks in front of later lines as they stand in the source. A value is used for one leaf
+/// after the other. Places are byte offsets, of the text or of the source.
 ///
 /// Where the lines touch in the source the text is a part of it; else it is copied, into memory that is used again.
 #[derive(Drop)]
@@ -124,6 +125,48 @@ impl<'a> LeafText<'a> {
     {
         let bytes = self.range(from, to);
         &self.source[bytes.start..bytes.end]
+    }
+
+    /// The bytes of the source from the first of these bytes of the text to before a place that is behind it and cuts no
+    /// character; with another place, to behind the last of them.
+    pub fn range_up_to(&self, from: usize, to: usize, end: usize) -> Range<usize>
+        requires read { IsRead self.now }
+        requires part { IsPart (text_of self.now) from to }
+        ensures start { result.start ≡ place_of self.now from }
+        ensures end { place_of self.now from < end → IsCharBoundary (source_of self.now) end → result.end ≡ end }
+        ensures part { IsPart (source_of self.now) result.start result.end }
+    {
+        let bytes = self.range(from, to);
+        if bytes.start < end && self.source.is_char_boundary(end) {
+            return bytes.start..end;
+        }
+        bytes
+    }
+
+    /// These bytes of the source.
+    pub fn source_at(&self, start: usize, end: usize) -> &'a str
+        requires { IsPart (source_of self.now) start end }
+        ensures { result.now ≡ slice (source_of self.now) start end }
+    {
+        &self.source[start..end]
+    }
+
+    /// The first byte of the text that stands at or behind a place of the source; the text's length, where none does.
+    pub fn first_from(&self, place: usize) -> usize
+        requires { IsRead self.now }
+        ensures { IsFirstFrom self.now place result }
+    {
+        let mut low = 0;
+        let mut high = self.as_str().len();
+        while low < high {
+            let middle = low + (high - low) / 2;
+            if self.place(middle) < place {
+                low = middle + 1;
+            } else {
+                high = middle;
+            }
+        }
+        low
     }
 
     // The stretches of these lines: each line with its line end, but for the last.

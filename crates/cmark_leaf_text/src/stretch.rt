@@ -2,7 +2,7 @@
 
 ghost use Rattle.std.specs.Prelude.{◌≡◌, ◌<◌, ◌≤◌, ◌+◌, ◌-◌};
 
-/// A line of a leaf (CommonMark 2.1), without the prefixes of its containers and its indent: byte offsets of the source.
+/// A line of a leaf (CommonMark 2.1), or lines that touch, without the prefixes of its containers: byte offsets of the source.
 #[derive(Clone, Copy, PartialEq, Eq, Debug)]
 pub struct LeafLine {
     /// The first byte of what stands in it.

@@ -37,13 +37,13 @@ module _ {E F : Type 0} where
     pub definitions : definitions_of new ≡ definitions_of old
 
   same-both : (a b d : SpanWalk E F) → SameLeaf a b → SameLeaf b d → SameLeaf a d
-  same-both a b d p q = record { text = q.text ∙ p.text; in_code = q.in_code ∙ p.in_code; in_leaf = q.in_leaf ∙ p.in_leaf; leaf = q.leaf ∙ p.leaf; inline = q.inline ∙ p.inline }
+  same-both a b d p q = record { text = q.text ∙ p.text; is_verbatim = q.is_verbatim ∙ p.is_verbatim; in_leaf = q.in_leaf ∙ p.in_leaf; leaf = q.leaf ∙ p.leaf; inline = q.inline ∙ p.inline }
 
   pub gathers-none : (walk : SpanWalk E F) (part : LeafLine) (blocks : List Ranged) → Gathering walk part blocks → Gathers walk part walk part
   gathers-none walk part blocks h = record {
     can = (blocks, h);
     since = λ bs g. ([], bs, refl, tt, g);
-    same = record { text = refl; in_code = refl; in_leaf = refl; leaf = refl; inline = refl };
+    same = record { text = refl; is_verbatim = refl; in_leaf = refl; leaf = refl; inline = refl };
     most = omega arith;
     definitions = refl;
   }
@@ -186,7 +186,7 @@ module _ {E F : Type 0} where
           left = left-same mid new l.others refl refl refl l.gathered.left;
           in_turn = subst (λ text. InTurn text 0 l.others) (sym source) l.gathered.in_turn;
           same_text = ap (λ text. text.now) same.text ∙ h.same_text ∙ sym (ap (λ (leaf : LeafText). leaf.source.now) same.leaf) ∙ sym source;
-          leaf = record { read = read; slots = slots; opened = none-opened leaf.source.now inline.walk.opened.items none; outside = same.in_code ∙ h.outside; apart = l.gathered.apart };
+          leaf = record { read = read; slots = slots; opened = none-opened leaf.source.now inline.walk.opened.items none; outside = same.is_verbatim ∙ h.outside; apart = l.gathered.apart };
         };
         inside = refl;
         none_open = none;

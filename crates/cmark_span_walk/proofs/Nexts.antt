@@ -33,13 +33,13 @@ module _ {E F : Type 0} where
       pub pass-stands : (new : SpanWalk E F) → Passes mid (shown_ranged block) new → Stands new
       pass-stands new passes = let t = took (Some block) is in passed-stands old mid new block s.0 t.0 s.1 out t.1 t.2 same passes
 
-      pub pass-gives : (new : SpanWalk E F) → Passes mid (shown_ranged block) new → (old.in_code ≡ true) ⊎ (is_content (shown_ranged block).event ≡ false) → (events : List Ranged) → Remains new events → Remains old (shown_ranged block ∷ events)
+      pub pass-gives : (new : SpanWalk E F) → Passes mid (shown_ranged block) new → (old.is_verbatim ≡ true) ⊎ (is_content (shown_ranged block).event ≡ false) → (events : List Ranged) → Remains new events → Remains old (shown_ranged block ∷ events)
       pass-gives new passes stays events r = let t = took (Some block) is in passed-gives old mid new block s.0 t.0 s.1 out t.1 t.2 same passes stays events r
 
       source-same : source_of mid ≡ source_of old
       source-same = ap (λ (leaf : LeafText). leaf.source.now) same.leaf
 
-      module _ (first : LeafLine) (part : (text : List ℕ) (from : ℕ) → TakesTurn text from (shown_ranged block) → IsPartOf text from (shown_ranged block) first) (none : mid.held ≡ None) (code : mid.in_code ≡ false) (content : is_content (shown_ranged block).event ≡ true) where
+      module _ (first : LeafLine) (part : (text : List ℕ) (from : ℕ) → TakesTurn text from (shown_ranged block) → IsPartOf text from (shown_ranged block) first) (none : mid.held ≡ None) (code : mid.is_verbatim ≡ false) (content : is_content (shown_ranged block).event ≡ true) where
         begins-at : (t : TakesBlock s.0 (Some block) mid) → BeginsLeaf mid first t.0
         begins-at t =
             let turn = turn-content (source_of mid) 0 (shown_ranged block) t.0 content (subst (λ text. InTurn text 0 (shown_ranged block ∷ t.0)) (sym source-same) (subst (InTurn (source_of old) 0) t.1 s.1.in_turn)) in
@@ -63,7 +63,7 @@ module _ {E F : Type 0} where
           pub enter-inside : new.in_leaf ≡ true
           enter-inside = let b = begins in (enters b.0 b.1).inside
 
-          pub enter-back : new.in_code ≡ mid.in_code → source_of new ≡ source_of mid → (events : List Ranged) → Remains new events → Remains old events
+          pub enter-back : new.is_verbatim ≡ mid.is_verbatim → source_of new ≡ source_of mid → (events : List Ranged) → Remains new events → Remains old events
           enter-back same-code same-source events r =
               let t = took (Some block) is in
-              entered old new (shown_ranged block) s.0 t.0 events s.1 out (sym same.in_code ∙ code) content t.1 (enters t.0 (begins-at t)) (same-code ∙ code) (same-source ∙ source-same) r
+              entered old new (shown_ranged block) s.0 t.0 events s.1 out (sym same.is_verbatim ∙ code) content t.1 (enters t.0 (begins-at t)) (same-code ∙ code) (same-source ∙ source-same) r

@@ -1,7 +1,7 @@
 -- Steps of a walk with spans.
 use Rattle.std.proofs.Common.{◌≡◌, ◌⊎◌, inl, inr, ℕ, ◌<◌, ◌-◌, arith, Bool, true, false, List, [], ◌∷◌, ◌++◌, length, Option, Some, None, refl, sym, ap, ◌∙◌, subst, is_some, true≢false}
 use Rattle.cmark_grammar.specs.Event.{Ranged}
-use Rattle.cmark_grammar.specs.LeafSpans.{is_content, in_code_after, AreContent, BeginsApart, AreSpans, InTurn, InTurnAs, WithSpans, Nothing, Same, Leaf}
+use Rattle.cmark_grammar.specs.LeafSpans.{is_content, is_verbatim_after, AreContent, BeginsApart, AreSpans, InTurn, InTurnAs, WithSpans, Nothing, Same, Leaf}
 use Rattle.cmark_grammar.proofs.LeafSpanLaws.{some-spans, turn-before}
 use Rattle.std.specs.Global.{Vec}
 use Rattle.cmark_inline.specs.declared.slot.Slot.{Slot}
@@ -49,10 +49,10 @@ module _ {E F : Type 0} where
   outside : (walk : SpanWalk E F) (blocks : List Ranged) → walk.in_leaf ≡ false → StandsIn walk.in_leaf walk blocks
   outside walk blocks e = subst (λ b. StandsIn b walk blocks) (sym e) tt
 
-  left-outside : (walk : SpanWalk E F) (blocks events : List Ranged) → walk.in_leaf ≡ false → LeftIn walk.in_leaf walk blocks events → WithSpans (source_of walk) walk.in_code blocks events
+  left-outside : (walk : SpanWalk E F) (blocks events : List Ranged) → walk.in_leaf ≡ false → LeftIn walk.in_leaf walk blocks events → WithSpans (source_of walk) walk.is_verbatim blocks events
   left-outside walk blocks events e h = subst (λ b. LeftIn b walk blocks events) e h
 
-  outside-left : (walk : SpanWalk E F) (blocks events : List Ranged) → walk.in_leaf ≡ false → WithSpans (source_of walk) walk.in_code blocks events → LeftIn walk.in_leaf walk blocks events
+  outside-left : (walk : SpanWalk E F) (blocks events : List Ranged) → walk.in_leaf ≡ false → WithSpans (source_of walk) walk.is_verbatim blocks events → LeftIn walk.in_leaf walk blocks events
   outside-left walk blocks events e h = subst (λ b. LeftIn b walk blocks events) (sym e) h
 
   left-inside : (walk : SpanWalk E F) (blocks events : List Ranged) → walk.in_leaf ≡ true → LeftIn walk.in_leaf walk blocks events → LeftIn true walk blocks events
@@ -62,9 +62,9 @@ module _ {E F : Type 0} where
   inside-left walk blocks events e h = subst (λ b. LeftIn b walk blocks events) (sym e) h
 
   -- what is left where the walk stands before other events of the document is left before those
-  at-blocks : (walk : SpanWalk E F) (blocks events : List Ranged) → BlocksLeft walk blocks → walk.in_leaf ≡ false → Remains walk events → WithSpans (source_of walk) walk.in_code blocks events
+  at-blocks : (walk : SpanWalk E F) (blocks events : List Ranged) → BlocksLeft walk blocks → walk.in_leaf ≡ false → Remains walk events → WithSpans (source_of walk) walk.is_verbatim blocks events
   at-blocks walk blocks events left e r =
-      subst (λ bs. WithSpans (source_of walk) walk.in_code bs events) (one-left walk r.blocks blocks r.stands.left left) (left-outside walk r.blocks events e r.left)
+      subst (λ bs. WithSpans (source_of walk) walk.is_verbatim bs events) (one-left walk r.blocks blocks r.stands.left left) (left-outside walk r.blocks events e r.left)
 
   -- some events are left
   pub some-left : (walk : SpanWalk E F) → Stands walk → (events : List Ranged) × Remains walk events
@@ -75,11 +75,11 @@ module _ {E F : Type 0} where
 
       go : (b : Bool) → walk.in_leaf ≡ b → (events : List Ranged) × Remains walk events
       go false e =
-          let l = some-spans (source_of walk) walk.in_code blocks in (l.0, record { blocks = blocks; stands = s.1; left = outside-left walk blocks l.0 e l.1 })
+          let l = some-spans (source_of walk) walk.is_verbatim blocks in (l.0, record { blocks = blocks; stands = s.1; left = outside-left walk blocks l.0 e l.1 })
       go true e =
           let h = in-leaf walk blocks e s.1.leaf in
           let spans = can-close (source_of walk) (opened_of walk) h.opened in
-          let l = some-spans (source_of walk) walk.in_code blocks in
+          let l = some-spans (source_of walk) walk.is_verbatim blocks in
           (spans.0 ++ l.0, record { blocks = blocks; stands = s.1; left = inside-left walk blocks (spans.0 ++ l.0) e (spans.0, l.0, refl, spans.1, l.1) })
 
   -- an event of the document that is given as it is
@@ -104,46 +104,46 @@ module _ {E F : Type 0} where
       },
     )
 
-    pub passed-gives : (old.in_code ≡ true) ⊎ (is_content (shown_ranged block).event ≡ false) → (events : List Ranged) → Remains new events → Remains old (shown_ranged block ∷ events)
+    pub passed-gives : (old.is_verbatim ≡ true) ⊎ (is_content (shown_ranged block).event ≡ false) → (events : List Ranged) → Remains new events → Remains old (shown_ranged block ∷ events)
     passed-gives stays events r =
         let behind = at-blocks new others events left-new new-outside r in
-        let code : new.in_code ≡ in_code_after old.in_code (shown_ranged block).event = passes.code ∙ ap (λ b. in_code_after b (shown_ranged block).event) same.in_code in
-        let moved : WithSpans (source_of old) (in_code_after old.in_code (shown_ranged block).event) others events =
-        subst (λ b. WithSpans (source_of old) b others events) code (subst (λ text. WithSpans text new.in_code others events) source-same behind) in
+        let code : new.is_verbatim ≡ is_verbatim_after old.is_verbatim (shown_ranged block).event = passes.code ∙ ap (λ b. is_verbatim_after b (shown_ranged block).event) same.is_verbatim in
+        let moved : WithSpans (source_of old) (is_verbatim_after old.is_verbatim (shown_ranged block).event) others events =
+        subst (λ b. WithSpans (source_of old) b others events) code (subst (λ text. WithSpans text new.is_verbatim others events) source-same behind) in
         record {
           blocks = blocks;
           stands = at;
           left = outside-left old blocks (shown_ranged block ∷ events) out
-              (subst (λ bs. WithSpans (source_of old) old.in_code bs (shown_ranged block ∷ events)) (sym are) (Same old.in_code (shown_ranged block) others events stays moved));
+              (subst (λ bs. WithSpans (source_of old) old.is_verbatim bs (shown_ranged block ∷ events)) (sym are) (Same old.is_verbatim (shown_ranged block) others events stays moved));
         }
 
   -- nothing was left
   pub over-outside : (old : SpanWalk E F) (blocks : List Ranged) → StandsAt old blocks → old.in_leaf ≡ false → blocks ≡ [] → Remains old []
   over-outside old blocks at out none =
-      record { blocks = blocks; stands = at; left = outside-left old blocks [] out (subst (λ bs. WithSpans (source_of old) old.in_code bs []) (sym none) (Nothing old.in_code)) }
+      record { blocks = blocks; stands = at; left = outside-left old blocks [] out (subst (λ bs. WithSpans (source_of old) old.is_verbatim bs []) (sym none) (Nothing old.is_verbatim)) }
 
   -- a leaf that has no more events is left
-  pub left-leaf : (old new : SpanWalk E F) (blocks events : List Ranged) → StandsAt old blocks → old.in_leaf ≡ true → opened_of old ≡ [] → BlocksLeft new blocks → new.in_leaf ≡ false → source_of new ≡ source_of old → new.in_code ≡ old.in_code
+  pub left-leaf : (old new : SpanWalk E F) (blocks events : List Ranged) → StandsAt old blocks → old.in_leaf ≡ true → opened_of old ≡ [] → BlocksLeft new blocks → new.in_leaf ≡ false → source_of new ≡ source_of old → new.is_verbatim ≡ old.is_verbatim
       → Remains new events → Remains old events
   left-leaf old new blocks events at inside none left out source code r =
       let behind = at-blocks new blocks events left out r in
-      let moved : WithSpans (source_of old) old.in_code blocks events = subst (λ b. WithSpans (source_of old) b blocks events) code (subst (λ text. WithSpans text new.in_code blocks events) source behind) in
+      let moved : WithSpans (source_of old) old.is_verbatim blocks events = subst (λ b. WithSpans (source_of old) b blocks events) code (subst (λ text. WithSpans text new.is_verbatim blocks events) source behind) in
       record { blocks = blocks; stands = at; left = inside-left old blocks events inside ([], events, refl, none, moved) }
 
   -- one more span
-  pub spanned-gives : (old new : SpanWalk E F) (r : Ranged) (blocks : List Ranged) → StandsAt old blocks → BlocksLeft new blocks → old.in_leaf ≡ true → new.in_leaf ≡ true → source_of new ≡ source_of old → new.in_code ≡ old.in_code
+  pub spanned-gives : (old new : SpanWalk E F) (r : Ranged) (blocks : List Ranged) → StandsAt old blocks → BlocksLeft new blocks → old.in_leaf ≡ true → new.in_leaf ≡ true → source_of new ≡ source_of old → new.is_verbatim ≡ old.is_verbatim
       → Follows (source_of old) (opened_of old) r (opened_of new) → (events : List Ranged) → Remains new events → Remains old (r ∷ events)
   spanned-gives old new r blocks at left inside new-inside source code follows events m =
       let h = left-inside new m.blocks events new-inside m.left in
       let same = one-left new m.blocks blocks m.stands.left left in
       let completes : Completes (source_of old) (opened_of new) h.0 = subst (λ text. Completes text (opened_of new) h.0) source h.3 in
-      let later : WithSpans (source_of old) old.in_code blocks h.1 =
-      subst (λ b. WithSpans (source_of old) b blocks h.1) code (subst (λ text. WithSpans text new.in_code blocks h.1) source (subst (λ bs. WithSpans (source_of new) new.in_code bs h.1) same h.4)) in
+      let later : WithSpans (source_of old) old.is_verbatim blocks h.1 =
+      subst (λ b. WithSpans (source_of old) b blocks h.1) code (subst (λ text. WithSpans text new.is_verbatim blocks h.1) source (subst (λ bs. WithSpans (source_of new) new.is_verbatim bs h.1) same h.4)) in
       record { blocks = blocks; stands = at; left = inside-left old blocks (r ∷ events) inside (r ∷ h.0, h.1, ap (λ l. r ∷ l) h.2, (opened_of new, follows, completes), later) }
 
   -- into a leaf
-  pub entered : (old new : SpanWalk E F) (first : Ranged) (blocks others events : List Ranged) → StandsAt old blocks → old.in_leaf ≡ false → old.in_code ≡ false → is_content first.event ≡ true → blocks ≡ first ∷ others
-      → EntersLeaf others new → new.in_code ≡ false → source_of new ≡ source_of old → Remains new events → Remains old events
+  pub entered : (old new : SpanWalk E F) (first : Ranged) (blocks others events : List Ranged) → StandsAt old blocks → old.in_leaf ≡ false → old.is_verbatim ≡ false → is_content first.event ≡ true → blocks ≡ first ∷ others
+      → EntersLeaf others new → new.is_verbatim ≡ false → source_of new ≡ source_of old → Remains new events → Remains old events
   entered old new first blocks others events at out code content are enters new-code source r =
       let h = left-inside new r.blocks events enters.inside r.left in
       let same = one-left new r.blocks enters.others r.stands.left enters.stands.left in
@@ -151,7 +151,7 @@ module _ {E F : Type 0} where
       let completes : Completes (source_of old) [] h.0 = subst (λ l. Completes (source_of old) l h.0) enters.none_open (subst (λ text. Completes text (opened_of new) h.0) source h.3) in
       let later : WithSpans (source_of old) false enters.others h.1 =
       subst (λ b. WithSpans (source_of old) b enters.others h.1) new-code
-      (subst (λ text. WithSpans text new.in_code enters.others h.1) source (subst (λ bs. WithSpans (source_of new) new.in_code bs h.1) same h.4)) in
+      (subst (λ text. WithSpans text new.is_verbatim enters.others h.1) source (subst (λ bs. WithSpans (source_of new) new.is_verbatim bs h.1) same h.4)) in
       let whole : WithSpans (source_of old) false (first ∷ (enters.more ++ enters.others)) (h.0 ++ h.1) =
       Leaf first enters.more enters.others h.0 h.1 content enters.content apart (record { nested = completes-nested (source_of old) h.0 completes }) later in
       let moved : WithSpans (source_of old) false blocks events =
@@ -159,13 +159,13 @@ module _ {E F : Type 0} where
       record { blocks = blocks; stands = at; left = outside-left old blocks events out (subst (λ b. WithSpans (source_of old) b blocks events) (sym code) moved) }
 
   -- what is left of a walk at its start
-  pub new-reads : (walk : SpanWalk E F) (text : List ℕ) (blocks events : List Ranged) → walk.held ≡ None → walk.in_leaf ≡ false → walk.in_code ≡ false → source_of walk ≡ text → walking.Remains walk.walk blocks
+  pub new-reads : (walk : SpanWalk E F) (text : List ℕ) (blocks events : List Ranged) → walk.held ≡ None → walk.in_leaf ≡ false → walk.is_verbatim ≡ false → source_of walk ≡ text → walking.Remains walk.walk blocks
       → Remains walk events → WithSpans text false blocks events
   new-reads walk text blocks events none out code source remain r =
       let rest = one-remainder walk.walk r.stands.left.rest blocks r.stands.left.remains remain in
       let are : r.blocks ≡ blocks = r.stands.left.are ∙ ap (λ (o : Option Given). held_events o ++ r.stands.left.rest) none ∙ rest in
-      let h : WithSpans (source_of walk) walk.in_code r.blocks events = left-outside walk r.blocks events out r.left in
-      subst (λ t. WithSpans t false blocks events) source (subst (λ b. WithSpans (source_of walk) b blocks events) code (subst (λ bs. WithSpans (source_of walk) walk.in_code bs events) are h))
+      let h : WithSpans (source_of walk) walk.is_verbatim r.blocks events = left-outside walk r.blocks events out r.left in
+      subst (λ t. WithSpans t false blocks events) source (subst (λ b. WithSpans (source_of walk) b blocks events) code (subst (λ bs. WithSpans (source_of walk) walk.is_verbatim bs events) are h))
 
   -- the next event of the document: none is left
   pub block-none : (old new : SpanWalk E F) (given : Option Given) → given ≡ None → old.held ≡ None → new.held ≡ None → new.budget ≡ old.budget
@@ -244,17 +244,17 @@ module _ {E F : Type 0} where
           leave (shown_ranged block ∷ events) (passed-gives (behind_leaf old) mid new block s.0 t.0 at refl t.1 t.2 same passes (inr apart-block) events r)
 
   -- a leaf has no more spans
-  pub no-span-back : (old mid : SpanWalk E F) → Stands old → Stands mid → mid.walk ≡ old.walk → mid.budget ≡ old.budget → mid.held ≡ old.held → old.in_leaf ≡ true → mid.in_leaf ≡ true → source_of mid ≡ source_of old → mid.in_code ≡ old.in_code
+  pub no-span-back : (old mid : SpanWalk E F) → Stands old → Stands mid → mid.walk ≡ old.walk → mid.budget ≡ old.budget → mid.held ≡ old.held → old.in_leaf ≡ true → mid.in_leaf ≡ true → source_of mid ≡ source_of old → mid.is_verbatim ≡ old.is_verbatim
       → opened_of old ≡ [] → opened_of mid ≡ [] → (events : List Ranged) → Remains mid events → Remains old events
   no-span-back old mid s t walk budget held inside mid-inside source code none mid-none events m =
       let h = left-inside mid m.blocks events mid-inside m.left in
       let same = one-left mid m.blocks s.0 m.stands.left (left-same old mid s.0 walk budget held s.1.left) in
       let completes : Completes (source_of old) (opened_of old) h.0 = subst (λ l. Completes (source_of old) l h.0) (mid-none ∙ sym none) (subst (λ text. Completes text (opened_of mid) h.0) source h.3) in
-      let later : WithSpans (source_of old) old.in_code s.0 h.1 =
-      subst (λ b. WithSpans (source_of old) b s.0 h.1) code (subst (λ text. WithSpans text mid.in_code s.0 h.1) source (subst (λ bs. WithSpans (source_of mid) mid.in_code bs h.1) same h.4)) in
+      let later : WithSpans (source_of old) old.is_verbatim s.0 h.1 =
+      subst (λ b. WithSpans (source_of old) b s.0 h.1) code (subst (λ text. WithSpans text mid.is_verbatim s.0 h.1) source (subst (λ bs. WithSpans (source_of mid) mid.is_verbatim bs h.1) same h.4)) in
       record { blocks = s.0; stands = s.1; left = inside-left old s.0 events inside (h.0, h.1, h.2, completes, later) }
 
-  pub no-span : (old mid new : SpanWalk E F) (given : Option Given) → Stands old → Stands mid → mid.walk ≡ old.walk → mid.budget ≡ old.budget → mid.held ≡ old.held → old.in_leaf ≡ true → mid.in_leaf ≡ true → source_of mid ≡ source_of old → mid.in_code ≡ old.in_code
+  pub no-span : (old mid new : SpanWalk E F) (given : Option Given) → Stands old → Stands mid → mid.walk ≡ old.walk → mid.budget ≡ old.budget → mid.held ≡ old.held → old.in_leaf ≡ true → mid.in_leaf ≡ true → source_of mid ≡ source_of old → mid.is_verbatim ≡ old.is_verbatim
       → opened_of old ≡ [] → opened_of mid ≡ [] → Gives mid given new → Gives old given new
   no-span old mid new None s t walk budget held inside mid-inside source code none mid-none g = no-span-back old mid s t walk budget held inside mid-inside source code none mid-none [] g
   no-span old mid new (Some block) s t walk budget held inside mid-inside source code none mid-none g = λ events r.

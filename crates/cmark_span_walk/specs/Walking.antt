@@ -1,7 +1,7 @@
 -- Where a walk with spans stands, and what it still has to give.
 use Rattle.std.specs.Prelude.{◌≡◌, ℕ, ◌+◌, ◌*◌, ◌<◌, ◌≤◌, Bool, true, false, List, [], ◌∷◌, ◌++◌, length, Option, Some, None}
 use Rattle.cmark_grammar.specs.Event.{Ranged}
-use Rattle.cmark_grammar.specs.LeafSpans.{is_content, in_code_after, AreContent, BeginsApart, InTurn, WithSpans}
+use Rattle.cmark_grammar.specs.LeafSpans.{is_content, is_verbatim_after, AreContent, BeginsApart, InTurn, WithSpans}
 use Rattle.cmark_items.specs.declared.definitions.RefDefs.{RefDefs}
 use Rattle.cmark_inline.specs.declared.event.Opened.{Opened}
 use Rattle.cmark_inline.specs.Opens as opens
@@ -48,7 +48,7 @@ module _ {E F : Type 0} where
     pub read : IsRead walk.leaf
     pub slots : AreSlots (text_of walk.leaf) (length (text_of walk.leaf)) walk.inline.slots.items
     pub opened : AreOpened (source_of walk) (opened_of walk)
-    pub outside : walk.in_code ≡ false
+    pub outside : walk.is_verbatim ≡ false
     pub apart : BeginsApart blocks
 
   abbrev pub StandsIn : (in_leaf : Bool) → SpanWalk E F → List Ranged → Type 0
@@ -67,8 +67,8 @@ module _ {E F : Type 0} where
 
   -- the events that are left in a leaf, and then those behind it
   abbrev pub LeftIn : (in_leaf : Bool) → SpanWalk E F → (blocks events : List Ranged) → Type 0
-  LeftIn true walk blocks events = (spans later : List Ranged) × (events ≡ spans ++ later) × Completes (source_of walk) (opened_of walk) spans × WithSpans (source_of walk) walk.in_code blocks later
-  LeftIn false walk blocks events = WithSpans (source_of walk) walk.in_code blocks events
+  LeftIn true walk blocks events = (spans later : List Ranged) × (events ≡ spans ++ later) × Completes (source_of walk) (opened_of walk) spans × WithSpans (source_of walk) walk.is_verbatim blocks later
+  LeftIn false walk blocks events = WithSpans (source_of walk) walk.is_verbatim blocks events
 
   -- these events are left: those of the document, with spans
   pub record Remains (walk : SpanWalk E F) (events : List Ranged) : Type 0 where
@@ -96,14 +96,14 @@ module _ {E F : Type 0} where
   -- what belongs to a leaf is the same
   pub record SameLeaf (old new : SpanWalk E F) : Type 0 where
     pub text : new.text ≡ old.text
-    pub in_code : new.in_code ≡ old.in_code
+    pub is_verbatim : new.is_verbatim ≡ old.is_verbatim
     pub in_leaf : new.in_leaf ≡ old.in_leaf
     pub leaf : new.leaf ≡ old.leaf
     pub inline : new.inline ≡ old.inline
 
   -- an event of the document without spans was given: only whether code is at hand may change
   pub record Passes (old : SpanWalk E F) (r : Ranged) (new : SpanWalk E F) : Type 0 where
-    pub code : new.in_code ≡ in_code_after old.in_code r.event
+    pub code : new.is_verbatim ≡ is_verbatim_after old.is_verbatim r.event
     pub walk : new.walk ≡ old.walk
     pub budget : new.budget ≡ old.budget
     pub held : new.held ≡ old.held
@@ -142,7 +142,7 @@ module _ {E F : Type 0} where
     pub left : BlocksLeft walk blocks
     pub none_held : walk.held ≡ None
     pub line : IsLine (source_of walk) 0 first
-    pub outside : walk.in_code ≡ false
+    pub outside : walk.is_verbatim ≡ false
     pub in_turn : InTurn (source_of walk) first.past blocks
     pub same_text : walk.text.now ≡ source_of walk
 

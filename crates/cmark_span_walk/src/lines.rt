@@ -10,7 +10,7 @@ use cmark_leaf_text::LeafLine;
 use cmark_text::Event;
 use cmark_walk::Ranged;
 
-/// Whether an event outside of code belongs to the content of a leaf.
+/// Whether an event outside of verbatim blocks belongs to the content of a leaf.
 #[inline(always)]
 pub(crate) fn is_content(event: &Event<'_>) -> bool
     ensures { result ≡ is_content (shown event.now) }

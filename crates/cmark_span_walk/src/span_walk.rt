@@ -23,8 +23,8 @@ pub struct SpanWalk<'input, 'e, E, F> {
     budget: u128,
     /// The event behind the leaf at hand, which was read to find the leaf's end.
     held: Option<Ranged<'input>>,
-    /// Whether the walk stands in a code block, whose text has no spans.
-    in_code: bool,
+    /// Whether the walk stands in a block that is verbatim, whose text has no spans: code, HTML or metadata.
+    is_verbatim: bool,
     /// Whether the walk stands in a leaf.
     in_leaf: bool,
     lines: Vec<LeafLine>,
@@ -67,7 +67,7 @@ impl<'input, 'e, E: EntityLookup, F: BrokenLinkCallback<'input> + Drop> SpanWalk
             walk,
             budget,
             held: None,
-            in_code: false,
+            is_verbatim: false,
             in_leaf: false,
             lines: Vec::new(alloc),
             leaf: LeafText::new(alloc, text),
@@ -136,7 +136,7 @@ impl<'input, 'e, E: EntityLookup, F: BrokenLinkCallback<'input> + Drop> SpanWalk
         let Some(block) = self.next_block()? else {
             return Ok(None);
         };
-        if self.in_code || !is_content(&block.event) {
+        if self.is_verbatim || !is_content(&block.event) {
             return Ok(Some(self.pass(block)));
         }
         let first = part_of(&block);
@@ -213,8 +213,12 @@ impl<'input, 'e, E: EntityLookup, F: BrokenLinkCallback<'input> + Drop> SpanWalk
         ensures passes { Passes self.old (shown_ranged block.entry) self.new }
     {
         match &block.event {
-            Event::Start(Tag::CodeBlock(_)) => self.in_code = true,
-            Event::End(TagEnd::CodeBlock) => self.in_code = false,
+            Event::Start(Tag::CodeBlock(_) | Tag::HtmlBlock | Tag::MetadataBlock(_)) => {
+                self.is_verbatim = true;
+            }
+            Event::End(TagEnd::CodeBlock | TagEnd::HtmlBlock | TagEnd::MetadataBlock(_)) => {
+                self.is_verbatim = false;
+            }
             _ => {}
         }
         block
@@ -224,7 +228,7 @@ impl<'input, 'e, E: EntityLookup, F: BrokenLinkCallback<'input> + Drop> SpanWalk
     fn enter_leaf(&mut self, first: LeafLine) -> Result<(), AllocError>
         requires { (blocks : List Shown) × BeginsLeaf self.old first blocks }
         ensures enters { OnOk result ((blocks : List Shown) → BeginsLeaf self.old first blocks → EntersLeaf blocks self.new) }
-        ensures outside { OnOk result (self.new.in_code ≡ self.old.in_code) }
+        ensures outside { OnOk result (self.new.is_verbatim ≡ self.old.is_verbatim) }
         ensures source { OnOk result (source_of self.new ≡ source_of self.old) }
         ensures most { OnOk result (blocks_left self.new ≤ blocks_left self.old) }
         ensures definitions { definitions_of self.new ≡ definitions_of self.old }

@@ -6,4 +6,6 @@ mod asking;
 #[cfg(test)]
 mod extensions;
 #[cfg(test)]
+mod leaves;
+#[cfg(test)]
 mod reading;

@@ -4,7 +4,8 @@ use Rattle.std.specs.declared.alloc.AllocError.{AllocError}
 use Rattle.std.specs.declared.ops.Range.{Range}
 use Rattle.cmark_blocks.specs.Runs.{shown_reference}
 use Rattle.cmark_grammar.specs.Answers.{Lookup}
-use Rattle.cmark_grammar.specs.Derivation.{document}
+use Rattle.cmark_grammar.specs.BlockDocument.{BlockDocument}
+use Rattle.cmark_grammar.specs.Derivation.{Derives}
 use Rattle.cmark_grammar.specs.Event.{Ranged}
 use Rattle.cmark_grammar.specs.Labels.{fold}
 use Rattle.cmark_grammar.specs.Options.{Options}
@@ -72,10 +73,14 @@ module _ {E F : Type 0} where
   abbrev pub Reads : List ℕ → Options → Lookup → Parser E F → Type 0
   Reads text options lookup parser = ReadsFrom Remains text options lookup parser
 
-  -- its table answers for each folded label as the first definition of the text's document with that label (CommonMark 4.7)
+  -- its table answers for each folded label as the first definition of this document with that label (CommonMark 4.7)
+  abbrev pub DefinesAs : BlockDocument → Parser E F → Type 0
+  DefinesAs document parser =
+      (folded : List ℕ) → option_map shown_definition (definition (definitions parser) folded) ≡ option_map shown_reference (first_with fold folded (references document))
+
+  -- so it does of each document that the text derives
   abbrev pub Defines : List ℕ → Options → Lookup → Parser E F → Type 0
-  Defines text options lookup parser =
-      (folded : List ℕ) → option_map shown_definition (definition (definitions parser) folded) ≡ option_map shown_reference (first_with fold folded (references (document text options lookup)))
+  Defines text options lookup parser = (document : BlockDocument) → Derives text options lookup document → DefinesAs document parser
 
   -- the same of a walk that gives ranges
   abbrev pub walk_of : OffsetIter E F → Parser E F

@@ -1,6 +1,6 @@
 use Rattle.std.proofs.Common.{refl, sym, ap, subst, ◌∙◌}
 use Rattle.cmark_grammar.specs.BlockDocument.{Nil}
-use Rattle.cmark_grammar.specs.Rows.{start_of}
+use Rattle.cmark_grammar.specs.Rows.{begin_of}
 use Rattle.cmark_grammar.specs.Tokens.{stretch_then}
 use Rattle.cmark_lines.specs.Rests.{row_of}
 use Rattle.cmark_block_model.specs.Drawing.{drawn}
@@ -17,7 +17,7 @@ returns-then-begin-past-clause-runs g c text options lookup m runs =
     let before = c.args.self.now in
     let row = row_of c.args.rest in
     subst (λ p. Runs replacement text lookup p (record before { leaf = leaf.Paragraph c.args.from c.args.rest }))
-    (sym (line-touches text options lookup row m c.args.from (row_of c.args.last) (sym c.words_begin-begin.ensures.place ∙ c.if-begin-past.true ∙ c.past.ensures.place)))
+    (sym (line-touches text options lookup row m c.args.from (row_of c.args.last) (sym c.begin-begin.ensures.place ∙ c.if-begin-past.true ∙ c.past.ensures.place)))
     (runs-leaf replacement text lookup m before (leaf.Paragraph c.args.from c.args.rest) (model.InParagraph c.args.from row) runs
     (refl, none_behind_paragraph replacement text lookup m before c.args.from c.args.last c.requires.is runs))
 
@@ -29,9 +29,9 @@ returns-clause-runs g c text options lookup m runs =
     let row = row_of c.args.rest in
     let last = row_of c.args.last in
     let lines = c.in_ok-draw_lines.ensures.drawn text m.drawing runs.drawing in
-    let leaf_open = leaf.Paragraph c.words_begin-begin.result c.args.rest in
+    let leaf_open = leaf.Paragraph c.begin-begin.result c.args.rest in
     subst (λ p. Runs replacement text lookup p (record before { builder = new; leaf = leaf_open }))
-    (sym (line-apart text options lookup row m c.args.from last (λ e. c.if-begin-past.false (c.words_begin-begin.ensures.place ∙ e ∙ sym c.past.ensures.place))))
-    (runs-leaf replacement text lookup _ _ leaf_open (model.InParagraph (start_of row) row)
+    (sym (line-apart text options lookup row m c.args.from last (λ e. c.if-begin-past.false (c.begin-begin.ensures.place ∙ e ∙ sym c.past.ensures.place))))
+    (runs-leaf replacement text lookup _ _ leaf_open (model.InParagraph (begin_of row) row)
     (runs-builder replacement text lookup m before new (drawn (stretch_then text c.args.from last.past Nil) m.drawing) runs lines c.in_ok-draw_lines.ensures.references)
-    (ap (λ from. model.InParagraph from row) (sym c.words_begin-begin.ensures.place), none_behind_paragraph replacement text lookup m before c.args.from c.args.last c.requires.is runs))
+    (ap (λ from. model.InParagraph from row) (sym c.begin-begin.ensures.place), none_behind_paragraph replacement text lookup m before c.args.from c.args.last c.requires.is runs))

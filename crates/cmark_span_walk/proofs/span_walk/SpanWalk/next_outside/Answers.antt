@@ -18,7 +18,7 @@ returns-then-self-clause-given g c =
     subst (λ b. Gives c.args.self.now (Some b) c.pass.new.self) (sym c.pass.ensures.same)
     (gives
     (elim c.then-self.branch [
-      | then-self-via-then-self w ↦ inl (sym c.in_ok-block.ensures.same.in_code ∙ w.if-self.true)
+      | then-self-via-then-self w ↦ inl (sym c.in_ok-block.ensures.same.is_verbatim ∙ w.if-self.true)
       | then-self-via-else-self+then-not-is_content w ↦ inr (sym w.is_content.ensures ∙ w.if-not-is_content.true)
     ]))
 

@@ -1,11 +1,12 @@
-use Rattle.std.proofs.Common.{refl, subst}
+use Rattle.std.proofs.Common.{refl, ap, subst, option_map, ◌∙◌}
 use Rattle.cmark_text.specs.Shown.{shown_options}
 use Rattle.cmark_block_model.specs.BlockPass.{pass_over}
 use Rattle.cmark_block_model.proofs.Drawings.{drawn-read, drawn-order, drawn-edges}
 use Rattle.cmark_grammar.specs.BlockReading.{block_reading}
 use Rattle.cmark_grammar.specs.Derivation.{document}
+use Rattle.cmark_items.specs.Definitions.{definition, shown_definition}
 use Rattle.cmark_walk.specs.Walking.{Remains}
-use Rattle.pulldown_cmark.proofs.ParseSteps.{begin-few, begin-turn, reads-from, can-begin}
+use Rattle.pulldown_cmark.proofs.ParseSteps.{begin-few, begin-turn, defines-each, reads-from, can-begin}
 use Rattle.pulldown_cmark.proofs.parse.Parser.new_with_broken_link_callback.Goals as goal
 
 pub returns-clause-reads : goal.returns-clause-reads
@@ -21,6 +22,12 @@ returns-clause-reads g c =
     let remains = subst (Remains c.new-walk.result) (drawn-read text options lookup) drawn in
     reads-from _ text options lookup refl (λ events w. c.new.ensures.begins blocks events remains (begin-few text options lookup) (begin-turn text options lookup c.utf8.text) w)
     (λ events r. c.new.ensures.reads blocks events remains r)
+
+pub returns-clause-definitions : goal.returns-clause-definitions
+returns-clause-definitions g c =
+    defines-each _ c.args.text.now (shown_options c.args.options) (g.E.EntityLookup.replacement c.args.entities.now)
+    (λ folded.
+        ap (λ r. option_map shown_definition (definition r folded)) (c.new.ensures.definitions ∙ c.new-walk.ensures.definitions) ∙ c.in_ok-tree.ensures.document.references folded)
 
 pub returns-clause-goes : goal.returns-clause-goes
 returns-clause-goes g c = can-begin _ c.args.text.now (shown_options c.args.options) (g.E.EntityLookup.replacement c.args.entities.now) (returns-clause-reads g c)
