@@ -15,6 +15,7 @@ pub mod EmphasisOne
 pub mod EmphasisSamples
 pub mod EmphasisSound
 pub mod HtmlSamples
+pub mod InlineSamples
 pub mod LeafSpanLaws
 pub mod LineSteps
 pub mod NotDerived
