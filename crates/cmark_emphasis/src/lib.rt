@@ -9,8 +9,6 @@ mod quotes;
 mod room;
 mod run;
 mod slot;
-#[cfg(test)]
-mod tests;
 
 pub use flanking::{Flanking, flanking_of};
 pub use marking::write_slots;

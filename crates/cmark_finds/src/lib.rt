@@ -13,8 +13,6 @@ mod line_end;
 mod link;
 mod place;
 mod special;
-#[cfg(test)]
-mod tests;
 
 pub use breaks::{LineBreak, line_break};
 pub use code::{CodeSpan, code_span, code_text};

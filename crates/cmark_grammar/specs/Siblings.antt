@@ -1,6 +1,6 @@
 -- The spans of a leaf: what the parts of its text become, list of siblings by list of siblings (CommonMark 6.2, "process
 -- emphasis").
-use Rattle.std.specs.Prelude.{◌≡◌, ℕ, zero, suc, ◌+◌, ◌-◌, Bool, true, false, ◌==◌, nat_le, if◌then◌else◌, max, List, [], ◌∷◌, get_or, encode_utf8, Option, Some, None}
+use Rattle.std.specs.Prelude.{◌≡◌, ℕ, zero, suc, ◌+◌, ◌-◌, Bool, true, false, ◌==◌, nat_le, if◌then◌else◌, max, List, [], ◌∷◌, drop, get_or, encode_utf8, Option, Some, None}
 use Rattle.cmark_grammar.specs.BracketDecisions.{linked}
 use Rattle.cmark_grammar.specs.Emphasis.{Pair, Sibling, Delimiter, IsEmphasis}
 use Rattle.cmark_grammar.specs.Items.{ItemKind, Own, Written, Quoted, Delimiters, Autolink, FootnoteReference, Item, Bracket}
@@ -37,14 +37,6 @@ quotes_of Nil = []
 quotes_of (Around tag start end inside after) = quotes_of after
 quotes_of (Single x after) = quote_then x.kind (quotes_of after)
 
-abbrev pub next_character : List ℕ → ℕ
-next_character [] = 0
-next_character (c ∷ cs) = c
-
-abbrev pub other_characters : List ℕ → List ℕ
-other_characters [] = []
-other_characters (c ∷ cs) = cs
-
 abbrev pub quote_as : (quoted other : List ℕ → Inline) → ItemKind → List ℕ → Inline
 quote_as quoted other (Quoted quote) cs = quoted cs
 quote_as quoted other _ cs = other cs
@@ -53,7 +45,7 @@ abbrev pub with_characters : Inline → List ℕ → Inline
 with_characters Nil cs = Nil
 with_characters (Around tag start end inside after) cs = Around tag start end inside (with_characters after cs)
 with_characters (Single x after) cs =
-    quote_as (λ cs. Single (item (Written (encode_utf8 (next_character cs))) x.start x.end) (with_characters after (other_characters cs))) (λ cs. Single x (with_characters after cs)) x.kind cs
+    quote_as (λ cs. Single (item (Written (encode_utf8 (get_or cs 0 0))) x.start x.end) (with_characters after (drop 1 cs))) (λ cs. Single x (with_characters after cs)) x.kind cs
 
 abbrev pub with_quotes : Inline → Inline
 with_quotes siblings = with_characters siblings (quote_characters [] (quotes_of siblings))

@@ -17,7 +17,7 @@ use Rattle.cmark_grammar.specs.LeafReading.{Between, ReadsLeaf, entering, leavin
 use Rattle.cmark_grammar.specs.LeafText.{Leaf, end_of}
 use Rattle.cmark_grammar.specs.LinkType.{LinkType, Collapsed, Reference, Shortcut}
 use Rattle.cmark_grammar.specs.Options.{Options, no_options}
-use Rattle.cmark_grammar.specs.Questions.{Exchange, Plan, IsNext}
+use Rattle.cmark_grammar.specs.Questions.{Exchange, IsNext}
 use Rattle.cmark_grammar.specs.Readers.{Reader}
 use Rattle.cmark_grammar.specs.SiblingsModel.{spans_in}
 use Rattle.cmark_inline_model.specs.LeafModel.{leaf_end, leaf_events, leaf_after}

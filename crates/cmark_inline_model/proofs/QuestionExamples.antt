@@ -1,11 +1,12 @@
 -- Questions about references, and their answers, computed.
-use Rattle.std.specs.Prelude.{◌≡◌, ℕ, true, List, [], ◌∷◌, codes, map, Option, Some, None}
+use Rattle.std.specs.Prelude.{◌≡◌, ℕ, true, List, [], ◌∷◌, codes, map, replicate, Option, Some, None}
 use Rattle.std.specs.Str.{chars}
 use Rattle.std.proofs.Common.{refl}
 use lib.Utf8.{encode}
 use Rattle.caseless.proofs.Computing.{caseless}
 use Rattle.ucd_category.proofs.Computing.{ucd_category}
 use Rattle.cmark_grammar.specs.Answers.{Destination}
+use Rattle.cmark_grammar.specs.BlockDocument.{Reference as Definition}
 use Rattle.cmark_grammar.specs.BracketDecisions.{decide}
 use Rattle.cmark_grammar.specs.Emphasis.{agrees, pair_of, rest_of_opener, rest_of_closer, kinds_of, shuts}
 use Rattle.cmark_grammar.specs.EmphasisModel.{closed}
@@ -114,3 +115,16 @@ quiet = refl
 next_leaf : map Exchange.question (leaf_after (asking no_options (codes "[a] [b]")) never (paragraph (stretch 4 7 ∷ [])) (leaf_after (asking no_options (codes "[a] [b]")) never (paragraph (stretch 0 3 ∷ [])) start)).asked ≡ question 0 3 Shortcut (codes "a") ∷ (question 4 7 Shortcut (codes "b") ∷ [])
 unfolding caseless encode chars token decide ucd_category is_unicode_white_space is_unicode_punctuation agrees pair_of rest_of_opener rest_of_closer kinds_of shuts closed
 next_leaf = refl
+
+-- of three references with a destination of 60,000 bytes two fit into a limit of 100,000: the third begins where nothing is left
+abbrev long : List ℕ → Option Definition
+long label = Some (record { label = codes "x"; destination = replicate 60000 117; title = None; start = 0; end = 0 })
+
+abbrev places : List Ranged → List ℕ
+places [] = []
+places (r ∷ rs) = r.start ∷ r.end ∷ places rs
+
+two_of_three : places (leaf_events (record (plain_reader no_options (codes "[x] [x] [x]")) { definition = long }) never (whole (codes "[x] [x] [x]")) start)
+    ≡ 0 ∷ 3 ∷ 1 ∷ 2 ∷ 0 ∷ 3 ∷ 3 ∷ 4 ∷ 4 ∷ 7 ∷ 5 ∷ 6 ∷ 4 ∷ 7 ∷ 7 ∷ 8 ∷ 8 ∷ 9 ∷ 9 ∷ 10 ∷ 10 ∷ 11 ∷ []
+unfolding caseless encode chars token decide ucd_category is_unicode_white_space is_unicode_punctuation agrees pair_of rest_of_opener rest_of_closer kinds_of shuts closed
+two_of_three = refl

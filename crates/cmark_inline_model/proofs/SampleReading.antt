@@ -1,21 +1,17 @@
 -- The events and the HTML that the model gives for samples: for the text of one leaf, and for whole documents.
 use Rattle.std.specs.Prelude.{ℕ, true, false, List, [], ◌∷◌, ◌++◌, codes, bytes_eq, if◌then◌else◌, length, map, max, Option, Some, None}
 use Rattle.cmark_grammar.specs.BlockDocument.{BlockDocument, Reference}
-use Rattle.cmark_grammar.specs.BracketDecisions.{decide}
 use Rattle.cmark_grammar.specs.Derivation.{document}
 use Rattle.cmark_grammar.specs.Entities.{basic_entity}
 use Rattle.cmark_grammar.specs.Event.{Event, Start, End, Text, FootnoteReference, Ranged}
 use Rattle.cmark_grammar.specs.Html as written
-use Rattle.cmark_grammar.specs.InlineReading.{inline_events}
-use Rattle.cmark_grammar.specs.InlineTokens.{token}
-use Rattle.cmark_grammar.specs.LeafReading.{Between, entering, leaving}
-use Rattle.cmark_grammar.specs.LeafText.{Stretch, Leaf, end_of}
+use Rattle.cmark_grammar.specs.LeafReading.{Between}
+use Rattle.cmark_grammar.specs.LeafText.{Stretch, Leaf}
 use Rattle.cmark_grammar.specs.LinkType.{LinkType}
 use Rattle.cmark_grammar.specs.Options.{Options, no_options}
 use Rattle.cmark_grammar.specs.Questions.{Question, Exchange, Plan}
 use Rattle.cmark_grammar.specs.Readers.{Reader}
-use Rattle.cmark_grammar.specs.SiblingsModel.{spans_in}
-use Rattle.cmark_grammar.specs.SpanDocuments.{Profile, reader_of, Segment, Given, Content, segments, at_start}
+use Rattle.cmark_grammar.specs.SpanDocuments.{Profile, reader_of, segments, at_start}
 use Rattle.cmark_grammar.specs.Tag.{Tag, Linked}
 use Rattle.cmark_grammar.specs.TagEnd.{end_of as end_tag}
 use Rattle.cmark_inline_model.specs.LeafModel.{leaf_events, leaf_after, all_events}

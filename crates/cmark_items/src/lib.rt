@@ -6,8 +6,6 @@ mod definitions;
 mod heading;
 mod item;
 mod list_flags;
-#[cfg(test)]
-mod tests;
 
 pub use allocations::{AlignmentIndex, Allocations, CowIndex, HeadingIndex, Link, LinkIndex};
 pub use definitions::{LinkDef, RefDefs, RefDefsIter};

@@ -6,8 +6,6 @@ mod bytes;
 mod html_block;
 mod leaf;
 mod line_start;
-#[cfg(test)]
-mod line_tests;
 mod marker;
 mod metadata;
 mod table;

@@ -13,8 +13,6 @@ mod link;
 mod owned;
 mod pipes;
 mod tag;
-#[cfg(test)]
-mod tests;
 
 pub use count::{scan_rev_while, scan_while};
 pub use destination::scan_link_dest;

@@ -1,5 +1,9 @@
-//! Tests of the inline pass.
+//! Tests of the crates of the inline pass.
 #![tactic(auto)]
 
+#[cfg(test)]
+mod emphasis;
+#[cfg(test)]
+mod finds;
 #[cfg(test)]
 mod inline;

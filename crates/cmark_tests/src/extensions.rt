@@ -1,9 +1,18 @@
-//! Spans that options ask for, images, ranges of spans, and the limit of what references expand to.
+//! Spans that options ask for, and the limit of what references expand to.
 
-use crate::common::{html_of, html_with, ranges_of};
 use bitflags::Flags;
-use pulldown_cmark::Options;
+use pulldown_cmark::html::push_html;
+use pulldown_cmark::{BasicEntities, Options, Parser};
+use std::alloc::{AllocError, Global};
 use std::test::Fail;
+
+/// The HTML of a text that is read with these options.
+fn html_with(alloc: Global, text: &str, options: Options) -> Result<String, AllocError> {
+    let parser = Parser::new_ext(alloc, text, options, &BasicEntities)?;
+    let mut html = String::new(alloc);
+    push_html(&mut html, parser)?;
+    Ok(html)
+}
 
 #[test]
 fn renders_by_options(rt: HostRuntime) -> Result<(), Fail> {
@@ -41,42 +50,10 @@ fn renders_by_options(rt: HostRuntime) -> Result<(), Fail> {
 }
 
 #[test]
-fn renders_images_and_html_over_lines(rt: HostRuntime) -> Result<(), Fail> {
-    for (text, html) in [
-        (
-            "![a *b* `c`](d \"t\")",
-            "<p><img src=\"d\" alt=\"a b c\" title=\"t\" /></p>\n",
-        ),
-        (
-            "> <foo\n> bar>",
-            "<blockquote>\n<p><foo\nbar></p>\n</blockquote>\n",
-        ),
-    ] {
-        assert_eq!(rt; html_of(rt.alloc(), text)?.as_str(), html, "of {text:?}");
-    }
-    Ok(())
-}
-
-#[test]
-fn gives_ranges_of_spans(rt: HostRuntime) -> Result<(), Fail> {
-    let link = ranges_of(rt.alloc(), "a [b](c) d")?;
-    assert_eq!(rt;
-        link.as_slice(),
-        [(0, 10), (0, 2), (2, 8), (3, 4), (2, 8), (8, 10), (0, 10)].as_slice()
-    );
-    let emphasis = ranges_of(rt.alloc(), "*hello* world")?;
-    assert_eq!(rt;
-        emphasis.as_slice(),
-        [(0, 13), (0, 7), (1, 6), (0, 7), (7, 13), (0, 13)].as_slice()
-    );
-    Ok(())
-}
-
-#[test]
 fn references_expand_up_to_a_limit(rt: HostRuntime) -> Result<(), Fail> {
     let url = "u".repeat(rt.alloc(), 60_000)?;
     let text = format!(in rt.alloc(); "[x] [x] [x]\n\n[x]: {url}")?;
-    let html = html_of(rt.alloc(), text.as_str())?;
+    let html = html_with(rt.alloc(), text.as_str(), Options::empty())?;
     let wanted = format!(in rt.alloc();
         "<p><a href=\"{url}\">x</a> <a href=\"{url}\">x</a> [x]</p>\n"
     )?;

@@ -1,17 +1,9 @@
-//! Tests that cross the crates: texts with the events, ranges and HTML that they are read as.
+//! Tests that cross the crates, of what no program shows: options, callbacks, definitions, and ranges from the midst of a reading.
 #![tactic(auto)]
 
 #[cfg(test)]
 mod asking;
 #[cfg(test)]
-mod blocks;
-#[cfg(test)]
-mod common;
-#[cfg(test)]
 mod extensions;
 #[cfg(test)]
 mod reading;
-#[cfg(test)]
-mod spans;
-#[cfg(test)]
-mod writing;

@@ -10,8 +10,6 @@ mod inline;
 mod kind;
 mod label;
 mod options;
-#[cfg(test)]
-mod tests;
 mod text;
 
 pub use entity::{BasicEntities, EntityLookup};

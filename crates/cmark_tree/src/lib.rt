@@ -2,8 +2,6 @@
 #![tactic(auto)]
 
 mod nodes;
-#[cfg(test)]
-mod tests;
 mod tree;
 mod tree_index;
 mod truncate;

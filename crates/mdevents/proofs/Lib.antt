@@ -1,3 +1,0 @@
-pub mod LineSteps
-pub mod ListSteps
-pub mod PlainData

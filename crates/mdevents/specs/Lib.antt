@@ -1,3 +1,0 @@
-pub mod EventData
-pub mod Lines
-pub mod Renders

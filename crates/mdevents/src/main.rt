@@ -1,15 +1,7 @@
 //! Markdown on standard input, a line of JSON for each event on standard output.
 #![tactic(auto)]
 
-mod event;
-mod leaf;
-mod line;
-mod run;
-mod tag;
-#[cfg(test)]
-mod tests;
-
-use crate::run::run;
+use mdevents_run::run;
 use mdhtml_parts::{Watched, status};
 use pulldown_cmark::BasicEntities;
 use std::process::ExitCode;

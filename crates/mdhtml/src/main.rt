@@ -1,12 +1,8 @@
 //! Markdown on standard input, HTML on standard output.
 #![tactic(auto)]
 
-mod run;
-#[cfg(test)]
-mod tests;
-
-use crate::run::run;
 use mdhtml_parts::{Watched, status};
+use mdhtml_run::run;
 use pulldown_cmark::BasicEntities;
 use std::process::ExitCode;
 

@@ -1,0 +1,14 @@
+//! Tests of the crates below the parser: texts and events, the tree, the items with their tables, and the HTML and the JSON of
+//! events.
+#![tactic(auto)]
+
+#[cfg(test)]
+mod html;
+#[cfg(test)]
+mod items;
+#[cfg(test)]
+mod json;
+#[cfg(test)]
+mod text;
+#[cfg(test)]
+mod tree;

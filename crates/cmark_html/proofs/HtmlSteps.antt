@@ -1,0 +1,54 @@
+-- The HTML of one event more.
+use Rattle.std.proofs.Common.{◌≡◌, ℕ, List, [], ◌∷◌, ◌++◌, refl, sym, ap, ◌∙◌, append_assoc, append-nil, subst, map, Result, Ok}
+use Rattle.std.proofs.lemmas.List.{map_push}
+use Rattle.cmark_grammar.specs.Event.{Event as GrammarEvent}
+use Rattle.cmark_grammar.specs.Html.{Writing, at_line_start, piece, moved, moved_all, pieces_from, pieces, last_piece, html}
+use Rattle.cmark_text.specs.declared.event.Event.{Event}
+use Rattle.cmark_text.specs.Appended.{AppendsFront}
+use Rattle.cmark_text.specs.Shown.{shown}
+use Rattle.cmark_html.proofs.FrontSteps.{front_after}
+
+pieces_from-more : (w : Writing) (es : List GrammarEvent) (e : GrammarEvent) → pieces_from w (es ++ e ∷ []) ≡ pieces_from w es ++ piece (moved_all w es) e
+pieces_from-more w [] e = append-nil (piece w e)
+pieces_from-more w (x ∷ es) e = ap (λ l. piece w x ++ l) (pieces_from-more (moved w x) es e) ∙ sym (append_assoc (piece w x) (pieces_from (moved w x) es) (piece (moved_all (moved w x) es) e))
+
+moved_all-more : (w : Writing) (es : List GrammarEvent) (e : GrammarEvent) → moved_all w (es ++ e ∷ []) ≡ moved (moved_all w es) e
+moved_all-more w [] e = refl
+moved_all-more w (x ∷ es) e = moved_all-more (moved w x) es e
+
+module _ (w : Writing) (es : List Event) (e : Event) where
+  shown-more : map shown (es ++ e ∷ []) ≡ map shown es ++ shown e ∷ []
+  shown-more = map_push shown es e
+
+  piece-same : w ≡ moved_all at_line_start (map shown es) → pieces (map shown es) ++ piece w (shown e) ≡ pieces (map shown (es ++ e ∷ []))
+  piece-same state =
+      ap (λ v. pieces (map shown es) ++ piece v (shown e)) state ∙ sym (pieces_from-more at_line_start (map shown es) (shown e)) ∙ ap pieces (sym shown-more)
+
+  -- what is kept behind one event more
+  pub kept_more : (next : Writing) → w ≡ moved_all at_line_start (map shown es) → next ≡ moved w (shown e) → next ≡ moved_all at_line_start (map shown (es ++ e ∷ []))
+  kept_more next state is = is ∙ ap (λ v. moved v (shown e)) state ∙ sym (moved_all-more at_line_start (map shown es) (shown e)) ∙ ap (moved_all at_line_start) (sym shown-more)
+
+  -- the bytes then
+  pub written_more : (old mid new : List ℕ) → mid ≡ old ++ pieces (map shown es) → w ≡ moved_all at_line_start (map shown es) → new ≡ mid ++ piece w (shown e) → new ≡ old ++ pieces (map shown (es ++ e ∷ []))
+  written_more old mid new before state more =
+      more ∙ ap (λ l. l ++ piece w (shown e)) before ∙ append_assoc old (pieces (map shown es)) (piece w (shown e)) ∙ ap (λ l. old ++ l) (piece-same state)
+
+  -- the same, where only a beginning of its piece was appended
+  pub front_more : (old mid new : List ℕ) → mid ≡ old ++ pieces (map shown es) → w ≡ moved_all at_line_start (map shown es) → AppendsFront mid new (piece w (shown e)) → AppendsFront old new (pieces (map shown (es ++ e ∷ [])))
+  front_more old mid new before state front = subst (AppendsFront old new) (piece-same state) (front_after old mid new (pieces (map shown es)) (piece w (shown e)) before front)
+
+-- behind the last event
+module _ (w : Writing) (es : List Event) (old mid new : List ℕ) (before : mid ≡ old ++ pieces (map shown es)) (state : w ≡ moved_all at_line_start (map shown es)) where
+  pub written_all : new ≡ mid ++ last_piece w.image → new ≡ old ++ html (map shown es)
+  written_all more =
+      more ∙ ap (λ l. l ++ last_piece w.image) before ∙ append_assoc old (pieces (map shown es)) (last_piece w.image)
+      ∙ ap (λ v. old ++ (pieces (map shown es) ++ last_piece (Writing.image v))) state
+
+  pub front_last : AppendsFront mid new (last_piece w.image) → AppendsFront old new (html (map shown es))
+  front_last front =
+      subst (λ v. AppendsFront old new (pieces (map shown es) ++ last_piece (Writing.image v))) state
+      (front_after old mid new (pieces (map shown es)) (last_piece w.image) before front)
+
+-- the items given, with one event more
+pub given_more : {E : Type 0} (items : List (Result Event E)) (item : Result Event E) (es : List Event) (e : Event) → items ≡ map Ok es → item ≡ Ok e → items ++ item ∷ [] ≡ map Ok (es ++ e ∷ [])
+given_more items item es e p q = ap (λ l. l ++ item ∷ []) p ∙ ap (λ z. map Ok es ++ z ∷ []) q ∙ sym (map_push Ok es e)

@@ -1,0 +1,4 @@
+pub mod FootnoteSteps
+pub mod FrontSteps
+pub mod HtmlSteps
+pub mod WordSteps

@@ -1,0 +1,26 @@
+-- What the writer keeps, as the definition of HTML has it.
+use Rattle.std.specs.Prelude.{ℕ, List, map, option_map}
+use Rattle.cmark_grammar.specs.Html as html
+use Rattle.cmark_text.specs.Shown.{text_bytes, shown_alignment}
+use Rattle.cmark_html.specs.declared.footnote.FootnoteNames.{FootnoteNames}
+use Rattle.cmark_html.specs.declared.state.OpenImage.{OpenImage}
+use Rattle.cmark_html.specs.declared.state.Writer.{Writer}
+use Rattle.cmark_html.specs.declared.table.TableState.{TableState}
+
+abbrev pub shown_image : OpenImage → html.OpenImage
+shown_image image = record { depth = image.depth; title = text_bytes image.title }
+
+abbrev pub shown_table : TableState → html.TableState
+shown_table table = record { in_head = table.in_head; alignments = map shown_alignment table.alignments.items; column = table.column }
+
+abbrev pub shown_names : FootnoteNames → List (List ℕ)
+shown_names names = map text_bytes names.names.keys
+
+abbrev pub writing : Writer → html.Writing
+writing writer = record {
+  line_start = writer.line_start;
+  image = option_map shown_image writer.image;
+  in_metadata = writer.in_metadata;
+  table = shown_table writer.table;
+  names = shown_names writer.names;
+}

@@ -1,0 +1,133 @@
+//! Footnotes: the numbers of their names.
+
+ghost use Rattle.std.specs.Prelude.{◌≡◌, ◌++◌, [], OnOk, OnErr, string_bytes};
+ghost use Rattle.std.specs.Fmt.{decimal};
+ghost use Rattle.cmark_grammar.specs.Html.{alt_footnote_reference, footnote_number, footnote_reference, footnote_start, fresh_line, named};
+ghost use Rattle.cmark_text.specs.Appended.{AppendsFront};
+ghost use Rattle.cmark_text.specs.Shown.{text_bytes};
+ghost use Rattle.cmark_html.specs.Writer.{shown_names};
+
+use crate::parts::{Part, append_parts, new_line};
+use cmark_text::CowStr;
+use indexmap::IndexSet;
+use itoa::Buffer;
+use std::alloc::{AllocError, Global};
+
+/// The names of the footnotes that were numbered, in order.
+#[derive(Drop)]
+pub struct FootnoteNames<'a> {
+    names: IndexSet<CowStr<'a>>,
+}
+
+impl<'a> FootnoteNames<'a> {
+    /// No names yet.
+    pub fn new(alloc: Global) -> FootnoteNames<'a>
+        ensures { shown_names result ≡ [] }
+    {
+        FootnoteNames {
+            names: IndexSet::new(alloc),
+        }
+    }
+
+    /// The number of a footnote: that of its name, or else the next.
+    pub fn number(&self, name: &CowStr<'a>) -> usize
+        ensures { result ≡ footnote_number (shown_names self.now) (text_bytes name.now) }
+    {
+        let count = self.names.len();
+        match self.names.get_index_of(name) {
+            Some(index) => index + 1,
+            None => count + 1,
+        }
+    }
+
+    /// Numbers a name, if it has no number.
+    pub fn add(&mut self, name: CowStr<'a>) -> Result<(), AllocError>
+        ensures { OnOk result (shown_names self.new ≡ named (shown_names self.old) (text_bytes name.entry)) }
+    {
+        self.names.insert_full(name)?;
+        Ok(())
+    }
+}
+
+/// Appends the start of a footnote's definition; the number is in digits.
+fn append_footnote_start<'x>(
+    out: &mut String,
+    line_start: bool,
+    name: &'x str,
+    digits: &'x str,
+) -> Result<(), AllocError>
+    ensures ok { OnOk result (string_bytes out.new ≡ string_bytes out.old ++ (fresh_line line_start ++ footnote_start name.now digits.now)) }
+    ensures err { OnErr result (AppendsFront (string_bytes out.old) (string_bytes out.new) (fresh_line line_start ++ footnote_start name.now digits.now)) }
+{
+    append_parts(
+        out,
+        &[
+            Part::Raw(new_line(line_start)),
+            Part::Raw("<div class=\"footnote-definition\" id=\""),
+            Part::Value(name),
+            Part::Raw("\"><sup class=\"footnote-definition-label\">"),
+            Part::Raw(digits),
+            Part::Raw("</sup>"),
+        ],
+    )
+}
+
+/// Appends a reference to a footnote; the number is in digits.
+fn append_footnote_reference<'x>(
+    out: &mut String,
+    name: &'x str,
+    digits: &'x str,
+) -> Result<(), AllocError>
+    ensures ok { OnOk result (string_bytes out.new ≡ string_bytes out.old ++ footnote_reference name.now digits.now) }
+    ensures err { OnErr result (AppendsFront (string_bytes out.old) (string_bytes out.new) (footnote_reference name.now digits.now)) }
+{
+    append_parts(
+        out,
+        &[
+            Part::Raw("<sup class=\"footnote-reference\"><a href=\"#"),
+            Part::Value(name),
+            Part::Raw("\">"),
+            Part::Raw(digits),
+            Part::Raw("</a></sup>"),
+        ],
+    )
+}
+
+/// Appends a reference to a footnote in an alternative text; the number is in digits.
+pub fn append_alt_reference(out: &mut String, digits: &str) -> Result<(), AllocError>
+    ensures ok { OnOk result (string_bytes out.new ≡ string_bytes out.old ++ alt_footnote_reference digits.now) }
+    ensures err { OnErr result (AppendsFront (string_bytes out.old) (string_bytes out.new) (alt_footnote_reference digits.now)) }
+{
+    append_parts(out, &[Part::Raw("["), Part::Raw(digits), Part::Raw("]")])
+}
+
+/// Appends the start of the definition of the footnote of this name.
+#[inline(never)]
+pub fn append_numbered_start<'a>(
+    out: &mut String,
+    line_start: bool,
+    names: &FootnoteNames<'a>,
+    name: &CowStr<'a>,
+) -> Result<(), AllocError>
+    ensures ok { OnOk result (string_bytes out.new ≡ string_bytes out.old ++ (fresh_line line_start ++ footnote_start (text_bytes name.now) (decimal (footnote_number (shown_names names.now) (text_bytes name.now))))) }
+    ensures err { OnErr result (AppendsFront (string_bytes out.old) (string_bytes out.new) (fresh_line line_start ++ footnote_start (text_bytes name.now) (decimal (footnote_number (shown_names names.now) (text_bytes name.now))))) }
+{
+    let mut buffer = Buffer::new();
+    let digits = buffer.format(names.number(name));
+    append_footnote_start(out, line_start, name.as_str(), digits)
+}
+
+/// Appends a reference to the footnote of this name.
+#[inline(never)]
+pub fn append_numbered_reference<'a>(
+    out: &mut String,
+    names: &FootnoteNames<'a>,
+    name: &CowStr<'a>,
+) -> Result<(), AllocError>
+    ensures ok { OnOk result (string_bytes out.new ≡ string_bytes out.old ++ footnote_reference (text_bytes name.now) (decimal (footnote_number (shown_names names.now) (text_bytes name.now)))) }
+    ensures err { OnErr result (AppendsFront (string_bytes out.old) (string_bytes out.new) (footnote_reference (text_bytes name.now) (decimal (footnote_number (shown_names names.now) (text_bytes name.now))))) }
+{
+    let mut buffer = Buffer::new();
+    let digits = buffer.format(names.number(name));
+    append_footnote_reference(out, name.as_str(), digits)
+}

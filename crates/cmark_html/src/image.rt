@@ -1,0 +1,142 @@
+//! Images, with their alternative texts.
+
+ghost use Rattle.std.specs.Prelude.{◌≡◌, ◌++◌, ◌==◌, if◌then◌else◌, [], IfOk, OnOk, OnErr, Some, None, option_map, string_bytes};
+ghost use Rattle.cmark_grammar.specs.Html.{image_start, image_end, alt_text, alt_task_list_marker, piece_inside, deeper, less_deep, still_open};
+ghost use Rattle.cmark_text.specs.Appended.{AppendsFront};
+ghost use Rattle.cmark_text.specs.Shown.{shown};
+ghost use Rattle.cmark_html.specs.Writer.{shown_image, shown_names};
+
+use crate::footnote::{FootnoteNames, append_alt_reference};
+use crate::parts::{Part, append, append_parts};
+use crate::state::OpenImage;
+use cmark_text::Event;
+use cmark_text::escape::escape_html;
+use itoa::Buffer;
+use std::alloc::AllocError;
+
+/// Appends an image up to its alternative text.
+pub fn append_image_start(out: &mut String, dest_url: &str) -> Result<(), AllocError>
+    ensures ok { OnOk result (string_bytes out.new ≡ string_bytes out.old ++ image_start dest_url.now) }
+    ensures err { OnErr result (AppendsFront (string_bytes out.old) (string_bytes out.new) (image_start dest_url.now)) }
+{
+    append_parts(
+        out,
+        &[
+            Part::Raw("<img src=\""),
+            Part::Href(dest_url),
+            Part::Raw("\" alt=\""),
+        ],
+    )
+}
+
+/// Appends an image from behind its alternative text on.
+pub fn append_image_end(out: &mut String, title: &str) -> Result<(), AllocError>
+    ensures ok { OnOk result (string_bytes out.new ≡ string_bytes out.old ++ image_end title.now) }
+    ensures err { OnErr result (AppendsFront (string_bytes out.old) (string_bytes out.new) (image_end title.now)) }
+{
+    if title.is_empty() {
+        return append(out, "\" />");
+    }
+    append_parts(
+        out,
+        &[
+            Part::Raw("\""),
+            Part::Raw(" title=\""),
+            Part::Value(title),
+            Part::Raw("\""),
+            Part::Raw(" />"),
+        ],
+    )
+}
+
+/// Appends what an event inside of an image adds to it, and answers the image if it is still open.
+///
+/// Where more than `u64::MAX` elements are open in the image, that is want of memory.
+pub fn write_inside<'a>(
+    out: &mut String,
+    image: OpenImage<'a>,
+    names: &FootnoteNames<'a>,
+    event: &Event<'a>,
+) -> Result<Option<OpenImage<'a>>, AllocError>
+    ensures ok { OnOk result (string_bytes out.new ≡ string_bytes out.old ++ piece_inside (shown_names names.now) (shown_image image.entry) (shown event.now)) }
+    ensures state { IfOk result (λ next. option_map shown_image next ≡ still_open (shown_image image.entry) (shown event.now)) }
+    ensures err { OnErr result (AppendsFront (string_bytes out.old) (string_bytes out.new) (piece_inside (shown_names names.now) (shown_image image.entry) (shown event.now))) }
+{
+    match event {
+        Event::Start(_) => Ok(Some(deepen(image)?)),
+        Event::End(_) => write_end_inside(out, image),
+        _ => {
+            append_alt_text(out, names, event)?;
+            Ok(Some(image))
+        }
+    }
+}
+
+/// An image in which one element more is open.
+fn deepen(image: OpenImage<'_>) -> Result<OpenImage<'_>, AllocError>
+    ensures { IfOk result (λ next. shown_image next ≡ deeper (shown_image image.entry)) }
+{
+    let Some(depth) = image.depth.checked_add(1) else {
+        return Err(AllocError);
+    };
+    Ok(OpenImage {
+        depth,
+        title: image.title,
+    })
+}
+
+/// Closes the innermost element that is open, which may be the image itself.
+fn write_end_inside<'a>(
+    out: &mut String,
+    image: OpenImage<'a>,
+) -> Result<Option<OpenImage<'a>>, AllocError>
+    ensures ok { OnOk result (string_bytes out.new ≡ string_bytes out.old ++ (if (shown_image image.entry).depth == 0 then image_end (shown_image image.entry).title else [])) }
+    ensures state { IfOk result (λ next. option_map shown_image next ≡ (if (shown_image image.entry).depth == 0 then None else Some (less_deep (shown_image image.entry)))) }
+    ensures err { OnErr result (AppendsFront (string_bytes out.old) (string_bytes out.new) (if (shown_image image.entry).depth == 0 then image_end (shown_image image.entry).title else [])) }
+{
+    if image.depth == 0 {
+        append_image_end(out, image.title.as_str())?;
+        return Ok(None);
+    }
+    Ok(Some(OpenImage {
+        depth: image.depth - 1,
+        title: image.title,
+    }))
+}
+
+/// Appends what an event adds to an alternative text.
+fn append_alt_text<'a>(
+    out: &mut String,
+    names: &FootnoteNames<'a>,
+    event: &Event<'a>,
+) -> Result<(), AllocError>
+    ensures ok { OnOk result (string_bytes out.new ≡ string_bytes out.old ++ alt_text (shown_names names.now) (shown event.now)) }
+    ensures err { OnErr result (AppendsFront (string_bytes out.old) (string_bytes out.new) (alt_text (shown_names names.now) (shown event.now))) }
+{
+    match event {
+        Event::Start(_) | Event::End(_) | Event::Html(_) => Ok(()),
+        Event::FootnoteReference(name) => {
+            append_alt_reference(out, Buffer::new().format(names.number(name)))
+        }
+        Event::Text(text) | Event::Code(text) | Event::InlineHtml(text) => {
+            escape_html(out, text.as_str())
+        }
+        Event::InlineMath(text) => append_parts(
+            out,
+            &[Part::Raw("$"), Part::Value(text.as_str()), Part::Raw("$")],
+        ),
+        Event::DisplayMath(text) => append_parts(
+            out,
+            &[Part::Raw("$$"), Part::Value(text.as_str()), Part::Raw("$$")],
+        ),
+        Event::SoftBreak | Event::HardBreak | Event::Rule => append(out, " "),
+        Event::TaskListMarker(is_checked) => append(out, alt_task_list_marker_text(*is_checked)),
+    }
+}
+
+/// A task in an alternative text.
+fn alt_task_list_marker_text(is_checked: bool) -> &'static str
+    ensures { result.now ≡ alt_task_list_marker is_checked }
+{
+    if is_checked { "[x]" } else { "[ ]" }
+}

@@ -1,0 +1,68 @@
+//! From events to HTML.
+#![tactic(auto)]
+
+ghost use Rattle.std.specs.Prelude.{◌≡◌, List, ◌++◌, OnOk, OnErr, string_bytes, map, Ok, None};
+ghost use Rattle.std.specs.Iterator.{IsFinite, Drains, YieldsThen};
+ghost use Rattle.cmark_grammar.specs.Html.{html};
+ghost use Rattle.cmark_text.specs.declared.event.Event.{Event};
+ghost use Rattle.cmark_text.specs.Shown.{shown};
+ghost use Rattle.cmark_html.specs.Pushed.{Stops, StopsAt};
+
+mod end;
+mod footnote;
+mod heading;
+mod image;
+mod parts;
+mod start;
+mod state;
+mod table;
+mod writer;
+
+use crate::state::Writer;
+use crate::writer::{finish, write_event};
+use cmark_text::Event;
+use std::alloc::AllocError;
+
+/// Appends the HTML of the events that the iterator gives, any iterator that ends. An image that they leave open is closed.
+///
+/// An error item, or want of memory, ends it with that error; the string then holds its old text and a beginning of the
+/// HTML of the events that were given. The iterator is asked no more after its `None` and after an error item. A line feed
+/// that a block wants before it is judged by what this call wrote, not by the string's old text. More than `u64::MAX`
+/// elements open in an image, or cells in a row, count as want of memory.
+///
+/// ```text
+/// let mut html = String::new(alloc);
+/// push_html(&mut html, Parser::new(alloc, "# a", &BasicEntities)?)?;    // <h1>a</h1> and a line feed
+/// ```
+pub fn push_html<'a, I: Iterator<Item = Result<Event<'a>, AllocError>>>(
+    out: &mut String,
+    iter: I,
+) -> Result<(), AllocError>
+    requires can { I.can_next iter }
+    requires ends { IsFinite (I.remaining iter) }
+    ensures ok { OnOk result ((events : List Event) × Drains I.next_gives iter (map Ok events)
+        × (string_bytes out.new ≡ string_bytes out.old ++ html (map shown events))) }
+    ensures err { OnErr result (Stops I.next_gives iter (string_bytes out.old) (string_bytes out.new)) }
+{
+    let mut iter = iter;
+    push_lent(out, &mut iter)
+}
+
+/// The same of a lent iterator, which is left right behind its `None`, its error item, or the event at which memory was
+/// refused: it is asked no further.
+fn push_lent<'a, I: Iterator<Item = Result<Event<'a>, AllocError>>>(
+    out: &mut String,
+    iter: &mut I,
+) -> Result<(), AllocError>
+    requires can { I.can_next iter.old }
+    requires ends { IsFinite (I.remaining iter.old) }
+    ensures ok { OnOk result ((events : List Event) × YieldsThen I.next_gives iter.old (map Ok events) None iter.new
+        × (string_bytes out.new ≡ string_bytes out.old ++ html (map shown events))) }
+    ensures err { OnErr result (StopsAt I.next_gives iter.old iter.new (string_bytes out.old) (string_bytes out.new)) }
+{
+    let mut writer = Writer::new(*out.allocator());
+    while let Some(event) = iter.next() {
+        write_event(out, &mut writer, event?)?;
+    }
+    finish(out, &writer)
+}

@@ -1,0 +1,85 @@
+//! The parts that pieces are put together from.
+
+ghost use Rattle.std.specs.Prelude.{◌≡◌, ◌++◌, OnOk, OnErr, string_bytes};
+ghost use Rattle.cmark_grammar.specs.Html.{fresh_line};
+ghost use Rattle.cmark_text.specs.Appended.{AppendsFront};
+ghost use Rattle.cmark_html.specs.Parts.{part_bytes, joined};
+
+use cmark_text::escape::{escape_href, escape_html, escape_html_body_text};
+use std::alloc::AllocError;
+
+/// A part of a piece.
+#[derive(Clone, Copy, Debug)]
+pub enum Part<'a> {
+    /// A text as it is.
+    Raw(&'a str),
+    /// A text escaped as body text.
+    BodyText(&'a str),
+    /// A text escaped as the value of an attribute.
+    Value(&'a str),
+    /// A URL escaped as the value of an attribute.
+    Href(&'a str),
+}
+
+/// A line feed, unless the writer is at a line start.
+pub fn new_line(line_start: bool) -> &'static str
+    ensures { result.now ≡ fresh_line line_start }
+{
+    if line_start { "" } else { "\n" }
+}
+
+/// Appends a part.
+fn append_part(out: &mut String, part: Part<'_>) -> Result<(), AllocError>
+    ensures ok { OnOk result (string_bytes out.new ≡ string_bytes out.old ++ part_bytes part.entry) }
+    ensures err { OnErr result (AppendsFront (string_bytes out.old) (string_bytes out.new) (part_bytes part.entry)) }
+{
+    match part {
+        Part::Raw(text) => append(out, text),
+        Part::BodyText(text) => escape_html_body_text(out, text),
+        Part::Value(text) => escape_html(out, text),
+        Part::Href(url) => escape_href(out, url),
+    }
+}
+
+/// Appends a text as it is.
+pub fn append(out: &mut String, text: &str) -> Result<(), AllocError>
+    ensures ok { OnOk result (string_bytes out.new ≡ string_bytes out.old ++ text.now) }
+    ensures err { OnErr result (AppendsFront (string_bytes out.old) (string_bytes out.new) text.now) }
+{
+    out.push_str(text)
+}
+
+/// Appends a text on a line of its own: behind a line feed, unless the writer is at a line start.
+#[inline(never)]
+pub fn append_on_line(out: &mut String, line_start: bool, text: &str) -> Result<(), AllocError>
+    ensures ok { OnOk result (string_bytes out.new ≡ string_bytes out.old ++ (fresh_line line_start ++ text.now)) }
+    ensures err { OnErr result (AppendsFront (string_bytes out.old) (string_bytes out.new) (fresh_line line_start ++ text.now)) }
+{
+    append(out, new_line(line_start))?;
+    append(out, text)
+}
+
+/// Appends parts, one behind the other.
+pub fn append_parts(out: &mut String, parts: &[Part<'_>]) -> Result<(), AllocError>
+    ensures ok { OnOk result (string_bytes out.new ≡ string_bytes out.old ++ joined parts.now) }
+    ensures err { OnErr result (AppendsFront (string_bytes out.old) (string_bytes out.new) (joined parts.now)) }
+{
+    for part in parts {
+        append_part(out, *part)?;
+    }
+    Ok(())
+}
+
+/// Appends a part between two texts.
+#[inline(never)]
+pub fn append_around<'x>(
+    out: &mut String,
+    before: &'x str,
+    part: Part<'x>,
+    behind: &'x str,
+) -> Result<(), AllocError>
+    ensures ok { OnOk result (string_bytes out.new ≡ string_bytes out.old ++ (before.now ++ (part_bytes part.entry ++ behind.now))) }
+    ensures err { OnErr result (AppendsFront (string_bytes out.old) (string_bytes out.new) (before.now ++ (part_bytes part.entry ++ behind.now))) }
+{
+    append_parts(out, &[Part::Raw(before), part, Part::Raw(behind)])
+}

@@ -1,0 +1,235 @@
+//! The pieces of starts.
+
+ghost use Rattle.std.specs.Prelude.{◌≡◌, ◌++◌, ◌∷◌, [], OnOk, OnErr, codes, option_map, string_bytes, take_while};
+ghost use Rattle.cmark_grammar.specs.Html.{start_piece, line_start_after_start, block_quote_start, code_block_start, fresh_line, is_within_word, language_start, list_start, link_start, scheme};
+ghost use Rattle.cmark_text.specs.Appended.{AppendsFront};
+ghost use Rattle.cmark_text.specs.Shown.{shown_tag, shown_block_quote_kind, shown_code_block_kind, shown_link_type};
+ghost use Rattle.cmark_html.specs.Parts.{linked};
+ghost use Rattle.cmark_html.specs.Writer.{writing};
+
+use crate::footnote::append_numbered_start;
+use crate::heading::append_heading;
+use crate::image::append_image_start;
+use crate::parts::{Part, append, append_on_line, append_parts, new_line};
+use crate::state::Writer;
+use cmark_text::{BlockQuoteKind, CodeBlockKind, LinkType, Tag};
+use itoa::Buffer;
+use memchr::memchr;
+use std::alloc::AllocError;
+
+/// Appends the piece of a start.
+pub fn append_start<'a>(
+    out: &mut String,
+    writer: &Writer<'a>,
+    tag: &Tag<'a>,
+) -> Result<(), AllocError>
+    ensures ok { OnOk result (string_bytes out.new ≡ string_bytes out.old ++ start_piece (writing writer.now) (shown_tag tag.now)) }
+    ensures err { OnErr result (AppendsFront (string_bytes out.old) (string_bytes out.new) (start_piece (writing writer.now) (shown_tag tag.now))) }
+{
+    let line_start = writer.line_start;
+    match tag {
+        Tag::Paragraph => append_on_line(out, line_start, "<p>"),
+        Tag::Heading {
+            level,
+            id,
+            classes,
+            attrs,
+        } => append_heading(out, line_start, *level, id, classes, attrs),
+        Tag::BlockQuote(kind) => append_on_line(out, line_start, block_quote_text(*kind)),
+        Tag::CodeBlock(kind) => append_code_block(out, line_start, kind),
+        Tag::List(first) => append_list(out, line_start, *first),
+        Tag::Item => append_on_line(out, line_start, "<li>"),
+        Tag::DefinitionList => append_on_line(out, line_start, "<dl>\n"),
+        Tag::DefinitionListTitle => append_on_line(out, line_start, "<dt>"),
+        Tag::DefinitionListDefinition => append_on_line(out, line_start, "<dd>"),
+        Tag::Emphasis => append(out, "<em>"),
+        Tag::Strong => append(out, "<strong>"),
+        Tag::Strikethrough => append(out, "<del>"),
+        Tag::Superscript => append(out, "<sup>"),
+        Tag::Subscript => append(out, "<sub>"),
+        Tag::Link {
+            link_type,
+            dest_url,
+            title,
+            id: _,
+        } => append_link(out, *link_type, dest_url.as_str(), title.as_str()),
+        Tag::Image { dest_url, .. } => append_image_start(out, dest_url.as_str()),
+        Tag::Table(_) => append(out, "<table>"),
+        Tag::TableHead => append(out, "<thead><tr>"),
+        Tag::TableRow => append(out, "<tr>"),
+        Tag::TableCell => writer.table.append_cell_start(out),
+        Tag::FootnoteDefinition(name) => append_numbered_start(
+            out,
+            line_start,
+            &writer.names,
+            name,
+        ),
+        Tag::HtmlBlock | Tag::MetadataBlock(_) => Ok(()),
+    }
+}
+
+/// Whether the writer is at a line start behind a start.
+pub fn line_start_after_start(line_start: bool, tag: &Tag<'_>) -> bool
+    ensures { result ≡ line_start_after_start line_start (shown_tag tag.now) }
+{
+    match tag {
+        Tag::BlockQuote(_) | Tag::List(_) | Tag::DefinitionList => true,
+        Tag::Paragraph
+        | Tag::Heading { .. }
+        | Tag::CodeBlock(_)
+        | Tag::Item
+        | Tag::FootnoteDefinition(_)
+        | Tag::DefinitionListTitle
+        | Tag::DefinitionListDefinition
+        | Tag::Table(_)
+        | Tag::TableHead
+        | Tag::TableRow
+        | Tag::TableCell
+        | Tag::Emphasis
+        | Tag::Strong
+        | Tag::Strikethrough
+        | Tag::Superscript
+        | Tag::Subscript
+        | Tag::Link { .. }
+        | Tag::Image { .. } => false,
+        Tag::HtmlBlock | Tag::MetadataBlock(_) => line_start,
+    }
+}
+
+/// The start of a block quote.
+fn block_quote_text(kind: Option<BlockQuoteKind>) -> &'static str
+    ensures { result.now ≡ block_quote_start (option_map shown_block_quote_kind kind) }
+{
+    match kind {
+        None => "<blockquote>\n",
+        Some(BlockQuoteKind::Note) => "<blockquote class=\"markdown-alert-note\">\n",
+        Some(BlockQuoteKind::Tip) => "<blockquote class=\"markdown-alert-tip\">\n",
+        Some(BlockQuoteKind::Important) => "<blockquote class=\"markdown-alert-important\">\n",
+        Some(BlockQuoteKind::Warning) => "<blockquote class=\"markdown-alert-warning\">\n",
+        Some(BlockQuoteKind::Caution) => "<blockquote class=\"markdown-alert-caution\">\n",
+    }
+}
+
+/// Appends the start of a code block; the first word of the info names the language (CommonMark 4.5).
+#[inline(never)]
+fn append_code_block(
+    out: &mut String,
+    line_start: bool,
+    kind: &CodeBlockKind<'_>,
+) -> Result<(), AllocError>
+    ensures ok { OnOk result (string_bytes out.new ≡ string_bytes out.old ++ (fresh_line line_start ++ code_block_start (shown_code_block_kind kind.now))) }
+    ensures err { OnErr result (AppendsFront (string_bytes out.old) (string_bytes out.new) (fresh_line line_start ++ code_block_start (shown_code_block_kind kind.now))) }
+{
+    match kind {
+        CodeBlockKind::Indented => append_on_line(out, line_start, "<pre><code>"),
+        CodeBlockKind::Fenced(info) => append_fenced(out, line_start, first_word(info.as_str())),
+    }
+}
+
+/// Appends the start of a fenced code block in this language, which may be empty.
+fn append_fenced(out: &mut String, line_start: bool, language: &str) -> Result<(), AllocError>
+    ensures ok { OnOk result (string_bytes out.new ≡ string_bytes out.old ++ (fresh_line line_start ++ language_start language.now)) }
+    ensures err { OnErr result (AppendsFront (string_bytes out.old) (string_bytes out.new) (fresh_line line_start ++ language_start language.now)) }
+{
+    if language.is_empty() {
+        return append_on_line(out, line_start, "<pre><code>");
+    }
+    append_parts(
+        out,
+        &[
+            Part::Raw(new_line(line_start)),
+            Part::Raw("<pre><code class=\"language-"),
+            Part::Value(language),
+            Part::Raw("\">"),
+        ],
+    )
+}
+
+/// The text up to its first space.
+fn first_word(text: &str) -> &str
+    ensures { result.now ≡ take_while is_within_word text.now }
+{
+    match memchr(b' ', text.as_bytes()) {
+        Some(end) => &text[..end],
+        None => text,
+    }
+}
+
+/// Appends the start of a list, with its first number if that is not 1 (CommonMark 5.3).
+#[inline(never)]
+fn append_list(out: &mut String, line_start: bool, first: Option<u64>) -> Result<(), AllocError>
+    ensures ok { OnOk result (string_bytes out.new ≡ string_bytes out.old ++ (fresh_line line_start ++ list_start first)) }
+    ensures err { OnErr result (AppendsFront (string_bytes out.old) (string_bytes out.new) (fresh_line line_start ++ list_start first)) }
+{
+    let Some(number) = first else {
+        return append_on_line(out, line_start, "<ul>\n");
+    };
+    if number == 1 {
+        return append_on_line(out, line_start, "<ol>\n");
+    }
+    let mut buffer = Buffer::new();
+    append_numbered(out, line_start, buffer.format(number))
+}
+
+/// Appends the start of a list whose first number, in digits, is not 1.
+fn append_numbered(out: &mut String, line_start: bool, digits: &str) -> Result<(), AllocError>
+    ensures ok { OnOk result (string_bytes out.new ≡ string_bytes out.old ++ (fresh_line line_start ++ (codes "<ol start=\"" ++ (digits.now ++ codes "\">\n")))) }
+    ensures err { OnErr result (AppendsFront (string_bytes out.old) (string_bytes out.new) (fresh_line line_start ++ (codes "<ol start=\"" ++ (digits.now ++ codes "\">\n")))) }
+{
+    append_parts(
+        out,
+        &[
+            Part::Raw(new_line(line_start)),
+            Part::Raw("<ol start=\""),
+            Part::Raw(digits),
+            Part::Raw("\">\n"),
+        ],
+    )
+}
+
+/// Appends the start of a link.
+#[inline(never)]
+fn append_link<'x>(
+    out: &mut String,
+    link_type: LinkType,
+    dest_url: &'x str,
+    title: &'x str,
+) -> Result<(), AllocError>
+    ensures ok { OnOk result (string_bytes out.new ≡ string_bytes out.old ++ link_start (linked (shown_link_type link_type) dest_url.now title.now)) }
+    ensures err { OnErr result (AppendsFront (string_bytes out.old) (string_bytes out.new) (link_start (linked (shown_link_type link_type) dest_url.now title.now))) }
+{
+    if title.is_empty() {
+        return append_parts(
+            out,
+            &[
+                Part::Raw("<a href=\""),
+                Part::Raw(scheme(link_type)),
+                Part::Href(dest_url),
+                Part::Raw("\""),
+                Part::Raw(">"),
+            ],
+        );
+    }
+    append_parts(
+        out,
+        &[
+            Part::Raw("<a href=\""),
+            Part::Raw(scheme(link_type)),
+            Part::Href(dest_url),
+            Part::Raw("\""),
+            Part::Raw(" title=\""),
+            Part::Value(title),
+            Part::Raw("\">"),
+        ],
+    )
+}
+
+/// What stands before the destination of a link of this type.
+fn scheme(link_type: LinkType) -> &'static str
+    ensures { result.now ≡ scheme (shown_link_type link_type) }
+{
+    match link_type {
+        LinkType::Email => "mailto:",
+        _ => "",
+    }
+}

@@ -1,0 +1,103 @@
+//! Tables: the names and alignments of their cells.
+
+ghost use Rattle.std.specs.Prelude.{◌≡◌, ◌++◌, OnOk, OnErr, IfOk, option_map, string_bytes};
+ghost use Rattle.std.specs.List.{slice_get};
+ghost use Rattle.cmark_grammar.specs.Html.{alignment_style, cell_tag, cell_start, cell_end, no_table, table_after_end};
+ghost use Rattle.cmark_text.specs.Appended.{AppendsFront};
+ghost use Rattle.cmark_text.specs.Shown.{shown_alignment, shown_end};
+ghost use Rattle.cmark_html.specs.Writer.{shown_table};
+
+use crate::parts::{Part, append_parts};
+use cmark_text::{Alignment, TagEnd};
+use std::alloc::{AllocError, Global};
+
+/// What the pieces of cells depend on.
+#[derive(Drop)]
+pub struct TableState {
+    /// Whether the cells are those of a head, which they are until a head has ended.
+    pub in_head: bool,
+    /// The alignments of the last table's columns.
+    pub alignments: Vec<Alignment>,
+    /// How many cells of the row have ended.
+    pub column: usize,
+}
+
+impl TableState {
+    /// Before the first table.
+    pub fn new(alloc: Global) -> TableState
+        ensures { shown_table result ≡ no_table }
+    {
+        TableState {
+            in_head: true,
+            alignments: Vec::new(alloc),
+            column: 0,
+        }
+    }
+
+    /// The alignment of the next cell; there is none past the last column.
+    fn alignment(&self) -> Option<Alignment>
+        ensures { option_map shown_alignment result ≡ slice_get (shown_table self.now).alignments (shown_table self.now).column }
+    {
+        self.alignments.get(self.column).copied()
+    }
+
+    /// Appends the start of a cell.
+    pub fn append_cell_start(&self, out: &mut String) -> Result<(), AllocError>
+        ensures ok { OnOk result (string_bytes out.new ≡ string_bytes out.old ++ cell_start (shown_table self.now)) }
+        ensures err { OnErr result (AppendsFront (string_bytes out.old) (string_bytes out.new) (cell_start (shown_table self.now))) }
+    {
+        append_parts(
+            out,
+            &[
+                Part::Raw(cell_tag_text(self.in_head)),
+                Part::Raw(alignment_style_text(self.alignment())),
+                Part::Raw(">"),
+            ],
+        )
+    }
+
+    /// Moves on behind an end.
+    ///
+    /// Where more than `usize::MAX` cells of a row have ended, that is want of memory.
+    pub fn end(&mut self, tag: TagEnd) -> Result<(), AllocError>
+        ensures { OnOk result (shown_table self.new ≡ table_after_end (shown_table self.old) (shown_end tag)) }
+    {
+        match tag {
+            TagEnd::TableHead => self.in_head = false,
+            TagEnd::TableCell => {
+                let Some(column) = self.column.checked_add(1) else {
+                    return Err(AllocError);
+                };
+                self.column = column;
+            }
+            _ => {}
+        }
+        Ok(())
+    }
+}
+
+/// The start of a cell up to its attribute.
+fn cell_tag_text(in_head: bool) -> &'static str
+    ensures { result.now ≡ cell_tag in_head }
+{
+    if in_head { "<th" } else { "<td" }
+}
+
+/// The attribute that aligns a cell.
+fn alignment_style_text(alignment: Option<Alignment>) -> &'static str
+    ensures { result.now ≡ alignment_style (option_map shown_alignment alignment) }
+{
+    match alignment {
+        None | Some(Alignment::None) => "",
+        Some(Alignment::Left) => " style=\"text-align: left\"",
+        Some(Alignment::Center) => " style=\"text-align: center\"",
+        Some(Alignment::Right) => " style=\"text-align: right\"",
+    }
+}
+
+/// The end of a cell.
+pub fn cell_end_text(in_head: bool) -> &'static str
+    ensures { result.now ≡ cell_end in_head }
+{
+    if in_head { "</th>" } else { "</td>" }
+}

@@ -1,0 +1,251 @@
+//! The pieces of events.
+
+ghost use Rattle.std.specs.Prelude.{◌≡◌, ◌++◌, true, IfOk, OnOk, OnErr, None, codes, is_some, option_map, string_bytes};
+ghost use Rattle.cmark_grammar.specs.Escapes.{escaped_body_text, escaped_html};
+ghost use Rattle.cmark_grammar.specs.Html.{piece, piece_outside, moved, moved_outside, metadata_after, table_after, table_after_start, names_after, names_after_start, names_after_inside, opened_by, opened_image, last_piece, line_start_after, line_start_after_html, ends_in_line_feed, task_list_marker};
+ghost use Rattle.cmark_text.specs.Appended.{AppendsFront};
+ghost use Rattle.cmark_text.specs.Shown.{shown, shown_tag};
+ghost use Rattle.cmark_html.specs.Writer.{shown_image, shown_names, shown_table, writing};
+
+use crate::end::{append_end, line_start_after_end};
+use crate::footnote::{FootnoteNames, append_numbered_reference};
+use crate::image::{append_image_end, write_inside};
+use crate::parts::{Part, append, append_around, append_on_line};
+use crate::start::{append_start, line_start_after_start};
+use crate::state::{OpenImage, Writer};
+use crate::table::TableState;
+use cmark_text::escape::escape_html_body_text;
+use cmark_text::{Event, Tag, TagEnd};
+use std::alloc::AllocError;
+
+/// Appends the piece of an event.
+#[inline(always)]
+pub fn write_event<'a>(
+    out: &mut String,
+    writer: &mut Writer<'a>,
+    event: Event<'a>,
+) -> Result<(), AllocError>
+    ensures ok { OnOk result (string_bytes out.new ≡ string_bytes out.old ++ piece (writing writer.old) (shown event.entry)) }
+    ensures state { OnOk result (writing writer.new ≡ moved (writing writer.old) (shown event.entry)) }
+    ensures err { OnErr result (AppendsFront (string_bytes out.old) (string_bytes out.new) (piece (writing writer.old) (shown event.entry))) }
+{
+    if writer.image.is_none() {
+        write_outside(out, writer, event)
+    } else {
+        write_in_image(out, writer, event)
+    }
+}
+
+/// Appends the piece of an event outside of images.
+#[inline(always)]
+fn write_outside<'a>(
+    out: &mut String,
+    writer: &mut Writer<'a>,
+    event: Event<'a>,
+) -> Result<(), AllocError>
+    requires { writer.old.image ≡ None }
+    ensures ok { OnOk result (string_bytes out.new ≡ string_bytes out.old ++ piece_outside (writing writer.old) (shown event.entry)) }
+    ensures state { OnOk result (writing writer.new ≡ moved_outside (writing writer.old) (shown event.entry)) }
+    ensures err { OnErr result (AppendsFront (string_bytes out.old) (string_bytes out.new) (piece_outside (writing writer.old) (shown event.entry))) }
+{
+    append_piece(out, writer, &event)?;
+    writer.line_start = line_start_after(writer, &event);
+    writer.in_metadata = metadata_after(writer.in_metadata, &event);
+    if let Some(image) = keep_event(&mut writer.table, &mut writer.names, event)? {
+        writer.image = Some(image);
+    }
+    Ok(())
+}
+
+/// Appends the piece of an event inside of an image.
+fn write_in_image<'a>(
+    out: &mut String,
+    writer: &mut Writer<'a>,
+    event: Event<'a>,
+) -> Result<(), AllocError>
+    requires { is_some writer.old.image ≡ true }
+    ensures ok { OnOk result (string_bytes out.new ≡ string_bytes out.old ++ piece (writing writer.old) (shown event.entry)) }
+    ensures state { OnOk result (writing writer.new ≡ moved (writing writer.old) (shown event.entry)) }
+    ensures err { OnErr result (AppendsFront (string_bytes out.old) (string_bytes out.new) (piece (writing writer.old) (shown event.entry))) }
+{
+    let Some(image) = writer.image.take() else {
+        return Ok(());
+    };
+    writer.image = write_inside(out, image, &writer.names, &event)?;
+    writer.line_start = false;
+    keep_inside(&mut writer.names, event)
+}
+
+/// Keeps what an event inside of an image says.
+fn keep_inside<'a>(names: &mut FootnoteNames<'a>, event: Event<'a>) -> Result<(), AllocError>
+    ensures { OnOk result (shown_names names.new ≡ names_after_inside (shown_names names.old) (shown event.entry)) }
+{
+    match event {
+        Event::FootnoteReference(name) => names.add(name),
+        _ => Ok(()),
+    }
+}
+
+/// Keeps what an event says of the table and of footnotes, and answers the image that it opens.
+#[inline(always)]
+fn keep_event<'a>(
+    table: &mut TableState,
+    names: &mut FootnoteNames<'a>,
+    event: Event<'a>,
+) -> Result<Option<OpenImage<'a>>, AllocError>
+    ensures table { OnOk result (shown_table table.new ≡ table_after (shown_table table.old) (shown event.entry)) }
+    ensures names { OnOk result (shown_names names.new ≡ names_after (shown_names names.old) (shown event.entry)) }
+    ensures image { IfOk result (λ image. option_map shown_image image ≡ opened_image (shown event.entry)) }
+{
+    match event {
+        Event::Start(tag) => keep_start(table, names, tag),
+        Event::End(tag) => {
+            table.end(tag)?;
+            Ok(None)
+        }
+        Event::FootnoteReference(name) => {
+            names.add(name)?;
+            Ok(None)
+        }
+        _ => Ok(None),
+    }
+}
+
+/// The same for a start.
+fn keep_start<'a>(
+    table: &mut TableState,
+    names: &mut FootnoteNames<'a>,
+    tag: Tag<'a>,
+) -> Result<Option<OpenImage<'a>>, AllocError>
+    ensures table { OnOk result (shown_table table.new ≡ table_after_start (shown_table table.old) (shown_tag tag.entry)) }
+    ensures names { OnOk result (shown_names names.new ≡ names_after_start (shown_names names.old) (shown_tag tag.entry)) }
+    ensures image { IfOk result (λ image. option_map shown_image image ≡ opened_by (shown_tag tag.entry)) }
+{
+    match tag {
+        Tag::Image { title, .. } => Ok(Some(OpenImage { depth: 0, title })),
+        Tag::FootnoteDefinition(name) => {
+            names.add(name)?;
+            Ok(None)
+        }
+        Tag::Table(alignments) => {
+            table.alignments = alignments;
+            Ok(None)
+        }
+        Tag::TableHead => {
+            table.in_head = true;
+            table.column = 0;
+            Ok(None)
+        }
+        Tag::TableRow => {
+            table.column = 0;
+            Ok(None)
+        }
+        _ => Ok(None),
+    }
+}
+
+/// Whether a metadata block is open behind an event.
+fn metadata_after(in_metadata: bool, event: &Event<'_>) -> bool
+    ensures { result ≡ metadata_after in_metadata (shown event.now) }
+{
+    match event {
+        Event::Start(Tag::MetadataBlock(_)) => true,
+        Event::End(TagEnd::MetadataBlock(_)) => false,
+        _ => in_metadata,
+    }
+}
+
+/// Appends what closes an image that is open behind the last event.
+pub fn finish(out: &mut String, writer: &Writer<'_>) -> Result<(), AllocError>
+    ensures ok { OnOk result (string_bytes out.new ≡ string_bytes out.old ++ last_piece (writing writer.now).image) }
+    ensures err { OnErr result (AppendsFront (string_bytes out.old) (string_bytes out.new) (last_piece (writing writer.now).image)) }
+{
+    match &writer.image {
+        None => Ok(()),
+        Some(image) => append_image_end(out, image.title.as_str()),
+    }
+}
+
+/// Appends this piece, which an event has outside of images.
+fn append_piece<'a>(
+    out: &mut String,
+    writer: &Writer<'a>,
+    event: &Event<'a>,
+) -> Result<(), AllocError>
+    ensures ok { OnOk result (string_bytes out.new ≡ string_bytes out.old ++ piece_outside (writing writer.now) (shown event.now)) }
+    ensures err { OnErr result (AppendsFront (string_bytes out.old) (string_bytes out.new) (piece_outside (writing writer.now) (shown event.now))) }
+{
+    match event {
+        Event::Start(tag) => append_start(out, writer, tag),
+        Event::End(tag) => append_end(out, writer.table.in_head, *tag),
+        Event::Text(_) if writer.in_metadata => Ok(()),
+        Event::Text(text) => escape_html_body_text(out, text.as_str()),
+        Event::Code(text) => append_around(out, "<code>", Part::BodyText(text.as_str()), "</code>"),
+        Event::InlineMath(text) => append_around(
+            out,
+            "<span class=\"math math-inline\">",
+            Part::Value(text.as_str()),
+            "</span>",
+        ),
+        Event::DisplayMath(text) => append_around(
+            out,
+            "<span class=\"math math-display\">",
+            Part::Value(text.as_str()),
+            "</span>",
+        ),
+        Event::Html(text) | Event::InlineHtml(text) => append(out, text.as_str()),
+        Event::FootnoteReference(name) => append_numbered_reference(out, &writer.names, name),
+        Event::SoftBreak => append(out, "\n"),
+        Event::HardBreak => append(out, "<br />\n"),
+        Event::Rule => append_on_line(out, writer.line_start, "<hr />\n"),
+        Event::TaskListMarker(is_checked) => append(out, task_list_marker_text(*is_checked)),
+    }
+}
+
+/// Whether the writer is at a line start behind an event outside of images.
+fn line_start_after(writer: &Writer<'_>, event: &Event<'_>) -> bool
+    ensures { result ≡ line_start_after (writing writer.now) (shown event.now) }
+{
+    match event {
+        Event::Start(tag) => line_start_after_start(writer.line_start, tag),
+        Event::End(tag) => line_start_after_end(writer.line_start, *tag),
+        Event::Text(_) if writer.in_metadata => writer.line_start,
+        Event::Text(text) => ends_in_line_feed(text.as_str()),
+        Event::Html(text) | Event::InlineHtml(text) => {
+            line_start_after_html(writer.line_start, text.as_str())
+        }
+        Event::Code(_)
+        | Event::InlineMath(_)
+        | Event::DisplayMath(_)
+        | Event::FootnoteReference(_) => false,
+        Event::SoftBreak | Event::HardBreak | Event::Rule | Event::TaskListMarker(_) => true,
+    }
+}
+
+/// Whether the last byte is a line feed.
+fn ends_in_line_feed(text: &str) -> bool
+    ensures { result ≡ ends_in_line_feed text.now }
+{
+    text.as_bytes().ends_with(b"\n")
+}
+
+/// Whether the writer is at a line start behind HTML that is written as it is.
+fn line_start_after_html(line_start: bool, text: &str) -> bool
+    ensures { result ≡ line_start_after_html line_start text.now }
+{
+    if text.is_empty() {
+        return line_start;
+    }
+    ends_in_line_feed(text)
+}
+
+/// The box of a task.
+fn task_list_marker_text(is_checked: bool) -> &'static str
+    ensures { result.now ≡ task_list_marker is_checked }
+{
+    if is_checked {
+        "<input disabled=\"\" type=\"checkbox\" checked=\"\"/>\n"
+    } else {
+        "<input disabled=\"\" type=\"checkbox\"/>\n"
+    }
+}

@@ -1,0 +1,2 @@
+pub mod EventData
+pub mod Lines

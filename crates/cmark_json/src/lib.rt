@@ -1,0 +1,9 @@
+//! From events to JSON: a line for each event with its range.
+#![tactic(auto)]
+
+mod event;
+mod leaf;
+mod line;
+mod tag;
+
+pub use line::append_given;

@@ -1,0 +1,193 @@
+//! Tests of emphasis and quotes, with ample memory. The examples are of CommonMark 6.2 where nothing else is said.
+
+use bitflags::Flags;
+use cmark_emphasis::{
+    Flanking, PairingRoom, Quote, Run, Slot, SpanKind, flanking_of, quote_characters, quote_of,
+    slots_of_runs,
+};
+use cmark_text::Options;
+use std::alloc::{AllocError, Global};
+use std::test::Fail;
+
+/// `***a** b*`
+const NESTED: [Run; 3] = [
+    Run {
+        mark: b'*',
+        size: 3,
+        at: 0,
+        left: 3,
+        opens: true,
+        closes: false,
+    },
+    Run {
+        mark: b'*',
+        size: 2,
+        at: 4,
+        left: 2,
+        opens: false,
+        closes: true,
+    },
+    Run {
+        mark: b'*',
+        size: 1,
+        at: 8,
+        left: 1,
+        opens: false,
+        closes: true,
+    },
+];
+
+/// `~~a~.~~`, where the single tilde shuts the double ones (this profile's own).
+const SHUT: [Run; 3] = [
+    Run {
+        mark: b'~',
+        size: 2,
+        at: 0,
+        left: 2,
+        opens: true,
+        closes: false,
+    },
+    Run {
+        mark: b'~',
+        size: 1,
+        at: 3,
+        left: 1,
+        opens: false,
+        closes: true,
+    },
+    Run {
+        mark: b'~',
+        size: 2,
+        at: 5,
+        left: 2,
+        opens: false,
+        closes: true,
+    },
+];
+
+fn nested_slots(alloc: Global, room: &mut PairingRoom) -> Result<Vec<Slot>, AllocError> {
+    let mut slots = Vec::new(alloc);
+    slots_of_runs(9, &NESTED, room, &mut slots)?;
+    Ok(slots)
+}
+
+fn shut_slots(alloc: Global, room: &mut PairingRoom) -> Result<Vec<Slot>, AllocError> {
+    let mut slots = Vec::new(alloc);
+    slots_of_runs(7, &SHUT, room, &mut slots)?;
+    Ok(slots)
+}
+
+#[test]
+fn strong_inside_emphasis(rt: HostRuntime) -> Result<(), Fail> {
+    let mut room = PairingRoom::new(rt.alloc());
+    let slots = nested_slots(rt.alloc(), &mut room)?;
+    let wanted = [
+        Slot::Begin(SpanKind::Emphasis),
+        Slot::Begin(SpanKind::Strong),
+        Slot::Blank,
+        Slot::Single,
+        Slot::Blank,
+        Slot::End(SpanKind::Strong),
+        Slot::Single,
+        Slot::Single,
+        Slot::End(SpanKind::Emphasis),
+    ];
+    assert_eq!(rt; slots.as_slice(), wanted.as_slice());
+    Ok(())
+}
+
+#[test]
+fn room_serves_again(rt: HostRuntime) -> Result<(), Fail> {
+    let mut room = PairingRoom::new(rt.alloc());
+    let first = nested_slots(rt.alloc(), &mut room)?;
+    let shut = shut_slots(rt.alloc(), &mut room)?;
+    assert_eq!(rt; shut.as_slice(), [Slot::Single; 7].as_slice());
+    let again = nested_slots(rt.alloc(), &mut room)?;
+    assert_eq!(rt; again.as_slice(), first.as_slice());
+    Ok(())
+}
+
+fn can(opens: bool, closes: bool) -> Flanking {
+    Flanking { opens, closes }
+}
+
+#[test]
+fn runs_beside_characters(rt: HostRuntime) -> Result<(), Fail> {
+    let none = Options::empty();
+    assert_eq!(rt;
+        flanking_of(none, b'*', 1, None, Some('f')),
+        can(true, false)
+    );
+    assert_eq!(rt;
+        flanking_of(none, b'*', 1, Some(' '), Some(' ')),
+        can(false, false)
+    );
+    assert_eq!(rt;
+        flanking_of(none, b'*', 1, Some('a'), Some('"')),
+        can(false, true)
+    );
+    assert_eq!(rt;
+        flanking_of(none, b'*', 1, None, Some('\u{a0}')),
+        can(false, false)
+    );
+    assert_eq!(rt;
+        flanking_of(none, b'*', 1, Some('e'), Some('\u{20ac}')),
+        can(false, true)
+    );
+    assert_eq!(rt;
+        flanking_of(none, b'*', 2, Some('o'), Some('b')),
+        can(true, true)
+    );
+    assert_eq!(rt;
+        flanking_of(none, b'_', 2, Some('o'), Some('b')),
+        can(false, false)
+    );
+    assert_eq!(rt;
+        flanking_of(none, b'_', 1, Some('-'), Some('(')),
+        can(true, true)
+    );
+    assert_eq!(rt;
+        flanking_of(none, b'~', 2, None, Some('f')),
+        can(false, false)
+    );
+    assert_eq!(rt;
+        flanking_of(Options::ENABLE_STRIKETHROUGH, b'~', 2, None, Some('f')),
+        can(true, false)
+    );
+    assert_eq!(rt;
+        flanking_of(Options::ENABLE_STRIKETHROUGH, b'~', 3, None, Some('f')),
+        can(false, false)
+    );
+    Ok(())
+}
+
+#[test]
+fn quotes_in_a_line(rt: HostRuntime) -> Result<(), Fail> {
+    // 'tis "the 'last'"
+    let quotes = [
+        quote_of(false, None, Some('t')),
+        quote_of(true, Some(' '), Some('t')),
+        quote_of(false, Some(' '), Some('l')),
+        quote_of(false, Some('t'), Some('"')),
+        quote_of(true, Some('\''), None),
+    ];
+    let mut characters = Vec::new(rt.alloc());
+    quote_characters(&quotes, &mut characters)?;
+    let wanted = ['\u{2019}', '\u{201c}', '\u{2018}', '\u{2019}', '\u{201d}'];
+    assert_eq!(rt; characters.as_slice(), wanted.as_slice());
+    Ok(())
+}
+
+#[test]
+fn a_single_quote_behind_a_bracket(rt: HostRuntime) -> Result<(), Fail> {
+    let quote = quote_of(false, Some(')'), Some('s'));
+    assert_eq!(rt;
+        quote,
+        Quote {
+            double: false,
+            opens: false,
+            closes: false
+        }
+    );
+    Ok(())
+}

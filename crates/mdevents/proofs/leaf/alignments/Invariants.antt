@@ -1,8 +1,0 @@
-use Rattle.std.proofs.Common.{◌≡◌, map, take}
-use Rattle.cmark_text.specs.Shown.{shown_alignment}
-use Rattle.mdevents.specs.EventData.{alignment_data}
-use Rattle.serde_json.specs.View.{view}
-use Rattle.mdevents.proofs.leaf.alignments.Given as goal
-
-abbrev pub invariant-loop-column : goal.invariant-loop-column
-invariant-loop-column l = map view l.values.items ≡ map (λ t. alignment_data (shown_alignment t)) (take l.column-index l.columns)

@@ -1,0 +1,12 @@
+use Rattle.std.proofs.Common.{◌≡◌, ℕ, List, string_bytes, map, Ok}
+use Rattle.std.specs.declared.ops.Range.{Range}
+use Rattle.cmark_text.specs.declared.event.Event.{Event}
+use Rattle.cmark_json.specs.Lines.{lines}
+use Rattle.pulldown_cmark.specs.Parsing.{CanGo, shown_item}
+use Rattle.mdevents_run.proofs.EventLinesRender.render.Given as goal
+
+abbrev pub invariant-loop-item : goal.invariant-loop-item
+invariant-loop-item g l = record {
+  can : CanGo l.iter.parser;
+  so_far : (items : List (Event × Range ℕ)) × (l.yielded ≡ map Ok items) × (string_bytes l.output ≡ lines (map shown_item items));
+}

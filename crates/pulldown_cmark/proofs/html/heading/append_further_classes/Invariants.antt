@@ -1,6 +1,0 @@
-use Rattle.std.proofs.Common.{◌≡◌, ◌++◌, string_bytes, flat_map, take}
-use Rattle.pulldown_cmark.proofs.FrontSteps.{class_bytes}
-use Rattle.pulldown_cmark.proofs.html.heading.append_further_classes.Given as goal
-
-abbrev pub invariant-loop-name : goal.invariant-loop-name
-invariant-loop-name l = string_bytes l.out ≡ string_bytes l.initial.out ++ flat_map class_bytes (take l.name-index l.names)

@@ -1,5 +1,0 @@
-use Rattle.pulldown_cmark.proofs.FrontSteps.{on_err, front_all}
-use Rattle.pulldown_cmark.proofs.html.writer.write_outside.Goals as goal
-
-pub returns-in_err-image-clause-err : goal.returns-in_err-image-clause-err
-returns-in_err-image-clause-err c = on_err c.from_residual-in_err-image.result (front_all _ _ _ c.in_ok-append_piece.ensures.ok)
