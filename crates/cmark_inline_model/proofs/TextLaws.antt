@@ -23,8 +23,7 @@ text-read text profile plan =
     let reader = reader_of text profile d in
     let after = all_after reader plan (segments d) (at_start profile) in
     let events = all_events reader plan (segments d) (at_start profile) in
-    let turn = segments-turn (length text) 0 d (length text) (omega arith) (derived-order text profile.options profile.lookup d derives) in
-    (
+    let turn = segments-turn (length text) 0 d (length text) (omega arith) (derived-order text profile.options profile.lookup d derives) in (
       after.asked,
       events,
       record {
