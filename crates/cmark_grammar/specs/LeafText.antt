@@ -1,6 +1,6 @@
 -- The text of a leaf: its lines in the source, without the prefixes of the containers around it (CommonMark 4.2, 4.8 and 5.1).
 -- Places are places of the source.
-use Rattle.std.specs.Prelude.{ℕ, ◌+◌, ◌-◌, ◌<◌, ◌≤◌, Bool, nat_lt, if◌then◌else◌, min, max, List, [], ◌∷◌, ◌++◌}
+use Rattle.std.specs.Prelude.{ℕ, ◌+◌, ◌-◌, ◌≤◌, Bool, nat_lt, if◌then◌else◌, min, max, List, [], ◌∷◌, ◌++◌}
 use Rattle.cmark_grammar.specs.Tokens.{slice}
 
 -- Lines that touch in the source, with their line endings. A line begins behind the prefixes of its containers, with the spaces and
@@ -44,7 +44,7 @@ begin_of (s ∷ more) = s.start
 abbrev pub end_of : List Stretch → ℕ
 end_of stretches = place_with 0 stretches
 
--- behind a place and within so many bytes the stretches stand in order, and none is empty
+-- behind a place and within so many bytes the stretches stand in order
 abbrev pub InTurn : (from : ℕ) → List Stretch → (size : ℕ) → Type 0
 InTurn from [] size = from ≤ size
-InTurn from (s ∷ more) size = (from ≤ s.start) × (s.start < s.end) × InTurn s.end more size
+InTurn from (s ∷ more) size = (from ≤ s.start) × (s.start ≤ s.end) × InTurn s.end more size

@@ -18,6 +18,7 @@ use Rattle.cmark_grammar.specs.Questions.{Question, Exchange}
 use Rattle.cmark_grammar.specs.Readers.{Reader}
 use Rattle.cmark_grammar.proofs.ShorterRests.{LeavesBelow, FoundBelow, reference_label-shorter, collapsed-shorter}
 use Rattle.cmark_inline_model.specs.Expansion.{cost_as}
+use Rattle.cmark_inline_model.specs.LinkRules.{IsAsked}
 use Rattle.cmark_inline_model.proofs.Openers.{Alike, alike-then, used-alike, tried-alike, IsTaken, AreTaken, taken-alike, nearest-taken, doubled-taken}
 
 -- the same state but for its label, its questions and its opening brackets
@@ -62,17 +63,9 @@ module _ (reader : Reader) (leaf : Leaf) where
     ToWiki : (label : Option ℕ) (os : List Opener) (first : Taken) → Alike s.openers os → Takes s.openers first → reader.options.wikilinks ≡ true
         → first_is (λ b. b == 93) (behind reader leaf closer.end) ≡ true → o ≡ wikilink reader leaf first closer (with_all s label asked os) → Shape s closer asked o
 
-  -- what a question is about
-  pub record IsAsked (s : State) (q : Question) : Type 0 where
-    pub label : List ℕ
-    pub reference : q.reference ≡ normal_form label
-    pub undefined : reader.definition (fold label) ≡ None
-    pub some : (s.expansion == 0) ≡ false
-    pub has_callback : reader.has_callback ≡ true
-
   abbrev pub DecisionShape : State → Bracket → Decision → Type 0
   DecisionShape s closer (Settled o) = Shape s closer s.asked o
-  DecisionShape s closer (Asks q answered) = IsAsked s q × ((answer : Option Destination) → Shape s closer (s.asked ++ (exchange q answer ∷ [])) (answered answer))
+  DecisionShape s closer (Asks q answered) = IsAsked reader s q × ((answer : Option Destination) → Shape s closer (s.asked ++ (exchange q answer ∷ [])) (answered answer))
 
   either : (s : State) (closer : Bracket) (b : Bool) (x y : Decision) → (b ≡ true → DecisionShape s closer x) → (b ≡ false → DecisionShape s closer y) → DecisionShape s closer (if b then x else y)
   either s closer true x y h k = h refl

@@ -36,7 +36,7 @@ all_after reader plan [] before = before
 all_after reader plan (Given r ∷ others) before = all_after reader plan others before
 all_after reader plan (Content leaf ∷ others) before = all_after reader plan others (leaf_after reader plan leaf before)
 
--- the stretches of a leaf stand in order within so many bytes, and none is empty
+-- the stretches of each leaf stand in order within so many bytes
 abbrev pub AreLeavesInTurn : (size : ℕ) → List Segment → Type 0
 AreLeavesInTurn size [] = Unit {0}
 AreLeavesInTurn size (Given r ∷ others) = AreLeavesInTurn size others
