@@ -1,5 +1,3 @@
-pub mod Sound
-pub mod One
 pub mod Bridge
 pub mod Stacks
 pub mod Categories

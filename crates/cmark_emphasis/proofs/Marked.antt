@@ -14,7 +14,7 @@ use Rattle.cmark_emphasis.specs.declared.slot.Slot.{Slot}
 use Rattle.cmark_emphasis.specs.declared.slot.Slot.TheVariants as slot
 use Rattle.cmark_emphasis.specs.Slots.{opening, closing, slots_of, AreBalanced, ArePairs, mark_pair, mark_pairs, IsWithin, AllWithin}
 use Rattle.cmark_emphasis.specs.Covers.{stays, Covers}
-use Rattle.cmark_emphasis.proofs.Sound.{closed-closes}
+use Rattle.cmark_grammar.proofs.EmphasisSound.{closed-closes}
 use Rattle.cmark_emphasis.proofs.Writes.{stays-add, length-stays}
 use Rattle.cmark_emphasis.proofs.Covered.{covers-end, covers-left, covers-stand, count-closer, covers-pair}
 

@@ -6,7 +6,7 @@ use Rattle.cmark_grammar.specs.Spans.{SpanKind, span_width, Spans, Nil, Single, 
 use Rattle.cmark_grammar.specs.Emphasis.{Run, Pair, Sibling, Plain, Delimiter, Piece, Whole, Standing, paired_count, pair_of, rest_of_opener, rest_of_closer, kinds_of, nest, wrapped, row, keep, is_tilde_or_caret, shuts, shut, left_open, stand, Closes, StandFrom, places_taken}
 use Rattle.cmark_grammar.specs.EmphasisModel.{closed, resolve, spans_of}
 use Rattle.cmark_emphasis.specs.Covers.{widths}
-use Rattle.cmark_emphasis.proofs.Sound.{closed-closes}
+use Rattle.cmark_grammar.proofs.EmphasisSound.{closed-closes}
 use Rattle.cmark_emphasis.proofs.Writes.{widths-kinds}
 use Rattle.cmark_emphasis.proofs.Covered.{count-opener, count-closer}
 

@@ -14,7 +14,7 @@ use Rattle.cmark_emphasis.specs.declared.run.Run as code_run
 use Rattle.cmark_emphasis.specs.declared.run.Pair as code_pair
 use Rattle.cmark_emphasis.proofs.Agreeing.{mark_same, closing, class_no_tilde}
 use Rattle.cmark_emphasis.proofs.NotShut.{none_of, none_shut, not_shut-none, not_shut-push, open-push, tops_at}
-use Rattle.cmark_emphasis.proofs.Sound.{agrees-empty, one_empty}
+use Rattle.cmark_grammar.proofs.EmphasisSound.{agrees-empty, one_empty}
 
 agree-append : (c o : Run) (passed : List Run) → NoneAgree c passed → agrees o c ≡ false → NoneAgree c (passed ++ o ∷ [])
 agree-append c o [] h e = (e, tt)

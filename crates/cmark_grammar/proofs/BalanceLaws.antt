@@ -18,13 +18,13 @@ balanced-append _ second (Element tag inside after i a) b =
     subst (λ es. Balanced (Start tag ∷ es)) (sym (append_assoc inside (End (end_of tag) ∷ after) second)) (Element tag inside (after ++ second) i (balanced-append after second a b))
 
 -- an event of its own is neither a start nor an end
-abbrev IsFit : Reads → Type 0
+abbrev pub IsFit : Reads → Type 0
 IsFit (Around tag) = Unit {0}
 IsFit Inside = Unit {0}
 IsFit (Alone event) = IsSingle event
 IsFit Silent = Unit {0}
 
-fit : (kind : BlockKind) → IsFit (read_as kind)
+pub fit : (kind : BlockKind) → IsFit (read_as kind)
 fit Paragraph = tt
 fit TightParagraph = tt
 fit (Heading level attributes) = tt

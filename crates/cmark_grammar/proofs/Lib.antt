@@ -11,8 +11,11 @@ pub mod BoundaryLaws
 pub mod ColumnSteps
 pub mod CountLaws
 pub mod DocumentsJoin
+pub mod EmphasisOne
 pub mod EmphasisSamples
+pub mod EmphasisSound
 pub mod HtmlSamples
+pub mod InlineSamples
 pub mod LeafSpanLaws
 pub mod LineSteps
 pub mod NotDerived
@@ -21,6 +24,7 @@ pub mod RangeLaws
 pub mod ReferenceLaws
 pub mod RowEdges
 pub mod RowPlaces
+pub mod ShorterRests
 pub mod SliceLaws
 pub mod TagSamples
 pub mod TightLaws

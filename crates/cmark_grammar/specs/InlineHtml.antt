@@ -77,3 +77,10 @@ behind_inline_html bs =
     if starts (codes "<!") bs then behind_opened (opened_in (drop 2 bs))
     else if starts (codes "<?") bs then behind_first (codes "?>") (drop 2 bs)
     else behind_tag no_prefix bs
+
+-- behind a comment, a declaration, a CDATA section or a processing instruction in front
+abbrev pub behind_markup : List ℕ → Option (List ℕ)
+behind_markup bs =
+    if starts (codes "<!") bs then behind_opened (opened_in (drop 2 bs))
+    else if starts (codes "<?") bs then behind_first (codes "?>") (drop 2 bs)
+    else None

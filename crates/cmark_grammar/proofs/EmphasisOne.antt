@@ -3,7 +3,7 @@ use Rattle.std.proofs.Common.{◌≡◌, true, false, List, [], ◌∷◌, ◌++
 use Rattle.cmark_grammar.specs.Spans.{Spans, Nil, Single}
 use Rattle.cmark_grammar.specs.Emphasis.{Run, Pair, Sibling, Plain, Delimiter, Piece, Whole, Standing, agrees, pair_of, rest_of_opener, rest_of_closer, wrapped, row, keep, stand, Misses, Closes, Pairs, IsEmphasis}
 use Rattle.cmark_grammar.specs.EmphasisModel.{closed, resolve, pairs_of, spans_of}
-use Rattle.cmark_emphasis.proofs.Sound.{closed-closes}
+use Rattle.cmark_grammar.proofs.EmphasisSound.{closed-closes}
 
 no_cut : (c o : Run) (b f : List Piece) → Misses c (b ++ (Standing o ∷ f)) → agrees o c ≡ true → ⊥
 no_cut c o [] f m e = let q : true ≡ false = sym e ∙ m.0 in cc

@@ -1,0 +1,63 @@
+-- Formulas between dollar signs (this profile's own).
+use Rattle.std.specs.Prelude.{ℕ, suc, ◌%◌, Bool, true, false, not, ◌==◌, ◌&&◌, if◌then◌else◌, List, [], ◌∷◌, drop, Option, Some, None}
+use Rattle.cmark_grammar.specs.Letters.{first_is}
+use Rattle.cmark_grammar.specs.LinkDefinitions.{Found, put, escapes_next, is_white}
+
+abbrev pub is_dollar : ℕ → Bool
+is_dollar b = b == 36
+
+-- no white space
+abbrev pub is_ink : ℕ → Bool
+is_ink b = not (is_white b)
+
+-- The braces of a leaf part it into contexts, which have numbers modulo 256. Those that are entered, the inner ones first; the number
+-- of the outermost, which is 255 at first; and the number of the next
+pub record Braces : Type 0 where
+  pub entered : List ℕ
+  pub outermost : ℕ
+  pub next : ℕ
+
+abbrev pub no_braces : Braces
+no_braces = record { entered = []; outermost = 255; next = 0 }
+
+abbrev pub context_of : Braces → ℕ
+context_of braces = elim braces.entered [ [] ↦ braces.outermost | c ∷ cs ↦ c ]
+
+-- `{` enters the next context; `}` leaves one, and in the outermost context it gives that the next number
+abbrev pub entered : Braces → Braces
+entered braces = record { entered = braces.next % 256 ∷ braces.entered; outermost = braces.outermost; next = suc braces.next }
+
+abbrev pub left_to : List ℕ → Braces → Braces
+left_to [] braces = record { entered = []; outermost = braces.next % 256; next = suc braces.next }
+left_to (c ∷ cs) braces = record { entered = cs; outermost = braces.outermost; next = braces.next }
+
+-- the braces behind one more byte, which a backslash may escape
+abbrev pub behind_byte : (escaped : Bool) → ℕ → Braces → Braces
+behind_byte true b braces = braces
+behind_byte false b braces = if b == 123 then entered braces else if b == 125 then left_to braces.entered braces else braces
+
+abbrev pub braces_behind : (escaped : Bool) → List ℕ → Braces → Braces
+braces_behind escaped [] braces = braces
+braces_behind escaped (b ∷ bs) braces = braces_behind (escapes_next escaped b) bs (behind_byte escaped b braces)
+
+-- The first dollar sign of the same context, which no backslash escapes, decides: one closes behind a byte that is no white space, and
+-- two of them in a row close a display; else there is no formula. The last byte before, and the braces, are those in front of the bytes
+abbrev pub closes_formula : (is_display : Bool) → (last : ℕ) → (bs : List ℕ) → Bool
+closes_formula true last bs = first_is is_dollar bs
+closes_formula false last bs = is_ink last
+
+abbrev pub formula_to : (is_display : Bool) → (context : ℕ) → (escaped : Bool) → (last : ℕ) → Braces → List ℕ → Option Found
+formula_to is_display context escaped last braces [] = None
+formula_to is_display context escaped last braces (b ∷ bs) =
+    if not escaped && (is_dollar b && (context_of braces == context))
+    then (if closes_formula is_display last bs then Some (record { bytes = []; behind = drop (if is_display then 1 else 0) bs }) else None)
+    else put b (formula_to is_display context (escapes_next escaped b) b (behind_byte escaped b braces) bs)
+
+-- what stands behind one dollar sign and these braces, up to the one that closes it: a byte that is no white space follows, so it is not
+-- empty
+abbrev pub inline_in : Braces → List ℕ → Option Found
+inline_in braces bs = if first_is is_ink bs then formula_to false (context_of braces) false 36 braces bs else None
+
+-- and behind two of them, which may close at once
+abbrev pub display_in : Braces → List ℕ → Option Found
+display_in braces bs = formula_to true (context_of braces) false 36 braces bs

@@ -1,0 +1,38 @@
+-- The events that the spans of a leaf are read as: each with its bytes of the source.
+use Rattle.std.specs.Prelude.{ℕ, List, [], ◌∷◌, ◌++◌}
+use Rattle.cmark_grammar.specs.Event as event
+use Rattle.cmark_grammar.specs.Event.{Event, Start, End, Ranged}
+use Rattle.cmark_grammar.specs.Items.{ItemKind, Plain, Own, Written, Quoted, Delimiters, Code, InlineMath, DisplayMath, Autolink, Html, OwnedHtml, FootnoteReference, SoftBreak, HardBreak, Item}
+use Rattle.cmark_grammar.specs.Siblings.{Inline, Nil, Single, Around}
+use Rattle.cmark_grammar.specs.TagEnd.{end_of}
+use Rattle.cmark_grammar.specs.Tokens.{slice}
+
+module _ (source : List ℕ) where
+  -- the bytes of an item as they stand in the source
+  abbrev pub as_written : Item → List ℕ
+  as_written x = slice source x.start x.end
+
+  abbrev pub event_of : Item → ItemKind → Event
+  event_of x (Written text) = event.Text text
+  event_of x (Code text) = event.Code text
+  event_of x (InlineMath text) = event.InlineMath text
+  event_of x (DisplayMath text) = event.DisplayMath text
+  event_of x Html = event.InlineHtml (as_written x)
+  event_of x (OwnedHtml text) = event.InlineHtml text
+  event_of x (FootnoteReference label) = event.FootnoteReference label
+  event_of x SoftBreak = event.SoftBreak
+  event_of x HardBreak = event.HardBreak
+  event_of x Plain = event.Text (as_written x)
+  event_of x Own = event.Text (as_written x)
+  event_of x (Quoted quote) = event.Text (as_written x)
+  event_of x (Delimiters run) = event.Text (as_written x)
+  event_of x (Autolink uri) = event.Text (as_written x)
+
+  abbrev pub over : (start end : ℕ) → Event → Ranged
+  over start end e = record { event = e; start = start; end = end }
+
+  abbrev pub inline_events : Inline → List Ranged
+  inline_events Nil = []
+  inline_events (Single x after) = over x.start x.end (event_of x x.kind) ∷ inline_events after
+  inline_events (Around tag start end inside after) =
+      over start end (Start tag) ∷ (inline_events inside ++ (over start end (End (end_of tag)) ∷ inline_events after))

@@ -1,0 +1,54 @@
+-- Which opening bracket a closing one takes (CommonMark 6.3, "look for link or image"; wikilinks are this profile's own).
+use Rattle.std.specs.Prelude.{ℕ, zero, suc, Bool, true, false, not, ◌==◌, ◌&&◌, ◌||◌, if◌then◌else◌, List, [], ◌∷◌, map, Option, Some, None}
+use Rattle.cmark_grammar.specs.BracketStates.{Opener}
+
+-- an opening bracket, and how many nearer ones there are
+pub record Taken : Type 0 where
+  pub nearer : ℕ
+  pub opener : Opener
+
+abbrev pub one_nearer : Option Taken → Option Taken
+one_nearer None = None
+one_nearer (Some taken) = Some (record { nearer = suc taken.nearer; opener = taken.opener })
+
+-- the nearest one that stands; a closing bracket uses it up, whether they form something or not
+abbrev pub nearest : List Opener → Option Taken
+nearest [] = None
+nearest (o ∷ os) = if o.stands then Some (record { nearer = 0; opener = o }) else one_nearer (nearest os)
+
+abbrev pub used_up : List Opener → List Opener
+used_up [] = []
+used_up (o ∷ os) = if o.stands then record o { stands = false } ∷ os else o ∷ used_up os
+
+-- two brackets that touch, `[[` or `![[`, are a doubled one, which opens a wikilink: the nearest that was not tried yet, by its first
+abbrev pub touches : (second first : Opener) → Bool
+touches second first = not second.bracket.is_image && (second.bracket.start == first.bracket.end)
+
+abbrev pub doubled_behind : (second : Opener) → List Opener → Option Taken
+doubled_behind second [] = None
+doubled_behind second (first ∷ os) =
+    if first.doubles && touches second first then Some (record { nearer = 1; opener = first }) else one_nearer (doubled_behind first os)
+
+abbrev pub doubled : List Opener → Option Taken
+doubled [] = None
+doubled (o ∷ os) = doubled_behind o os
+
+-- the one behind so many nearer ones was tried
+abbrev pub undoubled : Opener → Opener
+undoubled o = record o { doubles = false }
+
+abbrev pub tried : (nearer : ℕ) → List Opener → List Opener
+tried nearer [] = []
+tried zero (o ∷ os) = undoubled o ∷ os
+tried (suc nearer) (o ∷ os) = o ∷ tried nearer os
+
+-- a link makes those before it inactive that open no image; a footnote reference drops all that stand
+abbrev pub inactive : Opener → Opener
+inactive o = record o { is_inactive = o.is_inactive || not o.bracket.is_image }
+
+abbrev pub behind_link : (is_image : Bool) → List Opener → List Opener
+behind_link true os = os
+behind_link false os = map inactive os
+
+abbrev pub dropped : Opener → Opener
+dropped o = record o { stands = false }

@@ -1,0 +1,32 @@
+-- The text of a leaf as its brackets divide it: items, what pairs of brackets form, and brackets that are texts (CommonMark 6.3).
+use Rattle.std.specs.Prelude.{ℕ, suc, List, Option}
+use Rattle.cmark_grammar.specs.Items.{Item, Bracket}
+use Rattle.cmark_grammar.specs.Tag.{Linked}
+
+-- where a link or an image leads, and where it ends
+pub record Target : Type 0 where
+  pub linked : Linked
+  pub end : ℕ
+
+-- what a closing bracket forms with an opening one: a link or an image (CommonMark 6.3 and 6.4); a footnote reference; or a
+-- wikilink, which shows its name or what stands from a place on (both this profile's own)
+pub data Formed : Type 0 where
+  Linking : (target : Target) → Formed
+  Footnote : (label : List ℕ) → (end : ℕ) → Formed
+  Wiki : (name : List ℕ) → (display : Option ℕ) → (end : ℕ) → Formed
+
+-- an item; what two brackets form, with what stands between them; a closing bracket and an opening bracket that are texts
+pub data Parts : Type 0 where
+  Nil : Parts
+  Single : (item : Item) → (after : Parts) → Parts
+  Form : (opener : Bracket) → (inside : Parts) → (closer : Bracket) → (formed : Formed) → (after : Parts) → Parts
+  Closing : (closer : Bracket) → (after : Parts) → Parts
+  Opening : (opener : Bracket) → (after : Parts) → Parts
+
+-- how many opening brackets are texts in this list
+abbrev pub openings : Parts → ℕ
+openings Nil = 0
+openings (Single item after) = openings after
+openings (Form opener inside closer formed after) = openings after
+openings (Closing closer after) = openings after
+openings (Opening opener after) = suc (openings after)

@@ -1,0 +1,15 @@
+-- What all leaves of a source are read with.
+use Rattle.std.specs.Prelude.{ℕ, Bool, List, Option}
+use Rattle.cmark_grammar.specs.Answers.{Lookup}
+use Rattle.cmark_grammar.specs.BlockDocument.{Reference}
+use Rattle.cmark_grammar.specs.Options.{Options}
+
+-- the bytes of the source; the options; the text of each entity; for each folded label its first definition (CommonMark 4.7), and
+-- whether a footnote has it; and whether a callback is there to be asked about labels without a definition
+pub record Reader : Type 0 where
+  pub source : List ℕ
+  pub options : Options
+  pub lookup : Lookup
+  pub definition : (folded : List ℕ) → Option Reference
+  pub has_footnote : (folded : List ℕ) → Bool
+  pub has_callback : Bool

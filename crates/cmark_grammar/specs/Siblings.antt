@@ -1,0 +1,187 @@
+-- The spans of a leaf: what the parts of its text become, list of siblings by list of siblings (CommonMark 6.2, "process
+-- emphasis").
+use Rattle.std.specs.Prelude.{◌≡◌, ℕ, zero, suc, ◌+◌, ◌-◌, Bool, true, false, ◌==◌, nat_le, if◌then◌else◌, max, List, [], ◌∷◌, drop, get_or, encode_utf8, Option, Some, None}
+use Rattle.cmark_grammar.specs.BracketDecisions.{linked}
+use Rattle.cmark_grammar.specs.Emphasis.{Pair, Sibling, Delimiter, IsEmphasis}
+use Rattle.cmark_grammar.specs.Items.{ItemKind, Own, Written, Quoted, Delimiters, Autolink, FootnoteReference, Item, Bracket}
+use Rattle.cmark_grammar.specs.LinkType as link_type
+use Rattle.cmark_grammar.specs.Options.{Options}
+use Rattle.cmark_grammar.specs.Parts.{Parts, Nil as NoParts, Single as SinglePart, Form, Closing, Opening, Linking, Footnote, Wiki}
+use Rattle.cmark_grammar.specs.Quotes.{Quote, quote_characters}
+use Rattle.cmark_grammar.specs.Spans as spans
+use Rattle.cmark_grammar.specs.Spans.{span_tag, span_width, Spans}
+use Rattle.cmark_grammar.specs.Tag.{Tag, Linked, Link, Image}
+
+-- siblings: items, and elements around others
+pub data Inline : Type 0 where
+  Nil : Inline
+  Single : (item : Item) → (after : Inline) → Inline
+  Around : (tag : Tag) → (start end : ℕ) → (inside after : Inline) → Inline
+
+abbrev pub append : Inline → Inline → Inline
+append Nil other = other
+append (Single item after) other = Single item (append after other)
+append (Around tag start end inside after) other = Around tag start end inside (append after other)
+
+abbrev pub item : ItemKind → (start end : ℕ) → Item
+item kind start end = record { kind = kind; start = start; end = end }
+
+-- ## Quotes (this profile's own): they become the characters that they are among their siblings
+
+abbrev pub quote_then : ItemKind → List Quote → List Quote
+quote_then (Quoted quote) qs = quote ∷ qs
+quote_then _ qs = qs
+
+abbrev pub quotes_of : Inline → List Quote
+quotes_of Nil = []
+quotes_of (Around tag start end inside after) = quotes_of after
+quotes_of (Single x after) = quote_then x.kind (quotes_of after)
+
+abbrev pub quote_as : (quoted other : List ℕ → Inline) → ItemKind → List ℕ → Inline
+quote_as quoted other (Quoted quote) cs = quoted cs
+quote_as quoted other _ cs = other cs
+
+abbrev pub with_characters : Inline → List ℕ → Inline
+with_characters Nil cs = Nil
+with_characters (Around tag start end inside after) cs = Around tag start end inside (with_characters after cs)
+with_characters (Single x after) cs =
+    quote_as (λ cs. Single (item (Written (encode_utf8 (get_or cs 0 0))) x.start x.end) (with_characters after (drop 1 cs))) (λ cs. Single x (with_characters after cs)) x.kind cs
+
+abbrev pub with_quotes : Inline → Inline
+with_quotes siblings = with_characters siblings (quote_characters [] (quotes_of siblings))
+
+-- ## Emphasis (CommonMark 6.2, GFM 6.5)
+
+-- the delimiter runs among siblings, their bytes counted from 0
+abbrev pub run_then : ℕ → ItemKind → (ℕ → List Sibling) → List Sibling
+run_then n (Delimiters run) after = Delimiter (record { mark = run.mark; size = run.size; at = n; left = run.size; opens = run.opens; closes = run.closes }) ∷ after (n + run.size)
+run_then n _ after = after n
+
+abbrev pub runs_from : Inline → ℕ → List Sibling
+runs_from Nil n = []
+runs_from (Single x after) n = run_then n x.kind (runs_from after)
+runs_from (Around tag start end inside after) n = runs_from after n
+
+-- the bytes of the runs, one after the other
+abbrev pub bytes_then : (start size : ℕ) → List Item → List Item
+bytes_then start zero after = after
+bytes_then start (suc size) after = item Own start (suc start) ∷ bytes_then (suc start) size after
+
+abbrev pub run_bytes_then : ItemKind → (start : ℕ) → List Item → List Item
+run_bytes_then (Delimiters run) start after = bytes_then start run.size after
+run_bytes_then _ start after = after
+
+abbrev pub run_bytes : Inline → List Item
+run_bytes Nil = []
+run_bytes (Single x after) = run_bytes_then x.kind x.start (run_bytes after)
+run_bytes (Around tag start end inside after) = run_bytes after
+
+-- what stands before each of these bytes, behind the one before it; and last what stands behind all of them
+abbrev pub put_gap : (Inline → Inline) → List Inline → List Inline
+put_gap put [] = put Nil ∷ []
+put_gap put (gap ∷ gaps) = put gap ∷ gaps
+
+abbrev pub no_gaps : ℕ → List Inline → List Inline
+no_gaps zero gaps = gaps
+no_gaps (suc n) gaps = Nil ∷ no_gaps n gaps
+
+abbrev pub gap_then : ItemKind → Item → List Inline → List Inline
+gap_then (Delimiters run) x gaps = no_gaps run.size gaps
+gap_then _ x gaps = put_gap (Single x) gaps
+
+abbrev pub gaps_of : Inline → List Inline
+gaps_of Nil = Nil ∷ []
+gaps_of (Single x after) = gap_then x.kind x (gaps_of after)
+gaps_of (Around tag start end inside after) = put_gap (Around tag start end inside) (gaps_of after)
+
+abbrev pub no_item : Item
+no_item = item Own 0 0
+
+-- an element, or one text over all of it
+abbrev pub element : Option Tag → (start end : ℕ) → (inside after : Inline) → Inline
+element (Some tag) start end inside after = Around tag start end inside after
+element None start end inside after = Single (item Own start end) after
+
+module _ (options : Options) where
+  -- spans around the bytes of the runs, with what stands between these
+  abbrev pub dressed : List Inline → List Item → Spans → Inline
+  dressed gaps bytes spans.Nil = Nil
+  dressed gaps bytes (spans.Single at after) = Single (get_or bytes at no_item) (append (get_or gaps (suc at) Nil) (dressed gaps bytes after))
+  dressed gaps bytes (spans.Around span inside after) =
+      element (span_tag options span.kind) (get_or bytes span.start no_item).start (get_or bytes (span.end - 1) no_item).end
+      (append (get_or gaps (span.start + span_width span.kind) Nil) (dressed gaps bytes inside))
+      (append (get_or gaps span.end Nil) (dressed gaps bytes after))
+
+  abbrev pub dressed_all : Inline → Spans → Inline
+  dressed_all siblings spans = append (get_or (gaps_of siblings) 0 Nil) (dressed (gaps_of siblings) (run_bytes siblings) spans)
+
+  -- one list of siblings with its quotes and its emphasis
+  pub record IsDressed (siblings result : Inline) : Type 0 where
+    pub pairs : List Pair
+    pub spans_are : Spans
+    pub emphasis : IsEmphasis (runs_from (with_quotes siblings) 0) pairs spans_are
+    pub result_is : result ≡ dressed_all (with_quotes siblings) spans_are
+
+-- ## Elements and texts that parts become
+
+-- an autolink is a link around its bytes (CommonMark 6.5)
+abbrev pub uri_link : List ℕ → Linked
+uri_link uri = linked link_type.Autolink (record { url = uri; title = [] }) []
+
+abbrev pub item_then : ItemKind → Item → Inline → Inline
+item_then (Autolink uri) x after = Around (Link (uri_link uri)) x.start x.end (Single (item Own (suc x.start) (x.end - 1)) Nil) after
+item_then _ x after = Single x after
+
+abbrev pub text_then : Bracket → Inline → Inline
+text_then bracket after = Single (item Own bracket.start bracket.end) after
+
+abbrev pub tag_by : (is_image : Bool) → Linked → Tag
+tag_by true linked = Image linked
+tag_by false linked = Link linked
+
+-- a footnote reference begins with its `[`; a `!` before it is a text (this profile's own)
+abbrev pub footnote_then : (is_image : Bool) → (start : ℕ) → (label : List ℕ) → (end : ℕ) → Inline → Inline
+footnote_then true start label end after = Single (item Own start (suc start)) (Single (item (FootnoteReference label) (suc start) end) after)
+footnote_then false start label end after = Single (item (FootnoteReference label) start end) after
+
+-- a wikilink shows its name, or what stands behind the pipe (this profile's own): siblings from a place on, of which the one that holds
+-- the byte there begins there; and a text of no bytes where nothing stands there
+abbrev pub wiki_tag : (is_image : Bool) → (name : List ℕ) → (has_pothole : Bool) → Tag
+wiki_tag is_image name has_pothole = tag_by is_image (linked (link_type.WikiLink has_pothole) (record { url = name; title = [] }) [])
+
+abbrev pub name_text : (opener closer : Bracket) → Inline
+name_text opener closer = Single (item Own (suc opener.end) closer.start) Nil
+
+abbrev pub from_place : ℕ → Inline → Inline
+from_place place Nil = Nil
+from_place place (Single x after) = if nat_le x.end place then from_place place after else Single (item x.kind (max x.start place) x.end) after
+from_place place (Around tag start end inside after) =
+    if nat_le end place then from_place place after else Around tag (max start place) end inside after
+
+abbrev pub display_from : (place end : ℕ) → Inline → Inline
+display_from place end inner = if place == end then Single (item Own place place) Nil else from_place place inner
+
+module _ (options : Options) where
+  -- a link, an image and a wikilink with a display hold a list of siblings of their own; all other brackets are texts among those
+  -- around them
+  abbrev pub AreSiblings : Parts → Inline → Type 0
+  AreSiblings NoParts siblings = siblings ≡ Nil
+  AreSiblings (SinglePart x after) siblings = (others : Inline) × AreSiblings after others × (siblings ≡ item_then x.kind x others)
+  AreSiblings (Form opener inside closer (Linking target) after) siblings =
+      (inner spans others : Inline) × AreSiblings inside inner × IsDressed options inner spans × AreSiblings after others
+      × (siblings ≡ Around (tag_by opener.is_image target.linked) opener.start target.end spans others)
+  AreSiblings (Form opener inside closer (Footnote label end) after) siblings =
+      (others : Inline) × AreSiblings after others × (siblings ≡ footnote_then opener.is_image opener.start label end others)
+  AreSiblings (Form opener inside closer (Wiki name None end) after) siblings =
+      (others : Inline) × AreSiblings after others × (siblings ≡ Around (wiki_tag opener.is_image name false) opener.start end (name_text opener closer) others)
+  AreSiblings (Form opener inside closer (Wiki name (Some place) end) after) siblings =
+      (inner spans others : Inline) × AreSiblings inside inner × IsDressed options (display_from place closer.start inner) spans × AreSiblings after others
+      × (siblings ≡ Around (wiki_tag opener.is_image name true) opener.start end spans others)
+  AreSiblings (Closing closer after) siblings = (others : Inline) × AreSiblings after others × (siblings ≡ text_then closer others)
+  AreSiblings (Opening opener after) siblings = (others : Inline) × AreSiblings after others × (siblings ≡ text_then opener others)
+
+  -- and with the quotes and the emphasis of the outermost list they are the spans
+  pub record AreSpans (parts : Parts) (spans : Inline) : Type 0 where
+    pub siblings : Inline
+    pub are : AreSiblings parts siblings
+    pub dressed_so : IsDressed options siblings spans

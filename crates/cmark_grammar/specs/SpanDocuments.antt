@@ -1,0 +1,87 @@
+-- The events that a text is read as: those of its blocks, with the spans of its leaves, and the questions that were put on the way.
+use Rattle.std.specs.Prelude.{◌≡◌, ℕ, Bool, false, List, [], ◌∷◌, ◌++◌}
+use Rattle.cmark_grammar.specs.Answers.{Lookup}
+use Rattle.cmark_grammar.specs.BlockDocument.{BlockKind, Paragraph, TightParagraph, Heading, BlockNode, BlockDocument, Nil, Node}
+use Rattle.cmark_grammar.specs.BlockReading.{Reads, Around, Inside, Alone, Silent, read_as, over}
+use Rattle.cmark_grammar.specs.Derivation.{Derives}
+use Rattle.cmark_grammar.specs.Event.{Start, End, Ranged}
+use Rattle.cmark_grammar.specs.Labels.{fold}
+use Rattle.cmark_grammar.specs.LeafReading.{Between, ReadsLeaf}
+use Rattle.cmark_grammar.specs.LeafText.{Stretch, Leaf}
+use Rattle.cmark_grammar.specs.Options.{Options}
+use Rattle.cmark_grammar.specs.Questions.{Exchange, Saying, IsNext}
+use Rattle.cmark_grammar.specs.Readers.{Reader}
+use Rattle.cmark_grammar.specs.References.{references, first_with}
+use Rattle.cmark_grammar.specs.TagEnd.{end_of}
+
+-- what a text is read with: the options, the entities, how many bytes of destinations and titles references may take, and whether there
+-- is a callback to ask about labels without a definition
+pub record Profile : Type 0 where
+  pub options : Options
+  pub lookup : Lookup
+  pub expansion_limit : ℕ
+  pub has_callback : Bool
+
+-- no block of this grammar defines a footnote yet
+abbrev pub reader_of : (text : List ℕ) → Profile → BlockDocument → Reader
+reader_of text profile document = record {
+  source = text;
+  options = profile.options;
+  lookup = profile.lookup;
+  definition = λ folded. first_with fold folded (references document);
+  has_footnote = λ folded. false;
+  has_callback = profile.has_callback;
+}
+
+-- what a document gives in turn: an event of its blocks, or a leaf, whose spans are still to be read
+pub data Segment : Type 0 where
+  Given : (event : Ranged) → Segment
+  Content : (leaf : Leaf) → Segment
+
+-- a paragraph or a heading holds the stretches of its text
+abbrev pub stretches_of : BlockDocument → List Stretch
+stretches_of Nil = []
+stretches_of (Node node inside after) = record { start = node.start; end = node.end } ∷ stretches_of after
+
+abbrev pub leaf_of : (content : BlockDocument) → Leaf
+leaf_of content = record { stretches = stretches_of content; is_cell = false }
+
+abbrev pub inside_of : BlockKind → (content : BlockDocument) → (others : List Segment) → List Segment
+inside_of Paragraph content others = Content (leaf_of content) ∷ []
+inside_of TightParagraph content others = Content (leaf_of content) ∷ []
+inside_of (Heading level attributes) content others = Content (leaf_of content) ∷ []
+inside_of _ content others = others
+
+abbrev pub node_segments : Reads → BlockNode → List Segment → List Segment
+node_segments (Around tag) node inside = Given (over node (Start tag)) ∷ (inside ++ (Given (over node (End (end_of tag))) ∷ []))
+node_segments Inside node inside = inside
+node_segments (Alone event) node inside = Given (over node event) ∷ []
+node_segments Silent node inside = []
+
+abbrev pub segments : BlockDocument → List Segment
+segments Nil = []
+segments (Node node inside after) = node_segments (read_as node.kind) node (inside_of node.kind inside (segments inside)) ++ segments after
+
+-- the segments are read as these events, leaf after leaf, where the questions may get these answers
+abbrev pub ReadsAll : Reader → Saying → List Segment → (before : Between) → List Ranged → (after : Between) → Type 0
+ReadsAll reader Says [] before events after = (events ≡ []) × (after ≡ before)
+ReadsAll reader Says (Given r ∷ others) before events after = (later : List Ranged) × ReadsAll reader Says others before later after × (events ≡ r ∷ later)
+ReadsAll reader Says (Content leaf ∷ others) before events after =
+    (spans later : List Ranged) × (between : Between) × ReadsLeaf reader Says leaf before spans between × ReadsAll reader Says others between later after × (events ≡ spans ++ later)
+
+abbrev pub at_start : Profile → Between
+at_start profile = record { expansion = profile.expansion_limit; asked = [] }
+
+-- these events are a reading of the text, in which these questions were put and answered so, in turn and none else
+pub record IsReading (text : List ℕ) (profile : Profile) (exchanges : List Exchange) (events : List Ranged) : Type 0 where
+  pub document : BlockDocument
+  pub after : Between
+  pub derives : Derives text profile.options profile.lookup document
+  pub reads : ReadsAll (reader_of text profile document) (IsNext exchanges) (segments document) (at_start profile) events after
+  pub asked : after.asked ≡ exchanges
+
+-- with these further questions and answers these events are left to give of these segments, where so much of the limit is left
+pub record Left (reader : Reader) (segments : List Segment) (expansion : ℕ) (exchanges : List Exchange) (events : List Ranged) : Type 0 where
+  pub after : Between
+  pub reads : ReadsAll reader (IsNext exchanges) segments (record { expansion = expansion; asked = [] }) events after
+  pub asked : after.asked ≡ exchanges

@@ -1,0 +1,58 @@
+-- What is left behind a leaf, with the leaf in front.
+use Rattle.std.proofs.Common.{◌≡◌, ℕ, List, [], ◌∷◌, ◌++◌, refl, sym, ap, ◌∙◌, subst, append-nil}
+use Rattle.cmark_grammar.specs.BracketDecisions.{decide}
+use Rattle.cmark_grammar.specs.Event.{Ranged}
+use Rattle.cmark_grammar.specs.InlineTokens.{token}
+use Rattle.cmark_grammar.specs.LeafReading.{Between, entering, ReadsLeaf}
+use Rattle.cmark_grammar.specs.LeafText.{Leaf}
+use Rattle.cmark_grammar.specs.Questions.{Exchange, IsNext}
+use Rattle.cmark_grammar.specs.Readers.{Reader}
+use Rattle.cmark_grammar.specs.SpanDocuments.{Segment, Given, Content, ReadsAll, Left}
+use Rattle.cmark_inline_model.specs.Progress.{asked_behind, IsRecorded, IsShifted}
+use Rattle.cmark_inline_model.proofs.BracketsShifted.{reads-behind}
+use Rattle.cmark_inline_model.proofs.LeafLaws.{leaf-next}
+
+abbrev pub between_behind : List Exchange → Between → Between
+between_behind h b = record { expansion = b.expansion; asked = h ++ b.asked }
+
+module _ (reader : Reader) (shifted : (leaf : Leaf) → IsShifted (decide reader leaf)) (h all : List Exchange) where
+  pub leaf-behind : (leaf : Leaf) (before after : Between) (events : List Ranged) → ReadsLeaf reader (IsNext all) leaf before events after → ReadsLeaf reader (IsNext (h ++ all)) leaf (between_behind h before) events (between_behind h after)
+  leaf-behind leaf before after events k = record {
+    parts = k.parts;
+    last = asked_behind h k.last;
+    spans = k.spans;
+    reads = record { reads = reads-behind (token reader leaf) (decide reader leaf) (shifted leaf) h all (entering leaf before) k.parts k.last k.reads.reads; ends = k.reads.ends };
+    are = k.are;
+    events_are = k.events_are;
+    after_is = ap (between_behind h) k.after_is;
+  }
+
+  pub all-behind : (others : List Segment) (before after : Between) (events : List Ranged) → ReadsAll reader (IsNext all) others before events after → ReadsAll reader (IsNext (h ++ all)) others (between_behind h before) events (between_behind h after)
+  all-behind [] before after events k = (k.0, ap (between_behind h) k.1)
+  all-behind (Given r ∷ others) before after events k = (k.0, all-behind others before after k.0 k.1, k.2)
+  all-behind (Content leaf ∷ others) before after events k = (k.0, k.1, between_behind h k.2, leaf-behind leaf before k.2 k.0 k.3, all-behind others k.2 after k.1 k.4, k.5)
+
+-- an event of the blocks in front
+pub left-given : (reader : Reader) (r : Ranged) (others : List Segment) (expansion : ℕ) (exchanges : List Exchange) (events : List Ranged) → Left reader others expansion exchanges events → Left reader (Given r ∷ others) expansion exchanges (r ∷ events)
+left-given reader r others expansion exchanges events k = record { after = k.after; reads = (events, k.reads, refl); asked = k.asked }
+
+-- a leaf in front, with the questions that were put in it
+pub left-leaf : (reader : Reader) → ((leaf : Leaf) → IsRecorded (decide reader leaf)) → ((leaf : Leaf) → IsShifted (decide reader leaf)) → (leaf : Leaf) (others : List Segment) (expansion : ℕ) (taken rest : List Exchange) (spans later : List Ranged) (between : Between)
+    → ReadsLeaf reader (IsNext taken) leaf (record { expansion = expansion; asked = [] }) spans between → between.asked ≡ taken
+    → Left reader others between.expansion rest later → Left reader (Content leaf ∷ others) expansion (taken ++ rest) (spans ++ later)
+left-leaf reader recorded shifted leaf others expansion taken rest spans later between h e k =
+    let start : Between = record { expansion = expansion; asked = [] } in
+    let same : between_behind taken (record { expansion = between.expansion; asked = [] }) ≡ between = ap (λ l. record { expansion = between.expansion; asked = l }) (append-nil taken ∙ sym e) in
+    record {
+      after = between_behind taken k.after;
+      reads = (
+        spans,
+        later,
+        between,
+        leaf-next reader leaf (recorded leaf) (IsNext taken) start between spans (taken ++ rest) rest (ap (λ l. l ++ rest) (sym e)) h,
+        subst (λ b. ReadsAll reader (IsNext (taken ++ rest)) others b later (between_behind taken k.after)) same
+            (all-behind reader shifted taken rest others (record { expansion = between.expansion; asked = [] }) k.after later k.reads),
+        refl,
+      );
+      asked = ap (λ l. taken ++ l) k.asked;
+    }

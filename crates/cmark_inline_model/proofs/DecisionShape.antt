@@ -1,0 +1,198 @@
+-- What the decision about a closing bracket can come to, case by case.
+use Rattle.std.specs.Prelude.{suc, ◌-◌, ◌==◌, ◌&&◌, ◌||◌, not, if◌then◌else◌, drop, map}
+use Rattle.std.proofs.Common.{◌≡◌, ◌⊎◌, inl, inr, ◌≤◌, ℕ, Bool, true, false, List, [], ◌∷◌, ◌++◌, length, Option, Some, None, refl, arith}
+use Rattle.cmark_grammar.specs.Answers.{Destination}
+use Rattle.cmark_grammar.specs.BlockDocument as block
+use Rattle.cmark_grammar.specs.BracketDecisions.{Named, or_empty, is_there, name_in, behind, place, between, stays, forms, inline_link, leads, question, answered, with_answer, ask, defined_or_asked, refers, one_line_footnotes, is_one_line, is_footnote_label, footnote_reference, as_label, collapsed_or_shortcut, by_own_label, reference_or, unless_footnote, link_or, with_taken, wiki_text, wikilink, wikilink_or, decide}
+use Rattle.cmark_grammar.specs.BracketStates.{Opener, State, Outcome, Decision, Settled, Asks}
+use Rattle.cmark_grammar.specs.Items.{Bracket}
+use Rattle.cmark_grammar.specs.Labels.{fold, normal_form}
+use Rattle.cmark_grammar.specs.LeafText.{Leaf}
+use Rattle.cmark_grammar.specs.Letters.{first_is}
+use Rattle.cmark_grammar.specs.LinkDefinitions.{Found}
+use Rattle.cmark_grammar.specs.LinkTails.{LinkTail, link_tail_in, behind_collapsed, is_bracketed_label, reference_label_in}
+use Rattle.cmark_grammar.specs.LinkType.{LinkType, Reference, to_unknown}
+use Rattle.cmark_grammar.specs.OpenBrackets.{Taken, nearest, used_up, doubled, tried, dropped}
+use Rattle.cmark_grammar.specs.Parts.{Footnote}
+use Rattle.cmark_grammar.specs.Questions.{Question, Exchange}
+use Rattle.cmark_grammar.specs.Readers.{Reader}
+use Rattle.cmark_grammar.proofs.ShorterRests.{LeavesBelow, FoundBelow, reference_label-shorter, collapsed-shorter}
+use Rattle.cmark_inline_model.specs.Expansion.{cost_as}
+use Rattle.cmark_inline_model.specs.LinkRules.{IsAsked}
+use Rattle.cmark_inline_model.proofs.Openers.{Alike, alike-then, used-alike, tried-alike, IsTaken, AreTaken, taken-alike, nearest-taken, doubled-taken}
+
+-- the same state but for its label, its questions and its opening brackets
+abbrev pub with_all : State → Option ℕ → List Exchange → List Opener → State
+with_all s label asked os = record { at = s.at; expansion = s.expansion; label_close = label; asked = asked; openers = os }
+
+-- the question that an asked one is in
+abbrev pub exchange : Question → Option Destination → Exchange
+exchange q answer = record { question = q; answer = answer }
+
+module _ (reader : Reader) (leaf : Leaf) where
+  -- behind the closing bracket, or what is behind some text behind it
+  abbrev pub IsPlace : Bracket → ℕ → Type 0
+  IsPlace closer p = (p ≡ closer.end) ⊎ ((rest : List ℕ) × (length rest ≤ length (behind reader leaf closer.end)) × (p ≡ place reader leaf rest))
+
+  -- a reference that may stand behind this closing bracket
+  pub record IsNamed (closer : Bracket) (named : Named) : Type 0 where
+    pub ends : IsPlace closer named.end
+    pub passes : IsPlace closer named.past
+    pub order : (named.end ≡ named.past) ⊎ (named.end ≡ closer.end)
+    pub costs : (size : ℕ) → (cost_as named.link_type size ≡ size ∷ []) × (cost_as (to_unknown named.link_type) size ≡ size ∷ [])
+
+  -- a definition says where a reference leads, or an answer does
+  pub data Leads (named : Named) (link_type : LinkType) (found : Destination) : Type 0 where
+    Defined : (definition : block.Reference) → reader.definition (fold named.label) ≡ Some definition → link_type ≡ named.link_type
+        → found ≡ record { url = definition.destination; title = or_empty definition.title } → Leads named link_type found
+    Answered : reader.definition (fold named.label) ≡ None → reader.has_callback ≡ true → link_type ≡ to_unknown named.link_type → Leads named link_type found
+
+  -- it was taken of these, and is active
+  pub record Takes (os : List Opener) (taken : Taken) : Type 0 where
+    pub is_taken : IsTaken os taken
+    pub active : taken.opener.is_inactive ≡ false
+
+  pub data Shape (s : State) (closer : Bracket) (asked : List Exchange) (o : Outcome) : Type 0 where
+    Stays : (label : Option ℕ) (os : List Opener) → Alike s.openers os → o ≡ stays reader leaf closer (with_all s label asked os) → Shape s closer asked o
+    ToInline : (label : Option ℕ) (os : List Opener) (taken : Taken) (tail : LinkTail) → Alike s.openers os → Takes s.openers taken
+        → link_tail_in (behind reader leaf closer.end) ≡ Some tail → o ≡ inline_link reader leaf tail taken (with_all s label asked os) → Shape s closer asked o
+    ToReference : (label : Option ℕ) (os : List Opener) (taken : Taken) (named : Named) (link_type : LinkType) (found : Destination) → Alike s.openers os → Takes s.openers taken
+        → IsNamed closer named → (s.expansion == 0) ≡ false → Leads named link_type found → o ≡ leads reader leaf named link_type found taken (with_all s label asked os) → Shape s closer asked o
+    ToFootnote : (label : Option ℕ) (os : List Opener) (taken : Taken) (name : List ℕ) → Alike s.openers os → Takes s.openers taken → reader.options.footnotes ≡ true
+        → o ≡ forms reader leaf taken (Footnote name closer.end) closer.end (map dropped) (with_all s label asked os) → Shape s closer asked o
+    ToWiki : (label : Option ℕ) (os : List Opener) (first : Taken) → Alike s.openers os → Takes s.openers first → reader.options.wikilinks ≡ true
+        → first_is (λ b. b == 93) (behind reader leaf closer.end) ≡ true → o ≡ wikilink reader leaf first closer (with_all s label asked os) → Shape s closer asked o
+
+  abbrev pub DecisionShape : State → Bracket → Decision → Type 0
+  DecisionShape s closer (Settled o) = Shape s closer s.asked o
+  DecisionShape s closer (Asks q answered) = IsAsked reader s q × ((answer : Option Destination) → Shape s closer (s.asked ++ (exchange q answer ∷ [])) (answered answer))
+
+  either : (s : State) (closer : Bracket) (b : Bool) (x y : Decision) → (b ≡ true → DecisionShape s closer x) → (b ≡ false → DecisionShape s closer y) → DecisionShape s closer (if b then x else y)
+  either s closer true x y h k = h refl
+  either s closer false x y h k = k refl
+
+  module _ (s : State) (closer : Bracket) where
+    stay_shape : (label : Option ℕ) (os : List Opener) → Alike s.openers os → DecisionShape s closer (Settled (stays reader leaf closer (with_all s label s.asked os)))
+    stay_shape label os h = Stays label os h refl
+
+    module _ (taken : Taken) (takes : Takes s.openers taken) where
+      ask_shape : (label : Option ℕ) (os : List Opener) (named : Named) → Alike s.openers os → IsNamed closer named → (s.expansion == 0) ≡ false → reader.definition (fold named.label) ≡ None
+          → DecisionShape s closer (ask reader leaf named taken closer (with_all s label s.asked os))
+      ask_shape label os named h named_is some none =
+          let q = question reader leaf named taken.opener.bracket in
+          let t = with_all s label s.asked os in
+          either s closer reader.has_callback (Asks q (λ answer. answered reader leaf named taken closer (with_answer reader leaf q answer t) answer)) (Settled (stays reader leaf closer t))
+          (λ e. (record { label = named.label; reference = refl; undefined = none; some = some; has_callback = e }, λ answer. by e answer))
+          (λ e. stay_shape label os h)
+        where
+          by : reader.has_callback ≡ true → (answer : Option Destination) → Shape s closer (s.asked ++ (exchange (question reader leaf named taken.opener.bracket) answer ∷ []))
+              (answered reader leaf named taken closer (with_answer reader leaf (question reader leaf named taken.opener.bracket) answer (with_all s label s.asked os)) answer)
+          by e None = Stays label os h refl
+          by e (Some found) = ToReference label os taken named (to_unknown named.link_type) found h takes named_is some (Answered none e refl) refl
+
+      defined_shape : (found : Option block.Reference) (label : Option ℕ) (os : List Opener) (named : Named) → reader.definition (fold named.label) ≡ found → Alike s.openers os → IsNamed closer named → (s.expansion == 0) ≡ false
+          → DecisionShape s closer (defined_or_asked reader leaf found named taken closer (with_all s label s.asked os))
+      defined_shape (Some found) label os named e h named_is some =
+          ToReference label os taken named named.link_type (record { url = found.destination; title = or_empty found.title }) h takes named_is some (Defined found e refl refl) refl
+      defined_shape None label os named e h named_is some = ask_shape label os named h named_is some e
+
+      refers_shape : (label : Option ℕ) (os : List Opener) (named : Named) → Alike s.openers os → IsNamed closer named → DecisionShape s closer (refers reader leaf named taken closer (with_all s label s.asked os))
+      refers_shape label os named h named_is =
+          let t = with_all s label s.asked os in
+          either s closer (s.expansion == 0) (Settled (stays reader leaf closer t)) (defined_or_asked reader leaf (reader.definition (fold named.label)) named taken closer t)
+          (λ e. stay_shape label os h) (λ e. defined_shape (reader.definition (fold named.label)) label os named refl h named_is e)
+
+      own_named : (label : List ℕ) (o : Option (List ℕ)) → LeavesBelow (suc (length (behind reader leaf closer.end))) o → IsNamed closer (collapsed_or_shortcut reader leaf label closer.end o)
+      own_named label None h = record { ends = inl refl; passes = inl refl; order = inl refl; costs = λ size. (refl, refl) }
+      own_named label (Some rest) h = record { ends = inl refl; passes = inr (rest, omega arith, refl); order = inr refl; costs = λ size. (refl, refl) }
+
+      footnote_shape : (name : List ℕ) (os : List Opener) (label : Option ℕ) → Alike s.openers os → reader.options.footnotes ≡ true → DecisionShape s closer (footnote_reference reader leaf name taken closer (with_all s label s.asked os))
+      footnote_shape name os label h on =
+          let t = with_all s label s.asked os in
+          either s closer (one_line_footnotes reader leaf && not (reader.has_footnote (fold name))) (Settled (stays reader leaf closer t)) (Settled (forms reader leaf taken (Footnote (normal_form name) closer.end) closer.end (map dropped) t))
+          (λ e. stay_shape label os h) (λ e. ToFootnote label os taken (normal_form name) h takes on refl)
+
+      and_left : (a b : Bool) → (a && b) ≡ true → a ≡ true
+      and_left true b e = refl
+      and_left false b e = cc
+
+      footnotes_on : (bytes : List ℕ) → is_footnote_label reader leaf bytes ≡ true → reader.options.footnotes ≡ true
+      footnotes_on [] e = cc
+      footnotes_on (b ∷ bs) e = and_left reader.options.footnotes ((b == 94) && (is_bracketed_label bs && (reader.options.old_footnotes || is_one_line reader leaf bs))) e
+
+      own_shape : (bytes : List ℕ) (label : Option ℕ) (os : List Opener) → Alike s.openers os → DecisionShape s closer (by_own_label reader leaf bytes taken closer (with_all s label s.asked os))
+      own_shape bytes label os h =
+          let t = with_all s label s.asked os in
+          let named = collapsed_or_shortcut reader leaf (as_label reader leaf bytes) closer.end (behind_collapsed (behind reader leaf closer.end)) in
+          either s closer (is_footnote_label reader leaf bytes) (footnote_reference reader leaf (as_label reader leaf (drop 1 bytes)) taken closer t)
+          (if is_bracketed_label bytes then refers reader leaf named taken closer t else Settled (stays reader leaf closer t))
+          (λ e. footnote_shape (as_label reader leaf (drop 1 bytes)) os label h (footnotes_on bytes e))
+          (λ e. either s closer (is_bracketed_label bytes) (refers reader leaf named taken closer t) (Settled (stays reader leaf closer t))
+          (λ f. refers_shape label os named h (own_named (as_label reader leaf bytes) (behind_collapsed (behind reader leaf closer.end)) (collapsed-shorter (behind reader leaf closer.end))))
+          (λ f. stay_shape label os h))
+
+      reference_shape : (found : Option Found) (label : Option ℕ) (os : List Opener) → FoundBelow (length (behind reader leaf closer.end)) found → Alike s.openers os
+          → DecisionShape s closer (reference_or reader leaf found taken closer (with_all s label s.asked os))
+      reference_shape (Some found) label os f h =
+          let end = place reader leaf found.behind in
+          refers_shape (Some (end - 1)) os (record { label = as_label reader leaf found.bytes; link_type = Reference; end = end; past = end }) h
+          (record { ends = inr (found.behind, omega arith, refl); passes = inr (found.behind, omega arith, refl); order = inl refl; costs = λ size. (refl, refl) })
+      reference_shape None label os f h =
+          let t = with_all s label s.asked os in
+          let bytes = between reader leaf taken.opener.bracket.end closer.start in
+          either s closer (is_there closer.start label) (Settled (stays reader leaf closer t)) (by_own_label reader leaf bytes taken closer t) (λ e. stay_shape label os h) (λ e. own_shape bytes label os h)
+
+      unless_below : (n : ℕ) (found : Option Found) → FoundBelow n found → FoundBelow n (unless_footnote reader leaf found)
+      unless_below n None h = tt
+      unless_below n (Some found) h = by (is_footnote_label reader leaf found.bytes)
+        where
+          by : (b : Bool) → FoundBelow n (if b then None else Some found)
+          by true = tt
+          by false = h
+
+      link_shape : (tail : Option LinkTail) (label : Option ℕ) (os : List Opener) → link_tail_in (behind reader leaf closer.end) ≡ tail → Alike s.openers os
+          → DecisionShape s closer (link_or reader leaf tail taken closer (with_all s label s.asked os))
+      link_shape (Some tail) label os e h = ToInline label os taken tail h takes e refl
+      link_shape None label os e h =
+          reference_shape (unless_footnote reader leaf (reference_label_in (behind reader leaf closer.end))) label os
+          (unless_below (length (behind reader leaf closer.end)) (reference_label_in (behind reader leaf closer.end)) (reference_label-shorter (behind reader leaf closer.end))) h
+
+    with_taken_shape : (taken : Option Taken) (label : Option ℕ) (os : List Opener) → AreTaken s.openers taken → Alike s.openers os → DecisionShape s closer (with_taken reader leaf taken closer (with_all s label s.asked os))
+    with_taken_shape None label os h k = stay_shape label os k
+    with_taken_shape (Some taken) label os h k =
+        let t = with_all s label s.asked os in
+        either s closer taken.opener.is_inactive (Settled (stays reader leaf closer t)) (link_or reader leaf (link_tail_in (behind reader leaf closer.end)) taken closer t) (λ e. stay_shape label os k)
+        (λ e. link_shape taken (record { is_taken = h; active = e }) (link_tail_in (behind reader leaf closer.end)) label os refl k)
+
+    or_false : (a b : Bool) → (a || b) ≡ false → a ≡ false
+    or_false true b e = cc
+    or_false false b e = refl
+
+    wiki_shape : (first taken : Option Taken) (label : Option ℕ) (os : List Opener) → reader.options.wikilinks ≡ true → first_is (λ b. b == 93) (behind reader leaf closer.end) ≡ true
+        → AreTaken os first → AreTaken s.openers taken → Alike s.openers os → DecisionShape s closer (wikilink_or reader leaf first taken closer (with_all s label s.asked os))
+    wiki_shape None taken label os on next f h k = with_taken_shape taken label os h k
+    wiki_shape (Some first) taken label os on next f h k =
+        let t = with_all s label s.asked os in
+        let refused = first.opener.is_inactive || (length (name_in (wiki_text reader leaf first closer)) == 0) in
+        either s closer refused (with_taken reader leaf taken closer (with_all s label s.asked (tried first.nearer os))) (Settled (wikilink reader leaf first closer t))
+        (λ e. with_taken_shape taken label (tried first.nearer os) h (alike-then s.openers os (tried first.nearer os) k (tried-alike first.nearer os)))
+        (λ e. ToWiki label os first k (record { is_taken = taken-alike s.openers os first k f; active = or_false first.opener.is_inactive (length (name_in (wiki_text reader leaf first closer)) == 0) e }) on next refl)
+
+  pub decide-shape : (s : State) (closer : Bracket) → DecisionShape s closer (decide reader leaf s closer)
+  unfolding decide
+  decide-shape s closer =
+      let os = used_up s.openers in
+      let t = with_all s s.label_close s.asked os in
+      let near = nearest s.openers in
+      let next = first_is (λ b. b == 93) (behind reader leaf closer.end) in
+      either s closer (reader.options.wikilinks && next) (wikilink_or reader leaf (doubled os) near closer t) (with_taken reader leaf near closer t)
+      (λ e. wiki_shape s closer (doubled os) near s.label_close os (left reader.options.wikilinks next e) (right reader.options.wikilinks next e) (doubled-taken os) (nearest-taken s.openers) (used-alike s.openers))
+      (λ e. with_taken_shape s closer near s.label_close os (nearest-taken s.openers) (used-alike s.openers))
+    where
+      left : (a b : Bool) → (a && b) ≡ true → a ≡ true
+      left true b e = refl
+      left false b e = cc
+
+      right : (a b : Bool) → (a && b) ≡ true → b ≡ true
+      right true b e = e
+      right false b e = cc

@@ -1,0 +1,137 @@
+-- Opening brackets that a closing one uses up, tries or takes.
+use Rattle.std.specs.Prelude.{zero, suc, ◌&&◌, ◌||◌, not, if◌then◌else◌, drop, map}
+use Rattle.std.proofs.Common.{◌≡◌, ◌+◌, ℕ, Bool, true, false, List, [], ◌∷◌, length, Option, Some, None, refl, sym, ap, subst, arith, ◌∙◌}
+use Rattle.std.proofs.lemmas.List.{length-drop}
+use Rattle.cmark_grammar.specs.BracketStates.{Opener}
+use Rattle.cmark_grammar.specs.OpenBrackets.{Taken, one_nearer, nearest, used_up, touches, doubled_behind, doubled, undoubled, tried, inactive, behind_link, dropped}
+use Rattle.cmark_inline_model.specs.NestedLinks.{Persist, OpenNoLink}
+use Rattle.cmark_inline_model.proofs.LinkNesting.{persist-same}
+
+-- the same brackets, as inactive as they were
+abbrev pub Alike : List Opener → List Opener → Type 0
+Alike [] b = b ≡ []
+Alike (o ∷ a) [] = ⊥
+Alike (o ∷ a) (n ∷ b) = (n.bracket ≡ o.bracket) × (n.is_inactive ≡ o.is_inactive) × Alike a b
+
+pub alike-same : (a : List Opener) → Alike a a
+alike-same [] = refl
+alike-same (o ∷ a) = (refl, refl, alike-same a)
+
+pub alike-then : (a b c : List Opener) → Alike a b → Alike b c → Alike a c
+alike-then [] [] c h k = k
+alike-then [] (x ∷ b) c h k = absurd (let d : ⊥ = cc in d)
+alike-then (o ∷ a) [] c h k = absurd h
+alike-then (o ∷ a) (n ∷ b) [] h k = absurd k
+alike-then (o ∷ a) (n ∷ b) (m ∷ c) h k = (k.0 ∙ h.0, k.1 ∙ h.1, alike-then a b c h.2 k.2)
+
+pub alike-length : (a b : List Opener) → Alike a b → length b ≡ length a
+alike-length [] b h = ap length h
+alike-length (o ∷ a) [] h = absurd h
+alike-length (o ∷ a) (n ∷ b) h = ap suc (alike-length a b h.2)
+
+pub alike-drop : (n : ℕ) (a b : List Opener) → Alike a b → Alike (drop n a) (drop n b)
+alike-drop zero a b h = h
+alike-drop (suc n) [] b h = subst (λ (l : List Opener). Alike [] (drop (suc n) l)) (sym h) refl
+alike-drop (suc n) (o ∷ a) [] h = absurd h
+alike-drop (suc n) (o ∷ a) (m ∷ b) h = alike-drop n a b h.2
+
+pub alike-persist : (a b : List Opener) → Alike a b → Persist a b
+alike-persist [] b h = h
+alike-persist (o ∷ a) [] h = absurd h
+alike-persist (o ∷ a) (n ∷ b) h = (h.0, λ e. h.1 ∙ e, alike-persist a b h.2)
+
+pub used-alike : (a : List Opener) → Alike a (used_up a)
+used-alike [] = refl
+used-alike (o ∷ a) = go o.stands (used-alike a)
+  where
+    go : (b : Bool) → Alike a (used_up a) → Alike (o ∷ a) (if b then record o { stands = false } ∷ a else o ∷ used_up a)
+    go true h = (refl, refl, alike-same a)
+    go false h = (refl, refl, h)
+
+pub tried-alike : (n : ℕ) (a : List Opener) → Alike a (tried n a)
+tried-alike n [] = refl
+tried-alike zero (o ∷ a) = (refl, refl, alike-same a)
+tried-alike (suc n) (o ∷ a) = (refl, refl, tried-alike n a)
+
+-- the taken bracket is there
+pub record IsTaken (os : List Opener) (taken : Taken) : Type 0 where
+  pub opener : Opener
+  pub before : List Opener
+  pub there : drop taken.nearer os ≡ opener ∷ before
+  pub bracket : opener.bracket ≡ taken.opener.bracket
+  pub inactive : opener.is_inactive ≡ taken.opener.is_inactive
+
+abbrev pub AreTaken : List Opener → Option Taken → Type 0
+AreTaken os None = Unit {0}
+AreTaken os (Some taken) = IsTaken os taken
+
+pub taken-alike : (a b : List Opener) (taken : Taken) → Alike a b → IsTaken b taken → IsTaken a taken
+taken-alike a b taken h k = go (drop taken.nearer a) refl (subst (Alike (drop taken.nearer a)) k.there (alike-drop taken.nearer a b h))
+  where
+    go : (l : List Opener) → drop taken.nearer a ≡ l → Alike l (k.opener ∷ k.before) → IsTaken a taken
+    go [] e f = absurd (let d : ⊥ = cc in d)
+    go (o ∷ more) e f = record { opener = o; before = more; there = e; bracket = sym f.0 ∙ k.bracket; inactive = sym f.1 ∙ k.inactive }
+
+one_nearer_taken : (o : Opener) (os : List Opener) (taken : Option Taken) → AreTaken os taken → AreTaken (o ∷ os) (one_nearer taken)
+one_nearer_taken o os None h = tt
+one_nearer_taken o os (Some taken) h = record { opener = h.opener; before = h.before; there = h.there; bracket = h.bracket; inactive = h.inactive }
+
+pub nearest-taken : (os : List Opener) → AreTaken os (nearest os)
+nearest-taken [] = tt
+nearest-taken (o ∷ os) = go o.stands (nearest-taken os)
+  where
+    go : (b : Bool) → AreTaken os (nearest os) → AreTaken (o ∷ os) (if b then Some (record { nearer = 0; opener = o }) else one_nearer (nearest os))
+    go true h = record { opener = o; before = os; there = refl; bracket = refl; inactive = refl }
+    go false h = one_nearer_taken o os (nearest os) h
+
+doubled_behind_taken : (second : Opener) (os : List Opener) → AreTaken (second ∷ os) (doubled_behind second os)
+doubled_behind_taken second [] = tt
+doubled_behind_taken second (first ∷ os) = go (first.doubles && touches second first) (doubled_behind_taken first os)
+  where
+    go : (b : Bool) → AreTaken (first ∷ os) (doubled_behind first os) → AreTaken (second ∷ (first ∷ os)) (if b then Some (record { nearer = 1; opener = first }) else one_nearer (doubled_behind first os))
+    go true h = record { opener = first; before = os; there = refl; bracket = refl; inactive = refl }
+    go false h = one_nearer_taken second (first ∷ os) (doubled_behind first os) h
+
+pub doubled-taken : (os : List Opener) → AreTaken os (doubled os)
+doubled-taken [] = tt
+doubled-taken (o ∷ os) = doubled_behind_taken o os
+
+-- ## What is left of those before the taken one
+
+pub map-persist : (f : Opener → Opener) → ((o : Opener) → ((f o).bracket ≡ o.bracket) × (o.is_inactive ≡ true → (f o).is_inactive ≡ true)) → (os : List Opener) → Persist os (map f os)
+map-persist f keeps [] = refl
+map-persist f keeps (o ∷ os) = ((keeps o).0, (keeps o).1, map-persist f keeps os)
+
+or_true : (a b : Bool) → a ≡ true → (a || b) ≡ true
+or_true true b e = refl
+or_true false b e = cc
+
+pub inactive-persist : (os : List Opener) → Persist os (map inactive os)
+inactive-persist os = map-persist inactive (λ o. (refl, or_true o.is_inactive (not o.bracket.is_image))) os
+
+pub dropped-persist : (os : List Opener) → Persist os (map dropped os)
+dropped-persist os = map-persist dropped (λ o. (refl, λ e. e)) os
+
+pub undoubled-persist : (os : List Opener) → Persist os (map undoubled os)
+undoubled-persist os = map-persist undoubled (λ o. (refl, λ e. e)) os
+
+pub link-persist : (is_image : Bool) (os : List Opener) → Persist os (behind_link is_image os)
+link-persist true os = persist-same os
+link-persist false os = inactive-persist os
+
+or_not : (a b : Bool) → ((a || not b) || b) ≡ true
+or_not true b = refl
+or_not false true = refl
+or_not false false = refl
+
+pub inactive-opens-none : (os : List Opener) → OpenNoLink (map inactive os)
+inactive-opens-none [] = tt
+inactive-opens-none (o ∷ os) = (or_not o.is_inactive o.bracket.is_image, inactive-opens-none os)
+
+-- those up to the taken one are gone
+pub left-then : (size nearer : ℕ) (os left : List Opener) (o : Opener) (before : List Opener) → length os ≡ size → drop nearer os ≡ o ∷ before → length left ≡ length (drop (suc nearer) os) → length left + suc nearer ≡ size
+left-then size nearer os left o before e f g =
+    let a = length-drop nearer os in
+    let b = length-drop (suc nearer) os in
+    let c = ap length f in
+    omega arith

@@ -1,0 +1,60 @@
+-- What the parts of a text become is one list of spans, that of the model.
+use Rattle.std.proofs.Common.{◌≡◌, true, false, refl, ap, ◌∙◌, Some, None}
+use Rattle.cmark_grammar.specs.EmphasisModel.{pairs_of, spans_of}
+use Rattle.cmark_grammar.specs.Options.{Options}
+use Rattle.cmark_grammar.specs.Parts.{Parts, Nil as NoParts, Single as SinglePart, Form, Closing, Opening, Linking, Footnote, Wiki}
+use Rattle.cmark_grammar.specs.Siblings.{Inline, Around, with_quotes, runs_from, dressed_all, IsDressed, item_then, text_then, tag_by, footnote_then, wiki_tag, name_text, display_from, AreSiblings, AreSpans}
+use Rattle.cmark_grammar.specs.SiblingsModel.{dress, siblings_of, spans_in}
+use Rattle.cmark_grammar.proofs.EmphasisSound.{sound}
+use Rattle.cmark_grammar.proofs.EmphasisOne.{one}
+
+module _ (options : Options) where
+  pub dress-sound : (siblings : Inline) → IsDressed options siblings (dress options siblings)
+  dress-sound siblings = record {
+    pairs = pairs_of (runs_from (with_quotes siblings) 0);
+    spans_are = spans_of (runs_from (with_quotes siblings) 0);
+    emphasis = sound (runs_from (with_quotes siblings) 0);
+    result_is = refl;
+  }
+
+  pub dress-one : (siblings result : Inline) → IsDressed options siblings result → result ≡ dress options siblings
+  dress-one siblings result h =
+      h.result_is ∙ ap (dressed_all options (with_quotes siblings)) (one (runs_from (with_quotes siblings) 0) h.pairs h.spans_are h.emphasis).1
+
+  pub siblings-sound : (parts : Parts) → AreSiblings options parts (siblings_of options parts)
+  siblings-sound NoParts = refl
+  siblings-sound (SinglePart x after) = (siblings_of options after, siblings-sound after, refl)
+  siblings-sound (Form opener inside closer (Linking target) after) =
+      (siblings_of options inside, dress options (siblings_of options inside), siblings_of options after, siblings-sound inside, dress-sound (siblings_of options inside), siblings-sound after, refl)
+  siblings-sound (Form opener inside closer (Footnote label end) after) = (siblings_of options after, siblings-sound after, refl)
+  siblings-sound (Form opener inside closer (Wiki name None end) after) = (siblings_of options after, siblings-sound after, refl)
+  siblings-sound (Form opener inside closer (Wiki name (Some place) end) after) =
+      let inner = display_from place closer.start (siblings_of options inside) in
+      (siblings_of options inside, dress options inner, siblings_of options after, siblings-sound inside, dress-sound inner, siblings-sound after, refl)
+  siblings-sound (Closing closer after) = (siblings_of options after, siblings-sound after, refl)
+  siblings-sound (Opening opener after) = (siblings_of options after, siblings-sound after, refl)
+
+  pub siblings-one : (parts : Parts) (siblings : Inline) → AreSiblings options parts siblings → siblings ≡ siblings_of options parts
+  siblings-one NoParts siblings h = h
+  siblings-one (SinglePart x after) siblings h = h.2 ∙ ap (item_then x.kind x) (siblings-one after h.0 h.1)
+  siblings-one (Form opener inside closer (Linking target) after) siblings h =
+      let tag = tag_by opener.is_image target.linked in
+      h.6
+      ∙ ap (λ a. Around tag opener.start target.end a h.2) (dress-one h.0 h.1 h.4 ∙ ap (dress options) (siblings-one inside h.0 h.3))
+      ∙ ap (λ b. Around tag opener.start target.end (dress options (siblings_of options inside)) b) (siblings-one after h.2 h.5)
+  siblings-one (Form opener inside closer (Footnote label end) after) siblings h = h.2 ∙ ap (footnote_then opener.is_image opener.start label end) (siblings-one after h.0 h.1)
+  siblings-one (Form opener inside closer (Wiki name None end) after) siblings h =
+      h.2 ∙ ap (Around (wiki_tag opener.is_image name false) opener.start end (name_text opener closer)) (siblings-one after h.0 h.1)
+  siblings-one (Form opener inside closer (Wiki name (Some place) end) after) siblings h =
+      let tag = wiki_tag opener.is_image name true in
+      h.6
+      ∙ ap (λ a. Around tag opener.start end a h.2) (dress-one (display_from place closer.start h.0) h.1 h.4 ∙ ap (λ a. dress options (display_from place closer.start a)) (siblings-one inside h.0 h.3))
+      ∙ ap (λ b. Around tag opener.start end (dress options (display_from place closer.start (siblings_of options inside))) b) (siblings-one after h.2 h.5)
+  siblings-one (Closing closer after) siblings h = h.2 ∙ ap (text_then closer) (siblings-one after h.0 h.1)
+  siblings-one (Opening opener after) siblings h = h.2 ∙ ap (text_then opener) (siblings-one after h.0 h.1)
+
+  pub spans-sound : (parts : Parts) → AreSpans options parts (spans_in options parts)
+  spans-sound parts = record { siblings = siblings_of options parts; are = siblings-sound parts; dressed_so = dress-sound (siblings_of options parts) }
+
+  pub spans-one : (parts : Parts) (spans : Inline) → AreSpans options parts spans → spans ≡ spans_in options parts
+  spans-one parts spans h = dress-one h.siblings spans h.dressed_so ∙ ap (dress options) (siblings-one parts h.siblings h.are)

@@ -1,0 +1,277 @@
+-- Each token leads on in its leaf, and stands within it.
+use Rattle.std.specs.Prelude.{suc, zero, ◌-◌, ◌==◌, ◌&&◌, ◌||◌, not, nat_lt, if◌then◌else◌, drop, take, reverse, codes}
+use Rattle.std.specs.List.{prefix_len}
+use Rattle.std.proofs.Common.{◌≡◌, ◌<◌, ◌≤◌, ◌+◌, ℕ, Bool, true, false, List, [], ◌∷◌, length, Option, Some, None, refl, sym, ap, subst, arith, ◌∙◌, length-drop, eqb-true}
+use Rattle.std.proofs.lemmas.Bool.{eq-eqb}
+use Rattle.std.proofs.lemmas.List.{length-take}
+use Rattle.std.proofs.lemmas.List.Sums.{prefix_len-le-length}
+use Rattle.cmark_grammar.specs.Autolinks.{autolink_in}
+use Rattle.cmark_grammar.specs.CodeSpans.{is_backtick, backticks, code_in, code_text}
+use Rattle.cmark_grammar.specs.Columns.{is_blank_byte}
+use Rattle.cmark_grammar.specs.Dashes.{dashes_of, dash_text}
+use Rattle.cmark_grammar.specs.Flanking.{Flanking, flanking}
+use Rattle.cmark_grammar.specs.Formulas.{is_dollar, Braces, no_braces, braces_behind, inline_in, display_in}
+use Rattle.cmark_grammar.specs.InlineHtml.{behind_markup}
+use Rattle.cmark_grammar.specs.InlineTokens.{item_at, bracket, is_plain, as_in, from, before, place_of, size_to, character_before, character_at, line_begins, read_on, break_to, break_or, code_or, escaped_backtick, escape_at, entity_or, autolink_or, tag_kind, tag_or_text, source_from, markup_to, markup_or, less_than, run_or, run_at, formula_or, dollar, dots, hyphens, quote_at, smart_or, begins, begins_at, goes_on, plain_end, longest, token}
+use Rattle.cmark_grammar.specs.Items.{ItemKind, Plain, Own, Written, Code, InlineMath, DisplayMath, Html, Autolink, Quoted, Delimiters, SoftBreak, HardBreak, Item, Bracket, Token, Stands, Opens, Closes, Ends}
+use Rattle.cmark_grammar.specs.LabelsOverLines.{piped}
+use Rattle.cmark_grammar.specs.LeafText.{Leaf, end_of, InTurn}
+use Rattle.cmark_grammar.specs.Letters.{first_is, starts}
+use Rattle.cmark_grammar.specs.LineBreaks.{LineBreak, backslash_break_in, blank_break_in}
+use Rattle.cmark_grammar.specs.Lines.{is_content}
+use Rattle.cmark_grammar.specs.LinkDefinitions.{Found, behind_blanks}
+use Rattle.cmark_grammar.specs.Quotes.{quote_beside}
+use Rattle.cmark_grammar.specs.Readers.{Reader}
+use Rattle.cmark_grammar.specs.Tags.{behind_tag, no_prefix}
+use Rattle.cmark_grammar.specs.Tokens.{Entity, entity_in, is_punctuation, slice}
+use Rattle.cmark_grammar.proofs.ShorterRests.{LeavesBelow, FoundBelow, either, prefix-some, tag-shorter, code-shorter, autolink-within, inline-shorter, display-shorter, markup-shorter}
+use Rattle.cmark_inline_model.specs.PartRanges.{StandsFrom}
+use Rattle.cmark_inline_model.proofs.LeafPlaces.{none-behind, place-within, place-from, place-behind, some-fit}
+use Rattle.cmark_inline_model.proofs.TokenSizes.{starts-size, first-size, EntityWithin, entity-within, BreakWithin, backslash-within, blank-within}
+
+pub length-blanks : (bs : List ℕ) → length (behind_blanks bs) ≤ length bs
+length-blanks bs = let e = length-drop (length bs - length (behind_blanks bs)) bs in dropped _ bs
+  where
+    dropped : (k : ℕ) (l : List ℕ) → length (drop k l) ≤ length l
+    dropped k l = let e = length-drop k l in omega arith
+
+module _ (reader : Reader) (leaf : Leaf) (size : ℕ) (turn : InTurn 0 leaf.stretches size) where
+  abbrev end : ℕ
+  end = end_of leaf.stretches
+
+  abbrev pub Onward : ℕ → Token → Type 0
+  Onward at (Stands item past) = StandsFrom at item.start item.end past × (at < past) × (past ≤ end)
+  Onward at (Opens opener) = StandsFrom at opener.start opener.end end × (at < opener.end)
+  Onward at (Closes closer) = (closer.start ≡ at) × (closer.end ≡ suc at) × (suc at ≤ end)
+  Onward at Ends = Unit {0}
+
+  -- one of two, by the condition
+  when : (at : ℕ) (b : Bool) (x y : Token) → (b ≡ true → Onward at x) → Onward at y → Onward at (if b then x else y)
+  when at true x y h k = h refl
+  when at false x y h k = k
+
+  item_onward : (at start stop : ℕ) (kind : ItemKind) → at ≤ start → start ≤ stop → at < stop → stop ≤ end → Onward at (item_at kind start stop)
+  item_onward at start stop kind a b c d = (record { begins = a; ordered = b; ends = omega arith }, c, d)
+
+  -- behind so many bytes of the leaf
+  module _ (at : ℕ) (b : ℕ) (bs : List ℕ) (here : from reader leaf at ≡ b ∷ bs) where
+    size_here : length (from reader leaf at) ≡ suc (length bs)
+    size_here = ap length here
+
+    fits : suc (length bs) + at ≤ end
+    fits = let e = size_here in let f = some-fit reader.source leaf.stretches size turn at (omega arith) in omega arith
+
+    bytes_onward : (start n : ℕ) (kind : ItemKind) → at ≤ start → start < at + n → n ≤ suc (length bs) → Onward at (item_at kind start (at + n))
+    bytes_onward start n kind a c d = let f = fits in item_onward at start (at + n) kind a (omega arith) (omega arith) (omega arith)
+
+    byte_onward : (kind : ItemKind) → Onward at (item_at kind at (suc at))
+    byte_onward kind = let f = fits in item_onward at at (suc at) kind (omega arith) (omega arith) (omega arith) (omega arith)
+
+    rest_onward : (kind : ItemKind) (rest : List ℕ) → length rest < suc (length bs) → Onward at (item_at kind at (place_of reader leaf rest))
+    rest_onward kind rest h =
+        let e = size_here in
+        let p = place-behind reader.source leaf.stretches size turn (length rest) at (omega arith) in
+        let q = place-within reader.source leaf.stretches size turn (length rest) in
+        item_onward at at (place_of reader leaf rest) kind (omega arith) (omega arith) p q
+
+    read_on_behind : (x : ℕ) → x ≤ end → (x ≤ read_on reader leaf x) × (read_on reader leaf x ≤ end)
+    read_on_behind x h = (place-from reader.source leaf.stretches size turn (length rest) x within h, place-within reader.source leaf.stretches size turn (length rest))
+      where
+        rest : List ℕ
+        rest = if line_begins reader leaf x then behind_blanks (from reader leaf x) else from reader leaf x
+
+        within : length rest ≤ length (from reader leaf x)
+        within =
+            either (λ (l : List ℕ). length l ≤ length (from reader leaf x)) (line_begins reader leaf x) (behind_blanks (from reader leaf x)) (from reader leaf x) (length-blanks (from reader leaf x)) (omega arith)
+
+    break_onward : (found : Option LineBreak) (other : Token) → BreakWithin (suc (length bs)) found → Onward at other → Onward at (break_or reader leaf at found other)
+    break_onward None other h k = k
+    break_onward (Some found) other h k =
+        let e = size_here in let f = fits in
+        let stop = at + size_to reader leaf at found.behind in
+        let r = read_on_behind stop (omega arith) in
+        let a = r.0 in let c = r.1 in
+        (record { begins = omega arith; ordered = omega arith; ends = a }, omega arith, c)
+
+    code_onward : (n : ℕ) (found : Option Found) → 0 < n → n ≤ suc (length bs) → FoundBelow (suc (length bs)) found → Onward at (code_or reader leaf at n found)
+    code_onward n (Some found) h k f = rest_onward (Code (code_text (as_in leaf.is_cell found.bytes))) found.behind f
+    code_onward n None h k f = bytes_onward at n Own (omega arith) (omega arith) k
+
+    entity_onward : (entity : Option Entity) → EntityWithin (suc (length bs)) entity → Onward at (entity_or reader leaf at entity)
+    entity_onward (Some entity) h = let a = h.0 in let c = h.1 in bytes_onward at entity.size (Written entity.bytes) (omega arith) (omega arith) c
+    entity_onward None h = byte_onward Plain
+
+    escape_onward : Onward at (escape_at reader leaf at bs)
+    escape_onward =
+        let f = fits in
+        let w = prefix_len-le-length is_backtick bs in
+        when at (first_is is_backtick bs) (escaped_backtick reader leaf (suc at) (backticks bs) (code_in (drop 1 bs))) (if leaf.is_cell && starts piped bs then item_at Plain (at + 2) (at + 3) else if first_is is_punctuation bs then item_at Plain (suc at) (at + 2) else item_at Plain at (suc at))
+        (λ e. escaped (code_in (drop 1 bs)) (first-size is_backtick bs e) (some_backticks bs e))
+        (when at (leaf.is_cell && starts piped bs) (item_at Plain (at + 2) (at + 3)) (if first_is is_punctuation bs then item_at Plain (suc at) (at + 2) else item_at Plain at (suc at))
+        (λ e. (let s = starts-size piped bs (and_right leaf.is_cell (starts piped bs) e) in bytes_onward (at + 2) 3 Plain (omega arith) (omega arith) (two s)))
+        (when at (first_is is_punctuation bs) (item_at Plain (suc at) (at + 2)) (item_at Plain at (suc at))
+        (λ e. (let s = first-size is_punctuation bs e in bytes_onward (suc at) 2 Plain (omega arith) (omega arith) (omega arith)))
+        (byte_onward Plain)))
+      where
+        and_right : (x y : Bool) → (x && y) ≡ true → y ≡ true
+        and_right true y e = e
+        and_right false y e = cc
+
+        two : 2 ≤ length bs → 3 ≤ suc (length bs)
+        two h = omega arith
+
+        some_backticks : (l : List ℕ) → first_is is_backtick l ≡ true → 0 < backticks l
+        some_backticks [] e = cc
+        some_backticks (c ∷ l) e = prefix-some is_backtick c l e
+
+        escaped : (found : Option Found) → 0 < length bs → 0 < backticks bs → Onward at (escaped_backtick reader leaf (suc at) (backticks bs) found)
+        escaped (Some found) h k = let f = fits in item_onward at (suc at) (suc (suc at)) Plain (omega arith) (omega arith) (omega arith) (omega arith)
+        escaped None h k =
+            let f = fits in let w = prefix_len-le-length is_backtick bs in item_onward at (suc at) (suc at + backticks bs) Own (omega arith) (omega arith) (omega arith) (omega arith)
+
+    markup_onward : (found : Option (List ℕ)) (other : Token) → LeavesBelow (length (source_from reader leaf at)) found → Onward at other → Onward at (markup_or reader leaf at found other)
+    markup_onward None other h k = k
+    markup_onward (Some rest) other h k =
+        let s = length-take (end - at) (drop at reader.source) in
+        let f = fits in
+        let stop = at + (length (source_from reader leaf at) - length rest) in
+        let r = read_on_behind stop (omega arith) in
+        let a = r.0 in let c = r.1 in
+        (record { begins = omega arith; ordered = omega arith; ends = a }, omega arith, c)
+
+    tag_onward : (found : Option (List ℕ)) → LeavesBelow (length (from reader leaf at)) found → Onward at (tag_or_text reader leaf at found)
+    tag_onward None h = byte_onward Own
+    tag_onward (Some rest) h = let e = size_here in rest_onward (tag_kind reader leaf (take (size_to reader leaf at rest) (from reader leaf at))) rest (omega arith)
+
+    autolink_onward : (found : Option Found) (other : Token) → FoundBelow (suc (length bs)) found → Onward at other → Onward at (autolink_or reader leaf at found other)
+    autolink_onward None other h k = k
+    autolink_onward (Some found) other h k = rest_onward (Autolink found.bytes) found.behind h
+
+    less_than_onward : Onward at (less_than reader leaf at bs)
+    less_than_onward =
+        let others = markup_or reader leaf at (behind_markup (source_from reader leaf at)) (tag_or_text reader leaf at (behind_tag no_prefix (from reader leaf at))) in
+        when at (first_is (λ c. c == 92) bs) (item_at Plain at (suc at)) (autolink_or reader leaf at (autolink_in bs) others) (λ e. byte_onward Plain)
+        (autolink_onward (autolink_in bs) others (autolink-within bs)
+        (markup_onward (behind_markup (source_from reader leaf at)) (tag_or_text reader leaf at (behind_tag no_prefix (from reader leaf at))) (markup-shorter (source_from reader leaf at))
+        (tag_onward (behind_tag no_prefix (from reader leaf at)) (tag-shorter no_prefix (from reader leaf at)))))
+
+    run_onward : (mark n : ℕ) (beside : Flanking) → 0 < n → n ≤ suc (length bs) → Onward at (run_or reader leaf at mark n beside)
+    run_onward mark n beside h k =
+        when at (beside.opens || beside.closes) (item_at (Delimiters (record { mark = mark; size = n; at = 0; left = n; opens = beside.opens; closes = beside.closes })) at (at + n)) (item_at Plain at (at + n))
+        (λ e. bytes_onward at n (Delimiters (record { mark = mark; size = n; at = 0; left = n; opens = beside.opens; closes = beside.closes })) (omega arith) (omega arith) k) (bytes_onward at n Plain (omega arith) (omega arith) k)
+
+    formula_onward : (kind : List ℕ → ItemKind) (found : Option Found) → FoundBelow (suc (length bs)) found → Onward at (formula_or reader leaf kind at found)
+    formula_onward kind (Some found) h = rest_onward (kind (as_in leaf.is_cell found.bytes)) found.behind h
+    formula_onward kind None h = byte_onward Own
+
+    more_found : (n m : ℕ) (found : Option Found) → n ≤ m → FoundBelow n found → FoundBelow m found
+    more_found n m None h k = tt
+    more_found n m (Some found) h k = omega arith
+
+    dollar_onward : (braces : Braces) → Onward at (dollar reader leaf at bs braces)
+    dollar_onward braces =
+        let l = length-drop 1 bs in
+        when at (first_is is_dollar bs) (formula_or reader leaf DisplayMath at (display_in braces (drop 1 bs))) (formula_or reader leaf InlineMath at (inline_in braces bs))
+        (λ e. formula_onward DisplayMath (display_in braces (drop 1 bs)) (more_found (length (drop 1 bs)) (suc (length bs)) (display_in braces (drop 1 bs)) (omega arith) (display-shorter braces (drop 1 bs))))
+        (formula_onward InlineMath (inline_in braces bs) (more_found (length bs) (suc (length bs)) (inline_in braces bs) (omega arith) (inline-shorter braces bs)))
+
+    dots_onward : Onward at (dots reader leaf at)
+    dots_onward =
+        let e = size_here in
+        when at (starts (codes "...") (from reader leaf at)) (item_at (Written (226 ∷ 128 ∷ 166 ∷ [])) at (at + 3)) (item_at Plain at (suc at))
+        (λ f. (let s = starts-size (codes "...") (from reader leaf at) f in bytes_onward at 3 (Written (226 ∷ 128 ∷ 166 ∷ [])) (omega arith) (omega arith) (three s))) (byte_onward Plain)
+      where
+        three : length (codes "...") ≤ length (from reader leaf at) → 3 ≤ suc (length bs)
+        three h = let e = size_here in let g : 3 ≤ length (from reader leaf at) = h in omega arith
+
+    hyphens_onward : (n : ℕ) → 0 < n → n ≤ suc (length bs) → Onward at (hyphens reader leaf at n)
+    hyphens_onward n h k =
+        when at (nat_lt n 2) (item_at Plain at (at + n)) (item_at (Written (dash_text (dashes_of n))) at (at + n)) (λ e. bytes_onward at n Plain (omega arith) (omega arith) k)
+        (bytes_onward at n (Written (dash_text (dashes_of n))) (omega arith) (omega arith) k)
+
+    same_byte : (c : ℕ) → (c == c) ≡ true
+    same_byte c = eq-eqb c c refl
+
+    -- a run of one byte, with the byte in front
+    run_size : (c : ℕ) → b ≡ c → (0 < prefix_len (λ x. x == c) (b ∷ bs)) × (prefix_len (λ x. x == c) (b ∷ bs) ≤ suc (length bs))
+    run_size c e = (prefix-some (λ x. x == c) b bs (ap (λ x. x == c) e ∙ same_byte c), prefix_len-le-length (λ x. x == c) (b ∷ bs))
+
+    smart_onward : Onward at (smart_or reader leaf at b)
+    smart_onward =
+        let n = prefix_len (λ c. c == 45) (from reader leaf at) in
+        when at (b == 46) (dots reader leaf at) (if b == 45 then hyphens reader leaf at n else if (b == 34) || (b == 39) then quote_at reader leaf at b else item_at Plain at (suc at)) (λ e. dots_onward)
+        (when at (b == 45) (hyphens reader leaf at n) (if (b == 34) || (b == 39) then quote_at reader leaf at b else item_at Plain at (suc at))
+        (λ e. (let r = run_size 45 (eqb-true b 45 e) in let s : n ≡ prefix_len (λ c. c == 45) (b ∷ bs) = ap (prefix_len (λ c. c == 45)) here in let x = r.0 in let y = r.1 in hyphens_onward n (omega arith) (omega arith)))
+        (when at ((b == 34) || (b == 39)) (quote_at reader leaf at b) (item_at Plain at (suc at)) (λ e. byte_onward (Quoted (quote_beside (b == 34) (character_before reader leaf at) (character_at reader leaf (suc at))))) (byte_onward Plain)))
+
+    begins_onward : Onward at (begins reader leaf at (b ∷ bs))
+    begins_onward =
+        let f = fits in
+        let plain = item_at Plain at (suc at) in
+        let c9 = if reader.options.smart_punctuation then smart_or reader leaf at b else plain in
+        let c8 = if reader.options.math && is_dollar b then dollar reader leaf at bs (braces_behind false (before reader leaf at) no_braces) else c9 in
+        let c7 = if (b == 42) || ((b == 95) || ((b == 126) || (b == 94))) then run_at reader leaf at b (prefix_len (λ c. c == b) (b ∷ bs)) else c8 in
+        let c6 = if b == 93 then Closes (bracket false at (suc at)) else c7 in
+        let c5 = if b == 91 then Opens (bracket false at (suc at)) else c6 in
+        let bang = if first_is (λ c. c == 91) bs then Opens (bracket true at (at + 2)) else plain in
+        let c4 = if b == 33 then bang else c5 in
+        let c3 = if b == 60 then less_than reader leaf at bs else c4 in
+        let c2 = if b == 96 then code_or reader leaf at (backticks (b ∷ bs)) (code_in (b ∷ bs)) else c3 in
+        let c1 = if b == 38 then entity_or reader leaf at (entity_in reader.lookup bs) else c2 in
+        let c0 = if b == 92 then break_or reader leaf at (backslash_break_in (b ∷ bs)) (escape_at reader leaf at bs) else c1 in
+        when at (is_blank_byte b || not (is_content b)) (break_or reader leaf at (blank_break_in (b ∷ bs)) plain) c0 (λ e. break_onward (blank_break_in (b ∷ bs)) plain (blank-within (b ∷ bs)) (byte_onward Plain))
+        (when at (b == 92) (break_or reader leaf at (backslash_break_in (b ∷ bs)) (escape_at reader leaf at bs)) c1 (λ e. break_onward (backslash_break_in (b ∷ bs)) (escape_at reader leaf at bs) (backslash-within (b ∷ bs)) escape_onward)
+        (when at (b == 38) (entity_or reader leaf at (entity_in reader.lookup bs)) c2 (λ e. entity_onward (entity_in reader.lookup bs) (entity-within reader.lookup bs))
+        (when at (b == 96) (code_or reader leaf at (backticks (b ∷ bs)) (code_in (b ∷ bs))) c3 (λ e. (let r = run_size 96 (eqb-true b 96 e) in code_onward (backticks (b ∷ bs)) (code_in (b ∷ bs)) r.0 r.1 (code-shorter (b ∷ bs))))
+        (when at (b == 60) (less_than reader leaf at bs) c4 (λ e. less_than_onward)
+        (when at (b == 33) bang c5
+        (λ e. when at (first_is (λ c. c == 91) bs) (Opens (bracket true at (at + 2))) plain (λ g. (let s = first-size (λ c. c == 91) bs g in (record { begins = omega arith; ordered = omega arith; ends = omega arith }, omega arith))) (byte_onward Plain))
+        (when at (b == 91) (Opens (bracket false at (suc at))) c6 (λ e. (record { begins = omega arith; ordered = omega arith; ends = omega arith }, omega arith))
+        (when at (b == 93) (Closes (bracket false at (suc at))) c7 (λ e. (refl, refl, omega arith))
+        (when at ((b == 42) || ((b == 95) || ((b == 126) || (b == 94)))) (run_at reader leaf at b (prefix_len (λ c. c == b) (b ∷ bs))) c8 (λ e. (let r = run_size b refl in (let n = prefix_len (λ c. c == b) (b ∷ bs) in run_onward b n (flanking reader.options b n (character_before reader leaf at) (character_at reader leaf (at + n))) r.0 r.1)))
+        (when at (reader.options.math && is_dollar b) (dollar reader leaf at bs (braces_behind false (before reader leaf at) no_braces)) c9 (λ e. dollar_onward (braces_behind false (before reader leaf at) no_braces))
+        (when at reader.options.smart_punctuation (smart_or reader leaf at b) plain (λ e. smart_onward) (byte_onward Plain)))))))))))
+
+  begins_at_onward : (at : ℕ) → Onward at (begins_at reader leaf at)
+  begins_at_onward at = go (from reader leaf at) refl
+    where
+      go : (l : List ℕ) → from reader leaf at ≡ l → Onward at (begins reader leaf at l)
+      go [] e = tt
+      go (b ∷ bs) e = begins_onward at b bs e
+
+  -- plain bytes lead up to the leaf's end
+  goes_within : (t : Token) (stop : ℕ) (more : ℕ → ℕ) → stop ≤ end → Onward stop t → ((x : ℕ) → x ≤ end → (x ≤ more x) × (more x ≤ end)) → (stop ≤ goes_on reader leaf t stop more) × (goes_on reader leaf t stop more ≤ end)
+  goes_within (Stands item past) stop more h k i = by (is_plain item.kind && (item.start == stop))
+    where
+      by : (b : Bool) → (stop ≤ (if b then more past else stop)) × ((if b then more past else stop) ≤ end)
+      by true = let m = i past k.2 in let x = k.1 in let y = m.0 in let z = m.1 in (omega arith, z)
+      by false = (omega arith, h)
+  goes_within (Opens opener) stop more h k i = (omega arith, h)
+  goes_within (Closes closer) stop more h k i = (omega arith, h)
+  goes_within Ends stop more h k i = (omega arith, h)
+
+  plain_within : (n stop : ℕ) → stop ≤ end → (stop ≤ plain_end reader leaf n stop) × (plain_end reader leaf n stop ≤ end)
+  plain_within zero stop h = (omega arith, h)
+  plain_within (suc n) stop h = goes_within (begins_at reader leaf stop) stop (plain_end reader leaf n) h (begins_at_onward stop) (λ x k. plain_within n x k)
+
+  longest_onward : (at : ℕ) (t : Token) → Onward at t → Onward at (longest reader leaf t)
+  longest_onward at (Stands item past) h =
+      let stop = plain_end reader leaf (length (from reader leaf past)) past in
+      let p = plain_within (length (from reader leaf past)) past h.2 in
+      let x = p.0 in let y = p.1 in let a = h.0.begins in let b = h.0.ordered in let c = h.0.ends in let d = h.1 in
+      when at (is_plain item.kind) (item_at Plain item.start stop) (Stands item past) (λ e. item_onward at item.start stop Plain a (omega arith) (omega arith) y) h
+  longest_onward at (Opens opener) h = h
+  longest_onward at (Closes closer) h = h
+  longest_onward at Ends h = tt
+
+  pub token-onward : (at : ℕ) → Onward at (token reader leaf at)
+  unfolding token
+  token-onward at = longest_onward at (begins_at reader leaf at) (begins_at_onward at)
+
+  pub token-ends : (at : ℕ) → end ≤ at → token reader leaf at ≡ Ends
+  unfolding token
+  token-ends at h = go (from reader leaf at) (none-behind reader.source leaf.stretches size turn at h)
+    where
+      go : (l : List ℕ) → length l ≡ 0 → longest reader leaf (begins reader leaf at l) ≡ Ends
+      go [] e = refl
+      go (b ∷ bs) e = absurd (let d : ⊥ = omega arith in d)

@@ -1,0 +1,11 @@
+pub mod BracketPass
+pub mod Expansion
+pub mod FormedParts
+pub mod LeafModel
+pub mod LinkRules
+pub mod NestedLinks
+pub mod PartLists
+pub mod PartRanges
+pub mod PassSteps
+pub mod Progress
+pub mod Unanswered

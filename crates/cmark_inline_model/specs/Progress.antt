@@ -1,0 +1,50 @@
+-- What tokens and decisions keep: they lead on in the text, take opening brackets that are there, record their question and see
+-- no earlier one.
+use Rattle.std.specs.Prelude.{◌≡◌, ℕ, suc, ◌+◌, ◌<◌, ◌≤◌, List, [], ◌∷◌, ◌++◌, length, Option}
+use Rattle.cmark_grammar.specs.Answers.{Destination}
+use Rattle.cmark_grammar.specs.BracketReading.{Comes}
+use Rattle.cmark_grammar.specs.BracketStates.{State, Result, StaysText, Forms, Outcome, Decision, Settled, Asks}
+use Rattle.cmark_grammar.specs.Items.{Item, Bracket, Token, Stands, Opens, Closes, Ends}
+use Rattle.cmark_grammar.specs.Questions.{Exchange, IsNext}
+
+-- this holds of whatever a decision comes to
+abbrev pub Always : (Outcome → Type 0) → Decision → Type 0
+Always Holds (Settled outcome) = Holds outcome
+Always Holds (Asks question answered) = (answer : Option Destination) → Holds (answered answer)
+
+-- so many opening brackets are texts: they stay, or those from the taken one on are gone
+abbrev pub FitsBy : (size left : ℕ) → Result → Type 0
+FitsBy size left StaysText = left ≡ size
+FitsBy size left (Forms nearer formed) = left + suc nearer ≡ size
+
+abbrev pub Fits : ℕ → Outcome → Type 0
+Fits size o = FitsBy size (length o.after.openers) o.result
+
+-- each token and each decision leads on in the text, behind so many bytes there is none, and a closing bracket takes an opening
+-- one that is there
+pub record IsForward (token : ℕ → Token) (decide : State → (closer : Bracket) → Decision) (size : ℕ) : Type 0 where
+  pub ends : (at : ℕ) → size ≤ at → token at ≡ Ends
+  pub stands : (at past : ℕ) (item : Item) → token at ≡ Stands item past → at < past
+  pub opens : (at : ℕ) (bracket : Bracket) → token at ≡ Opens bracket → at < bracket.end
+  pub comes : (s : State) (closer : Bracket) → token s.at ≡ Closes closer → Always (λ o. s.at < o.after.at) (decide s closer)
+  pub fits : (s : State) (closer : Bracket) → Always (Fits (length s.openers)) (decide s closer)
+
+-- what a decision comes to has put its question, or none
+abbrev pub Keeps : List Exchange → Decision → Type 0
+Keeps asked (Settled outcome) = outcome.after.asked ≡ asked
+Keeps asked (Asks question answered) = (answer : Option Destination) → (answered answer).after.asked ≡ asked ++ (record { question = question; answer = answer } ∷ [])
+
+pub record IsRecorded (decide : State → (closer : Bracket) → Decision) : Type 0 where
+  pub keeps : (s : State) (closer : Bracket) → Keeps s.asked (decide s closer)
+
+-- the same state behind other questions
+abbrev pub asked_behind : List Exchange → State → State
+asked_behind h s = record { at = s.at; expansion = s.expansion; label_close = s.label_close; asked = h ++ s.asked; openers = s.openers }
+
+abbrev pub outcome_behind : List Exchange → Outcome → Outcome
+outcome_behind h o = record { result = o.result; after = asked_behind h o.after }
+
+-- a decision does not hang on the questions that were put before
+pub record IsShifted (decide : State → (closer : Bracket) → Decision) : Type 0 where
+  pub comes : (h all : List Exchange) (s : State) (closer : Bracket) (o : Outcome) → Comes (IsNext all) s.asked (decide s closer) o
+      → Comes (IsNext (h ++ all)) (h ++ s.asked) (decide (asked_behind h s) closer) (outcome_behind h o)

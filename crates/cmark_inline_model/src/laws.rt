@@ -1,0 +1,178 @@
+//! Theorems over the inline grammar, each the contract of a function that does nothing.
+
+ghost use Rattle.std.specs.Prelude.{◌≡◌, ℕ, ◌+◌, ◌<◌, ◌≤◌, List, [], ◌∷◌, ◌++◌, length, map, sum};
+ghost use Rattle.cmark_grammar.specs.Answers.{Lookup};
+ghost use Rattle.cmark_grammar.specs.Balance.{Balanced};
+ghost use Rattle.cmark_grammar.specs.BlockDocument.{BlockDocument};
+ghost use Rattle.cmark_grammar.specs.BracketDecisions.{decide};
+ghost use Rattle.cmark_grammar.specs.Derivation.{Derives};
+ghost use Rattle.cmark_grammar.specs.Event.{Ranged};
+ghost use Rattle.cmark_grammar.specs.InlineTokens.{token};
+ghost use Rattle.cmark_grammar.specs.Labels.{fold};
+ghost use Rattle.cmark_grammar.specs.LeafReading.{Between, ReadsLeaf};
+ghost use Rattle.cmark_grammar.specs.LeafText.{InTurn, Leaf, end_of};
+ghost use Rattle.cmark_grammar.specs.Options.{Options};
+ghost use Rattle.cmark_grammar.specs.Readers.{Reader};
+ghost use Rattle.cmark_grammar.specs.References.{first_with, references};
+ghost use Rattle.cmark_grammar.specs.Siblings.{AreSpans, Inline};
+ghost use Rattle.cmark_grammar.specs.SiblingsModel.{spans_in};
+ghost use Rattle.cmark_grammar.specs.SpanDocuments.{Content, Given, IsReading, Left, Profile, Segment, reader_of, segments};
+ghost use Rattle.cmark_inline_model.specs.LeafModel.{AreLeavesInTurn};
+ghost use Rattle.cmark_grammar.specs.BracketReading.{Reads, ReadsWhole};
+ghost use Rattle.cmark_grammar.specs.BracketStates.{Decision, State};
+ghost use Rattle.cmark_grammar.specs.Items.{Bracket, Token};
+ghost use Rattle.cmark_grammar.specs.Parts.{Parts};
+ghost use Rattle.cmark_grammar.specs.Questions.{AnyAnswer, ByPlan, Exchange, IsNext, Plan};
+ghost use Rattle.cmark_inline_model.specs.BracketPass.{Pass, end_by, parts_by};
+ghost use Rattle.cmark_inline_model.specs.Expansion.{KeepsLimit, Spends, costs};
+ghost use Rattle.cmark_inline_model.specs.FormedParts.{AllFormed, closings};
+ghost use Rattle.cmark_inline_model.specs.LinkRules.{AsksRightly, IsFormedRightly};
+ghost use Rattle.cmark_inline_model.specs.NestedLinks.{HasLinksApart, KeepsLinksApart};
+ghost use Rattle.cmark_inline_model.specs.PartRanges.{KeepsRanges, StandBetween};
+ghost use Rattle.cmark_inline_model.specs.PassSteps.{Steps};
+ghost use Rattle.cmark_inline_model.specs.Unanswered.{AreUnanswered, without_callback};
+ghost use Rattle.cmark_inline_model.specs.Progress.{IsForward, IsRecorded, IsShifted, asked_behind};
+
+/// However the questions are answered, a text is read as some parts: those of the pass.
+pub fn a_text_has_parts()
+    ensures { (token : ℕ → Token) (decide : State → Bracket → Decision) (size : ℕ) → IsForward token decide size
+        → (plan : Plan) (s : State) → s.openers ≡ []
+        → ReadsWhole token decide (ByPlan plan) s (parts_by token decide plan size s) (end_by token decide plan size s) }
+{}
+
+/// For each list of answers a text has at most one list of parts, and one state at its end.
+pub fn a_text_has_one_list_of_parts()
+    ensures parts { (token : ℕ → Token) (decide : State → Bracket → Decision) (all : List Exchange) (s t u : State) (first second : Parts)
+        → ReadsWhole token decide (IsNext all) s first t → ReadsWhole token decide (IsNext all) s second u → first ≡ second }
+    ensures end { (token : ℕ → Token) (decide : State → Bracket → Decision) (all : List Exchange) (s t u : State) (first second : Parts)
+        → ReadsWhole token decide (IsNext all) s first t → ReadsWhole token decide (IsNext all) s second u → t ≡ u }
+{}
+
+/// One step of the pass keeps what it has read, whatever the answers.
+pub fn steps_keep_the_reading()
+    ensures { (token : ℕ → Token) (decide : State → Bracket → Decision) (start : State) (p q : Pass)
+        → Reads token decide AnyAnswer start p.here p.state → Steps token decide AnyAnswer p q → Reads token decide AnyAnswer start q.here q.state }
+{}
+
+/// Questions are only added: behind those that were put before come those of this reading.
+pub fn questions_only_grow()
+    ensures { (token : ℕ → Token) (decide : State → Bracket → Decision) → IsRecorded decide
+        → (s : State) (parts : Parts) (t : State) → Reads token decide AnyAnswer s parts t → (more : List Exchange) × (t.asked ≡ s.asked ++ more) }
+{}
+
+/// A reading with any answers is the reading with the list of answers that it got.
+pub fn answers_become_a_list()
+    ensures { (token : ℕ → Token) (decide : State → Bracket → Decision) → IsRecorded decide
+        → (all rest : List Exchange) (s : State) (parts : Parts) (t : State) → all ≡ t.asked ++ rest
+        → Reads token decide AnyAnswer s parts t → Reads token decide (IsNext all) s parts t }
+{}
+
+/// A reading does not see which questions were put before it.
+pub fn earlier_questions_are_not_seen()
+    ensures { (token : ℕ → Token) (decide : State → Bracket → Decision) → IsShifted decide
+        → (h all : List Exchange) (s : State) (parts : Parts) (t : State) → Reads token decide (IsNext all) s parts t
+        → Reads token decide (IsNext (h ++ all)) (asked_behind h s) parts (asked_behind h t) }
+{}
+
+/// No link of a leaf holds another (CommonMark 6.3).
+pub fn no_link_holds_a_link()
+    ensures { (reader : Reader) (leaf : Leaf) (s : State) (parts : Parts) (t : State)
+        → Reads (token reader leaf) (decide reader leaf) AnyAnswer s parts t → HasLinksApart parts }
+{}
+
+/// At most one question is put for each closing bracket.
+pub fn questions_are_few()
+    ensures { (reader : Reader) (leaf : Leaf) (s : State) (parts : Parts) (t : State)
+        → Reads (token reader leaf) (decide reader leaf) AnyAnswer s parts t → length t.asked ≤ closings parts + length s.asked }
+{}
+
+/// A question is about a label that no definition has, and is put only while something of the expansion limit is left.
+pub fn questions_are_about_unknown_labels()
+    ensures { (reader : Reader) (leaf : Leaf) (s : State) (closer : Bracket) → AsksRightly reader s (decide reader leaf s closer) }
+{}
+
+/// A reference leads where the definition of its label says, and where there is none, where the answer does; footnote references
+/// and wikilinks are formed only where they are read.
+pub fn references_lead_to_their_definitions()
+    ensures formed { (reader : Reader) (leaf : Leaf) (s : State) (parts : Parts) (t : State)
+        → Reads (token reader leaf) (decide reader leaf) AnyAnswer s parts t → AllFormed (IsFormedRightly reader) parts }
+    ensures first { (text : List ℕ) (profile : Profile) (document : BlockDocument) (folded : List ℕ)
+        → (reader_of text profile document).definition folded ≡ first_with fold folded (references document) }
+{}
+
+/// All references but the last cost less than there was of the expansion limit.
+pub fn references_keep_the_limit()
+    ensures spent { (reader : Reader) (leaf : Leaf) (s : State) (parts : Parts) (t : State)
+        → Reads (token reader leaf) (decide reader leaf) AnyAnswer s parts t → Spends s.expansion (costs parts) t.expansion }
+    ensures below { (cs : List ℕ) (last before after : ℕ) → Spends before (cs ++ (last ∷ [])) after → sum cs < before }
+{}
+
+/// The parts of a leaf stand within it, one behind the other, and what brackets form around what stands between them.
+pub fn parts_stand_in_their_leaf()
+    ensures { (reader : Reader) (leaf : Leaf) (s : State) (parts : Parts) (t : State) (size : ℕ)
+        → Reads (token reader leaf) (decide reader leaf) AnyAnswer s parts t → InTurn 0 leaf.stretches size → s.at ≤ end_of leaf.stretches
+        → StandBetween s.at parts t.at × (t.at ≤ end_of leaf.stretches) }
+{}
+
+/// The events of a reading are balanced: each start has its end behind it, of the same tag.
+pub fn events_are_balanced()
+    ensures { (text : List ℕ) (profile : Profile) (exchanges : List Exchange) (events : List Ranged)
+        → IsReading text profile exchanges events → Balanced (map Ranged.event events) }
+{}
+
+/// Parts have spans, the model's, and no others: what a text's parts become is one list of spans.
+pub fn one_spans()
+    ensures some { (options : Options) (parts : Parts) → AreSpans options parts (spans_in options parts) }
+    ensures one { (options : Options) (parts : Parts) (first second : Inline) → AreSpans options parts first → AreSpans options parts second → first ≡ second }
+{}
+
+/// The tokens and decisions of a leaf whose lines stand in order lead on in it.
+pub fn leaves_lead_on()
+    ensures { (reader : Reader) (leaf : Leaf) (size : ℕ) → InTurn 0 leaf.stretches size → IsForward (token reader leaf) (decide reader leaf) (end_of leaf.stretches) }
+{}
+
+/// The tokens and decisions of such a leaf stand within it.
+pub fn leaves_keep_their_places()
+    ensures { (reader : Reader) (leaf : Leaf) (size : ℕ) → InTurn 0 leaf.stretches size → KeepsRanges (token reader leaf) (decide reader leaf) (end_of leaf.stretches) }
+{}
+
+/// The leaves of a text are such leaves.
+pub fn leaves_stand_in_order()
+    ensures { (text : List ℕ) (options : Options) (lookup : Lookup) (document : BlockDocument)
+        → Derives text options lookup document → AreLeavesInTurn (length text) (segments document) }
+{}
+
+/// What the grammar decides about a closing bracket records its question, sees no earlier one, and keeps links apart and the
+/// expansion limit.
+pub fn decisions_keep_the_rules()
+    ensures recorded { (reader : Reader) (leaf : Leaf) → IsRecorded (decide reader leaf) }
+    ensures shifted { (reader : Reader) (leaf : Leaf) → IsShifted (decide reader leaf) }
+    ensures apart { (reader : Reader) (leaf : Leaf) → KeepsLinksApart (decide reader leaf) }
+    ensures limit { (reader : Reader) (leaf : Leaf) → KeepsLimit (decide reader leaf) }
+{}
+
+/// However the questions are answered, a text has a reading.
+pub fn a_text_has_a_reading()
+    ensures { (text : List ℕ) (profile : Profile) (plan : Plan) → (exchanges : List Exchange) × (events : List Ranged) × IsReading text profile exchanges events }
+{}
+
+/// For each list of answers a text has one reading.
+pub fn one_reading()
+    ensures { (text : List ℕ) (profile : Profile) (exchanges : List Exchange) (first second : List Ranged)
+        → IsReading text profile exchanges first → IsReading text profile exchanges second → first ≡ second }
+{}
+
+/// What is left behind an event of the blocks, or behind a leaf, is left with it in front.
+pub fn what_is_left_grows_backwards()
+    ensures given { (reader : Reader) (r : Ranged) (others : List Segment) (expansion : ℕ) (exchanges : List Exchange) (events : List Ranged)
+        → Left reader others expansion exchanges events → Left reader (Given r ∷ others) expansion exchanges (r ∷ events) }
+    ensures leaf { (reader : Reader) (leaf : Leaf) (others : List Segment) (expansion : ℕ) (taken rest : List Exchange) (spans later : List Ranged) (between : Between)
+        → ReadsLeaf reader (IsNext taken) leaf (record { expansion = expansion; asked = [] }) spans between → between.asked ≡ taken
+        → Left reader others between.expansion rest later → Left reader (Content leaf ∷ others) expansion (taken ++ rest) (spans ++ later) }
+{}
+
+/// A callback that answers nothing and no callback differ in the questions alone: the events are the same.
+pub fn no_answers_are_no_callback()
+    ensures { (text : List ℕ) (profile : Profile) (exchanges : List Exchange) (events : List Ranged)
+        → AreUnanswered exchanges → IsReading text profile exchanges events → IsReading text (without_callback profile) [] events }
+{}
