@@ -8,7 +8,6 @@ use Rattle.cmark_grammar.specs.Derivation.{document}
 use Rattle.cmark_grammar.specs.Event.{Ranged}
 use Rattle.cmark_grammar.specs.LeafSpans.{InTurn, WithSpans}
 use Rattle.cmark_grammar.specs.Options.{Options}
-use Rattle.cmark_grammar.proofs.BlockDocumentOne.{document-only}
 use Rattle.cmark_grammar.proofs.BoundaryLaws.{derived-boundaries}
 use Rattle.cmark_grammar.proofs.LeafSpanLaws.{reading-turn, some-spans}
 use Rattle.cmark_grammar.proofs.RangeLaws.{derived-order}
@@ -18,7 +17,7 @@ use Rattle.cmark_walk.specs.declared.reading.Ranged.{Ranged as Item}
 use Rattle.cmark_walk.specs.Walking.{shown_ranged}
 use Rattle.pulldown_cmark.specs.declared.parse.Parser.{Parser}
 use Rattle.pulldown_cmark.specs.Walking.{GoesOn, IsReading}
-use Rattle.pulldown_cmark.specs.Parsing.{CanGo, Defines, DefinesAs, IsOver, GivesStep, Left, Reads, Remains, Shows, ShowsStep, definitions, events_left}
+use Rattle.pulldown_cmark.specs.Parsing.{CanGo, IsOver, GivesStep, Left, Reads, Remains, Shows, ShowsStep, definitions, events_left}
 
 module _ {E F : Type 0} where
   -- the walk of a parser that is not over
@@ -80,10 +79,6 @@ module _ {E F : Type 0} where
     -- at its start a parser can go
     pub can-begin : Reads text options lookup parser → CanGo parser
     can-begin r = record { goes = inr r.some }
-
--- each document that the text derives has the definitions of the model's
-pub defines-each : {E F : Type 0} (parser : Parser E F) (text : List ℕ) (options : Options) (lookup : Lookup) → DefinesAs (document text options lookup) parser → Defines text options lookup parser
-defines-each parser text options lookup defines = λ d derives. subst (λ e. DefinesAs e parser) (sym (document-only text options lookup d derives)) defines
 
 -- the content of a text's leaves is in turn
 pub begin-turn : (text : List ℕ) (options : Options) (lookup : Lookup) → IsUtf8 text → InTurn text 0 (block_reading (document text options lookup))

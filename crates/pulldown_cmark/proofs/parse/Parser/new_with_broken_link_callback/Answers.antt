@@ -1,12 +1,18 @@
-use Rattle.std.proofs.Common.{refl, ap, subst, option_map, ◌∙◌}
+use Rattle.std.proofs.Common.{refl, sym, ap, subst, option_map, ◌∙◌}
 use Rattle.cmark_text.specs.Shown.{shown_options}
 use Rattle.cmark_block_model.specs.BlockPass.{pass_over}
 use Rattle.cmark_block_model.proofs.Drawings.{drawn-read, drawn-order, drawn-edges}
 use Rattle.cmark_grammar.specs.BlockReading.{block_reading}
 use Rattle.cmark_grammar.specs.Derivation.{document}
+use Rattle.cmark_grammar.specs.BlockDocument.{BlockDocument}
+use Rattle.cmark_grammar.specs.Labels.{fold}
+use Rattle.cmark_grammar.specs.References.{first_with, references}
+use Rattle.cmark_grammar.proofs.BlockDocumentOne.{document-only}
+use Rattle.cmark_blocks.specs.Runs.{shown_reference}
 use Rattle.cmark_items.specs.Definitions.{definition, shown_definition}
+use Rattle.cmark_items.specs.declared.definitions.RefDefs.{RefDefs}
 use Rattle.cmark_walk.specs.Walking.{Remains}
-use Rattle.pulldown_cmark.proofs.ParseSteps.{begin-few, begin-turn, defines-each, reads-from, can-begin}
+use Rattle.pulldown_cmark.proofs.ParseSteps.{begin-few, begin-turn, reads-from, can-begin}
 use Rattle.pulldown_cmark.proofs.parse.Parser.new_with_broken_link_callback.Goals as goal
 
 pub returns-clause-reads : goal.returns-clause-reads
@@ -23,11 +29,13 @@ returns-clause-reads g c =
     reads-from _ text options lookup refl (λ events w. c.new.ensures.begins blocks events remains (begin-few text options lookup) (begin-turn text options lookup c.utf8.text) w)
     (λ events r. c.new.ensures.reads blocks events remains r)
 
+-- each document that the text derives is the model's
 pub returns-clause-definitions : goal.returns-clause-definitions
-returns-clause-definitions g c =
-    defines-each _ c.args.text.now (shown_options c.args.options) (g.E.EntityLookup.replacement c.args.entities.now)
-    (λ folded.
-        ap (λ r. option_map shown_definition (definition r folded)) (c.new.ensures.definitions ∙ c.new-walk.ensures.definitions) ∙ c.in_ok-tree.ensures.document.references folded)
+returns-clause-definitions g c = λ d derives folded.
+    ap (λ (r : RefDefs). option_map shown_definition (definition r folded)) (c.new.ensures.definitions ∙ c.new-walk.ensures.definitions)
+    ∙ c.in_ok-tree.ensures.document.references folded
+    ∙ ap (λ (e : BlockDocument). option_map shown_reference (first_with fold folded (references e)))
+    (sym (document-only c.args.text.now (shown_options c.args.options) (g.E.EntityLookup.replacement c.args.entities.now) d derives))
 
 pub returns-clause-goes : goal.returns-clause-goes
 returns-clause-goes g c = can-begin _ c.args.text.now (shown_options c.args.options) (g.E.EntityLookup.replacement c.args.entities.now) (returns-clause-reads g c)
