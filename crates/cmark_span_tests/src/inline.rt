@@ -474,3 +474,37 @@ fn boxed_callback(rt: HostRuntime) -> Result<(), Fail> {
     );
     Ok(())
 }
+
+#[test]
+fn backticks_that_are_not_closed(rt: HostRuntime) -> Result<(), Fail> {
+    let found = of(rt.alloc(), "``` `a` `` b `c``", Options::empty())?;
+    assert_eq!(rt;
+        found.as_str(),
+        "0..3 Text(\"```\")\n\
+         3..4 Text(\" \")\n\
+         4..7 Code(\"a\")\n\
+         7..8 Text(\" \")\n\
+         8..17 Code(\" b `c\")\n"
+    );
+    Ok(())
+}
+
+#[test]
+fn stars_stay_open_where_tildes_are_shut(rt: HostRuntime) -> Result<(), Fail> {
+    let options = Options::ENABLE_STRIKETHROUGH;
+    let found = of(rt.alloc(), "**a ~b~~ c~ d**", options)?;
+    assert_eq!(rt;
+        found.as_str(),
+        "0..15 Start(Strong)\n\
+         2..4 Text(\"a \")\n\
+         4..5 Text(\"~\")\n\
+         5..6 Text(\"b\")\n\
+         6..7 Text(\"~\")\n\
+         7..8 Text(\"~\")\n\
+         8..10 Text(\" c\")\n\
+         10..11 Text(\"~\")\n\
+         11..13 Text(\" d\")\n\
+         0..15 End(Strong)\n"
+    );
+    Ok(())
+}
