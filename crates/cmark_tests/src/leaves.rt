@@ -12,14 +12,15 @@ fn lends_html_of_the_source(rt: HostRuntime) -> Result<(), Fail> {
         ("x <a\n   b>", true),
         ("> x <a\n>   b>", false),
     ] {
-        let mut found = 0;
+        let mut is_found = false;
         for item in Parser::new(rt.alloc(), text, &BasicEntities)? {
             if let Event::InlineHtml(html) = item? {
-                found += 1;
+                assert_eq!(rt; is_found, false, "twice in {text:?}");
+                is_found = true;
                 assert_eq!(rt; matches!(html, CowStr::Borrowed(_)), is_lent, "of {text:?}");
             }
         }
-        assert_eq!(rt; found, 1, "of {text:?}");
+        assert_eq!(rt; is_found, true, "of {text:?}");
     }
     Ok(())
 }
