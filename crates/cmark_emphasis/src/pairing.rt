@@ -161,7 +161,7 @@ fn close(
 /// have some of them.
 ///
 /// A search that found none is not made again by a run of its class (`OpenersBottom`), and one that finds an open run takes
-/// all that it passed off the stack: so the time grows in proportion to the number of runs.
+/// all that it passed off the stack. So the time should grow in proportion to the number of runs: this is measured, not proved.
 pub fn pair_runs(
     runs: &[Run],
     stack: &mut Vec<Run>,

@@ -32,7 +32,7 @@ impl PairingRoom {
 /// Makes the slots of `count` siblings of which these are the delimiter runs, in their order (CommonMark 6.2, GFM 6.5): which
 /// runs pair, and the spans that the pairs become. What `slots` held is gone; where memory is refused, they hold anything.
 ///
-/// The time grows in proportion to the siblings (`pair_runs`).
+/// The time should grow in proportion to the siblings (`pair_runs`).
 pub fn slots_of_runs(
     count: usize,
     runs: &[Run],
