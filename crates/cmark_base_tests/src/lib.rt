@@ -1,5 +1,5 @@
-//! Tests of the crates below the parser: texts and events, the tree, the items with their tables, and the HTML and the JSON of
-//! events.
+//! Tests of the crates below the parser: texts and events, the tree, the items with their tables, the HTML and the JSON of
+//! events, and merged texts.
 #![tactic(auto)]
 
 #[cfg(test)]
@@ -8,6 +8,8 @@ mod html;
 mod items;
 #[cfg(test)]
 mod json;
+#[cfg(test)]
+mod merge;
 #[cfg(test)]
 mod text;
 #[cfg(test)]

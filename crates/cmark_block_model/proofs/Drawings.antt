@@ -21,7 +21,7 @@ use Rattle.cmark_block_model.specs.BlockPass.{pass_over}
 use Rattle.cmark_block_model.proofs.Theorem.{pass-draws}
 
 -- a definition is not read
-silent : (k : BlockKind) → is_definition k ≡ true → read_as k ≡ Silent
+pub silent : (k : BlockKind) → is_definition k ≡ true → read_as k ≡ Silent
 silent (LinkDefinition reference) e = refl
 silent Paragraph e = absurd (let q : false ≡ true = e in cc)
 silent TightParagraph e = absurd (let q : false ≡ true = e in cc)

@@ -9,6 +9,7 @@ pub mod Filled
 pub mod Flags
 pub mod Keeping
 pub mod LazyLines
+pub mod LeafDrawings
 pub mod Mirror
 pub mod PassSamples
 pub mod PlainTokens

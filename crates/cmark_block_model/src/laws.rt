@@ -9,6 +9,7 @@ ghost use Rattle.cmark_grammar.specs.DrawnDocument.{settled, without_definitions
 ghost use Rattle.cmark_grammar.specs.Options.{Options};
 ghost use Rattle.cmark_grammar.specs.Ranges.{AllAt, InOrder};
 ghost use Rattle.cmark_grammar.specs.References.{references};
+ghost use Rattle.cmark_grammar.specs.SpanDocuments.{segments};
 ghost use Rattle.cmark_block_model.specs.BlockPass.{pass_over};
 
 /// The pass over a text draws the document that the text derives: where the paragraphs of tight lists are settled, it is that
@@ -28,18 +29,22 @@ pub fn definitions_are_not_read()
 {}
 
 /// What the pass over a text draws is read as the document that the text derives, where the paragraphs of tight lists are
-/// settled; its ranges lie in order in the text, and cut no character of it.
+/// settled, and has its leaves; its ranges lie in order in the text, and cut no character of it.
 pub fn drawing_is_read_as_the_document()
     ensures read { (text : List ℕ) (options : Options) (lookup : Lookup)
         → block_reading (settled false (pass_over text options lookup).drawing.here) ≡ block_reading (document text options lookup) }
+    ensures leaves { (text : List ℕ) (options : Options) (lookup : Lookup)
+        → segments (settled false (pass_over text options lookup).drawing.here) ≡ segments (document text options lookup) }
     ensures in_order { (text : List ℕ) (options : Options) (lookup : Lookup)
         → InOrder 0 (pass_over text options lookup).drawing.here (length text) }
     ensures uncut { (text : List ℕ) (options : Options) (lookup : Lookup)
         → IsUtf8 text → AllAt (IsCharBoundary text) (pass_over text options lookup).drawing.here }
 {}
 
-/// A document is read as eight events at most a byte of its text.
+/// A document is read as eight events at most a byte of its text, and gives twelve events and leaves at most.
 pub fn events_are_few()
-    ensures { (text : List ℕ) (options : Options) (lookup : Lookup) (document : BlockDocument)
+    ensures events { (text : List ℕ) (options : Options) (lookup : Lookup) (document : BlockDocument)
         → Derives text options lookup document → length (block_reading document) ≤ 8 * length text }
+    ensures leaves { (text : List ℕ) (options : Options) (lookup : Lookup) (document : BlockDocument)
+        → Derives text options lookup document → length (segments document) ≤ 12 * length text }
 {}

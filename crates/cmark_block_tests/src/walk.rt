@@ -4,9 +4,10 @@ ghost use Rattle.std.specs.Prelude.{IfOk};
 ghost use Rattle.cmark_walk.specs.Walking.{Goes};
 
 use cmark_items::{Allocations, Item, ItemBody, ListFlags};
-use cmark_text::{CowStr, Event, Tag, TagEnd};
+use cmark_leaf_text::LeafLine;
+use cmark_text::{Event, Tag, TagEnd};
 use cmark_tree::Tree;
-use cmark_walk::Walk;
+use cmark_walk::{Met, Walk};
 use std::alloc::{AllocError, Global};
 use std::test::Fail;
 
@@ -43,26 +44,42 @@ fn list(alloc: Global) -> Result<Walk<'static>, AllocError>
     Ok(Walk::new(alloc, "a", tree, Allocations::new(alloc)))
 }
 
-// Whether the next event is this one, over the whole text.
-fn gives(walk: &mut Walk<'static>, event: Event<'static>) -> Result<bool, AllocError>
+// Whether the next thing that is met is this event, over the whole text.
+fn gives(
+    walk: &mut Walk<'static>,
+    lines: &mut Vec<LeafLine>,
+    event: Event<'static>,
+) -> Result<bool, AllocError>
     requires { Goes walk.old }
     ensures { Goes walk.new }
 {
-    match walk.next()? {
-        Some(given) => Ok(given.event == event && given.range.start == 0 && given.range.end == 1),
-        None => Ok(false),
+    match walk.next(lines)? {
+        Met::Event(given) => {
+            Ok(given.event == event && given.range.start == 0 && given.range.end == 1)
+        }
+        _ => Ok(false),
     }
 }
 
 #[test]
-fn a_tight_paragraph_is_read_as_its_text(rt: HostRuntime) -> Result<(), Fail> {
+fn a_tight_paragraph_is_met_as_its_lines(rt: HostRuntime) -> Result<(), Fail> {
     let mut walk = list(rt.alloc())?;
-    assert!(rt; gives(&mut walk, Event::Start(Tag::List(None)))?);
-    assert!(rt; gives(&mut walk, Event::Start(Tag::Item))?);
-    assert!(rt; gives(&mut walk, Event::Text(CowStr::Borrowed("a")))?);
-    assert!(rt; gives(&mut walk, Event::End(TagEnd::Item))?);
-    assert!(rt; gives(&mut walk, Event::End(TagEnd::List(false)))?);
-    assert!(rt; walk.next()?.is_none());
+    let mut lines = Vec::new(rt.alloc());
+    assert!(rt; gives(&mut walk, &mut lines, Event::Start(Tag::List(None)))?);
+    assert!(rt; gives(&mut walk, &mut lines, Event::Start(Tag::Item))?);
+    assert!(rt; matches!(walk.next(&mut lines)?, Met::Leaf));
+    assert_eq!(rt; lines.len(), 1);
+    assert_eq!(rt;
+        lines[0],
+        LeafLine {
+            start: 0,
+            stop: 1,
+            past: 1
+        }
+    );
+    assert!(rt; gives(&mut walk, &mut lines, Event::End(TagEnd::Item))?);
+    assert!(rt; gives(&mut walk, &mut lines, Event::End(TagEnd::List(false)))?);
+    assert!(rt; matches!(walk.next(&mut lines)?, Met::Over));
     assert!(rt; walk.definitions().get("a")?.is_none());
     Ok(())
 }

@@ -1,12 +1,9 @@
 pub mod Bridge
 pub mod Stacks
 pub mod Categories
-pub mod Writes
-pub mod Covered
 pub mod Marked
 pub mod Innermost
 pub mod Quoted
-pub mod Placed
 pub mod Callers
 pub mod SlotsRead
 pub mod Alike

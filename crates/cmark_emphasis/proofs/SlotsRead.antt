@@ -6,7 +6,7 @@ use Rattle.cmark_grammar.specs.Emphasis.{Sibling, StandFrom, places_taken}
 use Rattle.cmark_grammar.specs.EmphasisModel.{spans_of}
 use Rattle.cmark_emphasis.specs.declared.slot.Slot.{Slot}
 use Rattle.cmark_emphasis.specs.Slots.{opening, closing, slots_of, Begun, read_from, read_slots}
-use Rattle.cmark_emphasis.proofs.Placed.{places}
+use Rattle.cmark_grammar.proofs.SpanPlaces.{places}
 
 join-nil : (f : Spans) → join f Nil ≡ f
 join-nil Nil = refl

@@ -1,7 +1,6 @@
 pub mod Ascii
 pub mod Bottoms
 pub mod Classes
-pub mod Covers
 pub mod Nearest
 pub mod QuoteSteps
 pub mod Shown

@@ -1,8 +1,10 @@
 -- Spans around siblings as slots, one for each sibling.
-use Rattle.std.specs.Prelude.{◌≡◌, ℕ, suc, ◌+◌, ◌-◌, ◌≤◌, List, [], ◌∷◌, ◌++◌, slice_set}
-use Rattle.cmark_grammar.specs.Spans.{SpanKind, Emphasis, Strong, SingleTilde, DoubleTilde, Caret, span_width, Spans, Nil, Single, Around, join}
-use Rattle.cmark_grammar.specs.Emphasis.{Run, Pair, Sibling, StandFrom, places_taken, runs_of, kinds_of}
+use Rattle.std.specs.Prelude.{◌≡◌, ℕ, suc, List, [], ◌∷◌}
+use Rattle.cmark_grammar.specs.Spans.{SpanKind, Emphasis, Strong, SingleTilde, DoubleTilde, Caret, Spans, Nil, Single, Around, join}
+use Rattle.cmark_grammar.specs.Emphasis.{Run, Pair, Sibling, StandFrom, places_taken, runs_of}
 use Rattle.cmark_grammar.specs.EmphasisModel.{pairs_of}
+use Rattle.cmark_grammar.specs.SpanEntries as entries
+use Rattle.cmark_grammar.specs.SpanEntries.{entries_of}
 use Rattle.cmark_emphasis.specs.Shown.{shown_kind}
 use Rattle.cmark_emphasis.specs.declared.slot.SpanKind.TheVariants as code
 use Rattle.cmark_emphasis.specs.declared.slot.SpanKind as code_kind
@@ -24,11 +26,13 @@ closing SingleTilde = slot.End code.SingleTilde ∷ []
 closing DoubleTilde = slot.Blank ∷ (slot.End code.DoubleTilde ∷ [])
 closing Caret = slot.End code.Caret ∷ []
 
+-- so many siblings, each as it is
+abbrev pub stays : ℕ → List Slot
+stays n = entries.stays Slot slot.Single opening closing n
+
 -- the slots of siblings with these spans around them
 abbrev pub slots_of : Spans → List Slot
-slots_of Nil = []
-slots_of (Single at after) = slot.Single ∷ slots_of after
-slots_of (Around span inside after) = (opening span.kind ++ (slots_of inside ++ closing span.kind)) ++ slots_of after
+slots_of spans = entries_of Slot slot.Single opening closing spans
 
 -- a span that has begun: what stands before it, its kind, and its first place
 pub record Begun : Type 0 where
@@ -75,31 +79,12 @@ pub record AreRuns (count : ℕ) (runs : List Run) : Type 0 where
   pub taken : places_taken siblings ≡ count
   pub are : runs_of siblings ≡ runs
 
--- these slots in the place of those from a place on
-abbrev pub write : ℕ → List Slot → List Slot → List Slot
-write at [] slots = slots
-write at (x ∷ xs) slots = write (suc at) xs (slice_set slots at x)
-
 -- spans around what stands between the places from and to, the innermost first
 abbrev pub mark_spans : List SpanKind → (from to : ℕ) → List Slot → List Slot
-mark_spans [] from to slots = slots
-mark_spans (kind ∷ kinds) from to slots =
-    mark_spans kinds (from - span_width kind) (to + span_width kind)
-    (write to (closing kind) (write (from - span_width kind) (opening kind) slots))
+mark_spans kinds from to slots = entries.mark_spans Slot slot.Single opening closing kinds from to slots
 
 abbrev pub mark_pair : Pair → List Slot → List Slot
-mark_pair pair slots = mark_spans (kinds_of pair.mark pair.count) pair.from pair.to slots
+mark_pair pair slots = entries.mark_pair Slot slot.Single opening closing pair slots
 
 abbrev pub mark_pairs : List Pair → List Slot → List Slot
-mark_pairs [] slots = slots
-mark_pairs (pair ∷ pairs) slots = mark_pairs pairs (mark_pair pair slots)
-
--- the bytes of the pair are among so many siblings
-pub record IsWithin (count : ℕ) (pair : Pair) : Type 0 where
-  pub opens : pair.count ≤ pair.from
-  pub ordered : pair.from ≤ pair.to
-  pub closes : pair.to + pair.count ≤ count
-
-abbrev pub AllWithin : ℕ → List Pair → Type 0
-AllWithin count [] = Unit {0}
-AllWithin count (pair ∷ pairs) = IsWithin count pair × AllWithin count pairs
+mark_pairs pairs slots = entries.mark_pairs Slot slot.Single opening closing pairs slots

@@ -4,8 +4,9 @@ ghost use Rattle.std.specs.Prelude.{◌≡◌, ◌+◌, ◌-◌, ◌<◌, ◌≤
 ghost use Rattle.cmark_grammar.specs.Spans.{span_width};
 ghost use Rattle.cmark_grammar.specs.Emphasis.{Sibling, StandFrom, places_taken, kinds_of, emphasis_kinds, tilde_kinds};
 ghost use Rattle.cmark_grammar.specs.EmphasisModel.{pairs_of, spans_of};
+ghost use Rattle.cmark_grammar.specs.SpanEntries.{IsWithin, write};
 ghost use Rattle.cmark_emphasis.specs.Shown.{shown_kind, shown_pair};
-ghost use Rattle.cmark_emphasis.specs.Slots.{AreBalanced, ArePairs, IsWithin, closing, opening, slots_of, write};
+ghost use Rattle.cmark_emphasis.specs.Slots.{AreBalanced, ArePairs, closing, opening, slots_of};
 ghost use Rattle.cmark_emphasis.specs.Slots as model;
 
 use crate::run::Pair;

@@ -98,6 +98,7 @@ fn parting_in(text: &str) -> Option<Parting<'_>>
 /// line on, or from a backslash on that stands directly before the line ending and that no backslash escapes. A break is hard
 /// where it begins with such a backslash, and where two spaces stand directly before the line ending. `None` where no line
 /// ends there, as at the end of the text.
+#[inline(always)]
 pub fn line_break(text: &str, at: usize) -> Option<LineBreak>
     requires { IsCharBoundary text.now at }
     ensures value { option_map (shown_break text.now at) result ≡ line_break_in (drop at text.now) }

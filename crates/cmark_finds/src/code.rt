@@ -9,8 +9,8 @@ ghost use Rattle.cmark_text.specs.Shown.{text_bytes};
 ghost use Rattle.cmark_finds.specs.Shown.{shown_code, IsCodeAt, ClosesFirst};
 
 use crate::line_end::{has_line_ending, with_line_ends};
+use cmark_search::find_backtick;
 use cmark_text::CowStr;
-use memchr::memchr;
 use std::alloc::{AllocError, Global};
 
 /// Where a code span lies in its text.
@@ -39,7 +39,7 @@ fn find_run(bytes: &[u8], size: usize) -> Option<usize>
     ensures run { IfSome result (λ at. backticks (drop at bytes.now) ≡ size) }
 {
     let mut rest = bytes;
-    while let Some(at) = memchr(b'`', rest) {
+    while let Some(at) = find_backtick(rest) {
         let run = &rest[at..];
         let count = backticks(run);
         if count == size {

@@ -10,7 +10,7 @@ ghost use Rattle.cmark_definitions.specs.Rests.{IsRest, without_byte};
 ghost use Rattle.cmark_finds.specs.Ends.{HasNoEnd, EndsLine};
 
 use cmark_definitions::{behind_blanks, behind_byte};
-use memchr::memchr2;
+use cmark_search::find_line_end;
 use std::alloc::{AllocError, Global};
 
 /// The text without the line feed in front, if one stands there.
@@ -53,7 +53,7 @@ pub fn behind_separator(text: &str) -> &str
 pub fn has_line_ending(text: &str) -> bool
     ensures { result ≡ takes_lines text.now }
 {
-    memchr2(b'\n', b'\r', text.as_bytes()).is_some()
+    find_line_end(text.as_bytes()).is_some()
 }
 
 /// Where a line ending lies.
@@ -81,7 +81,7 @@ fn find_line_ending(text: &str) -> Option<LineEnding>
     ensures { MatchOption result (HasNoEnd text.now) (λ found. EndsLine text.now found.start found.end) }
 {
     let bytes = text.as_bytes();
-    let start = memchr2(b'\n', b'\r', bytes)?;
+    let start = find_line_end(bytes)?;
     let end = start + ending_len(&bytes[start..]);
     Some(LineEnding { start, end })
 }

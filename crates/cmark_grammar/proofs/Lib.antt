@@ -26,6 +26,8 @@ pub mod RowEdges
 pub mod RowPlaces
 pub mod ShorterRests
 pub mod SliceLaws
+pub mod SpanEntries
+pub mod SpanPlaces
 pub mod TagSamples
 pub mod TightLaws
 pub mod TokenEdges

@@ -48,6 +48,7 @@ pub mod LinkDefinitions
 pub mod LinkTails
 pub mod LinkType
 pub mod Lists
+pub mod Merge
 pub mod Metadata
 pub mod MetadataBlockKind
 pub mod OpenBrackets
@@ -63,6 +64,7 @@ pub mod Rows
 pub mod Siblings
 pub mod SiblingsModel
 pub mod SpanDocuments
+pub mod SpanEntries
 pub mod Spans
 pub mod SpecialBytes
 pub mod Tables

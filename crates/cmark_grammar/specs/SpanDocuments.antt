@@ -1,5 +1,5 @@
 -- The events that a text is read as: those of its blocks, with the spans of its leaves, and the questions that were put on the way.
-use Rattle.std.specs.Prelude.{◌≡◌, ℕ, Bool, false, List, [], ◌∷◌, ◌++◌}
+use Rattle.std.specs.Prelude.{◌≡◌, ℕ, Bool, true, false, if◌then◌else◌, List, [], ◌∷◌, ◌++◌}
 use Rattle.cmark_grammar.specs.Answers.{Lookup}
 use Rattle.cmark_grammar.specs.BlockDocument.{BlockKind, Paragraph, TightParagraph, Heading, BlockNode, BlockDocument, Nil, Node}
 use Rattle.cmark_grammar.specs.BlockReading.{Reads, Around, Inside, Alone, Silent, read_as, over}
@@ -46,11 +46,15 @@ stretches_of (Node node inside after) = record { start = node.start; end = node.
 abbrev pub leaf_of : (content : BlockDocument) → Leaf
 leaf_of content = record { stretches = stretches_of content; is_cell = false }
 
+-- paragraphs and headings are leaves that are read; all other text, as that of code and of HTML blocks, stands as it is
+abbrev pub is_leaf : BlockKind → Bool
+is_leaf Paragraph = true
+is_leaf TightParagraph = true
+is_leaf (Heading level attributes) = true
+is_leaf _ = false
+
 abbrev pub inside_of : BlockKind → (content : BlockDocument) → (others : List Segment) → List Segment
-inside_of Paragraph content others = Content (leaf_of content) ∷ []
-inside_of TightParagraph content others = Content (leaf_of content) ∷ []
-inside_of (Heading level attributes) content others = Content (leaf_of content) ∷ []
-inside_of _ content others = others
+inside_of kind content others = if is_leaf kind then Content (leaf_of content) ∷ [] else others
 
 abbrev pub node_segments : Reads → BlockNode → List Segment → List Segment
 node_segments (Around tag) node inside = Given (over node (Start tag)) ∷ (inside ++ (Given (over node (End (end_of tag))) ∷ []))

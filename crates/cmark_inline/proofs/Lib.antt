@@ -3,3 +3,11 @@ pub mod References
 pub mod Quotes
 pub mod Runs
 pub mod Steps
+pub mod Bytes
+pub mod TokenSteps
+pub mod Appended
+pub mod ReadingOn
+pub mod MarkSteps
+pub mod AutolinkSteps
+pub mod AngleSteps
+pub mod Characters

@@ -5,3 +5,4 @@ pub mod Linked
 pub mod Opens
 pub mod Quoted
 pub mod Stands
+pub mod Tokens

@@ -1,6 +1,6 @@
 //! Delimiter runs and the elements that they become (CommonMark 6.2).
 
-ghost use Rattle.std.specs.Prelude.{◌≡◌, ◌+◌, ◌≤◌, ℕ, false, List, [], length, map, OnOk, IfOk, IfSome};
+ghost use Rattle.std.specs.Prelude.{◌≡◌, ◌+◌, ◌≤◌, ◌++◌, ◌∷◌, ℕ, false, List, [], length, map, OnOk, IfOk, IfSome};
 ghost use Rattle.cmark_emphasis.specs.Shown.{shown_kind, shown_run};
 ghost use Rattle.cmark_emphasis.specs.Slots.{AreRuns};
 ghost use Rattle.cmark_text.specs.Shown.{shown_options};
@@ -53,7 +53,8 @@ impl Delimiters {
     }
 
     pub fn push(&mut self, slot: usize, run: Run) -> Result<(), AllocError>
-        ensures { OnOk result (bytes_of self.new.placed.items ≡ bytes_of self.old.placed.items + run.size) }
+        ensures bytes { OnOk result (bytes_of self.new.placed.items ≡ bytes_of self.old.placed.items + run.size) }
+        ensures placed { OnOk result (self.new.placed.items ≡ self.old.placed.items ++ (record { slot = slot; run = run } ∷ [])) }
     {
         self.placed.push(PlacedRun { slot, run })?;
         Ok(())

@@ -1,9 +1,18 @@
 //! Places in a leaf's text.
 
-ghost use Rattle.std.specs.Prelude.{◌≡◌, ◌⊎◌, true, ◌<◌, ◌≤◌, ◌+◌, ◌-◌, ◌++◌, ℕ, List, [], length, slice_index, IfOk, OnOk, IfSome};
+ghost use Rattle.std.specs.Prelude.{◌≡◌, ◌⊎◌, ◌==◌, true, false, ◌<◌, ◌≤◌, ◌+◌, ◌-◌, ◌++◌, ℕ, List, [], drop, take, reverse, chars, length, slice_index, IfOk, OnOk, IfSome, Some, None, option_map};
+ghost use Rattle.std.specs.List.{prefix_len};
 ghost use Rattle.std.specs.Str.{IsCharBoundary};
+ghost use Rattle.cmark_grammar.specs.Autolinks.{autolink_in};
+ghost use Rattle.cmark_grammar.specs.CodeSpans.{backticks};
+ghost use Rattle.cmark_grammar.specs.Columns.{is_blank_byte};
+ghost use Rattle.cmark_grammar.specs.InlineTokens.{first_of};
+ghost use Rattle.cmark_grammar.specs.Letters.{first_is};
+ghost use Rattle.cmark_grammar.specs.LinkDefinitions.{behind_blanks};
+ghost use Rattle.cmark_grammar.specs.Tokens.{is_punctuation};
 ghost use Rattle.cmark_leaf_text.specs.Reads.{IsRead, IsPart, text_of};
 ghost use Rattle.cmark_inline.specs.Stands.{AreSlots, AreBrackets, IsBracket, IsCursor, IsSlot, IsTarget, Moves, SameSpans, Stands, bytes_of};
+ghost use Rattle.cmark_inline.specs.Tokens.{read_on, shown_autolink};
 
 use crate::step::Cursor;
 use cmark_scan_parts::scan_autolink;
@@ -12,6 +21,7 @@ use cmark_scan_parts::scan_autolink;
 pub(crate) fn run_end(text: &str, at: usize) -> usize
     requires within { at < length text.now }
     requires ascii { slice_index text.now at < 128 }
+    ensures value { result ≡ at + prefix_len (λ b. b == slice_index text.now at) (drop at text.now) }
     ensures further { at < result }
     ensures boundary { IsCharBoundary text.now result }
     ensures ascii { (k : ℕ) → at ≤ k → k < result → slice_index text.now k < 128 }
@@ -28,6 +38,8 @@ pub(crate) fn run_end(text: &str, at: usize) -> usize
 // Where the blanks before this place begin.
 pub(crate) fn before_blanks(text: &str, here: Cursor) -> usize
     requires { IsCursor text.now here }
+    ensures blanks { (k : ℕ) → result ≤ k → k < here.at → is_blank_byte (slice_index text.now k) ≡ true }
+    ensures first { here.pending < result → is_blank_byte (slice_index text.now (result - 1)) ≡ false }
     ensures behind { here.pending ≤ result }
     ensures before { result ≤ here.at }
     ensures boundary { IsCharBoundary text.now result }
@@ -44,6 +56,7 @@ pub(crate) fn before_blanks(text: &str, here: Cursor) -> usize
 #[tactic(auto, using(std::proofs::lemmas::Str::lead_after_ascii))]
 fn behind_blanks(text: &str, at: usize) -> usize
     requires { IsCharBoundary text.now at }
+    ensures value { drop result text.now ≡ behind_blanks (drop at text.now) }
     ensures order { at ≤ result }
     ensures boundary { IsCharBoundary text.now result }
 {
@@ -59,7 +72,8 @@ fn behind_blanks(text: &str, at: usize) -> usize
 pub(crate) fn text_start(text: &str, here: Cursor) -> usize
     requires here { here.at < length text.now }
     requires cursor { IsCursor text.now here }
-    ensures { (result ≡ here.at) ⊎ (result ≡ here.pending) }
+    ensures value { (result ≡ here.at) ⊎ ((result ≡ here.pending) × (here.pending + 1 ≡ here.at) × (slice_index text.now here.pending ≡ 96)) }
+    ensures escaped { here.pending + 1 ≡ here.at → slice_index text.now here.pending ≡ 96 → result ≡ here.pending }
 {
     if here.pending < here.at
         && here.at - here.pending == 1
@@ -91,6 +105,7 @@ pub(crate) fn pass(text: &str, here: Cursor) -> Cursor
     ensures cursor { IsCursor text.now result }
     ensures pending { result.pending ≡ here.pending }
     ensures further { here.at < result.at }
+    ensures at { result.at ≡ here.at + 1 }
 {
     Cursor {
         pending: here.pending,
@@ -101,7 +116,9 @@ pub(crate) fn pass(text: &str, here: Cursor) -> Cursor
 // The place behind so many bytes, if they are some and no character is cut there.
 pub(crate) fn end_behind(text: &str, at: usize, size: usize) -> Option<usize>
     requires { IsCharBoundary text.now at }
-    ensures { IfSome result (IsPart text.now at) }
+    ensures part { IfSome result (IsPart text.now at) }
+    ensures value { IfSome result (λ end. end ≡ at + size) }
+    ensures found { 0 < size → IsCharBoundary text.now (at + size) → result ≡ Some (at + size) }
 {
     if size > text.len() - at {
         return None;
@@ -119,6 +136,7 @@ pub(crate) fn part_end(text: &str, at: usize, end: usize) -> Option<usize>
     requires { IsCharBoundary text.now at }
     ensures part { IfSome result (IsPart text.now at) }
     ensures same { IfSome result (λ place. place ≡ end) }
+    ensures found { at < end → IsCharBoundary text.now end → result ≡ Some end }
 {
     if end > at && text.is_char_boundary(end) {
         Some(end)
@@ -130,6 +148,7 @@ pub(crate) fn part_end(text: &str, at: usize, end: usize) -> Option<usize>
 // Where the words of the line begin that begins at this place; the place itself, where none does.
 pub(crate) fn words_from(text: &str, at: usize) -> usize
     requires { IsCharBoundary text.now at }
+    ensures value { result ≡ read_on text.now at }
     ensures order { at ≤ result }
     ensures boundary { IsCharBoundary text.now result }
 {
@@ -145,6 +164,7 @@ pub(crate) fn autolink_end(text: &str, at: usize) -> Option<usize>
     requires place { IsCharBoundary text.now at }
     requires within { at < length text.now }
     requires ascii { slice_index text.now at < 128 }
+    ensures value { option_map (shown_autolink text.now at) result ≡ autolink_in (drop (at + 1) text.now) }
     ensures whole { IfSome result (IsPart text.now at) }
     ensures inside { IfSome result (λ end. IsPart text.now (at + 1) (end - 1)) }
 {
@@ -156,9 +176,31 @@ pub(crate) fn autolink_end(text: &str, at: usize) -> Option<usize>
     }
 }
 
+// The character that ends at this place.
+#[inline]
+pub(crate) fn character_before(text: &str, at: usize) -> Option<char>
+    requires { IsCharBoundary text.now at }
+    ensures { result ≡ first_of (reverse (chars (take at text.now))) }
+{
+    match text[..at].chars().next_back() {
+        None => None,
+        Some(character) => Some(character),
+    }
+}
+
+// The character that begins at this place.
+#[inline]
+pub(crate) fn character_at(text: &str, at: usize) -> Option<char>
+    requires { IsCharBoundary text.now at }
+    ensures { result ≡ first_of (chars (drop at text.now)) }
+{
+    text[at..].chars().next()
+}
+
 // Whether ASCII punctuation follows the byte at this place, which a backslash there escapes.
 pub(crate) fn is_escape(text: &str, at: usize) -> bool
     requires { at < length text.now }
+    ensures value { result ≡ first_is is_punctuation (drop (at + 1) text.now) }
     ensures within { result ≡ true → at + 1 < length text.now }
     ensures ascii { result ≡ true → slice_index text.now (at + 1) < 128 }
 {
@@ -174,6 +216,7 @@ pub(crate) fn is_followed_by(text: &str, at: usize, byte: u8) -> bool
     requires within { at < length text.now }
     ensures within { result ≡ true → at + 1 < length text.now }
     ensures byte { result ≡ true → slice_index text.now (at + 1) ≡ byte }
+    ensures value { result ≡ first_is (λ b. b == byte) (drop (at + 1) text.now) }
 {
     let bytes = text.as_bytes();
     if at + 1 >= bytes.len() {
@@ -183,7 +226,9 @@ pub(crate) fn is_followed_by(text: &str, at: usize, byte: u8) -> bool
 }
 
 // Whether a run of one backtick stands at this place.
-pub(crate) fn is_lone_backtick(text: &str, at: usize) -> bool {
+pub(crate) fn is_lone_backtick(text: &str, at: usize) -> bool
+    ensures { result ≡ backticks (drop at text.now) == 1 }
+{
     match text.as_bytes().get(at..).unwrap_or(&[]) {
         [b'`', b'`', ..] => false,
         [b'`', ..] => true,

@@ -1,6 +1,6 @@
 //! Quotes, and the characters that they become (this profile's own).
 
-ghost use Rattle.std.specs.Prelude.{◌≡◌, ℕ, List, [], drop, length, map, OnOk};
+ghost use Rattle.std.specs.Prelude.{◌≡◌, ◌++◌, ◌∷◌, ℕ, List, [], drop, length, map, OnOk};
 ghost use Rattle.cmark_inline.specs.Quoted.{characters_of, with_characters};
 ghost use Rattle.cmark_inline.specs.Stands.{AreSlots, NoNewLink};
 ghost use Rattle.cmark_inline.specs.declared.quote.PlacedQuote.{PlacedQuote};
@@ -42,7 +42,9 @@ impl Quotes {
         self.placed.len()
     }
 
-    pub fn push(&mut self, slot: usize, quote: Quote) -> Result<(), AllocError> {
+    pub fn push(&mut self, slot: usize, quote: Quote) -> Result<(), AllocError>
+        ensures { OnOk result (self.new.placed.items ≡ self.old.placed.items ++ (record { slot = slot; quote = quote } ∷ [])) }
+    {
         self.placed.push(PlacedQuote { slot, quote })?;
         Ok(())
     }
@@ -54,6 +56,9 @@ impl Quotes {
         ensures length { OnOk result (length slots.new.items ≡ length slots.old.items) }
         ensures links { OnOk result (NoNewLink slots.old.items slots.new.items) }
     {
+        if self.placed.len() <= first {
+            return Ok(());
+        }
         gather(&mut self.quotes, quotes_from(self.placed.as_slice(), first))?;
         quote_characters(&self.quotes, &mut self.characters)?;
         write(

@@ -186,13 +186,14 @@ impl<'a> InlineState<'a> {
         ensures target { IfOk result (λ found. IfSome found (λ target. (target.end ≡ asked.entry.end) × (target.past ≡ asked.entry.past))) }
     {
         let label = LinkLabel::new(self.alloc, asked.label)?;
-        let id = CowStr::Borrowed(label.as_str()).into_static(self.alloc)?;
         if let Some(found) = defined(self.alloc, reader.references, asked.label)? {
+            let id = CowStr::Borrowed(label.as_str()).into_static(self.alloc)?;
             return Ok(Some(self.resolved(found, asked.link_type, id, asked)));
         }
         let Some(found) = ask(self.alloc, leaf, callback, start, asked, &label)? else {
             return Ok(None);
         };
+        let id = CowStr::Borrowed(label.as_str()).into_static(self.alloc)?;
         Ok(Some(self.resolved(found, asked.link_type.to_unknown(), id, asked)))
     }
 

@@ -2,10 +2,13 @@
 
 ghost use Rattle.std.specs.Prelude.{◌≡◌, ◌⊎◌, true, ◌<◌, ◌≤◌, ◌+◌, ◌-◌, ◌++◌, ℕ, List, [], length, slice_index, IfOk, OnOk, IfSome};
 ghost use Rattle.std.specs.Str.{IsCharBoundary};
+ghost use Rattle.cmark_grammar.specs.Answers.{Lookup};
+ghost use Rattle.cmark_text.specs.Shown.{shown_options};
 ghost use Rattle.cmark_leaf_text.specs.Reads.{IsRead, IsPart, text_of};
 ghost use Rattle.cmark_inline.specs.Stands.{AreSlots, AreBrackets, IsBracket, IsCursor, IsSlot, IsTarget, Moves, NoNewLink, Stands, bytes_of};
+ghost use Rattle.cmark_inline.specs.Tokens.{AppendsRun, Passes, byte_slots, is_mark};
 
-use crate::place::run_end;
+use crate::place::{character_at, character_before, run_end};
 use crate::slot::{SlotKind, push_slot};
 use crate::state::InlineState;
 use crate::step::Cursor;
@@ -27,10 +30,11 @@ impl<'a> InlineState<'a> {
         requires ascii { slice_index text.now here.at < 128 }
         ensures expansion { self.new.expansion ≡ self.old.expansion }
         ensures moves { IfOk result (Moves text.now here.at self.new) }
+        ensures token { (lookup : Lookup) → slice_index text.now here.at ≡ mark → is_mark mark ≡ true → IfOk result (λ next. Passes (shown_options options) lookup text.now here self.old self.new next ⊎ AppendsRun (shown_options options) lookup text.now here self.old self.new next) }
     {
         let end = run_end(text, here.at);
-        let before = text[..here.at].chars().next_back();
-        let after = text[end..].chars().next();
+        let before = character_before(text, here.at);
+        let after = character_at(text, end);
         let size = end - here.at;
         let flanking = flanking_of(options, mark, size, before, after);
         if !flanking.opens && !flanking.closes {
@@ -68,6 +72,7 @@ impl<'a> InlineState<'a> {
         ensures delimiters { OnOk result (self.new.delimiters ≡ self.old.delimiters) }
         ensures links { OnOk result (NoNewLink self.old.slots.items self.new.slots.items) }
         ensures length { OnOk result (length self.new.slots.items ≡ length self.old.slots.items + (end - start)) }
+        ensures bytes { OnOk result (self.new.slots.items ≡ self.old.slots.items ++ byte_slots start (end - start)) }
     {
         let mut at = start;
         while at < end {

@@ -2,10 +2,13 @@
 
 ghost use Rattle.std.specs.Prelude.{◌≡◌, ◌⊎◌, true, ◌<◌, ◌≤◌, ◌+◌, ◌-◌, ◌*◌, ◌++◌, string_bytes, ℕ, List, [], length, slice_index, IfOk, OnOk, IfSome};
 ghost use Rattle.std.specs.Str.{IsCharBoundary};
+ghost use Rattle.cmark_grammar.specs.Answers.{Lookup};
 ghost use Rattle.cmark_grammar.specs.Dashes as grammar;
+ghost use Rattle.cmark_grammar.specs.Options.{Options};
 ghost use Rattle.cmark_inline.specs.Stands.{IsCursor, IsSlot, Moves, Stands};
+ghost use Rattle.cmark_inline.specs.Tokens.{Appends, AppendsQuote, Passes};
 
-use crate::place::{behind, pass, run_end};
+use crate::place::{behind, character_at, character_before, pass, run_end};
 use crate::slot::{Slot, SlotKind, push_slot};
 use crate::state::InlineState;
 use crate::step::Cursor;
@@ -22,6 +25,7 @@ impl<'a> InlineState<'a> {
         requires ascii { slice_index text.now here.at < 128 }
         ensures expansion { self.new.expansion ≡ self.old.expansion }
         ensures moves { IfOk result (Moves text.now here.at self.new) }
+        ensures token { (options : Options) (lookup : Lookup) → options.smart_punctuation ≡ true → slice_index text.now here.at ≡ 46 → IfOk result (λ next. Passes options lookup text.now here self.old self.new next ⊎ Appends options lookup text.now here self.old self.new next) }
     {
         if !text[here.at..].starts_with("...") {
             return Ok(pass(text, here));
@@ -43,6 +47,7 @@ impl<'a> InlineState<'a> {
         requires ascii { slice_index text.now here.at < 128 }
         ensures expansion { self.new.expansion ≡ self.old.expansion }
         ensures moves { IfOk result (Moves text.now here.at self.new) }
+        ensures token { (options : Options) (lookup : Lookup) → options.smart_punctuation ≡ true → slice_index text.now here.at ≡ 45 → IfOk result (λ next. Passes options lookup text.now here self.old self.new next ⊎ Appends options lookup text.now here self.old self.new next) }
     {
         let end = run_end(text, here.at);
         let size = end - here.at;
@@ -69,10 +74,11 @@ impl<'a> InlineState<'a> {
         requires ascii { slice_index text.now here.at < 128 }
         ensures expansion { self.new.expansion ≡ self.old.expansion }
         ensures moves { IfOk result (Moves text.now here.at self.new) }
+        ensures token { (options : Options) (lookup : Lookup) → options.smart_punctuation ≡ true → (slice_index text.now here.at ≡ 34) ⊎ (slice_index text.now here.at ≡ 39) → IfOk result (AppendsQuote options lookup text.now here self.old self.new) }
     {
         let end = behind(text, here.at);
-        let before = text[..here.at].chars().next_back();
-        let after = text[end..].chars().next();
+        let before = character_before(text, here.at);
+        let after = character_at(text, end);
         let quote = quote_of(text.as_bytes()[here.at] == b'"', before, after);
         self.flush(text, here, here.at)?;
         self.quotes.push(self.slots.len(), quote)?;

@@ -2,11 +2,14 @@
 
 ghost use Rattle.std.specs.Prelude.{◌≡◌, ◌⊎◌, true, ◌<◌, ◌≤◌, ◌+◌, ◌-◌, ◌++◌, ◌∷◌, ℕ, List, [], length, slice_index, IfOk, OnOk, IfSome};
 ghost use Rattle.std.specs.Str.{IsCharBoundary};
+ghost use Rattle.cmark_grammar.specs.Answers.{Lookup};
+ghost use Rattle.cmark_grammar.specs.Options.{Options};
 ghost use Rattle.cmark_finds.specs.Backticks.{AreRunsOf};
 ghost use Rattle.cmark_leaf_text.specs.Reads.{IsRead, IsPart, text_of};
 ghost use Rattle.cmark_inline.specs.Linked.{IsAutolink};
 ghost use Rattle.cmark_inline.specs.declared.link.LinkParts.{LinkParts as Parts};
 ghost use Rattle.cmark_inline.specs.Stands.{AreSlots, AreBrackets, IsBracket, IsCursor, IsSlot, IsTarget, Moves, SameSpans, Stands, bytes_of};
+ghost use Rattle.cmark_inline.specs.Tokens.{Appends, TakesEscaped};
 
 use crate::event::text_between;
 use crate::link::LinkParts;
@@ -35,6 +38,7 @@ impl<'a> InlineState<'a> {
         ensures runs { AreRunsOf text.now runs.new }
         ensures expansion { self.new.expansion ≡ self.old.expansion }
         ensures moves { IfOk result (Moves text.now here.at self.new) }
+        ensures token { (options : Options) (lookup : Lookup) → slice_index text.now here.at ≡ 96 → IfOk result (λ next. Appends options lookup text.now here self.old self.new next ⊎ TakesEscaped options lookup text.now here self.old self.new next) }
     {
         if let Some(span) = runs.code_span(text, here.at)? {
             let slot = Slot {

@@ -1,35 +1,48 @@
 //! The bytes that may begin a span.
 
-ghost use Rattle.std.specs.Prelude.{◌≤◌, ◌<◌, length, slice_index};
+ghost use Rattle.std.specs.Prelude.{◌≡◌, ◌+◌, ◌≤◌, ◌<◌, ℕ, List, length, drop, slice_index};
+ghost use Rattle.std.specs.List.{position_or_len};
+ghost use Rattle.cmark_grammar.specs.SpecialBytes.{is_special};
+ghost use Rattle.cmark_search.specs.Sets.{in_rows};
+ghost use Rattle.cmark_text.specs.Shown.{shown_options};
 
-use cmark_finds::next_special;
+use cmark_search::AsciiSet;
 use cmark_text::Options;
+use std::marker::Model;
 
-/// For each byte whether it may begin a span, an escape, an entity or a line end (CommonMark 6).
+/// The bytes that may begin a span, an escape, an entity or a line end (CommonMark 6). A contract sees the rows of the set.
 #[derive(Clone, Copy)]
 pub struct SpecialBytes {
-    is_special: [bool; 256],
+    set: AsciiSet,
 }
 
-/// The table for these options.
-pub fn special_bytes(options: Options) -> SpecialBytes {
+impl Model for SpecialBytes {
+    ghost Value = { List ℕ };
+
+    ghost view = { λ special. special.set };
+
+    ghost inverse = { λ rows. record { set = rows } };
+}
+
+/// The special bytes for these options.
+pub fn special_bytes(options: Options) -> SpecialBytes
+    ensures { (byte : ℕ) → byte < 128 → in_rows result byte ≡ is_special (shown_options options) byte }
+{
     SpecialBytes {
-        is_special: cmark_finds::special_bytes(options),
+        set: AsciiSet::new(&cmark_finds::special_bytes(options)),
     }
 }
 
 impl SpecialBytes {
     /// The place of the next such byte from a place on; the length, if there is none.
+    #[inline(always)]
     pub fn next(&self, bytes: &[u8], from: usize) -> usize
         requires { from ≤ length bytes.now }
+        ensures value { result ≡ from + position_or_len (in_rows self.now) (drop from bytes.now) }
         ensures behind { from ≤ result }
         ensures within { result ≤ length bytes.now }
         ensures ascii { result < length bytes.now → slice_index bytes.now result < 128 }
     {
-        let mut at = next_special(&self.is_special, bytes, from);
-        while at < bytes.len() && bytes[at] >= 128 {
-            at = next_special(&self.is_special, bytes, at + 1);
-        }
-        at
+        self.set.find(bytes, from)
     }
 }

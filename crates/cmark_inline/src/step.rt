@@ -1,11 +1,12 @@
 //! One pass over a leaf's text, from special byte to special byte.
 
-ghost use Rattle.std.specs.Prelude.{◌≡◌, ◌⊎◌, true, false, ◌<◌, ◌≤◌, ◌+◌, ◌-◌, ◌++◌, ℕ, List, [], length, slice_index, IfOk, OnOk, IfSome};
+ghost use Rattle.std.specs.Prelude.{◌≡◌, ◌⊎◌, true, false, ◌<◌, ◌≤◌, ◌+◌, ◌-◌, ◌++◌, ◌∷◌, ℕ, List, [], length, slice_index, IfOk, OnOk, IfSome};
 ghost use Rattle.std.specs.Str.{IsCharBoundary};
 ghost use Rattle.cmark_finds.specs.Backticks.{AreRunsOf};
 ghost use Rattle.cmark_leaf_text.specs.Reads.{IsRead, IsPart, text_of};
 ghost use Rattle.cmark_inline.specs.Asking.{AsksBetween, AsksUpTo, closing_brackets};
-ghost use Rattle.cmark_inline.specs.Stands.{AreSlots, AreBrackets, IsBracket, IsCursor, IsSlot, IsTarget, Moves, SameSpans, Stands, begins_link, bytes_of};
+ghost use Rattle.cmark_inline.specs.Stands.{AreSlots, AreBrackets, IsBracket, IsCursor, IsSlot, IsTarget, Moves, SameSpans, Stands, PushesText, begins_link, bytes_of};
+ghost use Rattle.cmark_inline.specs.Tokens.{Puts};
 
 use crate::callback::BrokenLinkCallback;
 use crate::place::behind;
@@ -143,6 +144,8 @@ impl<'a> InlineState<'a> {
         ensures table { self.new.links ≡ self.old.links }
         ensures stands { OnOk result (Stands text.now place self.new) }
         ensures length { OnOk result (length self.new.slots.items ≡ length self.old.slots.items + 1) }
+        ensures slots { OnOk result (self.new.slots.items ≡ self.old.slots.items ++ (slot ∷ [])) }
+        ensures others { self.new ≡ record self.old { slots = self.new.slots } }
     {
         push_slot(&mut self.slots, slot.kind, slot.start, slot.end)?;
         Ok(())
@@ -157,6 +160,8 @@ impl<'a> InlineState<'a> {
         ensures table { self.new.links ≡ self.old.links }
         ensures expansion { self.new.expansion ≡ self.old.expansion }
         ensures stands { OnOk result (Stands text.now stop self.new) }
+        ensures slots { OnOk result (PushesText here.pending stop self.old.slots.items self.new.slots.items) }
+        ensures others { self.new ≡ record self.old { slots = self.new.slots } }
     {
         push_text(&mut self.slots, here.pending, stop)?;
         Ok(())
@@ -183,6 +188,9 @@ impl<'a> InlineState<'a> {
         ensures length { IfOk result (λ next. length self.new.slots.items ≤ stop + 1) }
         ensures moves { IfOk result (Moves text.now here.at self.new) }
         ensures end { IfOk result (λ next. next.pending ≡ slot.end) }
+        ensures at { IfOk result (λ next. next.at ≡ slot.end) }
+        ensures slots { OnOk result (Puts here.pending stop slot self.old.slots.items self.new.slots.items) }
+        ensures others { self.new ≡ record self.old { slots = self.new.slots } }
     {
         self.flush(text, here, stop)?;
         self.add(text, slot.end, slot)?;

@@ -1,8 +1,13 @@
 //! Line breaks, escapes and entities (CommonMark 2.4, 2.5, 6.7 and 6.8).
 
-ghost use Rattle.std.specs.Prelude.{◌≡◌, ◌⊎◌, true, false, ◌<◌, ◌≤◌, ◌+◌, ◌-◌, ◌++◌, ℕ, List, [], length, slice_index, IfOk, OnOk, IfSome};
+ghost use Rattle.std.specs.Prelude.{◌≡◌, ◌⊎◌, true, false, ◌<◌, ◌≤◌, ◌+◌, ◌-◌, ◌++◌, if◌then◌else◌, ℕ, List, [], length, slice_index, IfOk, OnOk, IfSome};
 ghost use Rattle.std.specs.Str.{IsCharBoundary};
+ghost use Rattle.cmark_grammar.specs.Answers.{Lookup};
+ghost use Rattle.cmark_grammar.specs.LineBreaks.{ends_with_two_spaces};
+ghost use Rattle.cmark_grammar.specs.Options.{Options};
 ghost use Rattle.cmark_inline.specs.Stands.{AreSlots, AreBrackets, IsBracket, IsCursor, IsSlot, IsTarget, Moves, SameSpans, Stands, begins_link, bytes_of};
+ghost use Rattle.cmark_inline.specs.Tokens.{Appends, Escapes, Passes, Puts, read_on};
+ghost use Rattle.cmark_inline.specs.declared.slot.SlotKind.TheVariants as slot_kind;
 
 use crate::place::{
     before_blanks, behind, end_behind, is_escape, is_lone_backtick, pass, words_from,
@@ -25,27 +30,21 @@ impl<'a> InlineState<'a> {
         requires ascii { slice_index text.now here.at < 128 }
         ensures expansion { self.new.expansion ≡ self.old.expansion }
         ensures moves { IfOk result (Moves text.now here.at self.new) }
+        ensures token { (options : Options) (lookup : Lookup) → (slice_index text.now here.at ≡ 10) ⊎ (slice_index text.now here.at ≡ 13) → IfOk result (Appends options lookup text.now here self.old self.new) }
     {
         let stop = before_blanks(text, here);
         let Some(found) = line_break(text, here.at) else {
             return Ok(pass(text, here));
         };
-        let (kind, start) = if text.as_bytes()[stop..here.at].ends_with(b"  ") {
-            (SlotKind::HardBreak, stop)
-        } else {
-            (SlotKind::SoftBreak, here.at)
-        };
-        let slot = Slot {
-            kind,
-            start,
-            end: found.end,
-        };
+        let is_hard = ends_with_two_spaces(&text.as_bytes()[stop..here.at]);
+        let slot = break_slot(is_hard, stop, here.at, found.end);
         let next = self.put_before_words(text, here, stop, slot)?;
         Ok(next)
     }
 
     // Appends the text that is pending up to a place, and then a slot; the text is read on behind that and, where a line begins
     // there, behind the blanks in front of it.
+    #[inline(always)]
     pub(crate) fn put_before_words(
         &mut self,
         text: &str,
@@ -63,6 +62,10 @@ impl<'a> InlineState<'a> {
         requires kind { begins_link slot.kind ≡ false }
         ensures expansion { self.new.expansion ≡ self.old.expansion }
         ensures moves { IfOk result (Moves text.now here.at self.new) }
+        ensures at { IfOk result (λ next. next.at ≡ read_on text.now slot.end) }
+        ensures pending { IfOk result (λ next. next.pending ≡ next.at) }
+        ensures slots { OnOk result (Puts here.pending stop slot self.old.slots.items self.new.slots.items) }
+        ensures others { self.new ≡ record self.old { slots = self.new.slots } }
     {
         let next = self.put(text, here, stop, slot)?;
         let words = words_from(text, next.pending);
@@ -81,6 +84,7 @@ impl<'a> InlineState<'a> {
         requires ascii { slice_index text.now here.at < 128 }
         ensures expansion { self.new.expansion ≡ self.old.expansion }
         ensures moves { IfOk result (Moves text.now here.at self.new) }
+        ensures token { (options : Options) (lookup : Lookup) → slice_index text.now here.at ≡ 92 → IfOk result (λ next. Passes options lookup text.now here self.old self.new next ⊎ (Appends options lookup text.now here self.old self.new next ⊎ Escapes options lookup text.now here self.old self.new next)) }
     {
         if let Some(found) = line_break(text, here.at) {
             let slot = Slot {
@@ -125,6 +129,7 @@ impl<'a> InlineState<'a> {
         requires ascii { slice_index text.now here.at < 128 }
         ensures expansion { self.new.expansion ≡ self.old.expansion }
         ensures moves { IfOk result (Moves text.now here.at self.new) }
+        ensures token { (options : Options) → slice_index text.now here.at ≡ 38 → IfOk result (λ next. Passes options (E.replacement entities.now) text.now here self.old self.new next ⊎ Appends options (E.replacement entities.now) text.now here self.old self.new next) }
     {
         let Some(entity) = scan_entity(text[here.at..].as_bytes(), entities) else {
             return Ok(pass(text, here));
@@ -141,5 +146,31 @@ impl<'a> InlineState<'a> {
         self.texts.push(owned)?;
         let next = self.put(text, here, here.at, slot)?;
         Ok(next)
+    }
+}
+
+/// Whether the last two bytes are two spaces.
+fn ends_with_two_spaces(bytes: &[u8]) -> bool
+    ensures { result ≡ ends_with_two_spaces bytes.now }
+{
+    bytes.ends_with(b"  ")
+}
+
+/// The break of a line whose last blanks begin at `stop`, and whose ending begins at `at`: a hard one begins with the blanks.
+fn break_slot(is_hard: bool, stop: usize, at: usize, end: usize) -> Slot
+    ensures { result ≡ record { kind = if is_hard then slot_kind.HardBreak else slot_kind.SoftBreak; start = if is_hard then stop else at; end = end } }
+{
+    if is_hard {
+        Slot {
+            kind: SlotKind::HardBreak,
+            start: stop,
+            end,
+        }
+    } else {
+        Slot {
+            kind: SlotKind::SoftBreak,
+            start: at,
+            end,
+        }
     }
 }

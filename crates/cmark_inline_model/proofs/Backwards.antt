@@ -27,17 +27,20 @@ module _ (reader : Reader) (shifted : (leaf : Leaf) → IsShifted (decide reader
     after_is = ap (between_behind h) k.after_is;
   }
 
-  pub all-behind : (others : List Segment) (before after : Between) (events : List Ranged) → ReadsAll reader (IsNext all) others before events after → ReadsAll reader (IsNext (h ++ all)) others (between_behind h before) events (between_behind h after)
+  pub all-behind : (others : List Segment) (before after : Between) (events : List Ranged) → ReadsAll reader (IsNext all) others before events after
+      → ReadsAll reader (IsNext (h ++ all)) others (between_behind h before) events (between_behind h after)
   all-behind [] before after events k = (k.0, ap (between_behind h) k.1)
   all-behind (Given r ∷ others) before after events k = (k.0, all-behind others before after k.0 k.1, k.2)
   all-behind (Content leaf ∷ others) before after events k = (k.0, k.1, between_behind h k.2, leaf-behind leaf before k.2 k.0 k.3, all-behind others k.2 after k.1 k.4, k.5)
 
 -- an event of the blocks in front
-pub left-given : (reader : Reader) (r : Ranged) (others : List Segment) (expansion : ℕ) (exchanges : List Exchange) (events : List Ranged) → Left reader others expansion exchanges events → Left reader (Given r ∷ others) expansion exchanges (r ∷ events)
+pub left-given : (reader : Reader) (r : Ranged) (others : List Segment) (expansion : ℕ) (exchanges : List Exchange) (events : List Ranged) → Left reader others expansion exchanges events
+    → Left reader (Given r ∷ others) expansion exchanges (r ∷ events)
 left-given reader r others expansion exchanges events k = record { after = k.after; reads = (events, k.reads, refl); asked = k.asked }
 
 -- a leaf in front, with the questions that were put in it
-pub left-leaf : (reader : Reader) → ((leaf : Leaf) → IsRecorded (decide reader leaf)) → ((leaf : Leaf) → IsShifted (decide reader leaf)) → (leaf : Leaf) (others : List Segment) (expansion : ℕ) (taken rest : List Exchange) (spans later : List Ranged) (between : Between)
+pub left-leaf : (reader : Reader) → ((leaf : Leaf) → IsRecorded (decide reader leaf)) → ((leaf : Leaf) → IsShifted (decide reader leaf))
+    → (leaf : Leaf) (others : List Segment) (expansion : ℕ) (taken rest : List Exchange) (spans later : List Ranged) (between : Between)
     → ReadsLeaf reader (IsNext taken) leaf (record { expansion = expansion; asked = [] }) spans between → between.asked ≡ taken
     → Left reader others between.expansion rest later → Left reader (Content leaf ∷ others) expansion (taken ++ rest) (spans ++ later)
 left-leaf reader recorded shifted leaf others expansion taken rest spans later between h e k =

@@ -16,9 +16,9 @@ adds_both : (r m s : State) → Adds r m → Adds m s → Adds r s
 adds_both r m s h k = (h.0 ++ k.0, k.1 ∙ ap (λ l. l ++ k.0) h.1 ∙ append_assoc r.asked h.0 k.0)
 
 module _ (token : ℕ → Token) (decide : State → (closer : Bracket) → Decision) (Says : Saying) (recorded : IsRecorded decide) where
-  comes_adds : (s : State) (d : Decision) (o : Outcome) → Keeps s.asked d → Comes Says s.asked d o → Adds s o.after
-  comes_adds s (Settled outcome) o k h = ([], ap (λ (x : Outcome). x.after.asked) h ∙ k ∙ sym (append-nil s.asked))
-  comes_adds s (Asks question answered) o k h = (record { question = question; answer = h.0 } ∷ [], ap (λ (x : Outcome). x.after.asked) h.2 ∙ k h.0)
+  pub comes-adds : (s : State) (d : Decision) (o : Outcome) → Keeps s.asked d → Comes Says s.asked d o → Adds s o.after
+  comes-adds s (Settled outcome) o k h = ([], ap (λ (x : Outcome). x.after.asked) h ∙ k ∙ sym (append-nil s.asked))
+  comes-adds s (Asks question answered) o k h = (record { question = question; answer = h.0 } ∷ [], ap (λ (x : Outcome). x.after.asked) h.2 ∙ k h.0)
 
   pub reads-add : (s : State) (parts : Parts) (t : State) → Reads token decide Says s parts t → Adds s t
   reads-add s Nil t h = ([], ap (λ (x : State). x.asked) h ∙ sym (append-nil s.asked))
@@ -26,10 +26,10 @@ module _ (token : ℕ → Token) (decide : State → (closer : Bracket) → Deci
   reads-add s (Form opener inside closer formed after) t h =
       adds_both s h.next t
       (adds_both s h.until h.next (reads-add (opened opener s) inside h.until h.inside)
-      (comes_adds h.until (decide h.until closer) (record { result = Forms (openings inside) formed; after = h.next }) (recorded.keeps h.until closer) h.comes))
+      (comes-adds h.until (decide h.until closer) (record { result = Forms (openings inside) formed; after = h.next }) (recorded.keeps h.until closer) h.comes))
       (reads-add h.next after t h.after)
   reads-add s (Closing closer after) t h =
-      adds_both s h.next t (comes_adds s (decide s closer) (record { result = StaysText; after = h.next }) (recorded.keeps s closer) h.comes) (reads-add h.next after t h.after)
+      adds_both s h.next t (comes-adds s (decide s closer) (record { result = StaysText; after = h.next }) (recorded.keeps s closer) h.comes) (reads-add h.next after t h.after)
   reads-add s (Opening opener after) t h = reads-add (opened opener s) after t h.1
 
   comes_next : (s : State) (d : Decision) (o : Outcome) (all rest : List Exchange) → Keeps s.asked d → Comes Says s.asked d o → all ≡ o.after.asked ++ rest → Comes (IsNext all) s.asked d o
@@ -38,8 +38,8 @@ module _ (token : ℕ → Token) (decide : State → (closer : Bracket) → Deci
       let x : Exchange = record { question = question; answer = h.0 } in
       (h.0, record { rest = rest; cut = e ∙ ap (λ l. l ++ rest) (ap (λ (y : Outcome). y.after.asked) h.2 ∙ k h.0) ∙ append_assoc s.asked (x ∷ []) rest }, h.2)
 
-  from : (all rest : List Exchange) (s t : State) (a : Adds s t) → all ≡ t.asked ++ rest → all ≡ s.asked ++ (a.0 ++ rest)
-  from all rest s t a e = e ∙ ap (λ l. l ++ rest) a.1 ∙ append_assoc s.asked a.0 rest
+  pub added-before : (all rest : List Exchange) (s t : State) (a : Adds s t) → all ≡ t.asked ++ rest → all ≡ s.asked ++ (a.0 ++ rest)
+  added-before all rest s t a e = e ∙ ap (λ l. l ++ rest) a.1 ∙ append_assoc s.asked a.0 rest
 
   pub reads-next : (all rest : List Exchange) (s : State) (parts : Parts) (t : State) → all ≡ t.asked ++ rest → Reads token decide Says s parts t → Reads token decide (IsNext all) s parts t
   reads-next all rest s Nil t e h = h
@@ -49,9 +49,9 @@ module _ (token : ℕ → Token) (decide : State → (closer : Bracket) → Deci
       let o : Outcome = record { result = Forms (openings inside) formed; after = h.next } in
       let k = recorded.keeps h.until closer in
       let behind : Adds h.next t = reads-add h.next after t h.after in
-      let there : all ≡ h.next.asked ++ (behind.0 ++ rest) = from all rest h.next t behind e in
-      let own : Adds h.until h.next = comes_adds h.until d o k h.comes in
-      let before : all ≡ h.until.asked ++ (own.0 ++ (behind.0 ++ rest)) = from all (behind.0 ++ rest) h.until h.next own there in
+      let there : all ≡ h.next.asked ++ (behind.0 ++ rest) = added-before all rest h.next t behind e in
+      let own : Adds h.until h.next = comes-adds h.until d o k h.comes in
+      let before : all ≡ h.until.asked ++ (own.0 ++ (behind.0 ++ rest)) = added-before all (behind.0 ++ rest) h.until h.next own there in
       record {
         until = h.until;
         next = h.next;
@@ -66,7 +66,7 @@ module _ (token : ℕ → Token) (decide : State → (closer : Bracket) → Deci
       record {
         next = h.next;
         closes = h.closes;
-        comes = comes_next s (decide s closer) (record { result = StaysText; after = h.next }) all (behind.0 ++ rest) (recorded.keeps s closer) h.comes (from all rest h.next t behind e);
+        comes = comes_next s (decide s closer) (record { result = StaysText; after = h.next }) all (behind.0 ++ rest) (recorded.keeps s closer) h.comes (added-before all rest h.next t behind e);
         after = reads-next all rest h.next after t e h.after;
       }
   reads-next all rest s (Opening opener after) t e h = (h.0, reads-next all rest (opened opener s) after t e h.1)

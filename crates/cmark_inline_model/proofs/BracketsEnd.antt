@@ -32,7 +32,8 @@ is_there nearer (Form opener inside closer formed after) = there_behind nearer (
 is_there nearer (Closing closer after) = there_behind nearer (openings after) (Closing closer Nil) (cut_at nearer after) (is_there nearer after)
 is_there nearer (Opening opener after) = go (openings after == nearer) refl (cut_at nearer after) (is_there nearer after)
   where
-    go : (x : Bool) → (openings after == nearer) ≡ x → (cut : Option Cut) → IsThere nearer (openings after) cut → IsThere nearer (suc (openings after)) (if x then Some (record { before = Nil; opener = opener; inside = after }) else behind (Opening opener Nil) cut)
+    go : (x : Bool) → (openings after == nearer) ≡ x → (cut : Option Cut) → IsThere nearer (openings after) cut
+        → IsThere nearer (suc (openings after)) (if x then Some (record { before = Nil; opener = opener; inside = after }) else behind (Opening opener Nil) cut)
     go true e cut k = 0
     go false e (Some cut) k = 0
     go false e None k = below (openings after) nearer e k
@@ -91,7 +92,9 @@ module _ (token : ℕ → Token) (decide : State → (closer : Bracket) → Deci
     run_goes zero p h = inr (omega arith)
     run_goes (suc n) p h = go (step_goes p h).0 (run_goes n (step token decide plan p) (step_goes p h).1)
       where
-        go : (token p.state.at ≡ Ends) ⊎ (p.state.at < (step token decide plan p).state.at) → (token (run token decide plan n (step token decide plan p)).state.at ≡ Ends) ⊎ (n + (step token decide plan p).state.at ≤ (run token decide plan n (step token decide plan p)).state.at) → (token (run token decide plan n (step token decide plan p)).state.at ≡ Ends) ⊎ (suc n + p.state.at ≤ (run token decide plan n (step token decide plan p)).state.at)
+        go : (token p.state.at ≡ Ends) ⊎ (p.state.at < (step token decide plan p).state.at)
+            → (token (run token decide plan n (step token decide plan p)).state.at ≡ Ends) ⊎ (n + (step token decide plan p).state.at ≤ (run token decide plan n (step token decide plan p)).state.at)
+            → (token (run token decide plan n (step token decide plan p)).state.at ≡ Ends) ⊎ (suc n + p.state.at ≤ (run token decide plan n (step token decide plan p)).state.at)
         go a (inl e) = inl e
         go (inr f) (inr k) = inr (omega arith)
         go (inl e) (inr k) = inl (subst (λ (q : Pass). token q.state.at ≡ Ends) (sym (ended (suc n) p e)) e)

@@ -10,7 +10,8 @@ use Rattle.cmark_grammar.specs.BracketReading.{Comes, Reads, ReadsWhole}
 use Rattle.cmark_inline_model.specs.BracketPass.{Pass, pass, outcome_by, formed_by, resulting, stepped, step, run, parts_by, end_by}
 use Rattle.cmark_inline_model.proofs.PartCuts.{join-nil, join_assoc, cut-is}
 
-module _ (token : ℕ → Token) (decide : State → (closer : Bracket) → Decision) (Says : Saying) (plan : Plan) (says : (asked : List Exchange) (question : Question) (answer : Option Destination) → Says asked question answer → answer ≡ plan asked question) where
+module _ (token : ℕ → Token) (decide : State → (closer : Bracket) → Decision) (Says : Saying) (plan : Plan)
+    (says : (asked : List Exchange) (question : Question) (answer : Option Destination) → Says asked question answer → answer ≡ plan asked question) where
   abbrev go_on : ℕ → Pass → Pass
   go_on n p = run token decide plan n p
 

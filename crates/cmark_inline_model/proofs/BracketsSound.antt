@@ -42,7 +42,8 @@ module _ (token : ℕ → Token) (decide : State → (closer : Bracket) → Deci
   split s (Opening opener after) b t h = let k = split (opened opener s) after b t h.1 in (k.0, (h.0, k.1), k.2)
 
   -- what stands behind an opening bracket becomes what it forms with a closing one
-  pub formed-reads : (start : State) (whole : Parts) (now next : State) (closer : Bracket) (formed : Formed) (cut : Cut) (nearer : ℕ) → IsCut nearer whole cut → Reads token decide Says start whole now → token now.at ≡ Closes closer → Comes Says now.asked (decide now closer) (record { result = Forms nearer formed; after = next })
+  pub formed-reads : (start : State) (whole : Parts) (now next : State) (closer : Bracket) (formed : Formed) (cut : Cut) (nearer : ℕ) → IsCut nearer whole cut → Reads token decide Says start whole now
+      → token now.at ≡ Closes closer → Comes Says now.asked (decide now closer) (record { result = Forms nearer formed; after = next })
       → Reads token decide Says start (join cut.before (Form cut.opener cut.inside closer formed Nil)) next
   formed-reads start whole now next closer formed cut nearer is h e comes =
       let k = split start cut.before (Opening cut.opener cut.inside) now (subst (λ x. Reads token decide Says start x now) is.whole_is h) in
@@ -60,7 +61,8 @@ module _ (token : ℕ → Token) (decide : State → (closer : Bracket) → Deci
   abbrev pub Holds : State → Pass → Type 0
   Holds start p = Reads token decide Says start p.here p.state
 
-  pub results : (start : State) (p : Pass) (closer : Bracket) (result : Result) (next : State) → token p.state.at ≡ Closes closer → Comes Says p.state.asked (decide p.state closer) (record { result = result; after = next }) → Holds start p → Holds start (resulting p closer result next)
+  pub results : (start : State) (p : Pass) (closer : Bracket) (result : Result) (next : State) → token p.state.at ≡ Closes closer
+      → Comes Says p.state.asked (decide p.state closer) (record { result = result; after = next }) → Holds start p → Holds start (resulting p closer result next)
   results start p closer StaysText next e comes h =
       joined start p.here p.state (Closing closer Nil) next h (record { next = next; closes = e; comes = comes; after = refl })
   results start p closer (Forms nearer formed) next e comes h = go (cut_at nearer p.here) (cuts nearer p.here)

@@ -18,8 +18,8 @@ use Rattle.cmark_grammar.specs.Questions.{Question, Exchange}
 use Rattle.cmark_grammar.specs.Readers.{Reader}
 use Rattle.cmark_grammar.proofs.ShorterRests.{LeavesBelow, FoundBelow, reference_label-shorter, collapsed-shorter}
 use Rattle.cmark_inline_model.specs.Expansion.{cost_as}
-use Rattle.cmark_inline_model.specs.LinkRules.{IsAsked}
-use Rattle.cmark_inline_model.proofs.Openers.{Alike, alike-then, used-alike, tried-alike, IsTaken, AreTaken, taken-alike, nearest-taken, doubled-taken}
+use Rattle.cmark_inline_model.specs.LinkRules.{IsReferenceForm, IsQuestion}
+use Rattle.cmark_inline_model.proofs.Openers.{Alike, alike-then, used-alike, tried-alike, IsTaken, AreTaken, taken-alike, nearest-taken, doubled-taken, IsFar, doubled-far}
 
 -- the same state but for its label, its questions and its opening brackets
 abbrev pub with_all : State → Option ℕ → List Exchange → List Opener → State
@@ -39,33 +39,44 @@ module _ (reader : Reader) (leaf : Leaf) where
     pub ends : IsPlace closer named.end
     pub passes : IsPlace closer named.past
     pub order : (named.end ≡ named.past) ⊎ (named.end ≡ closer.end)
+    pub form : IsReferenceForm named.link_type
     pub costs : (size : ℕ) → (cost_as named.link_type size ≡ size ∷ []) × (cost_as (to_unknown named.link_type) size ≡ size ∷ [])
 
-  -- a definition says where a reference leads, or an answer does
-  pub data Leads (named : Named) (link_type : LinkType) (found : Destination) : Type 0 where
+  -- a definition says where a reference leads, or the answer to the last question does
+  pub data Leads (named : Named) (link_type : LinkType) (found : Destination) (asked : List Exchange) : Type 0 where
     Defined : (definition : block.Reference) → reader.definition (fold named.label) ≡ Some definition → link_type ≡ named.link_type
-        → found ≡ record { url = definition.destination; title = or_empty definition.title } → Leads named link_type found
-    Answered : reader.definition (fold named.label) ≡ None → reader.has_callback ≡ true → link_type ≡ to_unknown named.link_type → Leads named link_type found
+        → found ≡ record { url = definition.destination; title = or_empty definition.title } → Leads named link_type found asked
+    Answered : reader.definition (fold named.label) ≡ None → link_type ≡ to_unknown named.link_type
+        → (earlier : List Exchange) (q : Question) → asked ≡ earlier ++ (exchange q (Some found) ∷ []) → q.link_type ≡ named.link_type → q.reference ≡ normal_form named.label
+        → Leads named link_type found asked
 
   -- it was taken of these, and is active
   pub record Takes (os : List Opener) (taken : Taken) : Type 0 where
     pub is_taken : IsTaken os taken
     pub active : taken.opener.is_inactive ≡ false
 
+  -- a question about the text from the taken bracket to a place behind the closing one, where something of the expansion limit is left
+  pub record IsPut (s : State) (closer : Bracket) (q : Question) : Type 0 where
+    pub taken : Taken
+    pub takes : Takes s.openers taken
+    pub start : q.start ≡ taken.opener.bracket.start
+    pub ends : IsPlace closer q.end
+    pub some : (s.expansion == 0) ≡ false
+
   pub data Shape (s : State) (closer : Bracket) (asked : List Exchange) (o : Outcome) : Type 0 where
     Stays : (label : Option ℕ) (os : List Opener) → Alike s.openers os → o ≡ stays reader leaf closer (with_all s label asked os) → Shape s closer asked o
     ToInline : (label : Option ℕ) (os : List Opener) (taken : Taken) (tail : LinkTail) → Alike s.openers os → Takes s.openers taken
         → link_tail_in (behind reader leaf closer.end) ≡ Some tail → o ≡ inline_link reader leaf tail taken (with_all s label asked os) → Shape s closer asked o
     ToReference : (label : Option ℕ) (os : List Opener) (taken : Taken) (named : Named) (link_type : LinkType) (found : Destination) → Alike s.openers os → Takes s.openers taken
-        → IsNamed closer named → (s.expansion == 0) ≡ false → Leads named link_type found → o ≡ leads reader leaf named link_type found taken (with_all s label asked os) → Shape s closer asked o
+        → IsNamed closer named → (s.expansion == 0) ≡ false → Leads named link_type found asked → o ≡ leads reader leaf named link_type found taken (with_all s label asked os) → Shape s closer asked o
     ToFootnote : (label : Option ℕ) (os : List Opener) (taken : Taken) (name : List ℕ) → Alike s.openers os → Takes s.openers taken → reader.options.footnotes ≡ true
         → o ≡ forms reader leaf taken (Footnote name closer.end) closer.end (map dropped) (with_all s label asked os) → Shape s closer asked o
-    ToWiki : (label : Option ℕ) (os : List Opener) (first : Taken) → Alike s.openers os → Takes s.openers first → reader.options.wikilinks ≡ true
+    ToWiki : (label : Option ℕ) (os : List Opener) (first : Taken) → 1 ≤ first.nearer → Alike s.openers os → Takes s.openers first → reader.options.wikilinks ≡ true
         → first_is (λ b. b == 93) (behind reader leaf closer.end) ≡ true → o ≡ wikilink reader leaf first closer (with_all s label asked os) → Shape s closer asked o
 
   abbrev pub DecisionShape : State → Bracket → Decision → Type 0
   DecisionShape s closer (Settled o) = Shape s closer s.asked o
-  DecisionShape s closer (Asks q answered) = IsAsked reader s q × ((answer : Option Destination) → Shape s closer (s.asked ++ (exchange q answer ∷ [])) (answered answer))
+  DecisionShape s closer (Asks q answered) = (IsQuestion reader q × IsPut s closer q) × ((answer : Option Destination) → Shape s closer (s.asked ++ (exchange q answer ∷ [])) (answered answer))
 
   either : (s : State) (closer : Bracket) (b : Bool) (x y : Decision) → (b ≡ true → DecisionShape s closer x) → (b ≡ false → DecisionShape s closer y) → DecisionShape s closer (if b then x else y)
   either s closer true x y h k = h refl
@@ -82,13 +93,15 @@ module _ (reader : Reader) (leaf : Leaf) where
           let q = question reader leaf named taken.opener.bracket in
           let t = with_all s label s.asked os in
           either s closer reader.has_callback (Asks q (λ answer. answered reader leaf named taken closer (with_answer reader leaf q answer t) answer)) (Settled (stays reader leaf closer t))
-          (λ e. (record { label = named.label; reference = refl; undefined = none; some = some; has_callback = e }, λ answer. by e answer))
+          (λ e. ((record { form = named_is.form; undefined = none; has_callback = e }, record { taken = taken; takes = takes; start = refl; ends = named_is.ends; some = some }), by))
           (λ e. stay_shape label os h)
         where
-          by : reader.has_callback ≡ true → (answer : Option Destination) → Shape s closer (s.asked ++ (exchange (question reader leaf named taken.opener.bracket) answer ∷ []))
+          by : (answer : Option Destination) → Shape s closer (s.asked ++ (exchange (question reader leaf named taken.opener.bracket) answer ∷ []))
               (answered reader leaf named taken closer (with_answer reader leaf (question reader leaf named taken.opener.bracket) answer (with_all s label s.asked os)) answer)
-          by e None = Stays label os h refl
-          by e (Some found) = ToReference label os taken named (to_unknown named.link_type) found h takes named_is some (Answered none e refl) refl
+          by None = Stays label os h refl
+          by (Some found) =
+              ToReference label os taken named (to_unknown named.link_type) found h takes named_is some
+              (Answered none refl s.asked (question reader leaf named taken.opener.bracket) refl refl refl) refl
 
       defined_shape : (found : Option block.Reference) (label : Option ℕ) (os : List Opener) (named : Named) → reader.definition (fold named.label) ≡ found → Alike s.openers os → IsNamed closer named → (s.expansion == 0) ≡ false
           → DecisionShape s closer (defined_or_asked reader leaf found named taken closer (with_all s label s.asked os))
@@ -103,13 +116,14 @@ module _ (reader : Reader) (leaf : Leaf) where
           (λ e. stay_shape label os h) (λ e. defined_shape (reader.definition (fold named.label)) label os named refl h named_is e)
 
       own_named : (label : List ℕ) (o : Option (List ℕ)) → LeavesBelow (suc (length (behind reader leaf closer.end))) o → IsNamed closer (collapsed_or_shortcut reader leaf label closer.end o)
-      own_named label None h = record { ends = inl refl; passes = inl refl; order = inl refl; costs = λ size. (refl, refl) }
-      own_named label (Some rest) h = record { ends = inl refl; passes = inr (rest, omega arith, refl); order = inr refl; costs = λ size. (refl, refl) }
+      own_named label None h = record { ends = inl refl; passes = inl refl; order = inl refl; form = tt; costs = λ size. (refl, refl) }
+      own_named label (Some rest) h = record { ends = inl refl; passes = inr (rest, omega arith, refl); order = inr refl; form = tt; costs = λ size. (refl, refl) }
 
       footnote_shape : (name : List ℕ) (os : List Opener) (label : Option ℕ) → Alike s.openers os → reader.options.footnotes ≡ true → DecisionShape s closer (footnote_reference reader leaf name taken closer (with_all s label s.asked os))
       footnote_shape name os label h on =
           let t = with_all s label s.asked os in
-          either s closer (one_line_footnotes reader leaf && not (reader.has_footnote (fold name))) (Settled (stays reader leaf closer t)) (Settled (forms reader leaf taken (Footnote (normal_form name) closer.end) closer.end (map dropped) t))
+          either s closer (one_line_footnotes reader leaf && not (reader.has_footnote (fold name))) (Settled (stays reader leaf closer t))
+          (Settled (forms reader leaf taken (Footnote (normal_form name) closer.end) closer.end (map dropped) t))
           (λ e. stay_shape label os h) (λ e. ToFootnote label os taken (normal_form name) h takes on refl)
 
       and_left : (a b : Bool) → (a && b) ≡ true → a ≡ true
@@ -136,7 +150,7 @@ module _ (reader : Reader) (leaf : Leaf) where
       reference_shape (Some found) label os f h =
           let end = place reader leaf found.behind in
           refers_shape (Some (end - 1)) os (record { label = as_label reader leaf found.bytes; link_type = Reference; end = end; past = end }) h
-          (record { ends = inr (found.behind, omega arith, refl); passes = inr (found.behind, omega arith, refl); order = inl refl; costs = λ size. (refl, refl) })
+          (record { ends = inr (found.behind, omega arith, refl); passes = inr (found.behind, omega arith, refl); order = inl refl; form = tt; costs = λ size. (refl, refl) })
       reference_shape None label os f h =
           let t = with_all s label s.asked os in
           let bytes = between reader leaf taken.opener.bracket.end closer.start in
@@ -169,14 +183,14 @@ module _ (reader : Reader) (leaf : Leaf) where
     or_false false b e = refl
 
     wiki_shape : (first taken : Option Taken) (label : Option ℕ) (os : List Opener) → reader.options.wikilinks ≡ true → first_is (λ b. b == 93) (behind reader leaf closer.end) ≡ true
-        → AreTaken os first → AreTaken s.openers taken → Alike s.openers os → DecisionShape s closer (wikilink_or reader leaf first taken closer (with_all s label s.asked os))
-    wiki_shape None taken label os on next f h k = with_taken_shape taken label os h k
-    wiki_shape (Some first) taken label os on next f h k =
+        → IsFar first → AreTaken os first → AreTaken s.openers taken → Alike s.openers os → DecisionShape s closer (wikilink_or reader leaf first taken closer (with_all s label s.asked os))
+    wiki_shape None taken label os on next far f h k = with_taken_shape taken label os h k
+    wiki_shape (Some first) taken label os on next far f h k =
         let t = with_all s label s.asked os in
         let refused = first.opener.is_inactive || (length (name_in (wiki_text reader leaf first closer)) == 0) in
         either s closer refused (with_taken reader leaf taken closer (with_all s label s.asked (tried first.nearer os))) (Settled (wikilink reader leaf first closer t))
         (λ e. with_taken_shape taken label (tried first.nearer os) h (alike-then s.openers os (tried first.nearer os) k (tried-alike first.nearer os)))
-        (λ e. ToWiki label os first k (record { is_taken = taken-alike s.openers os first k f; active = or_false first.opener.is_inactive (length (name_in (wiki_text reader leaf first closer)) == 0) e }) on next refl)
+        (λ e. ToWiki label os first far k (record { is_taken = taken-alike s.openers os first k f; active = or_false first.opener.is_inactive (length (name_in (wiki_text reader leaf first closer)) == 0) e }) on next refl)
 
   pub decide-shape : (s : State) (closer : Bracket) → DecisionShape s closer (decide reader leaf s closer)
   unfolding decide
@@ -186,7 +200,7 @@ module _ (reader : Reader) (leaf : Leaf) where
       let near = nearest s.openers in
       let next = first_is (λ b. b == 93) (behind reader leaf closer.end) in
       either s closer (reader.options.wikilinks && next) (wikilink_or reader leaf (doubled os) near closer t) (with_taken reader leaf near closer t)
-      (λ e. wiki_shape s closer (doubled os) near s.label_close os (left reader.options.wikilinks next e) (right reader.options.wikilinks next e) (doubled-taken os) (nearest-taken s.openers) (used-alike s.openers))
+      (λ e. wiki_shape s closer (doubled os) near s.label_close os (left reader.options.wikilinks next e) (right reader.options.wikilinks next e) (doubled-far os) (doubled-taken os) (nearest-taken s.openers) (used-alike s.openers))
       (λ e. with_taken_shape s closer near s.label_close os (nearest-taken s.openers) (used-alike s.openers))
     where
       left : (a b : Bool) → (a && b) ≡ true → a ≡ true

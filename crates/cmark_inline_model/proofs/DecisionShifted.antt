@@ -3,7 +3,7 @@ use Rattle.std.specs.Prelude.{◌-◌, ◌==◌, ◌&&◌, ◌||◌, not, if◌t
 use Rattle.std.proofs.Common.{◌≡◌, ℕ, Bool, true, false, List, [], ◌∷◌, ◌++◌, length, Option, Some, None, refl, sym, ap, ◌∙◌, append_assoc}
 use Rattle.cmark_grammar.specs.Answers.{Destination}
 use Rattle.cmark_grammar.specs.BlockDocument as block
-use Rattle.cmark_grammar.specs.BracketDecisions.{Named, or_empty, is_there, name_in, behind, place, between, stays, forms, links, inline_link, leads, question, answered, with_answer, ask, defined_or_asked, refers, one_line_footnotes, is_footnote_label, footnote_reference, as_label, collapsed_or_shortcut, by_own_label, full_reference, reference_or, unless_footnote, link_or, with_taken, wiki_text, wikilink, wikilink_or, taking, decide}
+use Rattle.cmark_grammar.specs.BracketDecisions.{Named, is_there, name_in, behind, place, between, stays, forms, question, answered, with_answer, ask, defined_or_asked, refers, one_line_footnotes, is_footnote_label, footnote_reference, as_label, collapsed_or_shortcut, by_own_label, reference_or, unless_footnote, link_or, with_taken, wiki_text, wikilink, wikilink_or, taking, decide}
 use Rattle.cmark_grammar.specs.BracketReading.{Comes}
 use Rattle.cmark_grammar.specs.BracketStates.{State, Outcome, Decision, Settled, Asks}
 use Rattle.cmark_grammar.specs.Items.{Bracket}

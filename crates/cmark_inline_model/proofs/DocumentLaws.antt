@@ -33,24 +33,26 @@ module _ (reader : Reader) (recorded : (leaf : Leaf) → IsRecorded (decide read
       let k = reads-add (token reader leaf) (decide reader leaf) Says (recorded leaf) (entering leaf before) h.parts h.last h.reads.reads in
       (k.0, ap (λ (b : Between). b.asked) h.after_is ∙ k.1)
 
-  all_grow : (others : List Segment) (before after : Between) (events : List Ranged) → ReadsAll reader Says others before events after → Grows before after
-  all_grow [] before after events h = ([], ap (λ (b : Between). b.asked) h.1 ∙ sym (append-nil before.asked))
-  all_grow (Given r ∷ others) before after events h = all_grow others before after h.0 h.1
-  all_grow (Content leaf ∷ others) before after events h =
+  pub all-grow : (others : List Segment) (before after : Between) (events : List Ranged) → ReadsAll reader Says others before events after → Grows before after
+  all-grow [] before after events h = ([], ap (λ (b : Between). b.asked) h.1 ∙ sym (append-nil before.asked))
+  all-grow (Given r ∷ others) before after events h = all-grow others before after h.0 h.1
+  all-grow (Content leaf ∷ others) before after events h =
       let a = leaf_grows leaf before h.2 h.0 h.3 in
-      let b = all_grow others h.2 after h.1 h.4 in
+      let b = all-grow others h.2 after h.1 h.4 in
       (a.0 ++ b.0, b.1 ∙ ap (λ l. l ++ b.0) a.1 ∙ append_assoc before.asked a.0 b.0)
 
-  pub all-next : (all rest : List Exchange) (others : List Segment) (before after : Between) (events : List Ranged) → all ≡ after.asked ++ rest → ReadsAll reader Says others before events after → ReadsAll reader (IsNext all) others before events after
+  pub all-next : (all rest : List Exchange) (others : List Segment) (before after : Between) (events : List Ranged) → all ≡ after.asked ++ rest → ReadsAll reader Says others before events after
+      → ReadsAll reader (IsNext all) others before events after
   all-next all rest [] before after events e h = h
   all-next all rest (Given r ∷ others) before after events e h = (h.0, all-next all rest others before after h.0 e h.1, h.2)
   all-next all rest (Content leaf ∷ others) before after events e h =
-      let b = all_grow others h.2 after h.1 h.4 in
+      let b = all-grow others h.2 after h.1 h.4 in
       let f : all ≡ h.2.asked ++ (b.0 ++ rest) = e ∙ ap (λ l. l ++ rest) b.1 ∙ append_assoc h.2.asked b.0 rest in
       (h.0, h.1, h.2, leaf-next reader leaf (recorded leaf) Says before h.2 h.0 all (b.0 ++ rest) f h.3, all-next all rest others h.2 after h.1 e h.4, h.5)
 
 -- the segments are read in one way, for each list of answers
-pub all-same : (reader : Reader) (all : List Exchange) (others : List Segment) (before : Between) (first second : List Ranged) (a b : Between) → ReadsAll reader (IsNext all) others before first a → ReadsAll reader (IsNext all) others before second b → first ≡ second
+pub all-same : (reader : Reader) (all : List Exchange) (others : List Segment) (before : Between) (first second : List Ranged) (a b : Between) → ReadsAll reader (IsNext all) others before first a
+    → ReadsAll reader (IsNext all) others before second b → first ≡ second
 all-same reader all [] before first second a b h k = h.0 ∙ sym k.0
 all-same reader all (Given r ∷ others) before first second a b h k = h.2 ∙ ap (λ l. r ∷ l) (all-same reader all others before h.0 k.0 a b h.1 k.1) ∙ sym k.2
 all-same reader all (Content leaf ∷ others) before first second a b h k =

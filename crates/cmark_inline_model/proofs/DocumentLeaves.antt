@@ -1,5 +1,5 @@
 -- The leaves of a document that is derived stand in order.
-use Rattle.std.proofs.Common.{◌≡◌, ℕ, ◌≤◌, List, [], ◌∷◌, ◌++◌, length, arith}
+use Rattle.std.proofs.Common.{ℕ, ◌≤◌, List, [], ◌∷◌, ◌++◌, arith}
 use Rattle.cmark_grammar.specs.BlockDocument.{BlockKind, Paragraph, TightParagraph, Heading, ThematicBreak, IndentedCode, FencedCode, HtmlBlock, LinkDefinition, BlockQuote, BlockList, ListItem, Text, OwnedText, Html, BlockNode, BlockDocument, Nil, Node}
 use Rattle.cmark_grammar.specs.BlockReading.{Reads, Around, Inside, Alone, Silent, read_as}
 use Rattle.cmark_grammar.specs.LeafText.{InTurn}
@@ -7,15 +7,15 @@ use Rattle.cmark_grammar.specs.Ranges.{InOrder}
 use Rattle.cmark_grammar.specs.SpanDocuments.{Segment, Given, Content, stretches_of, inside_of, node_segments, segments}
 use Rattle.cmark_inline_model.specs.LeafModel.{AreLeavesInTurn}
 
-order_up : (from : ℕ) (document : BlockDocument) (to : ℕ) → InOrder from document to → from ≤ to
-order_up from Nil to h = h
-order_up from (Node node inside after) to h =
-    let a = h.0 in let b = order_up node.start inside node.end h.1 in let c = order_up node.end after to h.2 in omega arith
+pub order-up : (from : ℕ) (document : BlockDocument) (to : ℕ) → InOrder from document to → from ≤ to
+order-up from Nil to h = h
+order-up from (Node node inside after) to h =
+    let a = h.0 in let b = order-up node.start inside node.end h.1 in let c = order-up node.end after to h.2 in omega arith
 
-stretches_turn : (from low : ℕ) (document : BlockDocument) (to size : ℕ) → low ≤ from → to ≤ size → InOrder from document to → InTurn low (stretches_of document) size
-stretches_turn from low Nil to size l u h = let a : from ≤ to = h in omega arith
-stretches_turn from low (Node node inside after) to size l u h =
-    let a = h.0 in let b = order_up node.start inside node.end h.1 in (omega arith, b, stretches_turn node.end node.end after to size (omega arith) u h.2)
+pub stretches-turn : (from low : ℕ) (document : BlockDocument) (to size : ℕ) → low ≤ from → to ≤ size → InOrder from document to → InTurn low (stretches_of document) size
+stretches-turn from low Nil to size l u h = let a : from ≤ to = h in omega arith
+stretches-turn from low (Node node inside after) to size l u h =
+    let a = h.0 in let b = order-up node.start inside node.end h.1 in (omega arith, b, stretches-turn node.end node.end after to size (omega arith) u h.2)
 
 leaves_append : (size : ℕ) (a b : List Segment) → AreLeavesInTurn size a → AreLeavesInTurn size b → AreLeavesInTurn size (a ++ b)
 leaves_append size [] b h k = k
@@ -47,9 +47,9 @@ node_turn size Silent node inside h = tt
 pub segments-turn : (size from : ℕ) (document : BlockDocument) (to : ℕ) → to ≤ size → InOrder from document to → AreLeavesInTurn size (segments document)
 segments-turn size from Nil to u h = tt
 segments-turn size from (Node node inside after) to u h =
-    let c = order_up node.end after to h.2 in
+    let c = order-up node.end after to h.2 in
     let own = inside_of node.kind inside (segments inside) in
     leaves_append size (node_segments (read_as node.kind) node own) (segments after)
     (node_turn size (read_as node.kind) node own
-    (inside_turn size node.kind inside (segments inside) (stretches_turn node.start 0 inside node.end size (omega arith) (omega arith) h.1) (segments-turn size node.start inside node.end (omega arith) h.1)))
+    (inside_turn size node.kind inside (segments inside) (stretches-turn node.start 0 inside node.end size (omega arith) (omega arith) h.1) (segments-turn size node.start inside node.end (omega arith) h.1)))
     (segments-turn size node.end after to u h.2)

@@ -1,21 +1,19 @@
 -- Tokens and decisions of a leaf lead on in it and stand within it.
-use Rattle.std.specs.Prelude.{suc, zero, ◌-◌, ◌==◌, ◌&&◌, drop, map}
-use Rattle.std.proofs.Common.{◌≡◌, ◌⊎◌, inl, inr, ◌<◌, ◌≤◌, ◌+◌, ℕ, Bool, true, false, List, [], ◌∷◌, length, Option, Some, None, refl, sym, ap, subst, arith, ◌∙◌}
-use Rattle.cmark_grammar.specs.BracketDecisions.{Named, behind, place, stays, forms, inline_link, leads, wikilink, decide}
+use Rattle.std.specs.Prelude.{◌==◌}
+use Rattle.std.proofs.Common.{◌≡◌, ◌⊎◌, inl, inr, ◌<◌, ◌≤◌, ℕ, List, length, Option, Some, None, sym, subst, arith}
+use Rattle.cmark_grammar.specs.BracketDecisions.{behind, place, decide}
 use Rattle.cmark_grammar.specs.BracketStates.{State, StaysText, Forms, Result, Outcome}
 use Rattle.cmark_grammar.specs.InlineTokens.{token}
-use Rattle.cmark_grammar.specs.Items.{Item, Bracket, Token, Stands, Opens, Closes, Ends}
+use Rattle.cmark_grammar.specs.Items.{Bracket, Closes}
 use Rattle.cmark_grammar.specs.LeafText.{Leaf, end_of, InTurn}
-use Rattle.cmark_grammar.specs.Letters.{first_is}
 use Rattle.cmark_grammar.specs.LinkTails.{LinkTail, link_tail_in}
-use Rattle.cmark_grammar.specs.Parts.{Formed, Linking, Footnote, Wiki}
 use Rattle.cmark_grammar.specs.Questions.{Exchange}
 use Rattle.cmark_grammar.specs.Readers.{Reader}
 use Rattle.cmark_grammar.proofs.ShorterRests.{TailBelow, link_tail-shorter}
-use Rattle.cmark_inline_model.specs.PartRanges.{StandsFrom, ReachesBy, Reaches, KeepsRanges}
+use Rattle.cmark_inline_model.specs.PartRanges.{ReachesBy, Reaches, KeepsRanges}
 use Rattle.cmark_inline_model.specs.Progress.{Always, IsForward}
 use Rattle.cmark_inline_model.proofs.DecisionLaws.{always-by, decide-fits}
-use Rattle.cmark_inline_model.proofs.DecisionShape.{IsPlace, IsNamed, Shape, Stays, ToInline, ToReference, ToFootnote, ToWiki}
+use Rattle.cmark_inline_model.proofs.DecisionShape.{IsPlace, Shape, Stays, ToInline, ToReference, ToFootnote, ToWiki}
 use Rattle.cmark_inline_model.proofs.LeafPlaces.{place-within, place-from, some-fit}
 use Rattle.cmark_inline_model.proofs.TokenLaws.{Onward, token-onward, token-ends}
 use Rattle.cmark_inline_model.proofs.TokenSizes.{first-size}
@@ -29,9 +27,9 @@ module _ (reader : Reader) (leaf : Leaf) (size : ℕ) (turn : InTurn 0 leaf.stre
   rest_place closer rest w h =
       (place-from reader.source leaf.stretches size turn (length rest) closer.end h w, place-within reader.source leaf.stretches size turn (length rest))
 
-  is_place : (closer : Bracket) (p : ℕ) → closer.end ≤ end → IsPlace reader leaf closer p → (closer.end ≤ p) × (p ≤ end)
-  is_place closer p w (inl e) = (omega arith, omega arith)
-  is_place closer p w (inr h) = let r = rest_place closer h.0 w h.1 in let e = h.2 in let x = r.0 in let y = r.1 in (omega arith, omega arith)
+  pub is-place : (closer : Bracket) (p : ℕ) → closer.end ≤ end → IsPlace reader leaf closer p → (closer.end ≤ p) × (p ≤ end)
+  is-place closer p w (inl e) = (omega arith, omega arith)
+  is-place closer p w (inr h) = let r = rest_place closer h.0 w h.1 in let e = h.2 in let x = r.0 in let y = r.1 in (omega arith, omega arith)
 
   tail_rest : (n : ℕ) (o : Option LinkTail) (tail : LinkTail) → TailBelow n o → o ≡ Some tail → length tail.behind < n
   tail_rest n None tail h e = cc
@@ -45,8 +43,8 @@ module _ (reader : Reader) (leaf : Leaf) (size : ℕ) (turn : InTurn 0 leaf.stre
       let x = r.0 in let y = r.1 in
       subst (Reaches closer.end end) (sym e) (record { behind = (x, omega arith); within = y })
   shape_reaches s closer w asked o (ToReference label os taken named link_type found h t n some l e) =
-      let a = is_place closer named.end w n.ends in
-      let b = is_place closer named.past w n.passes in
+      let a = is-place closer named.end w n.ends in
+      let b = is-place closer named.past w n.passes in
       let x = a.0 in let y = b.0 in let z = b.1 in
       subst (Reaches closer.end end) (sym e) (record { behind = (x, order n.order y); within = z })
     where
@@ -54,17 +52,17 @@ module _ (reader : Reader) (leaf : Leaf) (size : ℕ) (turn : InTurn 0 leaf.stre
       order (inl q) y = omega arith
       order (inr q) y = omega arith
   shape_reaches s closer w asked o (ToFootnote label os taken name h t on e) = subst (Reaches closer.end end) (sym e) (record { behind = (omega arith, omega arith); within = w })
-  shape_reaches s closer w asked o (ToWiki label os first h t on next e) =
+  shape_reaches s closer w asked o (ToWiki label os first far h t on next e) =
       let some = first-size (λ b. b == 93) (behind reader leaf closer.end) next in
       let f = some-fit reader.source leaf.stretches size turn closer.end some in
       subst (Reaches closer.end end) (sym e) (record { behind = (omega arith, omega arith); within = omega arith })
 
-  closer_is : (at : ℕ) (closer : Bracket) → token reader leaf at ≡ Closes closer → Onward reader leaf size turn at (Closes closer)
-  closer_is at closer e = subst (Onward reader leaf size turn at) e (token-onward reader leaf size turn at)
+  pub closer-is : (at : ℕ) (closer : Bracket) → token reader leaf at ≡ Closes closer → Onward reader leaf size turn at (Closes closer)
+  closer-is at closer e = subst (Onward reader leaf size turn at) e (token-onward reader leaf size turn at)
 
   reaches : (s : State) (closer : Bracket) → token reader leaf s.at ≡ Closes closer → Always (Reaches closer.end end) (decide reader leaf s closer)
   reaches s closer e =
-      let c = closer_is s.at closer e in
+      let c = closer-is s.at closer e in
       let x = c.1 in let y = c.2 in
       always-by reader leaf s closer (Reaches closer.end end) (shape_reaches s closer (omega arith))
 
@@ -74,7 +72,7 @@ module _ (reader : Reader) (leaf : Leaf) (size : ℕ) (turn : InTurn 0 leaf.stre
 
   comes_behind : (s : State) (closer : Bracket) → token reader leaf s.at ≡ Closes closer → Always (λ o. s.at < o.after.at) (decide reader leaf s closer)
   comes_behind s closer e =
-      let c = closer_is s.at closer e in
+      let c = closer-is s.at closer e in
       let x = c.1 in let y = c.2 in
       always-by reader leaf s closer (λ o. s.at < o.after.at)
       (λ asked o h. (let r = shape_reaches s closer (omega arith) asked o h in let m = behind_at closer.end o.after.at o.result r.behind in omega arith))
@@ -92,6 +90,6 @@ module _ (reader : Reader) (leaf : Leaf) (size : ℕ) (turn : InTurn 0 leaf.stre
   leaf-ranges = record {
     stands = λ at past item e. (let h = subst (Onward reader leaf size turn at) e (token-onward reader leaf size turn at) in (h.0, h.2));
     opens = λ at opener e. (let h = subst (Onward reader leaf size turn at) e (token-onward reader leaf size turn at) in h.0);
-    closes = λ at closer e. (let h = closer_is at closer e in let x = h.0 in let y = h.1 in let z = h.2 in record { begins = omega arith; ordered = omega arith; ends = omega arith });
+    closes = λ at closer e. (let h = closer-is at closer e in let x = h.0 in let y = h.1 in let z = h.2 in (record { begins = omega arith; ordered = omega arith; ends = omega arith }, omega arith));
     comes = reaches;
   }

@@ -20,7 +20,8 @@ example_13 : html (codes "\\\t\\A\\a\\ \\3\\" ++ ((207 ∷ 134 ∷ []) ++ (codes
 unfolding caseless encode chars token decide ucd_category is_unicode_white_space is_unicode_punctuation agrees pair_of rest_of_opener rest_of_closer kinds_of shuts closed
 example_13 = refl
 
-example_14 : html (codes "\\*not emphasized*\n\\<br/> not a tag\n\\[not a link](/foo)\n\\`not code`\n1\\. not a list\n\\* not a list\n\\# not a heading\n\\[foo]: /url \"not a reference\"\n\\&ouml; not a character entity") ≡ codes "*not emphasized*\n&lt;br/&gt; not a tag\n[not a link](/foo)\n`not code`\n1. not a list\n* not a list\n# not a heading\n[foo]: /url \"not a reference\"\n&amp;ouml; not a character entity"
+example_14 : html (codes "\\*not emphasized*\n\\<br/> not a tag\n\\[not a link](/foo)\n\\`not code`\n1\\. not a list\n\\* not a list\n\\# not a heading\n\\[foo]: /url \"not a reference\"\n\\&ouml; not a character entity")
+    ≡ codes "*not emphasized*\n&lt;br/&gt; not a tag\n[not a link](/foo)\n`not code`\n1. not a list\n* not a list\n# not a heading\n[foo]: /url \"not a reference\"\n&amp;ouml; not a character entity"
 unfolding caseless encode chars token decide ucd_category is_unicode_white_space is_unicode_punctuation agrees pair_of rest_of_opener rest_of_closer kinds_of shuts closed
 example_14 = refl
 
@@ -220,7 +221,10 @@ example_360 : html (codes "5_6_78") ≡ codes "5_6_78"
 unfolding caseless encode chars token decide ucd_category is_unicode_white_space is_unicode_punctuation agrees pair_of rest_of_opener rest_of_closer kinds_of shuts closed
 example_360 = refl
 
-example_361 : html ((208 ∷ 191 ∷ 209 ∷ 128 ∷ 208 ∷ 184 ∷ 209 ∷ 129 ∷ 209 ∷ 130 ∷ 208 ∷ 176 ∷ 208 ∷ 189 ∷ 209 ∷ 143 ∷ 208 ∷ 188 ∷ []) ++ (codes "_" ++ ((209 ∷ 129 ∷ 209 ∷ 130 ∷ 209 ∷ 128 ∷ 208 ∷ 181 ∷ 208 ∷ 188 ∷ 209 ∷ 143 ∷ 209 ∷ 130 ∷ 209 ∷ 129 ∷ 209 ∷ 143 ∷ []) ++ (codes "_")))) ≡ (208 ∷ 191 ∷ 209 ∷ 128 ∷ 208 ∷ 184 ∷ 209 ∷ 129 ∷ 209 ∷ 130 ∷ 208 ∷ 176 ∷ 208 ∷ 189 ∷ 209 ∷ 143 ∷ 208 ∷ 188 ∷ []) ++ (codes "_" ++ ((209 ∷ 129 ∷ 209 ∷ 130 ∷ 209 ∷ 128 ∷ 208 ∷ 181 ∷ 208 ∷ 188 ∷ 209 ∷ 143 ∷ 209 ∷ 130 ∷ 209 ∷ 129 ∷ 209 ∷ 143 ∷ []) ++ (codes "_")))
+example_361 : html ((208 ∷ 191 ∷ 209 ∷ 128 ∷ 208 ∷ 184 ∷ 209 ∷ 129 ∷ 209 ∷ 130 ∷ 208 ∷ 176 ∷ 208 ∷ 189 ∷ 209 ∷ 143 ∷ 208 ∷ 188 ∷ []) ++ (codes "_"
+    ++ ((209 ∷ 129 ∷ 209 ∷ 130 ∷ 209 ∷ 128 ∷ 208 ∷ 181 ∷ 208 ∷ 188 ∷ 209 ∷ 143 ∷ 209 ∷ 130 ∷ 209 ∷ 129 ∷ 209 ∷ 143 ∷ []) ++ (codes "_"))))
+    ≡ (208 ∷ 191 ∷ 209 ∷ 128 ∷ 208 ∷ 184 ∷ 209 ∷ 129 ∷ 209 ∷ 130 ∷ 208 ∷ 176 ∷ 208 ∷ 189 ∷ 209 ∷ 143 ∷ 208 ∷ 188 ∷ []) ++ (codes "_"
+    ++ ((209 ∷ 129 ∷ 209 ∷ 130 ∷ 209 ∷ 128 ∷ 208 ∷ 181 ∷ 208 ∷ 188 ∷ 209 ∷ 143 ∷ 209 ∷ 130 ∷ 209 ∷ 129 ∷ 209 ∷ 143 ∷ []) ++ (codes "_")))
 unfolding caseless encode chars token decide ucd_category is_unicode_white_space is_unicode_punctuation agrees pair_of rest_of_opener rest_of_closer kinds_of shuts closed
 example_361 = refl
 

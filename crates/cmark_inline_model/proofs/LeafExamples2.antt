@@ -32,7 +32,10 @@ example_373 : html (codes "_foo_bar") ≡ codes "_foo_bar"
 unfolding caseless encode chars token decide ucd_category is_unicode_white_space is_unicode_punctuation agrees pair_of rest_of_opener rest_of_closer kinds_of shuts closed
 example_373 = refl
 
-example_374 : html (codes "_" ++ ((208 ∷ 191 ∷ 209 ∷ 128 ∷ 208 ∷ 184 ∷ 209 ∷ 129 ∷ 209 ∷ 130 ∷ 208 ∷ 176 ∷ 208 ∷ 189 ∷ 209 ∷ 143 ∷ 208 ∷ 188 ∷ []) ++ (codes "_" ++ ((209 ∷ 129 ∷ 209 ∷ 130 ∷ 209 ∷ 128 ∷ 208 ∷ 181 ∷ 208 ∷ 188 ∷ 209 ∷ 143 ∷ 209 ∷ 130 ∷ 209 ∷ 129 ∷ 209 ∷ 143 ∷ []))))) ≡ codes "_" ++ ((208 ∷ 191 ∷ 209 ∷ 128 ∷ 208 ∷ 184 ∷ 209 ∷ 129 ∷ 209 ∷ 130 ∷ 208 ∷ 176 ∷ 208 ∷ 189 ∷ 209 ∷ 143 ∷ 208 ∷ 188 ∷ []) ++ (codes "_" ++ ((209 ∷ 129 ∷ 209 ∷ 130 ∷ 209 ∷ 128 ∷ 208 ∷ 181 ∷ 208 ∷ 188 ∷ 209 ∷ 143 ∷ 209 ∷ 130 ∷ 209 ∷ 129 ∷ 209 ∷ 143 ∷ []))))
+example_374 : html (codes "_" ++ ((208 ∷ 191 ∷ 209 ∷ 128 ∷ 208 ∷ 184 ∷ 209 ∷ 129 ∷ 209 ∷ 130 ∷ 208 ∷ 176 ∷ 208 ∷ 189 ∷ 209 ∷ 143 ∷ 208 ∷ 188 ∷ []) ++ (codes "_"
+    ++ ((209 ∷ 129 ∷ 209 ∷ 130 ∷ 209 ∷ 128 ∷ 208 ∷ 181 ∷ 208 ∷ 188 ∷ 209 ∷ 143 ∷ 209 ∷ 130 ∷ 209 ∷ 129 ∷ 209 ∷ 143 ∷ [])))))
+    ≡ codes "_" ++ ((208 ∷ 191 ∷ 209 ∷ 128 ∷ 208 ∷ 184 ∷ 209 ∷ 129 ∷ 209 ∷ 130 ∷ 208 ∷ 176 ∷ 208 ∷ 189 ∷ 209 ∷ 143 ∷ 208 ∷ 188 ∷ []) ++ (codes "_"
+    ++ ((209 ∷ 129 ∷ 209 ∷ 130 ∷ 209 ∷ 128 ∷ 208 ∷ 181 ∷ 208 ∷ 188 ∷ 209 ∷ 143 ∷ 209 ∷ 130 ∷ 209 ∷ 129 ∷ 209 ∷ 143 ∷ []))))
 unfolding caseless encode chars token decide ucd_category is_unicode_white_space is_unicode_punctuation agrees pair_of rest_of_opener rest_of_closer kinds_of shuts closed
 example_374 = refl
 
@@ -84,7 +87,10 @@ example_386 : html (codes "5__6__78") ≡ codes "5__6__78"
 unfolding caseless encode chars token decide ucd_category is_unicode_white_space is_unicode_punctuation agrees pair_of rest_of_opener rest_of_closer kinds_of shuts closed
 example_386 = refl
 
-example_387 : html ((208 ∷ 191 ∷ 209 ∷ 128 ∷ 208 ∷ 184 ∷ 209 ∷ 129 ∷ 209 ∷ 130 ∷ 208 ∷ 176 ∷ 208 ∷ 189 ∷ 209 ∷ 143 ∷ 208 ∷ 188 ∷ []) ++ (codes "__" ++ ((209 ∷ 129 ∷ 209 ∷ 130 ∷ 209 ∷ 128 ∷ 208 ∷ 181 ∷ 208 ∷ 188 ∷ 209 ∷ 143 ∷ 209 ∷ 130 ∷ 209 ∷ 129 ∷ 209 ∷ 143 ∷ []) ++ (codes "__")))) ≡ (208 ∷ 191 ∷ 209 ∷ 128 ∷ 208 ∷ 184 ∷ 209 ∷ 129 ∷ 209 ∷ 130 ∷ 208 ∷ 176 ∷ 208 ∷ 189 ∷ 209 ∷ 143 ∷ 208 ∷ 188 ∷ []) ++ (codes "__" ++ ((209 ∷ 129 ∷ 209 ∷ 130 ∷ 209 ∷ 128 ∷ 208 ∷ 181 ∷ 208 ∷ 188 ∷ 209 ∷ 143 ∷ 209 ∷ 130 ∷ 209 ∷ 129 ∷ 209 ∷ 143 ∷ []) ++ (codes "__")))
+example_387 : html ((208 ∷ 191 ∷ 209 ∷ 128 ∷ 208 ∷ 184 ∷ 209 ∷ 129 ∷ 209 ∷ 130 ∷ 208 ∷ 176 ∷ 208 ∷ 189 ∷ 209 ∷ 143 ∷ 208 ∷ 188 ∷ []) ++ (codes "__"
+    ++ ((209 ∷ 129 ∷ 209 ∷ 130 ∷ 209 ∷ 128 ∷ 208 ∷ 181 ∷ 208 ∷ 188 ∷ 209 ∷ 143 ∷ 209 ∷ 130 ∷ 209 ∷ 129 ∷ 209 ∷ 143 ∷ []) ++ (codes "__"))))
+    ≡ (208 ∷ 191 ∷ 209 ∷ 128 ∷ 208 ∷ 184 ∷ 209 ∷ 129 ∷ 209 ∷ 130 ∷ 208 ∷ 176 ∷ 208 ∷ 189 ∷ 209 ∷ 143 ∷ 208 ∷ 188 ∷ []) ++ (codes "__"
+    ++ ((209 ∷ 129 ∷ 209 ∷ 130 ∷ 209 ∷ 128 ∷ 208 ∷ 181 ∷ 208 ∷ 188 ∷ 209 ∷ 143 ∷ 209 ∷ 130 ∷ 209 ∷ 129 ∷ 209 ∷ 143 ∷ []) ++ (codes "__")))
 unfolding caseless encode chars token decide ucd_category is_unicode_white_space is_unicode_punctuation agrees pair_of rest_of_opener rest_of_closer kinds_of shuts closed
 example_387 = refl
 
@@ -136,7 +142,10 @@ example_399 : html (codes "__foo__bar") ≡ codes "__foo__bar"
 unfolding caseless encode chars token decide ucd_category is_unicode_white_space is_unicode_punctuation agrees pair_of rest_of_opener rest_of_closer kinds_of shuts closed
 example_399 = refl
 
-example_400 : html (codes "__" ++ ((208 ∷ 191 ∷ 209 ∷ 128 ∷ 208 ∷ 184 ∷ 209 ∷ 129 ∷ 209 ∷ 130 ∷ 208 ∷ 176 ∷ 208 ∷ 189 ∷ 209 ∷ 143 ∷ 208 ∷ 188 ∷ []) ++ (codes "__" ++ ((209 ∷ 129 ∷ 209 ∷ 130 ∷ 209 ∷ 128 ∷ 208 ∷ 181 ∷ 208 ∷ 188 ∷ 209 ∷ 143 ∷ 209 ∷ 130 ∷ 209 ∷ 129 ∷ 209 ∷ 143 ∷ []))))) ≡ codes "__" ++ ((208 ∷ 191 ∷ 209 ∷ 128 ∷ 208 ∷ 184 ∷ 209 ∷ 129 ∷ 209 ∷ 130 ∷ 208 ∷ 176 ∷ 208 ∷ 189 ∷ 209 ∷ 143 ∷ 208 ∷ 188 ∷ []) ++ (codes "__" ++ ((209 ∷ 129 ∷ 209 ∷ 130 ∷ 209 ∷ 128 ∷ 208 ∷ 181 ∷ 208 ∷ 188 ∷ 209 ∷ 143 ∷ 209 ∷ 130 ∷ 209 ∷ 129 ∷ 209 ∷ 143 ∷ []))))
+example_400 : html (codes "__" ++ ((208 ∷ 191 ∷ 209 ∷ 128 ∷ 208 ∷ 184 ∷ 209 ∷ 129 ∷ 209 ∷ 130 ∷ 208 ∷ 176 ∷ 208 ∷ 189 ∷ 209 ∷ 143 ∷ 208 ∷ 188 ∷ []) ++ (codes "__"
+    ++ ((209 ∷ 129 ∷ 209 ∷ 130 ∷ 209 ∷ 128 ∷ 208 ∷ 181 ∷ 208 ∷ 188 ∷ 209 ∷ 143 ∷ 209 ∷ 130 ∷ 209 ∷ 129 ∷ 209 ∷ 143 ∷ [])))))
+    ≡ codes "__" ++ ((208 ∷ 191 ∷ 209 ∷ 128 ∷ 208 ∷ 184 ∷ 209 ∷ 129 ∷ 209 ∷ 130 ∷ 208 ∷ 176 ∷ 208 ∷ 189 ∷ 209 ∷ 143 ∷ 208 ∷ 188 ∷ []) ++ (codes "__"
+    ++ ((209 ∷ 129 ∷ 209 ∷ 130 ∷ 209 ∷ 128 ∷ 208 ∷ 181 ∷ 208 ∷ 188 ∷ 209 ∷ 143 ∷ 209 ∷ 130 ∷ 209 ∷ 129 ∷ 209 ∷ 143 ∷ []))))
 unfolding caseless encode chars token decide ucd_category is_unicode_white_space is_unicode_punctuation agrees pair_of rest_of_opener rest_of_closer kinds_of shuts closed
 example_400 = refl
 

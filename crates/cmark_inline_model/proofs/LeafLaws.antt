@@ -19,7 +19,8 @@ use Rattle.cmark_inline_model.proofs.SiblingsOne.{spans-sound, spans-one}
 
 module _ (reader : Reader) (leaf : Leaf) where
   -- however the questions are answered, the leaf is read
-  pub leaf-read : IsForward (token reader leaf) (decide reader leaf) (end_of leaf.stretches) → (plan : Plan) (before : Between) → ReadsLeaf reader (ByPlan plan) leaf before (leaf_events reader plan leaf before) (leaf_after reader plan leaf before)
+  pub leaf-read : IsForward (token reader leaf) (decide reader leaf) (end_of leaf.stretches) → (plan : Plan) (before : Between)
+      → ReadsLeaf reader (ByPlan plan) leaf before (leaf_events reader plan leaf before) (leaf_after reader plan leaf before)
   leaf-read forward plan before = record {
     parts = leaf_parts reader plan leaf before;
     last = leaf_end reader plan leaf before;
@@ -34,7 +35,8 @@ module _ (reader : Reader) (leaf : Leaf) where
   }
 
   -- a reading with any answers is one with the list of those that it got, and any others behind them
-  pub leaf-next : IsRecorded (decide reader leaf) → (Says : Saying) (before after : Between) (events : List Ranged) (all rest : List Exchange) → all ≡ after.asked ++ rest → ReadsLeaf reader Says leaf before events after → ReadsLeaf reader (IsNext all) leaf before events after
+  pub leaf-next : IsRecorded (decide reader leaf) → (Says : Saying) (before after : Between) (events : List Ranged) (all rest : List Exchange) → all ≡ after.asked ++ rest
+      → ReadsLeaf reader Says leaf before events after → ReadsLeaf reader (IsNext all) leaf before events after
   leaf-next recorded Says before after events all rest e h = record {
     parts = h.parts;
     last = h.last;
@@ -52,4 +54,5 @@ module _ (reader : Reader) (leaf : Leaf) where
   pub leaf-same : (all : List Exchange) (before : Between) (first second : List Ranged) (a b : Between) → ReadsLeaf reader (IsNext all) leaf before first a → ReadsLeaf reader (IsNext all) leaf before second b → (first ≡ second) × (a ≡ b)
   leaf-same all before first second a b h k =
       let e = parts-same (token reader leaf) (decide reader leaf) (IsNext all) (plan_of all) (next-plan all) (entering leaf before) h.parts k.parts h.last k.last h.reads k.reads in
-      (h.events_are ∙ ap (inline_events reader.source) (spans-one reader.options h.parts h.spans h.are ∙ ap (spans_in reader.options) e.0 ∙ sym (spans-one reader.options k.parts k.spans k.are)) ∙ sym k.events_are, h.after_is ∙ ap leaving e.1 ∙ sym k.after_is)
+      let spans = spans-one reader.options h.parts h.spans h.are ∙ ap (spans_in reader.options) e.0 ∙ sym (spans-one reader.options k.parts k.spans k.are) in
+      (h.events_are ∙ ap (inline_events reader.source) spans ∙ sym k.events_are, h.after_is ∙ ap leaving e.1 ∙ sym k.after_is)

@@ -1,9 +1,9 @@
 -- Places of a leaf whose stretches are in turn: what is left behind a place lies behind it, and up to the leaf's end.
-use Rattle.std.specs.Prelude.{◌-◌, nat_lt, min, max, if◌then◌else◌, take, drop}
-use Rattle.std.proofs.Common.{◌≡◌, ◌⊎◌, inl, inr, Bool, true, false, ℕ, zero, suc, ◌+◌, ◌<◌, ◌≤◌, List, [], ◌∷◌, ◌++◌, length, refl, sym, ap, arith, ◌∙◌, length-drop, subst}
+use Rattle.std.specs.Prelude.{◌-◌, nat_lt, max, if◌then◌else◌, drop}
+use Rattle.std.proofs.Common.{◌≡◌, ◌⊎◌, inl, inr, Bool, true, false, ℕ, suc, ◌+◌, ◌<◌, ◌≤◌, List, [], ◌∷◌, length, refl, ap, arith, length-drop}
 use Rattle.std.proofs.lemmas.Bool.{ltb-true, ltb-false}
 use Rattle.std.proofs.lemmas.List.{length-append, length-take}
-use Rattle.cmark_grammar.specs.LeafText.{Stretch, bytes_from, size_of, place_with, end_of, InTurn}
+use Rattle.cmark_grammar.specs.LeafText.{Stretch, bytes_from, size_of, place_with, begin_of, end_of, InTurn}
 use Rattle.cmark_grammar.specs.Tokens.{slice}
 
 slice_size : (source : List ℕ) (start end : ℕ) → length (slice source start end) ≤ end - start
@@ -18,7 +18,7 @@ slice_next source at start end =
     let d = length-drop (max (suc at) start) source in
     omega arith
 
-lower : (from low : ℕ) (st : List Stretch) (size : ℕ) → low ≤ from → InTurn from st size → InTurn low st size
+pub lower : (from low : ℕ) (st : List Stretch) (size : ℕ) → low ≤ from → InTurn from st size → InTurn low st size
 lower from low [] size h k = omega arith
 lower from low (s ∷ more) size h k = (omega arith, k.1, k.2)
 
@@ -175,9 +175,17 @@ module _ (source : List ℕ) (st : List Stretch) (size : ℕ) (turn : InTurn 0 s
       pick (inl e) = let n = none-behind at e in omega arith
       pick (inr e) = fits st turn (omega arith)
 
+  pub next-size : (at : ℕ) → length (bytes_from source st at) ≤ suc (length (bytes_from source st (suc at)))
+  next-size at = next_from source 0 st size at turn
+
   pub place-behind : (left at : ℕ) → left < length (bytes_from source st at) → at < place_with left st
   place-behind left at h =
       let f = some-fit at (omega arith) in
       let n = next_from source 0 st size at turn in
       let p = place-from left (suc at) (omega arith) (omega arith) in
       omega arith
+
+-- a leaf ends at its beginning or behind it
+pub leaf-up : (st : List Stretch) (size : ℕ) → InTurn 0 st size → begin_of st ≤ end_of st
+leaf-up [] size h = omega arith
+leaf-up (s ∷ more) size h = let e = (ends_behind 0 s more size h).0 in let x = h.1 in omega arith

@@ -1,6 +1,6 @@
 -- Opening brackets that a closing one uses up, tries or takes.
 use Rattle.std.specs.Prelude.{zero, suc, ◌&&◌, ◌||◌, not, if◌then◌else◌, drop, map}
-use Rattle.std.proofs.Common.{◌≡◌, ◌+◌, ℕ, Bool, true, false, List, [], ◌∷◌, length, Option, Some, None, refl, sym, ap, subst, arith, ◌∙◌}
+use Rattle.std.proofs.Common.{◌≡◌, ◌+◌, ◌≤◌, ℕ, Bool, true, false, List, [], ◌∷◌, length, Option, Some, None, refl, sym, ap, subst, arith, ◌∙◌}
 use Rattle.std.proofs.lemmas.List.{length-drop}
 use Rattle.cmark_grammar.specs.BracketStates.{Opener}
 use Rattle.cmark_grammar.specs.OpenBrackets.{Taken, one_nearer, nearest, used_up, touches, doubled_behind, doubled, undoubled, tried, inactive, behind_link, dropped}
@@ -95,6 +95,27 @@ doubled_behind_taken second (first ∷ os) = go (first.doubles && touches second
 pub doubled-taken : (os : List Opener) → AreTaken os (doubled os)
 doubled-taken [] = tt
 doubled-taken (o ∷ os) = doubled_behind_taken o os
+
+-- a doubled bracket has a nearer one: its second
+abbrev pub IsFar : Option Taken → Type 0
+IsFar None = Unit {0}
+IsFar (Some taken) = 1 ≤ taken.nearer
+
+one_nearer_far : (taken : Option Taken) → IsFar (one_nearer taken)
+one_nearer_far None = tt
+one_nearer_far (Some taken) = let e : 1 ≤ suc taken.nearer = omega arith in e
+
+doubled_behind_far : (second : Opener) (os : List Opener) → IsFar (doubled_behind second os)
+doubled_behind_far second [] = tt
+doubled_behind_far second (first ∷ os) = go (first.doubles && touches second first)
+  where
+    go : (b : Bool) → IsFar (if b then Some (record { nearer = 1; opener = first }) else one_nearer (doubled_behind first os))
+    go true = let e : 1 ≤ 1 = omega arith in e
+    go false = one_nearer_far (doubled_behind first os)
+
+pub doubled-far : (os : List Opener) → IsFar (doubled os)
+doubled-far [] = tt
+doubled-far (o ∷ os) = doubled_behind_far o os
 
 -- ## What is left of those before the taken one
 

@@ -80,11 +80,14 @@ no_superscript : html_with no_options (codes "x^2^") ≡ codes "x^2^"
 unfolding caseless encode chars token decide ucd_category is_unicode_white_space is_unicode_punctuation agrees pair_of rest_of_opener rest_of_closer kinds_of shuts closed
 no_superscript = refl
 
-smart_quotes_and_dashes : html_with smart (codes "\"a\" -- 'b'...") ≡ (226 ∷ 128 ∷ 156 ∷ []) ++ (codes "a" ++ ((226 ∷ 128 ∷ 157 ∷ []) ++ (codes " " ++ ((226 ∷ 128 ∷ 147 ∷ []) ++ (codes " " ++ ((226 ∷ 128 ∷ 152 ∷ []) ++ (codes "b" ++ ((226 ∷ 128 ∷ 153 ∷ 226 ∷ 128 ∷ 166 ∷ [])))))))))
+smart_quotes_and_dashes : html_with smart (codes "\"a\" -- 'b'...")
+    ≡ (226 ∷ 128 ∷ 156 ∷ []) ++ (codes "a" ++ ((226 ∷ 128 ∷ 157 ∷ []) ++ (codes " " ++ ((226 ∷ 128 ∷ 147 ∷ []) ++ (codes " " ++ ((226 ∷ 128 ∷ 152 ∷ []) ++ (codes "b" ++ ((226 ∷ 128 ∷ 153 ∷ 226 ∷ 128 ∷ 166 ∷ [])))))))))
 unfolding caseless encode chars token decide ucd_category is_unicode_white_space is_unicode_punctuation agrees pair_of rest_of_opener rest_of_closer kinds_of shuts closed
 smart_quotes_and_dashes = refl
 
-nested_quotes : html_with smart (codes "\"Hello,\" said the spider.\n\"'Shelob' is my name.\"") ≡ (226 ∷ 128 ∷ 156 ∷ []) ++ (codes "Hello," ++ ((226 ∷ 128 ∷ 157 ∷ []) ++ (codes " said the spider.\n" ++ ((226 ∷ 128 ∷ 156 ∷ 226 ∷ 128 ∷ 152 ∷ []) ++ (codes "Shelob" ++ ((226 ∷ 128 ∷ 153 ∷ []) ++ (codes " is my name." ++ ((226 ∷ 128 ∷ 157 ∷ [])))))))))
+nested_quotes : html_with smart (codes "\"Hello,\" said the spider.\n\"'Shelob' is my name.\"")
+    ≡ (226 ∷ 128 ∷ 156 ∷ []) ++ (codes "Hello," ++ ((226 ∷ 128 ∷ 157 ∷ []) ++ (codes " said the spider.\n" ++ ((226 ∷ 128 ∷ 156 ∷ 226 ∷ 128 ∷ 152 ∷ []) ++ (codes "Shelob" ++ ((226 ∷ 128 ∷ 153 ∷ [])
+    ++ (codes " is my name." ++ ((226 ∷ 128 ∷ 157 ∷ [])))))))))
 unfolding caseless encode chars token decide ucd_category is_unicode_white_space is_unicode_punctuation agrees pair_of rest_of_opener rest_of_closer kinds_of shuts closed
 nested_quotes = refl
 
@@ -96,11 +99,17 @@ apostrophe_first : html_with smart (codes "'tis the season to be 'jolly'") ≡ (
 unfolding caseless encode chars token decide ucd_category is_unicode_white_space is_unicode_punctuation agrees pair_of rest_of_opener rest_of_closer kinds_of shuts closed
 apostrophe_first = refl
 
-apostrophes_in_words : html_with smart (codes "'We'll use Jane's boat and John's truck,' Jenna said.") ≡ (226 ∷ 128 ∷ 152 ∷ []) ++ (codes "We" ++ ((226 ∷ 128 ∷ 153 ∷ []) ++ (codes "ll use Jane" ++ ((226 ∷ 128 ∷ 153 ∷ []) ++ (codes "s boat and John" ++ ((226 ∷ 128 ∷ 153 ∷ []) ++ (codes "s truck," ++ ((226 ∷ 128 ∷ 153 ∷ []) ++ (codes " Jenna said.")))))))))
+apostrophes_in_words : html_with smart (codes "'We'll use Jane's boat and John's truck,' Jenna said.")
+    ≡ (226 ∷ 128 ∷ 152 ∷ []) ++ (codes "We" ++ ((226 ∷ 128 ∷ 153 ∷ []) ++ (codes "ll use Jane" ++ ((226 ∷ 128 ∷ 153 ∷ []) ++ (codes "s boat and John" ++ ((226 ∷ 128 ∷ 153 ∷ []) ++ (codes "s truck,"
+    ++ ((226 ∷ 128 ∷ 153 ∷ []) ++ (codes " Jenna said.")))))))))
 unfolding caseless encode chars token decide ucd_category is_unicode_white_space is_unicode_punctuation agrees pair_of rest_of_opener rest_of_closer kinds_of shuts closed
 apostrophes_in_words = refl
 
-dashes : html_with smart (codes "one-\ntwo--\nthree---\nfour----\nfive-----\nsix------\nseven-------\neight--------\nnine---------\nthirteen-------------.") ≡ codes "one-\ntwo" ++ ((226 ∷ 128 ∷ 147 ∷ []) ++ (codes "\nthree" ++ ((226 ∷ 128 ∷ 148 ∷ []) ++ (codes "\nfour" ++ ((226 ∷ 128 ∷ 147 ∷ 226 ∷ 128 ∷ 147 ∷ []) ++ (codes "\nfive" ++ ((226 ∷ 128 ∷ 148 ∷ 226 ∷ 128 ∷ 147 ∷ []) ++ (codes "\nsix" ++ ((226 ∷ 128 ∷ 148 ∷ 226 ∷ 128 ∷ 148 ∷ []) ++ (codes "\nseven" ++ ((226 ∷ 128 ∷ 148 ∷ 226 ∷ 128 ∷ 147 ∷ 226 ∷ 128 ∷ 147 ∷ []) ++ (codes "\neight" ++ ((226 ∷ 128 ∷ 147 ∷ 226 ∷ 128 ∷ 147 ∷ 226 ∷ 128 ∷ 147 ∷ 226 ∷ 128 ∷ 147 ∷ []) ++ (codes "\nnine" ++ ((226 ∷ 128 ∷ 148 ∷ 226 ∷ 128 ∷ 148 ∷ 226 ∷ 128 ∷ 148 ∷ []) ++ (codes "\nthirteen" ++ ((226 ∷ 128 ∷ 148 ∷ 226 ∷ 128 ∷ 148 ∷ 226 ∷ 128 ∷ 148 ∷ 226 ∷ 128 ∷ 147 ∷ 226 ∷ 128 ∷ 147 ∷ []) ++ (codes "."))))))))))))))))))
+dashes : html_with smart (codes "one-\ntwo--\nthree---\nfour----\nfive-----\nsix------\nseven-------\neight--------\nnine---------\nthirteen-------------.")
+    ≡ codes "one-\ntwo" ++ ((226 ∷ 128 ∷ 147 ∷ []) ++ (codes "\nthree" ++ ((226 ∷ 128 ∷ 148 ∷ []) ++ (codes "\nfour" ++ ((226 ∷ 128 ∷ 147 ∷ 226 ∷ 128 ∷ 147 ∷ []) ++ (codes "\nfive"
+    ++ ((226 ∷ 128 ∷ 148 ∷ 226 ∷ 128 ∷ 147 ∷ []) ++ (codes "\nsix" ++ ((226 ∷ 128 ∷ 148 ∷ 226 ∷ 128 ∷ 148 ∷ []) ++ (codes "\nseven" ++ ((226 ∷ 128 ∷ 148 ∷ 226 ∷ 128 ∷ 147 ∷ 226 ∷ 128 ∷ 147 ∷ [])
+    ++ (codes "\neight" ++ ((226 ∷ 128 ∷ 147 ∷ 226 ∷ 128 ∷ 147 ∷ 226 ∷ 128 ∷ 147 ∷ 226 ∷ 128 ∷ 147 ∷ []) ++ (codes "\nnine" ++ ((226 ∷ 128 ∷ 148 ∷ 226 ∷ 128 ∷ 148 ∷ 226 ∷ 128 ∷ 148 ∷ []) ++ (codes "\nthirteen"
+    ++ ((226 ∷ 128 ∷ 148 ∷ 226 ∷ 128 ∷ 148 ∷ 226 ∷ 128 ∷ 148 ∷ 226 ∷ 128 ∷ 147 ∷ 226 ∷ 128 ∷ 147 ∷ []) ++ (codes "."))))))))))))))))))
 unfolding caseless encode chars token decide ucd_category is_unicode_white_space is_unicode_punctuation agrees pair_of rest_of_opener rest_of_closer kinds_of shuts closed
 dashes = refl
 

@@ -40,7 +40,9 @@ cut-is (Opening other after) opener b =
     go (openings (join after (Opening opener b)) == openings b) (ne_eqb (openings (join after (Opening opener b))) (openings b) (λ x. let k = openings-join after (Opening opener b) in let d : ⊥ = omega arith in d))
     (cut-is after opener b)
   where
-    go : (x : Bool) → x ≡ false → cut_at (openings b) (join after (Opening opener b)) ≡ Some (record { before = after; opener = opener; inside = b }) → (if x then Some (record { before = Nil; opener = other; inside = join after (Opening opener b) }) else behind (Opening other Nil) (cut_at (openings b) (join after (Opening opener b)))) ≡ Some (record { before = Opening other after; opener = opener; inside = b })
+    go : (x : Bool) → x ≡ false → cut_at (openings b) (join after (Opening opener b)) ≡ Some (record { before = after; opener = opener; inside = b })
+        → (if x then Some (record { before = Nil; opener = other; inside = join after (Opening opener b) }) else behind (Opening other Nil) (cut_at (openings b) (join after (Opening opener b))))
+        ≡ Some (record { before = Opening other after; opener = opener; inside = b })
     go true e k = absurd (let d : ⊥ = cc in d)
     go false e k = ap (behind (Opening other Nil)) k
 
@@ -67,6 +69,7 @@ cuts nearer (Form opener inside closer formed after) = cuts_behind nearer (Form 
 cuts nearer (Closing closer after) = cuts_behind nearer (Closing closer Nil) after (cut_at nearer after) (cuts nearer after)
 cuts nearer (Opening opener after) = go (openings after == nearer) refl (cuts nearer after)
   where
-    go : (x : Bool) → (openings after == nearer) ≡ x → Cuts nearer after (cut_at nearer after) → Cuts nearer (Opening opener after) (if x then Some (record { before = Nil; opener = opener; inside = after }) else behind (Opening opener Nil) (cut_at nearer after))
+    go : (x : Bool) → (openings after == nearer) ≡ x → Cuts nearer after (cut_at nearer after)
+        → Cuts nearer (Opening opener after) (if x then Some (record { before = Nil; opener = opener; inside = after }) else behind (Opening opener Nil) (cut_at nearer after))
     go true e k = record { whole_is = refl; more_is = eqb-true (openings after) nearer e }
     go false e k = cuts_behind nearer (Opening opener Nil) after (cut_at nearer after) k

@@ -82,7 +82,9 @@ unfolding caseless encode chars token decide ucd_category is_unicode_white_space
 my_website = refl
 
 -- a reference that was answered has a type of its own
-answered_types : map Ranged.event (leaf_events (asking no_options (codes "[a][]")) website (whole (codes "[a][]")) start) ≡ Start (Link (leading CollapsedUnknown (codes "http://example.com") (codes "my example website") (codes "a"))) ∷ (Text (codes "a") ∷ (End (end_tag (Link (leading CollapsedUnknown (codes "http://example.com") (codes "my example website") (codes "a")))) ∷ []))
+answered_types : map Ranged.event (leaf_events (asking no_options (codes "[a][]")) website (whole (codes "[a][]")) start)
+    ≡ Start (Link (leading CollapsedUnknown (codes "http://example.com") (codes "my example website") (codes "a"))) ∷ (Text (codes "a")
+    ∷ (End (end_tag (Link (leading CollapsedUnknown (codes "http://example.com") (codes "my example website") (codes "a")))) ∷ []))
 unfolding caseless encode chars token decide ucd_category is_unicode_white_space is_unicode_punctuation agrees pair_of rest_of_opener rest_of_closer kinds_of shuts closed
 answered_types = refl
 
@@ -112,7 +114,8 @@ unfolding caseless encode chars token decide ucd_category is_unicode_white_space
 quiet = refl
 
 -- the questions of a leaf stand behind those of the leaf before, and what is left of the limit goes over
-next_leaf : map Exchange.question (leaf_after (asking no_options (codes "[a] [b]")) never (paragraph (stretch 4 7 ∷ [])) (leaf_after (asking no_options (codes "[a] [b]")) never (paragraph (stretch 0 3 ∷ [])) start)).asked ≡ question 0 3 Shortcut (codes "a") ∷ (question 4 7 Shortcut (codes "b") ∷ [])
+next_leaf : map Exchange.question (leaf_after (asking no_options (codes "[a] [b]")) never (paragraph (stretch 4 7 ∷ [])) (leaf_after (asking no_options (codes "[a] [b]")) never (paragraph (stretch 0 3 ∷ [])) start)).asked
+    ≡ question 0 3 Shortcut (codes "a") ∷ (question 4 7 Shortcut (codes "b") ∷ [])
 unfolding caseless encode chars token decide ucd_category is_unicode_white_space is_unicode_punctuation agrees pair_of rest_of_opener rest_of_closer kinds_of shuts closed
 next_leaf = refl
 

@@ -29,7 +29,8 @@ emphasis_ranges : events_with no_options (codes "a ***b*** c") ≡ says 0 2 (cod
 unfolding caseless encode chars token decide ucd_category is_unicode_white_space is_unicode_punctuation agrees pair_of rest_of_opener rest_of_closer kinds_of shuts closed
 emphasis_ranges = refl
 
-link_ranges : events_with no_options (codes "a [b](c) d") ≡ says 0 2 (codes "a ") ∷ (begins 2 8 (Link (leading Inline (codes "c") [] [])) ∷ (says 3 4 (codes "b") ∷ (ends 2 8 (Link (leading Inline (codes "c") [] [])) ∷ (says 8 10 (codes " d") ∷ []))))
+link_ranges : events_with no_options (codes "a [b](c) d")
+    ≡ says 0 2 (codes "a ") ∷ (begins 2 8 (Link (leading Inline (codes "c") [] [])) ∷ (says 3 4 (codes "b") ∷ (ends 2 8 (Link (leading Inline (codes "c") [] [])) ∷ (says 8 10 (codes " d") ∷ []))))
 unfolding caseless encode chars token decide ucd_category is_unicode_white_space is_unicode_punctuation agrees pair_of rest_of_opener rest_of_closer kinds_of shuts closed
 link_ranges = refl
 
@@ -47,7 +48,9 @@ empty_display_range : events_with wikilinks (codes "[[a|]]") ≡ begins 0 6 (Lin
 unfolding caseless encode chars token decide ucd_category is_unicode_white_space is_unicode_punctuation agrees pair_of rest_of_opener rest_of_closer kinds_of shuts closed
 empty_display_range = refl
 
-display_range : events_with wikilinks (codes "For a new ferrari, [[Wikientry|click here]]!") ≡ says 0 19 (codes "For a new ferrari, ") ∷ (begins 19 43 (Link (leading (WikiLink true) (codes "Wikientry") [] [])) ∷ (says 31 41 (codes "click here") ∷ (ends 19 43 (Link (leading (WikiLink true) (codes "Wikientry") [] [])) ∷ (says 43 44 (codes "!") ∷ []))))
+display_range : events_with wikilinks (codes "For a new ferrari, [[Wikientry|click here]]!")
+    ≡ says 0 19 (codes "For a new ferrari, ") ∷ (begins 19 43 (Link (leading (WikiLink true) (codes "Wikientry") [] [])) ∷ (says 31 41 (codes "click here")
+    ∷ (ends 19 43 (Link (leading (WikiLink true) (codes "Wikientry") [] [])) ∷ (says 43 44 (codes "!") ∷ []))))
 unfolding caseless encode chars token decide ucd_category is_unicode_white_space is_unicode_punctuation agrees pair_of rest_of_opener rest_of_closer kinds_of shuts closed
 display_range = refl
 
@@ -129,32 +132,43 @@ contexts_ranges : events_with math (codes "}{$b}$") ≡ says 0 2 (codes "}{") �
 unfolding caseless encode chars token decide ucd_category is_unicode_white_space is_unicode_punctuation agrees pair_of rest_of_opener rest_of_closer kinds_of shuts closed
 contexts_ranges = refl
 
-code_at_pipe_range : events_with wikilinks (codes "[[a`b|c`d]]") ≡ begins 0 11 (Link (leading (WikiLink true) (codes "a`b") [] [])) ∷ (at 6 8 (Code (codes "b|c")) ∷ (says 8 9 (codes "d") ∷ (ends 0 11 (Link (leading (WikiLink true) (codes "a`b") [] [])) ∷ [])))
+code_at_pipe_range : events_with wikilinks (codes "[[a`b|c`d]]")
+    ≡ begins 0 11 (Link (leading (WikiLink true) (codes "a`b") [] [])) ∷ (at 6 8 (Code (codes "b|c")) ∷ (says 8 9 (codes "d") ∷ (ends 0 11 (Link (leading (WikiLink true) (codes "a`b") [] [])) ∷ [])))
 unfolding caseless encode chars token decide ucd_category is_unicode_white_space is_unicode_punctuation agrees pair_of rest_of_opener rest_of_closer kinds_of shuts closed
 code_at_pipe_range = refl
 
-tag_at_pipe_range : events_with wikilinks (codes "[[a<b c=\"|\">e]]") ≡ begins 0 15 (Link (leading (WikiLink true) (codes "a<b c=\"") [] [])) ∷ (at 10 12 (InlineHtml (codes "\">")) ∷ (says 12 13 (codes "e") ∷ (ends 0 15 (Link (leading (WikiLink true) (codes "a<b c=\"") [] [])) ∷ [])))
+tag_at_pipe_range : events_with wikilinks (codes "[[a<b c=\"|\">e]]")
+    ≡ begins 0 15 (Link (leading (WikiLink true) (codes "a<b c=\"") [] [])) ∷ (at 10 12 (InlineHtml (codes "\">")) ∷ (says 12 13 (codes "e") ∷ (ends 0 15 (Link (leading (WikiLink true) (codes "a<b c=\"") [] [])) ∷ [])))
 unfolding caseless encode chars token decide ucd_category is_unicode_white_space is_unicode_punctuation agrees pair_of rest_of_opener rest_of_closer kinds_of shuts closed
 tag_at_pipe_range = refl
 
-image_at_pipe_range : events_with wikilinks (codes "[[a ![b|c](u)]]") ≡ begins 0 15 (Link (leading (WikiLink true) (codes "a ![b") [] [])) ∷ (begins 8 13 (Image (leading Inline (codes "u") [] [])) ∷ (says 6 9 (codes "b|c") ∷ (ends 8 13 (Image (leading Inline (codes "u") [] [])) ∷ (ends 0 15 (Link (leading (WikiLink true) (codes "a ![b") [] [])) ∷ []))))
+image_at_pipe_range : events_with wikilinks (codes "[[a ![b|c](u)]]")
+    ≡ begins 0 15 (Link (leading (WikiLink true) (codes "a ![b") [] [])) ∷ (begins 8 13 (Image (leading Inline (codes "u") [] [])) ∷ (says 6 9 (codes "b|c")
+    ∷ (ends 8 13 (Image (leading Inline (codes "u") [] [])) ∷ (ends 0 15 (Link (leading (WikiLink true) (codes "a ![b") [] [])) ∷ []))))
 unfolding caseless encode chars token decide ucd_category is_unicode_white_space is_unicode_punctuation agrees pair_of rest_of_opener rest_of_closer kinds_of shuts closed
 image_at_pipe_range = refl
 
-doubled_in_image_ranges : events_with wikilinks (codes "![x [[y] z] w](u) q]]") ≡ begins 0 17 (Image (leading Inline (codes "u") [] [])) ∷ (says 2 4 (codes "x ") ∷ (says 4 5 (codes "[") ∷ (says 5 6 (codes "[") ∷ (says 6 7 (codes "y") ∷ (says 7 8 (codes "]") ∷ (says 8 10 (codes " z") ∷ (says 10 11 (codes "]") ∷ (says 11 13 (codes " w") ∷ (ends 0 17 (Image (leading Inline (codes "u") [] [])) ∷ (says 17 19 (codes " q") ∷ (says 19 20 (codes "]") ∷ (says 20 21 (codes "]") ∷ []))))))))))))
+doubled_in_image_ranges : events_with wikilinks (codes "![x [[y] z] w](u) q]]")
+    ≡ begins 0 17 (Image (leading Inline (codes "u") [] [])) ∷ (says 2 4 (codes "x ") ∷ (says 4 5 (codes "[") ∷ (says 5 6 (codes "[") ∷ (says 6 7 (codes "y") ∷ (says 7 8 (codes "]") ∷ (says 8 10 (codes " z")
+    ∷ (says 10 11 (codes "]") ∷ (says 11 13 (codes " w") ∷ (ends 0 17 (Image (leading Inline (codes "u") [] [])) ∷ (says 17 19 (codes " q") ∷ (says 19 20 (codes "]") ∷ (says 20 21 (codes "]") ∷ []))))))))))))
 unfolding caseless encode chars token decide ucd_category is_unicode_white_space is_unicode_punctuation agrees pair_of rest_of_opener rest_of_closer kinds_of shuts closed
 doubled_in_image_ranges = refl
 
-farther_opener_ranges : events_with wikilinks (codes "[x [[a] b] c]](u)") ≡ says 0 1 (codes "[") ∷ (says 1 3 (codes "x ") ∷ (begins 3 14 (Link (leading (WikiLink false) (codes "a] b] c") [] [])) ∷ (says 5 12 (codes "a] b] c") ∷ (ends 3 14 (Link (leading (WikiLink false) (codes "a] b] c") [] [])) ∷ (says 14 17 (codes "(u)") ∷ [])))))
+farther_opener_ranges : events_with wikilinks (codes "[x [[a] b] c]](u)")
+    ≡ says 0 1 (codes "[") ∷ (says 1 3 (codes "x ") ∷ (begins 3 14 (Link (leading (WikiLink false) (codes "a] b] c") [] [])) ∷ (says 5 12 (codes "a] b] c")
+    ∷ (ends 3 14 (Link (leading (WikiLink false) (codes "a] b] c") [] [])) ∷ (says 14 17 (codes "(u)") ∷ [])))))
 unfolding caseless encode chars token decide ucd_category is_unicode_white_space is_unicode_punctuation agrees pair_of rest_of_opener rest_of_closer kinds_of shuts closed
 farther_opener_ranges = refl
 
-link_in_doubled_ranges : events_with wikilinks (codes "![[a](b)c]]") ≡ says 0 2 (codes "![") ∷ (begins 2 8 (Link (leading Inline (codes "b") [] [])) ∷ (says 3 4 (codes "a") ∷ (ends 2 8 (Link (leading Inline (codes "b") [] [])) ∷ (says 8 9 (codes "c") ∷ (says 9 10 (codes "]") ∷ (says 10 11 (codes "]") ∷ []))))))
+link_in_doubled_ranges : events_with wikilinks (codes "![[a](b)c]]")
+    ≡ says 0 2 (codes "![") ∷ (begins 2 8 (Link (leading Inline (codes "b") [] [])) ∷ (says 3 4 (codes "a") ∷ (ends 2 8 (Link (leading Inline (codes "b") [] [])) ∷ (says 8 9 (codes "c")
+    ∷ (says 9 10 (codes "]") ∷ (says 10 11 (codes "]") ∷ []))))))
 unfolding caseless encode chars token decide ucd_category is_unicode_white_space is_unicode_punctuation agrees pair_of rest_of_opener rest_of_closer kinds_of shuts closed
 link_in_doubled_ranges = refl
 
 -- in a cell the first pipe of a wikilink is its pipe, escaped or not
-wikilink_in_cell : events_in wikilinks (codes "a|b\n-|-\n[[a\\|b]]|c") (cell 8 16) ≡ begins 8 16 (Link (leading (WikiLink true) (codes "a\\") [] [])) ∷ (says 13 14 (codes "b") ∷ (ends 8 16 (Link (leading (WikiLink true) (codes "a\\") [] [])) ∷ []))
+wikilink_in_cell : events_in wikilinks (codes "a|b\n-|-\n[[a\\|b]]|c") (cell 8 16)
+    ≡ begins 8 16 (Link (leading (WikiLink true) (codes "a\\") [] [])) ∷ (says 13 14 (codes "b") ∷ (ends 8 16 (Link (leading (WikiLink true) (codes "a\\") [] [])) ∷ []))
 unfolding caseless encode chars token decide ucd_category is_unicode_white_space is_unicode_punctuation agrees pair_of rest_of_opener rest_of_closer kinds_of shuts closed
 wikilink_in_cell = refl
 

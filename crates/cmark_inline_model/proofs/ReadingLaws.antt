@@ -1,6 +1,6 @@
 -- What decisions keep, readings keep: what is formed, how much expansion it costs, where it stands and how many questions it puts.
 use Rattle.std.specs.Prelude.{◌-◌, sum}
-use Rattle.std.proofs.Common.{◌≡◌, ℕ, suc, ◌+◌, ◌<◌, ◌≤◌, List, [], ◌∷◌, ◌++◌, length, ap, subst, arith, ◌∙◌}
+use Rattle.std.proofs.Common.{◌≡◌, ℕ, suc, ◌+◌, ◌<◌, ◌≤◌, List, [], ◌∷◌, ◌++◌, length, sym, ap, subst, arith, ◌∙◌}
 use Rattle.std.proofs.lemmas.List.{length-append}
 use Rattle.std.proofs.lemmas.List.Sums.{sum_by-cons}
 use Rattle.cmark_grammar.specs.BracketReading.{Comes, Reads}
@@ -12,19 +12,30 @@ use Rattle.cmark_inline_model.specs.Expansion.{cost, costs, Spends, Pays, KeepsL
 use Rattle.cmark_inline_model.specs.FormedParts.{AllFormed, ResultHolds, FormsOnly, closings}
 use Rattle.cmark_inline_model.specs.PartRanges.{end_of, StandBetween, Reaches, KeepsRanges}
 use Rattle.cmark_inline_model.specs.Progress.{Keeps, IsRecorded}
+use Rattle.cmark_inline_model.proofs.BracketQuestions.{comes-adds, added-before, reads-add}
 use Rattle.cmark_inline_model.proofs.LinkNesting.{always-comes}
 
 module _ (token : ℕ → Token) (decide : State → (closer : Bracket) → Decision) (Says : Saying) where
-  pub formed-hold : (Holds : Formed → Type 0) → FormsOnly Holds decide → (s : State) (parts : Parts) (t : State) → Reads token decide Says s parts t → AllFormed Holds parts
-  formed-hold Holds keeps s Nil t h = tt
-  formed-hold Holds keeps s (Single item after) t h = formed-hold Holds keeps (moved h.0 s) after t h.2
-  formed-hold Holds keeps s (Form opener inside closer formed after) t h = (
-    always-comes (λ o. ResultHolds Holds o.result) Says h.until.asked (decide h.until closer) (record { result = Forms (openings inside) formed; after = h.next }) (keeps.forms h.until closer) h.comes,
-    formed-hold Holds keeps (opened opener s) inside h.until h.inside,
-    formed-hold Holds keeps h.next after t h.after,
-  )
-  formed-hold Holds keeps s (Closing closer after) t h = formed-hold Holds keeps h.next after t h.after
-  formed-hold Holds keeps s (Opening opener after) t h = formed-hold Holds keeps (opened opener s) after t h.1
+  -- what is formed is right with all questions that are put in the end, where further ones change nothing
+  pub formed-hold : (Holds : List Exchange → Formed → Type 0) → ((asked more : List Exchange) (formed : Formed) → Holds asked formed → Holds (asked ++ more) formed)
+      → IsRecorded decide → FormsOnly Holds decide → (all rest : List Exchange) (s : State) (parts : Parts) (t : State) → all ≡ t.asked ++ rest
+      → Reads token decide Says s parts t → AllFormed (Holds all) parts
+  formed-hold Holds grows recorded keeps all rest s Nil t e h = tt
+  formed-hold Holds grows recorded keeps all rest s (Single item after) t e h = formed-hold Holds grows recorded keeps all rest (moved h.0 s) after t e h.2
+  formed-hold Holds grows recorded keeps all rest s (Form opener inside closer formed after) t e h =
+      let d = decide h.until closer in
+      let o : Outcome = record { result = Forms (openings inside) formed; after = h.next } in
+      let behind = reads-add token decide Says recorded h.next after t h.after in
+      let there : all ≡ h.next.asked ++ (behind.0 ++ rest) = added-before token decide Says recorded all rest h.next t behind e in
+      let own = comes-adds token decide Says recorded h.until d o (recorded.keeps h.until closer) h.comes in
+      let before : all ≡ h.until.asked ++ (own.0 ++ (behind.0 ++ rest)) = added-before token decide Says recorded all (behind.0 ++ rest) h.until h.next own there in
+      let right : Holds h.next.asked formed = always-comes (λ x. ResultHolds (Holds x.after.asked) x.result) Says h.until.asked d o (keeps.forms h.until closer) h.comes in (
+        subst (λ xs. Holds xs formed) (sym there) (grows h.next.asked (behind.0 ++ rest) formed right),
+        formed-hold Holds grows recorded keeps all (own.0 ++ (behind.0 ++ rest)) (opened opener s) inside h.until before h.inside,
+        formed-hold Holds grows recorded keeps all rest h.next after t e h.after,
+      )
+  formed-hold Holds grows recorded keeps all rest s (Closing closer after) t e h = formed-hold Holds grows recorded keeps all rest h.next after t e h.after
+  formed-hold Holds grows recorded keeps all rest s (Opening opener after) t e h = formed-hold Holds grows recorded keeps all rest (opened opener s) after t e h.1
 
   -- ## Expansion
 
@@ -65,7 +76,7 @@ module _ (token : ℕ → Token) (decide : State → (closer : Bracket) → Deci
       let c = keeps.closes h.until.at closer h.closes in
       let r = always-comes (Reaches closer.end size) Says h.until.asked (decide h.until closer) (record { result = Forms (openings inside) formed; after = h.next }) (keeps.comes h.until closer h.closes) h.comes in
       let k = reading-stands size keeps h.next after t (end_of formed) r.behind.1 r.within h.after in
-      ((omega arith, a.ordered, farther opener.end inside h.until.at closer.start i.0 c.begins, c.ordered, r.behind.0, k.0), k.1)
+      ((omega arith, a.ordered, farther opener.end inside h.until.at closer.start i.0 c.0.begins, c.1, r.behind.0, k.0), k.1)
     where
       farther : (low : ℕ) (parts : Parts) (to more : ℕ) → StandBetween low parts to → to ≤ more → StandBetween low parts more
       farther low Nil to more h e = omega arith
@@ -75,10 +86,10 @@ module _ (token : ℕ → Token) (decide : State → (closer : Bracket) → Deci
       farther low (Opening opener after) to more h e = (h.0, h.1, farther opener.end after to more h.2 e)
   reading-stands size keeps s (Closing closer after) t from f w h =
       let c = keeps.closes s.at closer h.closes in
-      let x = c.begins in
+      let x = c.0.begins in
       let r = always-comes (Reaches closer.end size) Says s.asked (decide s closer) (record { result = StaysText; after = h.next }) (keeps.comes s closer h.closes) h.comes in
       let k = reading-stands size keeps h.next after t closer.end r.behind r.within h.after in
-      ((omega arith, c.ordered, k.0), k.1)
+      ((omega arith, c.1, k.0), k.1)
   reading-stands size keeps s (Opening opener after) t from f w h =
       let a = keeps.opens s.at opener h.0 in
       let x = a.begins in

@@ -1,7 +1,6 @@
 -- Where no question gets an answer, a decision comes to what it comes to where there is nobody to ask, but for the questions.
 use Rattle.std.specs.Prelude.{◌-◌, ◌==◌, ◌&&◌, ◌||◌, not, if◌then◌else◌, drop, map}
 use Rattle.std.proofs.Common.{◌≡◌, ℕ, Bool, true, false, List, [], ◌∷◌, length, Option, Some, None, refl, sym, ap, subst, ◌∙◌}
-use Rattle.cmark_grammar.specs.Answers.{Destination}
 use Rattle.cmark_grammar.specs.BlockDocument as block
 use Rattle.cmark_grammar.specs.BracketDecisions.{Named, is_there, name_in, behind, place, between, stays, forms, question, answered, with_answer, ask, defined_or_asked, refers, one_line_footnotes, is_one_line, is_footnote_label, footnote_reference, as_label, collapsed_or_shortcut, by_own_label, reference_or, unless_footnote, link_or, with_taken, wiki_text, wikilink, wikilink_or, taking, decide}
 use Rattle.cmark_grammar.specs.BracketReading.{Comes}
@@ -16,7 +15,7 @@ use Rattle.cmark_grammar.specs.LinkType.{Reference}
 use Rattle.cmark_grammar.specs.Lines.{is_content}
 use Rattle.cmark_grammar.specs.OpenBrackets.{Taken, nearest, used_up, doubled, tried, dropped}
 use Rattle.cmark_grammar.specs.Parts.{Footnote}
-use Rattle.cmark_grammar.specs.Questions.{Question, Exchange, Saying, AnyAnswer}
+use Rattle.cmark_grammar.specs.Questions.{Question, Saying, AnyAnswer}
 use Rattle.cmark_grammar.specs.Readers.{Reader}
 use Rattle.cmark_inline_model.specs.Unanswered.{silent, unasked}
 
@@ -63,11 +62,13 @@ module _ (reader : Reader) (leaf : Leaf) where
       q : Question
       q = question reader leaf named taken.opener.bracket
 
-      go : (b : Bool) → Falls t (if b then Asks q (λ answer. answered reader leaf named taken closer (with_answer reader leaf q answer t) answer) else Settled (stays reader leaf closer t)) (Settled (stays (silent reader) leaf closer (unasked t)))
+      go : (b : Bool)
+          → Falls t (if b then Asks q (λ answer. answered reader leaf named taken closer (with_answer reader leaf q answer t) answer) else Settled (stays reader leaf closer t)) (Settled (stays (silent reader) leaf closer (unasked t)))
       go true = λ o k. ap unasked_outcome k.2 ∙ ap (λ a. unasked_outcome (answered reader leaf named taken closer (with_answer reader leaf q a t) a)) k.1
       go false = λ o k. ap unasked_outcome k
 
-  defined_falls : (found : Option block.Reference) (named : Named) (taken : Taken) (closer : Bracket) (t : State) → Falls t (defined_or_asked reader leaf found named taken closer t) (defined_or_asked (silent reader) leaf found named taken closer (unasked t))
+  defined_falls : (found : Option block.Reference) (named : Named) (taken : Taken) (closer : Bracket) (t : State)
+      → Falls t (defined_or_asked reader leaf found named taken closer t) (defined_or_asked (silent reader) leaf found named taken closer (unasked t))
   defined_falls (Some found) named taken closer t = λ o k. ap unasked_outcome k
   defined_falls None named taken closer t = ask_falls named taken closer t
 

@@ -1,16 +1,16 @@
 -- A reading in which no question got an answer is one without a callback, but for the questions.
-use Rattle.std.proofs.Common.{◌≡◌, ℕ, List, [], ◌∷◌, ◌++◌, Option, None, refl, sym, ap, subst, ◌∙◌}
+use Rattle.std.proofs.Common.{◌≡◌, ℕ, List, [], ◌∷◌, ◌++◌, Option, None, refl, ap, subst, ◌∙◌}
 use Rattle.cmark_grammar.specs.Answers.{Destination}
 use Rattle.cmark_grammar.specs.BracketDecisions.{decide}
 use Rattle.cmark_grammar.specs.BracketReading.{Comes, Reads}
 use Rattle.cmark_grammar.specs.BracketStates.{State, moved, opened, StaysText, Forms, Outcome, Decision, Settled, Asks}
 use Rattle.cmark_grammar.specs.Event.{Ranged}
 use Rattle.cmark_grammar.specs.InlineTokens.{token}
-use Rattle.cmark_grammar.specs.Items.{Bracket, Token, Ends}
+use Rattle.cmark_grammar.specs.Items.{Bracket}
 use Rattle.cmark_grammar.specs.LeafReading.{Between, entering, ReadsLeaf}
 use Rattle.cmark_grammar.specs.LeafText.{Leaf}
 use Rattle.cmark_grammar.specs.Parts.{Parts, Nil, Single, Form, Closing, Opening, openings}
-use Rattle.cmark_grammar.specs.Questions.{Question, Exchange, Saying, IsNext, AnyAnswer}
+use Rattle.cmark_grammar.specs.Questions.{Question, Exchange, IsNext, AnyAnswer}
 use Rattle.cmark_grammar.specs.Readers.{Reader}
 use Rattle.cmark_grammar.specs.SpanDocuments.{Segment, Given, Content, ReadsAll, Profile, reader_of, at_start, segments, IsReading}
 use Rattle.cmark_inline_model.proofs.BracketQuestions.{reads-next}

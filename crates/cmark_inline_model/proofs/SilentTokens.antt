@@ -1,7 +1,7 @@
 -- Tokens do not hang on whether there is a callback.
 use Rattle.std.specs.Prelude.{suc, zero, ◌==◌, ◌&&◌, ◌||◌, not, if◌then◌else◌, drop}
 use Rattle.std.specs.List.{prefix_len}
-use Rattle.std.proofs.Common.{◌≡◌, ℕ, ◌+◌, Bool, true, false, List, [], ◌∷◌, length, Option, Some, None, refl, sym, ap, ◌∙◌}
+use Rattle.std.proofs.Common.{◌≡◌, ℕ, ◌+◌, Bool, true, false, List, [], ◌∷◌, length, Option, Some, None, refl, ap, ◌∙◌}
 use Rattle.cmark_grammar.specs.Autolinks.{autolink_in}
 use Rattle.cmark_grammar.specs.CodeSpans.{is_backtick, backticks, code_in}
 use Rattle.cmark_grammar.specs.Columns.{is_blank_byte}
@@ -96,7 +96,8 @@ module _ (reader : Reader) (leaf : Leaf) where
       let s = silent reader in
       let math_same : math s ≡ math reader = if-same (reader.options.math && is_dollar b) (dollar s leaf at bs braces) last (dollar reader leaf at bs braces) last (dollar_same at bs braces) refl in
       let same3 : c3 s ≡ c3 reader = if-same (b == 60) (less_than s leaf at bs) (brackets (math s)) (less_than reader leaf at bs) (brackets (math reader)) (less_same at bs) (ap brackets math_same) in
-      let same2 : c2 s ≡ c2 reader = if-same (b == 96) (code_or s leaf at (backticks (b ∷ bs)) (code_in (b ∷ bs))) (c3 s) (code_or reader leaf at (backticks (b ∷ bs)) (code_in (b ∷ bs))) (c3 reader) (code_same at (backticks (b ∷ bs)) (code_in (b ∷ bs))) same3 in
+      let same2 : c2 s ≡ c2 reader = if-same (b == 96) (code_or s leaf at (backticks (b ∷ bs)) (code_in (b ∷ bs))) (c3 s)
+      (code_or reader leaf at (backticks (b ∷ bs)) (code_in (b ∷ bs))) (c3 reader) (code_same at (backticks (b ∷ bs)) (code_in (b ∷ bs))) same3 in
       let same1 : c1 s ≡ c1 reader = if-same (b == 38) (entity_or s leaf at (entity_in reader.lookup bs)) (c2 s) (entity_or reader leaf at (entity_in reader.lookup bs)) (c2 reader) (entity_same at (entity_in reader.lookup bs)) same2 in
       let slash_same : slash s ≡ slash reader = break_same at (backslash_break_in (b ∷ bs)) (escape_at s leaf at bs) (escape_at reader leaf at bs) (escape_same at bs) in
       let same0 : c0 s ≡ c0 reader = if-same (b == 92) (slash s) (c1 s) (slash reader) (c1 reader) slash_same same1 in

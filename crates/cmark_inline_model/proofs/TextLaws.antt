@@ -1,11 +1,8 @@
 -- Each text has a reading, for each plan of answers.
-use Rattle.std.specs.Prelude.{false}
-use Rattle.std.proofs.Common.{◌≡◌, ℕ, List, [], ◌++◌, length, refl, sym, arith, append-nil}
+use Rattle.std.proofs.Common.{ℕ, List, [], length, refl, sym, arith, append-nil}
 use Rattle.cmark_grammar.specs.BlocksModel.{blocks}
-use Rattle.cmark_grammar.specs.BracketDecisions.{decide}
 use Rattle.cmark_grammar.specs.Derivation.{Derives, document}
 use Rattle.cmark_grammar.specs.Event.{Ranged}
-use Rattle.cmark_grammar.specs.LeafText.{Leaf}
 use Rattle.cmark_grammar.specs.Questions.{Exchange, Plan, ByPlan}
 use Rattle.cmark_grammar.specs.SpanDocuments.{Profile, reader_of, segments, at_start, IsReading}
 use Rattle.cmark_grammar.proofs.BlocksSound.{blocks-body}

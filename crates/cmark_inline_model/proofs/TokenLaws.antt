@@ -1,7 +1,7 @@
 -- Each token leads on in its leaf, and stands within it.
-use Rattle.std.specs.Prelude.{suc, zero, ◌-◌, ◌==◌, ◌&&◌, ◌||◌, not, nat_lt, if◌then◌else◌, drop, take, reverse, codes}
+use Rattle.std.specs.Prelude.{suc, zero, ◌-◌, ◌==◌, ◌&&◌, ◌||◌, not, nat_lt, if◌then◌else◌, drop, take, codes}
 use Rattle.std.specs.List.{prefix_len}
-use Rattle.std.proofs.Common.{◌≡◌, ◌<◌, ◌≤◌, ◌+◌, ℕ, Bool, true, false, List, [], ◌∷◌, length, Option, Some, None, refl, sym, ap, subst, arith, ◌∙◌, length-drop, eqb-true}
+use Rattle.std.proofs.Common.{◌≡◌, ◌<◌, ◌≤◌, ◌+◌, ℕ, Bool, true, false, List, [], ◌∷◌, length, Option, Some, None, refl, ap, arith, ◌∙◌, length-drop, eqb-true}
 use Rattle.std.proofs.lemmas.Bool.{eq-eqb}
 use Rattle.std.proofs.lemmas.List.{length-take}
 use Rattle.std.proofs.lemmas.List.Sums.{prefix_len-le-length}
@@ -12,8 +12,8 @@ use Rattle.cmark_grammar.specs.Dashes.{dashes_of, dash_text}
 use Rattle.cmark_grammar.specs.Flanking.{Flanking, flanking}
 use Rattle.cmark_grammar.specs.Formulas.{is_dollar, Braces, no_braces, braces_behind, inline_in, display_in}
 use Rattle.cmark_grammar.specs.InlineHtml.{behind_markup}
-use Rattle.cmark_grammar.specs.InlineTokens.{item_at, bracket, is_plain, as_in, from, before, place_of, size_to, character_before, character_at, line_begins, read_on, break_to, break_or, code_or, escaped_backtick, escape_at, entity_or, autolink_or, tag_kind, tag_or_text, source_from, markup_to, markup_or, less_than, run_or, run_at, formula_or, dollar, dots, hyphens, quote_at, smart_or, begins, begins_at, goes_on, plain_end, longest, token}
-use Rattle.cmark_grammar.specs.Items.{ItemKind, Plain, Own, Written, Code, InlineMath, DisplayMath, Html, Autolink, Quoted, Delimiters, SoftBreak, HardBreak, Item, Bracket, Token, Stands, Opens, Closes, Ends}
+use Rattle.cmark_grammar.specs.InlineTokens.{item_at, bracket, is_plain, as_in, from, before, place_of, size_to, character_before, character_at, line_begins, read_on, break_or, code_or, escaped_backtick, escape_at, entity_or, autolink_or, tag_kind, tag_or_text, source_from, markup_or, less_than, run_or, run_at, formula_or, dollar, dots, hyphens, quote_at, smart_or, begins, begins_at, goes_on, plain_end, longest, token}
+use Rattle.cmark_grammar.specs.Items.{ItemKind, Plain, Own, Written, Code, InlineMath, DisplayMath, Autolink, Quoted, Delimiters, Token, Stands, Opens, Closes, Ends}
 use Rattle.cmark_grammar.specs.LabelsOverLines.{piped}
 use Rattle.cmark_grammar.specs.LeafText.{Leaf, end_of, InTurn}
 use Rattle.cmark_grammar.specs.Letters.{first_is, starts}
@@ -23,7 +23,7 @@ use Rattle.cmark_grammar.specs.LinkDefinitions.{Found, behind_blanks}
 use Rattle.cmark_grammar.specs.Quotes.{quote_beside}
 use Rattle.cmark_grammar.specs.Readers.{Reader}
 use Rattle.cmark_grammar.specs.Tags.{behind_tag, no_prefix}
-use Rattle.cmark_grammar.specs.Tokens.{Entity, entity_in, is_punctuation, slice}
+use Rattle.cmark_grammar.specs.Tokens.{Entity, entity_in, is_punctuation}
 use Rattle.cmark_grammar.proofs.ShorterRests.{LeavesBelow, FoundBelow, either, prefix-some, tag-shorter, code-shorter, autolink-within, inline-shorter, display-shorter, markup-shorter}
 use Rattle.cmark_inline_model.specs.PartRanges.{StandsFrom}
 use Rattle.cmark_inline_model.proofs.LeafPlaces.{none-behind, place-within, place-from, place-behind, some-fit}
@@ -105,7 +105,8 @@ module _ (reader : Reader) (leaf : Leaf) (size : ℕ) (turn : InTurn 0 leaf.stre
     escape_onward =
         let f = fits in
         let w = prefix_len-le-length is_backtick bs in
-        when at (first_is is_backtick bs) (escaped_backtick reader leaf (suc at) (backticks bs) (code_in (drop 1 bs))) (if leaf.is_cell && starts piped bs then item_at Plain (at + 2) (at + 3) else if first_is is_punctuation bs then item_at Plain (suc at) (at + 2) else item_at Plain at (suc at))
+        when at (first_is is_backtick bs) (escaped_backtick reader leaf (suc at) (backticks bs) (code_in (drop 1 bs)))
+        (if leaf.is_cell && starts piped bs then item_at Plain (at + 2) (at + 3) else if first_is is_punctuation bs then item_at Plain (suc at) (at + 2) else item_at Plain at (suc at))
         (λ e. escaped (code_in (drop 1 bs)) (first-size is_backtick bs e) (some_backticks bs e))
         (when at (leaf.is_cell && starts piped bs) (item_at Plain (at + 2) (at + 3)) (if first_is is_punctuation bs then item_at Plain (suc at) (at + 2) else item_at Plain at (suc at))
         (λ e. (let s = starts-size piped bs (and_right leaf.is_cell (starts piped bs) e) in bytes_onward (at + 2) 3 Plain (omega arith) (omega arith) (two s)))
@@ -202,7 +203,8 @@ module _ (reader : Reader) (leaf : Leaf) (size : ℕ) (turn : InTurn 0 leaf.stre
         when at (b == 46) (dots reader leaf at) (if b == 45 then hyphens reader leaf at n else if (b == 34) || (b == 39) then quote_at reader leaf at b else item_at Plain at (suc at)) (λ e. dots_onward)
         (when at (b == 45) (hyphens reader leaf at n) (if (b == 34) || (b == 39) then quote_at reader leaf at b else item_at Plain at (suc at))
         (λ e. (let r = run_size 45 (eqb-true b 45 e) in let s : n ≡ prefix_len (λ c. c == 45) (b ∷ bs) = ap (prefix_len (λ c. c == 45)) here in let x = r.0 in let y = r.1 in hyphens_onward n (omega arith) (omega arith)))
-        (when at ((b == 34) || (b == 39)) (quote_at reader leaf at b) (item_at Plain at (suc at)) (λ e. byte_onward (Quoted (quote_beside (b == 34) (character_before reader leaf at) (character_at reader leaf (suc at))))) (byte_onward Plain)))
+        (when at ((b == 34) || (b == 39)) (quote_at reader leaf at b) (item_at Plain at (suc at))
+        (λ e. byte_onward (Quoted (quote_beside (b == 34) (character_before reader leaf at) (character_at reader leaf (suc at))))) (byte_onward Plain)))
 
     begins_onward : Onward at (begins reader leaf at (b ∷ bs))
     begins_onward =
@@ -225,10 +227,12 @@ module _ (reader : Reader) (leaf : Leaf) (size : ℕ) (turn : InTurn 0 leaf.stre
         (when at (b == 96) (code_or reader leaf at (backticks (b ∷ bs)) (code_in (b ∷ bs))) c3 (λ e. (let r = run_size 96 (eqb-true b 96 e) in code_onward (backticks (b ∷ bs)) (code_in (b ∷ bs)) r.0 r.1 (code-shorter (b ∷ bs))))
         (when at (b == 60) (less_than reader leaf at bs) c4 (λ e. less_than_onward)
         (when at (b == 33) bang c5
-        (λ e. when at (first_is (λ c. c == 91) bs) (Opens (bracket true at (at + 2))) plain (λ g. (let s = first-size (λ c. c == 91) bs g in (record { begins = omega arith; ordered = omega arith; ends = omega arith }, omega arith))) (byte_onward Plain))
+        (λ e. when at (first_is (λ c. c == 91) bs) (Opens (bracket true at (at + 2))) plain
+        (λ g. (let s = first-size (λ c. c == 91) bs g in (record { begins = omega arith; ordered = omega arith; ends = omega arith }, omega arith))) (byte_onward Plain))
         (when at (b == 91) (Opens (bracket false at (suc at))) c6 (λ e. (record { begins = omega arith; ordered = omega arith; ends = omega arith }, omega arith))
         (when at (b == 93) (Closes (bracket false at (suc at))) c7 (λ e. (refl, refl, omega arith))
-        (when at ((b == 42) || ((b == 95) || ((b == 126) || (b == 94)))) (run_at reader leaf at b (prefix_len (λ c. c == b) (b ∷ bs))) c8 (λ e. (let r = run_size b refl in (let n = prefix_len (λ c. c == b) (b ∷ bs) in run_onward b n (flanking reader.options b n (character_before reader leaf at) (character_at reader leaf (at + n))) r.0 r.1)))
+        (when at ((b == 42) || ((b == 95) || ((b == 126) || (b == 94)))) (run_at reader leaf at b (prefix_len (λ c. c == b) (b ∷ bs))) c8
+        (λ e. (let r = run_size b refl in (let n = prefix_len (λ c. c == b) (b ∷ bs) in run_onward b n (flanking reader.options b n (character_before reader leaf at) (character_at reader leaf (at + n))) r.0 r.1)))
         (when at (reader.options.math && is_dollar b) (dollar reader leaf at bs (braces_behind false (before reader leaf at) no_braces)) c9 (λ e. dollar_onward (braces_behind false (before reader leaf at) no_braces))
         (when at reader.options.smart_punctuation (smart_or reader leaf at b) plain (λ e. smart_onward) (byte_onward Plain)))))))))))
 

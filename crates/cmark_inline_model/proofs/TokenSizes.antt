@@ -1,5 +1,5 @@
 -- What is found in front of a text is not longer than it.
-use Rattle.std.specs.Prelude.{suc, ◌-◌, ◌==◌, ◌&&◌, ◌||◌, not, nat_lt, nat_le, if◌then◌else◌, drop, take, take_while, codes, option_map}
+use Rattle.std.specs.Prelude.{suc, ◌==◌, ◌&&◌, ◌||◌, not, nat_lt, nat_le, if◌then◌else◌, drop, take, take_while, option_map}
 use Rattle.std.proofs.Common.{◌≡◌, ◌<◌, ◌≤◌, ◌+◌, ℕ, Bool, true, false, List, [], ◌∷◌, length, Option, Some, None, refl, ap, arith, length-drop}
 use Rattle.std.proofs.lemmas.List.{length-take}
 use Rattle.std.proofs.lemmas.Slice.Eq.{bytes_eq-Decides}
@@ -10,7 +10,7 @@ use Rattle.cmark_grammar.specs.Letters.{is_alphanumeric, is_number, first_is, st
 use Rattle.cmark_grammar.specs.LineBreaks.{LineBreak, hard_break, blank_break, backslash_break_in, blank_break_in, ends_with_two_spaces}
 use Rattle.cmark_grammar.specs.LinkDefinitions.{behind_blanks}
 use Rattle.cmark_grammar.specs.Tags.{behind_ending}
-use Rattle.cmark_grammar.specs.Tokens.{Entity, entity_if, is_hexadecimal, character, value_of, numeric, hexadecimal_in, decimal_in, numeric_in, named, named_in, entity_in}
+use Rattle.cmark_grammar.specs.Tokens.{Entity, entity_if, is_hexadecimal, character, value_of, numeric, hexadecimal_in, decimal_in, numeric_in, named, entity_in}
 use Rattle.cmark_grammar.proofs.ShorterRests.{LeavesBelow, BreakBelow, either, ending-shorter, backslash_break-shorter}
 
 pub starts-size : (prefix bs : List ℕ) → starts prefix bs ≡ true → length prefix ≤ length bs

@@ -1,8 +1,9 @@
 -- What holds of all that brackets form in a text, and how many closing brackets it has.
-use Rattle.std.specs.Prelude.{ℕ, suc, ◌+◌}
+use Rattle.std.specs.Prelude.{ℕ, suc, ◌+◌, List}
 use Rattle.cmark_grammar.specs.BracketStates.{State, Result, StaysText, Forms, Decision}
 use Rattle.cmark_grammar.specs.Items.{Bracket}
 use Rattle.cmark_grammar.specs.Parts.{Formed, Parts, Nil, Single, Form, Closing, Opening}
+use Rattle.cmark_grammar.specs.Questions.{Exchange}
 use Rattle.cmark_inline_model.specs.Progress.{Always}
 
 abbrev pub AllFormed : (Formed → Type 0) → Parts → Type 0
@@ -16,9 +17,9 @@ abbrev pub ResultHolds : (Formed → Type 0) → Result → Type 0
 ResultHolds Holds StaysText = Unit {0}
 ResultHolds Holds (Forms nearer formed) = Holds formed
 
--- whatever a closing bracket forms, this holds of it
-pub record FormsOnly (Holds : Formed → Type 0) (decide : State → (closer : Bracket) → Decision) : Type 0 where
-  pub forms : (s : State) (closer : Bracket) → Always (λ o. ResultHolds Holds o.result) (decide s closer)
+-- whatever a closing bracket forms, this holds of it with the questions that were put by then
+pub record FormsOnly (Holds : List Exchange → Formed → Type 0) (decide : State → (closer : Bracket) → Decision) : Type 0 where
+  pub forms : (s : State) (closer : Bracket) → Always (λ o. ResultHolds (Holds o.after.asked) o.result) (decide s closer)
 
 -- how many closing brackets were read as such
 abbrev pub closings : Parts → ℕ

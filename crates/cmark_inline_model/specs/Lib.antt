@@ -4,8 +4,13 @@ pub mod FormedParts
 pub mod LeafModel
 pub mod LinkRules
 pub mod NestedLinks
+pub mod OptionRules
 pub mod PartLists
 pub mod PartRanges
 pub mod PassSteps
 pub mod Progress
+pub mod ReadingLinks
+pub mod ReadingQuestions
+pub mod ReadingRanges
+pub mod SlotRows
 pub mod Unanswered

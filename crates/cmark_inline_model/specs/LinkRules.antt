@@ -1,35 +1,71 @@
--- Where references lead, what questions are about, and what is formed without an option.
-use Rattle.std.specs.Prelude.{◌≡◌, ℕ, Bool, true, false, ◌==◌, List, Option, Some, None}
+-- Where links and images lead, what questions are about, and what is formed without an option.
+use Rattle.std.specs.Prelude.{◌≡◌, true, false, ◌==◌, List, [], ◌∷◌, ◌++◌, Some, None}
 use Rattle.cmark_grammar.specs.BlockDocument as block
 use Rattle.cmark_grammar.specs.BracketDecisions.{or_empty}
 use Rattle.cmark_grammar.specs.BracketStates.{State, Decision, Settled, Asks}
-use Rattle.cmark_grammar.specs.Labels.{fold, normal_form}
-use Rattle.cmark_grammar.specs.LinkType.{Inline}
+use Rattle.cmark_grammar.specs.Labels.{case_folded}
+use Rattle.cmark_grammar.specs.LinkType.{LinkType, Inline, Reference, ReferenceUnknown, Collapsed, CollapsedUnknown, Shortcut, ShortcutUnknown, Autolink, Email, WikiLink}
 use Rattle.cmark_grammar.specs.Parts.{Formed, Linking, Footnote, Wiki}
-use Rattle.cmark_grammar.specs.Questions.{Question}
+use Rattle.cmark_grammar.specs.Questions.{Question, Exchange}
 use Rattle.cmark_grammar.specs.Readers.{Reader}
 use Rattle.cmark_grammar.specs.Tag.{Linked}
 
--- a question is about a label that no definition has, and is put where there is a callback and something left of the expansion limit
-pub record IsAsked (reader : Reader) (s : State) (q : Question) : Type 0 where
-  pub label : List ℕ
-  pub reference : q.reference ≡ normal_form label
-  pub undefined : reader.definition (fold label) ≡ None
-  pub some : (s.expansion == 0) ≡ false
+-- the three forms in which a reference is written (CommonMark 6.3)
+abbrev pub IsReferenceForm : LinkType → Type 0
+IsReferenceForm Reference = Unit {0}
+IsReferenceForm Collapsed = Unit {0}
+IsReferenceForm Shortcut = Unit {0}
+IsReferenceForm _ = ⊥
+
+-- a question is about a reference whose label no definition has, and there is a callback to be asked
+pub record IsQuestion (reader : Reader) (q : Question) : Type 0 where
+  pub form : IsReferenceForm q.link_type
+  pub undefined : reader.definition (case_folded q.reference) ≡ None
   pub has_callback : reader.has_callback ≡ true
 
+-- and is put while something of the expansion limit is left
 abbrev pub AsksRightly : Reader → State → Decision → Type 0
 AsksRightly reader s (Settled outcome) = Unit {0}
-AsksRightly reader s (Asks q answered) = IsAsked reader s q
+AsksRightly reader s (Asks q answered) = IsQuestion reader q × ((s.expansion == 0) ≡ false)
 
--- a link or an image leads where it is written to, where the definition of its label says, or where an answer does if there is none
-pub data IsLed (reader : Reader) (linked : Linked) : Type 0 where
-  AsWritten : linked.link_type ≡ Inline → IsLed reader linked
-  ByDefinition : (label : List ℕ) (definition : block.Reference) → reader.definition (fold label) ≡ Some definition → linked.id ≡ normal_form label
-      → linked.destination ≡ definition.destination → linked.title ≡ or_empty definition.title → IsLed reader linked
-  ByAnswer : (label : List ℕ) → reader.definition (fold label) ≡ None → reader.has_callback ≡ true → linked.id ≡ normal_form label → IsLed reader linked
+-- ## Where links and images lead
 
-abbrev pub IsFormedRightly : Reader → Formed → Type 0
-IsFormedRightly reader (Linking target) = IsLed reader target.linked
-IsFormedRightly reader (Footnote label end) = reader.options.footnotes ≡ true
-IsFormedRightly reader (Wiki name display end) = reader.options.wikilinks ≡ true
+-- where the definition of its label says (CommonMark 4.7)
+pub record IsDefined (reader : Reader) (linked : Linked) : Type 0 where
+  pub definition : block.Reference
+  pub found : reader.definition (case_folded linked.id) ≡ Some definition
+  pub destination : linked.destination ≡ definition.destination
+  pub title : linked.title ≡ or_empty definition.title
+
+-- where no definition has its label and one of the questions was about it, where the answer says (this profile's own)
+pub record IsAnswered (reader : Reader) (asked : List Exchange) (written : LinkType) (linked : Linked) : Type 0 where
+  pub undefined : reader.definition (case_folded linked.id) ≡ None
+  pub exchange : Exchange
+  pub earlier : List Exchange
+  pub later : List Exchange
+  pub put : asked ≡ earlier ++ (exchange ∷ later)
+  pub written_so : exchange.question.link_type ≡ written
+  pub about : exchange.question.reference ≡ linked.id
+  pub answer : exchange.answer ≡ Some (record { url = linked.destination; title = linked.title })
+
+-- by the way in which it is written: an inline link has no label; a reference leads where its definition or an answer says; an autolink
+-- and a wikilink have no title and no label. E-mail addresses are no autolinks (this profile's own)
+abbrev pub LeadsBy : LinkType → Reader → (asked : List Exchange) → Linked → Type 0
+LeadsBy Inline reader asked linked = linked.id ≡ []
+LeadsBy Reference reader asked linked = IsDefined reader linked
+LeadsBy ReferenceUnknown reader asked linked = IsAnswered reader asked Reference linked
+LeadsBy Collapsed reader asked linked = IsDefined reader linked
+LeadsBy CollapsedUnknown reader asked linked = IsAnswered reader asked Collapsed linked
+LeadsBy Shortcut reader asked linked = IsDefined reader linked
+LeadsBy ShortcutUnknown reader asked linked = IsAnswered reader asked Shortcut linked
+LeadsBy Autolink reader asked linked = (linked.title ≡ []) × (linked.id ≡ [])
+LeadsBy Email reader asked linked = ⊥
+LeadsBy (WikiLink has_pothole) reader asked linked = (reader.options.wikilinks ≡ true) × (linked.title ≡ []) × (linked.id ≡ [])
+
+abbrev pub IsLed : Reader → (asked : List Exchange) → Linked → Type 0
+IsLed reader asked linked = LeadsBy linked.link_type reader asked linked
+
+abbrev pub IsFormedRightly : Reader → (asked : List Exchange) → Formed → Type 0
+IsFormedRightly reader asked (Linking target) = IsLed reader asked target.linked
+IsFormedRightly reader asked (Footnote label end) = reader.options.footnotes ≡ true
+IsFormedRightly reader asked (Wiki name display end) = reader.options.wikilinks ≡ true

@@ -1,5 +1,5 @@
 -- Where the parts of a text stand: one behind the other, and what two brackets form around what stands between them.
-use Rattle.std.specs.Prelude.{◌≡◌, ℕ, ◌≤◌}
+use Rattle.std.specs.Prelude.{◌≡◌, ℕ, ◌≤◌, ◌<◌}
 use Rattle.cmark_grammar.specs.BracketStates.{State, Result, StaysText, Forms, Outcome, Decision}
 use Rattle.cmark_grammar.specs.Items.{Item, Bracket, Token, Stands, Opens, Closes}
 use Rattle.cmark_grammar.specs.Parts.{Formed, Linking, Footnote, Wiki, Parts, Nil, Single, Form, Closing, Opening}
@@ -15,8 +15,8 @@ abbrev pub StandBetween : ℕ → Parts → ℕ → Type 0
 StandBetween from Nil to = from ≤ to
 StandBetween from (Single item after) to = (from ≤ item.start) × (item.start ≤ item.end) × StandBetween item.end after to
 StandBetween from (Form opener inside closer formed after) to =
-    (from ≤ opener.start) × (opener.start ≤ opener.end) × StandBetween opener.end inside closer.start × (closer.start ≤ closer.end) × (closer.end ≤ end_of formed) × StandBetween (end_of formed) after to
-StandBetween from (Closing closer after) to = (from ≤ closer.start) × (closer.start ≤ closer.end) × StandBetween closer.end after to
+    (from ≤ opener.start) × (opener.start ≤ opener.end) × StandBetween opener.end inside closer.start × (closer.start < closer.end) × (closer.end ≤ end_of formed) × StandBetween (end_of formed) after to
+StandBetween from (Closing closer after) to = (from ≤ closer.start) × (closer.start < closer.end) × StandBetween closer.end after to
 StandBetween from (Opening opener after) to = (from ≤ opener.start) × (opener.start ≤ opener.end) × StandBetween opener.end after to
 
 -- ## What tokens and decisions keep for that
@@ -39,5 +39,5 @@ pub record Reaches (from size : ℕ) (o : Outcome) : Type 0 where
 pub record KeepsRanges (token : ℕ → Token) (decide : State → (closer : Bracket) → Decision) (size : ℕ) : Type 0 where
   pub stands : (at past : ℕ) (item : Item) → token at ≡ Stands item past → StandsFrom at item.start item.end past × (past ≤ size)
   pub opens : (at : ℕ) (bracket : Bracket) → token at ≡ Opens bracket → StandsFrom at bracket.start bracket.end size
-  pub closes : (at : ℕ) (bracket : Bracket) → token at ≡ Closes bracket → StandsFrom at bracket.start bracket.end size
+  pub closes : (at : ℕ) (bracket : Bracket) → token at ≡ Closes bracket → StandsFrom at bracket.start bracket.end size × (bracket.start < bracket.end)
   pub comes : (s : State) (closer : Bracket) → token s.at ≡ Closes closer → Always (Reaches closer.end size) (decide s closer)

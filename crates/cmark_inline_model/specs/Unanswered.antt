@@ -1,5 +1,5 @@
 -- Reading without a callback, and questions that got no answer (this profile's own).
-use Rattle.std.specs.Prelude.{◌≡◌, ℕ, false, List, [], ◌∷◌, None}
+use Rattle.std.specs.Prelude.{◌≡◌, false, List, [], ◌∷◌, None}
 use Rattle.cmark_grammar.specs.BracketStates.{State}
 use Rattle.cmark_grammar.specs.Questions.{Exchange}
 use Rattle.cmark_grammar.specs.Readers.{Reader}

@@ -30,6 +30,7 @@ ghost use Rattle.cmark_inline_model.specs.LinkRules.{AsksRightly, IsFormedRightl
 ghost use Rattle.cmark_inline_model.specs.NestedLinks.{HasLinksApart, KeepsLinksApart};
 ghost use Rattle.cmark_inline_model.specs.PartRanges.{KeepsRanges, StandBetween};
 ghost use Rattle.cmark_inline_model.specs.PassSteps.{Steps};
+ghost use Rattle.cmark_inline_model.specs.ReadingRanges.{Matched};
 ghost use Rattle.cmark_inline_model.specs.Unanswered.{AreUnanswered, without_callback};
 ghost use Rattle.cmark_inline_model.specs.Progress.{IsForward, IsRecorded, IsShifted, asked_behind};
 
@@ -95,7 +96,7 @@ pub fn questions_are_about_unknown_labels()
 /// and wikilinks are formed only where they are read.
 pub fn references_lead_to_their_definitions()
     ensures formed { (reader : Reader) (leaf : Leaf) (s : State) (parts : Parts) (t : State)
-        → Reads (token reader leaf) (decide reader leaf) AnyAnswer s parts t → AllFormed (IsFormedRightly reader) parts }
+        → Reads (token reader leaf) (decide reader leaf) AnyAnswer s parts t → AllFormed (IsFormedRightly reader t.asked) parts }
     ensures first { (text : List ℕ) (profile : Profile) (document : BlockDocument) (folded : List ℕ)
         → (reader_of text profile document).definition folded ≡ first_with fold folded (references document) }
 {}
@@ -114,9 +115,11 @@ pub fn parts_stand_in_their_leaf()
         → StandBetween s.at parts t.at × (t.at ≤ end_of leaf.stretches) }
 {}
 
-/// The events of a reading are balanced: each start has its end behind it, of the same tag.
+/// The events of a reading are balanced: each start has its end behind it, of the same tag and with the same bytes.
 pub fn events_are_balanced()
-    ensures { (text : List ℕ) (profile : Profile) (exchanges : List Exchange) (events : List Ranged)
+    ensures matched { (text : List ℕ) (profile : Profile) (exchanges : List Exchange) (events : List Ranged)
+        → IsReading text profile exchanges events → Matched events }
+    ensures balanced { (text : List ℕ) (profile : Profile) (exchanges : List Exchange) (events : List Ranged)
         → IsReading text profile exchanges events → Balanced (map Ranged.event events) }
 {}
 

@@ -1,5 +1,8 @@
 //! The spans of a leaf by one pass, and the theorems about them: a text has a reading for each plan of answers, and for each list
-//! of answers no other. The functions of [`laws`] carry them, and do nothing.
+//! of answers no other. The functions of [`laws`] and, over whole texts, of [`reading_laws`] carry them, and do nothing; those of
+//! [`slots`] are about siblings as a row of slots.
 #![tactic(auto)]
 
 pub mod laws;
+pub mod reading_laws;
+pub mod slots;

@@ -1,16 +1,15 @@
 -- Thematic breaks and fences, as they are looked for.
 use Rattle.std.proofs.Common.{◌≡◌, ◌≢◌, ℕ, zero, suc, ◌+◌, ◌-◌, ◌<◌, ◌≤◌, Bool, true, false, cond, ◌==◌, ◌&&◌, ◌||◌, nat_le, nat_lt, List, [], ◌∷◌, length, take, drop, get_or, Option, Some, None, refl, sym, ap, ◌∙◌, arith, eqb-true, eq-eqb, ne_eqb, true≢false, not, length-drop}
 use Rattle.std.specs.Prelude.{count_by, is_some, if◌then◌else◌, slice_range}
-use Rattle.std.proofs.lemmas.Bool.{le-leb}
+use Rattle.std.proofs.lemmas.Bool.{le-leb, ltb-false}
 use Rattle.std.proofs.lemmas.List.{drop-drop, get_or-drop}
 use Rattle.std.proofs.lemmas.List.Quantifiers.{position-Some}
 use Rattle.std.proofs.lemmas.List.Folds.{length-prefix_len}
-use Rattle.std.specs.List.{prefix_len, position}
-use Rattle.std.proofs.lemmas.List.Sums.{sum_by-cons}
+use Rattle.std.specs.List.{prefix_len, position, position_or_len}
+use Rattle.std.proofs.lemmas.List.Sums.{sum_by-cons, fails_before_first}
 use Rattle.memchr.specs.Find.{IsFirstByte, is_byte}
 use Rattle.cmark_grammar.specs.Columns.{is_blank_byte, put_before, drop_end}
 use Rattle.cmark_grammar.specs.Leaves.{all_pass, run, trimmed, fence_with, is_break_of, is_thematic_break}
-use Rattle.cmark_text.proofs.Escaping.{all_kept-position}
 use Rattle.cmark_scan.specs.LeafLines.{is_break_mark, stops_break, long_fence, backtick_fence}
 
 pub all_pass-each : (p : ℕ → Bool) (bs : List ℕ) → ((k : ℕ) → k < length bs → p (get_or bs k 0) ≡ true) → all_pass p bs ≡ true
@@ -202,9 +201,18 @@ break-here bs taken mark lt is no_blank =
     first [] some is no_blank = absurd (omega arith)
     first (c ∷ cs) some is no_blank = ap (λ m. is_break_mark m && is_break_of m (c ∷ cs)) is ∙ break-first c cs no_blank
 
+cond-none : (b : Bool) (n : ℕ) → cond b (Some n) None ≡ None → b ≡ false
+cond-none true n e = cc
+cond-none false n e = refl
+
+none-passes : (p : ℕ → Bool) (bs : List ℕ) → None ≡ position p bs → (k : ℕ) → k < length bs → p (get_or bs k 0) ≡ false
+none-passes p bs is k below =
+    let past : length bs ≤ position_or_len p bs = ltb-false (position_or_len p bs) (length bs) (cond-none (nat_lt (position_or_len p bs) (length bs)) (position_or_len p bs) (sym is)) in
+    fails_before_first p bs k 0 (omega arith)
+
 -- where none stands, all bytes are the mark or blanks
 pub no-stop : (mark : ℕ) (bs : List ℕ) → None ≡ position (stops_break mark) bs → all_pass (λ c. (c == mark) || is_blank_byte c) bs ≡ true
-no-stop mark bs is = all_pass-each (λ c. (c == mark) || is_blank_byte c) bs (λ k lt. on _ (all_kept-position (stops_break mark) bs None is refl k lt))
+no-stop mark bs is = all_pass-each (λ c. (c == mark) || is_blank_byte c) bs (λ k lt. on _ (none-passes (stops_break mark) bs is k lt))
   where
     on : (z : Bool) → not z ≡ false → z ≡ true
     on true e = refl

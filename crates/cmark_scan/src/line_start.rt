@@ -8,7 +8,7 @@ ghost use Rattle.cmark_scan.specs.Places.{column_behind};
 mod markers;
 
 use crate::leaf::{break_stop, is_break_mark, is_break_of};
-use memchr::memchr2;
+use cmark_search::find_line_end;
 
 /// A line, of which some columns in front were taken. A tab stands for the columns up to the next tab stop, four columns
 /// apart; it is never written out, and a part of it may be taken.
@@ -47,7 +47,7 @@ impl<'a> LineStart<'a> {
     pub fn new(bytes: &'a [u8]) -> LineStart<'a>
         ensures { (at past : ℕ) → row_from at past result ≡ line_of at past bytes.entry.now }
     {
-        let len = memchr2(b'\n', b'\r', bytes).unwrap_or(bytes.len());
+        let len = find_line_end(bytes).unwrap_or(bytes.len());
         LineStart {
             bytes: &bytes[..len],
             taken: 0,

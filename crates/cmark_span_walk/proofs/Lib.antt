@@ -1,4 +1,2 @@
 pub mod Completing
-pub mod Gathers
-pub mod Nexts
 pub mod Walks

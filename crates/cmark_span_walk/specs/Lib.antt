@@ -1,3 +1,2 @@
 pub mod Callback
-pub mod Lines
 pub mod Walking

@@ -2,7 +2,6 @@
 #![tactic(auto)]
 
 mod callback;
-mod lines;
 mod span_walk;
 
 pub use callback::OptionalCallback;

@@ -1,30 +1,26 @@
 //! The walk over a document's events with the spans of its leaves.
 
-ghost use Rattle.std.specs.Prelude.{◌≡◌, ◌<◌, ◌≤◌, true, false, None, List, [], length, IfOk, OnOk, OnSome};
+ghost use Rattle.std.specs.Prelude.{◌≡◌, ◌<◌, ◌≤◌, true, false, List, [], length, IfOk, OnOk, OnSome};
 ghost use Rattle.cmark_grammar.specs.Event.{Ranged as Shown};
-ghost use Rattle.cmark_grammar.specs.LeafSpans.{InTurn, WithSpans};
+ghost use Rattle.cmark_grammar.specs.LeafSpans.{AreGiven};
+ghost use Rattle.cmark_grammar.specs.LeafText.{Leaf};
+ghost use Rattle.cmark_grammar.specs.SpanDocuments.{Segment};
 ghost use Rattle.cmark_inline.specs.Opens.{shown_given};
-ghost use Rattle.cmark_walk.specs.Walking.{Remains as BlocksRemain, definitions_of as block_definitions, shown_ranged};
+ghost use Rattle.cmark_walk.specs.Walking.{Remains as BlocksRemain, definitions_of as block_definitions, shown_ranged, text_of};
 
-use crate::lines::{is_content, part_of};
 use cmark_inline::{BrokenLinkCallback, Given, InlineState, Reader, SpecialBytes, special_bytes};
 use cmark_items::RefDefs;
 use cmark_leaf_text::{LeafLine, LeafText};
-use cmark_text::{EntityLookup, Event, Options, Tag, TagEnd};
-use cmark_walk::{Ranged, Walk};
+use cmark_text::{EntityLookup, Options};
+use cmark_walk::{Met, Ranged, Walk};
 use std::alloc::{AllocError, Global};
 
-/// A walk over the events of a document, in which the spans of each leaf stand in the place of its text.
+/// A walk over the events of a document, in which the spans of each leaf stand in the place of its lines.
 #[derive(Drop)]
 pub struct SpanWalk<'input, 'e, E, F> {
-    text: &'input str,
     walk: Walk<'input>,
-    /// More than the number of events that the walk still gives.
+    /// More than the number of events and leaves that the walk still meets.
     budget: u128,
-    /// The event behind the leaf at hand, which was read to find the leaf's end.
-    held: Option<Ranged<'input>>,
-    /// Whether the walk stands in a block that is verbatim, whose text has no spans: code, HTML or metadata.
-    is_verbatim: bool,
     /// Whether the walk stands in a leaf.
     in_leaf: bool,
     lines: Vec<LeafLine>,
@@ -37,10 +33,10 @@ pub struct SpanWalk<'input, 'e, E, F> {
 }
 
 impl<'input, 'e, E: EntityLookup, F: BrokenLinkCallback<'input> + Drop> SpanWalk<'input, 'e, E, F> {
-    ghost use Rattle.cmark_span_walk.specs.Walking.{definitions_of, source_of, opened_of, events_left, blocks_left, BlocksLeft, Stands, Remains, Gives, GivesSpan, SameLeaf, TakesBlock, Gathering, GathersOne, BeginsLeaf, Collects, EntersLeaf, Passes};
+    ghost use Rattle.cmark_span_walk.specs.Walking.{definitions_of, source_of, events_left, Stands, Remains, Gives, GivesSpan, BeforeLeaf, EntersLeaf};
 
-    /// A walk over the events of this walk over the text, which are fewer than `budget`. `entities` says what the entity
-    /// names stand for; `callback` is asked for references without a definition.
+    /// A walk over what this walk over the text meets, which are fewer events and leaves than `budget`. `entities` says what the
+    /// entity names stand for; `callback` is asked for references without a definition.
     pub fn new(
         alloc: Global,
         text: &'input str,
@@ -50,24 +46,21 @@ impl<'input, 'e, E: EntityLookup, F: BrokenLinkCallback<'input> + Drop> SpanWalk
         entities: &'e E,
         callback: F,
     ) -> SpanWalk<'input, 'e, E, F>
-        ensures begins { (blocks events : List Shown)
-            → BlocksRemain walk.entry blocks
-            → length blocks < budget
-            → InTurn text.entry.now 0 blocks
-            → WithSpans text.entry.now false blocks events
+        ensures begins { (left : List Segment) (events : List Shown)
+            → BlocksRemain walk.entry left
+            → text_of walk.entry ≡ text.entry.now
+            → length left < budget
+            → AreGiven text.entry.now left events
             → Remains result events }
-        ensures reads { (blocks events : List Shown)
-            → BlocksRemain walk.entry blocks
+        ensures reads { (left : List Segment) (events : List Shown)
+            → BlocksRemain walk.entry left
             → Remains result events
-            → WithSpans text.entry.now false blocks events }
+            → AreGiven text.entry.now left events }
         ensures definitions { definitions_of result ≡ block_definitions walk.entry }
     {
         SpanWalk {
-            text,
             walk,
             budget,
-            held: None,
-            is_verbatim: false,
             in_leaf: false,
             lines: Vec::new(alloc),
             leaf: LeafText::new(alloc, text),
@@ -95,9 +88,21 @@ impl<'input, 'e, E: EntityLookup, F: BrokenLinkCallback<'input> + Drop> SpanWalk
         ensures fewer { IfOk result (λ given. OnSome given (events_left self.new < events_left self.old)) }
         ensures definitions { definitions_of self.new ≡ definitions_of self.old }
     {
-        match self.next_span()? {
-            Some(given) => Ok(Some(given)),
-            None => self.next_outside(),
+        loop {
+            if let Some(given) = self.next_span()? {
+                return Ok(Some(given));
+            }
+            match self.walk.next(&mut self.lines)? {
+                Met::Event(given) => {
+                    self.budget -= 1;
+                    return Ok(Some(given));
+                }
+                Met::Leaf => {
+                    self.budget -= 1;
+                    self.enter_leaf()?;
+                }
+                Met::Over => return Ok(None),
+            }
         }
     }
 
@@ -109,6 +114,9 @@ impl<'input, 'e, E: EntityLookup, F: BrokenLinkCallback<'input> + Drop> SpanWalk
         ensures given { IfOk result (λ given. GivesSpan self.old given self.new) }
         ensures fewer { IfOk result (λ given. OnSome given (events_left self.new < events_left self.old)) }
         ensures most { OnOk result (events_left self.new ≤ events_left self.old) }
+        ensures few { OnOk result (self.old.in_leaf ≡ true → length self.new.inline.slots.items < 18446744073709551616) }
+        ensures slots { OnOk result (self.new.inline.slots ≡ self.old.inline.slots) }
+        ensures budget { self.new.budget ≡ self.old.budget }
         ensures definitions { definitions_of self.new ≡ definitions_of self.old }
     {
         if !self.in_leaf {
@@ -123,117 +131,14 @@ impl<'input, 'e, E: EntityLookup, F: BrokenLinkCallback<'input> + Drop> SpanWalk
         }
     }
 
-    // The next event outside of a leaf, or the first in the leaf that begins there.
-    #[inline(always)]
-    fn next_outside(&mut self) -> Result<Option<Ranged<'input>>, AllocError>
-        requires stands { Stands self.old }
-        requires outside { self.old.in_leaf ≡ false }
-        ensures stands { OnOk result (Stands self.new) }
-        ensures given { IfOk result (λ given. Gives self.old given self.new) }
-        ensures fewer { IfOk result (λ given. OnSome given (events_left self.new < events_left self.old)) }
-        ensures definitions { definitions_of self.new ≡ definitions_of self.old }
-    {
-        let Some(block) = self.next_block()? else {
-            return Ok(None);
-        };
-        if self.is_verbatim || !is_content(&block.event) {
-            return Ok(Some(self.pass(block)));
-        }
-        let first = part_of(&block);
-        drop(block);
-        self.enter_leaf(first)?;
-        // Bound to a name: a call that is not inlined and answered at once would have every result of this function in memory.
-        let given = self.next_in_leaf()?;
-        Ok(given)
-    }
-
-    // The next event in a leaf or, where it has no more, behind it.
-    fn next_in_leaf(&mut self) -> Result<Option<Ranged<'input>>, AllocError>
-        requires stands { Stands self.old }
-        requires inside { self.old.in_leaf ≡ true }
-        ensures stands { OnOk result (Stands self.new) }
-        ensures given { IfOk result (λ given. Gives self.old given self.new) }
-        ensures fewer { IfOk result (λ given. OnSome given (events_left self.new < events_left self.old)) }
-        ensures few { OnOk result (length self.old.inline.slots.items < 18446744073709551616) }
-        ensures definitions { definitions_of self.new ≡ definitions_of self.old }
-    {
-        match self.inline.next(&self.leaf)? {
-            Some(given) => Ok(Some(ranged(given))),
-            None => self.leave_leaf(),
-        }
-    }
-
-    // The next event behind a leaf that has no more.
-    #[inline(always)]
-    fn leave_leaf(&mut self) -> Result<Option<Ranged<'input>>, AllocError>
-        requires stands { Stands self.old }
-        requires inside { self.old.in_leaf ≡ true }
-        requires none_open { opened_of self.old ≡ [] }
-        ensures stands { OnOk result (Stands self.new) }
-        ensures given { IfOk result (λ given. Gives self.old given self.new) }
-        ensures fewer { IfOk result (λ given. OnSome given (events_left self.new < events_left self.old)) }
-        ensures inline { self.new.inline ≡ self.old.inline }
-        ensures definitions { definitions_of self.new ≡ definitions_of self.old }
-    {
-        self.in_leaf = false;
-        match self.next_block()? {
-            Some(block) => Ok(Some(self.pass(block))),
-            None => Ok(None),
-        }
-    }
-
-    // The next event of the document without spans.
-    #[inline(always)]
-    fn next_block(&mut self) -> Result<Option<Ranged<'input>>, AllocError>
-        requires { (blocks : List Shown) × BlocksLeft self.old blocks }
-        ensures taken { IfOk result (λ given. (blocks : List Shown) → BlocksLeft self.old blocks → TakesBlock blocks given self.new) }
-        ensures none_held { OnOk result (self.new.held ≡ None) }
-        ensures same { SameLeaf self.old self.new }
-        ensures lines { self.new.lines ≡ self.old.lines }
-        ensures fewer { IfOk result (λ given. OnSome given (blocks_left self.new < blocks_left self.old)) }
-        ensures most { OnOk result (blocks_left self.new ≤ blocks_left self.old) }
-        ensures definitions { definitions_of self.new ≡ definitions_of self.old }
-    {
-        if self.held.is_some() {
-            return Ok(self.held.take());
-        }
-        match self.walk.next()? {
-            Some(block) => {
-                self.budget -= 1;
-                Ok(Some(block))
-            }
-            None => Ok(None),
-        }
-    }
-
-    // Such an event, which is given as it is.
-    #[inline(always)]
-    fn pass(&mut self, block: Ranged<'input>) -> Ranged<'input>
-        ensures same { result ≡ block.entry }
-        ensures passes { Passes self.old (shown_ranged block.entry) self.new }
-    {
-        match &block.event {
-            Event::Start(Tag::CodeBlock(_) | Tag::HtmlBlock | Tag::MetadataBlock(_)) => {
-                self.is_verbatim = true;
-            }
-            Event::End(TagEnd::CodeBlock | TagEnd::HtmlBlock | TagEnd::MetadataBlock(_)) => {
-                self.is_verbatim = false;
-            }
-            _ => {}
-        }
-        block
-    }
-
-    // Into the leaf whose content begins with this part of the source.
-    fn enter_leaf(&mut self, first: LeafLine) -> Result<(), AllocError>
-        requires { (blocks : List Shown) × BeginsLeaf self.old first blocks }
-        ensures enters { OnOk result ((blocks : List Shown) → BeginsLeaf self.old first blocks → EntersLeaf blocks self.new) }
-        ensures outside { OnOk result (self.new.is_verbatim ≡ self.old.is_verbatim) }
+    // Into the leaf whose lines were met.
+    fn enter_leaf(&mut self) -> Result<(), AllocError>
+        requires { (leaf : Leaf) × (others : List Segment) × BeforeLeaf self.old leaf others }
+        ensures enters { OnOk result ((leaf : Leaf) (others : List Segment) → BeforeLeaf self.old leaf others → EntersLeaf others self.new) }
         ensures source { OnOk result (source_of self.new ≡ source_of self.old) }
-        ensures most { OnOk result (blocks_left self.new ≤ blocks_left self.old) }
+        ensures budget { self.new.budget ≡ self.old.budget }
         ensures definitions { definitions_of self.new ≡ definitions_of self.old }
     {
-        self.gather(first)?;
         self.leaf.read(self.lines.as_slice())?;
         let reader = Reader {
             entities: self.entities,
@@ -245,50 +150,6 @@ impl<'input, 'e, E: EntityLookup, F: BrokenLinkCallback<'input> + Drop> SpanWalk
             .resolve(&self.leaf, &reader, &mut self.callback)?;
         self.in_leaf = true;
         Ok(())
-    }
-
-    // Gathers the parts of the source over which the content stands that begins with this one; the event behind it is held.
-    fn gather(&mut self, first: LeafLine) -> Result<(), AllocError>
-        requires { (blocks : List Shown) × BeginsLeaf self.old first blocks }
-        ensures collects { OnOk result ((blocks : List Shown) → BeginsLeaf self.old first blocks → Collects blocks self.new) }
-        ensures same { SameLeaf self.old self.new }
-        ensures most { OnOk result (blocks_left self.new ≤ blocks_left self.old) }
-        ensures definitions { definitions_of self.new ≡ definitions_of self.old }
-    {
-        self.lines.clear();
-        let mut part = first;
-        while let Some(next) = self.gather_part(part)? {
-            part = next;
-        }
-        Ok(())
-    }
-
-    // Makes this part longer by the next event, or else adds it to the lines; `None` where the content has ended.
-    #[inline(always)]
-    fn gather_part(&mut self, part: LeafLine) -> Result<Option<LeafLine>, AllocError>
-        requires { (blocks : List Shown) × Gathering self.old part blocks }
-        ensures gathers { IfOk result (λ next. (blocks : List Shown) → Gathering self.old part blocks → GathersOne blocks next self.new) }
-        ensures same { SameLeaf self.old self.new }
-        ensures fewer { IfOk result (λ next. OnSome next (blocks_left self.new < blocks_left self.old)) }
-        ensures most { OnOk result (blocks_left self.new ≤ blocks_left self.old) }
-        ensures definitions { definitions_of self.new ≡ definitions_of self.old }
-    {
-        let Some(block) = self.next_block()? else {
-            self.lines.push(part)?;
-            return Ok(None);
-        };
-        if !is_content(&block.event) {
-            self.held = Some(block);
-            self.lines.push(part)?;
-            return Ok(None);
-        }
-        let next = part_of(&block);
-        if next.start == part.past {
-            let start = part.start;
-            return Ok(Some(LeafLine { start, ..next }));
-        }
-        self.lines.push(part)?;
-        Ok(Some(next))
     }
 }
 

@@ -1,23 +1,85 @@
 //! Definitions and ranges at each point of a reading.
 
-use pulldown_cmark::{BasicEntities, Parser};
+ghost use Rattle.pulldown_cmark.specs.Parsing.{CanGo, CanGoRanged};
+
+use pulldown_cmark::{BasicEntities, OffsetIter, Parser, RefDefs};
 use std::alloc::AllocError;
 use std::test::Fail;
 
-#[test]
-fn keeps_the_definitions(rt: HostRuntime) -> Result<(), Fail> {
-    let text = "[Foo]: /a 'b'\n[foo]: /c\n\nd\n";
-    let mut parser = Parser::new(rt.alloc(), text, &BasicEntities)?;
+// A test that holds a parser has one way out for it: what the parser says is gathered by functions that borrow it.
+
+/// Whether a label is defined with this destination, title and range.
+fn is_defined(
+    definitions: &RefDefs<'_>,
+    label: &str,
+    dest: &str,
+    title: Option<&str>,
+    range: (usize, usize),
+) -> Result<bool, AllocError> {
+    let Some(def) = definitions.get(label)? else {
+        return Ok(false);
+    };
+    let has_title = def.title.as_ref().map(|title| title.as_str()) == title;
+    Ok(has_title && def.dest.as_str() == dest && (def.span.start, def.span.end) == range)
+}
+
+/// Reads on over the first four events.
+fn pass_four_events(parser: &mut Parser<'_, BasicEntities>)
+    requires { CanGo parser.old }
+    ensures { CanGo parser.new }
+{
     for _ in 0..4 {
-        let found = parser.reference_definitions().get("FOO")?;
-        assert!(rt; found.is_some_and(|def| def.dest.as_str() == "/a"));
-        assert!(rt; parser.reference_definitions().get("d")?.is_none());
         let _given = parser.next();
     }
+}
+
+/// Whether the label `foo` is defined by the first of the two, before the first event and behind the fourth, and `d` never.
+fn keeps_its_definitions(parser: &mut Parser<'_, BasicEntities>) -> Result<bool, AllocError>
+    requires { CanGo parser.old }
+{
+    let before = is_defined(
+        parser.reference_definitions(),
+        "FOO",
+        "/a",
+        Some("b"),
+        (0, 13),
+    )?;
+    pass_four_events(parser);
+    let definitions = parser.reference_definitions();
+    let behind = is_defined(definitions, "FOO", "/a", Some("b"), (0, 13))?;
+    Ok(before && behind && definitions.get("d")?.is_none())
+}
+
+#[test]
+fn keeps_the_definitions(rt: HostRuntime) -> Result<(), Fail> {
+    let mut parser = Parser::new(
+        rt.alloc(),
+        "[Foo]: /a 'b'\n[foo]: /c\n\nd\n",
+        &BasicEntities,
+    )?;
+    let while_events_are_given = keeps_its_definitions(&mut parser);
     let iter = parser.into_offset_iter();
-    let found = iter.reference_definitions().get("foo")?;
-    assert!(rt; found.is_some_and(|def| def.title.is_some()));
+    let with_ranges = is_defined(
+        iter.reference_definitions(),
+        "foo",
+        "/a",
+        Some("b"),
+        (0, 13),
+    );
+    drop(iter);
+    assert!(rt; while_events_are_given?);
+    assert!(rt; with_ranges?);
     Ok(())
+}
+
+/// Whether the definitions are those of the test below.
+fn are_found_over_lines(definitions: &RefDefs<'_>) -> Result<bool, AllocError> {
+    Ok(
+        is_defined(definitions, "foo", "/url", Some("title"), (0, 19))?
+            && is_defined(definitions, "bar", "/u", None, (27, 40))?
+            && is_defined(definitions, "baz", "x", None, (43, 51))?
+            && is_defined(definitions, "two", "z", Some("t\nu"), (62, 82))?,
+    )
 }
 
 #[test]
@@ -26,19 +88,9 @@ fn finds_definitions_over_lines(rt: HostRuntime) -> Result<(), Fail> {
     let item = "- [two]: z\r\n  't\r\n  u'\r\n";
     let text = format!(in rt.alloc(); "[foo]: /url\n\"title\"\nbar\n\n{quote}\n{item}")?;
     let parser = Parser::new(rt.alloc(), text.as_str(), &BasicEntities)?;
-    for (label, dest, title, start, end) in [
-        ("foo", "/url", Some("title"), 0, 19),
-        ("bar", "/u", None, 27, 40),
-        ("baz", "x", None, 43, 51),
-        ("two", "z", Some("t\nu"), 62, 82),
-    ] {
-        let def = parser.reference_definitions().get(label)?;
-        let def = def.ok_or("no definition")?;
-        assert_eq!(rt; def.dest.as_str(), dest, "of {label}");
-        let found = def.title.as_ref().map(|title| title.as_str());
-        assert_eq!(rt; found, title, "of {label}");
-        assert_eq!(rt; (def.span.start, def.span.end), (start, end), "of {label}");
-    }
+    let are_found = are_found_over_lines(parser.reference_definitions());
+    drop(parser);
+    assert!(rt; are_found?);
     Ok(())
 }
 
@@ -47,31 +99,55 @@ fn definitions_are_there_at_every_point(rt: HostRuntime) -> Result<(), Fail> {
     let text =
         "[a B c]: http://example.com\n[another]: https://google.com\n\ntext\n\n[final ONE]: http://wikipedia.org\n";
     let mut parser = Parser::new(rt.alloc(), text, &BasicEntities)?;
-    assert!(rt; parser.reference_definitions().get("a b c")?.is_some());
-    assert!(rt; parser.reference_definitions().get("nope")?.is_none());
-    assert!(rt; parser.next().is_some());
-    let found = parser.reference_definitions().get("final one")?;
-    let Some(def) = found else {
-        return Err(Fail::from(AllocError));
-    };
-    let written = text.get(def.span.start..def.span.end);
-    assert!(rt; written == Some("[final ONE]: http://wikipedia.org"));
+    let before = is_defined(
+        parser.reference_definitions(),
+        "a b c",
+        "http://example.com",
+        None,
+        (0, 27),
+    );
+    let _first = parser.next();
+    let later = is_defined(
+        parser.reference_definitions(),
+        "final one",
+        "http://wikipedia.org",
+        None,
+        (65, 98),
+    );
+    let is_unknown = parser
+        .reference_definitions()
+        .get("nope")
+        .is_ok_and(|found| found.is_none());
+    drop(parser);
+    assert!(rt; before?);
+    assert!(rt; later?);
+    assert!(rt; is_unknown);
     Ok(())
+}
+
+/// The ranges of the next five events; `None` where there is no further one.
+fn next_ranges(iter: &mut OffsetIter<'_, BasicEntities>) -> [Option<(usize, usize)>; 5]
+    requires { CanGoRanged iter.old }
+{
+    let mut ranges = [None; 5];
+    for range in &mut ranges {
+        if let Some(Ok((_event, given))) = iter.next() {
+            *range = Some((given.start, given.end));
+        }
+    }
+    ranges
 }
 
 #[test]
 fn goes_on_with_ranges(rt: HostRuntime) -> Result<(), Fail> {
     let mut parser = Parser::new(rt.alloc(), "# a\nb\nc\n", &BasicEntities)?;
-    for _ in 0..4 {
-        assert!(rt; parser.next().is_some());
-    }
+    pass_four_events(&mut parser);
     let mut iter = parser.into_offset_iter();
-    for want in [(4, 5), (5, 6), (6, 7), (4, 8)] {
-        let Some(Ok((_event, range))) = iter.next() else {
-            return Err(Fail::from(AllocError));
-        };
-        assert_eq!(rt; (range.start, range.end), want);
-    }
-    assert!(rt; iter.next().is_none());
+    let ranges = next_ranges(&mut iter);
+    drop(iter);
+    assert_eq!(rt;
+        ranges,
+        [Some((4, 5)), Some((5, 6)), Some((6, 7)), Some((4, 8)), None]
+    );
     Ok(())
 }

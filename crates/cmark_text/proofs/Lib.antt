@@ -1,3 +1,4 @@
 pub mod Escaping
+pub mod Folds
 pub mod Marks
 pub mod Words

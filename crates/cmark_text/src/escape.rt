@@ -6,7 +6,7 @@ ghost use Rattle.cmark_grammar.specs.Escapes.{body_text_byte, escaped_body_text,
 ghost use Rattle.cmark_text.specs.Appended.{AppendsFront};
 ghost use Rattle.cmark_text.specs.Marks.{is_body_text_mark, is_html_mark, is_href_mark};
 
-use memchr::memchr3;
+use cmark_search::find_first;
 use std::alloc::AllocError;
 
 /// Appends the text as body text of HTML: `&`, `<` and `>` are written as entities.
@@ -25,12 +25,15 @@ pub fn escape_html_body_text(out: &mut String, text: &str) -> Result<(), AllocEr
     out.push_str(rest)
 }
 
+/// The rows of the set of `&`, `<` and `>`.
+const BODY_TEXT_MARKS: &[u8; 16] = &[0, 0, 0, 0, 0, 0, 4, 0, 0, 0, 0, 0, 8, 0, 8, 0];
+
 /// Where the first byte stands that `escape_html_body_text` does not keep.
 #[inline]
 fn find_body_text_mark(text: &str) -> Option<usize>
     ensures { IsFirstByte is_body_text_mark text.now result }
 {
-    memchr3(b'&', b'<', b'>', text.as_bytes())
+    find_first(BODY_TEXT_MARKS, text.as_bytes())
 }
 
 /// What a byte of body text that is not kept is written as.

@@ -85,7 +85,7 @@ impl Label {
         ensures { IfOk result (λ made. string_bytes made.text ≡ normal_form label.now) }
     {
         let text = normalized(alloc, label)?;
-        let folded = default_case_fold_str(alloc, text.as_str())?;
+        let folded = case_folded(alloc, text.as_str())?;
         Ok(Label { text, folded })
     }
 
@@ -142,6 +142,18 @@ impl Hash for Label {
     fn hash<H: Hasher>(&self, state: &mut H) {
         self.folded.hash(state);
     }
+}
+
+/// The text with Unicode's full case folding. An ASCII text, as most labels are, folds to its lower case.
+#[tactic(auto, using(crate::proofs::Folds::folded_ascii))]
+fn case_folded(alloc: Global, text: &str) -> Result<String, AllocError>
+    ensures { IfOk result (λ made. string_bytes made ≡ case_folded text.now) }
+{
+    if text.is_ascii() {
+        let lower = text.to_ascii_lowercase(alloc)?;
+        return Ok(lower);
+    }
+    default_case_fold_str(alloc, text)
 }
 
 /// The words of a label, with one space between each two.

@@ -17,14 +17,18 @@ use Rattle.cmark_grammar.specs.Event as event
 use Rattle.cmark_grammar.specs.BlockDocument as document
 use Rattle.cmark_grammar.specs.BlockDocument.{BlockNode, BlockDocument}
 use Rattle.cmark_grammar.specs.BlockReading as reads
-use Rattle.cmark_grammar.specs.BlockReading.{Reads, read_as, over, block_reading}
+use Rattle.cmark_grammar.specs.BlockReading.{Reads, read_as, over}
 use Rattle.cmark_grammar.specs.DrawnDocument.{kind_within}
+use Rattle.cmark_grammar.specs.SpanDocuments.{Segment, Given}
 use Rattle.cmark_items.specs.declared.item.Item.{Item}
+use Rattle.cmark_leaf_text.specs.declared.stretch.LeafLine.{LeafLine}
 use Rattle.cmark_walk.specs.declared.walk.Walk.{Walk}
+use Rattle.cmark_walk.specs.declared.reading.Stage.{Stage}
+use Rattle.cmark_walk.specs.declared.reading.Stage.TheVariants as stage
 use Rattle.cmark_walk.specs.declared.reading.Step.{Step}
 use Rattle.cmark_walk.specs.Reads.{end_in}
-use Rattle.cmark_walk.specs.Walking.{Drawn, Draws, DrawsAbove, Outer, StandsBelow, StandsAt, Remains, Goes, GivesStep, GivesRanged, left_from, leaving, tight_below, texts_of}
-use Rattle.cmark_walk.proofs.WalkSteps.{moved, over-range, gives-step, IsItem}
+use Rattle.cmark_walk.specs.Walking.{Drawn, Draws, DrawsAbove, Outer, StandsBelow, StandsAt, IsStaged, Remains, Goes, GivesStep, GivesRanged, left_from, leaving, tight_below, texts_of}
+use Rattle.cmark_walk.proofs.WalkSteps.{moved, over-range, gives-step, left-staged, remains-before, IsItem}
 
 -- behind the last of the siblings, with a parent
 pub record Behind (walk : Walk) (ix : TreeIndex) (z : Zip Item) (here : BlockDocument) (above : List Outer) : Type 0 where
@@ -72,14 +76,20 @@ pub behind : (walk : Walk) (ix : TreeIndex) (z : Zip Item) (here : BlockDocument
 behind walk ix z here above s n p =
     behind-split walk ix z here z.up above refl (here-none walk.text.now (texts_of walk) z.right here s.draws (n z s.below.holds)) s.below.draws_above (p z s.below.holds)
 
+-- behind the last of the siblings the walk is in no leaf
+stage-none : (now : Stage) (here : BlockDocument) → here ≡ document.Nil → IsStaged now here → now ≡ stage.Before
+stage-none stage.Before here e s = refl
+stage-none stage.Lines here e s = absurd (subst (IsStaged stage.Lines) e s)
+stage-none stage.Behind here e s = absurd (subst (IsStaged stage.Behind) e s)
+
 -- the end of a node
-leaving-some : (end : TagEnd) (R : Reads) (node : BlockNode) → Some end ≡ end_in R → leaving R node ≡ over node (event.End end) ∷ []
-leaving-some end (reads.Around tag) node e = ap (λ x. over node (event.End x) ∷ []) (sym (same_Some end (end_of tag) e))
+pub leaving-some : (end : TagEnd) (R : Reads) (node : BlockNode) → Some end ≡ end_in R → leaving R node ≡ Given (over node (event.End end)) ∷ []
+leaving-some end (reads.Around tag) node e = ap (λ x. Given (over node (event.End x)) ∷ []) (sym (same_Some end (end_of tag) e))
 leaving-some end reads.Inside node e = absurd (let q : Some end ≡ None = e in cc)
 leaving-some end (reads.Alone ev) node e = absurd (let q : Some end ≡ None = e in cc)
 leaving-some end reads.Silent node e = absurd (let q : Some end ≡ None = e in cc)
 
-leaving-none : (R : Reads) (node : BlockNode) → None ≡ end_in R → leaving R node ≡ []
+pub leaving-none : (R : Reads) (node : BlockNode) → None ≡ end_in R → leaving R node ≡ []
 leaving-none (reads.Around tag) node e = absurd (let q : None ≡ Some (end_of tag) = e in cc)
 leaving-none reads.Inside node e = refl
 leaving-none (reads.Alone ev) node e = refl
@@ -123,38 +133,72 @@ module _ (walk : Walk) (ix : TreeIndex) (t : Tree Item) (none : IsNone-at walk) 
     drawn-item : (z : Zip Item) (here : BlockDocument) (above : List Outer) → StandsAt walk z here above → (b : Behind walk ix z here above) → Drawn walk.text.now (texts_of walk) item b.parent.node
     drawn-item z here above s b = subst (λ k. Drawn walk.text.now (texts_of walk) k b.parent.node) (sym (is _ (parent-read z here above s b))) b.drawn
 
-    after-parent : (z : Zip Item) (here : BlockDocument) (above : List Outer) → StandsAt walk z here above → (b : Behind walk ix z here above) → Remains (moved walk t2) (left_from b.parent.after b.outer)
-    after-parent z here above s b = record {
-      z = past (over-parent z here above b) ix.ix (parent-sibling z here above b);
-      here = b.parent.after;
-      above = b.outer;
-      stands = record {
-        below = record { holds = next (over-parent z here above b) (parent-sibling z here above b) (at-parent z here above s b).holds; draws_above = b.draws_above };
-        draws = b.draws;
-      };
-      are = refl;
-    }
+    before : (left : List Segment) (r : Remains walk left) → Behind walk ix r.z r.here r.above → walk.stage ≡ stage.Before
+    before left r b = stage-none walk.stage r.here b.here_is r.staged
 
-    left-behind : (here : BlockDocument) (above : List Outer) (z : Zip Item) (b : Behind walk ix z here above) → left_from here above ≡ leaving (read_as (kind_within (tight_below b.outer) b.parent.node.kind)) b.parent.node ++ left_from b.parent.after b.outer
-    left-behind here above z b = ap (λ h. left_from h above) b.here_is ∙ ap (λ a. left_from document.Nil a) b.above_is
+    after-parent : (z : Zip Item) (here : BlockDocument) (above : List Outer) → StandsAt walk z here above → (b : Behind walk ix z here above) → walk.stage ≡ stage.Before
+        → Remains (moved walk t2) (left_from stage.Before b.parent.after b.outer)
+    after-parent z here above s b e =
+        remains-before (moved walk t2) (left_from stage.Before b.parent.after b.outer) (past (over-parent z here above b) ix.ix (parent-sibling z here above b)) b.parent.after b.outer e
+        (record {
+          below = record { holds = next (over-parent z here above b) (parent-sibling z here above b) (at-parent z here above s b).holds; draws_above = b.draws_above };
+          draws = b.draws;
+        })
+        refl
 
-    pub leaves-some : (end : TextEnd) (s : Step) → EndsAs (moved walk t) item (Some (shown_end end)) → GivesRanged (text_event.End end) item s → (events : List event.Ranged) → Remains walk events → GivesStep events s (moved walk t2)
-    leaves-some end s ends g events r =
+    left-parent : (here : BlockDocument) (above : List Outer) (z : Zip Item) (b : Behind walk ix z here above)
+        → left_from stage.Before here above ≡ leaving (read_as (kind_within (tight_below b.outer) b.parent.node.kind)) b.parent.node ++ left_from stage.Before b.parent.after b.outer
+    left-parent here above z b = ap (λ h. left_from stage.Before h above) b.here_is ∙ ap (λ a. left_from stage.Before document.Nil a) b.above_is
+
+    pub leaves-some : (end : TextEnd) (s : Step) → EndsAs (moved walk t) item (Some (shown_end end)) → GivesRanged (text_event.End end) item s → (left : List Segment) (lines : List LeafLine)
+        → Remains walk left → GivesStep left s lines (moved walk t2)
+    leaves-some end s ends g left lines r =
         let b = behind walk ix r.z r.here r.above r.stands none parent in
         let d = drawn-item r.z r.here r.above r.stands b in
+        let now = before left r b in
         let e = ends (over-parent r.z r.here r.above b) b.outer b.parent.node (at-parent r.z r.here r.above r.stands b) d in
-        gives-step (text_event.End end) item s events (left_from b.parent.after b.outer) (moved walk t2) g
-        (r.are ∙ left-behind r.here r.above r.z b
-        ∙ ap (λ l. l ++ left_from b.parent.after b.outer) (leaving-some (shown_end end) (read_as (kind_within (tight_below b.outer) b.parent.node.kind)) b.parent.node e)
-        ∙ ap (λ x. x ∷ left_from b.parent.after b.outer) (over-range walk.text.now (texts_of walk) item b.parent.node (event.End (shown_end end)) d))
-        (after-parent r.z r.here r.above r.stands b)
+        gives-step (text_event.End end) item s lines left (left_from stage.Before b.parent.after b.outer) (moved walk t2) g
+        (left-staged walk stage.Before left now r ∙ left-parent r.here r.above r.z b
+        ∙ ap (λ l. l ++ left_from stage.Before b.parent.after b.outer) (leaving-some (shown_end end) (read_as (kind_within (tight_below b.outer) b.parent.node.kind)) b.parent.node e)
+        ∙ ap (λ x. Given x ∷ left_from stage.Before b.parent.after b.outer) (over-range walk.text.now (texts_of walk) item b.parent.node (event.End (shown_end end)) d))
+        (after-parent r.z r.here r.above r.stands b now)
 
-    pub leaves-none : EndsAs (moved walk t) item None → (events : List event.Ranged) → Remains walk events → Remains (moved walk t2) events
-    leaves-none ends events r =
+    pub leaves-none : EndsAs (moved walk t) item None → (left : List Segment) → Remains walk left → Remains (moved walk t2) left
+    leaves-none ends left r =
         let b = behind walk ix r.z r.here r.above r.stands none parent in
         let d = drawn-item r.z r.here r.above r.stands b in
+        let now = before left r b in
         let e = ends (over-parent r.z r.here r.above b) b.outer b.parent.node (at-parent r.z r.here r.above r.stands b) d in
         subst (Remains (moved walk t2))
-        (sym (r.are ∙ left-behind r.here r.above r.z b
-        ∙ ap (λ l. l ++ left_from b.parent.after b.outer) (leaving-none (read_as (kind_within (tight_below b.outer) b.parent.node.kind)) b.parent.node e)))
-        (after-parent r.z r.here r.above r.stands b)
+        (sym (left-staged walk stage.Before left now r ∙ left-parent r.here r.above r.z b
+        ∙ ap (λ l. l ++ left_from stage.Before b.parent.after b.outer) (leaving-none (read_as (kind_within (tight_below b.outer) b.parent.node.kind)) b.parent.node e)))
+        (after-parent r.z r.here r.above r.stands b now)
+
+-- behind the last of the first siblings nothing is left
+no-parent : (up : List (Level Item)) → None ≡ parent_of up → up ≡ []
+no-parent [] e = refl
+no-parent (v ∷ up) e = absurd (let q : None ≡ Some (record { ix = v.place.ix }) = e in cc)
+
+none-above : (text : List ℕ) (texts : _) (up : List (Level Item)) (above : List Outer) → DrawsAbove text texts up above → up ≡ [] → above ≡ []
+none-above text texts [] [] d e = refl
+none-above text texts [] (o ∷ above) d e = absurd d
+none-above text texts (v ∷ up) above d e = absurd (let q : v ∷ up ≡ [] = e in cc)
+
+pub leaves-over : (walk : Walk) (t : Tree Item) → IsNone-at walk → ((z : Zip Item) → Holds walk.tree z → None ≡ parent_of z.up) → ((z : Zip Item) → Holds walk.tree z → Holds t (popped z))
+    → (left : List Segment) → Remains walk left → (left ≡ []) × Remains (moved walk t) []
+leaves-over walk t none parent pop left r =
+    let up = no-parent r.z.up (parent r.z r.stands.below.holds) in
+    let here = here-none walk.text.now (texts_of walk) r.z.right r.here r.stands.draws (none r.z r.stands.below.holds) in
+    let above = none-above walk.text.now (texts_of walk) r.z.up r.above r.stands.below.draws_above up in
+    let over : left ≡ [] =
+    left-staged walk stage.Before left (stage-none walk.stage r.here here r.staged) r ∙ ap (λ h. left_from stage.Before h r.above) here ∙ ap (λ a. left_from stage.Before document.Nil a) above in (
+      over,
+      record {
+        z = r.z;
+        here = r.here;
+        above = r.above;
+        stands = record { below = record { holds = subst (λ u. Holds t (pop_to r.z u)) up (pop r.z r.stands.below.holds); draws_above = r.stands.below.draws_above }; draws = r.stands.draws };
+        staged = r.staged;
+        are = sym over ∙ r.are;
+      },
+    )

@@ -1,4 +1,7 @@
+pub mod LeafKinds
+pub mod LeafLeave
 pub mod LeaveSteps
+pub mod LineSteps
 pub mod NewSteps
 pub mod OneRemainder
 pub mod Paths

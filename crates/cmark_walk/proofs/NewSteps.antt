@@ -11,13 +11,15 @@ use Rattle.cmark_tree.specs.Tree.{Holds}
 use Rattle.cmark_text.specs.declared.text.CowStr.{CowStr}
 use Rattle.cmark_grammar.specs.BlockDocument as document
 use Rattle.cmark_grammar.specs.BlockDocument.{BlockNode, BlockDocument}
-use Rattle.cmark_grammar.specs.BlockReading.{block_reading}
 use Rattle.cmark_grammar.specs.DrawnDocument.{settled}
 use Rattle.cmark_grammar.specs.Ranges.{InOrder, AllAt}
+use Rattle.cmark_grammar.specs.SpanDocuments.{segments}
 use Rattle.cmark_items.specs.declared.item.Item.{Item}
 use Rattle.cmark_items.specs.ItemNodes.{shown_item, shown_forest, nodes_of}
 use Rattle.cmark_walk.specs.declared.walk.Walk.{Walk}
+use Rattle.cmark_walk.specs.declared.reading.Stage.TheVariants as stage
 use Rattle.cmark_walk.specs.Walking.{Draws, Remains, texts_of}
+use Rattle.cmark_walk.proofs.WalkSteps.{remains-before}
 
 pub in-order : (from : ℕ) (d : BlockDocument) (to : ℕ) → InOrder from d to → from ≤ to
 in-order from document.Nil to h = h
@@ -43,25 +45,22 @@ module _ (text : List ℕ) (texts : List CowStr) where
         record { shown = parts.0; in_order = i; within = within; starts = a.0; ends = a.1 },
         draws f inside node.start node.end parts.1 o.1 within a.2,
         draws g after node.end to parts.2 o.2 l a.3,
+        o.1,
       )
 
 no-path : {T : Type 0} (up : List (Level T)) → opened up ≡ [] → up ≡ []
 no-path [] e = refl
 no-path (v ∷ up) e = absurd (let q : record { left = items_of v.left; item = v.place.item } ∷ opened up ≡ [] = e in cc)
 
-pub begins-walk : (tree : Tree Item) (walk : Walk) → ((z : Zip Item) → Holds tree z → Holds walk.tree (at_first z))
+pub begins-walk : (tree : Tree Item) (walk : Walk) → walk.stage ≡ stage.Before → ((z : Zip Item) → Holds tree z → Holds walk.tree (at_first z))
     → (forest : Forest Item) (d : BlockDocument) → Is tree forest [] → shown_forest walk.text.now (texts_of walk) forest ≡ nodes_of d
-    → InOrder 0 d (length walk.text.now) → AllAt (IsCharBoundary walk.text.now) d → Remains walk (block_reading (settled false d))
-begins-walk tree walk first forest d is e o a =
+    → InOrder 0 d (length walk.text.now) → AllAt (IsCharBoundary walk.text.now) d → Remains walk (segments (settled false d))
+begins-walk tree walk before first forest d is e o a =
     let all : whole is.z ≡ siblings is.z = ap (λ u. plug u (siblings is.z)) (no-path is.z.up is.up_is) in
     let items : items_of (whole is.z) ≡ forest = ap items_of all ∙ is.here_is in
-    record {
-      z = at_first is.z;
-      here = d;
-      above = [];
-      stands = record {
-        below = record { holds = first is.z is.holds; draws_above = tt };
-        draws = draws walk.text.now (texts_of walk) (whole is.z) d 0 (length walk.text.now) (ap (shown_forest walk.text.now (texts_of walk)) items ∙ e) o (omega arith) a;
-      };
-      are = sym (append-nil (block_reading (settled false d)));
-    }
+    remains-before walk (segments (settled false d)) (at_first is.z) d [] before
+    (record {
+      below = record { holds = first is.z is.holds; draws_above = tt };
+      draws = draws walk.text.now (texts_of walk) (whole is.z) d 0 (length walk.text.now) (ap (shown_forest walk.text.now (texts_of walk)) items ∙ e) o (omega arith) a;
+    })
+    (sym (append-nil (segments (settled false d))))

@@ -14,7 +14,7 @@ use Rattle.cmark_tree.proofs.Steps.{place_above}
 use Rattle.cmark_text.specs.declared.text.CowStr.{CowStr}
 use Rattle.cmark_grammar.specs.BlockDocument as document
 use Rattle.cmark_grammar.specs.BlockDocument.{BlockNode, BlockDocument}
-use Rattle.cmark_grammar.specs.Event.{Ranged}
+use Rattle.cmark_grammar.specs.SpanDocuments.{Segment}
 use Rattle.cmark_items.specs.declared.item.Item.{Item}
 use Rattle.cmark_walk.specs.declared.walk.Walk.{Walk}
 use Rattle.cmark_walk.specs.Walking.{Draws, DrawsAbove, Outer, Remains, left_from, texts_of}
@@ -89,14 +89,14 @@ module _ (text : List ℕ) (texts : List CowStr) where
   above-one (v ∷ up) (w ∷ others) [] outer p a b = absurd a
   above-one (v ∷ up) (w ∷ others) (o ∷ above) [] p a b = absurd b
   above-one (v ∷ up) (w ∷ others) (o ∷ above) (q ∷ outer) p a b =
-      let drawn = subst {A = Placed Item} (λ x. Draws text texts (Node x Nil Nil) (document.Node o.node document.Nil document.Nil)) p.0 (a.0, tt, tt) in
+      let drawn = subst {A = Placed Item} (λ x. Draws text texts (Node x Nil Nil) (document.Node o.node document.Nil document.Nil)) p.0 (a.0, tt, tt, a.0.in_order) in
       let node = same_Some {A = BlockNode} o.node q.node (sym drawn.0.shown ∙ b.0.shown) in
       let after = draws-one w.right o.after q.after (subst (λ f. Draws text texts f o.after) p.1 a.1) b.1 in
       ap (λ z. z ∷ above) (outer-one o q node after) ∙ ap (λ z. q ∷ z) (above-one up others above outer p.2 a.2 b.2)
 
 -- what remains is one list
-pub one-remainder : (walk : Walk) (events others : List Ranged) → Remains walk events → Remains walk others → events ≡ others
-one-remainder walk events others r q =
+pub one-remainder : (walk : Walk) (left others : List Segment) → Remains walk left → Remains walk others → left ≡ others
+one-remainder walk left others r q =
     let nodes = walk.tree.nodes in
     let rs = r.stands.below.holds in
     let qs = q.stands.below.holds in
@@ -108,4 +108,4 @@ one-remainder walk events others r q =
     let here : r.here ≡ q.here = draws-one walk.text.now (texts_of walk) q.z.right r.here q.here (subst (λ f. Draws walk.text.now (texts_of walk) f r.here) right r.stands.draws) q.stands.draws in
     let path = path-one nodes r.z.up q.z.up (siblings r.z) (siblings q.z) rs.forest.stands qs.forest.stands (sym rs.spine_is ∙ qs.spine_is) in
     let above : r.above ≡ q.above = above-one walk.text.now (texts_of walk) r.z.up q.z.up r.above q.above path r.stands.below.draws_above q.stands.below.draws_above in
-    r.are ∙ ap (λ d. left_from d r.above) here ∙ ap (λ o. left_from q.here o) above ∙ sym q.are
+    r.are ∙ ap (λ d. left_from walk.stage d r.above) here ∙ ap (λ o. left_from walk.stage q.here o) above ∙ sym q.are

@@ -1,5 +1,5 @@
 -- One step of a walk over a document's tree.
-use Rattle.std.proofs.Common.{◌≡◌, ℕ, List, [], ◌∷◌, ◌++◌, Option, Some, None, Result, Ok, Err, OnErr, option_map, refl, sym, ap, ◌∙◌, subst, append_assoc}
+use Rattle.std.proofs.Common.{◌≡◌, ℕ, Bool, true, false, List, [], ◌∷◌, ◌++◌, Option, Some, None, Result, Ok, Err, OnErr, option_map, refl, sym, ap, ◌∙◌, subst, append_assoc}
 use Rattle.std.proofs.lemmas.Option.{same_Some}
 use Rattle.cmark_tree.specs.declared.tree.Tree.{Tree}
 use Rattle.cmark_tree.specs.declared.tree_index.TreeIndex.{TreeIndex}
@@ -20,20 +20,29 @@ use Rattle.cmark_grammar.specs.Event as event
 use Rattle.cmark_grammar.specs.BlockDocument as document
 use Rattle.cmark_grammar.specs.BlockDocument.{BlockKind, BlockNode, BlockDocument}
 use Rattle.cmark_grammar.specs.BlockReading as reads
-use Rattle.cmark_grammar.specs.BlockReading.{Reads, read_as, over, node_events, block_reading}
+use Rattle.cmark_grammar.specs.BlockReading.{Reads, read_as, over}
 use Rattle.cmark_grammar.specs.DrawnDocument.{kind_within, settled}
+use Rattle.cmark_grammar.specs.SpanDocuments.{Segment, Given, Content, is_leaf, leaf_of, inside_of, node_segments, segments}
 use Rattle.cmark_grammar.specs.Tightness.{tight_within}
 use Rattle.cmark_items.specs.declared.item.Item.{Item}
 use Rattle.cmark_items.specs.ItemNodes.{ranged, kind_over, shape}
+use Rattle.cmark_leaf_text.specs.declared.stretch.LeafLine.{LeafLine}
 use Rattle.cmark_walk.specs.declared.walk.Walk.{Walk}
+use Rattle.cmark_walk.specs.declared.reading.Stage.{Stage}
+use Rattle.cmark_walk.specs.declared.reading.Stage.TheVariants as stage
 use Rattle.cmark_walk.specs.declared.reading.Step.{Step}
 use Rattle.cmark_walk.specs.declared.reading.Step.TheVariants as step
 use Rattle.cmark_walk.specs.Reads.{tag_in}
-use Rattle.cmark_walk.specs.Walking.{Drawn, Draws, Outer, StandsBelow, StandsAt, Remains, Goes, GivesStep, GivesRanged, IsAt, left_from, left_above, leaving, tight_below, texts_of, definitions_of}
+use Rattle.cmark_walk.specs.Walking.{Drawn, Draws, Outer, StandsBelow, StandsAt, Remains, Goes, GivesStep, GivesRanged, IsAt, IsStaged, left_from, left_above, leaving, tight_below, text_of, texts_of, definitions_of}
+use Rattle.cmark_walk.proofs.LeafKinds.{leaf-within, inside-leaf, inside-block, settled-leaf, only-leaves-inside}
 
 -- the walk with its tree in another place
 abbrev pub moved : Walk → Tree Item → Walk
-moved walk t = record { text = walk.text; tree = t; allocations = walk.allocations; alloc = walk.alloc }
+moved walk t = record { text = walk.text; tree = t; allocations = walk.allocations; alloc = walk.alloc; stage = walk.stage }
+
+-- the walk further on at its focus
+abbrev pub staged : Walk → Stage → Walk
+staged walk stage = record { text = walk.text; tree = walk.tree; allocations = walk.allocations; alloc = walk.alloc; stage = stage }
 
 abbrev pub at_range : event.Event → Item → event.Ranged
 at_range e item = record { event = e; start = item.start; end = item.end }
@@ -42,9 +51,12 @@ range-of : (start end : ℕ) (kind : Option BlockKind) (node : BlockNode) → op
 range-of start end None node e = absurd (let q : None ≡ Some node = e in cc)
 range-of start end (Some k) node e = let q = same_Some (ranged start end k) node e in (sym (ap (λ n. n.start) q), sym (ap (λ n. n.end) q))
 
+pub range-of-item : (text : List ℕ) (texts : List CowStr) (item : Item) (node : BlockNode) → Drawn text texts item node → (node.start ≡ item.start) × (node.end ≡ item.end)
+range-of-item text texts item node d = range-of item.start item.end (kind_over text texts item.start item.end (shape item.body)) node d.shown
+
 pub over-range : (text : List ℕ) (texts : List CowStr) (item : Item) (node : BlockNode) (e : event.Event) → Drawn text texts item node → over node e ≡ at_range e item
 over-range text texts item node e d =
-    let r = range-of item.start item.end (kind_over text texts item.start item.end (shape item.body)) node d.shown in
+    let r = range-of-item text texts item node d in
     ap (λ s. record { event = e; start = s; end = node.end }) r.0 ∙ ap (λ s. record { event = e; start = item.start; end = s }) r.1
 
 -- before a node of the document
@@ -95,17 +107,19 @@ abbrev as_kind : BlockKind → BlockNode → BlockNode
 as_kind kind node = record node { kind = kind }
 
 -- what is read at a node, and then
-read-around : (tag : _) (k : BlockKind) (node : BlockNode) (I A L : List event.Ranged) → (node_events (reads.Around tag) (as_kind k node) I ++ A) ++ L ≡ over node (event.Start tag) ∷ (I ++ (leaving (reads.Around tag) node ++ (A ++ L)))
-read-around tag k node I A L = ap (λ l. over node (event.Start tag) ∷ l) (append_assoc (I ++ (over node (event.End (end_of tag)) ∷ [])) A L ∙ append_assoc I (over node (event.End (end_of tag)) ∷ []) (A ++ L))
+read-around : (tag : _) (k : BlockKind) (node : BlockNode) (I A L : List Segment) → (node_segments (reads.Around tag) (as_kind k node) I ++ A) ++ L ≡ Given (over node (event.Start tag)) ∷ (I ++ (leaving (reads.Around tag) node ++ (A ++ L)))
+read-around tag k node I A L =
+    ap (λ l. Given (over node (event.Start tag)) ∷ l) (append_assoc (I ++ (Given (over node (event.End (end_of tag))) ∷ [])) A L ∙ append_assoc I (Given (over node (event.End (end_of tag))) ∷ []) (A ++ L))
 
-pub left-around : (tag : _) (R : Reads) (k : BlockKind) (node : BlockNode) (I A L : List event.Ranged) → reads.Around tag ≡ R → (node_events R (as_kind k node) I ++ A) ++ L ≡ over node (event.Start tag) ∷ (I ++ (leaving R node ++ (A ++ L)))
-left-around tag R k node I A L e = subst (λ r. (node_events r (as_kind k node) I ++ A) ++ L ≡ over node (event.Start tag) ∷ (I ++ (leaving r node ++ (A ++ L)))) e (read-around tag k node I A L)
+pub left-around : (tag : _) (R : Reads) (k : BlockKind) (node : BlockNode) (I A L : List Segment) → reads.Around tag ≡ R
+    → (node_segments R (as_kind k node) I ++ A) ++ L ≡ Given (over node (event.Start tag)) ∷ (I ++ (leaving R node ++ (A ++ L)))
+left-around tag R k node I A L e = subst (λ r. (node_segments r (as_kind k node) I ++ A) ++ L ≡ Given (over node (event.Start tag)) ∷ (I ++ (leaving r node ++ (A ++ L)))) e (read-around tag k node I A L)
 
-pub left-inside : (R : Reads) (k : BlockKind) (node : BlockNode) (I A L : List event.Ranged) → reads.Inside ≡ R → (node_events R (as_kind k node) I ++ A) ++ L ≡ I ++ (leaving R node ++ (A ++ L))
-left-inside R k node I A L e = subst (λ r. (node_events r (as_kind k node) I ++ A) ++ L ≡ I ++ (leaving r node ++ (A ++ L))) e (append_assoc I A L)
+pub left-inside : (R : Reads) (k : BlockKind) (node : BlockNode) (I A L : List Segment) → reads.Inside ≡ R → (node_segments R (as_kind k node) I ++ A) ++ L ≡ I ++ (leaving R node ++ (A ++ L))
+left-inside R k node I A L e = subst (λ r. (node_segments r (as_kind k node) I ++ A) ++ L ≡ I ++ (leaving r node ++ (A ++ L))) e (append_assoc I A L)
 
-pub left-alone : (ev : event.Event) (R : Reads) (k : BlockKind) (node : BlockNode) (I A L : List event.Ranged) → reads.Alone ev ≡ R → (node_events R (as_kind k node) I ++ A) ++ L ≡ over node ev ∷ (A ++ L)
-left-alone ev R k node I A L e = subst (λ r. (node_events r (as_kind k node) I ++ A) ++ L ≡ over node ev ∷ (A ++ L)) e refl
+pub left-alone : (ev : event.Event) (R : Reads) (k : BlockKind) (node : BlockNode) (I A L : List Segment) → reads.Alone ev ≡ R → (node_segments R (as_kind k node) I ++ A) ++ L ≡ Given (over node ev) ∷ (A ++ L)
+left-alone ev R k node I A L e = subst (λ r. (node_segments r (as_kind k node) I ++ A) ++ L ≡ Given (over node ev) ∷ (A ++ L)) e refl
 
 module _ (walk : Walk) (item : Item) (ix : TreeIndex) (t : Tree Item) where
   abbrev pub down : (z : Zip Item) (here : BlockDocument) → Focus walk item ix z here → Zip Item
@@ -135,15 +149,33 @@ module _ (walk : Walk) (item : Item) (ix : TreeIndex) (t : Tree Item) where
   }
 
 -- what a step gives, and what remains
-pub gives-step : (e : TextEvent) (item : Item) (s : Step) (events others : List event.Ranged) (walk : Walk) → GivesRanged e item s → events ≡ at_range (shown e) item ∷ others → Remains walk others → GivesStep events s walk
-gives-step e item (step.Event given) events others walk g eq r = (others, eq ∙ ap (λ x. x ∷ others) (sym g), r)
-gives-step e item step.Silent events others walk g eq r = absurd g
-gives-step e item step.Over events others walk g eq r = absurd g
+pub gives-step : (e : TextEvent) (item : Item) (s : Step) (lines : List LeafLine) (left others : List Segment) (walk : Walk) → GivesRanged e item s → left ≡ Given (at_range (shown e) item) ∷ others
+    → Remains walk others → GivesStep left s lines walk
+gives-step e item (step.Event given) lines left others walk g eq r = (others, eq ∙ ap (λ x. Given x ∷ others) (sym g), r)
+gives-step e item step.Leaf lines left others walk g eq r = absurd g
+gives-step e item step.Silent lines left others walk g eq r = absurd g
+gives-step e item step.Over lines left others walk g eq r = absurd g
 
-pub goes-after : (events : List event.Ranged) (s : Step) (walk : Walk) → GivesStep events s walk → Goes walk
-goes-after events (step.Event given) walk g = (g.0, g.2)
-goes-after events step.Silent walk g = (events, g)
-goes-after events step.Over walk g = ([], g.1)
+pub goes-after : (left : List Segment) (s : Step) (lines : List LeafLine) (walk : Walk) → GivesStep left s lines walk → Goes walk
+goes-after left (step.Event given) lines walk g = (g.0, g.2)
+goes-after left step.Leaf lines walk g = (g.1, g.4)
+goes-after left step.Silent lines walk g = (left, g)
+goes-after left step.Over lines walk g = ([], g.1)
+
+-- what is left at a stage
+pub left-staged : (walk : Walk) (now : Stage) (left : List Segment) → walk.stage ≡ now → (r : Remains walk left) → left ≡ left_from now r.here r.above
+left-staged walk now left e r = r.are ∙ ap (λ (k : Stage). left_from k r.here r.above) e
+
+-- a walk that is in no leaf
+pub remains-before : (walk : Walk) (left : List Segment) (z : Zip Item) (here : BlockDocument) (above : List Outer) → walk.stage ≡ stage.Before → StandsAt walk z here above → left ≡ left_from stage.Before here above → Remains walk left
+remains-before walk left z here above e s are = record {
+  z = z;
+  here = here;
+  above = above;
+  stands = s;
+  staged = subst (λ (k : Stage). IsStaged k here) (sym e) tt;
+  are = are ∙ ap (λ (k : Stage). left_from k here above) (sym e);
+}
 
 abbrev pub Reads-at : Walk → Item → Reads → Type 0
 Reads-at walk item R = (z : Zip Item) (above : List Outer) (node : BlockNode) → StandsBelow walk z above → Drawn walk.text.now (texts_of walk) item node → R ≡ read_as (kind_within (tight_below above) node.kind)
@@ -151,53 +183,117 @@ Reads-at walk item R = (z : Zip Item) (above : List Outer) (node : BlockNode) �
 abbrev pub IsFocusAt : Walk → TreeIndex → Type 0
 IsFocusAt walk ix = (z : Zip Item) → Holds walk.tree z → focus_of z.right ≡ Some ix
 
-module _ (walk : Walk) (item : Item) (ix : TreeIndex) (t : Tree Item) (at : IsFocusAt walk ix) (is : IsItem walk.tree ix item) where
+-- a node that is no leaf, and whether an item is one
+abbrev pub Leaf-at : Walk → Item → Bool → Type 0
+Leaf-at walk item b = (text : List ℕ) (texts : List CowStr) (node : BlockNode) → Drawn text texts item node → b ≡ is_leaf node.kind
+
+module _ (walk : Walk) (item : Item) (ix : TreeIndex) (t : Tree Item) (at : IsFocusAt walk ix) (is : IsItem walk.tree ix item) (before : walk.stage ≡ stage.Before) where
   at-focus : (z : Zip Item) (here : BlockDocument) (above : List Outer) → StandsAt walk z here above → Focus walk item ix z here
   at-focus z here above s = focus walk item ix z here above s (at z s.below.holds) is
 
-  pub enters-around : (tag : TextTag) (s : Step) → Reads-at walk item (reads.Around (shown_tag tag)) → ((z : Zip Item) → Holds walk.tree z → HasFocus z → Holds t (pushed z)) → GivesRanged (text_event.Start tag) item s → (events : List event.Ranged) → Remains walk events → GivesStep events s (moved walk t)
-  enters-around tag s read push g events r =
+  -- the parts of what is left at the node
+  abbrev kind_at : (above : List Outer) → BlockNode → BlockKind
+  kind_at above node = kind_within (tight_below above) node.kind
+
+  abbrev inside_at : (above : List Outer) → BlockNode → BlockDocument → List Segment
+  inside_at above node inside =
+      inside_of (kind_at above node) (settled (tight_within (tight_below above) node.kind) inside) (segments (settled (tight_within (tight_below above) node.kind) inside))
+
+  abbrev after_at : (above : List Outer) → BlockDocument → List Segment
+  after_at above after = segments (settled (tight_below above) after)
+
+  before-node : (left : List Segment) (r : Remains walk left) (f : Focus walk item ix r.z r.here)
+      → left ≡ (node_segments (read_as (kind_at r.above f.node)) (as_kind (kind_at r.above f.node) f.node) (inside_at r.above f.node f.inside) ++ after_at r.above f.after) ++ left_above r.above
+  before-node left r f = left-staged walk stage.Before left before r ∙ ap (λ h. left_from stage.Before h r.above) f.here_is
+
+  no-leaf-inside : (above : List Outer) (node : BlockNode) (inside : BlockDocument) → is_leaf node.kind ≡ false → inside_at above node inside ≡ segments (settled (tight_within (tight_below above) node.kind) inside)
+  no-leaf-inside above node inside e =
+      inside-block (kind_at above node) (settled (tight_within (tight_below above) node.kind) inside) (segments (settled (tight_within (tight_below above) node.kind) inside)) (leaf-within (tight_below above) node.kind ∙ e)
+
+  leaf-inside : (above : List Outer) (node : BlockNode) (inside : BlockDocument) → is_leaf node.kind ≡ true → inside_at above node inside ≡ Content (leaf_of inside) ∷ []
+  leaf-inside above node inside e =
+      inside-leaf (kind_at above node) (settled (tight_within (tight_below above) node.kind) inside) (segments (settled (tight_within (tight_below above) node.kind) inside)) (leaf-within (tight_below above) node.kind ∙ e)
+      ∙ ap (λ leaf. Content leaf ∷ []) (settled-leaf (tight_within (tight_below above) node.kind) inside)
+
+  pub enters-around : (tag : TextTag) (s : Step) → Reads-at walk item (reads.Around (shown_tag tag)) → Leaf-at walk item false → ((z : Zip Item) → Holds walk.tree z → HasFocus z → Holds t (pushed z))
+      → GivesRanged (text_event.Start tag) item s
+      → (left : List Segment) (lines : List LeafLine) → Remains walk left → GivesStep left s lines (moved walk t)
+  enters-around tag s read leaf push g left lines r =
       let f = at-focus r.z r.here r.above r.stands in
       let at-node = read r.z r.above f.node r.stands.below f.drawn in
-      let into-z = into walk item ix t r.z r.here r.above r.stands is f push in
-      gives-step (text_event.Start tag) item s events (left_from f.inside (record { node = f.node; after = f.after } ∷ r.above)) (moved walk t) g
-      (r.are ∙ ap (λ h. left_from h r.above) f.here_is
-      ∙ left-around (shown_tag tag) (read_as (kind_within (tight_below r.above) f.node.kind)) (kind_within (tight_below r.above) f.node.kind) f.node
-      (block_reading (settled (tight_within (tight_below r.above) f.node.kind) f.inside)) (block_reading (settled (tight_below r.above) f.after)) (left_above r.above) at-node
-      ∙ ap (λ x. x ∷ left_from f.inside (record { node = f.node; after = f.after } ∷ r.above)) (over-range walk.text.now (texts_of walk) item f.node (event.Start (shown_tag tag)) f.drawn))
-      (record { z = down walk item ix t r.z r.here f; here = f.inside; above = record { node = f.node; after = f.after } ∷ r.above; stands = into-z; are = refl })
+      let below : List Outer = record { node = f.node; after = f.after } ∷ r.above in
+      let rest : List Segment = leaving (read_as (kind_at r.above f.node)) f.node ++ (after_at r.above f.after ++ left_above r.above) in
+      gives-step (text_event.Start tag) item s lines left (left_from stage.Before f.inside below) (moved walk t) g
+      (before-node left r f
+      ∙ left-around (shown_tag tag) (read_as (kind_at r.above f.node)) (kind_at r.above f.node) f.node (inside_at r.above f.node f.inside) (after_at r.above f.after) (left_above r.above) at-node
+      ∙ ap (λ I. Given (over f.node (event.Start (shown_tag tag))) ∷ (I ++ rest)) (no-leaf-inside r.above f.node f.inside (sym (leaf walk.text.now (texts_of walk) f.node f.drawn)))
+      ∙ ap (λ x. Given x ∷ left_from stage.Before f.inside below) (over-range walk.text.now (texts_of walk) item f.node (event.Start (shown_tag tag)) f.drawn))
+      (remains-before (moved walk t) (left_from stage.Before f.inside below) (down walk item ix t r.z r.here f) f.inside below before (into walk item ix t r.z r.here r.above r.stands is f push) refl)
 
-  pub enters-inside : Reads-at walk item reads.Inside → ((z : Zip Item) → Holds walk.tree z → HasFocus z → Holds t (pushed z)) → (events : List event.Ranged) → Remains walk events → Remains (moved walk t) events
-  enters-inside read push events r =
+  -- before the lines of a leaf
+  at-lines : (left : List Segment) (r : Remains walk left) (f : Focus walk item ix r.z r.here) → is_leaf f.node.kind ≡ true → Remains (staged walk stage.Lines) (left_from stage.Lines r.here r.above)
+  at-lines left r f e = record {
+    z = r.z;
+    here = r.here;
+    above = r.above;
+    stands = record { below = record { holds = r.stands.below.holds; draws_above = r.stands.below.draws_above }; draws = r.stands.draws };
+    staged = subst (λ h. IsStaged stage.Lines h) (sym f.here_is) e;
+    are = refl;
+  }
+
+  lines-left : (left : List Segment) (r : Remains walk left) (f : Focus walk item ix r.z r.here)
+      → Content (leaf_of f.inside) ∷ (leaving (read_as (kind_at r.above f.node)) f.node ++ (after_at r.above f.after ++ left_above r.above)) ≡ left_from stage.Lines r.here r.above
+  lines-left left r f =
+      ap (λ l. Content (leaf_of f.inside) ∷ l) (sym (append_assoc (leaving (read_as (kind_at r.above f.node)) f.node) (after_at r.above f.after) (left_above r.above)))
+      ∙ ap (λ h. left_from stage.Lines h r.above) (sym f.here_is)
+
+  pub enters-leaf : (tag : TextTag) (s : Step) → Reads-at walk item (reads.Around (shown_tag tag)) → Leaf-at walk item true → GivesRanged (text_event.Start tag) item s
+      → (left : List Segment) (lines : List LeafLine) → Remains walk left → GivesStep left s lines (staged walk stage.Lines)
+  enters-leaf tag s read leaf g left lines r =
       let f = at-focus r.z r.here r.above r.stands in
       let at-node = read r.z r.above f.node r.stands.below f.drawn in
-      record {
-        z = down walk item ix t r.z r.here f;
-        here = f.inside;
-        above = record { node = f.node; after = f.after } ∷ r.above;
-        stands = into walk item ix t r.z r.here r.above r.stands is f push;
-        are = r.are ∙ ap (λ h. left_from h r.above) f.here_is
-            ∙ left-inside (read_as (kind_within (tight_below r.above) f.node.kind)) (kind_within (tight_below r.above) f.node.kind) f.node
-            (block_reading (settled (tight_within (tight_below r.above) f.node.kind) f.inside)) (block_reading (settled (tight_below r.above) f.after)) (left_above r.above) at-node;
-      }
+      let is-leaf : is_leaf f.node.kind ≡ true = sym (leaf walk.text.now (texts_of walk) f.node f.drawn) in
+      let rest : List Segment = leaving (read_as (kind_at r.above f.node)) f.node ++ (after_at r.above f.after ++ left_above r.above) in
+      gives-step (text_event.Start tag) item s lines left (left_from stage.Lines r.here r.above) (staged walk stage.Lines) g
+      (before-node left r f
+      ∙ left-around (shown_tag tag) (read_as (kind_at r.above f.node)) (kind_at r.above f.node) f.node (inside_at r.above f.node f.inside) (after_at r.above f.after) (left_above r.above) at-node
+      ∙ ap (λ I. Given (over f.node (event.Start (shown_tag tag))) ∷ (I ++ rest)) (leaf-inside r.above f.node f.inside is-leaf)
+      ∙ ap (λ l. Given (over f.node (event.Start (shown_tag tag))) ∷ l) (lines-left left r f)
+      ∙ ap (λ x. Given x ∷ left_from stage.Lines r.here r.above) (over-range walk.text.now (texts_of walk) item f.node (event.Start (shown_tag tag)) f.drawn))
+      (at-lines left r f is-leaf)
 
-  pub passes-alone : (e : TextEvent) (s : Step) → Reads-at walk item (reads.Alone (shown e)) → ((z : Zip Item) (s : Sibling z ix.ix) → Holds walk.tree z → Holds t (past z ix.ix s)) → GivesRanged e item s → (events : List event.Ranged) → Remains walk events → GivesStep events s (moved walk t)
-  passes-alone e s read next g events r =
+  pub enters-inside : Reads-at walk item reads.Inside → (left : List Segment) → Remains walk left → Remains (staged walk stage.Lines) left
+  enters-inside read left r =
       let f = at-focus r.z r.here r.above r.stands in
       let at-node = read r.z r.above f.node r.stands.below f.drawn in
-      gives-step e item s events (left_from f.after r.above) (moved walk t) g
-      (r.are ∙ ap (λ h. left_from h r.above) f.here_is
-      ∙ left-alone (shown e) (read_as (kind_within (tight_below r.above) f.node.kind)) (kind_within (tight_below r.above) f.node.kind) f.node
-      (block_reading (settled (tight_within (tight_below r.above) f.node.kind) f.inside)) (block_reading (settled (tight_below r.above) f.after)) (left_above r.above) at-node
-      ∙ ap (λ x. x ∷ left_from f.after r.above) (over-range walk.text.now (texts_of walk) item f.node (shown e) f.drawn))
-      (record { z = beyond walk item ix t r.z r.here f; here = f.after; above = r.above; stands = passed walk item ix t r.z r.here r.above r.stands f next; are = refl })
+      let is-leaf : is_leaf f.node.kind ≡ true = sym (leaf-within (tight_below r.above) f.node.kind) ∙ only-leaves-inside (kind_at r.above f.node) at-node in
+      let rest : List Segment = leaving (read_as (kind_at r.above f.node)) f.node ++ (after_at r.above f.after ++ left_above r.above) in
+      subst (Remains (staged walk stage.Lines))
+      (sym
+      (before-node left r f ∙ left-inside (read_as (kind_at r.above f.node)) (kind_at r.above f.node) f.node (inside_at r.above f.node f.inside) (after_at r.above f.after) (left_above r.above) at-node
+      ∙ ap (λ I. I ++ rest) (leaf-inside r.above f.node f.inside is-leaf) ∙ lines-left left r f))
+      (at-lines left r f is-leaf)
 
-  -- what the calls of a step ask
+  pub passes-alone : (e : TextEvent) (s : Step) → Reads-at walk item (reads.Alone (shown e)) → ((z : Zip Item) (s : Sibling z ix.ix) → Holds walk.tree z → Holds t (past z ix.ix s)) → GivesRanged e item s
+      → (left : List Segment) (lines : List LeafLine) → Remains walk left → GivesStep left s lines (moved walk t)
+  passes-alone e s read next g left lines r =
+      let f = at-focus r.z r.here r.above r.stands in
+      let at-node = read r.z r.above f.node r.stands.below f.drawn in
+      gives-step e item s lines left (left_from stage.Before f.after r.above) (moved walk t) g
+      (before-node left r f ∙ left-alone (shown e) (read_as (kind_at r.above f.node)) (kind_at r.above f.node) f.node (inside_at r.above f.node f.inside) (after_at r.above f.after) (left_above r.above) at-node
+      ∙ ap (λ x. Given x ∷ left_from stage.Before f.after r.above) (over-range walk.text.now (texts_of walk) item f.node (shown e) f.drawn))
+      (remains-before (moved walk t) (left_from stage.Before f.after r.above) (beyond walk item ix t r.z r.here f) f.after r.above before (passed walk item ix t r.z r.here r.above r.stands f next) refl)
+
+-- what the calls of a step ask
+module _ (walk : Walk) (item : Item) (ix : TreeIndex) (at : IsFocusAt walk ix) (is : IsItem walk.tree ix item) where
+  pub at-item : (z : Zip Item) (here : BlockDocument) (above : List Outer) → StandsAt walk z here above → Focus walk item ix z here
+  at-item z here above s = focus walk item ix z here above s (at z s.below.holds) is
+
   pub is-drawn : Goes walk → (node : BlockNode) × Drawn walk.text.now (texts_of walk) item node
-  is-drawn g = let f = at-focus g.1.z g.1.here g.1.above g.1.stands in (f.node, f.drawn)
+  is-drawn g = let f = at-item g.1.z g.1.here g.1.above g.1.stands in (f.node, f.drawn)
 
   pub has-focus : Goes walk → (z : Zip Item) × Holds walk.tree z × HasFocus z
-  has-focus g = let f = at-focus g.1.z g.1.here g.1.above g.1.stands in (g.1.z, g.1.stands.below.holds, subst IsFocus (sym f.right_is) tt)
+  has-focus g = let f = at-item g.1.z g.1.here g.1.above g.1.stands in (g.1.z, g.1.stands.below.holds, subst IsFocus (sym f.right_is) tt)
 
 -- the focus is a node of the tree
 focus-number : (walk : Walk) (ix : TreeIndex) (right : Forest (Placed Item)) → Stands (entry_at walk.tree) right → focus_of right ≡ Some ix → HasNode walk.tree ix.ix
@@ -213,12 +309,13 @@ on-err (Ok a) P p = tt
 on-err (Err e) P p = p
 
 -- a walk whose tree did not change
-pub unchanged-remains : (walk : Walk) (t : Tree Item) → IsUnchanged walk.tree t → (events : List event.Ranged) → Remains walk events → Remains (moved walk t) events
-unchanged-remains walk t u events r = record {
+pub unchanged-remains : (walk : Walk) (t : Tree Item) → IsUnchanged walk.tree t → (left : List Segment) → Remains walk left → Remains (moved walk t) left
+unchanged-remains walk t u left r = record {
   z = r.z;
   here = r.here;
   above = r.above;
   stands = record { below = record { holds = Holds-unchanged walk.tree t r.z u r.stands.below.holds; draws_above = r.stands.below.draws_above }; draws = r.stands.draws };
+  staged = r.staged;
   are = r.are;
 }
 
@@ -228,8 +325,9 @@ tag-around tag reads.Inside e = absurd (let q : Some tag ≡ None = e in cc)
 tag-around tag (reads.Alone ev) e = absurd (let q : Some tag ≡ None = e in cc)
 tag-around tag reads.Silent e = absurd (let q : Some tag ≡ None = e in cc)
 
--- what lasts while steps give no event
+-- what lasts while steps give nothing
 pub record Lasts (old walk : Walk) : Type 0 where
-  pub remains : (events : List event.Ranged) → Remains old events → Remains walk events
+  pub remains : (left : List Segment) → Remains old left → Remains walk left
   pub goes : Goes walk
   pub definitions : definitions_of walk ≡ definitions_of old
+  pub text : text_of walk ≡ text_of old

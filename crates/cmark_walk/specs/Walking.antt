@@ -1,5 +1,5 @@
 -- Where a walk stands in its document, and what it still has to give.
-use Rattle.std.specs.Prelude.{◌≡◌, ℕ, ◌≤◌, Bool, false, List, [], ◌∷◌, ◌++◌, length, Option, Some, None}
+use Rattle.std.specs.Prelude.{◌≡◌, ℕ, ◌≤◌, Bool, true, false, List, [], ◌∷◌, ◌++◌, length, Some, None}
 use Rattle.std.specs.Str.{IsCharBoundary}
 use Rattle.cmark_text.specs.declared.text.CowStr.{CowStr}
 use Rattle.cmark_text.specs.declared.event.Event.{Event as TextEvent}
@@ -16,14 +16,23 @@ use Rattle.cmark_grammar.specs.Event.{Event}
 use Rattle.cmark_grammar.specs.BlockDocument as document
 use Rattle.cmark_grammar.specs.BlockDocument.{BlockKind, BlockNode, BlockDocument}
 use Rattle.cmark_grammar.specs.BlockReading as reads
-use Rattle.cmark_grammar.specs.BlockReading.{Reads, read_as, over, block_reading}
+use Rattle.cmark_grammar.specs.BlockReading.{Reads, read_as, over}
 use Rattle.cmark_grammar.specs.DrawnDocument.{kind_within, settled}
+use Rattle.cmark_grammar.specs.LeafText.{Stretch, Leaf}
+use Rattle.cmark_grammar.specs.Ranges.{InOrder}
+use Rattle.cmark_grammar.specs.SpanDocuments.{Segment, Given, Content, is_leaf, leaf_of, segments}
 use Rattle.cmark_grammar.specs.Tightness.{tight_within}
 use Rattle.cmark_items.specs.declared.definitions.RefDefs.{RefDefs}
 use Rattle.cmark_items.specs.declared.item.Item.{Item}
 use Rattle.cmark_items.specs.ItemNodes.{shown_item}
 use Rattle.cmark_items.specs.Tables.{tables}
+use Rattle.cmark_leaf_text.specs.declared.stretch.LeafLine.{LeafLine}
+use Rattle.cmark_leaf_text.specs.Stretches.{AreLines}
 use Rattle.cmark_walk.specs.declared.walk.Walk.{Walk}
+use Rattle.cmark_walk.specs.declared.reading.Met.{Met}
+use Rattle.cmark_walk.specs.declared.reading.Met.TheVariants as met
+use Rattle.cmark_walk.specs.declared.reading.Stage.{Stage}
+use Rattle.cmark_walk.specs.declared.reading.Stage.TheVariants as stage
 use Rattle.cmark_walk.specs.declared.reading.Ranged.{Ranged}
 use Rattle.cmark_walk.specs.declared.reading.Step.{Step}
 use Rattle.cmark_walk.specs.declared.reading.Step.TheVariants as step
@@ -42,11 +51,12 @@ pub record Outer : Type 0 where
   pub after : BlockDocument
 
 module _ (text : List ℕ) (texts : List CowStr) where
+  -- a forest is a document, in which what is inside a node stands in order within it
   abbrev pub Draws : Forest (Placed Item) → BlockDocument → Type 0
   Draws forest.Nil document.Nil = Unit {0}
   Draws forest.Nil (document.Node node inside after) = ⊥
   Draws (forest.Node p f g) document.Nil = ⊥
-  Draws (forest.Node p f g) (document.Node node inside after) = Drawn text texts p.item node × Draws f inside × Draws g after
+  Draws (forest.Node p f g) (document.Node node inside after) = Drawn text texts p.item node × Draws f inside × Draws g after × InOrder node.start inside node.end
 
   abbrev pub DrawsAbove : List (Level Item) → List Outer → Type 0
   DrawsAbove [] [] = Unit {0}
@@ -60,21 +70,52 @@ tight_below [] = false
 tight_below (o ∷ above) = tight_within (tight_below above) o.node.kind
 
 -- the end of an element, after what is inside it
-abbrev pub leaving : Reads → BlockNode → List event.Ranged
-leaving (reads.Around tag) node = over node (event.End (end_of tag)) ∷ []
+abbrev pub leaving : Reads → BlockNode → List Segment
+leaving (reads.Around tag) node = Given (over node (event.End (end_of tag))) ∷ []
 leaving reads.Inside node = []
 leaving (reads.Alone event) node = []
 leaving reads.Silent node = []
 
--- the events that are left after the siblings at hand
-abbrev pub left_above : List Outer → List event.Ranged
+-- what is left after the siblings at hand
+abbrev pub left_above : List Outer → List Segment
 left_above [] = []
 left_above (o ∷ above) =
-    leaving (read_as (kind_within (tight_below above) o.node.kind)) o.node ++ (block_reading (settled (tight_below above) o.after) ++ left_above above)
+    leaving (read_as (kind_within (tight_below above) o.node.kind)) o.node ++ (segments (settled (tight_below above) o.after) ++ left_above above)
 
--- the events that are left from the focus on: the reading of the settled document from there
-abbrev pub left_from : BlockDocument → List Outer → List event.Ranged
-left_from here above = block_reading (settled (tight_below above) here) ++ left_above above
+-- what is inside the first of these nodes
+abbrev pub content_of : BlockDocument → BlockDocument
+content_of document.Nil = document.Nil
+content_of (document.Node node inside after) = inside
+
+-- what is left of these nodes behind the lines of the first, a leaf
+abbrev pub left_behind : BlockDocument → List Outer → List Segment
+left_behind document.Nil above = []
+left_behind (document.Node node inside after) above = leaving (read_as (kind_within (tight_below above) node.kind)) node ++ segments (settled (tight_below above) after)
+
+-- what is left of the siblings at hand, from the focus on: the events and leaves of the settled document from there; in a leaf its
+-- lines, if they were not met yet, and what stands behind them
+abbrev pub left_at : Stage → BlockDocument → List Outer → List Segment
+left_at stage.Before here above = segments (settled (tight_below above) here)
+left_at stage.Lines here above = Content (leaf_of (content_of here)) ∷ left_behind here above
+left_at stage.Behind here above = left_behind here above
+
+abbrev pub left_from : Stage → BlockDocument → List Outer → List Segment
+left_from stage here above = left_at stage here above ++ left_above above
+
+-- the first of these nodes is a leaf
+abbrev pub BeginsWithLeaf : BlockDocument → Type 0
+BeginsWithLeaf document.Nil = ⊥
+BeginsWithLeaf (document.Node node inside after) = is_leaf node.kind ≡ true
+
+-- a walk is in a leaf only where the focus is one
+abbrev pub IsStaged : Stage → BlockDocument → Type 0
+IsStaged stage.Before here = Unit {0}
+IsStaged stage.Lines here = BeginsWithLeaf here
+IsStaged stage.Behind here = BeginsWithLeaf here
+
+-- the bytes of the text
+abbrev pub text_of : Walk → List ℕ
+text_of walk = walk.text.now
 
 abbrev pub texts_of : Walk → List CowStr
 texts_of walk = (tables walk.allocations).texts
@@ -100,17 +141,18 @@ pub record StandsAt (walk : Walk) (z : Zip Item) (here : BlockDocument) (above :
   pub below : StandsBelow walk z above
   pub draws : Draws walk.text.now (texts_of walk) z.right here
 
--- the walk stands in a document, from where on these events are left
-pub record Remains (walk : Walk) (events : List event.Ranged) : Type 0 where
+-- the walk stands in a document, from where on these events and leaves are left
+pub record Remains (walk : Walk) (left : List Segment) : Type 0 where
   pub z : Zip Item
   pub here : BlockDocument
   pub above : List Outer
   pub stands : StandsAt walk z here above
-  pub are : events ≡ left_from here above
+  pub staged : IsStaged walk.stage here
+  pub are : left ≡ left_from walk.stage here above
 
 -- the walk stands in a document
 abbrev pub Goes : Walk → Type 0
-Goes walk = (events : List event.Ranged) × Remains walk events
+Goes walk = (left : List Segment) × Remains walk left
 
 -- the walk stands in a document, before this node
 abbrev pub IsAt : Walk → TreeIndex → Type 0
@@ -123,18 +165,35 @@ IsPast walk = Goes walk × ((z : Zip Item) → Holds walk.tree z → focus_of z.
 abbrev pub shown_ranged : Ranged → event.Ranged
 shown_ranged r = record { event = shown r.event; start = r.range.start; end = r.range.end }
 
--- a call gives the first of these events, and the others remain; or there is none
-abbrev pub Gives : List event.Ranged → Option Ranged → Walk → Type 0
-Gives events None walk = (events ≡ []) × Remains walk []
-Gives events (Some given) walk = (others : List event.Ranged) × (events ≡ shown_ranged given ∷ others) × Remains walk others
+-- a leaf's stretches as the lines that its text is read from
+abbrev pub lines_of : List Stretch → List LeafLine
+lines_of [] = []
+lines_of (s ∷ more) = record { start = s.start; stop = s.end; past = s.end } ∷ lines_of more
 
-abbrev pub GivesStep : List event.Ranged → Step → Walk → Type 0
-GivesStep events (step.Event given) walk = Gives events (Some given) walk
-GivesStep events step.Silent walk = Remains walk events
-GivesStep events step.Over walk = Gives events None walk
+-- these are the lines of a leaf, in order in the text, and they cut no character
+pub record AreLinesOf (text : List ℕ) (leaf : Leaf) (lines : List LeafLine) : Type 0 where
+  pub are : lines ≡ lines_of leaf.stretches
+  pub in_turn : AreLines text 0 lines
+
+-- a call gives the first of these events and leaves, and the others remain; or there is none
+abbrev pub Gives : List Segment → Met → List LeafLine → Walk → Type 0
+Gives left (met.Event given) lines walk = (others : List Segment) × (left ≡ Given (shown_ranged given) ∷ others) × Remains walk others
+Gives left met.Leaf lines walk = (leaf : Leaf) × (others : List Segment) × (left ≡ Content leaf ∷ others) × AreLinesOf walk.text.now leaf lines × Remains walk others
+Gives left met.Over lines walk = (left ≡ []) × Remains walk []
+
+abbrev pub GivesStep : List Segment → Step → List LeafLine → Walk → Type 0
+GivesStep left (step.Event given) lines walk = Gives left (met.Event given) lines walk
+GivesStep left step.Leaf lines walk = Gives left met.Leaf lines walk
+GivesStep left step.Silent lines walk = Remains walk left
+GivesStep left step.Over lines walk = Gives left met.Over lines walk
+
+-- these are the lines of the leaf at the focus
+abbrev pub HoldsLines : Walk → List LeafLine → Type 0
+HoldsLines walk lines = (z : Zip Item) (here : BlockDocument) (above : List Outer) → StandsAt walk z here above → AreLinesOf walk.text.now (leaf_of (content_of here)) lines
 
 -- this event with the item's range
 abbrev pub GivesRanged : TextEvent → Item → Step → Type 0
 GivesRanged event item (step.Event given) = shown_ranged given ≡ record { event = shown event; start = item.start; end = item.end }
+GivesRanged event item step.Leaf = ⊥
 GivesRanged event item step.Silent = ⊥
 GivesRanged event item step.Over = ⊥

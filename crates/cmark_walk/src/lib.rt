@@ -1,9 +1,9 @@
-//! From the tree of a document to its events, in preorder.
+//! From the tree of a document to the events of its blocks and the lines of its leaves, in preorder.
 #![tactic(auto)]
 
 pub mod laws;
 mod reading;
 mod walk;
 
-pub use reading::Ranged;
+pub use reading::{Met, Ranged};
 pub use walk::Walk;

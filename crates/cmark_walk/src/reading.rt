@@ -12,6 +12,29 @@ pub struct Ranged<'a> {
     pub range: Range<usize>,
 }
 
+/// What a walk meets next.
+#[derive(Debug, Drop)]
+pub enum Met<'a> {
+    /// An event of the blocks.
+    Event(Ranged<'a>),
+    /// The content of a leaf, whose lines are handed over beside this.
+    Leaf,
+    /// Nothing: the document is over.
+    Over,
+}
+
+/// How far a walk is at the node in its focus. A leaf's lines are met all at once, so the walk goes past them without going down to
+/// them.
+#[derive(Clone, Copy, Debug, PartialEq, Eq)]
+pub(crate) enum Stage {
+    /// Before it.
+    Before,
+    /// In it, a leaf, before its lines.
+    Lines,
+    /// In it, a leaf, behind its lines.
+    Behind,
+}
+
 /// How an item is read.
 #[derive(Drop)]
 pub(crate) enum Reading<'a> {
@@ -28,8 +51,10 @@ pub(crate) enum Reading<'a> {
 pub(crate) enum Step<'a> {
     /// An event.
     Event(Ranged<'a>),
-    /// None: a paragraph of a tight list begins or ends.
+    /// The lines of a leaf.
+    Leaf,
+    /// Neither: a paragraph of a tight list begins or ends.
     Silent,
-    /// None, and nothing is left.
+    /// Neither, and nothing is left.
     Over,
 }

@@ -1,43 +1,51 @@
 //! The walk over a document's tree.
 
-ghost use Rattle.std.specs.Prelude.{◌≡◌, false, List, [], length, option_map, IfOk, OnErr};
+ghost use Rattle.std.specs.Prelude.{◌≡◌, ℕ, false, List, [], length, option_map, IfOk, OnOk, OnErr};
 ghost use Rattle.std.specs.Str.{IsCharBoundary};
 ghost use Rattle.cmark_tree.specs.Forest.{Forest};
 ghost use Rattle.cmark_tree.specs.Building.{Is};
 ghost use Rattle.cmark_tree.specs.Zip.{Zip};
 ghost use Rattle.cmark_grammar.specs.BlockDocument.{BlockDocument, BlockNode};
-ghost use Rattle.cmark_grammar.specs.BlockReading.{block_reading, read_as};
+ghost use Rattle.cmark_grammar.specs.BlockReading.{read_as};
 ghost use Rattle.cmark_grammar.specs.DrawnDocument.{settled, kind_within};
-ghost use Rattle.cmark_grammar.specs.Event.{Ranged as Shown};
 ghost use Rattle.cmark_grammar.specs.Ranges.{InOrder, AllAt};
+ghost use Rattle.cmark_grammar.specs.SpanDocuments.{Segment, segments, is_leaf};
 ghost use Rattle.cmark_grammar.specs.Tokens.{slice};
 ghost use Rattle.cmark_items.specs.ItemNodes.{shown_forest, nodes_of, list_number};
 ghost use Rattle.cmark_items.specs.Tables.{tables};
 ghost use Rattle.cmark_text.specs.Shown.{shown, shown_tag, shown_end, text_bytes};
 ghost use Rattle.cmark_walk.specs.Reads.{event_in, tag_in, end_in, shown_reading};
-ghost use Rattle.cmark_walk.specs.Walking.{Drawn, IsDrawn, Outer, StandsBelow, IsBelow, tight_below, Remains, Goes, Gives, GivesStep, definitions_of, IsAt, IsPast, GivesRanged, texts_of};
+ghost use Rattle.cmark_leaf_text.specs.declared.stretch.LeafLine.{LeafLine};
+ghost use Rattle.cmark_text.specs.declared.text.CowStr.{CowStr};
+ghost use Rattle.cmark_walk.specs.declared.reading.Met.TheVariants as met;
+ghost use Rattle.cmark_walk.specs.declared.reading.Stage.TheVariants as stage;
+ghost use Rattle.cmark_walk.specs.Walking.{Drawn, IsDrawn, Outer, StandsBelow, IsBelow, tight_below, Remains, Goes, Gives, GivesStep, HoldsLines, definitions_of, text_of, IsAt, IsPast, GivesRanged, texts_of};
 
-use crate::reading::{Ranged, Reading, Step};
+use crate::reading::{Met, Ranged, Reading, Stage, Step};
 use bitflags::Flags;
 use cmark_items::{Allocations, Item, ItemBody, RefDefs};
+use cmark_leaf_text::LeafLine;
 use cmark_text::{CodeBlockKind, CowStr, Event, Tag, TagEnd};
 use cmark_tree::{Tree, TreeIndex};
 use std::alloc::{AllocError, Global};
 
-/// A walk over the tree of a document, which gives its events in the order of the text.
+/// A walk over the tree of a document, which meets the events of its blocks and the lines of its leaves in the order of the text.
 ///
-/// A paragraph that stands directly in an item of a tight list is given as what is inside it (CommonMark 5.3).
+/// A leaf is a paragraph or a heading: whether a text is content that has spans is seen from the node around it, so the texts of code
+/// and of HTML blocks are events. A paragraph that stands directly in an item of a tight list is met as its lines alone (CommonMark
+/// 5.3).
 #[derive(Drop)]
 pub struct Walk<'a> {
     text: &'a str,
     tree: Tree<Item>,
     allocations: Allocations<'a>,
     alloc: Global,
+    stage: Stage,
 }
 
 impl<'a> Walk<'a> {
     /// A walk over the tree, from its first node on: where the tree is a document of the text without its link reference
-    /// definitions, what remains is the reading of that document, in which the paragraphs of tight lists are settled.
+    /// definitions, what remains are the events and leaves of that document, in which the paragraphs of tight lists are settled.
     pub fn new(
         alloc: Global,
         text: &'a str,
@@ -49,8 +57,9 @@ impl<'a> Walk<'a> {
             → shown_forest text.entry.now (tables allocations.entry).texts forest ≡ nodes_of document
             → InOrder 0 document (length text.entry.now)
             → AllAt (IsCharBoundary text.entry.now) document
-            → Remains result (block_reading (settled false document)) }
+            → Remains result (segments (settled false document)) }
         ensures definitions { definitions_of result ≡ (tables allocations.entry).references }
+        ensures text { text_of result ≡ text.entry.now }
     {
         let mut tree = tree;
         tree.reset();
@@ -59,6 +68,7 @@ impl<'a> Walk<'a> {
             tree,
             allocations,
             alloc,
+            stage: Stage::Before,
         }
     }
 
@@ -69,23 +79,26 @@ impl<'a> Walk<'a> {
         &self.allocations.refdefs
     }
 
-    /// The next event, with its range; `None` behind the last one, and from then on. Where memory is refused, the same events
-    /// remain.
+    /// What comes next: an event with its range, or a leaf, whose lines then stand in `lines` alone: byte offsets of the text, in
+    /// order, one line for each stretch that stands in the text without a gap. Behind the last one the document is over, and from
+    /// then on. Where memory is refused, the same remains, and what stands in `lines` is not said.
     #[inline(always)]
-    pub fn next(&mut self) -> Result<Option<Ranged<'a>>, AllocError>
+    pub fn next(&mut self, lines: &mut Vec<LeafLine>) -> Result<Met<'a>, AllocError>
         requires { Goes self.old }
-        ensures given { IfOk result (λ given. (events : List Shown) → Remains self.old events → Gives events given self.new) }
-        ensures refused { OnErr result ((events : List Shown) → Remains self.old events → Remains self.new events) }
+        ensures given { IfOk result (λ met. (left : List Segment) → Remains self.old left → Gives left met lines.new.items self.new) }
+        ensures refused { OnErr result ((left : List Segment) → Remains self.old left → Remains self.new left) }
         ensures goes { Goes self.new }
         ensures definitions { definitions_of self.new ≡ definitions_of self.old }
+        ensures text { text_of self.new ≡ text_of self.old }
     {
-        // Only paragraphs of tight lists give no event, each at its begin and at its end: no memory holds so many nodes that the
+        // Only paragraphs of tight lists give nothing, each at its begin and at its end: no memory holds so many nodes that the
         // count is reached.
         for _ in 0..u64::MAX {
-            match self.step()? {
-                Step::Event(given) => return Ok(Some(given)),
+            match self.step(lines)? {
+                Step::Event(given) => return Ok(Met::Event(given)),
+                Step::Leaf => return Ok(Met::Leaf),
                 Step::Silent => {}
-                Step::Over => return Ok(None),
+                Step::Over => return Ok(Met::Over),
             }
         }
         Err(AllocError)
@@ -93,31 +106,45 @@ impl<'a> Walk<'a> {
 
     // Into the focus or past it, or up from behind the last sibling.
     #[inline(always)]
-    fn step(&mut self) -> Result<Step<'a>, AllocError>
+    fn step(&mut self, lines: &mut Vec<LeafLine>) -> Result<Step<'a>, AllocError>
         requires { Goes self.old }
-        ensures given { IfOk result (λ step. (events : List Shown) → Remains self.old events → GivesStep events step self.new) }
-        ensures refused { OnErr result ((events : List Shown) → Remains self.old events → Remains self.new events) }
+        ensures given { IfOk result (λ step. (left : List Segment) → Remains self.old left → GivesStep left step lines.new.items self.new) }
+        ensures refused { OnErr result ((left : List Segment) → Remains self.old left → Remains self.new left) }
         ensures goes { Goes self.new }
         ensures definitions { definitions_of self.new ≡ definitions_of self.old }
+        ensures text { text_of self.new ≡ text_of self.old }
     {
-        match self.tree.cur() {
-            Some(ix) => self.enter(ix),
-            None => Ok(self.leave()),
+        let Some(ix) = self.tree.cur() else {
+            return Ok(self.leave());
+        };
+        match self.stage {
+            Stage::Before => self.enter(ix),
+            Stage::Lines => {
+                self.meet_leaf(ix, lines)?;
+                Ok(Step::Leaf)
+            }
+            Stage::Behind => Ok(self.leave_leaf(ix)),
         }
     }
 
     // Into the focus, or past it if it is one event.
     #[inline(always)]
     fn enter(&mut self, ix: TreeIndex) -> Result<Step<'a>, AllocError>
-        requires { IsAt self.old ix }
-        ensures given { IfOk result (λ step. (events : List Shown) → Remains self.old events → GivesStep events step self.new) }
-        ensures refused { OnErr result ((events : List Shown) → Remains self.old events → Remains self.new events) }
+        requires at { IsAt self.old ix }
+        requires before { self.old.stage ≡ stage.Before }
+        ensures given { IfOk result (λ step. (left : List Segment) (lines : List LeafLine) → Remains self.old left → GivesStep left step lines self.new) }
+        ensures refused { OnErr result ((left : List Segment) → Remains self.old left → Remains self.new left) }
         ensures goes { Goes self.new }
         ensures definitions { definitions_of self.new ≡ definitions_of self.old }
+        ensures text { text_of self.new ≡ text_of self.old }
     {
         let item = *self.tree.item(ix);
         match self.read(item)? {
             Reading::Around(tag) => {
+                if is_leaf(item) {
+                    self.stage = Stage::Lines;
+                    return Ok(given(Event::Start(tag), item));
+                }
                 self.tree.push()?;
                 Ok(given(Event::Start(tag), item))
             }
@@ -126,9 +153,68 @@ impl<'a> Walk<'a> {
                 Ok(given(event, item))
             }
             Reading::Inside => {
-                self.tree.push()?;
+                self.stage = Stage::Lines;
                 Ok(Step::Silent)
             }
+        }
+    }
+
+    // The lines of the leaf in the focus, and behind them.
+    #[inline(always)]
+    fn meet_leaf(&mut self, ix: TreeIndex, lines: &mut Vec<LeafLine>) -> Result<(), AllocError>
+        requires at { IsAt self.old ix }
+        requires before { self.old.stage ≡ stage.Lines }
+        ensures given { OnOk result ((left : List Segment) → Remains self.old left → Gives left met.Leaf lines.new.items self.new) }
+        ensures refused { OnErr result ((left : List Segment) → Remains self.old left → Remains self.new left) }
+        ensures goes { Goes self.new }
+        ensures definitions { definitions_of self.new ≡ definitions_of self.old }
+        ensures text { text_of self.new ≡ text_of self.old }
+    {
+        self.gather(ix, lines)?;
+        self.stage = Stage::Behind;
+        Ok(())
+    }
+
+    // The lines of the leaf in the focus.
+    fn gather(&self, ix: TreeIndex, lines: &mut Vec<LeafLine>) -> Result<(), AllocError>
+        requires { IsAt self.now ix }
+        ensures { OnOk result (HoldsLines self.now lines.new.items) }
+    {
+        lines.clear();
+        let mut next = self.tree.child(ix);
+        // No memory holds so many nodes that the count is reached.
+        for _ in 0..u64::MAX {
+            let Some(line) = next else {
+                return Ok(());
+            };
+            let item = *self.tree.item(line);
+            lines.push(LeafLine {
+                start: item.start,
+                stop: item.end,
+                past: item.end,
+            })?;
+            next = self.tree.next(line);
+        }
+        Err(AllocError)
+    }
+
+    // Out of the leaf in the focus, and past it.
+    #[inline(always)]
+    fn leave_leaf(&mut self, ix: TreeIndex) -> Step<'a>
+        requires at { IsAt self.old ix }
+        requires behind { self.old.stage ≡ stage.Behind }
+        ensures given { (left : List Segment) (lines : List LeafLine) → Remains self.old left → GivesStep left result lines self.new }
+        ensures goes { Goes self.new }
+        ensures definitions { definitions_of self.new ≡ definitions_of self.old }
+        ensures text { text_of self.new ≡ text_of self.old }
+    {
+        let item = *self.tree.item(ix);
+        let end = self.end(item);
+        self.tree.next_sibling(ix);
+        self.stage = Stage::Before;
+        match end {
+            Some(end) => given(Event::End(end), item),
+            None => Step::Silent,
         }
     }
 
@@ -136,9 +222,10 @@ impl<'a> Walk<'a> {
     #[inline(always)]
     fn leave(&mut self) -> Step<'a>
         requires { IsPast self.old }
-        ensures given { (events : List Shown) → Remains self.old events → GivesStep events result self.new }
+        ensures given { (left : List Segment) (lines : List LeafLine) → Remains self.old left → GivesStep left result lines self.new }
         ensures goes { Goes self.new }
         ensures definitions { definitions_of self.new ≡ definitions_of self.old }
+        ensures text { text_of self.new ≡ text_of self.old }
     {
         let Some(ix) = self.tree.pop() else {
             return Step::Over;
@@ -274,6 +361,19 @@ impl<'a> Walk<'a> {
             }
         }
         false
+    }
+}
+
+// Whether an item is a leaf, whose lines have spans (CommonMark 4.2, 4.3 and 4.8).
+#[inline(always)]
+fn is_leaf(item: Item) -> bool
+    ensures { (text : List ℕ) (texts : List CowStr) (node : BlockNode) → Drawn text texts item node → result ≡ is_leaf node.kind }
+{
+    match item.body {
+        ItemBody::Paragraph => true,
+        ItemBody::TightParagraph => true,
+        ItemBody::Heading(_, _) => true,
+        _ => false,
     }
 }
 

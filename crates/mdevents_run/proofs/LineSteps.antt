@@ -5,10 +5,10 @@ use Rattle.std.specs.Iterator.{Drains}
 use Rattle.std.specs.declared.ops.Range.{Range}
 use Rattle.cmark_grammar.specs.Answers.{Lookup}
 use Rattle.cmark_grammar.specs.Event.{Ranged}
-use Rattle.cmark_grammar.specs.Options.{no_options}
+use Rattle.cmark_grammar.specs.Options.{Options}
 use Rattle.cmark_text.specs.declared.event.Event.{Event}
 use Rattle.cmark_json.specs.Lines.{line, lines}
-use Rattle.mdevents_run.specs.Renders.{Renders}
+use Rattle.mdevents_run.specs.Renders.{AreLinesOf}
 use Rattle.pulldown_cmark.specs.declared.parse.OffsetIter.{OffsetIter}
 use Rattle.pulldown_cmark.specs.declared.parse.Parser.{Parser}
 use Rattle.pulldown_cmark.specs.Parsing.{GivesRanged, Reads, shown_item, walk_of}
@@ -31,7 +31,7 @@ given_more all one items item p q = ap (λ l. l ++ one ∷ []) p ∙ ap (λ z. m
 
 module _ {E F : Type 0} where
   -- the lines of all items of a walk from its start are what its text is rendered as
-  pub rendered : (parser : Parser E F) (iter : OffsetIter E F) (text : List ℕ) (lookup : Lookup) (items : List (Event × Range ℕ)) (output : List ℕ) → walk_of iter ≡ parser → Reads text no_options lookup parser
-      → Drains GivesRanged iter (map Ok items) → output ≡ lines (map shown_item items) → Renders lookup text output
-  rendered parser iter text lookup items output same reads drains is =
-      record { events = map shown_item items; reading = drained_ranges parser iter text no_options lookup items same reads drains; output_is = is }
+  pub rendered : (parser : Parser E F) (iter : OffsetIter E F) (text : List ℕ) (options : Options) (lookup : Lookup) (items : List (Event × Range ℕ)) (output : List ℕ) → walk_of iter ≡ parser → Reads text options lookup parser
+      → Drains GivesRanged iter (map Ok items) → output ≡ lines (map shown_item items) → AreLinesOf text options lookup output
+  rendered parser iter text options lookup items output same reads drains is =
+      record { events = map shown_item items; reading = drained_ranges parser iter text options lookup items same reads drains; output_is = is }

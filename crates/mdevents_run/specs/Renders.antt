@@ -2,12 +2,12 @@
 use Rattle.std.specs.Prelude.{◌≡◌, ℕ, List}
 use Rattle.cmark_grammar.specs.Answers.{Lookup}
 use Rattle.cmark_grammar.specs.Event.{Ranged}
-use Rattle.cmark_grammar.specs.Options.{no_options}
+use Rattle.cmark_grammar.specs.Options.{Options}
 use Rattle.cmark_json.specs.Lines.{lines}
 use Rattle.pulldown_cmark.specs.Walking.{IsReading}
 
 -- the output is a line for each event of a document that the text derives, with the spans of its leaves
-pub record Renders (lookup : Lookup) (text output : List ℕ) : Type 0 where
+pub record AreLinesOf (text : List ℕ) (options : Options) (lookup : Lookup) (output : List ℕ) : Type 0 where
   pub events : List Ranged
-  pub reading : IsReading text no_options lookup events
+  pub reading : IsReading text options lookup events
   pub output_is : output ≡ lines events

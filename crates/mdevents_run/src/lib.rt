@@ -1,27 +1,29 @@
 //! From a reader's Markdown to a writer's lines of JSON.
 #![tactic(auto)]
 
-ghost use Rattle.mdevents_run.specs.Renders.{Renders};
+ghost use Rattle.cmark_text.specs.Shown.{shown_options};
+ghost use Rattle.mdevents_run.specs.Renders.{AreLinesOf};
 ghost use Rattle.mdhtml_parts.specs.Ends.{watched_end, watched_notes};
 ghost use Rattle.mdhtml_parts.specs.Runs.{Runs};
 
 use cmark_json::append_given;
 use mdhtml_parts::{Render, RunFault, Watched};
-use pulldown_cmark::{EntityLookup, Parser};
+use pulldown_cmark::{EntityLookup, Options, Parser};
 use std::alloc::{AllocError, Global};
 use std::io::{Read, Write};
 
-/// Renders a text as a line of JSON for each of its events. `entities` says what the entity names stand for.
+/// Renders a text as a line of JSON for each of its events, with these options. `entities` says what the entity names stand for.
 #[derive(Drop)]
 struct EventLines<'a, E> {
+    options: Options,
     entities: &'a E,
 }
 
 impl<'a, E: EntityLookup> Render for EventLines<'a, E> {
-    ghost renders = { λ lines text output. Renders (E.replacement lines.entities.now) text output };
+    ghost renders = { λ lines text output. AreLinesOf text (shown_options lines.options) (E.replacement lines.entities.now) output };
 
     fn render(&self, alloc: Global, text: &str) -> Result<String, AllocError> {
-        let parser = Parser::new(alloc, text, self.entities)?;
+        let parser = Parser::new_ext(alloc, text, self.options, self.entities)?;
         let mut output = String::new(alloc);
         let mut iter = parser.into_offset_iter();
         while let Some(item) = iter.next() {
@@ -32,8 +34,8 @@ impl<'a, E: EntityLookup> Render for EventLines<'a, E> {
     }
 }
 
-/// Reads all of a reader's Markdown, writes a line of JSON for each of its events and flushes. `entities` says what the
-/// entity names stand for.
+/// Reads all of a reader's Markdown, writes a line of JSON for each of its events with these options and flushes. `entities`
+/// says what the entity names stand for.
 ///
 /// After a fault but `Write` nothing was written, and after `Write` a beginning of the lines; `mdhtml_parts::run::run` says
 /// when each fault is answered.
@@ -41,12 +43,13 @@ pub fn run<R: Read, W: Write, E: EntityLookup>(
     alloc: Global,
     reader: &mut Watched<R>,
     writer: &mut Watched<W>,
+    options: Options,
     entities: &E,
 ) -> Result<(), RunFault>
-    ensures { Runs (Renders (E.replacement entities.now))
+    ensures { Runs (λ text output. AreLinesOf text (shown_options options) (E.replacement entities.now) output)
         (R.remaining (watched_end reader.old)) (R.remaining (watched_end reader.new))
         (W.contents (watched_end writer.old)) (W.contents (watched_end writer.new))
         (watched_notes reader.new) (watched_notes writer.new) result }
 {
-    mdhtml_parts::run::run(alloc, reader, writer, &EventLines { entities })
+    mdhtml_parts::run::run(alloc, reader, writer, &EventLines { options, entities })
 }

@@ -3,7 +3,7 @@ use Rattle.std.specs.Prelude.{◌≡◌, ℕ, List, ◌++◌, Option, Result, Ok
 use Rattle.std.specs.Io.KnownBytes.{Appends, Consumes, IsAtEnd, Keeps}
 use Rattle.mdhtml_parts.specs.Faults.{ReadStops, WriteStops}
 use Rattle.mdhtml_parts.specs.declared.fault.RunFault.{RunFault}
-use Rattle.mdhtml_parts.specs.declared.fault.RunFault.TheVariants.{Memory, Read, NotUtf8, Write}
+use Rattle.mdhtml_parts.specs.declared.fault.RunFault.TheVariants.{Memory, Read, NotUtf8, Entities, Write}
 use Rattle.mdhtml_parts.specs.declared.run.TheConstants.{INPUT_LIMIT}
 use Rattle.mdhtml_parts.specs.declared.watched.Notes.{Notes}
 
@@ -26,6 +26,7 @@ module _ (renders : List ℕ → List ℕ → Type 0) (left_old left_new held_ol
   StopsWith Memory = Keeps held_old held_new
   StopsWith Read = Keeps held_old held_new × ReadStops INPUT_LIMIT reader Read
   StopsWith NotUtf8 = Keeps held_old held_new × ((input : List ℕ) × ReadsAll left_old left_new input × ¬ (IsUtf8 input))
+  StopsWith Entities = ⊥
   StopsWith Write = (input : List ℕ) × (output : List ℕ) × ReadsAndRenders input output × AppendsFrontOf held_old held_new output × WriteStops writer Write
 
   -- at Ok the output for all that was read was written, and nothing else

@@ -18,6 +18,9 @@ pub enum RunFault {
     /// The input is not UTF-8. Nothing was written.
     #[error("input is not UTF-8")]
     NotUtf8 = 3,
+    /// The file of entities cannot be read, or is no object of texts. Nothing was written.
+    #[error("bad entity file")]
+    Entities = 4,
     /// A write or the flush failed, a write took no byte, or too many in a row were interrupted. A beginning of the output
     /// was written.
     #[error("write failed")]
@@ -40,6 +43,7 @@ pub fn status(fault: &RunFault) -> u8
 {
     match fault {
         RunFault::Memory | RunFault::Read | RunFault::Write => 1,
+        RunFault::Entities => 3,
         RunFault::NotUtf8 => 4,
     }
 }

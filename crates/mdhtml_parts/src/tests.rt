@@ -198,6 +198,7 @@ fn says_each_fault(rt: HostRuntime) -> Result<(), Fail> {
         (RunFault::Memory, 1, "out of memory", 1),
         (RunFault::Read, 2, "read failed", 1),
         (RunFault::NotUtf8, 3, "input is not UTF-8", 4),
+        (RunFault::Entities, 4, "bad entity file", 3),
         (RunFault::Write, 5, "write failed", 1),
     ];
     for (fault, number, line, wanted) in cases {

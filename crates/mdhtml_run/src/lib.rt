@@ -1,36 +1,34 @@
 //! From a reader's Markdown to a writer's HTML.
 #![tactic(auto)]
 
-ghost use Rattle.mdhtml_run.specs.Renders.{Renders};
+ghost use Rattle.cmark_text.specs.Shown.{shown_options};
 ghost use Rattle.mdhtml_parts.specs.Ends.{watched_end, watched_notes};
 ghost use Rattle.mdhtml_parts.specs.Runs.{Runs};
+ghost use Rattle.pulldown_cmark.specs.Rendering.{IsHtmlOf};
 
 use mdhtml_parts::{Render, RunFault, Watched};
-use pulldown_cmark::html::push_html;
-use pulldown_cmark::{EntityLookup, Parser};
+use pulldown_cmark::html::to_html;
+use pulldown_cmark::{EntityLookup, Options};
 use std::alloc::{AllocError, Global};
 use std::io::{Read, Write};
 
-/// Renders a text as HTML. `entities` says what the entity names stand for.
+/// Renders a text as HTML, with these options. `entities` says what the entity names stand for.
 #[derive(Drop)]
 struct Html<'a, E> {
+    options: Options,
     entities: &'a E,
 }
 
 impl<'a, E: EntityLookup> Render for Html<'a, E> {
-    ghost renders = { λ html text output. Renders (E.replacement html.entities.now) text output };
+    ghost renders = { λ html text output. IsHtmlOf text (shown_options html.options) (E.replacement html.entities.now) output };
 
-    // There is room at once for the HTML of most texts, which are longer by their elements: a string that grows is there twice.
     fn render(&self, alloc: Global, text: &str) -> Result<String, AllocError> {
-        let parser = Parser::new(alloc, text, self.entities)?;
-        let room = text.len().saturating_add(text.len() / 8);
-        let mut html = String::with_capacity(alloc, room)?;
-        push_html(&mut html, parser)?;
-        Ok(html)
+        to_html(alloc, text, self.options, self.entities)
     }
 }
 
-/// Reads all of a reader's Markdown, writes its HTML and flushes. `entities` says what the entity names stand for.
+/// Reads all of a reader's Markdown, writes its HTML with these options and flushes. `entities` says what the entity names
+/// stand for.
 ///
 /// After a fault but `Write` nothing was written, and after `Write` a beginning of the HTML; `mdhtml_parts::run::run` says
 /// when each fault is answered.
@@ -38,12 +36,13 @@ pub fn run<R: Read, W: Write, E: EntityLookup>(
     alloc: Global,
     reader: &mut Watched<R>,
     writer: &mut Watched<W>,
+    options: Options,
     entities: &E,
 ) -> Result<(), RunFault>
-    ensures { Runs (Renders (E.replacement entities.now))
+    ensures { Runs (λ text output. IsHtmlOf text (shown_options options) (E.replacement entities.now) output)
         (R.remaining (watched_end reader.old)) (R.remaining (watched_end reader.new))
         (W.contents (watched_end writer.old)) (W.contents (watched_end writer.new))
         (watched_notes reader.new) (watched_notes writer.new) result }
 {
-    mdhtml_parts::run::run(alloc, reader, writer, &Html { entities })
+    mdhtml_parts::run::run(alloc, reader, writer, &Html { options, entities })
 }

@@ -1,2 +1,3 @@
 pub mod ParseSteps
+pub mod RenderSteps
 pub mod WalkSteps

@@ -1,22 +1,20 @@
 -- Steps of a walk.
-use Rattle.std.proofs.Common.{◌≡◌, ◌+◌, ◌*◌, ◌<◌, ℕ, suc, Bool, true, false, if◌then◌else◌, List, [], ◌∷◌, length, Option, None, Some, Ok, inl, inr, refl, sym, ap, ◌∙◌, subst, arith, append-nil}
-use Rattle.std.specs.Str.{IsUtf8}
-use Rattle.cmark_block_model.proofs.Drawings.{derived, derived-few}
+use Rattle.std.proofs.Common.{◌≡◌, ◌+◌, ◌*◌, ◌<◌, ℕ, suc, true, false, if◌then◌else◌, List, [], ◌∷◌, length, None, Some, Ok, inl, inr, refl, sym, ap, ◌∙◌, subst, arith}
+use Rattle.cmark_block_model.proofs.Drawings.{derived}
+use Rattle.cmark_block_model.proofs.LeafDrawings.{segments-few}
 use Rattle.cmark_grammar.specs.Answers.{Lookup}
-use Rattle.cmark_grammar.specs.BlockReading.{block_reading}
 use Rattle.cmark_grammar.specs.Derivation.{document}
 use Rattle.cmark_grammar.specs.Event.{Ranged}
-use Rattle.cmark_grammar.specs.LeafSpans.{InTurn, WithSpans}
+use Rattle.cmark_grammar.specs.LeafSpans.{AreGiven}
 use Rattle.cmark_grammar.specs.Options.{Options}
-use Rattle.cmark_grammar.proofs.BoundaryLaws.{derived-boundaries}
-use Rattle.cmark_grammar.proofs.LeafSpanLaws.{reading-turn, some-spans}
-use Rattle.cmark_grammar.proofs.RangeLaws.{derived-order}
+use Rattle.cmark_grammar.specs.SpanDocuments.{Segment, segments}
+use Rattle.cmark_grammar.proofs.LeafSpanLaws.{some-given}
 use Rattle.cmark_span_walk.specs.Walking as walking
 use Rattle.cmark_span_walk.proofs.Walks.{some-left}
 use Rattle.cmark_walk.specs.declared.reading.Ranged.{Ranged as Item}
 use Rattle.cmark_walk.specs.Walking.{shown_ranged}
 use Rattle.pulldown_cmark.specs.declared.parse.Parser.{Parser}
-use Rattle.pulldown_cmark.specs.Walking.{GoesOn, IsReading}
+use Rattle.pulldown_cmark.specs.Walking.{GoesOn}
 use Rattle.pulldown_cmark.specs.Parsing.{CanGo, IsOver, GivesStep, Left, Reads, Remains, Shows, ShowsStep, definitions, events_left}
 
 module _ {E F : Type 0} where
@@ -26,7 +24,7 @@ module _ {E F : Type 0} where
     where
       go : GoesOn Remains IsOver Shows parser → walking.Stands parser.spans
       go (inl over) = absurd (let q : true ≡ false = sym over ∙ e in cc)
-      go (inr l) = let r = subst (λ b. Left b parser l.0) e l.1 in (r.blocks, r.stands)
+      go (inr l) = let r = subst (λ b. Left b parser l.0) e l.1 in (r.left, r.stands)
 
   goes : (parser : Parser E F) → parser.is_over ≡ false → walking.Stands parser.spans → GoesOn Remains IsOver ShowsStep parser
   goes parser e s = let l = some-left parser.spans s in inr (l.0, subst (λ b. Left b parser l.0) (sym e) l.1)
@@ -64,30 +62,22 @@ module _ {E F : Type 0} where
 
   -- a parser at the start
   module _ (parser : Parser E F) (text : List ℕ) (options : Options) (lookup : Lookup) where
-    abbrev pub blocks : List Ranged
-    blocks = block_reading (document text options lookup)
+    abbrev pub left : List Segment
+    left = segments (document text options lookup)
 
-    pub reads-from : parser.is_over ≡ false → ((events : List Ranged) → WithSpans text false blocks events → walking.Remains parser.spans events) → ((events : List Ranged) → walking.Remains parser.spans events → WithSpans text false blocks events)
+    pub reads-from : parser.is_over ≡ false → ((events : List Ranged) → AreGiven text left events → walking.Remains parser.spans events) → ((events : List Ranged) → walking.Remains parser.spans events → AreGiven text left events)
         → Reads text options lookup parser
     reads-from e begins reads =
-        let l = some-spans text false blocks in
+        let l = some-given text left in
         record {
           some = (l.0, subst (λ b. Left b parser l.0) (sym e) (begins l.0 l.1));
-          reads = λ events r. record { document = document text options lookup; derives = derived text options lookup; spans = reads events (subst (λ b. Left b parser events) e r) };
+          reads = λ events r. record { document = document text options lookup; derives = derived text options lookup; given = reads events (subst (λ b. Left b parser events) e r) };
         }
 
     -- at its start a parser can go
     pub can-begin : Reads text options lookup parser → CanGo parser
     can-begin r = record { goes = inr r.some }
 
--- the content of a text's leaves is in turn
-pub begin-turn : (text : List ℕ) (options : Options) (lookup : Lookup) → IsUtf8 text → InTurn text 0 (block_reading (document text options lookup))
-begin-turn text options lookup utf8 =
-    let d = derived text options lookup in
-    subst (InTurn text 0) (append-nil (block_reading (document text options lookup)))
-    (reading-turn text 0 (document text options lookup) (length text) [] (derived-order text options lookup (document text options lookup) d)
-    (derived-boundaries text options lookup (document text options lookup) utf8 d) tt)
-
--- the events of its document are few
-pub begin-few : (text : List ℕ) (options : Options) (lookup : Lookup) → length (block_reading (document text options lookup)) < length text * 8 + 1
-begin-few text options lookup = let n = derived-few text options lookup (document text options lookup) (derived text options lookup) in omega (arith, n)
+-- the events and leaves of its document are few
+pub begin-few : (text : List ℕ) (options : Options) (lookup : Lookup) → length (segments (document text options lookup)) < length text * 12 + 1
+begin-few text options lookup = let n = segments-few text options lookup (document text options lookup) (derived text options lookup) in omega (arith, n)

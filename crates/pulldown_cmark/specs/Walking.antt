@@ -1,13 +1,13 @@
 -- What a walk over a document still has to give, and what one call of it gives.
-use Rattle.std.specs.Prelude.{◌≡◌, ◌⊎◌, ℕ, false, List, [], ◌∷◌, Option, Some, None, Result, Ok, Err}
+use Rattle.std.specs.Prelude.{◌≡◌, ◌⊎◌, ℕ, List, [], ◌∷◌, Option, Some, None, Result, Ok, Err}
 use Rattle.std.specs.declared.alloc.AllocError.{AllocError}
 use Rattle.cmark_grammar.specs.Answers.{Lookup}
 use Rattle.cmark_grammar.specs.BlockDocument.{BlockDocument}
-use Rattle.cmark_grammar.specs.BlockReading.{block_reading}
 use Rattle.cmark_grammar.specs.Derivation.{Derives}
 use Rattle.cmark_grammar.specs.Event.{Ranged}
-use Rattle.cmark_grammar.specs.LeafSpans.{WithSpans}
+use Rattle.cmark_grammar.specs.LeafSpans.{AreGiven}
 use Rattle.cmark_grammar.specs.Options.{Options}
+use Rattle.cmark_grammar.specs.SpanDocuments.{segments}
 
 -- a walk in a state: Remains says which events are left to give, which may be several lists, since what a callback will answer is
 -- not known yet; IsOver, that nothing will be given any more; Shows, that an item shows an event
@@ -28,11 +28,11 @@ pub record GivesNext {S T : Type 0} (Remains : S → List Ranged → Type 0) (Is
   pub goes_on : GoesOn Remains IsOver Shows new
   pub over : IsOver old → (given ≡ None) × IsOver new
 
--- these events are a document that the text derives, with the spans of its leaves
+-- these events are what a document that the text derives gives, with the spans of its leaves
 pub record IsReading (text : List ℕ) (options : Options) (lookup : Lookup) (events : List Ranged) : Type 0 where
   pub document : BlockDocument
   pub derives : Derives text options lookup document
-  pub spans : WithSpans text false (block_reading document) events
+  pub given : AreGiven text (segments document) events
 
 -- a walk at its start: some events are left, and whichever are left, they are such a reading
 pub record ReadsFrom {S : Type 0} (Remains : S → List Ranged → Type 0) (text : List ℕ) (options : Options) (lookup : Lookup) (s : S) : Type 0 where

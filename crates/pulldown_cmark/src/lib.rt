@@ -8,6 +8,7 @@ pub use cmark_inline::{
     BrokenLink, BrokenLinkCallback, DefaultBrokenLinkCallback, OwnedLinkCallback,
 };
 pub use cmark_items::{LinkDef, RefDefs, RefDefsIter};
+pub use cmark_merge::{TextMergeStream, TextMergeWithOffset};
 pub use cmark_text::{
     Alignment, BasicEntities, BlockQuoteKind, CodeBlockKind, CowStr, EntityLookup, Event,
     HeadingLevel, InlineStr, InvalidHeadingLevel, LinkType, MetadataBlockKind, Options,

@@ -32,8 +32,8 @@ pub struct Parser<'input, E, F = DefaultBrokenLinkCallback> {
     is_over: bool,
 }
 
-/// The most events that a byte of text is read as, before the spans.
-const EVENTS_A_BYTE: u128 = 8;
+/// The most events of blocks and leaves that a byte of text gives.
+const EVENTS_A_BYTE: u128 = 12;
 
 impl<'input, E: EntityLookup> Parser<'input, E> {
     ghost use Rattle.pulldown_cmark.specs.Parsing.{Reads, Defines, CanGo};

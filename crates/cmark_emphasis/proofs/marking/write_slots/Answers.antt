@@ -3,8 +3,7 @@ use Rattle.cmark_emphasis.specs.Shown.{shown_pair}
 use Rattle.cmark_emphasis.specs.Slots.{AreBalanced, mark_pairs}
 use Rattle.cmark_grammar.specs.EmphasisModel.{spans_of}
 use Rattle.std.specs.Prelude.{map}
-use Rattle.cmark_emphasis.proofs.Writes.{length-stays}
-use Rattle.cmark_emphasis.proofs.Marked.{fresh, ends, within_all, balanced}
+use Rattle.cmark_emphasis.proofs.Marked.{length-stays, fresh, ends, within_all, balanced}
 use Rattle.cmark_emphasis.proofs.marking.write_slots.Goals as goal
 
 pub loop-pair-init : goal.loop-pair-init

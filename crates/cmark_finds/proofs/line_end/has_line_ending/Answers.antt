@@ -5,4 +5,4 @@ use Rattle.cmark_scan_parts.proofs.Lists.{any_first}
 use Rattle.cmark_finds.proofs.line_end.has_line_ending.Goals as goal
 
 pub returns : goal.returns
-returns c = c.is_some.ensures ∙ any_first (is_byte2 10 13) c.as_bytes.result.now c.memchr2.result c.memchr2.ensures ∙ ap takes_lines c.as_bytes.ensures.value
+returns c = c.is_some.ensures ∙ any_first (is_byte2 10 13) c.as_bytes.result.now c.find_line_end.result c.find_line_end.ensures ∙ ap takes_lines c.as_bytes.ensures.value

@@ -1,9 +1,10 @@
-use Rattle.std.proofs.Common.{◌≡◌, ◌≤◌, ◌-◌, length}
+use Rattle.std.proofs.Common.{◌≡◌, ◌≤◌, ◌-◌, length, drop}
+use Rattle.cmark_grammar.specs.LinkDefinitions.{behind_blanks}
 use Rattle.std.specs.Str.{IsCharBoundary}
 use Rattle.cmark_inline.proofs.place.behind_blanks.Given as goal
 
 abbrev pub invariant-loop-end : goal.invariant-loop-end
-invariant-loop-end l = (l.at ≤ l.end) × (l.bytes ≡ l.text) × IsCharBoundary l.text l.end
+invariant-loop-end l = (l.at ≤ l.end) × (l.bytes ≡ l.text) × IsCharBoundary l.text l.end × (behind_blanks (drop l.at l.text) ≡ behind_blanks (drop l.end l.text))
 
 abbrev pub decreases-loop-end : goal.decreases-loop-end
 decreases-loop-end l = length l.bytes - l.end

@@ -1,7 +1,9 @@
-use Rattle.std.proofs.Common.{◌≡◌, ◌≤◌, ◌<◌, ◌+◌, ◌-◌, ◌++◌, ◌∷◌, [], ℕ, List, length, get_or, refl, ap, arith}
+use Rattle.std.proofs.Common.{◌≡◌, ◌≤◌, ◌<◌, ◌+◌, ◌-◌, ◌++◌, ◌∷◌, [], ℕ, List, length, get_or, refl, ap, ◌∙◌, arith}
 use Rattle.std.proofs.lemmas.List.{length_push}
 use Rattle.cmark_inline.specs.declared.slot.Slot.{Slot}
 use Rattle.cmark_inline.specs.declared.slot.SlotKind.TheVariants as kind
+use Rattle.cmark_inline.specs.Tokens.{byte_slots}
+use Rattle.cmark_inline.proofs.Appended.{push-byte}
 use Rattle.cmark_inline.proofs.Steps.{after, byte-slot, no-new, slots-push}
 use Rattle.cmark_inline.proofs.state.InlineState.push_bytes.Goals as goal
 
@@ -31,5 +33,13 @@ loop-at-preserved c =
       links = (λ from h. no-new ss ts slot refl e from (i.links from h));
       expansion = i.expansion;
       delimiters = i.delimiters;
+      bytes = push-byte c.args.self.now.slots.items ss ts c.args.start at b i.bytes e;
       size = (let q : length ts ≡ length c.args.self.now.slots.items + (at + 1 - c.args.start) = omega (arith, l, m, z, b) in q);
     }
+
+pub returns-clause-bytes : goal.returns-clause-bytes
+returns-clause-bytes c =
+    let i = c.loop-at.invariant in
+    let past = c.loop-at-test.false in
+    let before = i.before in
+    i.bytes ∙ ap (λ (n : ℕ). c.args.self.now.slots.items ++ byte_slots c.args.start n) (let q : c.loop-at.at - c.args.start ≡ c.args.end - c.args.start = omega (arith, past, before) in q)

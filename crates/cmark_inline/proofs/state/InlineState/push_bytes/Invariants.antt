@@ -1,6 +1,7 @@
-use Rattle.std.proofs.Common.{◌≡◌, ◌≤◌, ◌+◌, ◌-◌, length}
+use Rattle.std.proofs.Common.{◌≡◌, ◌≤◌, ◌+◌, ◌-◌, ◌++◌, length}
 use Rattle.std.specs.Str.{IsCharBoundary}
 use Rattle.cmark_inline.specs.Stands.{AreSlots, NoNewLink}
+use Rattle.cmark_inline.specs.Tokens.{byte_slots}
 use Rattle.cmark_inline.proofs.state.InlineState.push_bytes.Given as goal
 
 abbrev pub invariant-loop-at : goal.invariant-loop-at
@@ -13,6 +14,7 @@ invariant-loop-at l = record {
   links : NoNewLink l.initial.self.slots.items l.self.slots.items;
   expansion : l.self.expansion ≡ l.initial.self.expansion;
   delimiters : l.self.delimiters ≡ l.initial.self.delimiters;
+  bytes : l.self.slots.items ≡ l.initial.self.slots.items ++ byte_slots l.start (l.at - l.start);
   size : length l.self.slots.items ≡ length l.initial.self.slots.items + (l.at - l.start);
 }
 

@@ -9,10 +9,10 @@ pub returns : goal.returns
 returns c at past =
     let bytes = c.args.bytes.now in
     ap (λ cs. record { columns = expand 0 at cs; stop = at + length cs; past = past; lazy = false })
-    (ap (λ n. take n bytes) c.unwrap_or-len.ensures ∙ first_ending bytes c.memchr2.result c.memchr2.ensures)
+    (ap (λ n. take n bytes) c.unwrap_or-len.ensures ∙ first_ending bytes c.find_line_end.result c.find_line_end.ensures)
 
 pub invariant_of-result-clause-plain : goal.invariant_of-result-clause-plain
 invariant_of-result-clause-plain c =
     let bytes = c.args.bytes.now in
-    let is : take c.unwrap_or-len.result bytes ≡ content bytes = ap (λ n. take n bytes) c.unwrap_or-len.ensures ∙ first_ending bytes c.memchr2.result c.memchr2.ensures in
+    let is : take c.unwrap_or-len.result bytes ≡ content bytes = ap (λ n. take n bytes) c.unwrap_or-len.ensures ∙ first_ending bytes c.find_line_end.result c.find_line_end.ensures in
     ap content is ∙ content-once bytes ∙ sym is

@@ -1,7 +1,7 @@
-use Rattle.std.proofs.Common.{sym, ap, ◌∙◌, option_map}
+use Rattle.std.proofs.Common.{[], sym, ap, ◌∙◌, option_map}
 use Rattle.cmark_text.specs.Shown.{shown_end}
 use Rattle.cmark_walk.proofs.WalkSteps.{goes-after}
-use Rattle.cmark_walk.proofs.LeaveSteps.{parent-number, leaves-some, leaves-none}
+use Rattle.cmark_walk.proofs.LeaveSteps.{parent-number, leaves-over, leaves-some, leaves-none}
 use Rattle.cmark_walk.proofs.walk.Walk.leave.Goals as goal
 
 pub item-item-requires : goal.item-item-requires
@@ -14,13 +14,14 @@ returns-in-Some-end-clause-given c =
 
 pub returns-in-Some-end-clause-goes : goal.returns-in-Some-end-clause-goes
 returns-in-Some-end-clause-goes c =
-    goes-after c.requires.0.0 c.given.result _ (leaves-some c.args.self.now c.in-Some.ix c.pop.new.self c.requires.1 c.in-Some.ensures.result c.in-Some.ensures.popped c.item-item.result.now c.next_sibling.new.self c.item-item.ensures c.next_sibling.ensures.past
-    c.in-Some-end.end c.given.result (λ z above node b d. ap (option_map shown_end) (sym c.in-Some-end.is) ∙ c.end-end.ensures z above node b d) c.given.ensures c.requires.0.0 c.requires.0.1)
+    goes-after c.requires.0.0 c.given.result [] _
+    (leaves-some c.args.self.now c.in-Some.ix c.pop.new.self c.requires.1 c.in-Some.ensures.result c.in-Some.ensures.popped c.item-item.result.now c.next_sibling.new.self c.item-item.ensures c.next_sibling.ensures.past
+    c.in-Some-end.end c.given.result (λ z above node b d. ap (option_map shown_end) (sym c.in-Some-end.is) ∙ c.end-end.ensures z above node b d) c.given.ensures c.requires.0.0 [] c.requires.0.1)
 
 pub returns-in-None-clause-given : goal.returns-in-None-clause-given
-returns-in-None-clause-given c =
+returns-in-None-clause-given c = λ left lines r.
     leaves-none c.args.self.now c.in-Some.ix c.pop.new.self c.requires.1 c.in-Some.ensures.result c.in-Some.ensures.popped c.item-item.result.now c.next_sibling.new.self c.item-item.ensures c.next_sibling.ensures.past
-    (λ z above node b d. ap (option_map shown_end) (sym c.in-None.is) ∙ c.end-end.ensures z above node b d)
+    (λ z above node b d. ap (option_map shown_end) (sym c.in-None.is) ∙ c.end-end.ensures z above node b d) left r
 
 pub returns-in-None-clause-goes : goal.returns-in-None-clause-goes
 returns-in-None-clause-goes c = (
@@ -28,3 +29,7 @@ returns-in-None-clause-goes c = (
   leaves-none c.args.self.now c.in-Some.ix c.pop.new.self c.requires.1 c.in-Some.ensures.result c.in-Some.ensures.popped c.item-item.result.now c.next_sibling.new.self c.item-item.ensures c.next_sibling.ensures.past
       (λ z above node b d. ap (option_map shown_end) (sym c.in-None.is) ∙ c.end-end.ensures z above node b d) c.requires.0.0 c.requires.0.1,
 )
+
+pub returns-in_default-clause-given : goal.returns-in_default-clause-given
+returns-in_default-clause-given c = λ left lines r.
+    leaves-over c.args.self.now c.pop.new.self c.requires.1 c.in_default.ensures.result c.in_default.ensures.popped left r

@@ -1,4 +1,4 @@
-use Rattle.std.proofs.Common.{Some, ◌<◌, OnSome, refl, subst}
+use Rattle.std.proofs.Common.{◌<◌, OnSome, refl, subst}
 use Rattle.cmark_span_walk.specs.Walking.{Gives, events_left}
 use Rattle.pulldown_cmark.proofs.ParseSteps.{going, gives-none, gives-some}
 use Rattle.pulldown_cmark.proofs.parse.Parser.advance.Goals as goal

@@ -1,18 +1,19 @@
 use Rattle.std.proofs.Common.{refl, sym, ap, subst, option_map, ◌∙◌}
 use Rattle.cmark_text.specs.Shown.{shown_options}
 use Rattle.cmark_block_model.specs.BlockPass.{pass_over}
-use Rattle.cmark_block_model.proofs.Drawings.{drawn-read, drawn-order, drawn-edges}
-use Rattle.cmark_grammar.specs.BlockReading.{block_reading}
+use Rattle.cmark_block_model.proofs.Drawings.{drawn-order, drawn-edges}
+use Rattle.cmark_block_model.proofs.LeafDrawings.{drawn-segments}
 use Rattle.cmark_grammar.specs.Derivation.{document}
 use Rattle.cmark_grammar.specs.BlockDocument.{BlockDocument}
 use Rattle.cmark_grammar.specs.Labels.{fold}
 use Rattle.cmark_grammar.specs.References.{first_with, references}
+use Rattle.cmark_grammar.specs.SpanDocuments.{segments}
 use Rattle.cmark_grammar.proofs.BlockDocumentOne.{document-only}
 use Rattle.cmark_blocks.specs.Runs.{shown_reference}
 use Rattle.cmark_items.specs.Definitions.{definition, shown_definition}
 use Rattle.cmark_items.specs.declared.definitions.RefDefs.{RefDefs}
 use Rattle.cmark_walk.specs.Walking.{Remains}
-use Rattle.pulldown_cmark.proofs.ParseSteps.{begin-few, begin-turn, reads-from, can-begin}
+use Rattle.pulldown_cmark.proofs.ParseSteps.{begin-few, reads-from, can-begin}
 use Rattle.pulldown_cmark.proofs.parse.Parser.new_with_broken_link_callback.Goals as goal
 
 pub returns-clause-reads : goal.returns-clause-reads
@@ -20,14 +21,14 @@ returns-clause-reads g c =
     let text = c.args.text.now in
     let options = shown_options c.args.options in
     let lookup = g.E.EntityLookup.replacement c.args.entities.now in
-    let blocks = block_reading (document text options lookup) in
+    let left = segments (document text options lookup) in
     let leaves = c.in_ok-tree.ensures.document in
     let drawn =
     c.new-walk.ensures.remains leaves.forest (pass_over text options lookup).drawing.here leaves.tree_is leaves.drawn (drawn-order text options lookup)
     (drawn-edges text options lookup c.utf8.text) in
-    let remains = subst (Remains c.new-walk.result) (drawn-read text options lookup) drawn in
-    reads-from _ text options lookup refl (λ events w. c.new.ensures.begins blocks events remains (begin-few text options lookup) (begin-turn text options lookup c.utf8.text) w)
-    (λ events r. c.new.ensures.reads blocks events remains r)
+    let remains = subst (Remains c.new-walk.result) (drawn-segments text options lookup) drawn in
+    reads-from _ text options lookup refl (λ events w. c.new.ensures.begins left events remains c.new-walk.ensures.text (begin-few text options lookup) w)
+    (λ events r. c.new.ensures.reads left events remains r)
 
 -- each document that the text derives is the model's
 pub returns-clause-definitions : goal.returns-clause-definitions

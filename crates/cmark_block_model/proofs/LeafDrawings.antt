@@ -1,0 +1,166 @@
+-- What is drawn has the events and the leaves of the document.
+use Rattle.std.proofs.Common.{◌≡◌, ℕ, ◌+◌, ◌*◌, ◌≤◌, Bool, true, false, ◌==◌, if◌then◌else◌, List, [], ◌∷◌, ◌++◌, length, Option, None, Some, refl, ap, ◌∙◌, sym, subst, arith, length-append}
+use Rattle.cmark_grammar.specs.Answers.{Lookup}
+use Rattle.cmark_grammar.specs.Options.{Options}
+use Rattle.cmark_grammar.specs.Event.{End}
+use Rattle.cmark_grammar.specs.TagEnd.{end_of}
+use Rattle.cmark_grammar.specs.Rows.{Row, first_place, begin_of, start_of, past_of}
+use Rattle.cmark_grammar.specs.Containers.{Quote, Item}
+use Rattle.cmark_grammar.specs.Openings.{Leaf, ThematicBreak as ThematicBreakLeaf, AtxHeading as AtxHeadingLeaf, IndentedCode as IndentedCodeLeaf, FencedCode as FencedCodeLeaf, HtmlBlock as HtmlBlockLeaf, LinkDefinition as LinkDefinitionLeaf}
+use Rattle.cmark_grammar.specs.Blocks.{Blocks, Nil as NoBlocks, BlankLine, Paragraph as ParagraphBlock, SetextHeading, LeafBlock, ContainerBlock}
+use Rattle.cmark_grammar.specs.Lists.{ListBefore, tight_behind, goes_on}
+use Rattle.cmark_grammar.specs.Tokens.{Piece, end_place, piece_if, texts_then, words_end, stretch_then, stretches, html_then, html_tokens, verbatim_line, behind_hashes, heading_columns, code_pieces, fenced_lines}
+use Rattle.cmark_grammar.specs.BlockDocument.{Text, OwnedText, ListItem, BlockNode, BlockDocument, Nil, Node, node}
+use Rattle.cmark_grammar.specs.BlockReading.{Reads, Around, Inside, Alone, Silent, read_as, over}
+use Rattle.cmark_grammar.specs.Derivation.{Derives, leaf_then, item_then, document_of, document}
+use Rattle.cmark_grammar.specs.DrawnDocument.{is_definition, node_unless, settled, without_definitions}
+use Rattle.cmark_grammar.specs.LeafText.{Stretch}
+use Rattle.cmark_grammar.specs.Ranges.{count_nodes}
+use Rattle.cmark_grammar.specs.SpanDocuments.{Segment, Given, Content, is_leaf, leaf_of, stretches_of, inside_of, node_segments, segments}
+use Rattle.cmark_grammar.proofs.CountLaws.{derived-count}
+use Rattle.cmark_block_model.specs.BlockPass.{pass_over}
+use Rattle.cmark_block_model.proofs.Drawings.{derived, silent}
+use Rattle.cmark_block_model.proofs.Theorem.{pass-draws}
+
+-- none of these nodes is a definition
+abbrev AreNoDefinitions : BlockDocument → Type 0
+AreNoDefinitions Nil = Unit {0}
+AreNoDefinitions (Node n inside after) = (is_definition n.kind ≡ false) × AreNoDefinitions after
+
+-- no definition stands in a leaf
+abbrev HasWholeLeaves : BlockDocument → Type 0
+HasWholeLeaves Nil = Unit {0}
+HasWholeLeaves (Node n inside after) = (is_leaf n.kind ≡ true → AreNoDefinitions inside) × HasWholeLeaves inside × HasWholeLeaves after
+
+texts-free : (ps : List Piece) (after : BlockDocument) → AreNoDefinitions after → AreNoDefinitions (texts_then ps after)
+texts-free [] after h = h
+texts-free (p ∷ ps) after h = (kind p.owned, texts-free ps after h)
+  where
+    kind : (z : Bool) → is_definition (if z then OwnedText p.bytes else Text p.bytes) ≡ false
+    kind true = refl
+    kind false = refl
+
+stretch-free : (text : List ℕ) (start end : ℕ) (after : BlockDocument) → AreNoDefinitions after → AreNoDefinitions (stretch_then text start end after)
+stretch-free text start end after h = texts-free (piece_if text start end []) after h
+
+stretches-free : (text : List ℕ) (begin : ℕ) (r : Row) (more : List Row) → AreNoDefinitions (stretches text begin r more)
+stretches-free text begin r [] = stretch-free text begin (words_end r) Nil tt
+stretches-free text begin r (s ∷ more) = go (begin_of s == r.past) (stretches-free text begin s more) (stretches-free text (begin_of s) s more)
+  where
+    go : (z : Bool) → AreNoDefinitions (stretches text begin s more) → AreNoDefinitions (stretches text (begin_of s) s more)
+        → AreNoDefinitions (if z then stretches text begin s more else stretch_then text begin r.past (stretches text (begin_of s) s more))
+    go true p q = p
+    go false p q = stretch-free text begin r.past (stretches text (begin_of s) s more) q
+
+texts-whole : (ps : List Piece) (after : BlockDocument) → HasWholeLeaves after → HasWholeLeaves (texts_then ps after)
+texts-whole [] after h = h
+texts-whole (p ∷ ps) after h = (λ e. tt, tt, texts-whole ps after h)
+
+stretch-whole : (text : List ℕ) (start end : ℕ) (after : BlockDocument) → HasWholeLeaves after → HasWholeLeaves (stretch_then text start end after)
+stretch-whole text start end after h = texts-whole (piece_if text start end []) after h
+
+stretches-whole : (text : List ℕ) (begin : ℕ) (r : Row) (more : List Row) → HasWholeLeaves (stretches text begin r more)
+stretches-whole text begin r [] = stretch-whole text begin (words_end r) Nil tt
+stretches-whole text begin r (s ∷ more) = go (begin_of s == r.past) (stretches-whole text begin s more) (stretches-whole text (begin_of s) s more)
+  where
+    go : (z : Bool) → HasWholeLeaves (stretches text begin s more) → HasWholeLeaves (stretches text (begin_of s) s more)
+        → HasWholeLeaves (if z then stretches text begin s more else stretch_then text begin r.past (stretches text (begin_of s) s more))
+    go true p q = p
+    go false p q = stretch-whole text begin r.past (stretches text (begin_of s) s more) q
+
+html-then-whole : (ps : List Piece) (after : BlockDocument) → HasWholeLeaves after → HasWholeLeaves (html_then ps after)
+html-then-whole [] after h = h
+html-then-whole (p ∷ ps) after h = (λ e. tt, tt, html-then-whole ps after h)
+
+html-whole : (text : List ℕ) (rs : List Row) → HasWholeLeaves (html_tokens text rs)
+html-whole text [] = tt
+html-whole text (r ∷ rs) = html-then-whole (verbatim_line text r.columns r) (html_tokens text rs) (html-whole text rs)
+
+no-leaf : (kind : Bool) → kind ≡ false → (P : Type 0) → kind ≡ true → P
+no-leaf kind e P f = absurd (let q : true ≡ false = sym f ∙ e in cc)
+
+leaf-whole : (text : List ℕ) (lookup : Lookup) (leaf : Leaf) (first : Row) (more : List Row) (after : BlockDocument) → HasWholeLeaves after → HasWholeLeaves (leaf_then text lookup leaf first more after)
+leaf-whole text lookup ThematicBreakLeaf first more after h = (λ e. tt, tt, h)
+leaf-whole text lookup (AtxHeadingLeaf level) first more after h =
+    let start = first_place first.stop (behind_hashes level first) in
+    let end = end_place start (heading_columns level first) in
+    (λ e. stretch-free text start end Nil tt, stretch-whole text start end Nil tt, h)
+leaf-whole text lookup IndentedCodeLeaf first more after h = (λ e. texts-free (code_pieces text 4 (first ∷ more)) Nil tt, texts-whole (code_pieces text 4 (first ∷ more)) Nil tt, h)
+leaf-whole text lookup (FencedCodeLeaf fence) first more after h =
+    (λ e. texts-free (code_pieces text fence.indented (fenced_lines fence more)) Nil tt, texts-whole (code_pieces text fence.indented (fenced_lines fence more)) Nil tt, h)
+leaf-whole text lookup (HtmlBlockLeaf kind) first more after h = (λ e. no-leaf false refl _ e, html-whole text (first ∷ more), h)
+leaf-whole text lookup (LinkDefinitionLeaf definition) first more after h = (λ e. tt, tt, h)
+
+item-whole : (joins : Bool) (number : Option ℕ) (tight : Bool) (start end : ℕ) (inside after : BlockDocument) → HasWholeLeaves inside → HasWholeLeaves after
+    → HasWholeLeaves (item_then joins number tight (node ListItem start end) inside after)
+item-whole false number tight start end inside after i a = (λ e. no-leaf false refl _ e, (λ e. no-leaf false refl _ e, i, tt), a)
+item-whole true number tight start end inside Nil i a = (λ e. no-leaf false refl _ e, (λ e. no-leaf false refl _ e, i, tt), tt)
+item-whole true number tight start end inside (Node list items after) i a = (λ e. no-leaf false refl _ e, (λ e. no-leaf false refl _ e, i, a.1), a.2)
+
+document-whole : (text : List ℕ) (lookup : Lookup) (direct : Bool) (before : Option ListBefore) (b : Blocks) → HasWholeLeaves (document_of text lookup direct before b)
+document-whole text lookup direct before NoBlocks = tt
+document-whole text lookup direct before (BlankLine line after) = document-whole text lookup direct before after
+document-whole text lookup direct before (ParagraphBlock first more after) = (λ e. stretches-free text (start_of first) first more, stretches-whole text (start_of first) first more, document-whole text lookup direct None after)
+document-whole text lookup direct before (SetextHeading level first more underline after) =
+    (λ e. stretches-free text (start_of first) first more, stretches-whole text (start_of first) first more, document-whole text lookup direct None after)
+document-whole text lookup direct before (LeafBlock leaf first more after) = leaf-whole text lookup leaf first more (document_of text lookup direct None after) (document-whole text lookup direct None after)
+document-whole text lookup direct before (ContainerBlock Quote first more inside after) = (λ e. no-leaf false refl _ e, document-whole text lookup false None inside, document-whole text lookup direct None after)
+document-whole text lookup direct before (ContainerBlock (Item mark number width) first more inside after) =
+    let tight = tight_behind before mark inside after in
+    item-whole (goes_on mark after) number tight (begin_of first) (past_of first more) (document_of text lookup tight None inside) (document_of text lookup direct (Some (record { mark = mark; tight = tight })) after)
+    (document-whole text lookup tight None inside) (document-whole text lookup direct (Some (record { mark = mark; tight = tight })) after)
+
+derived-whole : (text : List ℕ) (options : Options) (lookup : Lookup) (d : BlockDocument) → Derives text options lookup d → HasWholeLeaves d
+derived-whole text options lookup d h = subst HasWholeLeaves (sym h.2) (document-whole text lookup false None h.0)
+
+-- a leaf without definitions keeps its stretches
+same-stretches : (d : BlockDocument) → AreNoDefinitions d → stretches_of (without_definitions d) ≡ stretches_of d
+same-stretches Nil h = refl
+same-stretches (Node n inside after) h =
+    ap (λ b. stretches_of (node_unless b n (without_definitions inside) (without_definitions after))) h.0 ∙ ap (λ (more : List Stretch). record { start = n.start; end = n.end } ∷ more) (same-stretches after h.1)
+
+same-inside : (b : Bool) (inside : BlockDocument) (others more : List Segment) → (b ≡ true → AreNoDefinitions inside) → others ≡ more
+    → (if b then Content (leaf_of (without_definitions inside)) ∷ [] else others) ≡ (if b then Content (leaf_of inside) ∷ [] else more)
+same-inside true inside others more free e = ap (λ (l : List Stretch). Content (record { stretches = l; is_cell = false }) ∷ []) (same-stretches inside (free refl))
+same-inside false inside others more free e = e
+
+-- a document without its definitions has the events and leaves of the document
+pub whole-segments : (d : BlockDocument) → HasWholeLeaves d → segments (without_definitions d) ≡ segments d
+whole-segments Nil h = refl
+whole-segments (Node n inside after) h = go (is_definition n.kind) refl (whole-segments inside h.1) (whole-segments after h.2)
+  where
+    go : (b : Bool) → is_definition n.kind ≡ b → segments (without_definitions inside) ≡ segments inside → segments (without_definitions after) ≡ segments after
+        → segments (node_unless b n (without_definitions inside) (without_definitions after)) ≡ node_segments (read_as n.kind) n (inside_of n.kind inside (segments inside)) ++ segments after
+    go true e i a = a ∙ ap (λ r. node_segments r n (inside_of n.kind inside (segments inside)) ++ segments after) (sym (silent n.kind e))
+    go false e i a =
+        ap (λ l. node_segments (read_as n.kind) n l ++ segments (without_definitions after)) (same-inside (is_leaf n.kind) inside (segments (without_definitions inside)) (segments inside) h.0 i)
+        ∙ ap (λ l. node_segments (read_as n.kind) n (inside_of n.kind inside (segments inside)) ++ l) a
+
+-- a node gives three at most
+node-few : (r : Reads) (n : BlockNode) (l : List Segment) → length (node_segments r n l) ≤ 2 + length l
+node-few (Around tag) n l = let e = length-append l (Given (over n (End (end_of tag))) ∷ []) in omega (arith, e)
+node-few Inside n l = omega arith
+node-few (Alone event) n l = omega arith
+node-few Silent n l = omega arith
+
+inside-few : (b : Bool) (content : BlockDocument) (others : List Segment) → length (if b then Content (leaf_of content) ∷ [] else others) ≤ 1 + length others
+inside-few true content others = omega arith
+inside-few false content others = omega arith
+
+segments-count : (d : BlockDocument) → length (segments d) ≤ 3 * count_nodes d
+segments-count Nil = omega arith
+segments-count (Node n inside after) =
+    let own = inside_of n.kind inside (segments inside) in
+    let e = length-append (node_segments (read_as n.kind) n own) (segments after) in
+    let f = node-few (read_as n.kind) n own in
+    let g = inside-few (is_leaf n.kind) inside (segments inside) in
+    let i = segments-count inside in
+    let a = segments-count after in
+    omega (arith, e, f, g, i, a)
+
+pub segments-few : (text : List ℕ) (options : Options) (lookup : Lookup) (d : BlockDocument) → Derives text options lookup d → length (segments d) ≤ 12 * length text
+segments-few text options lookup d h = let a = segments-count d in let b = derived-count text options lookup d h in omega (arith, a, b)
+
+pub drawn-segments : (text : List ℕ) (options : Options) (lookup : Lookup) → segments (settled false (pass_over text options lookup).drawing.here) ≡ segments (document text options lookup)
+drawn-segments text options lookup =
+    ap segments (pass-draws text options lookup).0 ∙ whole-segments (document text options lookup) (derived-whole text options lookup (document text options lookup) (derived text options lookup))

@@ -1,0 +1,293 @@
+-- Slots that stand for the item that begins where they were appended.
+use Rattle.std.specs.Prelude.{Option, Some, None, option_map, if◌then◌else◌, slice_get, encode_utf8}
+use Rattle.std.proofs.Common.{◌≡◌, ◌⊎◌, inl, inr, ℕ, suc, ◌+◌, ◌-◌, ◌<◌, ◌≤◌, ◌==◌, Bool, true, false, List, [], ◌∷◌, ◌++◌, length, take, drop, get_or, refl, sym, ap, subst, ◌∙◌, arith, length-drop, append_assoc, zero}
+use Rattle.std.specs.List.{prefix_len}
+use Rattle.std.proofs.lemmas.List.{append-nil, length_push, get_or_push}
+use Rattle.std.proofs.lemmas.Option.{slice_get-get_or}
+use Rattle.cmark_grammar.specs.Answers.{Lookup}
+use Rattle.cmark_grammar.specs.CodeSpans.{is_backtick, backticks, code_in, code_text}
+use Rattle.cmark_grammar.specs.Columns.{is_blank_byte}
+use Rattle.cmark_grammar.specs.InlineTokens.{item_at, code_or, entity_or, place_of, break_or, escape_at, escaped_backtick}
+use Rattle.cmark_grammar.specs.Items.{ItemKind, SoftBreak, HardBreak, Plain, Own, Code, Written, Item, Token, Stands}
+use Rattle.cmark_grammar.specs.Letters.{first_is, behind_if, and_then}
+use Rattle.cmark_grammar.specs.LineBreaks.{ends_with_two_spaces, hard_break, backslash_break_in, line_break_in, LineBreak}
+use Rattle.cmark_grammar.specs.Options.{Options}
+use Rattle.cmark_grammar.specs.Tags.{behind_ending}
+use Rattle.cmark_grammar.specs.Tokens.{slice, Entity, entity_in, is_punctuation}
+use Rattle.cmark_text.specs.Shown.{text_bytes}
+use Rattle.cmark_text.specs.declared.text.CowStr.{CowStr}
+use Rattle.cmark_finds.specs.Shown.{shown_break, shown_code, IsBreakAt, IsCodeAt}
+use Rattle.cmark_finds.specs.declared.breaks.LineBreak as find
+use Rattle.cmark_finds.specs.declared.code.CodeSpan.{CodeSpan}
+use Rattle.cmark_inline.specs.Tokens.{whole, reading, begins_at, read_on, Says, IsItem, Puts, Appends, Escapes, TakesEscaped, byte_slots}
+use Rattle.cmark_inline.specs.Stands.{PushesText}
+use Rattle.cmark_inline.specs.declared.slot.Slot.{Slot}
+use Rattle.cmark_inline.specs.declared.slot.SlotKind.{SlotKind}
+use Rattle.cmark_inline.specs.declared.slot.SlotKind.TheVariants as kind
+use Rattle.cmark_inline.specs.declared.state.InlineState.{InlineState}
+use Rattle.cmark_inline.specs.declared.step.Cursor.{Cursor}
+use Rattle.cmark_inline.proofs.TokenSteps.{line-token, found-at-ending, slash-begins, slash-break-behind, break-stands, code-begins, entity-begins, front, line-at-slash, slash-escapes, slash-run, some-ticks}
+
+module _ (o : Options) (l : Lookup) (text : List ℕ) (here : Cursor) (old new : InlineState) (next : Cursor) where
+  -- where only slots were appended
+  no-texts : new ≡ record old { slots = new.slots } → new.texts.items ≡ old.texts.items ++ []
+  no-texts e = ap (λ (s : InlineState). s.texts.items) e ∙ sym (append-nil old.texts.items)
+
+  -- ## Line breaks
+  break-item : (texts : List CowStr) (slot : Slot) (hard : Bool) (stop at end : ℕ)
+      → slot ≡ record { kind = if hard then kind.HardBreak else kind.SoftBreak; start = if hard then stop else at; end = end }
+      → IsItem text texts (record { kind = if hard then HardBreak else SoftBreak; start = if hard then stop else at; end = end }) slot
+  break-item texts slot hard stop at end e = record {
+    start = ap (λ (s : Slot). s.start) e;
+    end = ap (λ (s : Slot). s.end) e;
+    says = says hard (slot.kind) (ap (λ (s : Slot). s.kind) e);
+  }
+    where
+      says : (z : Bool) (k : SlotKind) → k ≡ (if z then kind.HardBreak else kind.SoftBreak) → Says text texts slot.start slot.end (if z then HardBreak else SoftBreak) k
+      says true k q = subst (Says text texts slot.start slot.end HardBreak) (sym q) tt
+      says false k q = subst (Says text texts slot.start slot.end SoftBreak) (sym q) tt
+
+  pub break-appends : (stop : ℕ) (found : find.LineBreak) (slot : Slot) (hard : Bool)
+      → here.pending ≤ stop → stop ≤ here.at → here.at < length text
+      → ((k : ℕ) → stop ≤ k → k < here.at → is_blank_byte (get_or text k 0) ≡ true) → (get_or text here.at 0 ≡ 10) ⊎ (get_or text here.at 0 ≡ 13)
+      → option_map (shown_break text here.at) (Some found) ≡ line_break_in (drop here.at text) → IsBreakAt text here.at found
+      → hard ≡ ends_with_two_spaces (slice text stop here.at)
+      → slot ≡ record { kind = if hard then kind.HardBreak else kind.SoftBreak; start = if hard then stop else here.at; end = found.end }
+      → next.at ≡ read_on text slot.end → next.pending ≡ next.at → Puts here.pending stop slot old.slots.items new.slots.items → new ≡ record old { slots = new.slots }
+      → Appends o l text here old new next
+  break-appends stop found slot hard behind before lt blanks ends value places is-hard is at pending slots others =
+      let two : Bool = ends_with_two_spaces (slice text stop here.at) in
+      let e = ap (λ z. record { kind = if z then kind.HardBreak else kind.SoftBreak; start = if z then stop else here.at; end = found.end }) is-hard in
+      let a = places.behind in let b = places.ordered in let w = places.ends.0 in
+      record {
+        from = stop;
+        item = record { kind = if two then HardBreak else SoftBreak; start = if two then stop else here.at; end = found.end };
+        slot = slot;
+        behind = behind;
+        before = before;
+        blanks = blanks;
+        token =
+            line-token o l text stop here.at found.end before lt (let q : here.at ≤ found.end = omega (arith, a, b) in q) w blanks ends (found-at-ending text here.at lt found ends value)
+            ∙ ap (Stands (record { kind = if two then HardBreak else SoftBreak; start = if two then stop else here.at; end = found.end })) (sym (at ∙ ap (λ (s : Slot). read_on text s.end) is));
+        pending = pending;
+        slots = slots;
+        owned = [];
+        texts = no-texts others;
+        is = break-item new.texts.items slot two stop here.at found.end (is ∙ e);
+      }
+
+  -- a hard break that begins with a backslash
+  pub slash-appends : (found : find.LineBreak) (slot : Slot)
+      → here.pending ≤ here.at → here.at < length text → get_or text here.at 0 ≡ 92
+      → option_map (shown_break text here.at) (Some found) ≡ line_break_in (drop here.at text) → IsBreakAt text here.at found
+      → slot ≡ record { kind = kind.HardBreak; start = here.at; end = found.end }
+      → next.at ≡ read_on text slot.end → next.pending ≡ next.at → Puts here.pending here.at slot old.slots.items new.slots.items → new ≡ record old { slots = new.slots }
+      → Appends o l text here old new next
+  slash-appends found slot behind lt byte value places is at pending slots others =
+      let a = places.behind in let b = places.ordered in let w = places.ends.0 in
+      let item : Item = record { kind = HardBreak; start = here.at; end = found.end } in
+      record {
+        from = here.at;
+        item = item;
+        slot = slot;
+        behind = behind;
+        before = omega arith;
+        blanks = λ k le high. absurd (omega (arith, le, high));
+        token =
+            slash-begins o l text here.at lt byte
+            ∙ ap (λ x. break_or (reading o l text) (whole text) here.at x (escape_at (reading o l text) (whole text) here.at (drop (suc here.at) text))) (slash-break-behind text here.at lt byte found value)
+            ∙ break-stands o l text here.at found.end (hard_break (drop found.end text)) (escape_at (reading o l text) (whole text) here.at (drop (suc here.at) text)) (let q : here.at ≤ found.end = omega (arith, a, b) in q) w refl
+            ∙ ap (λ s. Stands (record { kind = HardBreak; start = s; end = found.end }) (read_on text found.end)) (let q : here.at + 0 ≡ here.at = omega arith in q)
+            ∙ ap (Stands item) (sym (at ∙ ap (λ (s : Slot). read_on text s.end) is));
+        pending = pending;
+        slots = slots;
+        owned = [];
+        texts = no-texts others;
+        is = record {
+          start = ap (λ (s : Slot). s.start) is;
+          end = ap (λ (s : Slot). s.end) is;
+          says = subst (Says text new.texts.items slot.start slot.end HardBreak) (sym (ap (λ (s : Slot). s.kind) is)) tt;
+        };
+      }
+
+  -- ## Texts of their own
+  pub own-appends : (start end : ℕ)
+      → here.pending ≤ here.at → begins_at o l text here.at ≡ item_at Own start end → next.at ≡ end → next.pending ≡ next.at
+      → Puts here.pending here.at (record { kind = kind.Text; start = start; end = end }) old.slots.items new.slots.items → new ≡ record old { slots = new.slots }
+      → Appends o l text here old new next
+  own-appends start end behind token at pending slots others = record {
+    from = here.at;
+    item = record { kind = Own; start = start; end = end };
+    slot = record { kind = kind.Text; start = start; end = end };
+    behind = behind;
+    before = omega arith;
+    blanks = λ k le high. absurd (omega (arith, le, high));
+    token = token ∙ ap (Stands (record { kind = Own; start = start; end = end })) (sym at);
+    pending = pending;
+    slots = slots;
+    owned = [];
+    texts = no-texts others;
+    is = record { start = refl; end = refl; says = tt };
+  }
+
+  -- ## Code spans
+  code-ends : (span : CodeSpan) → IsCodeAt text here.at span → place_of (reading o l text) (whole text) (drop span.end text) ≡ span.end
+  code-ends span is = let d = length-drop span.end text in let w = is.ends.0 in let q : length text - length (drop span.end text) ≡ span.end = omega (arith, d, w) in q
+
+  pub code-appends : (span : CodeSpan)
+      → here.pending ≤ here.at → here.at < length text → get_or text here.at 0 ≡ 96
+      → option_map (shown_code text) (Some span) ≡ code_in (drop here.at text) → IsCodeAt text here.at span → next.at ≡ span.end → next.pending ≡ next.at
+      → Puts here.pending here.at (record { kind = kind.Code span.content_start span.content_end; start = here.at; end = span.end }) old.slots.items new.slots.items → new ≡ record old { slots = new.slots }
+      → Appends o l text here old new next
+  code-appends span behind lt byte value places at pending slots others =
+      let bytes : List ℕ = code_text (slice text span.content_start span.content_end) in
+      record {
+        from = here.at;
+        item = record { kind = Code bytes; start = here.at; end = span.end };
+        slot = record { kind = kind.Code span.content_start span.content_end; start = here.at; end = span.end };
+        behind = behind;
+        before = omega arith;
+        blanks = λ k le high. absurd (omega (arith, le, high));
+        token =
+            code-begins o l text here.at lt byte
+            ∙ ap (code_or (reading o l text) (whole text) here.at (backticks (drop here.at text))) (sym value)
+            ∙ ap (item_at (Code bytes) here.at) (code-ends span places)
+            ∙ ap (Stands (record { kind = Code bytes; start = here.at; end = span.end })) (sym at);
+        pending = pending;
+        slots = slots;
+        owned = [];
+        texts = no-texts others;
+        is = record { start = refl; end = refl; says = refl };
+      }
+
+  -- a run of backticks that opens none
+  pub run-token : (end : ℕ) → here.at < length text → get_or text here.at 0 ≡ 96 → None ≡ code_in (drop here.at text) → end ≡ here.at + prefix_len (λ b. b == get_or text here.at 0) (drop here.at text)
+      → begins_at o l text here.at ≡ item_at Own here.at end
+  run-token end lt byte none is =
+      code-begins o l text here.at lt byte
+      ∙ ap (code_or (reading o l text) (whole text) here.at (backticks (drop here.at text))) (sym none)
+      ∙ ap (item_at Own here.at) (sym (is ∙ ap (λ c. here.at + prefix_len (λ b. b == c) (drop here.at text)) byte))
+
+  -- ## Texts that the state owns
+  last-get : {A : Type 0} (xs ys : List A) (x : A) (n : ℕ) → ys ≡ xs ++ (x ∷ []) → n ≡ length xs → slice_get ys n ≡ Some x
+  last-get xs ys x n e is =
+      let m = length_push xs x in
+      ap (λ l. slice_get l n) e ∙ slice_get-get_or (xs ++ (x ∷ [])) n x (let q : n < length (xs ++ (x ∷ [])) = omega (arith, m, is) in q) ∙ ap Some (get_or_push xs x x n (sym is))
+
+  pub owned-appends : (bytes : List ℕ) (end index : ℕ) (text_is : CowStr)
+      → here.pending ≤ here.at → begins_at o l text here.at ≡ item_at (Written bytes) here.at end → next.at ≡ end → next.pending ≡ next.at
+      → Puts here.pending here.at (record { kind = kind.OwnedText index; start = here.at; end = end }) old.slots.items new.slots.items
+      → new.texts.items ≡ old.texts.items ++ (text_is ∷ []) → index ≡ length old.texts.items → text_bytes text_is ≡ bytes
+      → Appends o l text here old new next
+  owned-appends bytes end index text_is behind token at pending slots texts place is = record {
+    from = here.at;
+    item = record { kind = Written bytes; start = here.at; end = end };
+    slot = record { kind = kind.OwnedText index; start = here.at; end = end };
+    behind = behind;
+    before = omega arith;
+    blanks = λ k le high. absurd (omega (arith, le, high));
+    token = token ∙ ap (Stands (record { kind = Written bytes; start = here.at; end = end })) (sym at);
+    pending = pending;
+    slots = slots;
+    owned = text_is ∷ [];
+    texts = texts;
+    is = record { start = refl; end = refl; says = (text_is, last-get old.texts.items new.texts.items text_is index texts place, is) };
+  }
+
+  -- a character that stands for some bytes
+  pub character-appends : (bytes : List ℕ) (end character : ℕ)
+      → here.pending ≤ here.at → begins_at o l text here.at ≡ item_at (Written bytes) here.at end → next.at ≡ end → next.pending ≡ next.at
+      → Puts here.pending here.at (record { kind = kind.Character character; start = here.at; end = end }) old.slots.items new.slots.items → new ≡ record old { slots = new.slots } → encode_utf8 character ≡ bytes
+      → Appends o l text here old new next
+  character-appends bytes end character behind token at pending slots others is = record {
+    from = here.at;
+    item = record { kind = Written bytes; start = here.at; end = end };
+    slot = record { kind = kind.Character character; start = here.at; end = end };
+    behind = behind;
+    before = omega arith;
+    blanks = λ k le high. absurd (omega (arith, le, high));
+    token = token ∙ ap (Stands (record { kind = Written bytes; start = here.at; end = end })) (sym at);
+    pending = pending;
+    slots = slots;
+    owned = [];
+    texts = no-texts others;
+    is = record { start = refl; end = refl; says = is };
+  }
+
+  -- ## Entities
+  pub entity-is : (bytes range : List ℕ) (found : Option Entity) → here.at < length text → get_or text here.at 0 ≡ 38 → bytes ≡ range → range ≡ drop here.at text
+      → found ≡ and_then (behind_if (λ b. b == 38) bytes) (entity_in l) → entity_in l (drop (suc here.at) text) ≡ found
+  entity-is bytes range found lt is same cut e = sym (e ∙ ap (λ bs. and_then (behind_if (λ b. b == 38) bs) (entity_in l)) (same ∙ cut ∙ front o l text here.at 38 lt is))
+
+  pub entity-token : (entity : Entity) (end : ℕ) → here.at < length text → get_or text here.at 0 ≡ 38 → entity_in l (drop (suc here.at) text) ≡ Some entity → end ≡ here.at + entity.size
+      → begins_at o l text here.at ≡ item_at (Written entity.bytes) here.at end
+  entity-token entity end lt is e ends = entity-begins o l text here.at lt is ∙ ap (entity_or (reading o l text) (whole text) here.at) e ∙ ap (item_at (Written entity.bytes) here.at) (sym ends)
+
+  pub no-entity : here.at < length text → get_or text here.at 0 ≡ 38 → entity_in l (drop (suc here.at) text) ≡ None → next.at ≡ here.at + 1 → begins_at o l text here.at ≡ item_at Plain here.at next.at
+  no-entity lt is e at =
+      entity-begins o l text here.at lt is ∙ ap (entity_or (reading o l text) (whole text) here.at) e ∙ ap (item_at Plain here.at) (let q : suc here.at ≡ next.at = omega (arith, at) in q)
+
+-- ## Escapes
+module _ (o : Options) (l : Lookup) (text : List ℕ) (here : Cursor) (old new : InlineState) (escaped end : ℕ) where
+  pub slash-makes : here.at < length text → get_or text here.at 0 ≡ 92 → None ≡ line_break_in (drop here.at text) → true ≡ first_is is_punctuation (drop (here.at + 1) text)
+      → escaped ≡ here.at + 1 → end ≡ escaped + 1 → false ≡ (backticks (drop escaped text) == 1)
+      → PushesText here.pending here.at old.slots.items new.slots.items → new ≡ record old { slots = new.slots }
+      → Escapes o l text here old new (record { pending = escaped; at = end })
+  slash-makes lt is none punctuation e f several slots others =
+      let no-break : backslash_break_in (drop here.at text) ≡ None = sym (none ∙ line-at-slash text here.at lt is) in
+      let two : end ≡ here.at + 2 = omega (arith, e, f) in
+      record {
+        pending = e;
+        at = two;
+        token = λ t. slash-escapes o l text here.at lt is no-break t (sym punctuation) ∙ ap (λ s. item_at Plain s (here.at + 2)) (sym e) ∙ ap (item_at Plain escaped) (sym two);
+        run = λ t. (
+          slash-run o l text here.at lt is no-break t
+              ∙ ap (λ s. escaped_backtick (reading o l text) (whole text) s (backticks (drop s text)) (code_in (drop (here.at + 2) text))) (sym e)
+              ∙ ap (λ s. escaped_backtick (reading o l text) (whole text) escaped (backticks (drop escaped text)) (code_in (drop s text))) (sym two),
+          some-ticks (drop escaped text) (ap (λ s. first_is is_backtick (drop s text)) e ∙ t) (sym several),
+        );
+        slots = slots;
+        others = others;
+      }
+
+-- ## Runs of backticks that open no code span
+module _ (o : Options) (l : Lookup) (text : List ℕ) (here : Cursor) (old new : InlineState) (next : Cursor) where
+  pub ticks-make : (start end : ℕ) → here.pending ≤ here.at → here.at < length text → get_or text here.at 0 ≡ 96 → None ≡ code_in (drop here.at text)
+      → end ≡ here.at + prefix_len (λ b. b == get_or text here.at 0) (drop here.at text)
+      → (start ≡ here.at) ⊎ ((start ≡ here.pending) × (here.pending + 1 ≡ here.at) × (get_or text here.pending 0 ≡ 96))
+      → next.at ≡ end → next.pending ≡ next.at → Puts here.pending start (record { kind = kind.Text; start = start; end = end }) old.slots.items new.slots.items → new ≡ record old { slots = new.slots }
+      → Appends o l text here old new next ⊎ TakesEscaped o l text here old new next
+  ticks-make start end ordered lt is none ends (inl e) at pending slots others =
+      inl (own-appends o l text here old new next here.at end ordered (run-token o l text here old new next end lt is none ends) at pending
+      (subst (λ (s : ℕ). Puts here.pending s (record { kind = kind.Text; start = s; end = end }) old.slots.items new.slots.items) e slots) others)
+  ticks-make start end ordered lt is none ends (inr e) at pending slots others =
+      let puts : Puts here.pending here.pending (record { kind = kind.Text; start = here.pending; end = end }) old.slots.items new.slots.items =
+      subst (λ (s : ℕ). Puts here.pending s (record { kind = kind.Text; start = s; end = end }) old.slots.items new.slots.items) e.0 slots in
+      inr (record {
+        escaped = (e.1, e.2);
+        token = run-token o l text here old new next end lt is none ends ∙ ap (item_at Own here.at) (sym at);
+        pending = pending;
+        slots =
+            puts.slot_is ∙ ap (λ (ss : List Slot). ss ++ (record { kind = kind.Text; start = here.pending; end = end } ∷ [])) (puts.text.1 (omega arith))
+            ∙ ap (λ (n : ℕ). old.slots.items ++ (record { kind = kind.Text; start = here.pending; end = n } ∷ [])) (sym at);
+        others = others;
+      })
+
+-- ## A slot for each byte
+bytes-more : (start n : ℕ) → byte_slots start (suc n) ≡ byte_slots start n ++ (record { kind = kind.Text; start = start + n; end = start + n + 1 } ∷ [])
+bytes-more start zero = ap (λ s. record { kind = kind.Text; start = s; end = s + 1 } ∷ []) (let q : start ≡ start + 0 = omega arith in q)
+bytes-more start (suc n) =
+    ap (λ (l : List Slot). record { kind = kind.Text; start = start; end = start + 1 } ∷ l)
+    (bytes-more (start + 1) n ∙ ap (λ s. byte_slots (start + 1) n ++ (record { kind = kind.Text; start = s; end = s + 1 } ∷ [])) (let q : start + 1 + n ≡ start + suc n = omega arith in q))
+
+pub push-byte : (init ss ts : List Slot) (start at : ℕ) → start ≤ at → ss ≡ init ++ byte_slots start (at - start) → ts ≡ ss ++ (record { kind = kind.Text; start = at; end = at + 1 } ∷ [])
+    → ts ≡ init ++ byte_slots start (at + 1 - start)
+push-byte init ss ts start at le before e =
+    e ∙ ap (λ (l : List Slot). l ++ (record { kind = kind.Text; start = at; end = at + 1 } ∷ [])) before
+    ∙ append_assoc init (byte_slots start (at - start)) (record { kind = kind.Text; start = at; end = at + 1 } ∷ [])
+    ∙ ap (λ (l : List Slot). init ++ l)
+    (ap (λ s. byte_slots start (at - start) ++ (record { kind = kind.Text; start = s; end = s + 1 } ∷ [])) (let q : at ≡ start + (at - start) = omega (arith, le) in q)
+    ∙ sym (bytes-more start (at - start)) ∙ ap (byte_slots start) (let q : suc (at - start) ≡ at + 1 - start = omega (arith, le) in q))
+
+pub no-bytes : (init : List Slot) (start : ℕ) → init ≡ init ++ byte_slots start (start - start)
+no-bytes init start = sym (append-nil init) ∙ ap (λ n. init ++ byte_slots start n) (let q : 0 ≡ start - start = omega arith in q)

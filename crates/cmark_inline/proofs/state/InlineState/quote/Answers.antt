@@ -1,0 +1,31 @@
+use Rattle.std.proofs.Common.{◌≡◌, ◌+◌, ◌==◌, ◌++◌, ◌∷◌, [], inl, inr, ℕ, List, length, get_or, drop, refl, sym, ap, ◌∙◌, rules}
+use Rattle.std.specs.Prelude.{chars}
+use Rattle.cmark_grammar.specs.InlineTokens.{first_of, item_at}
+use Rattle.cmark_grammar.specs.Items.{Quoted}
+use Rattle.cmark_grammar.specs.Quotes.{quote_beside}
+use Rattle.cmark_inline.specs.declared.state.InlineState.{InlineState}
+use Rattle.cmark_inline.specs.declared.quote.PlacedQuote.{PlacedQuote}
+use Rattle.cmark_inline.proofs.MarkSteps.{quote-begins}
+use Rattle.cmark_inline.proofs.state.InlineState.quote.Goals as goal
+
+pub returns-clause-token : goal.returns-clause-token
+returns-clause-token c = λ o l smart is.
+    let text : List ℕ = c.args.text.now in
+    let at : ℕ = c.args.here.at in
+    let end = c.behind-end.ensures.value in
+    let same : length c.flush.new.self.slots.items ≡ c.len.result = search rules in
+    record {
+      quote = c.quote_of-quote.result;
+      token =
+          quote-begins o l text at c.requires.here smart (get_or text at 0) c.character_before-before.result c.character_at-after.result refl is c.character_before-before.ensures (c.character_at-after.ensures ∙ ap (λ (k : ℕ). first_of (chars (drop k text))) end)
+          ∙ ap (λ q. item_at (Quoted q) at (at + 1)) (ap (λ (bs : List ℕ). quote_beside (get_or bs at 0 == 34) c.character_before-before.result c.character_at-after.result) (sym c.as_bytes.ensures.value) ∙ sym c.quote_of-quote.ensures)
+          ∙ ap (item_at (Quoted _) at) (sym end);
+      pending = refl;
+      before = c.flush.new.self.slots.items;
+      text_is = c.in_ok-flush.ensures.slots;
+      slots = c.in_ok-add.ensures.slots;
+      placed =
+          ap (λ (s : InlineState). s.quotes.placed.items) c.in_ok-add.ensures.others ∙ c.in_ok-push.ensures
+          ∙ ap (λ (s : InlineState). s.quotes.placed.items ++ (record { slot = c.len.result; quote = c.quote_of-quote.result } ∷ [])) c.in_ok-flush.ensures.others
+          ∙ ap (λ (n : ℕ). c.args.self.now.quotes.placed.items ++ (record { slot = n; quote = c.quote_of-quote.result } ∷ [])) (sym same);
+    }

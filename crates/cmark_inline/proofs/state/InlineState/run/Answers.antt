@@ -1,0 +1,66 @@
+use Rattle.std.proofs.Common.{◌≡◌, ◌||◌, ◌-◌, inl, inr, true, false, not, Bool, true≢false, ℕ, List, [], ◌∷◌, ◌++◌, length, refl, sym, ap, ◌∙◌, rules}
+use Rattle.std.proofs.lemmas.Bool.{or_left, or_right}
+use Rattle.cmark_emphasis.specs.Shown.{shown_flanking}
+use Rattle.cmark_inline.specs.Tokens.{byte_slots}
+use Rattle.cmark_emphasis.specs.declared.run.Run.{Run}
+use Rattle.cmark_inline.specs.declared.delimiter.Delimiters.{Delimiters}
+use Rattle.cmark_inline.specs.declared.state.InlineState.{InlineState}
+use Rattle.cmark_text.specs.Shown.{shown_options}
+use Rattle.cmark_inline.proofs.MarkSteps.{IsRunAt, run-stays, run-begins-there}
+use Rattle.cmark_inline.proofs.state.InlineState.run.Goals as goal
+use Rattle.cmark_inline.proofs.state.InlineState.run.Goals.{else-not-flanking-via-then-not-flanking+else-not-flanking-2, else-not-flanking-via-else-not-flanking}
+
+pub returns-then-not-flanking-2-clause-token : goal.returns-then-not-flanking-2-clause-token
+returns-then-not-flanking-2-clause-token c = λ l is mark.
+    inl (record {
+      token = run-stays (shown_options c.args.options) l c.args.text.now c.args.here.at c.requires.here c.args.mark c.run_end-end.result (c.run_end-end.result - c.args.here.at) c.character_before-before.result c.character_at-after.result
+          (shown_flanking c.flanking_of-flanking.result)
+          (record {
+            byte = is;
+            mark = mark;
+            ends = c.run_end-end.ensures.value;
+            some = c.run_end-end.ensures.further;
+            sized = refl;
+            left = c.character_before-before.ensures;
+            right = c.character_at-after.ensures;
+            flanks = c.flanking_of-flanking.ensures;
+          }) c.if-not-flanking.true c.if-not-flanking-2.true;
+      pending = refl;
+      same = refl;
+    })
+
+not-no : (x : Bool) → not x ≡ false → x ≡ true
+not-no true e = refl
+not-no false e = absurd (true≢false e)
+
+pub returns-clause-token : goal.returns-clause-token
+returns-clause-token c = λ l is mark.
+    let some : (c.flanking_of-flanking.result.opens || c.flanking_of-flanking.result.closes) ≡ true = elim c.else-not-flanking.branch [
+      | else-not-flanking-via-then-not-flanking+else-not-flanking-2 w ↦ or_right c.flanking_of-flanking.result.opens c.flanking_of-flanking.result.closes (not-no c.flanking_of-flanking.result.closes w.if-not-flanking-2.false)
+      | else-not-flanking-via-else-not-flanking w ↦ or_left c.flanking_of-flanking.result.opens c.flanking_of-flanking.result.closes (not-no c.flanking_of-flanking.result.opens w.if-not-flanking.false)
+    ] in
+    let same : length c.flush.new.self.slots.items ≡ c.len-first.result = search rules in
+    let run : Run = record { mark = c.args.mark; size = c.run_end-end.result - c.args.here.at; at = 0; left = c.run_end-end.result - c.args.here.at; opens = c.flanking_of-flanking.result.opens; closes = c.flanking_of-flanking.result.closes } in
+    inr (record {
+      run = run;
+      token = run-begins-there (shown_options c.args.options) l c.args.text.now c.args.here.at c.requires.here c.args.mark c.run_end-end.result (c.run_end-end.result - c.args.here.at) c.character_before-before.result c.character_at-after.result
+          (shown_flanking c.flanking_of-flanking.result)
+          (record {
+            byte = is;
+            mark = mark;
+            ends = c.run_end-end.ensures.value;
+            some = c.run_end-end.ensures.further;
+            sized = refl;
+            left = c.character_before-before.ensures;
+            right = c.character_at-after.ensures;
+            flanks = c.flanking_of-flanking.ensures;
+          }) some;
+      pending = refl;
+      before = c.flush.new.self.slots.items;
+      text_is = c.in_ok-flush.ensures.slots;
+      slots = c.in_ok-push_bytes.ensures.bytes;
+      placed =
+          c.in_ok-push.ensures.placed
+          ∙ ap (λ (d : Delimiters). d.placed.items ++ (record { slot = c.len-first.result; run = run } ∷ [])) (c.in_ok-push_bytes.ensures.delimiters ∙ ap (λ (s : InlineState). s.delimiters) c.in_ok-flush.ensures.others)
+          ∙ ap (λ (n : ℕ). c.args.self.now.delimiters.placed.items ++ (record { slot = n; run = run } ∷ [])) (sym same);
+    })

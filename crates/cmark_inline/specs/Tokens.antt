@@ -1,0 +1,151 @@
+-- What begins at a place of a leaf's text, and the slots that stand for it. The text is read as a leaf of one stretch, so places are
+-- those of the text.
+use Rattle.std.specs.Prelude.{◌≡◌, ℕ, zero, suc, ◌+◌, ◌-◌, ◌≤◌, ◌<◌, Bool, true, false, ◌==◌, ◌||◌, List, [], ◌∷◌, ◌++◌, length, drop, encode_utf8, slice_index, slice_get, Option, Some, None}
+use Rattle.cmark_grammar.specs.Answers.{Lookup}
+use Rattle.cmark_grammar.specs.CodeSpans.{is_backtick, backticks, code_in, code_text}
+use Rattle.cmark_grammar.specs.Columns.{is_blank_byte}
+use Rattle.cmark_grammar.specs.InlineTokens as tokens
+use Rattle.cmark_grammar.specs.InlineTokens.{item_at}
+use Rattle.cmark_grammar.specs.Items.{ItemKind, Plain, Own, Written, Quoted, Delimiters, Code, InlineMath, DisplayMath, Autolink, Html, OwnedHtml, FootnoteReference, SoftBreak, HardBreak, Item, Token, Stands, Opens, Closes, Ends}
+use Rattle.cmark_grammar.specs.LeafText.{Leaf}
+use Rattle.cmark_grammar.specs.Letters.{first_is}
+use Rattle.cmark_grammar.specs.LinkDefinitions.{Found}
+use Rattle.cmark_grammar.specs.Options.{Options, no_options}
+use Rattle.cmark_grammar.specs.Readers.{Reader}
+use Rattle.cmark_grammar.specs.Tokens.{is_punctuation, slice}
+use Rattle.cmark_emphasis.specs.Shown.{shown_quote, shown_run}
+use Rattle.cmark_emphasis.specs.declared.quotes.Quote.{Quote}
+use Rattle.cmark_emphasis.specs.declared.run.Run.{Run}
+use Rattle.cmark_text.specs.Shown.{text_bytes}
+use Rattle.cmark_text.specs.declared.text.CowStr.{CowStr}
+use Rattle.cmark_inline.specs.Stands.{PushesText}
+use Rattle.cmark_inline.specs.declared.slot.Slot.{Slot}
+use Rattle.cmark_inline.specs.declared.slot.SlotKind.{SlotKind}
+use Rattle.cmark_inline.specs.declared.slot.SlotKind.TheVariants as kind
+use Rattle.cmark_inline.specs.declared.state.InlineState.{InlineState}
+use Rattle.cmark_inline.specs.declared.step.Cursor.{Cursor}
+
+abbrev pub whole : (text : List ℕ) → Leaf
+whole text = record { stretches = record { start = 0; end = length text } ∷ []; is_cell = false }
+
+-- what it is read with; no formulas are read yet
+abbrev pub reading : Options → Lookup → (text : List ℕ) → Reader
+reading options lookup text = record {
+  source = text;
+  options = record options { math = false };
+  lookup = lookup;
+  definition = λ folded. None;
+  has_footnote = λ folded. false;
+  has_callback = false;
+}
+
+-- what begins at a place, where each byte that stands for itself is an item
+abbrev pub begins_at : Options → Lookup → (text : List ℕ) → (at : ℕ) → Token
+begins_at options lookup text at = tokens.begins_at (reading options lookup text) (whole text) at
+
+-- where the text is read on behind a break and behind inline HTML
+abbrev pub read_on : (text : List ℕ) → (at : ℕ) → ℕ
+read_on text at = tokens.read_on (reading no_options (λ name. None) text) (whole text) at
+
+-- the URI of an autolink from its `<` to behind its `>`, and what is behind it
+abbrev pub shown_autolink : (text : List ℕ) → (at end : ℕ) → Found
+shown_autolink text at end = record { bytes = slice text (at + 1) (end - 1); behind = drop end text }
+
+-- behind a `<` a comment, a declaration, a CDATA section or a processing instruction may open: these are sought in the source
+abbrev pub opens_markup : (rest : List ℕ) → Bool
+opens_markup rest = first_is (λ b. (b == 33) || (b == 63)) rest
+
+-- a slot of these bytes stands for an item of this kind, where the state owns these texts
+abbrev pub Says : (text : List ℕ) → (texts : List CowStr) → (start end : ℕ) → ItemKind → SlotKind → Type 0
+Says text texts start end Plain kind.Text = Unit {0}
+Says text texts start end Own kind.Text = Unit {0}
+Says text texts start end (Written bytes) (kind.OwnedText index) = (owned : CowStr) × (slice_get texts index ≡ Some owned) × (text_bytes owned ≡ bytes)
+Says text texts start end (Written bytes) (kind.Character character) = encode_utf8 character ≡ bytes
+Says text texts start end (Code bytes) (kind.Code from to) = code_text (slice text from to) ≡ bytes
+Says text texts start end Html kind.InlineHtml = Unit {0}
+Says text texts start end (OwnedHtml bytes) kind.InlineHtml = slice text start end ≡ bytes
+Says text texts start end SoftBreak kind.SoftBreak = Unit {0}
+Says text texts start end HardBreak kind.HardBreak = Unit {0}
+Says text texts start end _ _ = ⊥
+
+pub record IsItem (text : List ℕ) (texts : List CowStr) (item : Item) (slot : Slot) : Type 0 where
+  pub start : slot.start ≡ item.start
+  pub end : slot.end ≡ item.end
+  pub says : Says text texts slot.start slot.end item.kind slot.kind
+
+-- a text up to a place, unless it is empty, and then a slot were appended
+pub record Puts (start stop : ℕ) (slot : Slot) (old new : List Slot) : Type 0 where
+  pub before : List Slot
+  pub text : PushesText start stop old before
+  pub slot_is : new ≡ before ++ (slot ∷ [])
+
+-- nothing was appended: from the place that was reached to the next one the bytes are one item that stands for itself
+pub record Passes (options : Options) (lookup : Lookup) (text : List ℕ) (here : Cursor) (old new : InlineState) (next : Cursor) : Type 0 where
+  pub token : begins_at options lookup text here.at ≡ item_at Plain here.at next.at
+  pub pending : next.pending ≡ here.pending
+  pub same : new ≡ old
+
+-- the text that was pending, and then a slot for the item that begins at the place that was reached, or at the blanks before it
+pub record Appends (options : Options) (lookup : Lookup) (text : List ℕ) (here : Cursor) (old new : InlineState) (next : Cursor) : Type 0 where
+  pub from : ℕ
+  pub item : Item
+  pub slot : Slot
+  pub behind : here.pending ≤ from
+  pub before : from ≤ here.at
+  pub blanks : (k : ℕ) → from ≤ k → k < here.at → is_blank_byte (slice_index text k) ≡ true
+  pub token : begins_at options lookup text from ≡ Stands item next.at
+  pub pending : next.pending ≡ next.at
+  pub slots : Puts here.pending from slot old.slots.items new.slots.items
+  pub owned : List CowStr
+  pub texts : new.texts.items ≡ old.texts.items ++ owned
+  pub is : IsItem text new.texts.items item slot
+
+-- the text that was pending; behind the backslash at the place that was reached a text begins with the byte that it escapes. A run
+-- of backticks is not settled there yet: its first one stands for itself where the rest of it opens a code span
+pub record Escapes (options : Options) (lookup : Lookup) (text : List ℕ) (here : Cursor) (old new : InlineState) (next : Cursor) : Type 0 where
+  pub pending : next.pending ≡ here.at + 1
+  pub at : next.at ≡ here.at + 2
+  pub token : first_is is_backtick (drop (here.at + 1) text) ≡ false → begins_at options lookup text here.at ≡ item_at Plain next.pending next.at
+  pub run : first_is is_backtick (drop (here.at + 1) text) ≡ true
+      → (begins_at options lookup text here.at ≡ tokens.escaped_backtick (reading options lookup text) (whole text) next.pending (backticks (drop next.pending text)) (code_in (drop next.at text)))
+      × (1 < backticks (drop next.pending text))
+  pub slots : PushesText here.pending here.at old.slots.items new.slots.items
+  pub others : new ≡ record old { slots = new.slots }
+
+-- the run of backticks that was reached is a text together with the escaped backtick before it
+pub record TakesEscaped (options : Options) (lookup : Lookup) (text : List ℕ) (here : Cursor) (old new : InlineState) (next : Cursor) : Type 0 where
+  pub escaped : (here.pending + 1 ≡ here.at) × (slice_index text here.pending ≡ 96)
+  pub token : begins_at options lookup text here.at ≡ item_at Own here.at next.at
+  pub pending : next.pending ≡ next.at
+  pub slots : new.slots.items ≡ old.slots.items ++ (record { kind = kind.Text; start = here.pending; end = next.at } ∷ [])
+  pub others : new ≡ record old { slots = new.slots }
+
+-- ## Quotes and delimiter runs, which are settled among their siblings
+
+-- the text that was pending, and then a slot for the quote that begins at the place that was reached
+pub record AppendsQuote (options : Options) (lookup : Lookup) (text : List ℕ) (here : Cursor) (old new : InlineState) (next : Cursor) : Type 0 where
+  pub quote : Quote
+  pub token : begins_at options lookup text here.at ≡ item_at (Quoted (shown_quote quote)) here.at next.at
+  pub pending : next.pending ≡ next.at
+  pub before : List Slot
+  pub text_is : PushesText here.pending here.at old.slots.items before
+  pub slots : new.slots.items ≡ before ++ (record { kind = kind.Text; start = here.at; end = next.at } ∷ [])
+  pub placed : new.quotes.placed.items ≡ old.quotes.placed.items ++ (record { slot = length before; quote = quote } ∷ [])
+
+abbrev pub is_mark : ℕ → Bool
+is_mark b = (b == 42) || ((b == 95) || ((b == 126) || (b == 94)))
+
+-- a slot for each of so many bytes from a place on
+abbrev pub byte_slots : (start size : ℕ) → List Slot
+byte_slots start zero = []
+byte_slots start (suc size) = record { kind = kind.Text; start = start; end = start + 1 } ∷ byte_slots (start + 1) size
+
+-- the text that was pending, and then a slot for each byte of the delimiter run that begins at the place that was reached
+pub record AppendsRun (options : Options) (lookup : Lookup) (text : List ℕ) (here : Cursor) (old new : InlineState) (next : Cursor) : Type 0 where
+  pub run : Run
+  pub token : begins_at options lookup text here.at ≡ item_at (Delimiters (shown_run run)) here.at next.at
+  pub pending : next.pending ≡ next.at
+  pub before : List Slot
+  pub text_is : PushesText here.pending here.at old.slots.items before
+  pub slots : new.slots.items ≡ before ++ byte_slots here.at run.size
+  pub placed : new.delimiters.placed.items ≡ old.delimiters.placed.items ++ (record { slot = length before; run = run } ∷ [])

@@ -1,0 +1,162 @@
+-- The segments of a document: its blocks are no links and need no option of spans, and its leaves stand one behind the other.
+use Rattle.std.proofs.Common.{◌≡◌, ℕ, ◌≤◌, List, [], ◌∷◌, ◌++◌, refl, arith}
+use Rattle.cmark_grammar.specs.BlockDocument.{BlockKind, Paragraph, TightParagraph, Heading, ThematicBreak, IndentedCode, FencedCode, HtmlBlock, LinkDefinition, BlockQuote, BlockList, ListItem, Text, OwnedText, Html, BlockNode, BlockDocument, Nil, Node}
+use Rattle.cmark_grammar.specs.BlockReading.{Reads, Around, Inside, Alone, Silent, read_as, over}
+use Rattle.cmark_grammar.specs.Event.{Event, Start, End}
+use Rattle.cmark_grammar.specs.LeafText.{Stretch, InTurn}
+use Rattle.cmark_grammar.specs.Options.{Options}
+use Rattle.cmark_grammar.specs.Ranges.{InOrder}
+use Rattle.cmark_grammar.specs.SpanDocuments.{Segment, Given, Content, leaf_of, inside_of, node_segments, segments}
+use Rattle.cmark_grammar.specs.TagEnd.{end_of}
+use Rattle.cmark_inline_model.specs.OptionRules.{IsGiven}
+use Rattle.cmark_inline_model.specs.ReadingLinks.{Neither, link_event}
+use Rattle.cmark_inline_model.proofs.DocumentLeaves.{order-up, stretches-turn}
+
+-- ## Blocks
+
+-- this holds of each event of the blocks
+abbrev pub AllGiven : (Event → Type 0) → List Segment → Type 0
+AllGiven Holds [] = Unit {0}
+AllGiven Holds (Given r ∷ others) = Holds r.event × AllGiven Holds others
+AllGiven Holds (Content leaf ∷ others) = AllGiven Holds others
+
+abbrev GivenBy : (Event → Type 0) → Reads → Type 0
+GivenBy Holds (Around tag) = Holds (Start tag) × Holds (End (end_of tag))
+GivenBy Holds Inside = Unit {0}
+GivenBy Holds (Alone event) = Holds event
+GivenBy Holds Silent = Unit {0}
+
+given_append : (Holds : Event → Type 0) (a b : List Segment) → AllGiven Holds a → AllGiven Holds b → AllGiven Holds (a ++ b)
+given_append Holds [] b h k = k
+given_append Holds (Given r ∷ a) b h k = (h.0, given_append Holds a b h.1 k)
+given_append Holds (Content leaf ∷ a) b h k = given_append Holds a b h k
+
+inside_given : (Holds : Event → Type 0) (kind : BlockKind) (content : BlockDocument) (others : List Segment) → AllGiven Holds others → AllGiven Holds (inside_of kind content others)
+inside_given Holds Paragraph content others k = tt
+inside_given Holds TightParagraph content others k = tt
+inside_given Holds (Heading level attributes) content others k = tt
+inside_given Holds ThematicBreak content others k = k
+inside_given Holds IndentedCode content others k = k
+inside_given Holds (FencedCode info) content others k = k
+inside_given Holds HtmlBlock content others k = k
+inside_given Holds (LinkDefinition reference) content others k = k
+inside_given Holds (BlockQuote alert) content others k = k
+inside_given Holds (BlockList number tight) content others k = k
+inside_given Holds ListItem content others k = k
+inside_given Holds (Text bytes) content others k = k
+inside_given Holds (OwnedText bytes) content others k = k
+inside_given Holds (Html bytes) content others k = k
+
+node_given : (Holds : Event → Type 0) (reads : Reads) (node : BlockNode) (inside : List Segment) → GivenBy Holds reads → AllGiven Holds inside → AllGiven Holds (node_segments reads node inside)
+node_given Holds (Around tag) node inside h k = (h.0, given_append Holds inside (Given (over node (End (end_of tag))) ∷ []) k (h.1, tt))
+node_given Holds Inside node inside h k = k
+node_given Holds (Alone event) node inside h k = (h, tt)
+node_given Holds Silent node inside h k = tt
+
+segments_given : (Holds : Event → Type 0) → ((kind : BlockKind) → GivenBy Holds (read_as kind)) → (document : BlockDocument) → AllGiven Holds (segments document)
+segments_given Holds kinds Nil = tt
+segments_given Holds kinds (Node node inside after) =
+    let own = inside_of node.kind inside (segments inside) in
+    given_append Holds (node_segments (read_as node.kind) node own) (segments after)
+    (node_given Holds (read_as node.kind) node own (kinds node.kind) (inside_given Holds node.kind inside (segments inside) (segments_given Holds kinds inside)))
+    (segments_given Holds kinds after)
+
+-- none of them begins or ends a link
+abbrev pub AreNeither : List Segment → Type 0
+AreNeither others = AllGiven (λ e. link_event e ≡ Neither) others
+
+kind_neither : (kind : BlockKind) → GivenBy (λ e. link_event e ≡ Neither) (read_as kind)
+kind_neither Paragraph = (refl, refl)
+kind_neither TightParagraph = tt
+kind_neither (Heading level attributes) = (refl, refl)
+kind_neither ThematicBreak = refl
+kind_neither IndentedCode = (refl, refl)
+kind_neither (FencedCode info) = (refl, refl)
+kind_neither HtmlBlock = (refl, refl)
+kind_neither (LinkDefinition reference) = tt
+kind_neither (BlockQuote alert) = (refl, refl)
+kind_neither (BlockList number tight) = (refl, refl)
+kind_neither ListItem = (refl, refl)
+kind_neither (Text bytes) = refl
+kind_neither (OwnedText bytes) = refl
+kind_neither (Html bytes) = refl
+
+pub segments-neither : (document : BlockDocument) → AreNeither (segments document)
+segments-neither document = segments_given (λ e. link_event e ≡ Neither) kind_neither document
+
+-- none of them needs an option of spans
+kind_optionless : (options : Options) (kind : BlockKind) → GivenBy (IsGiven options) (read_as kind)
+kind_optionless options Paragraph = (tt, tt)
+kind_optionless options TightParagraph = tt
+kind_optionless options (Heading level attributes) = (tt, tt)
+kind_optionless options ThematicBreak = tt
+kind_optionless options IndentedCode = (tt, tt)
+kind_optionless options (FencedCode info) = (tt, tt)
+kind_optionless options HtmlBlock = (tt, tt)
+kind_optionless options (LinkDefinition reference) = tt
+kind_optionless options (BlockQuote alert) = (tt, tt)
+kind_optionless options (BlockList number tight) = (tt, tt)
+kind_optionless options ListItem = (tt, tt)
+kind_optionless options (Text bytes) = tt
+kind_optionless options (OwnedText bytes) = tt
+kind_optionless options (Html bytes) = tt
+
+pub segments-optionless : (options : Options) (document : BlockDocument) → AllGiven (IsGiven options) (segments document)
+segments-optionless options document = segments_given (IsGiven options) (kind_optionless options) document
+
+-- ## Leaves
+
+-- from one place to another the leaves stand one behind the other
+abbrev pub LeavesRise : (from : ℕ) → List Segment → (to : ℕ) → Type 0
+LeavesRise from [] to = from ≤ to
+LeavesRise from (Given r ∷ others) to = LeavesRise from others to
+LeavesRise from (Content leaf ∷ others) to = (mid : ℕ) × InTurn from leaf.stretches mid × LeavesRise mid others to
+
+rise_from : (less from : ℕ) (others : List Segment) (to : ℕ) → less ≤ from → LeavesRise from others to → LeavesRise less others to
+rise_from less from [] to e h = let x : from ≤ to = h in omega arith
+rise_from less from (Given r ∷ others) to e h = rise_from less from others to e h
+rise_from less from (Content leaf ∷ others) to e h = (h.0, turn leaf.stretches h.1, h.2)
+  where
+    turn : (stretches : List Stretch) → InTurn from stretches h.0 → InTurn less stretches h.0
+    turn [] k = let x : from ≤ h.0 = k in omega arith
+    turn (s ∷ more) k = (let x = k.0 in omega arith, k.1, k.2)
+
+rise_append : (from mid to : ℕ) (a b : List Segment) → LeavesRise from a mid → LeavesRise mid b to → LeavesRise from (a ++ b) to
+rise_append from mid to [] b h k = rise_from from mid b to h k
+rise_append from mid to (Given r ∷ a) b h k = rise_append from mid to a b h k
+rise_append from mid to (Content leaf ∷ a) b h k = (h.0, h.1, rise_append h.0 mid to a b h.2 k)
+
+leaf_rise : (from to : ℕ) (content : BlockDocument) → InOrder from content to → LeavesRise from (Content (leaf_of content) ∷ []) to
+leaf_rise from to content h = (to, stretches-turn from from content to to (omega arith) (omega arith) h, (let x : to ≤ to = omega arith in x))
+
+inside_rise : (from to : ℕ) (kind : BlockKind) (content : BlockDocument) (others : List Segment) → InOrder from content to → LeavesRise from others to → LeavesRise from (inside_of kind content others) to
+inside_rise from to Paragraph content others h k = leaf_rise from to content h
+inside_rise from to TightParagraph content others h k = leaf_rise from to content h
+inside_rise from to (Heading level attributes) content others h k = leaf_rise from to content h
+inside_rise from to ThematicBreak content others h k = k
+inside_rise from to IndentedCode content others h k = k
+inside_rise from to (FencedCode info) content others h k = k
+inside_rise from to HtmlBlock content others h k = k
+inside_rise from to (LinkDefinition reference) content others h k = k
+inside_rise from to (BlockQuote alert) content others h k = k
+inside_rise from to (BlockList number tight) content others h k = k
+inside_rise from to ListItem content others h k = k
+inside_rise from to (Text bytes) content others h k = k
+inside_rise from to (OwnedText bytes) content others h k = k
+inside_rise from to (Html bytes) content others h k = k
+
+node_rise : (from to : ℕ) (reads : Reads) (node : BlockNode) (inside : List Segment) → from ≤ to → LeavesRise from inside to → LeavesRise from (node_segments reads node inside) to
+node_rise from to (Around tag) node inside e h = rise_append from to to inside (Given _ ∷ []) h (let x : to ≤ to = omega arith in x)
+node_rise from to Inside node inside e h = h
+node_rise from to (Alone event) node inside e h = e
+node_rise from to Silent node inside e h = e
+
+pub segments-rise : (from : ℕ) (document : BlockDocument) (to : ℕ) → InOrder from document to → LeavesRise from (segments document) to
+segments-rise from Nil to h = h
+segments-rise from (Node node inside after) to h =
+    let own = inside_of node.kind inside (segments inside) in
+    let up = order-up node.start inside node.end h.1 in
+    rise_append from node.end to (node_segments (read_as node.kind) node own) (segments after)
+    (rise_from from node.start (node_segments (read_as node.kind) node own) node.end h.0
+    (node_rise node.start node.end (read_as node.kind) node own up (inside_rise node.start node.end node.kind inside (segments inside) h.1 (segments-rise node.start inside node.end h.1))))
+    (segments-rise node.end after to h.2)

@@ -1,0 +1,338 @@
+-- What the references of a leaf cost: in its spans and events no more than in its parts, and in the same order.
+use Rattle.std.specs.Prelude.{zero, suc, ◌-◌, ◌==◌, nat_le, if◌then◌else◌, max, get_or, drop}
+use Rattle.std.proofs.Common.{◌≡◌, ℕ, ◌+◌, ◌<◌, ◌≤◌, Bool, true, false, List, [], ◌∷◌, ◌++◌, length, Option, Some, None, refl, sym, ap, subst, arith, ◌∙◌, append_assoc, append-nil}
+use Rattle.cmark_grammar.specs.Emphasis.{StandFrom, places_taken}
+use Rattle.cmark_grammar.specs.EmphasisModel.{spans_of}
+use Rattle.cmark_grammar.specs.Event.{Start, End, Ranged}
+use Rattle.cmark_grammar.specs.InlineReading.{inline_events, over}
+use Rattle.cmark_grammar.specs.Items.{ItemKind, Own, Item}
+use Rattle.cmark_grammar.specs.Options.{Options}
+use Rattle.cmark_grammar.specs.Parts.{Parts, Nil as NoParts, Single as SinglePart, Form, Closing, Opening, Linking, Footnote, Wiki}
+use Rattle.cmark_grammar.specs.Quotes.{quote_characters}
+use Rattle.cmark_grammar.specs.Siblings.{Inline, Nil, Single, Around, append, item, quotes_of, quote_as, with_characters, with_quotes, run_then, runs_from, run_bytes, put_gap, no_gaps, gap_then, gaps_of, no_item, element, dressed, item_then, footnote_then, tag_by, wiki_tag, from_place, display_from}
+use Rattle.cmark_grammar.specs.SiblingsModel.{dress, siblings_of, spans_in}
+use Rattle.cmark_grammar.specs.Spans as spans
+use Rattle.cmark_grammar.specs.Spans.{SpanKind, Emphasis, Strong, SingleTilde, DoubleTilde, Caret, span_tag, span_width, Spans, TakePlaces}
+use Rattle.cmark_grammar.specs.Tag.{Tag, Linked}
+use Rattle.cmark_grammar.specs.TagEnd.{end_of}
+use Rattle.cmark_grammar.proofs.SpanPlaces.{places}
+use Rattle.cmark_inline_model.specs.Expansion.{costs}
+use Rattle.cmark_inline_model.specs.ReadingLinks.{LinkEvent, Begins, Finishes, Neither, of_tag, own_cost, costs_by, reference_costs}
+use Rattle.cmark_inline_model.proofs.CostLists.{Fewer, fewer-same, fewer-then, fewer-behind, fewer-both}
+use Rattle.cmark_inline_model.proofs.KindViews.{KindView, AQuote, ARun, AnAutolink, AText, kind-view}
+use Rattle.cmark_inline_model.proofs.LinkSpans.{TagView, ALink, NoLink, tag-view, span-neither, item-neither}
+use Rattle.cmark_inline_model.proofs.SpanElements.{quoted_then, other_then}
+
+abbrev begun_cost : LinkEvent → List ℕ
+begun_cost (Begins is_image linked) = own_cost linked
+begun_cost (Finishes is_image) = []
+begun_cost Neither = []
+
+-- in the order in which the elements end
+abbrev pub costs_in : Inline → List ℕ
+costs_in Nil = []
+costs_in (Single x after) = costs_in after
+costs_in (Around tag start end inside after) = costs_in inside ++ (begun_cost (of_tag tag) ++ costs_in after)
+
+-- ## Siblings and gaps
+
+three : (a b c d : List ℕ) → (a ++ (b ++ c)) ++ d ≡ a ++ (b ++ (c ++ d))
+three a b c d = append_assoc a (b ++ c) d ∙ ap (λ l. a ++ l) (append_assoc b c d)
+
+costs_append : (a b : Inline) → costs_in (append a b) ≡ costs_in a ++ costs_in b
+costs_append Nil b = refl
+costs_append (Single x after) b = costs_append after b
+costs_append (Around tag start end inside after) b =
+    ap (λ l. costs_in inside ++ (begun_cost (of_tag tag) ++ l)) (costs_append after b) ∙ sym (three (costs_in inside) (begun_cost (of_tag tag)) (costs_in after) (costs_in b))
+
+costs_quoted : (siblings : Inline) (cs : List ℕ) → costs_in (with_characters siblings cs) ≡ costs_in siblings
+costs_quoted Nil cs = refl
+costs_quoted (Around tag start end inside after) cs = ap (λ l. costs_in inside ++ (begun_cost (of_tag tag) ++ l)) (costs_quoted after cs)
+costs_quoted (Single x after) cs = go (costs_quoted after (drop 1 cs)) (costs_quoted after cs) x.kind (kind-view x.kind)
+  where
+    go : costs_in (with_characters after (drop 1 cs)) ≡ costs_in after → costs_in (with_characters after cs) ≡ costs_in after → (kind : ItemKind) → KindView kind
+        → costs_in (quote_as (quoted_then x after) (other_then x after) kind cs) ≡ costs_in after
+    go quoted other _ (AQuote quote) = quoted
+    go quoted other _ (ARun run) = other
+    go quoted other _ (AnAutolink uri) = other
+    go quoted other _ (AText kind t) = ap costs_in (t.quote (quoted_then x after) (other_then x after) cs) ∙ other
+
+abbrev gathered : List Inline → List ℕ
+gathered [] = []
+gathered (gap ∷ gaps) = costs_in gap ++ gathered gaps
+
+gathered_none : (n : ℕ) (gaps : List Inline) → gathered (no_gaps n gaps) ≡ gathered gaps
+gathered_none zero gaps = refl
+gathered_none (suc n) gaps = gathered_none n gaps
+
+gathered_single : (x : Item) (gaps : List Inline) → gathered (put_gap (Single x) gaps) ≡ gathered gaps
+gathered_single x [] = refl
+gathered_single x (gap ∷ gaps) = refl
+
+gathered_around : (tag : Tag) (start end : ℕ) (inside : Inline) (gaps : List Inline) → gathered (put_gap (Around tag start end inside) gaps) ≡ costs_in inside ++ (begun_cost (of_tag tag) ++ gathered gaps)
+gathered_around tag start end inside [] = append-nil (costs_in inside ++ (begun_cost (of_tag tag) ++ []))
+gathered_around tag start end inside (gap ∷ gaps) = three (costs_in inside) (begun_cost (of_tag tag)) (costs_in gap) (gathered gaps)
+
+gathered_gaps : (siblings : Inline) → gathered (gaps_of siblings) ≡ costs_in siblings
+gathered_gaps Nil = refl
+gathered_gaps (Around tag start end inside after) =
+    gathered_around tag start end inside (gaps_of after) ∙ ap (λ l. costs_in inside ++ (begun_cost (of_tag tag) ++ l)) (gathered_gaps after)
+gathered_gaps (Single x after) = go (gathered_gaps after) x.kind (kind-view x.kind)
+  where
+    go : gathered (gaps_of after) ≡ costs_in after → (kind : ItemKind) → KindView kind → gathered (gap_then kind x (gaps_of after)) ≡ costs_in after
+    go i _ (AQuote quote) = gathered_single x (gaps_of after) ∙ i
+    go i _ (ARun run) = gathered_none run.size (gaps_of after) ∙ i
+    go i _ (AnAutolink uri) = gathered_single x (gaps_of after) ∙ i
+    go i _ (AText kind t) = ap gathered (t.gap x (gaps_of after)) ∙ gathered_single x (gaps_of after) ∙ i
+
+-- ## The places of the runs
+
+pub runs-stand : (siblings : Inline) (n : ℕ) → StandFrom n (runs_from siblings n)
+runs-stand Nil n = tt
+runs-stand (Around tag start end inside after) n = runs-stand after n
+runs-stand (Single x after) n = go (λ m. runs-stand after m) x.kind (kind-view x.kind)
+  where
+    go : ((m : ℕ) → StandFrom m (runs_from after m)) → (kind : ItemKind) → KindView kind → StandFrom n (run_then n kind (runs_from after))
+    go i _ (AQuote quote) = i n
+    go i _ (ARun run) = (refl, refl, i (n + run.size))
+    go i _ (AnAutolink uri) = i n
+    go i _ (AText kind t) = subst (StandFrom n) (sym (t.run n (runs_from after))) (i n)
+
+put_size : (put : Inline → Inline) (gaps : List Inline) (m : ℕ) → length gaps ≡ suc m → length (put_gap put gaps) ≡ suc m
+put_size put [] m e = cc
+put_size put (gap ∷ gaps) m e = e
+
+none_size : (n : ℕ) (gaps : List Inline) → length (no_gaps n gaps) ≡ n + length gaps
+none_size zero gaps = omega arith
+none_size (suc n) gaps = let i = none_size n gaps in omega arith
+
+gaps_size : (siblings : Inline) (n : ℕ) → length (gaps_of siblings) ≡ suc (places_taken (runs_from siblings n))
+gaps_size Nil n = refl
+gaps_size (Around tag start end inside after) n = put_size (Around tag start end inside) (gaps_of after) (places_taken (runs_from after n)) (gaps_size after n)
+gaps_size (Single x after) n = go (λ m. gaps_size after m) x.kind (kind-view x.kind)
+  where
+    put : length (gaps_of after) ≡ suc (places_taken (runs_from after n)) → length (put_gap (Single x) (gaps_of after)) ≡ suc (places_taken (runs_from after n))
+    put e = put_size (Single x) (gaps_of after) (places_taken (runs_from after n)) e
+
+    go : ((m : ℕ) → length (gaps_of after) ≡ suc (places_taken (runs_from after m))) → (kind : ItemKind) → KindView kind
+        → length (gap_then kind x (gaps_of after)) ≡ suc (places_taken (run_then n kind (runs_from after)))
+    go i _ (AQuote quote) = put (i n)
+    go i _ (ARun run) = let e = i (n + run.size) in let f = none_size run.size (gaps_of after) in omega arith
+    go i _ (AnAutolink uri) = put (i n)
+    go i _ (AText kind t) = ap length (t.gap x (gaps_of after)) ∙ put (i n) ∙ ap (λ ss. suc (places_taken ss)) (sym (t.run n (runs_from after)))
+
+pub takes-up : (f : Spans) (n m : ℕ) → TakePlaces n f m → n ≤ m
+takes-up spans.Nil n m h = omega (arith, h)
+takes-up (spans.Single at after) n m h = let i = takes-up after (suc n) m h.1 in omega arith
+takes-up (spans.Around span inside after) n m h =
+    let i = takes-up inside (n + span_width span.kind) h.mid h.inside in let j = takes-up after span.end m h.after in let e = h.end in omega arith
+
+pub width-some : (kind : SpanKind) → 0 < span_width kind
+width-some Emphasis = omega arith
+width-some Strong = omega arith
+width-some SingleTilde = omega arith
+width-some DoubleTilde = omega arith
+width-some Caret = omega arith
+
+-- ## Spans
+
+module _ (options : Options) (gaps : List Inline) (bytes : List Item) where
+  -- the costs of so many gaps from one on
+  abbrev some_gaps : (n count : ℕ) → List ℕ
+  some_gaps n zero = []
+  some_gaps n (suc count) = costs_in (get_or gaps n Nil) ++ some_gaps (suc n) count
+
+  gaps_split : (a b n : ℕ) → some_gaps n (a + b) ≡ some_gaps n a ++ some_gaps (n + a) b
+  gaps_split zero b n = let e : 0 + b ≡ b = omega arith in let f : n ≡ n + 0 = omega arith in ap (some_gaps n) e ∙ ap (λ k. some_gaps k b) f
+  gaps_split (suc a) b n =
+      let e : suc a + b ≡ suc (a + b) = omega arith in
+      let f : suc n + a ≡ n + suc a = omega arith in
+      ap (some_gaps n) e
+      ∙ ap (λ l. costs_in (get_or gaps n Nil) ++ l) (gaps_split a b (suc n) ∙ ap (λ k. some_gaps (suc n) a ++ some_gaps k b) f)
+      ∙ sym (append_assoc (costs_in (get_or gaps n Nil)) (some_gaps (suc n) a) (some_gaps (n + suc a) b))
+
+  -- a gap with some spans behind it
+  gap_then_spans : (n k : ℕ) (f : Inline) → Fewer (costs_in f) (some_gaps (suc n) k) → Fewer (costs_in (append (get_or gaps n Nil) f)) (some_gaps n (suc k))
+  gap_then_spans n k f h =
+      subst (λ l. Fewer l (some_gaps n (suc k))) (sym (costs_append (get_or gaps n Nil) f))
+      (fewer-both (costs_in (get_or gaps n Nil)) (costs_in (get_or gaps n Nil)) (costs_in f) (some_gaps (suc n) k) (fewer-same (costs_in (get_or gaps n Nil))) h)
+
+  element_costs : (kind : SpanKind) (start end : ℕ) (inside after : Inline) (first second : List ℕ) → Fewer (costs_in inside) first → Fewer (costs_in after) second
+      → Fewer (costs_in (element (span_tag options kind) start end inside after)) (first ++ second)
+  element_costs kind start end inside after first second h k = go (span_tag options kind) refl
+    where
+      go : (tag : Option Tag) → span_tag options kind ≡ tag → Fewer (costs_in (element tag start end inside after)) (first ++ second)
+      go None e = fewer-behind first (costs_in after) second k
+      go (Some tag) e =
+          subst (λ l. Fewer (costs_in inside ++ (begun_cost l ++ costs_in after)) (first ++ second)) (sym (span-neither options kind tag e))
+          (fewer-both (costs_in inside) first (costs_in after) second h k)
+
+  dressed_costs : (f : Spans) (n m : ℕ) → TakePlaces n f m → Fewer (costs_in (dressed options gaps bytes f)) (some_gaps (suc n) (m - n))
+  dressed_costs spans.Nil n m h = record { less = omega arith; within = λ limit spent w. tt }
+  dressed_costs (spans.Single at after) n m h =
+      let up = takes-up after (suc n) m h.1 in
+      let i = gap_then_spans (suc n) (m - suc n) (dressed options gaps bytes after) (dressed_costs after (suc n) m h.1) in
+      let e : suc (m - suc n) ≡ m - n = omega arith in
+      let s : suc n ≡ suc at = ap suc (sym h.0) in
+      subst (λ k. Fewer (costs_in (append (get_or gaps k Nil) (dressed options gaps bytes after))) (some_gaps (suc n) (m - n))) s
+      (subst (λ c. Fewer (costs_in (append (get_or gaps (suc n) Nil) (dressed options gaps bytes after))) (some_gaps (suc n) c)) e i)
+  dressed_costs (spans.Around span inside after) n m h =
+      let w = span_width span.kind in
+      let some = width-some span.kind in
+      let up = takes-up inside (n + w) h.mid h.inside in
+      let on = takes-up after span.end m h.after in
+      let ends = h.end in
+      let a = h.mid - (n + w) in
+      let b = m - span.end in
+      let starts : n + w ≡ span.start + w = ap (λ k. k + w) (sym h.start) in
+      let inner =
+      subst (λ k. Fewer (costs_in (append (get_or gaps k Nil) (dressed options gaps bytes inside))) (some_gaps (n + w) (suc a))) starts
+      (gap_then_spans (n + w) a (dressed options gaps bytes inside) (dressed_costs inside (n + w) h.mid h.inside)) in
+      let others = gap_then_spans span.end b (dressed options gaps bytes after) (dressed_costs after span.end m h.after) in
+      let counts : m - n ≡ (w - 1) + (suc a + ((w - 1) + suc b)) = omega arith in
+      let e : suc n + (w - 1) ≡ n + w = omega arith in
+      let f : (n + w) + suc a ≡ suc h.mid = omega arith in
+      let g : suc h.mid + (w - 1) ≡ span.end = omega arith in
+      let split : some_gaps (suc n) (m - n) ≡ some_gaps (suc n) (w - 1) ++ (some_gaps (n + w) (suc a) ++ (some_gaps (suc h.mid) (w - 1) ++ some_gaps span.end (suc b))) =
+      ap (some_gaps (suc n)) counts
+      ∙ gaps_split (w - 1) (suc a + ((w - 1) + suc b)) (suc n)
+      ∙ ap (λ k. some_gaps (suc n) (w - 1) ++ some_gaps k (suc a + ((w - 1) + suc b))) e
+      ∙ ap (λ l. some_gaps (suc n) (w - 1) ++ l) (gaps_split (suc a) ((w - 1) + suc b) (n + w) ∙ ap (λ k. some_gaps (n + w) (suc a) ++ some_gaps k ((w - 1) + suc b)) f)
+      ∙ ap (λ l. some_gaps (suc n) (w - 1) ++ (some_gaps (n + w) (suc a) ++ l))
+      (gaps_split (w - 1) (suc b) (suc h.mid) ∙ ap (λ k. some_gaps (suc h.mid) (w - 1) ++ some_gaps k (suc b)) g) in
+      let whole =
+      element_costs span.kind (get_or bytes span.start no_item).start (get_or bytes (span.end - 1) no_item).end
+      (append (get_or gaps (span.start + w) Nil) (dressed options gaps bytes inside))
+      (append (get_or gaps span.end Nil) (dressed options gaps bytes after))
+      (some_gaps (n + w) (suc a)) (some_gaps (suc h.mid) (w - 1) ++ some_gaps span.end (suc b))
+      inner (fewer-behind (some_gaps (suc h.mid) (w - 1)) _ (some_gaps span.end (suc b)) others) in
+      subst (Fewer (costs_in (dressed options gaps bytes (spans.Around span inside after)))) (sym split) (fewer-behind (some_gaps (suc n) (w - 1)) _ _ whole)
+
+gaps_shift : (options : Options) (bytes : List Item) (gap : Inline) (gaps : List Inline) (n count : ℕ) → some_gaps options (gap ∷ gaps) bytes (suc n) count ≡ some_gaps options gaps bytes n count
+gaps_shift options bytes gap gaps n zero = refl
+gaps_shift options bytes gap gaps n (suc count) = ap (λ l. costs_in (get_or gaps n Nil) ++ l) (gaps_shift options bytes gap gaps (suc n) count)
+
+gaps_all : (options : Options) (bytes : List Item) (gaps : List Inline) (count : ℕ) → length gaps ≡ count → some_gaps options gaps bytes 0 count ≡ gathered gaps
+gaps_all options bytes [] zero e = refl
+gaps_all options bytes [] (suc count) e = cc
+gaps_all options bytes (gap ∷ gaps) zero e = cc
+gaps_all options bytes (gap ∷ gaps) (suc count) e = ap (λ l. costs_in gap ++ l) (gaps_shift options bytes gap gaps 0 count ∙ gaps_all options bytes gaps count (let f : length gaps ≡ count = cc in f))
+
+module _ (options : Options) where
+  dress_costs : (siblings : Inline) → Fewer (costs_in (dress options siblings)) (costs_in siblings)
+  dress_costs siblings =
+      let quoted = with_quotes siblings in
+      let gaps = gaps_of quoted in
+      let bytes = run_bytes quoted in
+      let n = places_taken (runs_from quoted 0) in
+      let own = dressed_costs options gaps bytes (spans_of (runs_from quoted 0)) 0 n (places (runs_from quoted 0) (runs-stand quoted 0)) in
+      let e : n - 0 ≡ n = omega arith in
+      let whole = gap_then_spans options gaps bytes 0 n (dressed options gaps bytes (spans_of (runs_from quoted 0)))
+      (subst (λ c. Fewer (costs_in (dressed options gaps bytes (spans_of (runs_from quoted 0)))) (some_gaps options gaps bytes 1 c)) e own) in
+      subst (Fewer (costs_in (dress options siblings)))
+      (gaps_all options bytes gaps (suc n) (gaps_size quoted 0) ∙ gathered_gaps quoted ∙ costs_quoted siblings (quote_characters [] (quotes_of siblings))) whole
+
+  item_costs : (x : Item) (after : Inline) → costs_in (item_then x.kind x after) ≡ costs_in after
+  item_costs x after = go x.kind (kind-view x.kind)
+    where
+      go : (kind : ItemKind) → KindView kind → costs_in (item_then kind x after) ≡ costs_in after
+      go _ (AQuote quote) = refl
+      go _ (ARun run) = refl
+      go _ (AnAutolink uri) = refl
+      go _ (AText kind t) = ap costs_in (t.item x after)
+
+  from_costs : (place : ℕ) (siblings : Inline) → Fewer (costs_in (from_place place siblings)) (costs_in siblings)
+  from_costs place Nil = fewer-same []
+  from_costs place (Single x after) = go (nat_le x.end place) (from_costs place after)
+    where
+      go : (b : Bool) → Fewer (costs_in (from_place place after)) (costs_in after) → Fewer (costs_in (if b then from_place place after else Single (item x.kind (max x.start place) x.end) after)) (costs_in after)
+      go true i = i
+      go false i = fewer-same (costs_in after)
+  from_costs place (Around tag start end inside after) = go (nat_le end place) (from_costs place after)
+    where
+      go : (b : Bool) → Fewer (costs_in (from_place place after)) (costs_in after) → Fewer (costs_in (if b then from_place place after else Around tag (max start place) end inside after)) (costs_in (Around tag start end inside after))
+      go true i =
+          fewer-behind (costs_in inside) (costs_in (from_place place after)) (begun_cost (of_tag tag) ++ costs_in after)
+          (fewer-behind (begun_cost (of_tag tag)) (costs_in (from_place place after)) (costs_in after) i)
+      go false i = fewer-same (costs_in (Around tag start end inside after))
+
+  display_costs : (place end : ℕ) (siblings : Inline) → Fewer (costs_in (display_from place end siblings)) (costs_in siblings)
+  display_costs place end siblings = go (place == end)
+    where
+      go : (b : Bool) → Fewer (costs_in (if b then Single (item Own place place) Nil else from_place place siblings)) (costs_in siblings)
+      go true = record { less = omega arith; within = λ limit spent w. tt }
+      go false = from_costs place siblings
+
+  footnote_costs : (is_image : Bool) (start : ℕ) (label : List ℕ) (end : ℕ) (others : Inline) → costs_in (footnote_then is_image start label end others) ≡ costs_in others
+  footnote_costs true start label end others = refl
+  footnote_costs false start label end others = refl
+
+  tag_costs : (is_image : Bool) (linked : Linked) → begun_cost (of_tag (tag_by is_image linked)) ≡ own_cost linked
+  tag_costs true linked = refl
+  tag_costs false linked = refl
+
+  wiki_costs : (is_image : Bool) (name : List ℕ) (has_pothole : Bool) → begun_cost (of_tag (wiki_tag is_image name has_pothole)) ≡ []
+  wiki_costs true name has_pothole = refl
+  wiki_costs false name has_pothole = refl
+
+  siblings_costs : (parts : Parts) → Fewer (costs_in (siblings_of options parts)) (costs parts)
+  siblings_costs NoParts = fewer-same []
+  siblings_costs (SinglePart x after) = subst (λ l. Fewer l (costs after)) (sym (item_costs x (siblings_of options after))) (siblings_costs after)
+  siblings_costs (Form opener inside closer (Linking target) after) =
+      let inner = siblings_of options inside in
+      subst (λ l. Fewer (costs_in (dress options inner) ++ (l ++ costs_in (siblings_of options after))) (costs inside ++ (own_cost target.linked ++ costs after))) (sym (tag_costs opener.is_image target.linked))
+      (fewer-both (costs_in (dress options inner)) (costs inside) (own_cost target.linked ++ costs_in (siblings_of options after)) (own_cost target.linked ++ costs after)
+      (fewer-then (costs_in (dress options inner)) (costs_in inner) (costs inside) (dress_costs inner) (siblings_costs inside))
+      (fewer-both (own_cost target.linked) (own_cost target.linked) (costs_in (siblings_of options after)) (costs after) (fewer-same (own_cost target.linked)) (siblings_costs after)))
+  siblings_costs (Form opener inside closer (Footnote label end) after) =
+      subst (λ l. Fewer l (costs inside ++ costs after)) (sym (footnote_costs opener.is_image opener.start label end (siblings_of options after)))
+      (fewer-behind (costs inside) (costs_in (siblings_of options after)) (costs after) (siblings_costs after))
+  siblings_costs (Form opener inside closer (Wiki name None end) after) =
+      subst (λ l. Fewer (l ++ costs_in (siblings_of options after)) (costs inside ++ costs after)) (sym (wiki_costs opener.is_image name false))
+      (fewer-behind (costs inside) (costs_in (siblings_of options after)) (costs after) (siblings_costs after))
+  siblings_costs (Form opener inside closer (Wiki name (Some place) end) after) =
+      let inner = siblings_of options inside in
+      let display = display_from place closer.start inner in
+      subst (λ l. Fewer (costs_in (dress options display) ++ (l ++ costs_in (siblings_of options after))) (costs inside ++ costs after)) (sym (wiki_costs opener.is_image name true))
+      (fewer-both (costs_in (dress options display)) (costs inside) (costs_in (siblings_of options after)) (costs after)
+      (fewer-then (costs_in (dress options display)) (costs_in display) (costs inside) (dress_costs display) (fewer-then (costs_in display) (costs_in inner) (costs inside) (display_costs place closer.start inner) (siblings_costs inside)))
+      (siblings_costs after))
+  siblings_costs (Closing closer after) = siblings_costs after
+  siblings_costs (Opening opener after) = siblings_costs after
+
+  pub spans-costs : (parts : Parts) → Fewer (costs_in (spans_in options parts)) (costs parts)
+  spans-costs parts = fewer-then (costs_in (spans_in options parts)) (costs_in (siblings_of options parts)) (costs parts) (dress_costs (siblings_of options parts)) (siblings_costs parts)
+
+-- ## Events
+
+pub events-costs : (source : List ℕ) (spans : Inline) (begun : List (List ℕ)) (rest : List Ranged) → reference_costs begun (inline_events source spans ++ rest) ≡ costs_in spans ++ reference_costs begun rest
+events-costs source Nil begun rest = refl
+events-costs source (Single x after) begun rest =
+    ap (λ l. costs_by l begun (λ more. reference_costs more (inline_events source after ++ rest))) (item-neither source x x.kind) ∙ events-costs source after begun rest
+events-costs source (Around t start end inside after) begun rest =
+    ap (λ es. reference_costs begun (over source start end (Start t) ∷ es)) (append_assoc (inline_events source inside) (last ∷ inline_events source after) rest)
+    ∙ go (λ up. events-costs source inside up more) (events-costs source after begun rest) (tag-view t)
+  where
+    last : Ranged
+    last = over source start end (End (end_of t))
+
+    more : List Ranged
+    more = last ∷ (inline_events source after ++ rest)
+
+    go : ((up : List (List ℕ)) → reference_costs up (inline_events source inside ++ more) ≡ costs_in inside ++ reference_costs up more)
+        → reference_costs begun (inline_events source after ++ rest) ≡ costs_in after ++ reference_costs begun rest → TagView t
+        → costs_by (of_tag t) begun (λ up. reference_costs up (inline_events source inside ++ more)) ≡ (costs_in inside ++ (begun_cost (of_tag t) ++ costs_in after)) ++ reference_costs begun rest
+    go inner others (NoLink e f) =
+        ap (λ l. costs_by l begun (λ up. reference_costs up (inline_events source inside ++ more))) e
+        ∙ inner begun
+        ∙ ap (λ l. costs_in inside ++ costs_by l begun (λ up. reference_costs up (inline_events source after ++ rest))) f
+        ∙ ap (λ l. costs_in inside ++ l) others
+        ∙ sym (three (costs_in inside) [] (costs_in after) (reference_costs begun rest))
+        ∙ ap (λ l. (costs_in inside ++ (begun_cost l ++ costs_in after)) ++ reference_costs begun rest) (sym e)
+    go inner others (ALink is_image linked e f) =
+        ap (λ l. costs_by l begun (λ up. reference_costs up (inline_events source inside ++ more))) e
+        ∙ inner (own_cost linked ∷ begun)
+        ∙ ap (λ l. costs_in inside ++ costs_by l (own_cost linked ∷ begun) (λ up. reference_costs up (inline_events source after ++ rest))) f
+        ∙ ap (λ l. costs_in inside ++ (own_cost linked ++ l)) others
+        ∙ sym (three (costs_in inside) (own_cost linked) (costs_in after) (reference_costs begun rest))
+        ∙ ap (λ l. (costs_in inside ++ (begun_cost l ++ costs_in after)) ++ reference_costs begun rest) (sym e)

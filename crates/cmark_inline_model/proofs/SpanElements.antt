@@ -1,0 +1,140 @@
+-- What holds of each element among siblings holds among their spans.
+use Rattle.std.specs.Prelude.{zero, suc, ◌-◌, ◌==◌, nat_le, if◌then◌else◌, max, get_or, drop, encode_utf8}
+use Rattle.std.proofs.Common.{◌≡◌, ℕ, ◌+◌, Bool, true, false, List, [], ◌∷◌, Option, Some, None, refl, sym, subst}
+use Rattle.cmark_grammar.specs.EmphasisModel.{spans_of}
+use Rattle.cmark_grammar.specs.Items.{ItemKind, Own, Written, Item}
+use Rattle.cmark_grammar.specs.Options.{Options}
+use Rattle.cmark_grammar.specs.Quotes.{quote_characters}
+use Rattle.cmark_grammar.specs.Siblings.{Inline, Nil, Single, Around, append, item, quotes_of, quote_as, with_characters, with_quotes, runs_from, run_bytes, put_gap, no_gaps, gap_then, gaps_of, no_item, element, dressed, item_then, uri_link, from_place, display_from}
+use Rattle.cmark_grammar.specs.SiblingsModel.{dress}
+use Rattle.cmark_grammar.specs.Spans as spans
+use Rattle.cmark_grammar.specs.Spans.{SpanKind, span_tag, span_width, Spans}
+use Rattle.cmark_grammar.specs.Tag.{Tag, Link}
+use Rattle.cmark_inline_model.proofs.KindViews.{KindView, AQuote, ARun, AnAutolink, AText, kind-view}
+
+-- what a quote becomes, or any other item
+abbrev pub quoted_then : Item → Inline → List ℕ → Inline
+quoted_then x after cs = Single (item (Written (encode_utf8 (get_or cs 0 0))) x.start x.end) (with_characters after (drop 1 cs))
+
+abbrev pub other_then : Item → Inline → List ℕ → Inline
+other_then x after cs = Single x (with_characters after cs)
+
+module _ (Holds : Tag → Inline → Type 0) where
+  -- it holds of each element, with what is inside it
+  abbrev pub AllElements : Inline → Type 0
+  AllElements Nil = Unit {0}
+  AllElements (Single x after) = AllElements after
+  AllElements (Around tag start end inside after) = Holds tag inside × AllElements inside × AllElements after
+
+  abbrev AllGaps : List Inline → Type 0
+  AllGaps [] = Unit {0}
+  AllGaps (gap ∷ gaps) = AllElements gap × AllGaps gaps
+
+  pub elements-append : (a b : Inline) → AllElements a → AllElements b → AllElements (append a b)
+  elements-append Nil b h k = k
+  elements-append (Single x after) b h k = elements-append after b h k
+  elements-append (Around tag start end inside after) b h k = (h.0, h.1, elements-append after b h.2 k)
+
+  characters_hold : (siblings : Inline) (cs : List ℕ) → AllElements siblings → AllElements (with_characters siblings cs)
+  characters_hold Nil cs h = tt
+  characters_hold (Around tag start end inside after) cs h = (h.0, h.1, characters_hold after cs h.2)
+  characters_hold (Single x after) cs h = go (characters_hold after (drop 1 cs) h) (characters_hold after cs h) x.kind (kind-view x.kind)
+    where
+      go : AllElements (with_characters after (drop 1 cs)) → AllElements (with_characters after cs) → (kind : ItemKind) → KindView kind → AllElements (quote_as (quoted_then x after) (other_then x after) kind cs)
+      go quoted other _ (AQuote quote) = quoted
+      go quoted other _ (ARun run) = other
+      go quoted other _ (AnAutolink uri) = other
+      go quoted other _ (AText kind t) = subst AllElements (sym (t.quote (quoted_then x after) (other_then x after) cs)) other
+
+  put_holds : (put : Inline → Inline) (gaps : List Inline) → ((gap : Inline) → AllElements gap → AllElements (put gap)) → AllGaps gaps → AllGaps (put_gap put gaps)
+  put_holds put [] keeps h = (keeps Nil tt, tt)
+  put_holds put (gap ∷ gaps) keeps h = (keeps gap h.0, h.1)
+
+  none_hold : (n : ℕ) (gaps : List Inline) → AllGaps gaps → AllGaps (no_gaps n gaps)
+  none_hold zero gaps h = h
+  none_hold (suc n) gaps h = (tt, none_hold n gaps h)
+
+  gaps_hold : (siblings : Inline) → AllElements siblings → AllGaps (gaps_of siblings)
+  gaps_hold Nil h = (tt, tt)
+  gaps_hold (Around tag start end inside after) h = put_holds (Around tag start end inside) (gaps_of after) (λ gap k. (h.0, h.1, k)) (gaps_hold after h.2)
+  gaps_hold (Single x after) h = go (gaps_hold after h) x.kind (kind-view x.kind)
+    where
+      put : AllGaps (gaps_of after) → AllGaps (put_gap (Single x) (gaps_of after))
+      put k = put_holds (Single x) (gaps_of after) (λ gap e. e) k
+
+      go : AllGaps (gaps_of after) → (kind : ItemKind) → KindView kind → AllGaps (gap_then kind x (gaps_of after))
+      go k _ (AQuote quote) = put k
+      go k _ (ARun run) = none_hold run.size (gaps_of after) k
+      go k _ (AnAutolink uri) = put k
+      go k _ (AText kind t) = subst AllGaps (sym (t.gap x (gaps_of after))) (put k)
+
+  gap_holds : (gaps : List Inline) (n : ℕ) → AllGaps gaps → AllElements (get_or gaps n Nil)
+  gap_holds [] n h = tt
+  gap_holds (gap ∷ gaps) zero h = h.0
+  gap_holds (gap ∷ gaps) (suc n) h = gap_holds gaps n h.1
+
+  module _ (options : Options) (spans_hold : (kind : SpanKind) (tag : Tag) (inside : Inline) → span_tag options kind ≡ Some tag → Holds tag inside) where
+    dressed_hold : (gaps : List Inline) (bytes : List Item) (f : Spans) → AllGaps gaps → AllElements (dressed options gaps bytes f)
+    dressed_hold gaps bytes spans.Nil h = tt
+    dressed_hold gaps bytes (spans.Single at after) h = elements-append (get_or gaps (suc at) Nil) (dressed options gaps bytes after) (gap_holds gaps (suc at) h) (dressed_hold gaps bytes after h)
+    dressed_hold gaps bytes (spans.Around span inside after) h = go (dressed_hold gaps bytes inside h) (dressed_hold gaps bytes after h) (span_tag options span.kind) refl
+      where
+        first : ℕ
+        first = (get_or bytes span.start no_item).start
+
+        last : ℕ
+        last = (get_or bytes (span.end - 1) no_item).end
+
+        inner : Inline
+        inner = append (get_or gaps (span.start + span_width span.kind) Nil) (dressed options gaps bytes inside)
+
+        others : Inline
+        others = append (get_or gaps span.end Nil) (dressed options gaps bytes after)
+
+        inner_holds : AllElements (dressed options gaps bytes inside) → AllElements inner
+        inner_holds = elements-append (get_or gaps (span.start + span_width span.kind) Nil) (dressed options gaps bytes inside) (gap_holds gaps (span.start + span_width span.kind) h)
+
+        others_hold : AllElements (dressed options gaps bytes after) → AllElements others
+        others_hold = elements-append (get_or gaps span.end Nil) (dressed options gaps bytes after) (gap_holds gaps span.end h)
+
+        go : AllElements (dressed options gaps bytes inside) → AllElements (dressed options gaps bytes after) → (tag : Option Tag) → span_tag options span.kind ≡ tag → AllElements (element tag first last inner others)
+        go i j (Some tag) e = (spans_hold span.kind tag inner e, inner_holds i, others_hold j)
+        go i j None e = others_hold j
+
+    pub dress-elements : (siblings : Inline) → AllElements siblings → AllElements (dress options siblings)
+    dress-elements siblings h =
+        let quoted = with_quotes siblings in
+        let gaps = gaps_hold quoted (characters_hold siblings (quote_characters [] (quotes_of siblings)) h) in
+        elements-append (get_or (gaps_of quoted) 0 Nil) (dressed options (gaps_of quoted) (run_bytes quoted) (spans_of (runs_from quoted 0))) (gap_holds (gaps_of quoted) 0 gaps)
+        (dressed_hold (gaps_of quoted) (run_bytes quoted) (spans_of (runs_from quoted 0)) gaps)
+
+  -- ## Items and displays
+
+  pub item-elements : (x : Item) (after : Inline) → ((uri : List ℕ) (text : Item) → Holds (Link (uri_link uri)) (Single text Nil)) → AllElements after → AllElements (item_then x.kind x after)
+  item-elements x after holds h = go x.kind (kind-view x.kind)
+    where
+      go : (kind : ItemKind) → KindView kind → AllElements (item_then kind x after)
+      go _ (AQuote quote) = h
+      go _ (ARun run) = h
+      go _ (AnAutolink uri) = (holds uri (item Own (suc x.start) (x.end - 1)), tt, h)
+      go _ (AText kind t) = subst AllElements (sym (t.item x after)) h
+
+  from_holds : (place : ℕ) (siblings : Inline) → AllElements siblings → AllElements (from_place place siblings)
+  from_holds place Nil h = tt
+  from_holds place (Single x after) h = go (nat_le x.end place) (from_holds place after h)
+    where
+      go : (b : Bool) → AllElements (from_place place after) → AllElements (if b then from_place place after else Single (item x.kind (max x.start place) x.end) after)
+      go true k = k
+      go false k = h
+  from_holds place (Around tag start end inside after) h = go (nat_le end place) (from_holds place after h.2)
+    where
+      go : (b : Bool) → AllElements (from_place place after) → AllElements (if b then from_place place after else Around tag (max start place) end inside after)
+      go true k = k
+      go false k = h
+
+  pub display-elements : (place end : ℕ) (siblings : Inline) → AllElements siblings → AllElements (display_from place end siblings)
+  display-elements place end siblings h = go (place == end)
+    where
+      go : (b : Bool) → AllElements (if b then Single (item Own place place) Nil else from_place place siblings)
+      go true = tt
+      go false = from_holds place siblings h

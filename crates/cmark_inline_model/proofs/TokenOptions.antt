@@ -1,0 +1,47 @@
+-- Each item is read with its option.
+use Rattle.std.proofs.Common.{ℕ, subst}
+use Rattle.cmark_grammar.specs.BracketDecisions.{decide}
+use Rattle.cmark_grammar.specs.BracketReading.{Reads}
+use Rattle.cmark_grammar.specs.BracketStates.{State}
+use Rattle.cmark_grammar.specs.InlineTokens.{token}
+use Rattle.cmark_grammar.specs.Items.{ItemKind}
+use Rattle.cmark_grammar.specs.LeafText.{Leaf}
+use Rattle.cmark_grammar.specs.Parts.{Parts, Nil, Single, Form, Closing, Opening}
+use Rattle.cmark_grammar.specs.Questions.{Saying}
+use Rattle.cmark_grammar.specs.Readers.{Reader}
+use Rattle.cmark_inline_model.specs.OptionRules.{IsRead, AllItems}
+use Rattle.cmark_inline_model.proofs.TokenItems.{HoldsOfItems, HoldsOf, token-holds, OfItems, items-hold}
+
+module _ (reader : Reader) (leaf : Leaf) where
+  abbrev HasOption : ItemKind → (start end : ℕ) → Type 0
+  HasOption kind start end = IsRead reader.options kind
+
+  options_hold : HoldsOfItems reader leaf HasOption
+  options_hold = record {
+    plain = λ start end. tt;
+    own = λ start end. tt;
+    written = λ text start end. tt;
+    code = λ text start end. tt;
+    html = λ start end. tt;
+    owned_html = λ bytes start end. tt;
+    soft_break = λ start end. tt;
+    hard_break = λ start end. tt;
+    quoted = λ on quote start end. on;
+    inline_math = λ on text start end. on;
+    display_math = λ on text start end. on;
+    run = λ run start is_run. is_run;
+    autolink = λ at b bs found here e. tt;
+  }
+
+  all_items : (parts : Parts) → OfItems (λ item. IsRead reader.options item.kind) parts → AllItems (IsRead reader.options) parts
+  all_items Nil h = tt
+  all_items (Single item after) h = (h.0, all_items after h.1)
+  all_items (Form opener inside closer formed after) h = (all_items inside h.0, all_items after h.1)
+  all_items (Closing closer after) h = all_items after h
+  all_items (Opening opener after) h = all_items after h
+
+  pub leaf-items : (Says : Saying) (s : State) (parts : Parts) (t : State) → Reads (token reader leaf) (decide reader leaf) Says s parts t → AllItems (IsRead reader.options) parts
+  leaf-items Says s parts t h =
+      all_items parts
+      (items-hold (token reader leaf) (decide reader leaf) Says (λ item. IsRead reader.options item.kind)
+      (λ at past item e. subst (HoldsOf reader leaf HasOption) e (token-holds reader leaf HasOption options_hold at)) s parts t h)

@@ -1,0 +1,54 @@
+-- What is read only where an option says so: items, and events.
+use Rattle.std.specs.Prelude.{◌≡◌, true, List, [], ◌∷◌}
+use Rattle.cmark_grammar.specs.Event.{Event, Start, End, InlineMath as InlineMathEvent, DisplayMath as DisplayMathEvent, FootnoteReference as FootnoteEvent, Ranged}
+use Rattle.cmark_grammar.specs.Flanking.{is_delimiter_run}
+use Rattle.cmark_grammar.specs.Items.{ItemKind, Quoted, Delimiters, InlineMath, DisplayMath, FootnoteReference}
+use Rattle.cmark_grammar.specs.Options.{Options}
+use Rattle.cmark_grammar.specs.Parts.{Parts, Nil, Single, Form, Closing, Opening}
+use Rattle.cmark_grammar.specs.Tag.{Tag, Strikethrough, Superscript, Subscript}
+use Rattle.cmark_grammar.specs.TagEnd as end
+use Rattle.cmark_grammar.specs.TagEnd.{TagEnd}
+
+-- a quote is read with smart punctuation, a formula with math, a footnote reference with footnotes, and of `~` and `^` the runs that
+-- strikethrough, subscript and superscript make delimiter runs (GFM 6.5, and this profile's own)
+abbrev pub IsRead : Options → ItemKind → Type 0
+IsRead options (Quoted quote) = options.smart_punctuation ≡ true
+IsRead options (InlineMath text) = options.math ≡ true
+IsRead options (DisplayMath text) = options.math ≡ true
+IsRead options (FootnoteReference label) = options.footnotes ≡ true
+IsRead options (Delimiters run) = is_delimiter_run options run.mark run.size ≡ true
+IsRead options _ = Unit {0}
+
+-- this holds of each item of these parts
+abbrev pub AllItems : (ItemKind → Type 0) → Parts → Type 0
+AllItems Holds Nil = Unit {0}
+AllItems Holds (Single item after) = Holds item.kind × AllItems Holds after
+AllItems Holds (Form opener inside closer formed after) = AllItems Holds inside × AllItems Holds after
+AllItems Holds (Closing closer after) = AllItems Holds after
+AllItems Holds (Opening opener after) = AllItems Holds after
+
+-- strikethrough, superscripts and subscripts are given with theirs (GFM 6.5, and this profile's own)
+abbrev pub IsTagGiven : Options → Tag → Type 0
+IsTagGiven options Strikethrough = options.strikethrough ≡ true
+IsTagGiven options Superscript = options.superscript ≡ true
+IsTagGiven options Subscript = options.subscript ≡ true
+IsTagGiven options _ = Unit {0}
+
+abbrev pub IsEndGiven : Options → TagEnd → Type 0
+IsEndGiven options end.Strikethrough = options.strikethrough ≡ true
+IsEndGiven options end.Superscript = options.superscript ≡ true
+IsEndGiven options end.Subscript = options.subscript ≡ true
+IsEndGiven options _ = Unit {0}
+
+-- and a formula with math, a footnote reference with footnotes (both this profile's own)
+abbrev pub IsGiven : Options → Event → Type 0
+IsGiven options (Start tag) = IsTagGiven options tag
+IsGiven options (End tag_end) = IsEndGiven options tag_end
+IsGiven options (InlineMathEvent text) = options.math ≡ true
+IsGiven options (DisplayMathEvent text) = options.math ≡ true
+IsGiven options (FootnoteEvent label) = options.footnotes ≡ true
+IsGiven options _ = Unit {0}
+
+abbrev pub AreGiven : Options → List Ranged → Type 0
+AreGiven options [] = Unit {0}
+AreGiven options (r ∷ rs) = IsGiven options r.event × AreGiven options rs

@@ -1,0 +1,30 @@
+-- The questions that are put about a text, in order (this profile's own).
+use Rattle.std.specs.Prelude.{◌≡◌, ◌⊎◌, ℕ, suc, ◌≤◌, ◌<◌, List, [], ◌∷◌}
+use Rattle.cmark_grammar.specs.InlineTokens.{token}
+use Rattle.cmark_grammar.specs.Items.{Bracket, Closes}
+use Rattle.cmark_grammar.specs.LeafText.{Leaf}
+use Rattle.cmark_grammar.specs.Questions.{Question, Exchange}
+use Rattle.cmark_grammar.specs.Readers.{Reader}
+use Rattle.cmark_grammar.specs.SpanDocuments.{Segment, Given, Content}
+
+-- a closing bracket of a leaf stands at this place
+abbrev pub HasCloser : Reader → Leaf → ℕ → Type 0
+HasCloser reader leaf place = (closer : Bracket) × (token reader leaf place ≡ Closes closer)
+
+-- or of one of these leaves
+abbrev pub IsCloser : Reader → List Segment → ℕ → Type 0
+IsCloser reader [] place = ⊥
+IsCloser reader (Given r ∷ others) place = IsCloser reader others place
+IsCloser reader (Content leaf ∷ others) place = HasCloser reader leaf place ⊎ IsCloser reader others place
+
+-- each question has a closing bracket of its own among its bytes, from one place on and before another, behind that of the question
+-- before it
+abbrev pub AskedInTurn : (Closer : ℕ → Type 0) → (from : ℕ) → List Exchange → (to : ℕ) → Type 0
+AskedInTurn Closer from [] to = from ≤ to
+AskedInTurn Closer from (x ∷ xs) to =
+    (place : ℕ) × (from ≤ place) × Closer place × (x.question.start ≤ place) × (place < x.question.end) × AskedInTurn Closer (suc place) xs to
+
+-- this holds of each of them
+abbrev pub AllAsked : (Question → Type 0) → List Exchange → Type 0
+AllAsked Holds [] = Unit {0}
+AllAsked Holds (x ∷ xs) = Holds x.question × AllAsked Holds xs

@@ -1,0 +1,33 @@
+-- Where the events of a text stand in it.
+use Rattle.std.specs.Prelude.{◌≡◌, ◌⊎◌, ℕ, ◌≤◌, false, ◌==◌, List, [], ◌∷◌, ◌++◌}
+use Rattle.cmark_grammar.specs.Balance.{IsSingle}
+use Rattle.cmark_grammar.specs.Event.{Event, Start, End, Ranged}
+use Rattle.cmark_grammar.specs.Options.{Options}
+use Rattle.cmark_grammar.specs.Tag.{Tag}
+use Rattle.cmark_grammar.specs.TagEnd.{end_of}
+
+abbrev pub ranged : Event → (start end : ℕ) → Ranged
+ranged event start end = record { event = event; start = start; end = end }
+
+-- each start has its end, of the same tag and with the same bytes, and what is between is matched too
+pub data Matched : List Ranged → Type 0 where
+  NoMore : Matched []
+  Alone : (r : Ranged) (after : List Ranged) → IsSingle r.event → Matched after → Matched (r ∷ after)
+  Pair : (tag : Tag) (start end : ℕ) (inside after : List Ranged) → Matched inside → Matched after
+      → Matched (ranged (Start tag) start end ∷ (inside ++ (ranged (End (end_of tag)) start end ∷ after)))
+
+-- from one place to another the events stand one behind the other, and each element around what is inside it
+pub data InPlace : (from : ℕ) → List Ranged → (to : ℕ) → Type 0 where
+  Nothing : (from to : ℕ) → from ≤ to → InPlace from [] to
+  Single : (from to : ℕ) (r : Ranged) (after : List Ranged) → IsSingle r.event → from ≤ r.start → r.start ≤ r.end → InPlace r.end after to → InPlace from (r ∷ after) to
+  Element : (from to : ℕ) (tag : Tag) (start end : ℕ) (inside after : List Ranged) → from ≤ start → InPlace start inside end → InPlace end after to
+      → InPlace from (ranged (Start tag) start end ∷ (inside ++ (ranged (End (end_of tag)) start end ∷ after))) to
+
+-- these bytes have no such byte among them
+abbrev pub HasNo : (byte : ℕ) → List ℕ → Type 0
+HasNo byte [] = Unit {0}
+HasNo byte (b ∷ bs) = ((b == byte) ≡ false) × HasNo byte bs
+
+-- no wikilink shows what stands behind a pipe (this profile's own): none are read, or the text has no pipe
+abbrev pub HasNoDisplays : Options → List ℕ → Type 0
+HasNoDisplays options text = (options.wikilinks ≡ false) ⊎ HasNo 124 text

@@ -1,0 +1,85 @@
+//! Theorems over whole texts: what each reading of a text by the inline grammar keeps. Each is the contract of a function that does
+//! nothing. A reading is the events of a text, with the questions that were put about it and their answers in turn
+//! (`IsReading`, of `SpanDocuments`).
+
+ghost use Rattle.std.specs.Prelude.{◌≡◌, ℕ, ◌<◌, ◌≤◌, List, [], ◌∷◌, ◌++◌, length, sum};
+ghost use Rattle.cmark_grammar.specs.BlockDocument.{BlockDocument};
+ghost use Rattle.cmark_grammar.specs.BracketDecisions.{decide};
+ghost use Rattle.cmark_grammar.specs.BracketReading.{Reads};
+ghost use Rattle.cmark_grammar.specs.BracketStates.{State};
+ghost use Rattle.cmark_grammar.specs.Derivation.{Derives};
+ghost use Rattle.cmark_grammar.specs.Event.{Ranged};
+ghost use Rattle.cmark_grammar.specs.InlineTokens.{token};
+ghost use Rattle.cmark_grammar.specs.LeafReading.{Between};
+ghost use Rattle.cmark_grammar.specs.LeafText.{Leaf};
+ghost use Rattle.cmark_grammar.specs.Parts.{Parts};
+ghost use Rattle.cmark_grammar.specs.Questions.{AnyAnswer, Exchange, IsNext};
+ghost use Rattle.cmark_grammar.specs.Readers.{Reader};
+ghost use Rattle.cmark_grammar.specs.SpanDocuments.{IsReading, Profile, ReadsAll, Segment, at_start, reader_of, segments};
+ghost use Rattle.cmark_inline_model.specs.LinkRules.{IsQuestion};
+ghost use Rattle.cmark_inline_model.specs.OptionRules.{AllItems, AreGiven, IsRead};
+ghost use Rattle.cmark_inline_model.specs.ReadingLinks.{AreLed, LinksApart, reference_costs};
+ghost use Rattle.cmark_inline_model.specs.ReadingQuestions.{AllAsked, AskedInTurn, IsCloser};
+ghost use Rattle.cmark_inline_model.specs.ReadingRanges.{HasNoDisplays, InPlace};
+
+/// No link stands in a link, at any depth, but for autolinks (CommonMark 6.3 and 6.5).
+pub fn links_stand_apart()
+    ensures { (text : List ℕ) (profile : Profile) (exchanges : List Exchange) (events : List Ranged) → IsReading text profile exchanges events → LinksApart 0 events }
+{}
+
+/// Each reference leads where the first definition of its label in the text says (CommonMark 4.7), and where there is none, where
+/// the answer to a question about it does; no other link has a label.
+pub fn links_lead_by_definitions_and_answers()
+    ensures { (text : List ℕ) (profile : Profile) (document : BlockDocument) (exchanges : List Exchange) (events : List Ranged)
+        → Derives text profile.options profile.lookup document → IsReading text profile exchanges events → AreLed (reader_of text profile document) exchanges events }
+{}
+
+/// The destinations and titles of all references but the last, in the order in which they end, have fewer bytes than the
+/// expansion limit, over all leaves of the text.
+pub fn references_stay_below_the_limit()
+    ensures { (text : List ℕ) (profile : Profile) (exchanges : List Exchange) (events : List Ranged) (front : List ℕ) (last : ℕ)
+        → IsReading text profile exchanges events → reference_costs [] events ≡ front ++ (last ∷ []) → sum front < profile.expansion_limit }
+{}
+
+/// The ranges of events stand in the text, one behind the other, and the range of each element around those of what is inside it.
+/// Said of texts that are read without wikilinks, or have no `|`: what a wikilink shows behind a pipe may begin inside an image, whose
+/// own text then begins before it.
+pub fn ranges_stand_in_order()
+    ensures { (text : List ℕ) (profile : Profile) (exchanges : List Exchange) (events : List Ranged)
+        → HasNoDisplays profile.options text → IsReading text profile exchanges events → InPlace 0 events (length text) }
+{}
+
+/// What belongs to an option is read only where it is on. Of the items of a leaf: quotes with smart punctuation, formulas with math, runs
+/// of `~` and `^` with strikethrough, subscript and superscript. Of the events of a text: formulas with math, footnote references with
+/// footnotes, and strikethrough, subscripts and superscripts with the options of these names.
+pub fn options_that_are_off_read_nothing()
+    ensures items { (reader : Reader) (leaf : Leaf) (s : State) (parts : Parts) (t : State)
+        → Reads (token reader leaf) (decide reader leaf) AnyAnswer s parts t → AllItems (IsRead reader.options) parts }
+    ensures events { (text : List ℕ) (profile : Profile) (exchanges : List Exchange) (events : List Ranged)
+        → IsReading text profile exchanges events → AreGiven profile.options events }
+{}
+
+/// At most one question is put for each closing bracket of the text, in the order of these; each is about a label that no
+/// definition has; and none is put where the expansion limit is nothing.
+pub fn questions_are_put_in_turn()
+    ensures turn { (text : List ℕ) (profile : Profile) (document : BlockDocument) (exchanges : List Exchange) (events : List Ranged)
+        → Derives text profile.options profile.lookup document → IsReading text profile exchanges events
+        → AskedInTurn (IsCloser (reader_of text profile document) (segments document)) 0 exchanges (length text) }
+    ensures unknown { (text : List ℕ) (profile : Profile) (document : BlockDocument) (exchanges : List Exchange) (events : List Ranged)
+        → Derives text profile.options profile.lookup document → IsReading text profile exchanges events
+        → AllAsked (IsQuestion (reader_of text profile document)) exchanges }
+    ensures limit { (text : List ℕ) (profile : Profile) (exchanges : List Exchange) (events : List Ranged)
+        → profile.expansion_limit ≡ 0 → IsReading text profile exchanges events → exchanges ≡ [] }
+{}
+
+/// Where the references before took all of the expansion limit, no question is put: not behind a place of a leaf where nothing is
+/// left (`leaf`), and not in the leaves behind those whose references have as many bytes of destinations and titles as the limit, or
+/// more (`leaves`).
+pub fn nothing_is_asked_when_nothing_is_left()
+    ensures leaf { (reader : Reader) (leaf : Leaf) (s : State) (parts : Parts) (t : State)
+        → s.expansion ≡ 0 → Reads (token reader leaf) (decide reader leaf) AnyAnswer s parts t → t.asked ≡ s.asked }
+    ensures leaves { (text : List ℕ) (profile : Profile) (document : BlockDocument) (exchanges : List Exchange) (first others : List Segment) (earlier later : List Ranged) (between after : Between)
+        → segments document ≡ first ++ others → ReadsAll (reader_of text profile document) (IsNext exchanges) first (at_start profile) earlier between
+        → ReadsAll (reader_of text profile document) (IsNext exchanges) others between later after
+        → profile.expansion_limit ≤ sum (reference_costs [] earlier) → after.asked ≡ between.asked }
+{}

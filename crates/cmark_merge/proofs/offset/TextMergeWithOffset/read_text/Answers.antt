@@ -1,0 +1,8 @@
+use Rattle.cmark_merge.specs.Streams.{ranged_ahead}
+use Rattle.cmark_merge.proofs.JoinSteps.{reads-held}
+use Rattle.cmark_merge.proofs.offset.TextMergeWithOffset.read_text.Goals as goal
+
+pub returns-in-Err-clause-reads : goal.returns-in-Err-clause-reads
+returns-in-Err-clause-reads g c =
+    let other = c.in-Err.ensures.other in
+    (reads-held g.I.Iterator.next_gives (ranged_ahead c.args.self.now) (ranged_ahead c.read.new.self) c.in_ok-read.field-0 c.in-Err.item c.in_ok-read.ensures.reads other.0, other.1, tt)

@@ -1,0 +1,4 @@
+pub mod Merging
+pub mod Reading
+pub mod Steps
+pub mod Streams

@@ -1,0 +1,202 @@
+//! Texts merged, with their ranges.
+
+ghost use Rattle.std.specs.Prelude.{◌≡◌, ◌<◌, ◌≤◌, false, IfErr, IfOk, None, OnErr, OnSome};
+ghost use Rattle.std.specs.Iterator.{size};
+ghost use Rattle.cmark_merge.specs.Reading.{CanGo, items_left};
+ghost use Rattle.cmark_merge.specs.Steps.{IsNoText, Joins, Merges, ReadsOne, ReadsText, ReadsTexts, Takes};
+ghost use Rattle.cmark_merge.specs.Streams.{GivesRanged, ranged_ahead, string_at, text_item};
+
+use cmark_text::{CowStr, Event};
+use std::alloc::{AllocError, Global};
+use std::ops::Range;
+
+/// The events of an iterator with their ranges, in which each longest run of two or more [`Event::Text`] is one: its text
+/// is owned, and its range goes from the start of the first to the end of the last. Where all of them are empty, they give
+/// no event. All other items, and a text that stands alone, are handed on as they are; an error item parts two runs.
+///
+/// Where memory is refused for a text that is put together, that is an error item, and there is `None` alone behind it.
+/// The iterator is asked no more behind its `None`.
+///
+/// ```text
+/// for item in TextMergeWithOffset::new(alloc, parser.into_offset_iter()) {
+///     let (event, range) = item?;
+/// }
+/// ```
+#[derive(Drop)]
+pub struct TextMergeWithOffset<'a, I> {
+    alloc: Global,
+    iter: I,
+    /// What was read behind a text and is not given yet.
+    held: Option<Result<(Event<'a>, Range<usize>), AllocError>>,
+    /// Whether the iterator is asked no more.
+    is_over: bool,
+}
+
+/// The text of an item with its range, or else the item itself.
+fn text_of<'a>(
+    item: Result<(Event<'a>, Range<usize>), AllocError>,
+) -> Result<(CowStr<'a>, Range<usize>), Result<(Event<'a>, Range<usize>), AllocError>>
+    ensures text { IfOk result (λ text. item.entry ≡ text_item text) }
+    ensures other { IfErr result (λ other. (other ≡ item.entry) × IsNoText other) }
+{
+    match item {
+        Ok((event, range)) => match event {
+            Event::Text(text) => Ok((text, range)),
+            event => Err(Ok((event, range))),
+        },
+        Err(error) => Err(Err(error)),
+    }
+}
+
+impl<'a, I> TextMergeWithOffset<'a, I>
+where
+    I: Iterator<Item = Result<(Event<'a>, Range<usize>), AllocError>>,
+{
+    /// The merged events of an iterator, of which nothing is read yet. `alloc` is asked for the texts that are put together.
+    pub fn new(alloc: Global, iter: I) -> TextMergeWithOffset<'a, I>
+        ensures iter { (ranged_ahead result).iter ≡ iter }
+        ensures nothing_held { (ranged_ahead result).held ≡ None }
+        ensures not_over { (ranged_ahead result).is_over ≡ false }
+    {
+        TextMergeWithOffset {
+            alloc,
+            iter,
+            held: None,
+            is_over: false,
+        }
+    }
+
+    /// The next item of the iterator, which is asked no more behind its `None`.
+    fn read(&mut self) -> Option<Result<(Event<'a>, Range<usize>), AllocError>>
+        requires { CanGo I.can_next I.remaining (ranged_ahead self.old) }
+        ensures reads { ReadsOne I.next_gives (ranged_ahead self.old) result (ranged_ahead self.new) }
+        ensures held { (ranged_ahead self.new).held ≡ (ranged_ahead self.old).held }
+        ensures goes { CanGo I.can_next I.remaining (ranged_ahead self.new) }
+        ensures fewer { OnSome result (size (items_left I.remaining (ranged_ahead self.new)) < size (items_left I.remaining (ranged_ahead self.old))) }
+        ensures no_more { size (items_left I.remaining (ranged_ahead self.new)) ≤ size (items_left I.remaining (ranged_ahead self.old)) }
+    {
+        if self.is_over {
+            return None;
+        }
+        match self.iter.next() {
+            Some(item) => Some(item),
+            None => {
+                self.is_over = true;
+                None
+            }
+        }
+    }
+
+    /// The next item: what is held, or else the next of the iterator.
+    fn take(&mut self) -> Option<Result<(Event<'a>, Range<usize>), AllocError>>
+        requires { CanGo I.can_next I.remaining (ranged_ahead self.old) }
+        ensures takes { Takes I.next_gives (ranged_ahead self.old) result (ranged_ahead self.new) }
+        ensures goes { CanGo I.can_next I.remaining (ranged_ahead self.new) }
+        ensures fewer { OnSome result (size (items_left I.remaining (ranged_ahead self.new)) < size (items_left I.remaining (ranged_ahead self.old))) }
+        ensures no_more { size (items_left I.remaining (ranged_ahead self.new)) ≤ size (items_left I.remaining (ranged_ahead self.old)) }
+    {
+        match self.held.take() {
+            Some(item) => Some(item),
+            None => self.read(),
+        }
+    }
+
+    /// The next item of the iterator if it is a text; another is held.
+    fn read_text(&mut self) -> Option<(CowStr<'a>, Range<usize>)>
+        requires goes { CanGo I.can_next I.remaining (ranged_ahead self.old) }
+        requires nothing_held { (ranged_ahead self.old).held ≡ None }
+        ensures reads { ReadsText I.next_gives (ranged_ahead self.old) result (ranged_ahead self.new) }
+        ensures goes { CanGo I.can_next I.remaining (ranged_ahead self.new) }
+        ensures fewer { OnSome result (size (items_left I.remaining (ranged_ahead self.new)) < size (items_left I.remaining (ranged_ahead self.old))) }
+        ensures no_more { size (items_left I.remaining (ranged_ahead self.new)) ≤ size (items_left I.remaining (ranged_ahead self.old)) }
+    {
+        match text_of(self.read()?) {
+            Ok(text) => Some(text),
+            Err(item) => {
+                self.held = Some(item);
+                None
+            }
+        }
+    }
+
+    /// These two texts and those that follow them, as one.
+    fn join(
+        &mut self,
+        first: (CowStr<'a>, Range<usize>),
+        second: (CowStr<'a>, Range<usize>),
+    ) -> Result<(String, Range<usize>), AllocError>
+        requires goes { CanGo I.can_next I.remaining (ranged_ahead self.old) }
+        requires nothing_held { (ranged_ahead self.old).held ≡ None }
+        requires not_over { (ranged_ahead self.old).is_over ≡ false }
+        ensures joins { IfOk result (λ all. Joins I.next_gives (ranged_ahead self.old) first.entry second.entry (string_at all) (ranged_ahead self.new)) }
+        ensures refused { OnErr result (ReadsTexts I.next_gives (ranged_ahead self.old) (ranged_ahead self.new)) }
+        ensures goes { CanGo I.can_next I.remaining (ranged_ahead self.new) }
+        ensures no_more { size (items_left I.remaining (ranged_ahead self.new)) ≤ size (items_left I.remaining (ranged_ahead self.old)) }
+    {
+        let mut text = first.0.into_string(self.alloc)?;
+        text.push_str(second.0.as_str())?;
+        let mut end = second.1.end;
+        while let Some((more, range)) = self.read_text() {
+            text.push_str(more.as_str())?;
+            end = range.end;
+        }
+        Ok((text, first.1.start..end))
+    }
+
+    /// The item that these two texts and those that follow them become; where they are empty, the one behind them.
+    fn merge(
+        &mut self,
+        first: (CowStr<'a>, Range<usize>),
+        second: (CowStr<'a>, Range<usize>),
+    ) -> Option<Result<(Event<'a>, Range<usize>), AllocError>>
+        requires goes { CanGo I.can_next I.remaining (ranged_ahead self.old) }
+        requires nothing_held { (ranged_ahead self.old).held ≡ None }
+        requires not_over { (ranged_ahead self.old).is_over ≡ false }
+        ensures merges { Merges I.next_gives (ranged_ahead self.old) first.entry second.entry result (ranged_ahead self.new) }
+        ensures goes { CanGo I.can_next I.remaining (ranged_ahead self.new) }
+        ensures no_more { size (items_left I.remaining (ranged_ahead self.new)) ≤ size (items_left I.remaining (ranged_ahead self.old)) }
+    {
+        match self.join(first, second) {
+            Ok((text, range)) => {
+                if text.as_str().is_empty() {
+                    return self.held.take();
+                }
+                let text = CowStr::Boxed(text.into_boxed_str());
+                Some(Ok((Event::Text(text), range)))
+            }
+            Err(error) => {
+                self.held = None;
+                self.is_over = true;
+                Some(Err(error))
+            }
+        }
+    }
+}
+
+impl<'a, I> Iterator for TextMergeWithOffset<'a, I>
+where
+    I: Iterator<Item = Result<(Event<'a>, Range<usize>), AllocError>>,
+{
+    type Item = Result<(Event<'a>, Range<usize>), AllocError>;
+
+    ghost can_next = { λ s. CanGo I.can_next I.remaining (ranged_ahead s) };
+
+    ghost next_gives = { GivesRanged I.next_gives };
+
+    ghost remaining = { λ s. items_left I.remaining (ranged_ahead s) };
+
+    fn next(&mut self) -> Option<Result<(Event<'a>, Range<usize>), AllocError>> {
+        let first = match text_of(self.take()?) {
+            Ok(text) => text,
+            Err(item) => return Some(item),
+        };
+        match self.read_text() {
+            Some(second) => self.merge(first, second),
+            None => Some(Ok((Event::Text(first.0), first.1))),
+        }
+    }
+
+    fn size_hint(&self) -> (usize, Option<usize>) {
+        (0, None)
+    }
+}

@@ -1,0 +1,18 @@
+-- Sets of ASCII bytes, by sixteen rows of eight bits.
+use Rattle.std.specs.Prelude.{ℕ, Bool, false, ◌+◌, ◌/◌, ◌%◌, ◌==◌, ◌&&◌, nat_lt, List, [], ◌∷◌, get_or}
+use Rattle.std.specs.Int.{bit_at}
+use Rattle.std.specs.Simd.Lanes.{mask_l}
+
+-- bit `high` of row `low`, of its lower eight, says whether the byte 16 * high + low is in the set
+abbrev pub in_rows : (rows : List ℕ) → ℕ → Bool
+in_rows rows byte = nat_lt (byte / 16) 8 && (bit_at (get_or rows (byte % 16) 0) (byte / 16) == 1)
+
+-- whether a table has the bytes with this low digit, by the high one
+abbrev pub column_of : (table : List Bool) → ℕ → List Bool
+column_of table low =
+    get_or table low false ∷ get_or table (low + 16) false ∷ get_or table (low + 32) false ∷ get_or table (low + 48) false
+    ∷ get_or table (low + 64) false ∷ get_or table (low + 80) false ∷ get_or table (low + 96) false ∷ get_or table (low + 112) false ∷ []
+
+-- the row of the bytes with this low digit that a table has
+abbrev pub row_of : (table : List Bool) → ℕ → ℕ
+row_of table low = mask_l (column_of table low)

@@ -1,0 +1,6 @@
+//! Searches for ASCII bytes, sixteen a step.
+#![tactic(auto)]
+
+mod search;
+
+pub use search::{AsciiSet, find_backtick, find_first, find_line_end};

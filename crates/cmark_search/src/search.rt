@@ -1,0 +1,191 @@
+//! Searches for the first byte of a set, sixteen bytes a step. They are made for short ways: a line has some sixty bytes.
+
+ghost use Rattle.std.specs.Prelude.{◌≡◌, ◌+◌, ◌<◌, ◌≤◌, if◌then◌else◌, ℕ, List, false, length, map, drop, take, slice_index, slice_index_or};
+ghost use Rattle.std.specs.List.{position_or_len};
+ghost use Rattle.std.specs.Simd.Lanes.{mask_l};
+ghost use Rattle.memchr.specs.Find.{IsFirstByte, is_byte, is_byte2};
+ghost use Rattle.cmark_search.specs.Sets.{in_rows, row_of};
+
+use std::marker::Model;
+use std::simd::prelude::*;
+
+/// The rows of the set of the backtick alone.
+const BACKTICKS: &[u8; 16] = &[64, 0, 0, 0, 0, 0, 0, 0, 0, 0, 0, 0, 0, 0, 0, 0];
+
+/// The rows of the set of line feed and carriage return.
+const LINE_ENDS: &[u8; 16] = &[0, 0, 0, 0, 0, 0, 0, 0, 0, 0, 1, 0, 0, 1, 0, 0];
+
+/// Bit `n` alone for `n` below 8, and no bit for the others.
+const BITS: &[u8; 16] = &[1, 2, 4, 8, 16, 32, 64, 128, 0, 0, 0, 0, 0, 0, 0, 0];
+
+/// A set of ASCII bytes. Bit `high` of row `low` says whether the byte `16 * high + low` is in the set. A contract sees the
+/// sixteen rows.
+#[derive(Clone, Copy)]
+pub struct AsciiSet {
+    rows: [u8; 16],
+}
+
+impl Model for AsciiSet {
+    ghost Value = { List ℕ };
+
+    ghost view = { λ set. set.rows };
+
+    ghost inverse = { λ rows. record { rows = rows } };
+}
+
+impl AsciiSet {
+    /// The set of the ASCII bytes that the table has.
+    pub fn new(table: &[bool; 256]) -> AsciiSet
+        ensures has { (byte : ℕ) → byte < 128 → in_rows result byte ≡ slice_index_or table.now byte false }
+    {
+        let mut rows = [0u8; 16];
+        for low in 0..16 {
+            rows[low] = row_of(table, low);
+        }
+        AsciiSet { rows }
+    }
+
+    /// The first place from `from` on whose byte is in the set; the length, where there is none.
+    #[inline(always)]
+    pub fn find(&self, bytes: &[u8], from: usize) -> usize
+        requires { from ≤ length bytes.now }
+        ensures value { result ≡ from + position_or_len (in_rows self.now) (drop from bytes.now) }
+        ensures within { result ≤ length bytes.now }
+        ensures ascii { result < length bytes.now → slice_index bytes.now result < 128 }
+    {
+        from + find_ascii(&self.rows, &bytes[from..])
+    }
+}
+
+/// 1 for true, and 0 for false.
+#[inline(always)]
+fn one(set: bool) -> u8
+    ensures value { result ≡ (if set then 1 else 0) }
+    ensures small { result ≤ 1 }
+{
+    set as u8
+}
+
+/// The row of the bytes with this low digit.
+fn row_of(table: &[bool; 256], low: usize) -> u8
+    requires { low < 16 }
+    ensures { result ≡ row_of table.now low }
+{
+    let upper = one(table[low + 64])
+        + 2 * (one(table[low + 80]) + 2 * (one(table[low + 96]) + 2 * one(table[low + 112])));
+    let lower = one(table[low + 32]) + 2 * (one(table[low + 48]) + 2 * upper);
+    one(table[low]) + 2 * (one(table[low + 16]) + 2 * lower)
+}
+
+/// Bit `k` of the answer says whether lane `k` is in the set.
+#[inline(always)]
+fn marks(rows: &[u8; 16], lanes: u8x16) -> u64
+    ensures { result ≡ mask_l (map (in_rows rows.now) lanes) }
+{
+    let low = u8x16::from_slice(rows).swizzle_dyn(lanes & u8x16::splat(15));
+    let high = u8x16::from_slice(BITS).swizzle_dyn(lanes >> u8x16::splat(4));
+    (low & high).simd_ne(u8x16::splat(0)).to_bitmask()
+}
+
+/// How many lanes stand in front of the first that is in the set; 16, where none is.
+#[inline(always)]
+fn lanes_before(rows: &[u8; 16], lanes: u8x16) -> usize
+    ensures value { result ≡ position_or_len (in_rows rows.now) lanes }
+    ensures small { result ≤ 16 }
+{
+    let hits = marks(rows, lanes);
+    if hits == 0 {
+        return 16;
+    }
+    hits.trailing_zeros() as usize
+}
+
+/// How many of the sixteen bytes from `at` on stand in front of the first that is in the set; 16, where none is.
+#[inline(always)]
+fn bytes_before(rows: &[u8; 16], bytes: &[u8], at: usize) -> usize
+    requires { at + 16 ≤ length bytes.now }
+    ensures value { result ≡ position_or_len (in_rows rows.now) (take 16 (drop at bytes.now)) }
+    ensures small { result ≤ 16 }
+{
+    lanes_before(rows, u8x16::from_slice(&bytes[at..]))
+}
+
+/// Whether the byte is in the set.
+#[inline(always)]
+fn has(rows: &[u8; 16], byte: u8) -> bool
+    ensures { result ≡ in_rows rows.now byte }
+{
+    rows[(byte % 16) as usize] & BITS[(byte / 16) as usize] != 0
+}
+
+/// The first place whose byte is in the set; the length, where there is none. The last step looks at the last sixteen bytes
+/// once more.
+#[inline(always)]
+fn find(rows: &[u8; 16], bytes: &[u8]) -> usize
+    ensures value { result ≡ position_or_len (in_rows rows.now) bytes.now }
+    ensures within { result ≤ length bytes.now }
+{
+    let len = bytes.len();
+    if len < 16 {
+        return find_by_one(rows, bytes);
+    }
+    let mut at = 0;
+    while len - at >= 16 {
+        let passed = bytes_before(rows, bytes, at);
+        if passed < 16 {
+            return at + passed;
+        }
+        at += 16;
+    }
+    len - 16 + bytes_before(rows, bytes, len - 16)
+}
+
+/// The same; and where such a byte stands, it is ASCII.
+#[inline(always)]
+fn find_ascii(rows: &[u8; 16], bytes: &[u8]) -> usize
+    ensures value { result ≡ position_or_len (in_rows rows.now) bytes.now }
+    ensures within { result ≤ length bytes.now }
+    ensures ascii { result < length bytes.now → slice_index bytes.now result < 128 }
+{
+    find(rows, bytes)
+}
+
+/// The same as `find`, byte by byte.
+#[inline(always)]
+fn find_by_one(rows: &[u8; 16], bytes: &[u8]) -> usize
+    ensures value { result ≡ position_or_len (in_rows rows.now) bytes.now }
+    ensures within { result ≤ length bytes.now }
+{
+    for at in 0..bytes.len() {
+        if has(rows, bytes[at]) {
+            return at;
+        }
+    }
+    bytes.len()
+}
+
+/// Where the first byte stands that is in the set of these rows: bit `high` of row `low` says whether the byte
+/// `16 * high + low` is in it.
+#[inline(always)]
+pub fn find_first(rows: &[u8; 16], bytes: &[u8]) -> Option<usize>
+    ensures { IsFirstByte (in_rows rows.now) bytes.now result }
+{
+    let at = find(rows, bytes);
+    if at < bytes.len() { Some(at) } else { None }
+}
+
+/// Where the first backtick stands.
+#[inline]
+pub fn find_backtick(bytes: &[u8]) -> Option<usize>
+    ensures { IsFirstByte (is_byte 96) bytes.now result }
+{
+    find_first(BACKTICKS, bytes)
+}
+
+/// Where the first line feed or carriage return stands.
+#[inline]
+pub fn find_line_end(bytes: &[u8]) -> Option<usize>
+    ensures { IsFirstByte (is_byte2 10 13) bytes.now result }
+{
+    find_first(LINE_ENDS, bytes)
+}

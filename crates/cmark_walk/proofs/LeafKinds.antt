@@ -1,0 +1,56 @@
+-- Which nodes are leaves, and what is inside them.
+use Rattle.std.proofs.Common.{◌≡◌, Bool, true, false, if◌then◌else◌, List, [], ◌∷◌, refl, ap}
+use Rattle.cmark_grammar.specs.BlockDocument.{BlockKind, Paragraph, TightParagraph, Heading, ThematicBreak, IndentedCode, FencedCode, HtmlBlock, LinkDefinition, BlockQuote, BlockList, ListItem, Text, OwnedText, Html, BlockDocument, Nil, Node}
+use Rattle.cmark_grammar.specs.BlockReading.{Around, Inside, Alone, Silent, read_as}
+use Rattle.cmark_grammar.specs.DrawnDocument.{kind_within, settled}
+use Rattle.cmark_grammar.specs.LeafText.{Stretch}
+use Rattle.cmark_grammar.specs.SpanDocuments.{Segment, Content, is_leaf, leaf_of, stretches_of, inside_of}
+
+-- a paragraph is one in a tight list too
+pub leaf-within : (tight : Bool) (kind : BlockKind) → is_leaf (kind_within tight kind) ≡ is_leaf kind
+leaf-within true Paragraph = refl
+leaf-within false Paragraph = refl
+leaf-within tight TightParagraph = refl
+leaf-within tight (Heading level attributes) = refl
+leaf-within tight ThematicBreak = refl
+leaf-within tight IndentedCode = refl
+leaf-within tight (FencedCode info) = refl
+leaf-within tight HtmlBlock = refl
+leaf-within tight (LinkDefinition reference) = refl
+leaf-within tight (BlockQuote alert) = refl
+leaf-within tight (BlockList number t) = refl
+leaf-within tight ListItem = refl
+leaf-within tight (Text bytes) = refl
+leaf-within tight (OwnedText bytes) = refl
+leaf-within tight (Html bytes) = refl
+
+pub inside-leaf : (kind : BlockKind) (content : BlockDocument) (others : List Segment) → is_leaf kind ≡ true → inside_of kind content others ≡ Content (leaf_of content) ∷ []
+inside-leaf kind content others e = ap (λ b. if b then Content (leaf_of content) ∷ [] else others) e
+
+pub inside-block : (kind : BlockKind) (content : BlockDocument) (others : List Segment) → is_leaf kind ≡ false → inside_of kind content others ≡ others
+inside-block kind content others e = ap (λ b. if b then Content (leaf_of content) ∷ [] else others) e
+
+-- what is read as what is inside it is a leaf
+pub only-leaves-inside : (kind : BlockKind) → Inside ≡ read_as kind → is_leaf kind ≡ true
+only-leaves-inside Paragraph e = refl
+only-leaves-inside TightParagraph e = refl
+only-leaves-inside (Heading level attributes) e = refl
+only-leaves-inside ThematicBreak e = absurd (let q : Inside ≡ Alone _ = e in cc)
+only-leaves-inside IndentedCode e = absurd (let q : Inside ≡ Around _ = e in cc)
+only-leaves-inside (FencedCode info) e = absurd (let q : Inside ≡ Around _ = e in cc)
+only-leaves-inside HtmlBlock e = absurd (let q : Inside ≡ Around _ = e in cc)
+only-leaves-inside (LinkDefinition reference) e = absurd (let q : Inside ≡ Silent = e in cc)
+only-leaves-inside (BlockQuote alert) e = absurd (let q : Inside ≡ Around _ = e in cc)
+only-leaves-inside (BlockList number tight) e = absurd (let q : Inside ≡ Around _ = e in cc)
+only-leaves-inside ListItem e = absurd (let q : Inside ≡ Around _ = e in cc)
+only-leaves-inside (Text bytes) e = absurd (let q : Inside ≡ Alone _ = e in cc)
+only-leaves-inside (OwnedText bytes) e = absurd (let q : Inside ≡ Alone _ = e in cc)
+only-leaves-inside (Html bytes) e = absurd (let q : Inside ≡ Alone _ = e in cc)
+
+-- whether a list is tight changes no stretch of a leaf
+settled-stretches : (tight : Bool) (content : BlockDocument) → stretches_of (settled tight content) ≡ stretches_of content
+settled-stretches tight Nil = refl
+settled-stretches tight (Node node inside after) = ap (λ (more : List Stretch). record { start = node.start; end = node.end } ∷ more) (settled-stretches tight after)
+
+pub settled-leaf : (tight : Bool) (content : BlockDocument) → leaf_of (settled tight content) ≡ leaf_of content
+settled-leaf tight content = ap (λ (more : List Stretch). record { stretches = more; is_cell = false }) (settled-stretches tight content)

@@ -1,0 +1,141 @@
+-- The lines of a leaf are gathered, one after the other.
+use Rattle.std.proofs.Common.{◌≡◌, ℕ, ◌≤◌, List, [], ◌∷◌, ◌++◌, Option, Some, None, refl, sym, ap, ◌∙◌, subst, append_assoc, append-nil, arith}
+use Rattle.std.proofs.lemmas.Option.{same_Some}
+use Rattle.cmark_tree.specs.declared.tree_index.TreeIndex.{TreeIndex}
+use Rattle.cmark_tree.specs.Forest.{Forest, Nil, Node}
+use Rattle.cmark_tree.specs.Arena.{Entry, Placed, first, Stands}
+use Rattle.cmark_tree.specs.Zip.{Zip}
+use Rattle.cmark_tree.specs.Tree.{entry_at, HasNode, focus_of, index_at}
+use Rattle.cmark_tree.proofs.Steps.{focus_read, in_right}
+use Rattle.cmark_tree.proofs.Entries.{node_at-within}
+use Rattle.cmark_text.specs.declared.text.CowStr.{CowStr}
+use Rattle.cmark_grammar.specs.BlockDocument as document
+use Rattle.cmark_grammar.specs.BlockDocument.{BlockNode, BlockDocument}
+use Rattle.cmark_grammar.specs.Ranges.{InOrder}
+use Rattle.cmark_grammar.specs.SpanDocuments.{leaf_of, stretches_of}
+use Rattle.cmark_items.specs.declared.item.Item.{Item}
+use Rattle.cmark_leaf_text.specs.declared.stretch.LeafLine.{LeafLine}
+use Rattle.cmark_leaf_text.specs.Stretches.{AreLines}
+use Rattle.cmark_walk.specs.declared.walk.Walk.{Walk}
+use Rattle.cmark_walk.specs.Walking.{AreLinesOf, Drawn, Draws, Goes, Outer, StandsAt, content_of, lines_of, texts_of}
+use Rattle.cmark_walk.proofs.WalkSteps.{IsFocusAt, range-of-item}
+
+-- the nodes of a leaf, in order, are lines
+lines-turn : (text : List ℕ) (texts : List CowStr) (low from : ℕ) (f : Forest (Placed Item)) (d : BlockDocument) (to : ℕ) → low ≤ from → Draws text texts f d → InOrder from d to → AreLines text low (lines_of (stretches_of d))
+lines-turn text texts low from f document.Nil to le d o = tt
+lines-turn text texts low from Nil (document.Node node inside after) to le d o = absurd d
+lines-turn text texts low from (Node p f g) (document.Node node inside after) to le d o =
+    let a : from ≤ node.start = o.0 in (
+      record {
+        behind = omega (arith, le, a);
+        content = d.0.in_order;
+        ending = omega arith;
+        within = d.0.within;
+        starts = d.0.starts;
+        stops = d.0.ends;
+        ends = d.0.ends;
+      },
+      lines-turn text texts node.end node.end g after to (omega arith) d.2 o.2,
+    )
+
+-- some lines were gathered, and these are to come
+pub record Gathering (walk : Walk) (content : BlockDocument) (lines : List LeafLine) (next : Option TreeIndex) : Type 0 where
+  pub rest : Forest (Placed Item)
+  pub left : BlockDocument
+  pub stands : Stands (entry_at walk.tree) rest
+  pub draws : Draws walk.text.now (texts_of walk) rest left
+  pub next_is : next ≡ focus_of rest
+  pub are : lines ++ lines_of (stretches_of left) ≡ lines_of (stretches_of content)
+
+abbrev pub Gathered : Walk → List LeafLine → Option TreeIndex → Type 0
+Gathered walk lines next = (z : Zip Item) (here : BlockDocument) (above : List Outer) → StandsAt walk z here above → Gathering walk (content_of here) lines next
+
+abbrev pub IsItemAt : Walk → TreeIndex → Item → Type 0
+IsItemAt walk ix item = (e : Entry Item) → entry_at walk.tree ix.ix ≡ Some e → item ≡ e.item
+
+abbrev pub IsChildAt : Walk → TreeIndex → Option TreeIndex → Type 0
+IsChildAt walk ix child = (e : Entry Item) → entry_at walk.tree ix.ix ≡ Some e → child ≡ index_at e.child
+
+abbrev pub IsNextAt : Walk → TreeIndex → Option TreeIndex → Type 0
+IsNextAt walk ix next = (e : Entry Item) → entry_at walk.tree ix.ix ≡ Some e → next ≡ index_at e.next
+
+module _ (walk : Walk) where
+  -- the first node inside the focus
+  begin-at : (ix : TreeIndex) (child : Option TreeIndex) (right : Forest (Placed Item)) (here : BlockDocument) → Stands (entry_at walk.tree) right → Draws walk.text.now (texts_of walk) right here
+      → focus_of right ≡ Some ix → IsChildAt walk ix child → Gathering walk (content_of here) [] child
+  begin-at ix child Nil here st d f c = absurd (let q : None ≡ Some ix = f in cc)
+  begin-at ix child (Node p f g) document.Nil st d fo c = absurd d
+  begin-at ix child (Node p f g) (document.Node node inside after) st d fo c =
+      let same = ap (λ k. k.ix) (same_Some (record { ix = p.ix }) ix fo) in
+      let entry : Entry Item = record { item = p.item; child = first f; next = first g } in
+      record {
+        rest = f;
+        left = inside;
+        stands = st.1;
+        draws = d.1;
+        next_is = c entry (subst (λ k. entry_at walk.tree k ≡ Some entry) same st.0) ∙ focus_read walk.tree.nodes f st.1;
+        are = refl;
+      }
+
+  pub begins-lines : (ix : TreeIndex) (child : Option TreeIndex) (lines : List LeafLine) → IsFocusAt walk ix → IsChildAt walk ix child → lines ≡ [] → Gathered walk lines child
+  begins-lines ix child lines at c none z here above s =
+      subst (λ ls. Gathering walk (content_of here) ls child) (sym none) (begin-at ix child z.right here (in_right walk.tree.nodes walk.tree.first z s.below.holds.forest) s.draws (at z s.below.holds) c)
+
+  -- a node that is to come is one of the tree
+  node-at : (content : BlockDocument) (lines : List LeafLine) (line : TreeIndex) (rest : Forest (Placed Item)) → Stands (entry_at walk.tree) rest → Some line ≡ focus_of rest → HasNode walk.tree line.ix
+  node-at content lines line Nil st e = absurd (let q : Some line ≡ None = e in cc)
+  node-at content lines line (Node p f g) st e =
+      subst (λ k. HasNode walk.tree k) (sym (ap (λ k. k.ix) (same_Some line (record { ix = p.ix }) e))) (node_at-within walk.tree.nodes p.ix (record { item = p.item; child = first f; next = first g }) st.0)
+
+  pub line-node : (lines : List LeafLine) (line : TreeIndex) (next : Option TreeIndex) → Goes walk → Gathered walk lines next → next ≡ Some line → HasNode walk.tree line.ix
+  line-node lines line next g h e =
+      let k = h g.1.z g.1.here g.1.above g.1.stands in node-at (content_of g.1.here) lines line k.rest k.stands (sym e ∙ k.next_is)
+
+  -- one line more
+  more-at : (content : BlockDocument) (lines : List LeafLine) (line : TreeIndex) (item : Item) (next : Option TreeIndex) (rest : Forest (Placed Item)) (left : BlockDocument)
+      → Stands (entry_at walk.tree) rest → Draws walk.text.now (texts_of walk) rest left
+      → Some line ≡ focus_of rest → lines ++ lines_of (stretches_of left) ≡ lines_of (stretches_of content) → IsItemAt walk line item → IsNextAt walk line next
+      → Gathering walk content (lines ++ (record { start = item.start; stop = item.end; past = item.end } ∷ [])) next
+  more-at content lines line item next Nil left st d e are i n = absurd (let q : Some line ≡ None = e in cc)
+  more-at content lines line item next (Node p f g) document.Nil st d e are i n = absurd d
+  more-at content lines line item next (Node p f g) (document.Node node inside after) st d e are i n =
+      let same = sym (ap (λ k. k.ix) (same_Some line (record { ix = p.ix }) e)) in
+      let entry : Entry Item = record { item = p.item; child = first f; next = first g } in
+      let at : entry_at walk.tree line.ix ≡ Some entry = subst (λ k. entry_at walk.tree k ≡ Some entry) same st.0 in
+      let is : item ≡ p.item = i entry at in
+      let range = range-of-item walk.text.now (texts_of walk) item node (subst (λ k. Drawn walk.text.now (texts_of walk) k node) (sym is) d.0) in
+      let line-is : record { start = item.start; stop = item.end; past = item.end } ≡ record { start = node.start; stop = node.end; past = node.end } =
+      ap {A = ℕ} {B = LeafLine} (λ s. record { start = s; stop = item.end; past = item.end }) (sym range.0) ∙ ap {A = ℕ} {B = LeafLine} (λ s. record { start = node.start; stop = s; past = s }) (sym range.1) in
+      record {
+        rest = g;
+        left = after;
+        stands = st.2;
+        draws = d.2;
+        next_is = n entry at ∙ focus_read walk.tree.nodes g st.2;
+        are = append_assoc lines (record { start = item.start; stop = item.end; past = item.end } ∷ []) (lines_of (stretches_of after)) ∙ ap (λ (l : LeafLine). lines ++ (l ∷ lines_of (stretches_of after))) line-is ∙ are;
+      }
+
+  pub gathers-line : (lines more : List LeafLine) (line : TreeIndex) (item : Item) (now next : Option TreeIndex) → Gathered walk lines now → now ≡ Some line → IsItemAt walk line item → IsNextAt walk line next
+      → more ≡ lines ++ (record { start = item.start; stop = item.end; past = item.end } ∷ []) → Gathered walk more next
+  gathers-line lines more line item now next h e i n are z here above s =
+      let k = h z here above s in
+      subst (λ ls. Gathering walk (content_of here) ls next) (sym are) (more-at (content_of here) lines line item next k.rest k.left k.stands k.draws (sym e ∙ k.next_is) k.are i n)
+
+  -- no line is to come
+  done-at : (lines all : List LeafLine) (rest : Forest (Placed Item)) (left : BlockDocument) → Draws walk.text.now (texts_of walk) rest left → None ≡ focus_of rest → lines ++ lines_of (stretches_of left) ≡ all → lines ≡ all
+  done-at lines all Nil document.Nil d e are = sym (append-nil lines) ∙ are
+  done-at lines all Nil (document.Node node inside after) d e are = absurd d
+  done-at lines all (Node p f g) left d e are = absurd (let q : None ≡ Some (record { ix = p.ix }) = e in cc)
+
+  -- the nodes inside the focus are its lines
+  turn-at : (right : Forest (Placed Item)) (here : BlockDocument) → Draws walk.text.now (texts_of walk) right here → AreLines walk.text.now 0 (lines_of (stretches_of (content_of here)))
+  turn-at right document.Nil d = tt
+  turn-at Nil (document.Node node inside after) d = absurd d
+  turn-at (Node p f g) (document.Node node inside after) d = lines-turn walk.text.now (texts_of walk) 0 node.start f inside node.end (omega arith) d.1 d.3
+
+  pub lines-done : (lines : List LeafLine) (next : Option TreeIndex) → Gathered walk lines next → next ≡ None → (z : Zip Item) (here : BlockDocument) (above : List Outer) → StandsAt walk z here above
+      → AreLinesOf walk.text.now (leaf_of (content_of here)) lines
+  lines-done lines next h e z here above s =
+      let k = h z here above s in
+      let are = done-at lines (lines_of (stretches_of (content_of here))) k.rest k.left k.draws (sym e ∙ k.next_is) k.are in
+      record { are = are; in_turn = subst (AreLines walk.text.now 0) (sym are) (turn-at z.right here s.draws) }

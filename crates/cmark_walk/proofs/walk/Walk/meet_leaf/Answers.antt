@@ -1,0 +1,9 @@
+use Rattle.cmark_walk.proofs.LeafLeave.{meets-leaf}
+use Rattle.cmark_walk.proofs.walk.Walk.meet_leaf.Goals as goal
+
+pub returns-clause-given : goal.returns-clause-given
+returns-clause-given c = meets-leaf c.args.self.now c.gather.new.lines.items c.requires.before c.in_ok-gather.ensures
+
+pub returns-clause-goes : goal.returns-clause-goes
+returns-clause-goes c =
+    let g = meets-leaf c.args.self.now c.gather.new.lines.items c.requires.before c.in_ok-gather.ensures c.requires.at.0.0 c.requires.at.0.1 in (g.1, g.4)

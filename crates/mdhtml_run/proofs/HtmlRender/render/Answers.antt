@@ -1,5 +1,0 @@
-use Rattle.mdhtml_run.proofs.RenderSteps.{rendered}
-use Rattle.mdhtml_run.proofs.HtmlRender.render.Goals as goal
-
-pub returns : goal.returns
-returns g c = rendered c.in_ok-parser.parser c.args.text.now _ _ _ c.in_ok-parser.ensures.reads c.in_ok-html.ensures.bytes c.in_ok-push_html.ensures.ok

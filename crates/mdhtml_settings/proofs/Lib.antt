@@ -1,0 +1,3 @@
+pub mod EntitySteps
+mod LineSamples
+pub mod LineSteps

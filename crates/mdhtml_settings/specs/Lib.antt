@@ -1,0 +1,4 @@
+pub mod Entities
+pub mod Line
+pub mod LookUp
+pub mod Starts

@@ -1,0 +1,104 @@
+-- What the words of a command line ask for. How words are read is what `clap` says of a simple command.
+use Rattle.std.specs.Prelude.{◌≡◌, ◌⊎◌, ◌∷◌, [], ℕ, Bool, true, false, List, Some, Option, fold, codes, if◌then◌else◌, Result, MatchResult}
+use Rattle.std.specs.Option.{option_map_or}
+use Rattle.std.specs.Str.{bytes_eq}
+use Rattle.std.specs.Int.RustNames.{bit_or}
+use Rattle.clap.specs.Simple.{on_top}
+use Rattle.clap.specs.Words.{App, IsAmong, Kinds, Row, Rule, Text, first_of, new_app, new_rule, with_rule}
+use Rattle.clap.specs.declared.builder.action.ArgAction.TheVariants.{Set, SetTrue}
+use Rattle.clap.specs.declared.error.kind.ErrorKind.{ErrorKind}
+use Rattle.clap.specs.declared.error.kind.ErrorKind.TheVariants.{DisplayHelp, DisplayVersion, OutOfMemory}
+use Rattle.cmark_text.specs.declared.options.Options.{Options}
+use Rattle.mdhtml_settings.specs.declared.flags.LineFlag.{LineFlag}
+use Rattle.mdhtml_settings.specs.declared.line.LineFault.{LineFault}
+use Rattle.mdhtml_settings.specs.declared.line.LineFault.TheVariants.{Help, Bad, Memory}
+use Rattle.mdhtml_settings.specs.declared.line.Settings.{Settings}
+
+-- the number whose bits are the options
+abbrev pub option_bits : Options → ℕ
+option_bits options = options.0
+
+-- each flag, behind its two hyphens, and the bits that it sets: those of its option
+abbrev pub flags : List (Text × ℕ)
+flags =
+    (codes "tables", 2) ∷
+    (codes "footnotes", 4) ∷
+    (codes "strikethrough", 8) ∷
+    (codes "tasklists", 16) ∷
+    (codes "smart-punctuation", 32) ∷
+    (codes "heading-attributes", 64) ∷
+    (codes "yaml-metadata", 128) ∷
+    (codes "plus-metadata", 256) ∷
+    (codes "old-footnotes", 516) ∷
+    (codes "math", 1024) ∷
+    (codes "gfm", 2048) ∷
+    (codes "definition-list", 4096) ∷
+    (codes "superscript", 8192) ∷
+    (codes "subscript", 16384) ∷
+    (codes "wikilinks", 32768) ∷ []
+
+abbrev pub shown_flag : LineFlag → Text × ℕ
+shown_flag flag = (flag.name.now, option_bits flag.option)
+
+-- ---- the command
+
+-- a flag of the command: it takes no value
+abbrev pub flag_rule : Text → Rule
+flag_rule name = record (new_rule name) { long = Some name; action = Some SetTrue }
+
+abbrev pub with_flag_rules : App → List (Text × ℕ) → App
+with_flag_rules = fold (λ app flag. with_rule app (flag_rule flag.0))
+
+-- `--entities FILE`
+abbrev pub file_rule : Rule
+file_rule = record (new_rule (codes "entities")) { long = Some (codes "entities"); action = Some Set; value_names = 1 }
+
+-- a command that answers `--version`
+abbrev pub with_version : App → App
+with_version = on_top (λ shape. record shape { has_version = true })
+
+-- the command of this name: a version, the flags and the file
+abbrev pub line_command : Text → App
+line_command name = with_rule (with_flag_rules (with_version (new_app name)) flags) file_rule
+
+-- ---- what its words ask for
+
+-- a flag that was given has the value `true`
+abbrev pub is_given : Text → List Row → Bool
+is_given name rows = option_map_or (λ value. bytes_eq value (codes "true")) (first_of name rows) false
+
+-- the bits, with those of the flag where it was given
+abbrev pub bits_with : List Row → ℕ → Text × ℕ → ℕ
+bits_with rows bits flag = if is_given flag.0 rows then bit_or bits flag.1 else bits
+
+-- the bits of the flags that were given
+abbrev pub bits_given : List (Text × ℕ) → List Row → ℕ
+bits_given all rows = fold (bits_with rows) 0 all
+
+abbrev pub file_given : List Row → Option Text
+file_given = first_of (codes "entities")
+
+-- ---- faults
+
+-- the words ask for a text
+abbrev pub asks_for_text : ErrorKind → Bool
+asks_for_text DisplayHelp = true
+asks_for_text DisplayVersion = true
+asks_for_text _ = false
+
+-- the fault of a line that is refused with this kind
+abbrev pub HasLineFault : ErrorKind → LineFault → Type 0
+HasLineFault kind (Help text) = asks_for_text kind ≡ true
+HasLineFault kind Bad = (asks_for_text kind ≡ false) × (kind ≡ OutOfMemory → ⊥)
+HasLineFault kind Memory = (asks_for_text kind ≡ true) ⊎ (kind ≡ OutOfMemory)
+
+-- with these kinds alone the words can be refused: a text comes only where they ask for one, and Bad only where they are
+-- refused otherwise; memory may be refused at any time
+abbrev pub MayFail : Kinds → LineFault → Type 0
+MayFail kinds (Help text) = (kind : ErrorKind) × IsAmong kind kinds × (asks_for_text kind ≡ true)
+MayFail kinds Bad = (kind : ErrorKind) × IsAmong kind kinds × (asks_for_text kind ≡ false)
+MayFail kinds Memory = Unit {0}
+
+-- and settings come only where there is no such kind
+abbrev pub AnswersBy : Kinds → Result Settings LineFault → Type 0
+AnswersBy kinds result = MatchResult result (λ settings. kinds ≡ []) (MayFail kinds)

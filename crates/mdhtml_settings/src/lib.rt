@@ -1,0 +1,11 @@
+//! What the programs are told beside the text: the words of the command line, and the file of entities that they name.
+#![tactic(auto)]
+
+mod entities;
+mod flags;
+mod line;
+mod starting;
+
+pub use entities::{NamedEntities, read_entities};
+pub use line::{LineFault, Settings, parse_line};
+pub use starting::{BAD_LINE_STATUS, RunSettings, Stop, read_entity_file, start};

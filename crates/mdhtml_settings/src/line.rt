@@ -1,0 +1,120 @@
+//! The words of a command line.
+
+ghost use Rattle.std.specs.Prelude.{◌≡◌, true, map, string_bytes, option_map, IfOk, IfErr, MatchResult};
+ghost use Rattle.clap.specs.Words.{app_of, fault_of, found_of, kind_of, matches_of, rows_of, takes};
+ghost use Rattle.mdhtml_settings.specs.Line.{bits_given, file_given, flags, line_command, option_bits, AnswersBy, HasLineFault};
+ghost use Rattle.mdhtml_settings.specs.declared.line.LineFault.TheVariants.{Memory};
+
+use crate::flags::{FLAGS, options_given, text_given, with_flags};
+use clap::error::ErrorKind;
+use clap::{Arg, ArgAction, ArgMatches, Command, Error};
+use cmark_text::Options;
+use std::alloc::{AllocError, Global};
+use std::convert::AsStr;
+
+/// The version that `--version` answers: that of the crate whose calls stand here.
+const VERSION: &str = "0.13.6";
+
+/// What the words of a command line ask for.
+#[derive(Drop)]
+pub struct Settings {
+    /// The options whose flags were given.
+    pub options: Options,
+    /// The file after `--entities`, if it was given.
+    pub entities: Option<String>,
+}
+
+/// Why the words of a command line give no settings.
+#[derive(Drop)]
+pub enum LineFault {
+    /// They ask for the help or the version. The text is the answer, with its last line ended.
+    Help(String),
+    /// They are not the command's: a flag that it lacks, one given twice, a file that is missing, or a word beside them.
+    Bad,
+    /// Memory was refused.
+    Memory,
+}
+
+impl From<AllocError> for LineFault {
+    ghost use Rattle.mdhtml_settings.specs.declared.line.LineFault.TheVariants.{Memory};
+
+    ghost from_gives = { λ _ fault. fault ≡ Memory };
+
+    fn from(_error: AllocError) -> Self {
+        Self::Memory
+    }
+}
+
+/// The command whose words are read.
+fn line_reader<'a>(alloc: Global, name: &'a str, about: &'a str) -> Result<Command<'a>, AllocError>
+    ensures { IfOk result (λ c. app_of c ≡ line_command name.entry.now) }
+{
+    let command = Command::new(alloc, name).version(VERSION).about(about);
+    let file = Arg::new(alloc, "entities")
+        .long("entities")
+        .action(ArgAction::Set)
+        .value_name("FILE")
+        .help("The texts of entity names: a JSON object of texts");
+    with_flags(alloc, command, FLAGS.as_slice())?.arg(file)
+}
+
+/// What the matches of the words ask for.
+fn settings_of(alloc: Global, matches: &ArgMatches<'_>) -> Result<Settings, AllocError>
+    ensures options { IfOk result (λ s. option_bits s.options ≡ bits_given flags (rows_of (found_of matches.now))) }
+    ensures file { IfOk result (λ s. option_map string_bytes s.entities ≡ file_given (rows_of (found_of matches.now))) }
+{
+    let entities = match text_given(matches, "entities") {
+        Some(file) => Some(String::from_str(alloc, file)?),
+        None => None,
+    };
+    Ok(Settings {
+        options: options_given(matches, FLAGS.as_slice()),
+        entities,
+    })
+}
+
+/// The fault of a line that has no matches.
+fn line_fault(alloc: Global, error: &Error) -> LineFault
+    ensures { HasLineFault (kind_of error.now) result }
+{
+    match error.kind() {
+        ErrorKind::OutOfMemory => LineFault::Memory,
+        ErrorKind::DisplayHelp | ErrorKind::DisplayVersion => {
+            match format!(in alloc; "{error}") {
+                Ok(text) => LineFault::Help(text),
+                Err(_) => LineFault::Memory,
+            }
+        }
+        _ => LineFault::Bad,
+    }
+}
+
+/// Reads the words of a command line, of which the first is the program's own: flags, one for each option, and
+/// `--entities FILE`. `name` and `about` stand in the help, which `-h` and `--help` ask for; `-V` and `--version` ask for the
+/// version.
+///
+/// ```text
+/// parse_line(alloc, "mdhtml", "Markdown to HTML", &["mdhtml", "--tables"])?.options == Options::ENABLE_TABLES
+/// ```
+pub fn parse_line<'a, S: AsStr>(
+    alloc: Global,
+    name: &'a str,
+    about: &'a str,
+    words: &'a [S],
+) -> Result<Settings, LineFault>
+    ensures options { IfOk result (λ s. option_bits s.options
+        ≡ bits_given flags (matches_of (line_command name.entry.now) (map S.text words.entry.now))) }
+    ensures file { IfOk result (λ s. option_map string_bytes s.entities
+        ≡ file_given (matches_of (line_command name.entry.now) (map S.text words.entry.now))) }
+    ensures faults { AnswersBy (fault_of (line_command name.entry.now) (map S.text words.entry.now)) result }
+    ensures passes { takes (line_command name.entry.now) (map S.text words.entry.now) ≡ true → IfErr result (λ f. f ≡ Memory) }
+{
+    let command = line_reader(alloc, name, about)?;
+    match command.try_get_matches_from(words) {
+        Ok(matches) => {
+            let settings = settings_of(alloc, &matches)?;
+            Ok(settings)
+        }
+        Err(error) => Err(line_fault(alloc, &error)),
+    }
+}

@@ -1,0 +1,209 @@
+"""Labels, destinations and titles: the definitions of LinkDefinitions, Labels, Destinations and LinkTails."""
+from typing import NamedTuple
+
+from inlines.letters import (Found, and_then, behind_blanks, behind_ending, behind_start, is_blank_byte, is_content,
+                             lines_of_title, resolved, with_line_ends)
+
+
+# ## LinkDefinitions
+
+def escapes_next(escaped, b):
+    return not escaped and b == 92
+
+
+def up_to(closer, refused, over_lines, bs):
+    """Up to the closer that no backslash escapes."""
+    escaped = False
+    for at, b in enumerate(bs):
+        if not escaped and b == closer:
+            return Found(bs[:at], bs[at + 1:])
+        if (not escaped and b == refused) or (not over_lines and b in b"\n\r"):
+            return None
+        escaped = escapes_next(escaped, b)
+    return None
+
+
+def is_white(b):
+    return is_blank_byte(b) or b in b"\n\f\r"
+
+
+def characters(bs):
+    return sum(b < 128 or b >= 192 for b in bs)
+
+
+def is_label(bs):
+    return characters(bs) <= 999 and any(not is_white(b) for b in bs)
+
+
+def label_in(bs):
+    found = up_to(93, 91, True, bs)
+    return found if found is not None and is_label(found.bytes) else None
+
+
+def ends_bare(b):
+    return b <= 32 or b == 127
+
+
+def depth_after(escaped, depth, b):
+    if escaped:
+        return depth
+    return depth + 1 if b == 40 else max(0, depth - 1) if b == 41 else depth
+
+
+def bare_in(bs):
+    """A bare destination: its parentheses are balanced or escaped, 32 deep at most."""
+    escaped, depth = False, 0
+    for at, b in enumerate(bs):
+        if ends_bare(b) or (not escaped and b == 41 and depth == 0):
+            return Found(bs[:at], bs[at:]) if depth == 0 else None
+        if not escaped and b == 40 and depth >= 32:
+            return None
+        escaped, depth = escapes_next(escaped, b), depth_after(escaped, depth, b)
+    return Found(bs, b"") if depth == 0 else None
+
+
+def nonempty(found):
+    return found if found is not None and found.bytes else None
+
+
+def destination_in(bs):
+    if not bs:
+        return None
+    return up_to(62, 60, False, bs[1:]) if bs[0] == 60 else nonempty(bare_in(bs))
+
+
+def title_in(bs):
+    if bs[:1] in (b'"', b"'"):
+        return up_to(bs[0], bs[0], True, bs[1:])
+    return up_to(41, 40, True, bs[1:]) if bs.startswith(b"(") else None
+
+
+def behind_line_end(bs):
+    return bs[1:] if bs.startswith(b"\n") else bs[2:] if bs.startswith(b"\r") else bs
+
+
+def definition_separator(bs):
+    """`behind_separator` of LinkDefinitions: behind blanks with at most one line end."""
+    return behind_blanks(behind_line_end(behind_blanks(bs)))
+
+
+def is_line_done(bs):
+    rest = behind_blanks(bs)
+    return not rest or not is_content(rest[0])
+
+
+class Defined(NamedTuple):
+    label: bytes
+    destination: bytes
+    title: bytes
+    behind: bytes
+
+
+def untitled(label, destination):
+    return Defined(label, destination.bytes, None, destination.behind) if is_line_done(destination.behind) else None
+
+
+def titled(label, destination, title):
+    if title is None:
+        return untitled(label, destination)
+    if len(definition_separator(destination.behind)) < len(destination.behind) and is_line_done(title.behind):
+        return Defined(label, destination.bytes, title.bytes, title.behind)
+    return untitled(label, destination)
+
+
+def with_destination(label, destination):
+    return and_then(destination, lambda d: titled(label, d, title_in(definition_separator(d.behind))))
+
+
+def behind_colon(label):
+    return with_destination(label.bytes, destination_in(definition_separator(label.behind[1:]))) if label.behind.startswith(b":") else None
+
+
+def definition_in(bs):
+    return and_then(label_in(bs[1:]), behind_colon) if bs.startswith(b"[") else None
+
+
+# ## Labels
+
+def normal_form(label):
+    return b" ".join(word for word in label.translate(bytes.maketrans(b"\t\n\f\r", b"    ")).split(b" ") if word)
+
+
+def fold(label):
+    return normal_form(label).decode().casefold().encode()
+
+
+class Reference(NamedTuple):
+    label: bytes
+    destination: bytes
+    title: bytes
+
+
+def reference_of(lookup, defined):
+    title = None if defined.title is None else resolved(lookup, lines_of_title(defined.title))
+    return Reference(normal_form(defined.label), resolved(lookup, defined.destination), title)
+
+
+def first_with(folded, references):
+    return next((r for r in references if fold(r.label) == folded), None)
+
+
+# ## Destinations and LinkTails
+
+def link_destination_in(bs):
+    return up_to(62, 60, False, bs[1:]) if bs.startswith(b"<") else bare_in(bs)
+
+
+def behind_separator(bs):
+    here = behind_blanks(bs)
+    line = behind_ending(here)
+    return here if line is None else behind_blanks(line)
+
+
+class LinkTail(NamedTuple):
+    destination: bytes
+    title: bytes
+    behind: bytes
+
+
+def closed_tail(destination, title, bs):
+    return and_then(behind_start(b")", behind_separator(bs)), lambda behind: LinkTail(destination, title, behind))
+
+
+def tail_inside(bs):
+    destination = link_destination_in(behind_separator(bs))
+    if destination is None:
+        return None
+    title = title_in(behind_separator(destination.behind))
+    if title is None:
+        return closed_tail(destination.bytes, None, destination.behind)
+    return closed_tail(destination.bytes, title.bytes, title.behind)
+
+
+def link_tail_in(bs):
+    return and_then(behind_start(b"(", bs), tail_inside)
+
+
+def title_lines(bs):
+    return lines_of_title(with_line_ends(b"\n", bs))
+
+
+def reference_label_in(bs):
+    return and_then(behind_start(b"[", bs), label_in)
+
+
+def behind_collapsed(bs):
+    return behind_start(b"[]", bs)
+
+
+def has_bracket(bs):
+    escaped = False
+    for b in bs:
+        if not escaped and b in b"[]":
+            return True
+        escaped = escapes_next(escaped, b)
+    return False
+
+
+def is_bracketed_label(bs):
+    return not has_bracket(bs) and is_label(bs)

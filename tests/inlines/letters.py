@@ -1,0 +1,404 @@
+"""What is read of bytes alone: the definitions of Lines, Columns, Letters, CodeSpans, LineBreaks, Dashes, Tags, InlineHtml, Autolinks
+and Entities, and those of Tokens that resolve escapes and entities. Where a definition answers no value, None is answered.
+"""
+import html.entities
+from typing import NamedTuple
+
+
+def prefix_len(passes, bs):
+    """How many bytes in front pass."""
+    return next((n for n, b in enumerate(bs) if not passes(b)), len(bs))
+
+
+# ## Columns, Lines and Letters
+
+def is_blank_byte(b):
+    return b in b" \t"
+
+
+def is_content(b):
+    return b not in b"\n\r"
+
+
+def ends_line(b, bs):
+    return b == 10 or (b == 13 and not bs.startswith(b"\n"))
+
+
+def lines(text):
+    """The text cut behind each line ending; each line keeps its own."""
+    cut, start = [], 0
+    for at, b in enumerate(text):
+        if ends_line(b, text[at + 1:at + 2]):
+            cut.append(text[start:at + 1])
+            start = at + 1
+    return cut + ([text[start:]] if start < len(text) else [])
+
+
+def content(line):
+    return line[:prefix_len(is_content, line)]
+
+
+def lower(b):
+    return b + 32 if 65 <= b <= 90 else b
+
+
+def is_letter(b):
+    return 97 <= lower(b) <= 122
+
+
+def is_number(b):
+    return 48 <= b <= 57
+
+
+def is_alphanumeric(b):
+    return is_letter(b) or is_number(b)
+
+
+def first_is(passes, bs):
+    return bool(bs) and passes(bs[0])
+
+
+def behind_all(passes, bs):
+    return bs[prefix_len(passes, bs):]
+
+
+def behind_start(prefix, bs):
+    return bs[len(prefix):] if bs.startswith(prefix) else None
+
+
+def behind_first(closer, bs):
+    at = bs.find(closer)
+    return None if at < 0 else bs[at + len(closer):]
+
+
+def behind_if(passes, bs):
+    return bs[1:] if first_is(passes, bs) else None
+
+
+def and_then(part, following):
+    return None if part is None else following(part)
+
+
+def behind_blanks(bs):
+    return behind_all(is_blank_byte, bs)
+
+
+class Found(NamedTuple):
+    bytes: bytes
+    behind: bytes
+
+
+# ## Entities, and texts without escapes and entities
+
+def is_punctuation(b):
+    return 33 <= b <= 47 or 58 <= b <= 64 or 91 <= b <= 96 or 123 <= b <= 126
+
+
+class Entity(NamedTuple):
+    bytes: bytes
+    size: int
+
+
+def character(n):
+    return chr(n).encode() if 0 < n <= 1114111 and not 55296 <= n <= 57343 else "\ufffd".encode()
+
+
+def is_hexadecimal(b):
+    return is_number(b) or 97 <= lower(b) <= 102
+
+
+def numeric(base, most, size, digits, behind):
+    if 0 < len(digits) <= most and behind.startswith(b";"):
+        return Entity(character(int(digits, base)), len(digits) + size)
+    return None
+
+
+def hexadecimal_in(bs):
+    n = prefix_len(is_hexadecimal, bs)
+    return numeric(16, 6, 4, bs[:n], bs[n:])
+
+
+def decimal_in(bs):
+    n = prefix_len(is_number, bs)
+    return numeric(10, 7, 3, bs[:n], bs[n:])
+
+
+def numeric_in(bs):
+    return hexadecimal_in(bs[1:]) if bs[:1] in (b"x", b"X") else decimal_in(bs)
+
+
+def named(lookup, name, behind):
+    found = lookup(name) if name and behind.startswith(b";") else None
+    return None if found is None else Entity(found, len(name) + 2)
+
+
+def named_in(lookup, bs):
+    n = prefix_len(is_alphanumeric, bs)
+    return named(lookup, bs[:n], bs[n:])
+
+
+def entity_in(lookup, bs):
+    return numeric_in(bs[1:]) if bs.startswith(b"#") else named_in(lookup, bs)
+
+
+BASIC = {"amp": "&", "lt": "<", "gt": ">", "quot": '"', "apos": "'", "nbsp": "\u00a0", "copy": "\u00a9", "reg": "\u00ae",
+         "hellip": "\u2026", "mdash": "\u2014", "ndash": "\u2013"}
+
+
+def basic_entity(name):
+    found = BASIC.get(name.decode())
+    return None if found is None else found.encode()
+
+
+def html_entity(name):
+    """All names of HTML: those that share/entities.json has."""
+    found = html.entities.html5.get(name.decode() + ";")
+    return None if found is None else found.encode()
+
+
+def resolved(lookup, bs):
+    """A backslash before punctuation is dropped, and an entity stands for its text."""
+    answer, at, escaped = b"", 0, False
+    while at < len(bs):
+        b, behind = bs[at], bs[at + 1:]
+        entity = entity_in(lookup, behind) if not escaped and b == 38 else None
+        if entity is not None:
+            answer += entity.bytes
+            at += entity.size
+        elif not escaped and b == 92 and first_is(is_punctuation, behind):
+            escaped = True
+            at += 1
+            continue
+        else:
+            answer += bytes([b])
+            at += 1
+        escaped = False
+    return answer
+
+
+unescaped = resolved
+
+
+def lines_of_title(bs):
+    """`title_lines` of Tokens: each line end and the blanks behind it are one line feed."""
+    answer, front = [], False
+    for b in bs:
+        if b != 13 and not (front and is_blank_byte(b)):
+            answer.append(b)
+        front = b == 10 or (front and is_blank_byte(b))
+    return bytes(answer)
+
+
+# ## CodeSpans, LineBreaks and Dashes
+
+def is_backtick(b):
+    return b == 96
+
+
+def backticks(bs):
+    return prefix_len(is_backtick, bs)
+
+
+def up_to_run(size, bs):
+    """Up to the first run of exactly so many backticks."""
+    goes_on = False
+    for at, b in enumerate(bs):
+        if is_backtick(b) and not goes_on and backticks(bs[at:]) == size:
+            return Found(bs[:at], bs[at:])
+        goes_on = is_backtick(b)
+    return None
+
+
+def code_in(bs):
+    size = backticks(bs)
+    if size == 0:
+        return None
+    return and_then(up_to_run(size, behind_all(is_backtick, bs)), lambda found: Found(found.bytes, found.behind[size:]))
+
+
+def with_line_ends(mark, bs):
+    answer = b""
+    for at, b in enumerate(bs):
+        if ends_line(b, bs[at + 1:at + 2]):
+            answer += mark
+        elif b != 13:
+            answer += bytes([b])
+    return answer
+
+
+def without_padding(bs):
+    is_padded = bs.startswith(b" ") and bs.endswith(b" ") and any(b != 32 for b in bs)
+    return bs[1:-1] if is_padded else bs
+
+
+def code_text(bs):
+    return without_padding(with_line_ends(b" ", bs))
+
+
+class LineBreak(NamedTuple):
+    is_hard: bool
+    before: int
+    behind: bytes
+
+
+def backslash_break_in(bs):
+    return and_then(and_then(behind_if(lambda b: b == 92, bs), behind_ending), lambda behind: LineBreak(True, 0, behind))
+
+
+def blank_break(blanks, behind):
+    return LineBreak(True, 0, behind) if blanks.endswith(b"  ") else LineBreak(False, len(blanks), behind)
+
+
+def blank_break_in(bs):
+    return and_then(behind_ending(behind_blanks(bs)), lambda behind: blank_break(bs[:prefix_len(is_blank_byte, bs)], behind))
+
+
+def dashes_of(n):
+    """So many em dashes, and then so many en dashes."""
+    if n % 3 == 0:
+        return n // 3, 0
+    if n % 2 == 0:
+        return 0, n // 2
+    return ((n - 2) // 3, 1) if n % 3 == 2 else ((n - 4) // 3, 2)
+
+
+def dash_text(dashes):
+    return ("\u2014" * dashes[0] + "\u2013" * dashes[1]).encode()
+
+
+# ## Tags, where no line has prefixes
+
+def is_name_byte(b):
+    return is_alphanumeric(b) or b == 45
+
+
+def is_attribute_start(b):
+    return is_letter(b) or b in b"_:"
+
+
+def is_attribute_byte(b):
+    return is_alphanumeric(b) or b in b"_:.-"
+
+
+def is_space_byte(b):
+    return is_blank_byte(b) or not is_content(b)
+
+
+def is_value_byte(b):
+    return not is_space_byte(b) and b not in b"\"'<=>`"
+
+
+def behind_ending(bs):
+    if bs.startswith(b"\r\n"):
+        return bs[2:]
+    return bs[1:] if bs[:1] in (b"\n", b"\r") else None
+
+
+def behind_tag_name(bs):
+    return and_then(behind_if(is_letter, bs), lambda rest: behind_all(is_name_byte, rest))
+
+
+def behind_attribute_name(bs):
+    return and_then(behind_if(is_attribute_start, bs), lambda rest: behind_all(is_attribute_byte, rest))
+
+
+def behind_bare_value(bs):
+    return and_then(behind_if(is_value_byte, bs), lambda rest: behind_all(is_value_byte, rest))
+
+
+def behind_greater(bs):
+    return behind_start(b">", bs)
+
+
+def behind_open_end(bs):
+    return behind_greater(bs[1:] if bs.startswith(b"/") else bs)
+
+
+def behind_closing_tag(bs):
+    return and_then(behind_tag_name(bs), lambda rest: behind_greater(behind_blanks(rest)))
+
+
+def behind_space(bs):
+    """Behind blanks with at most one line ending."""
+    here = behind_blanks(bs)
+    line = behind_ending(here)
+    return here if line is None else behind_blanks(line)
+
+
+def behind_value(bs):
+    return behind_first(bs[:1], bs[1:]) if bs[:1] in (b'"', b"'") else behind_bare_value(bs)
+
+
+def behind_assigned(name, bs):
+    return behind_value(behind_space(bs[1:])) if bs.startswith(b"=") else name
+
+
+def behind_attribute(bs):
+    if not first_is(is_space_byte, bs):
+        return None
+    return and_then(behind_attribute_name(behind_space(bs)), lambda name: behind_assigned(name, behind_space(name)))
+
+
+def behind_attributes(bs):
+    rest = behind_attribute(bs)
+    return bs if rest is None else behind_attributes(rest)
+
+
+def behind_open_tag(bs):
+    return and_then(behind_tag_name(bs), lambda rest: behind_open_end(behind_space(behind_attributes(rest))))
+
+
+def behind_tag_start(bs):
+    return behind_closing_tag(bs[1:]) if bs.startswith(b"/") else behind_open_tag(bs)
+
+
+def behind_tag(bs):
+    return and_then(behind_start(b"<", bs), behind_tag_start)
+
+
+# ## InlineHtml and Autolinks
+
+def takes_lines(bs):
+    return b"\n" in bs or b"\r" in bs
+
+
+def behind_comment(bs):
+    for closer in (b">", b"->"):
+        if bs.startswith(closer):
+            return bs[len(closer):]
+    return behind_first(b"-->", bs)
+
+
+def behind_opened(bs):
+    """Behind what opens behind `<!`, if anything does and it is closed."""
+    if bs.startswith(b"--"):
+        return behind_comment(bs[2:])
+    if first_is(is_letter, bs):
+        return behind_first(b">", bs[1:])
+    return behind_first(b"]]>", bs[7:]) if bs.startswith(b"[CDATA[") else None
+
+
+def behind_markup(bs):
+    if bs.startswith(b"<!"):
+        return behind_opened(bs[2:])
+    return behind_first(b"?>", bs[2:]) if bs.startswith(b"<?") else None
+
+
+def is_scheme_byte(b):
+    return is_alphanumeric(b) or b in b"+-."
+
+
+def has_scheme(bs):
+    n = prefix_len(is_scheme_byte, bs)
+    return first_is(is_letter, bs) and 2 <= n <= 32 and bs[n:n + 1] == b":"
+
+
+def is_uri_byte(b):
+    return not (b <= 32 or b in b"\x7f<>")
+
+
+def autolink_in(bs):
+    if not has_scheme(bs):
+        return None
+    n = prefix_len(is_uri_byte, bs)
+    return Found(bs[:n], bs[n + 1:]) if bs[n:n + 1] == b">" else None

@@ -1,0 +1,251 @@
+"""What the parts of a leaf become: the definitions of Spans, Emphasis, Siblings, InlineReading and LeafReading.
+
+Spans are lists of places and of ("Around", kind, start, end, inside); siblings are lists of items and of Around.
+"""
+from typing import NamedTuple
+
+from inlines.brackets import Closing, Form, Linked, Opening, reads_whole
+from inlines.tokens import Item, Leaf, Run, quote_characters
+
+TILDE, CARET = ord("~"), ord("^")
+
+
+# ## Spans and Emphasis
+
+class Pair(NamedTuple):
+    mark: int
+    begin: int
+    to: int
+    count: int
+
+
+def span_width(kind):
+    return 2 if kind in ("Strong", "DoubleTilde") else 1
+
+
+def can_both(run):
+    return run.opens and run.closes
+
+
+def keeps_rule_of_three(opener, closer):
+    if not (can_both(opener) or can_both(closer)):
+        return True
+    return (opener.size + closer.size) % 3 != 0 or (opener.size % 3 == 0 and closer.size % 3 == 0)
+
+
+def has_same_mark(opener, closer):
+    return opener.mark == closer.mark and (closer.mark != TILDE or opener.size == closer.size)
+
+
+def agrees(opener, closer):
+    return closer.closes and closer.left > 0 and has_same_mark(opener, closer) and keeps_rule_of_three(opener, closer)
+
+
+def pair_of(opener, closer):
+    return Pair(closer.mark, opener.at + opener.left, closer.at, min(opener.left, closer.left))
+
+
+def rest_of_opener(opener, closer):
+    return opener._replace(left=opener.left - min(opener.left, closer.left))
+
+
+def rest_of_closer(opener, closer):
+    count = min(opener.left, closer.left)
+    return closer._replace(at=closer.at + count, left=closer.left - count)
+
+
+def kinds_of(mark, count):
+    """The spans that a pair becomes, the innermost first: twos, and an odd one outermost."""
+    if mark == CARET:
+        return ["Caret"] * count
+    two, one = ("DoubleTilde", "SingleTilde") if mark == TILDE else ("Strong", "Emphasis")
+    return [two] * (count // 2) + [one] * (count % 2)
+
+
+def nest(kinds, begin, to, inside):
+    for kind in kinds:
+        begin, to = begin - span_width(kind), to + span_width(kind)
+        inside = [("Around", kind, begin, to, inside)]
+    return inside
+
+
+def wrapped(pair, inside):
+    return nest(kinds_of(pair.mark, pair.count), pair.begin, pair.to, inside)
+
+
+def singles(run):
+    return list(range(run.at, run.at + run.left))
+
+
+def row(pieces):
+    """Pieces, the nearest first, as spans; an open run among them is text."""
+    return [span for piece in reversed(pieces) for span in (singles(piece) if isinstance(piece, Run) else piece)]
+
+
+def keep(run, pieces):
+    return [run] + pieces if run.left > 0 else pieces
+
+
+def shuts(closer):
+    return closer.closes and closer.left > 0 and closer.mark in (TILDE, CARET)
+
+
+def shut(piece):
+    return singles(piece) if isinstance(piece, Run) and piece.mark in (TILDE, CARET) else piece
+
+
+def left_open(closer, pieces):
+    return list(map(shut, pieces)) if shuts(closer) else pieces
+
+
+def closes(closer, pieces):
+    """A run closes, pair after pair, until no open run agrees: what is left of it, and the pieces then."""
+    while True:
+        at = next((n for n, piece in enumerate(pieces) if isinstance(piece, Run) and agrees(piece, closer)), None)
+        if at is None:
+            return closer, left_open(closer, pieces)
+        opener, inside = pieces[at], row(pieces[:at])
+        pieces = [wrapped(pair_of(opener, closer), inside)] + keep(rest_of_opener(opener, closer), pieces[at + 1:])
+        closer = rest_of_closer(opener, closer)
+
+
+def stand(run, pieces):
+    return keep(run, pieces) if run.opens else [singles(run)] + pieces
+
+
+def spans_of(runs):
+    """The spans of runs that are read from left to right (`IsEmphasis`)."""
+    pieces = []
+    for run in runs:
+        pieces = stand(*closes(run, pieces))
+    return row(pieces)
+
+
+# ## Siblings
+
+class Around(NamedTuple):
+    """An element: its name, and where it leads if it is a link or an image."""
+    tag: str
+    linked: object
+    start: int
+    end: int
+    inside: list
+
+
+def is_item(sibling, kind):
+    return isinstance(sibling, Item) and sibling.kind == kind
+
+
+def with_quotes(siblings):
+    quotes = [s.data for s in siblings if is_item(s, "Quoted")]
+    characters = iter(quote_characters(quotes))
+    return [Item("Written", s.start, s.end, next(characters).encode()) if is_item(s, "Quoted") else s for s in siblings]
+
+
+def runs_from(siblings):
+    runs, n = [], 0
+    for s in siblings:
+        if is_item(s, "Delimiters"):
+            runs.append(s.data._replace(at=n, left=s.data.size))
+            n += s.data.size
+    return runs
+
+
+def run_bytes(siblings):
+    return [Item("Own", at, at + 1) for s in siblings if is_item(s, "Delimiters") for at in range(s.start, s.start + s.data.size)]
+
+
+def gaps_of(siblings):
+    """What stands before each byte of a run, behind the one before it; and last what stands behind all of them."""
+    gaps = [[]]
+    for s in siblings:
+        if is_item(s, "Delimiters"):
+            gaps += [[] for _ in range(s.data.size)]
+        else:
+            gaps[-1].append(s)
+    return gaps
+
+
+def span_tag(options, kind):
+    """The element that a span is; none for two tildes where no strikethrough is read."""
+    if kind == "SingleTilde":
+        return "Subscript" if options.subscript else "Strikethrough"
+    if kind == "DoubleTilde":
+        return "Strikethrough" if options.strikethrough else None
+    return "Superscript" if kind == "Caret" else kind
+
+
+def element(tag, start, end, inside):
+    return Item("Own", start, end) if tag is None else Around(tag, None, start, end, inside)
+
+
+def dressed(options, gaps, run_items, spans):
+    answer = []
+    for span in spans:
+        if isinstance(span, int):
+            answer += [run_items[span]] + gaps[span + 1]
+        else:
+            _, kind, start, end, inside = span
+            within = gaps[start + span_width(kind)] + dressed(options, gaps, run_items, inside)
+            answer += [element(span_tag(options, kind), run_items[start].start, run_items[end - 1].end, within)] + gaps[end]
+    return answer
+
+
+def dress(options, siblings):
+    """One list of siblings with its quotes and its emphasis (`IsDressed`)."""
+    quoted = with_quotes(siblings)
+    gaps = gaps_of(quoted)
+    return gaps[0] + dressed(options, gaps, run_bytes(quoted), spans_of(runs_from(quoted)))
+
+
+def item_then(x):
+    """An autolink is a link around its bytes."""
+    if x.kind != "Autolink":
+        return x
+    return Around("Link", Linked("Autolink", x.data, b"", b""), x.start, x.end, [Item("Own", x.start + 1, x.end - 1)])
+
+
+def sibling_of(options, part):
+    if isinstance(part, Form):
+        tag = "Image" if part.opener.is_image else "Link"
+        return Around(tag, part.linked, part.opener.start, part.end, dress(options, siblings_of(options, part.inside)))
+    if isinstance(part, (Opening, Closing)):
+        return Item("Own", part.bracket.start, part.bracket.end)
+    return item_then(part.item)
+
+
+def siblings_of(options, parts):
+    return [sibling_of(options, part) for part in parts]
+
+
+# ## InlineReading and LeafReading: events as mdevents writes them
+
+def event_of(source, x):
+    if x.kind in ("SoftBreak", "HardBreak"):
+        return [x.kind]
+    name = {"Code": "Code", "Html": "InlineHtml", "OwnedHtml": "InlineHtml"}.get(x.kind, "Text")
+    owned = x.kind in ("Code", "OwnedHtml", "Written")
+    return [name, (x.data if owned else source[x.start:x.end]).decode()]
+
+
+def tag_data(sibling):
+    linked = sibling.linked
+    return [sibling.tag] + ([linked[0], *(text.decode() for text in linked[1:])] if linked else [])
+
+
+def inline_events(source, siblings):
+    events = []
+    for s in siblings:
+        if isinstance(s, Item):
+            events.append([[s.start, s.end], event_of(source, s)])
+        else:
+            events.append([[s.start, s.end], ["Start", tag_data(s)]])
+            events += inline_events(source, s.inside)
+            events.append([[s.start, s.end], ["End", [s.tag]]])
+    return events
+
+
+def reads_leaf(reader, stretches, expansion):
+    """The events of a leaf, and what is left of the expansion limit."""
+    parts, left = reads_whole(Leaf(reader, stretches), expansion)
+    return inline_events(reader.source, dress(reader.options, siblings_of(reader.options, parts))), left
