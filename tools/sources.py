@@ -1,0 +1,59 @@
+"""What the verdicts on a crate's wrong edits stand on, as one number: its files, what they import, and the contracts that it calls."""
+import hashlib
+import pathlib
+import re
+import subprocess
+
+IMPORT = re.compile(r"\bRattle\.(\w+)\.(specs|proofs)\.([\w.]+)")
+
+
+class Sources:
+    def __init__(self, root):
+        self.crates = pathlib.Path(root) / "crates"
+        self.texts = {}
+        self.direct = {}
+        for line in (pathlib.Path(root) / "crates.txt").read_text(encoding="utf-8").splitlines():
+            name, parted, below = line.partition(":")
+            if parted and not name.startswith("#"):
+                self.direct[name.split()[0]] = [it for it in below.split() if (self.crates / it).is_dir()]
+        self.toolchain = subprocess.run(["rt", "version"], capture_output=True, text=True, check=True).stdout
+
+    def text(self, path):
+        if path not in self.texts:
+            self.texts[path] = path.read_text(encoding="utf-8")
+        return self.texts[path]
+
+    def files(self, crate, *folders):
+        return {it for folder in folders for it in (self.crates / crate / folder).rglob("*") if it.is_file()}
+
+    def imported(self, path):
+        """The files of this repository that a file imports. What is declared in a source file stands under its name in `declared`."""
+        for crate, folder, module in IMPORT.findall(self.text(path)):
+            parts = module.strip(".").split(".")
+            at, ending = self.crates / crate / folder, ".antt"
+            if parts[0] == "declared":
+                at, ending, parts = self.crates / crate / "src", ".rt", parts[1:]
+            for count in range(len(parts), 0, -1):
+                file = at.joinpath(*parts[:count]).with_suffix(ending)
+                if file.is_file():
+                    yield file
+                    break
+
+    def below(self, crate):
+        """All files that the verdicts on a crate's edits stand on."""
+        left = self.files(crate, "src", "specs", "proofs", "wrong")
+        for called in self.direct[crate]:
+            left |= self.files(called, "src")
+        found = set()
+        while left:
+            path = left.pop()
+            if path not in found:
+                found.add(path)
+                left.update(self.imported(path))
+        return found
+
+    def number(self, crate):
+        sum_of = hashlib.sha256(self.toolchain.encode())
+        for path in sorted(self.below(crate)):
+            sum_of.update(f"{path.relative_to(self.crates)}\0{self.text(path)}\0".encode())
+        return sum_of.hexdigest()
