@@ -17,8 +17,10 @@ class Normal(html.parser.HTMLParser):
         self.last = kind
 
     def strip_end(self):
-        while self.out and not (self.out[-1] := self.out[-1].rstrip()):
+        while self.out and not self.out[-1].strip():
             self.out.pop()
+        if self.out:
+            self.out[-1] = self.out[-1].rstrip()
 
     def handle_starttag(self, tag, attributes):
         if tag in BLOCKS:
