@@ -45,6 +45,7 @@ wrong:
 # The built programs on what stands outside of the proofs.
 outside:
 	tests/entities
+	tests/examples
 	tests/refusals
 	tests/rows
 	tests/program
