@@ -1,3 +1,4 @@
+pub mod BoxedCallbacks
 pub mod Questions
 pub mod References
 pub mod Quotes

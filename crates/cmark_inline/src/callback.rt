@@ -1,6 +1,7 @@
 //! What is asked of the caller for references without a definition.
 
 ghost use Rattle.std.specs.Prelude.{◌≡◌, ℕ, List, IfOk, Option, None};
+ghost use Rattle.std.specs.DynBox.{dyn_box_with};
 ghost use Rattle.cmark_text.specs.Shown.{text_bytes};
 ghost use Rattle.cmark_inline.specs.Linked.{IsQuestion};
 ghost use Rattle.cmark_text.specs.declared.kind.LinkType.{LinkType as Kind};
@@ -85,8 +86,9 @@ pub trait OwnedLinkCallback: Drop {
 }
 
 impl<'input> BrokenLinkCallback<'input> for Box<dyn OwnedLinkCallback> {
-    // What the boxed callback answers has no name here.
-    ghost answers = { λ before link answer after. Unit {0} };
+    // What the callback in the box says, which stays in the box as the call leaves it.
+    ghost answers = { λ before link answer after. (value : _) × (OwnedLinkCallback-box before).says before.value link.span.start link.span.end link.link_type (text_bytes link.reference) answer value
+        × (after ≡ dyn_box_with before before.vtable value) };
 
     /// Hands on both ends of the span, the type and the text of the label, and answers what it is answered.
     fn handle_broken_link(
