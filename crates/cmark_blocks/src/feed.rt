@@ -31,6 +31,7 @@ impl<'a, E: EntityLookup> Pass<'a, E> {
 
     /// One more line behind a paragraph with this last line, which the lines from this byte offset on touch: an underline, one more
     /// line of its text, or what ends it.
+    #[inline(always)]
     fn feed_paragraph(
         &mut self,
         from: usize,

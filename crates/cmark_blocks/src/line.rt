@@ -102,6 +102,7 @@ impl<'a, E: EntityLookup> Pass<'a, E> {
 
     /// The first thing that a line begins, with no leaf open: where it is a container, the line behind the container's marker is
     /// answered, and whether the container is an item. `bare` says that this is a line behind the marker of an item.
+    #[inline(always)]
     fn begin_first(
         &mut self,
         rest: LineRest<'a>,
