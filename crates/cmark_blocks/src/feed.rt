@@ -46,6 +46,10 @@ impl<'a, E: EntityLookup> Pass<'a, E> {
         ensures runs { OnOk result (FeedsLeaf E.replacement rest.entry self.old self.new) }
         ensures text { self.new.text ≡ self.old.text }
     {
+        if rest.begins_with_letter() {
+            self.add_to_paragraph(from, last, rest)?;
+            return Ok(());
+        }
         if let Some(level) = underlines(rest) {
             self.underline(from, last, level, rest)?;
             return Ok(());
@@ -77,6 +81,7 @@ impl<'a, E: EntityLookup> Pass<'a, E> {
     }
 
     /// A line that lacks no prefix, behind the open leaf.
+    #[inline(always)]
     fn feed_leaf(&mut self, rest: LineRest<'a>) -> Result<(), AllocError>
         requires good { IsGood self.old }
         requires line { IsRead self.old.text.now rest }
@@ -158,6 +163,12 @@ impl<'a, E: EntityLookup> Pass<'a, E> {
         ensures text { self.new.text ≡ self.old.text }
         ensures past { OnOk result (self.new.past ≡ (row_of line.entry).past) }
     {
+        if self.outer.is_empty() {
+            self.bare = false;
+            self.feed_leaf(line)?;
+            self.past = line.past();
+            return Ok(());
+        }
         let (kept, rest) = self.kept_by(line);
         self.bare = false;
         self.feed_rest(kept, rest)?;

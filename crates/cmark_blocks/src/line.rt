@@ -130,7 +130,27 @@ impl<'a, E: EntityLookup> Pass<'a, E> {
     }
 
     /// All that a line begins, with no leaf open.
+    #[inline(always)]
     pub(crate) fn begin(&mut self, line: LineRest<'a>) -> Result<(), AllocError>
+        requires good { IsGood self.old }
+        requires line { IsRead self.old.text.now line }
+        requires closed { self.old.leaf ≡ leaf.Closed }
+        requires bare { self.old.bare ≡ false }
+        ensures good { IsGood self.new }
+        ensures runs { OnOk result (Begins E.replacement line.entry self.old self.new) }
+        ensures text { self.new.text ≡ self.old.text }
+    {
+        if line.is_blank() {
+            self.pass_blank_line(false);
+            return Ok(());
+        }
+        self.begin_blocks(line)?;
+        Ok(())
+    }
+
+    /// All that a line begins, with no leaf open: each container, and what stands behind the last one's marker.
+    #[inline(never)]
+    fn begin_blocks(&mut self, line: LineRest<'a>) -> Result<(), AllocError>
         requires good { IsGood self.old }
         requires line { IsRead self.old.text.now line }
         requires closed { self.old.leaf ≡ leaf.Closed }

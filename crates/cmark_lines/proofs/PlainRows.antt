@@ -1,12 +1,12 @@
 -- What the first byte of a line's words tells: a letter begins nothing but a paragraph's text, and what is neither a bullet, a digit
 -- nor `>` begins no container.
-use Rattle.std.proofs.Common.{◌≡◌, ℕ, Bool, true, false, ◌==◌, ◌&&◌, ◌||◌, List, [], ◌∷◌, length, drop, take_while, Some, None, refl, sym, ap, ◌∙◌, arith, cond, true≢false}
+use Rattle.std.proofs.Common.{◌≡◌, ℕ, Bool, true, false, ◌==◌, ◌&&◌, ◌||◌, List, [], ◌∷◌, length, drop, take_while, Option, Some, None, refl, sym, ap, ◌∙◌, arith, cond, true≢false}
 use Rattle.std.specs.Prelude.{if◌then◌else◌, nat_lt, nat_le, count_by}
 use Rattle.std.proofs.lemmas.List.Sums.{take_while-cons}
 use Rattle.cmark_grammar.specs.Options.{Options}
 use Rattle.cmark_grammar.specs.Columns.{Column, is_blank_byte, without_indent, bytes_of}
 use Rattle.cmark_grammar.specs.Rows.{Row, is_bare, indent_of, words_of}
-use Rattle.cmark_grammar.specs.Leaves.{all_pass, is_parted, run, is_break_of, is_thematic_break, is_atx_heading, fence_of, fence_with}
+use Rattle.cmark_grammar.specs.Leaves.{all_pass, are_blank, is_parted, run, is_break_of, is_thematic_break, is_atx_heading, fence_of, fence_with, is_run_of, underline_of, underlines}
 use Rattle.cmark_grammar.specs.Letters.{is_letter, first_is}
 use Rattle.cmark_grammar.specs.HtmlBlocks.{html_kind, kind_behind}
 use Rattle.cmark_grammar.specs.Containers.{is_bullet, is_digit, digits, delimited, marker_of, item_with, begins_with, container_with}
@@ -136,6 +136,26 @@ letter-interrupts-not options same r ahead e =
 
     rest : List ℕ → Bool
     rest ws = nat_le (indent_of r) 3 && ((nat_le (indent_of r) 3 && begins_with 62 ws) || others ws)
+
+pub letter-underlines-not : (r : Row) → first_is is_letter (words_of r) ≡ true → underlines r ≡ None
+unfolding underlines
+letter-underlines-not r e =
+    let first = first-letter (words_of r) e in
+    let b : ℕ = first.0 in
+    let bs : List ℕ = first.1.0 in
+    let is : words_of r ≡ b ∷ bs = first.1.1 in
+    let letter : is_letter b ≡ true = first.1.2 in
+    let deep : Bool = r.lazy || nat_le 4 (indent_of r) in
+    ap (λ ws. if deep then None else underline_of ws) is
+    ∙ ap (λ n. if deep then None else if nat_lt 0 n && are_blank (drop n (b ∷ bs)) then Some 1 else if is_run_of 45 (b ∷ bs) then Some 2 else None) (run-none b bs letter 61 refl)
+    ∙ ap (λ n. if deep then None else if nat_lt 0 n && are_blank (drop n (b ∷ bs)) then Some 2 else None) (run-none b bs letter 45 refl) ∙ go deep
+  where
+    none : Option ℕ
+    none = None
+
+    go : (z : Bool) → (if z then none else none) ≡ none
+    go true = refl
+    go false = refl
 
 pub letter-leaf : (options : Options) (r : Row) (ahead : List Row) → first_is is_letter (words_of r) ≡ true → leaf_of options r ahead ≡ Plain
 letter-leaf options r ahead e =

@@ -26,7 +26,7 @@ use cmark_text::HeadingLevel;
 pub fn interrupts(rest: LineRest<'_>, same: bool) -> bool
     ensures { (options : Options) (ahead : List Row) → result ≡ interrupts options same (row_of rest.entry) ahead }
 {
-    if begins_with_letter(rest.words()) {
+    if rest.begins_with_letter() {
         return false;
     }
     rest.is_blank()

@@ -1,8 +1,7 @@
-use Rattle.std.proofs.Common.{sym, ap, ◌∙◌}
-use Rattle.cmark_grammar.specs.Letters.{is_letter, first_is}
+use Rattle.std.proofs.Common.{sym, ◌∙◌}
 use Rattle.cmark_lines.specs.Rests.{row_of}
 use Rattle.cmark_lines.proofs.PlainRows.{letter-interrupts-not}
 use Rattle.cmark_lines.proofs.interrupt.interrupts.Goals as goal
 
 pub returns-then-begins_with_letter : goal.returns-then-begins_with_letter
-returns-then-begins_with_letter c options ahead = sym (letter-interrupts-not options c.args.same (row_of c.args.rest) ahead (ap (first_is is_letter) (sym c.words.ensures) ∙ sym c.begins_with_letter.ensures ∙ c.if-begins_with_letter.true))
+returns-then-begins_with_letter c options ahead = sym (letter-interrupts-not options c.args.same (row_of c.args.rest) ahead (sym c.begins_with_letter.ensures ∙ c.if-begins_with_letter.true))
