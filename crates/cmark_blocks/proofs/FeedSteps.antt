@@ -1,5 +1,5 @@
 -- One more line, behind what is open.
-use Rattle.std.proofs.Common.{◌≡◌, ◌≢◌, ℕ, suc, ◌≤◌, Bool, true, false, not, ◌&&◌, if◌then◌else◌, List, [], ◌∷◌, take, drop, length, Some, None, refl, sym, ap, subst, ◌∙◌, arith, true≢false}
+use Rattle.std.proofs.Common.{◌≡◌, ◌≢◌, ℕ, suc, ◌≤◌, ◌==◌, Bool, true, false, not, ◌&&◌, if◌then◌else◌, List, [], ◌∷◌, take, drop, length, Some, None, refl, sym, ap, subst, ◌∙◌, arith, true≢false}
 use Rattle.std.proofs.lemmas.List.{drop_all}
 use Rattle.cmark_grammar.specs.Answers.{Lookup}
 use Rattle.cmark_grammar.specs.Leaves.{underlines}
@@ -12,11 +12,13 @@ use Rattle.cmark_grammar.specs.BlockDocument.{Nil}
 use Rattle.cmark_lines.specs.Rests.{row_of}
 use Rattle.cmark_lines.specs.declared.line_rest.LineRest.{LineRest}
 use Rattle.cmark_lines.proofs.LazyRows.{whole-texts}
-use Rattle.cmark_block_model.specs.BlockPass.{ahead_in, leaf_fed, lazy_fed, begin, leaf_closed, close_leaf, heading_made, paragraph_line, paragraph_begun, underlined_or, line_with, line_fed, lines_fed, containers_closed, with_drawn}
+use Rattle.cmark_block_model.specs.BlockPass.{ahead_in, kept_by, leaf_fed, lazy_fed, begin, leaf_closed, close_leaf, heading_made, paragraph_line, paragraph_begun, underlined_or, line_with, line_fed, lines_fed, containers_closed, with_drawn}
 use Rattle.cmark_block_model.specs.OpenBlocks as model
 use Rattle.cmark_block_model.specs.OpenBlocks.{takes_lazy}
 use Rattle.cmark_blocks.specs.declared.state.OpenLeaf.TheVariants as leaf
+use Rattle.cmark_blocks.specs.declared.state.OpenContainer.{OpenContainer}
 use Rattle.cmark_blocks.specs.declared.state.Pass.{Pass}
+use Rattle.cmark_blocks.specs.Shown.{ShowsContainers}
 use Rattle.cmark_blocks.specs.Ahead.{lines_at}
 use Rattle.cmark_blocks.specs.Fed.{Feeds, FeedsSoFar, FeedsAll}
 use Rattle.cmark_blocks.specs.Runs.{Runs, ShowsLeaf}
@@ -148,3 +150,18 @@ module _ {E : Type 0} (replacement : E → Lookup) (old : Pass E) where
       let before = so_far text options lookup m runs in
       let over : length text ≤ before.0.past = omega (arith, end, before.1.past, ap length before.1.text_is) in
       subst (λ p. Runs replacement text lookup p mid) (sym (before.2 ∙ ap (λ (rs : List Row). lines_fed text options lookup rs before.0) (no-lines text before.0.past over))) before.1
+
+-- outside of containers
+pub is-zero : (n : ℕ) → (n == 0) ≡ true → n ≡ 0
+is-zero n e = grind (arith)
+
+shows-none : (cs : List OpenContainer) (ms : List model.OpenContainer) → length cs ≡ 0 → ShowsContainers cs ms → ms ≡ []
+shows-none [] [] e s = refl
+shows-none [] (m ∷ ms) e s = absurd s
+shows-none (c ∷ cs) ms e s = absurd (omega (arith, e))
+
+pub fed-outside : (text : List ℕ) (options : Options) (lookup : Lookup) (r : Row) (next : List Row) (m : model.Pass) (cs : List OpenContainer) → length cs ≡ 0 → ShowsContainers cs m.outer →
+    record (leaf_fed text options lookup m.leaf r next (record m { bare = false })) { past = r.past } ≡ line_fed text options lookup r next m
+fed-outside text options lookup r next m cs none shows =
+    ap (λ outer. let w = kept_by text options lookup [] outer m.bare r in let q = line_with text options lookup w.missed w.kept w.left next (record m { bare = false }) in record q { past = r.past })
+    (sym (shows-none cs m.outer none shows))

@@ -1,10 +1,11 @@
 -- What a line begins, one container after the other.
-use Rattle.std.proofs.Common.{◌≡◌, ℕ, zero, suc, ◌<◌, ◌≤◌, Bool, false, List, [], length, Some, None, refl, sym, ap, subst, ◌∙◌, arith}
+use Rattle.std.proofs.Common.{◌≡◌, ℕ, zero, suc, ◌<◌, ◌≤◌, Bool, true, false, List, [], length, Some, None, refl, sym, ap, subst, ◌∙◌, arith}
 use Rattle.cmark_grammar.specs.Answers.{Lookup}
 use Rattle.cmark_grammar.specs.Containers.{Container, enter}
 use Rattle.cmark_grammar.specs.Leaves.{run}
 use Rattle.cmark_grammar.specs.Options.{Options, no_options}
-use Rattle.cmark_grammar.specs.Rows.{Row, words_of}
+use Rattle.cmark_grammar.specs.Rows.{Row, is_blank_line, words_of}
+use Rattle.cmark_lines.proofs.OpeningRows.{opens-blank}
 use Rattle.cmark_lines.specs.Opened.{opened, HasInside, InsideIsIn}
 use Rattle.cmark_lines.specs.Rests.{row_of, IsIn}
 use Rattle.cmark_lines.specs.Starts.{shown_start, inside_of}
@@ -93,3 +94,10 @@ module _ {E : Type 0} (replacement : E → Lookup) (line : LineRest) (old : Pass
   begins-end rest bare mid new so_far first text options lookup m runs =
       let before = so_far text options lookup m runs in
       subst (λ p. Runs replacement text lookup p new) (sym before.4) (first text options lookup before.0 before.1 before.3)
+
+-- a blank line begins nothing
+pub begins-blank : (text : List ℕ) (options : Options) (lookup : Lookup) (r : Row) (next : List Row) (m : model.Pass) → r.lazy ≡ false → is_blank_line r ≡ true →
+    begin text options lookup r next m ≡ record m { inner = record m.inner { blank = m.inner.has_block }; bare = false }
+begins-blank text options lookup r next m whole blank =
+    ap (λ o. begin_as text options lookup o (λ k. begin_in text options lookup (length r.columns) (enter k r) next (is_item k) (container_begun k r m)) r (ahead_in text options lookup m.outer next) false m)
+    (opens-blank options r (ahead_in text options lookup m.outer next) whole blank)

@@ -1,4 +1,5 @@
 pub mod Ahead
+pub mod Brackets
 pub mod Entered
 pub mod Fed
 pub mod FirstPass

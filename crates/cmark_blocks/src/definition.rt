@@ -1,7 +1,8 @@
 //! Link reference definitions (CommonMark 4.7).
 
-ghost use Rattle.std.specs.Prelude.{◌≡◌, ◌≤◌, ℕ, List, drop, length, OnOk};
+ghost use Rattle.std.specs.Prelude.{◌≡◌, ◌≤◌, ℕ, List, false, drop, length, OnOk};
 ghost use Rattle.cmark_grammar.specs.LinkDefinitions.{line_ends};
+ghost use Rattle.cmark_blocks.specs.Brackets.{lacks_colon, begins_none};
 ghost use Rattle.cmark_definitions.specs.Shown.{written};
 ghost use Rattle.cmark_lines.specs.Rests.{IsIn};
 
@@ -13,6 +14,36 @@ use cmark_text::EntityLookup;
 use std::alloc::AllocError;
 use std::mem;
 use std::ops::Range;
+
+/// Whether it is seen from a line behind its indent that no definition begins there, whatever lines follow: the label that its
+/// bracket begins ends in it, and no colon stands behind, or another bracket opens in the label.
+fn begins_no_definition(words: &[u8]) -> bool
+    ensures { result ≡ begins_none words.now }
+{
+    match words {
+        [b'[', label @ ..] => lacks_colon(label),
+        _ => false,
+    }
+}
+
+/// Whether a label ends in these bytes with no colon behind it, or another bracket opens in it.
+fn lacks_colon(label: &[u8]) -> bool
+    ensures { result ≡ lacks_colon false label.now }
+{
+    let mut escaped = false;
+    let mut rest = label;
+    while let Some((first, others)) = rest.split_first() {
+        if !escaped && *first == b']' {
+            return !matches!(others, [b':', ..]);
+        }
+        if !escaped && *first == b'[' {
+            return true;
+        }
+        escaped = !escaped && *first == b'\\';
+        rest = others;
+    }
+    false
+}
 
 /// How many lines end behind this place of a text.
 fn line_ends_behind(text: &str, place: usize) -> usize
@@ -126,6 +157,10 @@ impl<'a, E: EntityLookup> Pass<'a, E> {
         ensures runs { OnOk result (BeginsBracket E.replacement rest.entry self.old self.new) }
         ensures text { self.new.text ≡ self.old.text }
     {
+        if begins_no_definition(rest.words()) {
+            self.begin_paragraph(rest)?;
+            return Ok(());
+        }
         let room = mem::replace(&mut self.room, String::new(self.alloc));
         let gathered = self.gather(rest, room)?;
         self.begin_gathered(rest, &gathered)?;

@@ -31,6 +31,7 @@ impl<'a, E: EntityLookup> Pass<'a, E> {
 
     /// One more line behind a paragraph with this last line, which the lines from this byte offset on touch: an underline, one more
     /// line of its text, or what ends it.
+    #[inline(always)]
     fn feed_paragraph(
         &mut self,
         from: usize,
@@ -45,6 +46,10 @@ impl<'a, E: EntityLookup> Pass<'a, E> {
         ensures runs { OnOk result (FeedsLeaf E.replacement rest.entry self.old self.new) }
         ensures text { self.new.text ≡ self.old.text }
     {
+        if rest.begins_with_letter() {
+            self.add_to_paragraph(from, last, rest)?;
+            return Ok(());
+        }
         if let Some(level) = underlines(rest) {
             self.underline(from, last, level, rest)?;
             return Ok(());
@@ -76,6 +81,7 @@ impl<'a, E: EntityLookup> Pass<'a, E> {
     }
 
     /// A line that lacks no prefix, behind the open leaf.
+    #[inline(always)]
     fn feed_leaf(&mut self, rest: LineRest<'a>) -> Result<(), AllocError>
         requires good { IsGood self.old }
         requires line { IsRead self.old.text.now rest }
@@ -157,6 +163,12 @@ impl<'a, E: EntityLookup> Pass<'a, E> {
         ensures text { self.new.text ≡ self.old.text }
         ensures past { OnOk result (self.new.past ≡ (row_of line.entry).past) }
     {
+        if self.outer.is_empty() {
+            self.bare = false;
+            self.feed_leaf(line)?;
+            self.past = line.past();
+            return Ok(());
+        }
         let (kept, rest) = self.kept_by(line);
         self.bare = false;
         self.feed_rest(kept, rest)?;

@@ -102,6 +102,7 @@ impl<'a, E: EntityLookup> Pass<'a, E> {
 
     /// The first thing that a line begins, with no leaf open: where it is a container, the line behind the container's marker is
     /// answered, and whether the container is an item. `bare` says that this is a line behind the marker of an item.
+    #[inline(always)]
     fn begin_first(
         &mut self,
         rest: LineRest<'a>,
@@ -129,7 +130,27 @@ impl<'a, E: EntityLookup> Pass<'a, E> {
     }
 
     /// All that a line begins, with no leaf open.
+    #[inline(always)]
     pub(crate) fn begin(&mut self, line: LineRest<'a>) -> Result<(), AllocError>
+        requires good { IsGood self.old }
+        requires line { IsRead self.old.text.now line }
+        requires closed { self.old.leaf ≡ leaf.Closed }
+        requires bare { self.old.bare ≡ false }
+        ensures good { IsGood self.new }
+        ensures runs { OnOk result (Begins E.replacement line.entry self.old self.new) }
+        ensures text { self.new.text ≡ self.old.text }
+    {
+        if line.is_blank() {
+            self.pass_blank_line(false);
+            return Ok(());
+        }
+        self.begin_blocks(line)?;
+        Ok(())
+    }
+
+    /// All that a line begins, with no leaf open: each container, and what stands behind the last one's marker.
+    #[inline(never)]
+    fn begin_blocks(&mut self, line: LineRest<'a>) -> Result<(), AllocError>
         requires good { IsGood self.old }
         requires line { IsRead self.old.text.now line }
         requires closed { self.old.leaf ≡ leaf.Closed }

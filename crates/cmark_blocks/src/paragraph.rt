@@ -16,6 +16,7 @@ impl<'a, E: EntityLookup> Pass<'a, E> {
     ghost use Rattle.cmark_blocks.specs.Steps.{AddsLine, MakesHeading};
 
     /// One more line of a paragraph. If it does not touch the last one, the lines that do, from this byte offset on, become a node.
+    #[inline(always)]
     pub(crate) fn add_to_paragraph(
         &mut self,
         from: usize,

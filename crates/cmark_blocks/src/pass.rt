@@ -19,6 +19,7 @@ impl<'a, E: EntityLookup> Pass<'a, E> {
     }
 
     /// How many containers keep the line, from the outermost on, and what is left of it behind their prefixes.
+    #[inline(always)]
     pub(crate) fn kept_by(&self, line: LineRest<'a>) -> (usize, LineRest<'a>)
         ensures kept { KeepsOf E.replacement self.now line.entry result.0 result.1 }
         ensures few { result.0 ≤ length self.now.outer.items }

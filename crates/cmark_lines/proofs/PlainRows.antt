@@ -1,15 +1,19 @@
--- A line whose words begin with a letter begins nothing but a paragraph's text.
-use Rattle.std.proofs.Common.{◌≡◌, ℕ, Bool, true, false, ◌==◌, ◌&&◌, ◌||◌, not, List, [], ◌∷◌, length, drop, take_while, Some, None, refl, sym, ap, ◌∙◌, arith, cond, true≢false}
+-- What the first byte of a line's words tells: a letter begins nothing but a paragraph's text, and what is neither a bullet, a digit
+-- nor `>` begins no container.
+use Rattle.std.proofs.Common.{◌≡◌, ℕ, Bool, true, false, ◌==◌, ◌&&◌, ◌||◌, List, [], ◌∷◌, length, drop, take_while, Option, Some, None, refl, sym, ap, ◌∙◌, arith, cond, true≢false}
 use Rattle.std.specs.Prelude.{if◌then◌else◌, nat_lt, nat_le, count_by}
 use Rattle.std.proofs.lemmas.List.Sums.{take_while-cons}
 use Rattle.cmark_grammar.specs.Options.{Options}
 use Rattle.cmark_grammar.specs.Columns.{Column, is_blank_byte, without_indent, bytes_of}
 use Rattle.cmark_grammar.specs.Rows.{Row, is_bare, indent_of, words_of}
-use Rattle.cmark_grammar.specs.Leaves.{all_pass, is_parted, run, is_break_of, is_thematic_break, is_atx_heading, fence_of, fence_with}
+use Rattle.cmark_grammar.specs.Leaves.{all_pass, are_blank, is_parted, run, is_break_of, is_thematic_break, is_atx_heading, fence_of, fence_with, is_run_of, underline_of, underlines}
 use Rattle.cmark_grammar.specs.Letters.{is_letter, first_is}
 use Rattle.cmark_grammar.specs.HtmlBlocks.{html_kind, kind_behind}
-use Rattle.cmark_grammar.specs.Containers.{is_bullet, is_digit, digits, delimited, marker_of, item_with, begins_with}
-use Rattle.cmark_grammar.specs.Openings.{item_interrupts, is_some_fence, html_interrupts, interrupts}
+use Rattle.cmark_grammar.specs.Containers.{is_bullet, is_digit, digits, delimited, marker_of, item_with, begins_with, container_with}
+use Rattle.cmark_grammar.specs.Openings.{Plain, item_interrupts, is_some_fence, html_interrupts, interrupts, leaf_of}
+use Rattle.cmark_scan.specs.LeafLines.{atx_level}
+use Rattle.cmark_lines.specs.Starts.{begun_container, begins_marker}
+use Rattle.cmark_lines.proofs.OpeningRows.{leaf-plain}
 
 -- a letter is no other byte
 apart : (b k : ℕ) → is_letter b ≡ true → is_letter k ≡ false → (b == k) ≡ false
@@ -35,6 +39,33 @@ digit-none b l = go (is_digit b) refl
     go : (z : Bool) → is_digit b ≡ z → z ≡ false
     go true e = absurd (true≢false (sym l ∙ no b e))
     go false e = refl
+
+-- a marker begins with a bullet or a digit
+unmarked : (b : ℕ) (bs : List ℕ) → is_bullet b ≡ false → is_digit b ≡ false → marker_of (b ∷ bs) ≡ None
+unmarked b bs bullet digit =
+    ap (λ z. if z then Some (record { mark = b; number = None; size = 1 }) else delimited (digits (b ∷ bs)) (drop (length (digits (b ∷ bs))) (b ∷ bs))) bullet
+    ∙ ap (λ ds. delimited ds (drop (length ds) (b ∷ bs))) (take_while-cons is_digit b bs ∙ ap (λ z. cond z (b ∷ take_while is_digit bs) []) digit)
+
+neither : (words : List ℕ) → first_is begins_marker words ≡ false → (marker_of words ≡ None) × (begins_with 62 words ≡ false)
+neither [] e = (refl, refl)
+neither (b ∷ bs) e = go (is_bullet b) (is_digit b) (b == 62) refl refl refl e
+  where
+    go : (x y z : Bool) → is_bullet b ≡ x → is_digit b ≡ y → (b == 62) ≡ z → (x || (y || z)) ≡ false → (marker_of (b ∷ bs) ≡ None) × (begins_with 62 (b ∷ bs) ≡ false)
+    go true y z bullet digit quote q = absurd (true≢false q)
+    go false true z bullet digit quote q = absurd (true≢false q)
+    go false false true bullet digit quote q = absurd (true≢false q)
+    go false false false bullet digit quote q = (unmarked b bs bullet digit, quote)
+
+pub no-container : (r : Row) → first_is begins_marker (words_of r) ≡ false → begun_container r ≡ None
+no-container r e =
+    let nothing = neither (words_of r) e in
+    ap (λ m. if nat_le (indent_of r) 3 then container_with (item_with r m) (nat_le (indent_of r) 3 && begins_with 62 (words_of r)) else None) nothing.0
+    ∙ ap (λ z. if nat_le (indent_of r) 3 then container_with None (nat_le (indent_of r) 3 && z) else None) nothing.1
+    ∙ go (nat_le (indent_of r) 3)
+  where
+    go : (z : Bool) → (if z then container_with None (z && false) else None) ≡ None
+    go true = refl
+    go false = refl
 
 module _ (b : ℕ) (bs : List ℕ) (letter : is_letter b ≡ true) where
   run-none : (k : ℕ) → is_letter k ≡ false → run k (b ∷ bs) ≡ 0
@@ -64,16 +95,11 @@ module _ (b : ℕ) (bs : List ℕ) (letter : is_letter b ≡ true) where
   no-html : html_kind (b ∷ bs) ≡ None
   no-html = ap (λ z. if z then kind_behind bs else None) (apart b 60 letter refl)
 
-  no-digits : digits (b ∷ bs) ≡ []
-  no-digits = take_while-cons is_digit b bs ∙ ap (λ z. cond z (b ∷ take_while is_digit bs) []) (digit-none b letter)
-
   no-bullet : is_bullet b ≡ false
   no-bullet = ap (λ z. z || ((b == 43) || (b == 42))) (apart b 45 letter refl) ∙ ap (λ z. z || (b == 42)) (apart b 43 letter refl) ∙ apart b 42 letter refl
 
   no-marker : marker_of (b ∷ bs) ≡ None
-  no-marker =
-      ap (λ z. if z then Some (record { mark = b; number = None; size = 1 }) else delimited (digits (b ∷ bs)) (drop (length (digits (b ∷ bs))) (b ∷ bs))) no-bullet
-      ∙ ap (λ ds. delimited ds (drop (length ds) (b ∷ bs))) no-digits
+  no-marker = unmarked b bs no-bullet (digit-none b letter)
 
 -- a line that begins with a letter is not blank
 no-blank : (cs : List Column) (b : ℕ) (bs : List ℕ) → bytes_of cs ≡ b ∷ bs → is_bare cs ≡ false
@@ -110,3 +136,34 @@ letter-interrupts-not options same r ahead e =
 
     rest : List ℕ → Bool
     rest ws = nat_le (indent_of r) 3 && ((nat_le (indent_of r) 3 && begins_with 62 ws) || others ws)
+
+pub letter-underlines-not : (r : Row) → first_is is_letter (words_of r) ≡ true → underlines r ≡ None
+unfolding underlines
+letter-underlines-not r e =
+    let first = first-letter (words_of r) e in
+    let b : ℕ = first.0 in
+    let bs : List ℕ = first.1.0 in
+    let is : words_of r ≡ b ∷ bs = first.1.1 in
+    let letter : is_letter b ≡ true = first.1.2 in
+    let deep : Bool = r.lazy || nat_le 4 (indent_of r) in
+    ap (λ ws. if deep then None else underline_of ws) is
+    ∙ ap (λ n. if deep then None else if nat_lt 0 n && are_blank (drop n (b ∷ bs)) then Some 1 else if is_run_of 45 (b ∷ bs) then Some 2 else None) (run-none b bs letter 61 refl)
+    ∙ ap (λ n. if deep then None else if nat_lt 0 n && are_blank (drop n (b ∷ bs)) then Some 2 else None) (run-none b bs letter 45 refl) ∙ go deep
+  where
+    none : Option ℕ
+    none = None
+
+    go : (z : Bool) → (if z then none else none) ≡ none
+    go true = refl
+    go false = refl
+
+pub letter-leaf : (options : Options) (r : Row) (ahead : List Row) → first_is is_letter (words_of r) ≡ true → leaf_of options r ahead ≡ Plain
+letter-leaf options r ahead e =
+    let first = first-letter (words_of r) e in
+    let b : ℕ = first.0 in
+    let bs : List ℕ = first.1.0 in
+    let is : words_of r ≡ b ∷ bs = first.1.1 in
+    let letter : is_letter b ≡ true = first.1.2 in
+    leaf-plain options r ahead (ap html_kind is ∙ no-html b bs letter) (ap is_thematic_break is ∙ no-break b bs letter)
+    (sym (ap atx_level is ∙ ap (λ z. if z then Some (run 35 (b ∷ bs)) else None) (no-heading b bs letter)))
+    (sym (ap (fence_of (indent_of r)) is ∙ no-fence b bs letter (indent_of r))) (ap (begins_with 91) is ∙ apart b 91 letter refl)

@@ -1,5 +1,5 @@
 -- Containers as this crate knows them, seen as those of the grammar.
-use Rattle.std.specs.Prelude.{◌≡◌, ℕ, nat_le, if◌then◌else◌, Option, Some, None}
+use Rattle.std.specs.Prelude.{◌≡◌, ℕ, Bool, ◌==◌, ◌||◌, nat_le, if◌then◌else◌, Option, Some, None}
 use Rattle.cmark_grammar.specs.Containers as grammar
 use Rattle.cmark_grammar.specs.Containers.{item_of, container_of, is_quote, enter}
 use Rattle.cmark_grammar.specs.Rows.{Row, indent_of}
@@ -43,6 +43,10 @@ begun_item r = if nat_le (indent_of r) 3 then item_of r else None
 
 abbrev pub begun_container : Row → Option grammar.Container
 begun_container r = if nat_le (indent_of r) 3 then container_of r else None
+
+-- a bullet, a digit of an ordered item's number, or `>`
+abbrev pub begins_marker : ℕ → Bool
+begins_marker b = grammar.is_bullet b || (grammar.is_digit b || (b == 62))
 
 abbrev pub shown_begun : ItemStart × LineRest → grammar.Container
 shown_begun begun = shown_item begun.0

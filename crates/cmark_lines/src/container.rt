@@ -3,8 +3,9 @@
 ghost use Rattle.std.specs.Prelude.{◌≡◌, ℕ, List, option_map, IfSome};
 ghost use Rattle.cmark_grammar.specs.Containers as grammar;
 ghost use Rattle.cmark_grammar.specs.Containers.{keeps};
+ghost use Rattle.cmark_grammar.specs.Letters.{first_is};
 ghost use Rattle.cmark_lines.specs.Rests.{row_of, IsIn};
-ghost use Rattle.cmark_lines.specs.Starts.{Shows, shown_start, begun_container, Enters};
+ghost use Rattle.cmark_lines.specs.Starts.{Shows, shown_start, begun_container, begins_marker, Enters};
 
 use crate::line_rest::LineRest;
 
@@ -65,9 +66,23 @@ pub(crate) fn container_start<'a>(rest: LineRest<'a>) -> Option<ContainerStart<'
     ensures container { option_map shown_start result ≡ begun_container (row_of rest.entry) }
     ensures inside { IfSome result (Enters (row_of rest.entry)) }
 {
+    if !may_begin_container(rest.words()) {
+        return None;
+    }
     if let Some((item, inside)) = rest.behind_item() {
         return Some(ContainerStart::Item(item, inside));
     }
     let inside = rest.behind_quote()?;
     Some(ContainerStart::Quote(inside))
+}
+
+/// Whether the words of a line may begin with the marker of a container, by their first byte alone.
+#[inline]
+fn may_begin_container(words: &[u8]) -> bool
+    ensures { result ≡ first_is begins_marker words.now }
+{
+    match words {
+        [b'-' | b'+' | b'*' | b'0'..=b'9' | b'>', ..] => true,
+        [..] => false,
+    }
 }

@@ -3,7 +3,7 @@
 ghost use Rattle.std.specs.Prelude.{◌≡◌, ℕ, List, option_map};
 ghost use Rattle.cmark_grammar.specs.Options.{Options};
 ghost use Rattle.cmark_grammar.specs.Letters.{is_letter, first_is};
-ghost use Rattle.cmark_grammar.specs.Rows.{Row, words_of};
+ghost use Rattle.cmark_grammar.specs.Rows.{Row};
 ghost use Rattle.cmark_grammar.specs.Leaves.{is_atx_heading, fence_of, underlines};
 ghost use Rattle.cmark_grammar.specs.Containers.{is_quote};
 ghost use Rattle.cmark_grammar.specs.Openings.{interrupts, is_one, item_interrupts, is_some_fence, html_interrupts};
@@ -26,7 +26,7 @@ use cmark_text::HeadingLevel;
 pub fn interrupts(rest: LineRest<'_>, same: bool) -> bool
     ensures { (options : Options) (ahead : List Row) → result ≡ interrupts options same (row_of rest.entry) ahead }
 {
-    if begins_with_letter(rest) {
+    if rest.begins_with_letter() {
         return false;
     }
     rest.is_blank()
@@ -34,12 +34,12 @@ pub fn interrupts(rest: LineRest<'_>, same: bool) -> bool
             && (is_quote(rest) || item_interrupts(rest, same) || leaf_interrupts(rest.words())))
 }
 
-/// Whether the words of the line begin with an ASCII letter: most lines of prose do, and what does begins nothing but text.
+/// Whether the words of a line begin with an ASCII letter: most lines of prose do, and what does begins nothing but text.
 #[inline]
-fn begins_with_letter(rest: LineRest<'_>) -> bool
-    ensures { result ≡ first_is is_letter (words_of (row_of rest.entry)) }
+pub(crate) fn begins_with_letter(words: &[u8]) -> bool
+    ensures { result ≡ first_is is_letter words.now }
 {
-    match rest.words() {
+    match words {
         [first, ..] => first.is_ascii_alphabetic(),
         [] => false,
     }

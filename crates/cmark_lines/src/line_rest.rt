@@ -7,6 +7,7 @@ ghost use Rattle.cmark_scan.specs.LineStart.{row_from};
 
 mod prefixes;
 
+use crate::interrupt::begins_with_letter;
 use cmark_scan::LineStart;
 
 /// What is left of a line behind the prefixes of the containers around it. Places are byte offsets of the text; columns are
@@ -26,6 +27,7 @@ impl<'a> LineRest<'a> {
     ghost use Rattle.std.specs.Prelude.{◌<◌, ◌∷◌, ℕ, List, [], false, min};
     ghost use Rattle.std.specs.Str.{IsCharBoundary, IsUtf8};
     ghost use Rattle.cmark_grammar.specs.Columns.{bytes_of};
+    ghost use Rattle.cmark_grammar.specs.Letters.{is_letter, first_is};
     ghost use Rattle.cmark_grammar.specs.Lines.{lines};
     ghost use Rattle.cmark_grammar.specs.Rows.{row_at, rows_from, without, is_blank_line, indent_of, words_of, begin_of, start_of};
     ghost use Rattle.cmark_scan.specs.LineStart.{cut_columns};
@@ -129,6 +131,15 @@ impl<'a> LineRest<'a> {
         let mut ahead = self.front;
         ahead.scan_all_space();
         ahead.remaining_bytes()
+    }
+
+    /// Whether the words begin with an ASCII letter, as most lines of prose do: such a line neither interrupts a paragraph nor
+    /// underlines one.
+    #[inline]
+    pub fn begins_with_letter(&self) -> bool
+        ensures { result ≡ first_is is_letter (words_of (row_of self.now)) }
+    {
+        begins_with_letter(self.words())
     }
 
     /// The bytes up to the line's ending. A tab that was cut by a prefix is none of them.

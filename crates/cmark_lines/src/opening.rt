@@ -9,6 +9,7 @@ ghost use Rattle.cmark_lines.specs.Rests.{row_of, CutsNoCharacter, IsIn};
 ghost use Rattle.cmark_lines.specs.Opened.{opened, HasInside, InsideIsShorter, HasInfo, HasBracket, InsideIsIn, InfoIsIn};
 
 use crate::container::{ContainerStart, container_start};
+use crate::interrupt::begins_with_letter;
 use crate::line_rest::LineRest;
 use cmark_scan::{CodeFence, HtmlKind, html_kind, scan_atx_heading, scan_code_fence, scan_hrule};
 use cmark_text::HeadingLevel;
@@ -75,6 +76,9 @@ fn leaf_opening<'a>(words: &[u8], indent: usize) -> Opening<'a>
     ensures placed { (text : List ℕ) → InsideIsIn text result }
     ensures info_placed { (text : List ℕ) (r : Row) → words_of r ≡ words.now → CutsNoCharacter text r → InfoIsIn text result r }
 {
+    if begins_with_letter(words) {
+        return Opening::Plain;
+    }
     if let Some(kind) = html_kind(words) {
         return Opening::Html(kind);
     }

@@ -6,8 +6,14 @@ use Rattle.cmark_grammar.specs.Containers.{begins_with}
 use Rattle.cmark_text.specs.Shown.{level_number}
 use Rattle.cmark_scan.specs.LeafLines.{atx_level}
 use Rattle.cmark_lines.proofs.InfoEdges.{info-stands}
+use Rattle.cmark_grammar.specs.Letters.{is_letter, first_is}
 use Rattle.cmark_lines.proofs.OpeningRows.{leaf-heading, leaf-plain}
+use Rattle.cmark_lines.proofs.PlainRows.{letter-leaf}
 use Rattle.cmark_lines.proofs.opening.leaf_opening.Goals as goal
+
+pub returns-then-begins_with_letter-clause-opens : goal.returns-then-begins_with_letter-clause-opens
+returns-then-begins_with_letter-clause-opens c options r ahead words indent =
+    letter-leaf options r ahead (ap (first_is is_letter) words ∙ sym c.begins_with_letter.ensures ∙ c.if-begins_with_letter.true)
 
 pub returns-in-Some-scan_atx_heading-clause-opens : goal.returns-in-Some-scan_atx_heading-clause-opens
 returns-in-Some-scan_atx_heading-clause-opens c options r ahead words indent =

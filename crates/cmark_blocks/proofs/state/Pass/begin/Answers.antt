@@ -1,28 +1,14 @@
-use Rattle.std.proofs.Common.{◌≡◌, ◌<◌, false, length, refl, sym, subst, ◌∙◌}
-use Rattle.std.specs.Prelude.{IfSome}
+use Rattle.std.proofs.Common.{sym, subst, ◌∙◌}
 use Rattle.cmark_lines.specs.Rests.{row_of}
-use Rattle.cmark_blocks.specs.Entered.{BeginsFirst}
-use Rattle.cmark_blocks.specs.declared.state.OpenLeaf.TheVariants as leaf
-use Rattle.cmark_blocks.specs.Runs.{IsRead}
-use Rattle.cmark_blocks.proofs.LineSteps.{begins-start, begins-step, begins-end}
+use Rattle.cmark_lines.proofs.RestSteps.{whole}
+use Rattle.cmark_blocks.specs.Ahead.{lines_at}
+use Rattle.cmark_blocks.specs.Runs.{Runs}
+use Rattle.cmark_blocks.proofs.LineSteps.{begins-blank}
 use Rattle.cmark_blocks.proofs.state.Pass.begin.Goals as goal
 
-pub loop-inside-init : goal.loop-inside-init
-loop-inside-init g c = (c.requires.good, c.requires.line, c.requires.closed, c.requires.bare, refl, begins-start g.E.EntityLookup.replacement c.args.line c.args.self.now)
-
-pub loop-inside-preserved : goal.loop-inside-preserved
-loop-inside-preserved g c = (
-  c.begin_first.ensures.good,
-  subst (λ t. IsRead t.now c.in-Some.inside) (sym c.begin_first.ensures.text) (subst (λ o. IfSome o (λ i. IsRead c.loop-inside.self.text.now i.0)) c.in-Some.is c.in_ok-inside.ensures.line),
-  subst (λ o. IfSome o (λ i. c.begin_first.new.self.leaf ≡ leaf.Closed)) c.in-Some.is c.in_ok-inside.ensures.leaf,
-  subst (λ o. IfSome o (λ i. c.begin_first.new.self.bare ≡ false)) c.in-Some.is c.in_ok-inside.ensures.bare,
-  c.begin_first.ensures.text ∙ c.loop-inside.invariant.4,
-  begins-step g.E.EntityLookup.replacement c.args.line c.args.self.now c.loop-inside.rest c.in-Some.inside c.loop-inside.bare c.in-Some.item c.loop-inside.self c.begin_first.new.self c.loop-inside.invariant.5
-      (subst (λ o. BeginsFirst g.E.EntityLookup.replacement c.loop-inside.bare c.loop-inside.rest o c.loop-inside.self c.begin_first.new.self) c.in-Some.is c.in_ok-inside.ensures.runs)
-      (subst (λ o. IfSome o (λ i. length (row_of i.0).columns < length (row_of c.loop-inside.rest).columns)) c.in-Some.is c.in_ok-inside.ensures.shorter),
-)
-
-pub returns-clause-runs : goal.returns-clause-runs
-returns-clause-runs g c =
-    begins-end g.E.EntityLookup.replacement c.args.line c.args.self.now c.loop-inside.rest c.loop-inside.bare c.loop-inside.self c.begin_first.new.self c.loop-inside.invariant.5
-    (subst (λ o. BeginsFirst g.E.EntityLookup.replacement c.loop-inside.bare c.loop-inside.rest o c.loop-inside.self c.begin_first.new.self) c.in_default.is c.in_ok-inside.ensures.runs)
+pub returns-then-is_blank-clause-runs : goal.returns-then-is_blank-clause-runs
+returns-then-is_blank-clause-runs g c text options lookup m runs =
+    let row = row_of c.args.line in
+    subst (λ p. Runs g.E.EntityLookup.replacement text lookup p c.pass_blank_line.new.self)
+    (sym (begins-blank text options lookup row (lines_at text row.past) m (whole c.args.line) (sym c.is_blank.ensures ∙ c.if-is_blank.true)))
+    (c.pass_blank_line.ensures.runs text lookup m runs)

@@ -1,4 +1,4 @@
-use Rattle.std.proofs.Common.{ℕ, take, drop, sym, subst, ap, false}
+use Rattle.std.proofs.Common.{◌≡◌, ℕ, take, drop, sym, subst, ap, ◌∙◌, false, vec_len, arith}
 use Rattle.cmark_grammar.specs.Rows.{Row}
 use Rattle.cmark_lines.specs.Rests.{row_of}
 use Rattle.cmark_leaves.specs.Told.{AreTold}
@@ -7,6 +7,7 @@ use Rattle.cmark_block_model.specs.BlockPass.{Kept, line_with}
 use Rattle.cmark_block_model.specs.OpenBlocks as model
 use Rattle.cmark_blocks.specs.Ahead.{lines_at}
 use Rattle.cmark_blocks.specs.Runs.{Runs}
+use Rattle.cmark_blocks.proofs.FeedSteps.{is-zero, fed-outside}
 use Rattle.cmark_blocks.proofs.RunSteps.{runs-bare, runs-past}
 use Rattle.cmark_blocks.proofs.state.Pass.feed.Goals as goal
 
@@ -19,6 +20,17 @@ feed_rest-requires-clause-line g c = record {
       subst (λ (r : Row). AreTold text r.columns) behind.1 (without-told text behind.0 (row_of c.args.line) c.requires.line.told);
 }
 
+pub returns-then-is_empty-clause-runs : goal.returns-then-is_empty-clause-runs
+returns-then-is_empty-clause-runs g c text options lookup m runs =
+    let replacement = g.E.EntityLookup.replacement in
+    let row = row_of c.args.line in
+    let before = c.args.self.now in
+    let none : vec_len before.outer ≡ 0 = is-zero (vec_len before.outer) (sym c.is_empty.ensures ∙ c.if-is_empty.true) in
+    let fed = c.in_ok-feed_leaf.ensures.runs text options lookup (record m { bare = false }) (runs-bare replacement text lookup m before false runs) in
+    subst (λ p. Runs replacement text lookup p (record c.feed_leaf.new.self { past = c.past-self.result }))
+    (fed-outside text options lookup row (lines_at text row.past) m before.outer.items (omega (arith, none, before.outer.ok.0)) runs.outer)
+    (runs-past replacement text lookup _ c.feed_leaf.new.self c.past-self.result row.past fed c.past-self.ensures.place)
+
 pub returns-clause-runs : goal.returns-clause-runs
 returns-clause-runs g c text options lookup m runs =
     let replacement = g.E.EntityLookup.replacement in
@@ -30,4 +42,4 @@ returns-clause-runs g c text options lookup m runs =
     let there = subst (λ (past : ℕ). Runs replacement text lookup (line_with text options lookup (drop kept m.outer) (take kept m.outer) (row_of rest) (lines_at text past) p) c.feed_rest.new.self) (ap (λ (r : Row). r.past) (sym c.kept_by-kept.ensures.behind.1)) fed in
     let whole = subst (λ (w : Kept text options lookup). Runs replacement text lookup (line_with text options lookup w.missed w.kept w.left (lines_at text row.past) p) c.feed_rest.new.self)
     (sym (c.kept_by-kept.ensures.kept text options lookup m runs)) there in
-    runs-past replacement text lookup _ c.feed_rest.new.self _ row.past whole c.past-self.ensures.place
+    runs-past replacement text lookup _ c.feed_rest.new.self _ row.past whole c.past-self-2.ensures.place

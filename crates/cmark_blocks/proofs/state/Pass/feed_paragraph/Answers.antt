@@ -1,12 +1,23 @@
-use Rattle.std.proofs.Common.{option_map, sym, ap, subst, ◌∙◌}
+use Rattle.std.proofs.Common.{true, option_map, sym, ap, subst, ◌∙◌}
 use Rattle.cmark_text.specs.Shown.{level_number}
 use Rattle.cmark_lines.specs.Rests.{row_of}
+use Rattle.cmark_lines.proofs.PlainRows.{letter-interrupts-not, letter-underlines-not}
 use Rattle.cmark_lines.proofs.RestSteps.{whole}
 use Rattle.cmark_block_model.specs.BlockPass.{ahead_in}
 use Rattle.cmark_blocks.specs.Ahead.{lines_at}
 use Rattle.cmark_blocks.specs.Runs.{Runs}
 use Rattle.cmark_blocks.proofs.FeedSteps.{in_paragraph, feeds-underline, feeds-interrupted, feeds-text}
 use Rattle.cmark_blocks.proofs.state.Pass.feed_paragraph.Goals as goal
+
+pub returns-then-begins_with_letter-clause-runs : goal.returns-then-begins_with_letter-clause-runs
+returns-then-begins_with_letter-clause-runs g c text options lookup m runs =
+    let replacement = g.E.EntityLookup.replacement in
+    let row = row_of c.args.rest in
+    let letter = sym c.begins_with_letter.ensures ∙ c.if-begins_with_letter.true in
+    subst (λ p. Runs replacement text lookup p c.add_to_paragraph.new.self)
+    (sym (feeds-text text options lookup row (lines_at text row.past) m c.args.from (row_of c.args.last) (sym (letter-underlines-not row letter)) (whole c.args.rest)
+    (sym (letter-interrupts-not options true row (ahead_in text options lookup m.outer (lines_at text row.past)) letter)) (in_paragraph replacement text lookup m c.args.self.now runs c.args.from c.args.last c.requires.is)))
+    (c.in_ok-add_to_paragraph.ensures.runs text options lookup m runs)
 
 pub returns-in-Some-clause-runs : goal.returns-in-Some-clause-runs
 returns-in-Some-clause-runs g c text options lookup m runs =
@@ -25,11 +36,11 @@ returns-in_ok-begin_anew-clause-runs g c text options lookup m runs =
     (sym c.if-interrupts.true ∙ c.interrupts.ensures options (ahead_in text options lookup m.outer (lines_at text row.past))) (in_paragraph replacement text lookup m c.args.self.now runs c.args.from c.args.last c.requires.is)))
     (c.in_ok-begin_anew.ensures.runs text options lookup m runs)
 
-pub returns-in_ok-add_to_paragraph-clause-runs : goal.returns-in_ok-add_to_paragraph-clause-runs
-returns-in_ok-add_to_paragraph-clause-runs g c text options lookup m runs =
+pub returns-in_ok-add_to_paragraph-2-clause-runs : goal.returns-in_ok-add_to_paragraph-2-clause-runs
+returns-in_ok-add_to_paragraph-2-clause-runs g c text options lookup m runs =
     let replacement = g.E.EntityLookup.replacement in
     let row = row_of c.args.rest in
-    subst (λ p. Runs replacement text lookup p c.add_to_paragraph.new.self)
+    subst (λ p. Runs replacement text lookup p c.add_to_paragraph-else-interrupts.new.self)
     (sym (feeds-text text options lookup row (lines_at text row.past) m c.args.from (row_of c.args.last) (ap (option_map level_number) (sym c.in_default.is) ∙ c.underlines.ensures) (whole c.args.rest)
     (sym c.if-interrupts.false ∙ c.interrupts.ensures options (ahead_in text options lookup m.outer (lines_at text row.past))) (in_paragraph replacement text lookup m c.args.self.now runs c.args.from c.args.last c.requires.is)))
-    (c.in_ok-add_to_paragraph.ensures.runs text options lookup m runs)
+    (c.in_ok-add_to_paragraph-2.ensures.runs text options lookup m runs)

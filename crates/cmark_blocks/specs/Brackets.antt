@@ -1,0 +1,19 @@
+-- Lines that begin with a bracket and with no link reference definition (CommonMark 4.7).
+use Rattle.std.specs.Prelude.{ℕ, Bool, true, false, ◌==◌, ◌&&◌, not, if◌then◌else◌, List, [], ◌∷◌}
+use Rattle.cmark_grammar.specs.Letters.{first_is}
+use Rattle.cmark_grammar.specs.LinkDefinitions.{escapes_next}
+
+abbrev pub is_colon : ℕ → Bool
+is_colon b = b == 58
+
+-- the label ends here with no colon behind it, or another bracket opens in it
+abbrev pub lacks_colon : (escaped : Bool) → List ℕ → Bool
+lacks_colon escaped [] = false
+lacks_colon escaped (b ∷ bs) =
+    if not escaped && (b == 93) then not (first_is is_colon bs)
+    else if not escaped && (b == 91) then true
+    else lacks_colon (escapes_next escaped b) bs
+
+abbrev pub begins_none : List ℕ → Bool
+begins_none [] = false
+begins_none (b ∷ bs) = (b == 91) && lacks_colon false bs
