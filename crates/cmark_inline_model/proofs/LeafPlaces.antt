@@ -23,7 +23,7 @@ lower from low [] size h k = omega arith
 lower from low (s ∷ more) size h k = (omega arith, k.1, k.2)
 
 -- which part of a place is taken, by a comparison
-by_size : (P : ℕ → Type 0) (n m x y : ℕ) → (n < m → P x) → (m ≤ n → P y) → P (if nat_lt n m then x else y)
+pub by_size : (P : ℕ → Type 0) (n m x y : ℕ) → (n < m → P x) → (m ≤ n → P y) → P (if nat_lt n m then x else y)
 by_size P n m x y h k = go (nat_lt n m) refl
   where
     go : (b : Bool) → nat_lt n m ≡ b → P (if b then x else y)
@@ -37,12 +37,12 @@ le_or a b = go (nat_lt b a) refl
     go true e = inr (ltb-true b a e)
     go false e = inl (ltb-false b a e)
 
-bytes_size : (source : List ℕ) (st : List Stretch) (at : ℕ) → length (bytes_from source st at) ≤ size_of st
-bytes_size source [] at = omega arith
-bytes_size source (s ∷ more) at =
+pub bytes-size : (source : List ℕ) (st : List Stretch) (at : ℕ) → length (bytes_from source st at) ≤ size_of st
+bytes-size source [] at = omega arith
+bytes-size source (s ∷ more) at =
     let e = length-append (slice source (max at s.start) s.end) (bytes_from source more at) in
     let a = slice_size source (max at s.start) s.end in
-    let b = bytes_size source more at in
+    let b = bytes-size source more at in
     omega arith
 
 start_up_to : (from : ℕ) (s : Stretch) (more : List Stretch) (size left : ℕ) → InTurn from (s ∷ more) size → left ≤ size_of (s ∷ more) → s.start ≤ place_with left (s ∷ more)
@@ -86,7 +86,7 @@ place_behind_from source from (s ∷ []) size left x h k w =
 place_behind_from source from (s ∷ (t ∷ more)) size left x h k w =
     let e = length-append (slice source (max x s.start) s.end) (bytes_from source (t ∷ more) x) in
     let a = slice_size source (max x s.start) s.end in
-    let b = bytes_size source (t ∷ more) x in
+    let b = bytes-size source (t ∷ more) x in
     let c = end_more s t more in
     let y = h.2.0 in
     by_size (λ p. x ≤ p) (size_of (t ∷ more)) left (s.end - (left - size_of (t ∷ more))) (place_with left (t ∷ more)) (λ lt. omega arith)

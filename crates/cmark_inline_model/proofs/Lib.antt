@@ -23,9 +23,11 @@ pub mod LeafExamples3
 pub mod LeafExamples4
 pub mod LeafExamples5
 pub mod LeafLaws
+pub mod LeafLines
 pub mod LeafParts
 pub mod LeafPlaces
 pub mod LeafRules
+pub mod LeafSteps
 pub mod LinkNesting
 pub mod LinkSpans
 pub mod NotRead
@@ -40,6 +42,7 @@ pub mod ReadingDocuments
 pub mod ReadingLaws
 pub mod ReadingLinkLaws
 pub mod ReadingOrders
+pub mod ReadingPlaces
 pub mod ReadingQuestionLaws
 pub mod SampleReading
 pub mod SegmentLaws
@@ -64,5 +67,7 @@ pub mod TightSpans
 pub mod TokenItems
 pub mod TokenLaws
 pub mod TokenOptions
+pub mod TokenPlaces
 pub mod TokenSizes
 pub mod WikiGaps
+pub mod WordBytes

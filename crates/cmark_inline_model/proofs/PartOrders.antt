@@ -1,28 +1,31 @@
--- The siblings and the spans that parts become stand in order, where no wikilink among them has a display.
-use Rattle.std.specs.Prelude.{suc, ◌==◌, drop, take, if◌then◌else◌}
+-- The siblings and the spans that parts become stand in order, but for what the pipe of a wikilink cuts.
+use Rattle.std.specs.Prelude.{suc, ◌-◌, ◌==◌, nat_le, max, get_or, drop, take, if◌then◌else◌}
 use Rattle.std.specs.List.{prefix_len}
-use Rattle.std.proofs.Common.{◌≡◌, ℕ, ◌+◌, ◌<◌, ◌≤◌, Bool, true, false, List, [], ◌∷◌, length, Some, None, sym, ap, subst, arith, length-drop}
+use Rattle.std.proofs.Common.{◌≡◌, inl, inr, ℕ, ◌+◌, ◌<◌, ◌≤◌, Bool, true, false, List, [], ◌∷◌, length, Some, None, refl, sym, ap, ◌∙◌, subst, arith, length-drop, eqb-true, true≢false}
 use Rattle.cmark_grammar.specs.Autolinks.{autolink_in, has_scheme, is_uri_byte}
 use Rattle.cmark_grammar.specs.BracketDecisions.{decide}
 use Rattle.cmark_grammar.specs.BracketReading.{Reads}
 use Rattle.cmark_grammar.specs.BracketStates.{State}
 use Rattle.cmark_grammar.specs.InlineTokens.{from, place_of, token}
-use Rattle.cmark_grammar.specs.Items.{ItemKind, Item}
+use Rattle.cmark_grammar.specs.Items.{ItemKind, Plain, Own, Written, Quoted, Delimiters, Code, InlineMath, DisplayMath, Autolink, Html, OwnedHtml, FootnoteReference, SoftBreak, HardBreak, Item}
 use Rattle.cmark_grammar.specs.LeafText.{Leaf, InTurn}
 use Rattle.cmark_grammar.specs.Letters.{first_is}
 use Rattle.cmark_grammar.specs.LinkDefinitions.{Found}
 use Rattle.cmark_grammar.specs.Parts.{Parts, Nil as NoParts, Single as SinglePart, Form, Closing, Opening, Linking, Footnote, Wiki}
 use Rattle.cmark_grammar.specs.Questions.{Saying}
 use Rattle.cmark_grammar.specs.Readers.{Reader}
-use Rattle.cmark_grammar.specs.Siblings.{Inline, item_then, footnote_then}
+use Rattle.cmark_grammar.specs.Siblings.{Inline, Nil, Single, Around, item, item_then, footnote_then, from_place, display_from}
 use Rattle.cmark_grammar.specs.SiblingsModel.{dress, siblings_of, spans_in}
-use Rattle.cmark_inline_model.specs.FormedParts.{AllFormed}
+use Rattle.cmark_inline_model.specs.LeafModel.{HaveLineEnds}
 use Rattle.cmark_inline_model.specs.PartRanges.{StandBetween, end_of}
+use Rattle.cmark_inline_model.specs.CutRanges.{IsBehindPipe}
 use Rattle.cmark_inline_model.proofs.KindViews.{KindView, AQuote, ARun, AnAutolink, AText, kind-view}
 use Rattle.cmark_inline_model.proofs.LeafPlaces.{place-behind, next-size}
-use Rattle.cmark_inline_model.proofs.SpanRanges.{Fills, InlineOrder, SiblingOrder, inline-wide, dress-order}
+use Rattle.cmark_inline_model.proofs.ReadingPlaces.{HavePipes}
+use Rattle.cmark_inline_model.proofs.SpanRanges.{Fills, Begun, begun-up, InlineOrder, SiblingOrder, inline-wide, dress-order}
 use Rattle.cmark_inline_model.proofs.TokenItems.{HoldsOfItems, HoldsOf, token-holds, OfItems, items-hold}
-use Rattle.cmark_inline_model.proofs.WikiGaps.{HaveGaps, IsUndisplayed}
+use Rattle.cmark_inline_model.proofs.TokenPlaces.{Uncut}
+use Rattle.cmark_inline_model.proofs.WikiGaps.{HaveGaps}
 
 -- ## Items fill their bytes
 
@@ -85,39 +88,168 @@ part_up from (Form opener inside closer formed after) to h =
 part_up from (Closing closer after) to h = let a = h.0 in let b = h.1 in let c = part_up closer.end after to h.2 in omega arith
 part_up from (Opening opener after) to h = let a = h.0 in let b = h.1 in let c = part_up opener.end after to h.2 in omega arith
 
-item_order : (from : ℕ) (x : Item) (after : Inline) (to : ℕ) → from ≤ x.start → x.start ≤ x.end → FillsItem x → SiblingOrder x.end after to → SiblingOrder from (item_then x.kind x after) to
-item_order from x after to a b f k = go x.kind (kind-view x.kind) f
+-- ## Siblings behind a pipe
+
+-- the place of the pipe does not stand inside of a run
+abbrev FreeBy : ItemKind → (place start end : ℕ) → Type 0
+FreeBy (Delimiters run) place start end = start < place → place ≤ end → ⊥
+FreeBy (Autolink uri) place start end = ⊥
+FreeBy _ place start end = Unit {0}
+
+abbrev IsFree : (place : ℕ) → Inline → Type 0
+IsFree place Nil = Unit {0}
+IsFree place (Single x after) = FreeBy x.kind place x.start x.end × IsFree place after
+IsFree place (Around tag start end inside after) = IsFree place after
+
+fills_later : (kind : ItemKind) (place start end : ℕ) → place < end → FreeBy kind place start end → Fills kind start end → Fills kind (max start place) end
+fills_later (Delimiters run) place start end h f k = go (nat_le place start) refl
   where
-    go : (kind : ItemKind) → KindView kind → Fills kind x.start x.end → SiblingOrder from (item_then kind x after) to
-    go _ (AQuote quote) g = (a, b, f, k)
-    go _ (ARun run) g = (a, b, f, k)
-    go _ (AnAutolink uri) g = (a, (omega arith, omega arith, omega arith), k)
-    go _ (AText kind t) g = subst (λ l. SiblingOrder from l to) (sym (t.item x after)) (a, b, f, k)
+    go : (x : Bool) → nat_le place start ≡ x → max start place + run.size ≤ end
+    go true e = let l : place ≤ start = grind (arith) in omega arith
+    go false e = absurd (f (let l : start < place = grind (arith) in omega arith) (omega arith))
+fills_later (Autolink uri) place start end h f k = absurd f
+fills_later Plain place start end h f k = tt
+fills_later Own place start end h f k = tt
+fills_later (Written text) place start end h f k = tt
+fills_later (Quoted quote) place start end h f k = tt
+fills_later (Code text) place start end h f k = tt
+fills_later (InlineMath text) place start end h f k = tt
+fills_later (DisplayMath text) place start end h f k = tt
+fills_later Html place start end h f k = tt
+fills_later (OwnedHtml text) place start end h f k = tt
+fills_later (FootnoteReference label) place start end h f k = tt
+fills_later SoftBreak place start end h f k = tt
+fills_later HardBreak place start end h f k = tt
 
-footnote_order : (is_image : Bool) (from start : ℕ) (label : List ℕ) (end : ℕ) (others : Inline) (to : ℕ) → from ≤ start → start < end → SiblingOrder end others to
-    → SiblingOrder from (footnote_then is_image start label end others) to
-footnote_order true from start label end others to a b k = (a, omega arith, tt, (omega arith, omega (arith, b), tt, k))
-footnote_order false from start label end others to a b k = (a, omega (arith, b), tt, k)
+module _ (Pipe : ℕ → Type 0) where
+  abbrev Siblings : ℕ → Inline → ℕ → Type 0
+  Siblings from siblings to = SiblingOrder Pipe from siblings to
 
-module _ (reader : Reader) where
-  siblings_order : (from : ℕ) (parts : Parts) (to : ℕ) → StandBetween from parts to → OfItems FillsItem parts → AllFormed IsUndisplayed parts → HaveGaps parts
-      → SiblingOrder from (siblings_of reader.options parts) to
-  siblings_order from NoParts to h f g w = h
-  siblings_order from (SinglePart x after) to h f g w = item_order from x (siblings_of reader.options after) to h.0 h.1 f.0 (siblings_order x.end after to h.2 f.1 g w)
-  siblings_order from (Form opener inside closer (Linking target) after) to h f g w =
-      let a = h.1 in let b = h.3 in let c = h.4 in
-      let inner = dress-order reader.options opener.end (siblings_of reader.options inside) closer.start (siblings_order opener.end inside closer.start h.2 f.0 g.1 w.1) in
-      (h.0, inline-wide opener.start opener.end (dress reader.options (siblings_of reader.options inside)) closer.start target.end a (omega arith) inner, siblings_order target.end after to h.5 f.1 g.2 w.2)
-  siblings_order from (Form opener inside closer (Footnote label end) after) to h f g w =
+  siblings_lower : (less from : ℕ) (siblings : Inline) (to : ℕ) → less ≤ from → Siblings from siblings to → Siblings less siblings to
+  siblings_lower less from Nil to e h = let x : from ≤ to = h in omega arith
+  siblings_lower less from (Single x after) to e h = ((let y = h.0 in omega arith), h.1, h.2, h.3)
+  siblings_lower less from (Around tag start end inside after) to e h = (h.0, (let y = h.1 in omega arith), h.2, h.3, h.4, h.5)
+
+  from_order : (place : ℕ) → Pipe place → (from : ℕ) (siblings : Inline) (to : ℕ) → Siblings from siblings to → IsFree place siblings → Siblings from (from_place place siblings) to
+  from_order place pipe from Nil to h f = h
+  from_order place pipe from (Single x after) to h f = go (nat_le x.end place) refl (from_order place pipe x.end after to h.3 f.1)
+    where
+      go : (b : Bool) → nat_le x.end place ≡ b → Siblings x.end (from_place place after) to → Siblings from (if b then from_place place after else Single (item x.kind (max x.start place) x.end) after) to
+      go true e i = siblings_lower from x.end (from_place place after) to (let a = h.0 in let b = h.1 in omega arith) i
+      go false e i =
+          let l : place < x.end = grind (arith) in
+          let a = h.0 in let b = h.1 in
+          (omega arith, omega arith, fills_later x.kind place x.start x.end l f.0 h.2, h.3)
+  from_order place pipe from (Around tag start end inside after) to h f = go (nat_le end place) refl (from_order place pipe end after to h.5 f)
+    where
+      go : (b : Bool) → nat_le end place ≡ b → Siblings end (from_place place after) to → Siblings from (if b then from_place place after else Around tag (max start place) end inside after) to
+      go true e i = siblings_lower from end (from_place place after) to (let a = h.1 in let b = begun-up Pipe h.0 start h.2 in let c = h.3 in omega arith) i
+      go false e i = (h.0, h.1, begun (nat_le place start) refl, (let l : place < end = grind (arith) in let c = h.3 in omega arith), h.4, h.5)
+        where
+          begun : (z : Bool) → nat_le place start ≡ z → Begun Pipe h.0 (max start place)
+          begun true q = let l : place ≤ start = grind (arith) in subst (Begun Pipe h.0) (let m : start ≡ max start place = omega arith in m) h.2
+          begun false q =
+              let l : start < place = grind (arith) in
+              let u = begun-up Pipe h.0 start h.2 in
+              subst (Begun Pipe h.0) (let m : place ≡ max start place = omega arith in m) (inr (omega arith, pipe))
+
+  display_order : (place end : ℕ) → Pipe place → (from : ℕ) (siblings : Inline) → from ≤ end → Siblings from siblings end → IsFree place siblings → Siblings from (display_from place end siblings) end
+  display_order place end pipe from siblings w h f = go (place == end) refl
+    where
+      go : (b : Bool) → (place == end) ≡ b → Siblings from (if b then Single (item Own place place) Nil else from_place place siblings) end
+      go true e = let s = eqb-true place end e in (omega arith, omega arith, tt, (let t : place ≤ end = omega arith in t))
+      go false e = from_order place pipe from siblings end h f
+
+  item_order : (from : ℕ) (x : Item) (after : Inline) (to : ℕ) → from ≤ x.start → x.start ≤ x.end → FillsItem x → Siblings x.end after to → Siblings from (item_then x.kind x after) to
+  item_order from x after to a b f k = go x.kind (kind-view x.kind) f
+    where
+      go : (kind : ItemKind) → KindView kind → Fills kind x.start x.end → Siblings from (item_then kind x after) to
+      go _ (AQuote quote) g = (a, b, f, k)
+      go _ (ARun run) g = (a, b, f, k)
+      go _ (AnAutolink uri) g = (x.start, a, inl refl, b, (omega arith, omega arith, omega arith), k)
+      go _ (AText kind t) g = subst (λ l. Siblings from l to) (sym (t.item x after)) (a, b, f, k)
+
+  footnote_order : (is_image : Bool) (from start : ℕ) (label : List ℕ) (end : ℕ) (others : Inline) (to : ℕ) → from ≤ start → start < end → Siblings end others to
+      → Siblings from (footnote_then is_image start label end others) to
+  footnote_order true from start label end others to a b k = (a, omega arith, tt, (omega arith, omega (arith, b), tt, k))
+  footnote_order false from start label end others to a b k = (a, omega (arith, b), tt, k)
+
+module _ (reader : Reader) (leaf : Leaf) (size : ℕ) (turn : InTurn 0 leaf.stretches size) (within : size ≤ length reader.source) (lines : HaveLineEnds reader.source leaf.stretches) where
+  abbrev UncutItem : Item → Type 0
+  UncutItem x = Uncut reader leaf size turn within lines x.kind x.start x.end
+
+  abbrev Pipe : ℕ → Type 0
+  Pipe at = IsBehindPipe reader.options reader.source at
+
+  -- no run stands around a pipe
+  item_free : (place : ℕ) → Pipe place → (x : Item) (after : Inline) → UncutItem x → IsFree place after → IsFree place (item_then x.kind x after)
+  item_free place pipe x after u k = go x.kind refl
+    where
+      go : (kind : ItemKind) → x.kind ≡ kind → IsFree place (item_then kind x after)
+      go (Autolink uri) e = k
+      go (Delimiters run) e = (subst (λ q. FreeBy q place x.start x.end) (sym e) cut, k)
+        where
+          cut : x.start < place → place ≤ x.end → ⊥
+          cut a b =
+              let s = pipe.some in
+              let other : (get_or reader.source (place - 1) 0 == 124) ≡ false = (subst (λ q. Uncut reader leaf size turn within lines q x.start x.end) e u) (place - 1) (omega arith) (omega arith) in
+              true≢false (sym (ap (λ b. b == 124) pipe.pipe) ∙ other)
+      go Plain e = (subst (λ q. FreeBy q place x.start x.end) (sym e) tt, k)
+      go Own e = (subst (λ q. FreeBy q place x.start x.end) (sym e) tt, k)
+      go (Written text) e = (subst (λ q. FreeBy q place x.start x.end) (sym e) tt, k)
+      go (Quoted quote) e = (subst (λ q. FreeBy q place x.start x.end) (sym e) tt, k)
+      go (Code text) e = (subst (λ q. FreeBy q place x.start x.end) (sym e) tt, k)
+      go (InlineMath text) e = (subst (λ q. FreeBy q place x.start x.end) (sym e) tt, k)
+      go (DisplayMath text) e = (subst (λ q. FreeBy q place x.start x.end) (sym e) tt, k)
+      go Html e = (subst (λ q. FreeBy q place x.start x.end) (sym e) tt, k)
+      go (OwnedHtml text) e = (subst (λ q. FreeBy q place x.start x.end) (sym e) tt, k)
+      go (FootnoteReference label) e = (subst (λ q. FreeBy q place x.start x.end) (sym e) tt, k)
+      go SoftBreak e = (subst (λ q. FreeBy q place x.start x.end) (sym e) tt, k)
+      go HardBreak e = (subst (λ q. FreeBy q place x.start x.end) (sym e) tt, k)
+
+  footnote_free : (place : ℕ) (is_image : Bool) (start : ℕ) (label : List ℕ) (end : ℕ) (others : Inline) → IsFree place others → IsFree place (footnote_then is_image start label end others)
+  footnote_free place true start label end others k = (tt, (tt, k))
+  footnote_free place false start label end others k = (tt, k)
+
+  parts_free : (place : ℕ) → Pipe place → (parts : Parts) → OfItems UncutItem parts → IsFree place (siblings_of reader.options parts)
+  parts_free place pipe NoParts u = tt
+  parts_free place pipe (SinglePart x after) u = item_free place pipe x (siblings_of reader.options after) u.0 (parts_free place pipe after u.1)
+  parts_free place pipe (Form opener inside closer (Linking target) after) u = parts_free place pipe after u.1
+  parts_free place pipe (Form opener inside closer (Footnote label end) after) u = footnote_free place opener.is_image opener.start label end (siblings_of reader.options after) (parts_free place pipe after u.1)
+  parts_free place pipe (Form opener inside closer (Wiki name None end) after) u = parts_free place pipe after u.1
+  parts_free place pipe (Form opener inside closer (Wiki name (Some display) end) after) u = parts_free place pipe after u.1
+  parts_free place pipe (Closing closer after) u = (tt, parts_free place pipe after u)
+  parts_free place pipe (Opening opener after) u = (tt, parts_free place pipe after u)
+
+  siblings_order : (from : ℕ) (parts : Parts) (to : ℕ) → StandBetween from parts to → OfItems FillsItem parts → OfItems UncutItem parts → HavePipes reader parts → HaveGaps parts
+      → SiblingOrder Pipe from (siblings_of reader.options parts) to
+  siblings_order from NoParts to h f u g w = h
+  siblings_order from (SinglePart x after) to h f u g w = item_order Pipe from x (siblings_of reader.options after) to h.0 h.1 f.0 (siblings_order x.end after to h.2 f.1 u.1 g w)
+  siblings_order from (Form opener inside closer (Linking target) after) to h f u g w =
       let a = h.1 in let b = h.3 in let c = h.4 in let d = part_up opener.end inside closer.start h.2 in
-      footnote_order opener.is_image from opener.start label end (siblings_of reader.options after) to h.0 (omega arith) (siblings_order end after to h.5 f.1 g.2 w.2)
-  siblings_order from (Form opener inside closer (Wiki name None end) after) to h f g w =
+      let inner = dress-order Pipe reader.options opener.end (siblings_of reader.options inside) closer.start (siblings_order opener.end inside closer.start h.2 f.0 u.0 g.1 w.1) in (
+        opener.start,
+        h.0,
+        inl refl,
+        omega arith,
+        inline-wide Pipe opener.start opener.end (dress reader.options (siblings_of reader.options inside)) closer.start target.end a (omega arith) inner,
+        siblings_order target.end after to h.5 f.1 u.1 g.2 w.2,
+      )
+  siblings_order from (Form opener inside closer (Footnote label end) after) to h f u g w =
+      let a = h.1 in let b = h.3 in let c = h.4 in let d = part_up opener.end inside closer.start h.2 in
+      footnote_order Pipe opener.is_image from opener.start label end (siblings_of reader.options after) to h.0 (omega arith) (siblings_order end after to h.5 f.1 u.1 g.2 w.2)
+  siblings_order from (Form opener inside closer (Wiki name None end) after) to h f u g w =
       let a = h.1 in let b = h.3 in let c = h.4 in let d = w.0 in
-      (h.0, (omega arith, omega arith, omega arith), siblings_order end after to h.5 f.1 g.2 w.2)
-  siblings_order from (Form opener inside closer (Wiki name (Some place) end) after) to h f g w = absurd (let e = g.0 in let d : ⊥ = cc in d)
-  siblings_order from (Closing closer after) to h f g w = (h.0, (let b = h.1 in omega arith), tt, siblings_order closer.end after to h.2 f g w)
-  siblings_order from (Opening opener after) to h f g w = (h.0, h.1, tt, siblings_order opener.end after to h.2 f g w)
+      (opener.start, h.0, inl refl, omega arith, (omega arith, omega arith, omega arith), siblings_order end after to h.5 f.1 u.1 g.2 w.2)
+  siblings_order from (Form opener inside closer (Wiki name (Some place) end) after) to h f u g w =
+      let a = h.1 in let b = h.3 in let c = h.4 in let d = part_up opener.end inside closer.start h.2 in
+      let display = display_from place closer.start (siblings_of reader.options inside) in
+      let inner = dress-order Pipe reader.options opener.end display closer.start
+      (display_order Pipe place closer.start g.0.0 opener.end (siblings_of reader.options inside) d (siblings_order opener.end inside closer.start h.2 f.0 u.0 g.1 w.1) (parts_free place g.0.0 inside u.0)) in
+      (opener.start, h.0, inl refl, omega arith, inline-wide Pipe opener.start opener.end (dress reader.options display) closer.start end a (omega arith) inner, siblings_order end after to h.5 f.1 u.1 g.2 w.2)
+  siblings_order from (Closing closer after) to h f u g w = (h.0, (let b = h.1 in omega arith), tt, siblings_order closer.end after to h.2 f u g w)
+  siblings_order from (Opening opener after) to h f u g w = (h.0, h.1, tt, siblings_order opener.end after to h.2 f u g w)
 
-  pub spans-order : (from : ℕ) (parts : Parts) (to : ℕ) → StandBetween from parts to → OfItems FillsItem parts → AllFormed IsUndisplayed parts → HaveGaps parts
-      → InlineOrder from (spans_in reader.options parts) to
-  spans-order from parts to h f g w = dress-order reader.options from (siblings_of reader.options parts) to (siblings_order from parts to h f g w)
+  pub spans-order : (from : ℕ) (parts : Parts) (to : ℕ) → StandBetween from parts to → OfItems FillsItem parts → OfItems UncutItem parts → HavePipes reader parts → HaveGaps parts
+      → InlineOrder Pipe from (spans_in reader.options parts) to
+  spans-order from parts to h f u g w = dress-order Pipe reader.options from (siblings_of reader.options parts) to (siblings_order from parts to h f u g w)

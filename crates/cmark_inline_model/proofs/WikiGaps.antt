@@ -1,19 +1,15 @@
--- Between the brackets of a wikilink stands another one, and where a text has no pipe no wikilink has a display.
-use Rattle.std.specs.Prelude.{zero, suc, ◌-◌, ◌==◌, if◌then◌else◌, drop, take}
-use Rattle.std.proofs.Common.{◌≡◌, inl, inr, ℕ, ◌+◌, ◌<◌, ◌≤◌, Bool, true, false, List, [], ◌∷◌, Some, None, refl, sym, ap, subst, arith, ◌∙◌}
-use Rattle.cmark_grammar.specs.BracketDecisions.{behind_pipe, wiki_text, decide}
+-- Between the brackets of a wikilink stands another one.
+use Rattle.std.proofs.Common.{◌≡◌, ℕ, ◌+◌, ◌<◌, ◌≤◌, List, sym, ap, subst, arith}
+use Rattle.cmark_grammar.specs.BracketDecisions.{decide}
 use Rattle.cmark_grammar.specs.BracketReading.{Reads}
 use Rattle.cmark_grammar.specs.BracketStates.{State, moved, opened, Result, StaysText, Forms, Outcome, Decision}
 use Rattle.cmark_grammar.specs.Items.{Bracket, Token}
 use Rattle.cmark_grammar.specs.LeafText.{Leaf}
-use Rattle.cmark_grammar.specs.OpenBrackets.{Taken}
 use Rattle.cmark_grammar.specs.Parts.{Formed, Linking, Footnote, Wiki, Parts, Nil, Single, Form, Closing, Opening, openings}
 use Rattle.cmark_grammar.specs.Questions.{Exchange, Saying}
 use Rattle.cmark_grammar.specs.Readers.{Reader}
-use Rattle.cmark_inline_model.specs.FormedParts.{ResultHolds, FormsOnly}
 use Rattle.cmark_inline_model.specs.PartRanges.{KeepsRanges}
 use Rattle.cmark_inline_model.specs.Progress.{Always, IsForward}
-use Rattle.cmark_inline_model.specs.ReadingRanges.{HasNo, HasNoDisplays}
 use Rattle.cmark_inline_model.proofs.DecisionLaws.{always-by}
 use Rattle.cmark_inline_model.proofs.DecisionShape.{Shape, Stays, ToInline, ToReference, ToFootnote, ToWiki}
 use Rattle.cmark_inline_model.proofs.LinkNesting.{always-comes}
@@ -83,33 +79,6 @@ module _ (token : ℕ → Token) (decide : State → (closer : Bracket) → Deci
   reading-gaps far s (Closing closer after) t h = reading-gaps far h.next after t h.after
   reading-gaps far s (Opening opener after) t h = reading-gaps far (opened opener s) after t h.1
 
--- ## No pipe, no display
-
-abbrev pub IsUndisplayed : Formed → Type 0
-IsUndisplayed (Linking target) = Unit {0}
-IsUndisplayed (Footnote label end) = Unit {0}
-IsUndisplayed (Wiki name display end) = display ≡ None
-
-take_no : (byte n : ℕ) (bs : List ℕ) → HasNo byte bs → HasNo byte (take n bs)
-take_no byte zero [] h = tt
-take_no byte zero (b ∷ bs) h = tt
-take_no byte (suc n) [] h = tt
-take_no byte (suc n) (b ∷ bs) h = (h.0, take_no byte n bs h.1)
-
-drop_no : (byte n : ℕ) (bs : List ℕ) → HasNo byte bs → HasNo byte (drop n bs)
-drop_no byte zero [] h = tt
-drop_no byte zero (b ∷ bs) h = h
-drop_no byte (suc n) [] h = tt
-drop_no byte (suc n) (b ∷ bs) h = drop_no byte n bs h.1
-
-no_pipe : (at : ℕ) (bs : List ℕ) → HasNo 124 bs → behind_pipe at bs ≡ None
-no_pipe at [] h = refl
-no_pipe at (b ∷ bs) h = go (b == 124) h.0 (no_pipe (suc at) bs h.1)
-  where
-    go : (x : Bool) → x ≡ false → behind_pipe (suc at) bs ≡ None → (if x then Some (suc at) else behind_pipe (suc at) bs) ≡ None
-    go true e k = absurd (let d : ⊥ = cc in d)
-    go false e k = k
-
 module _ (reader : Reader) (leaf : Leaf) where
   shape_far : (s : State) (closer : Bracket) (asked : List Exchange) (o : Outcome) → Shape reader leaf s closer asked o → IsFarResult o.result
   shape_far s closer asked o (Stays label os h e) = subst (λ (x : Outcome). IsFarResult x.result) (sym e) tt
@@ -120,26 +89,3 @@ module _ (reader : Reader) (leaf : Leaf) where
 
   pub decide-far : (s : State) (closer : Bracket) → Always (λ o. IsFarResult o.result) (decide reader leaf s closer)
   decide-far s closer = always-by reader leaf s closer (λ o. IsFarResult o.result) (shape_far s closer)
-
-  module _ (none : HasNoDisplays reader.options reader.source) where
-    abbrev Undisplayed : Outcome → Type 0
-    Undisplayed o = ResultHolds IsUndisplayed o.result
-
-    no_display : (closer : Bracket) (first : Taken) → reader.options.wikilinks ≡ true → behind_pipe (suc first.opener.bracket.end) (wiki_text reader leaf first closer) ≡ None
-    no_display closer first on = go none
-      where
-        go : HasNoDisplays reader.options reader.source → behind_pipe (suc first.opener.bracket.end) (wiki_text reader leaf first closer) ≡ None
-        go (inl off) = absurd (let e : true ≡ false = sym on ∙ off in let d : ⊥ = cc in d)
-        go (inr h) =
-            no_pipe (suc first.opener.bracket.end) (wiki_text reader leaf first closer)
-            (take_no 124 (closer.start - suc first.opener.bracket.end) (drop (suc first.opener.bracket.end) reader.source) (drop_no 124 (suc first.opener.bracket.end) reader.source h))
-
-    shape_undisplayed : (s : State) (closer : Bracket) (asked : List Exchange) (o : Outcome) → Shape reader leaf s closer asked o → Undisplayed o
-    shape_undisplayed s closer asked o (Stays label os h e) = subst Undisplayed (sym e) tt
-    shape_undisplayed s closer asked o (ToInline label os taken tail h t found e) = subst Undisplayed (sym e) tt
-    shape_undisplayed s closer asked o (ToReference label os taken named link_type found h t n some l e) = subst Undisplayed (sym e) tt
-    shape_undisplayed s closer asked o (ToFootnote label os taken name h t on e) = subst Undisplayed (sym e) tt
-    shape_undisplayed s closer asked o (ToWiki label os first far h t on next e) = subst Undisplayed (sym e) (no_display closer first on)
-
-    pub forms-undisplayed : FormsOnly (λ asked. IsUndisplayed) (decide reader leaf)
-    forms-undisplayed = record { forms = λ s closer. always-by reader leaf s closer Undisplayed (shape_undisplayed s closer) }

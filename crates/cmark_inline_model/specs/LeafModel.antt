@@ -1,12 +1,13 @@
 -- The events of leaves and of whole texts as functions of a plan of answers.
-use Rattle.std.specs.Prelude.{ℕ, List, [], ◌∷◌, ◌++◌}
+use Rattle.std.specs.Prelude.{◌≡◌, ◌⊎◌, ℕ, ◌-◌, ◌<◌, false, List, [], ◌∷◌, ◌++◌, get_or}
 use Rattle.cmark_grammar.specs.BracketDecisions.{decide}
 use Rattle.cmark_grammar.specs.BracketStates.{State}
 use Rattle.cmark_grammar.specs.Event.{Ranged}
 use Rattle.cmark_grammar.specs.InlineReading.{inline_events}
 use Rattle.cmark_grammar.specs.InlineTokens.{token}
 use Rattle.cmark_grammar.specs.LeafReading.{Between, entering, leaving}
-use Rattle.cmark_grammar.specs.LeafText.{Leaf, end_of, InTurn}
+use Rattle.cmark_grammar.specs.LeafText.{Stretch, Leaf, end_of, InTurn}
+use Rattle.cmark_grammar.specs.Lines.{is_content}
 use Rattle.cmark_grammar.specs.Parts.{Parts}
 use Rattle.cmark_grammar.specs.Questions.{Plan}
 use Rattle.cmark_grammar.specs.Readers.{Reader}
@@ -41,3 +42,17 @@ abbrev pub AreLeavesInTurn : (size : ℕ) → List Segment → Type 0
 AreLeavesInTurn size [] = Unit {0}
 AreLeavesInTurn size (Given r ∷ others) = AreLeavesInTurn size others
 AreLeavesInTurn size (Content leaf ∷ others) = InTurn 0 leaf.stretches size × AreLeavesInTurn size others
+
+-- a line feed or a carriage return stands directly before this place
+abbrev pub EndsLine : (source : List ℕ) → (at : ℕ) → Type 0
+EndsLine source at = (0 < at) × (is_content (get_or source (at - 1) 0) ≡ false)
+
+-- each of these stretches has some bytes, and each but the last ends with a line ending
+abbrev pub HaveLineEnds : (source : List ℕ) → List Stretch → Type 0
+HaveLineEnds source [] = Unit {0}
+HaveLineEnds source (s ∷ more) = (s.start < s.end) × ((more ≡ []) ⊎ EndsLine source s.end) × HaveLineEnds source more
+
+abbrev pub AreLeavesOfLines : (source : List ℕ) → List Segment → Type 0
+AreLeavesOfLines source [] = Unit {0}
+AreLeavesOfLines source (Given r ∷ others) = AreLeavesOfLines source others
+AreLeavesOfLines source (Content leaf ∷ others) = HaveLineEnds source leaf.stretches × AreLeavesOfLines source others

@@ -1,4 +1,5 @@
 pub mod BracketPass
+pub mod CutRanges
 pub mod Expansion
 pub mod FormedParts
 pub mod LeafModel

@@ -28,6 +28,6 @@ abbrev pub HasNo : (byte : ℕ) → List ℕ → Type 0
 HasNo byte [] = Unit {0}
 HasNo byte (b ∷ bs) = ((b == byte) ≡ false) × HasNo byte bs
 
--- no wikilink shows what stands behind a pipe (this profile's own): none are read, or the text has no pipe
+-- no wikilink shows what stands behind a pipe: none are read, or the text has no pipe
 abbrev pub HasNoDisplays : Options → List ℕ → Type 0
 HasNoDisplays options text = (options.wikilinks ≡ false) ⊎ HasNo 124 text

@@ -17,7 +17,7 @@ ghost use Rattle.cmark_grammar.specs.References.{first_with, references};
 ghost use Rattle.cmark_grammar.specs.Siblings.{AreSpans, Inline};
 ghost use Rattle.cmark_grammar.specs.SiblingsModel.{spans_in};
 ghost use Rattle.cmark_grammar.specs.SpanDocuments.{Content, Given, IsReading, Left, Profile, Segment, reader_of, segments};
-ghost use Rattle.cmark_inline_model.specs.LeafModel.{AreLeavesInTurn};
+ghost use Rattle.cmark_inline_model.specs.LeafModel.{AreLeavesInTurn, AreLeavesOfLines};
 ghost use Rattle.cmark_grammar.specs.BracketReading.{Reads, ReadsWhole};
 ghost use Rattle.cmark_grammar.specs.BracketStates.{Decision, State};
 ghost use Rattle.cmark_grammar.specs.Items.{Bracket, Token};
@@ -143,6 +143,12 @@ pub fn leaves_keep_their_places()
 pub fn leaves_stand_in_order()
     ensures { (text : List ℕ) (options : Options) (lookup : Lookup) (document : BlockDocument)
         → Derives text options lookup document → AreLeavesInTurn (length text) (segments document) }
+{}
+
+/// The leaves of a text consist of lines: each stretch has some bytes, and each but the last ends with a line ending.
+pub fn leaves_consist_of_lines()
+    ensures { (text : List ℕ) (options : Options) (lookup : Lookup) (document : BlockDocument)
+        → Derives text options lookup document → AreLeavesOfLines text (segments document) }
 {}
 
 /// What the grammar decides about a closing bracket records its question, sees no earlier one, and keeps links apart and the

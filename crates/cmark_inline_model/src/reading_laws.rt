@@ -16,6 +16,7 @@ ghost use Rattle.cmark_grammar.specs.Parts.{Parts};
 ghost use Rattle.cmark_grammar.specs.Questions.{AnyAnswer, Exchange, IsNext};
 ghost use Rattle.cmark_grammar.specs.Readers.{Reader};
 ghost use Rattle.cmark_grammar.specs.SpanDocuments.{IsReading, Profile, ReadsAll, Segment, at_start, reader_of, segments};
+ghost use Rattle.cmark_inline_model.specs.CutRanges.{InPlaceButCut};
 ghost use Rattle.cmark_inline_model.specs.LinkRules.{IsQuestion};
 ghost use Rattle.cmark_inline_model.specs.OptionRules.{AllItems, AreGiven, IsRead};
 ghost use Rattle.cmark_inline_model.specs.ReadingLinks.{AreLed, LinksApart, reference_costs};
@@ -41,11 +42,14 @@ pub fn references_stay_below_the_limit()
         → IsReading text profile exchanges events → reference_costs [] events ≡ front ++ (last ∷ []) → sum front < profile.expansion_limit }
 {}
 
-/// The ranges of events stand in the text, one behind the other, and the range of each element around those of what is inside it.
-/// Said of texts that are read without wikilinks, or have no `|`: what a wikilink shows behind a pipe may begin inside an image, whose
-/// own text then begins before it.
+/// The ranges of events stand in the text, one behind the other, and the range of each element around those of what is inside it
+/// (`cut`). What a wikilink shows behind its pipe may begin inside an element, as an image: that element begins behind the pipe, and
+/// what is inside it where the element would begin without the pipe. No other element does (`uncut`): where a text is read without
+/// wikilinks, or has no `|`, the inside of each lies in its range.
 pub fn ranges_stand_in_order()
-    ensures { (text : List ℕ) (profile : Profile) (exchanges : List Exchange) (events : List Ranged)
+    ensures cut { (text : List ℕ) (profile : Profile) (exchanges : List Exchange) (events : List Ranged)
+        → IsReading text profile exchanges events → InPlaceButCut profile.options text 0 events (length text) }
+    ensures uncut { (text : List ℕ) (profile : Profile) (exchanges : List Exchange) (events : List Ranged)
         → HasNoDisplays profile.options text → IsReading text profile exchanges events → InPlace 0 events (length text) }
 {}
 

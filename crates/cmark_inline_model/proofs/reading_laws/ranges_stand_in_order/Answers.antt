@@ -1,5 +1,9 @@
-use Rattle.cmark_inline_model.proofs.ReadingOrders.{reading-placed}
+use Rattle.std.proofs.Common.{length}
+use Rattle.cmark_inline_model.proofs.ReadingOrders.{reading-placed, uncut}
 use Rattle.cmark_inline_model.proofs.reading_laws.ranges_stand_in_order.Goals as goal
 
-pub returns : goal.returns
-returns c = reading-placed
+pub returns-clause-cut : goal.returns-clause-cut
+returns-clause-cut c = reading-placed
+
+pub returns-clause-uncut : goal.returns-clause-uncut
+returns-clause-uncut c text profile exchanges events none h = uncut profile.options text none 0 events (length text) (reading-placed text profile exchanges events h)

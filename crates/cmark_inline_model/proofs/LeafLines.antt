@@ -1,0 +1,279 @@
+-- In the leaves of a document that is derived each stretch but the last ends with a line ending.
+use Rattle.std.specs.Prelude.{◌-◌, ◌==◌, nat_lt, if◌then◌else◌, get_or}
+use Rattle.std.proofs.Common.{◌≡◌, ◌⊎◌, inl, inr, ⊎_elim, ℕ, ◌+◌, ◌<◌, Bool, true, false, not, ◌&&◌, ◌||◌, List, [], ◌∷◌, ◌++◌, length, refl, sym, ap, ◌∙◌, subst, arith, append_assoc, Option, Some, None, true≢false, length-append, get_or-append-add}
+use Rattle.cmark_grammar.specs.Answers.{Lookup}
+use Rattle.cmark_grammar.specs.BlockDocument.{BlockKind, ListItem, Text, OwnedText, Html, BlockNode, BlockDocument, Nil, Node, node}
+use Rattle.cmark_grammar.specs.BlockReading.{Reads, Around, Inside, Alone, Silent, read_as}
+use Rattle.cmark_grammar.specs.Blocks.{Blocks, Nil as NoBlocks, BlankLine, Paragraph as ParagraphBlock, SetextHeading, LeafBlock, ContainerBlock, may_lazy, Body}
+use Rattle.cmark_grammar.specs.Containers.{Container, Quote, Item, enter, strips, is_bare_start, insides}
+use Rattle.cmark_grammar.specs.Derivation.{leaf_then, item_then, document_of, Derives}
+use Rattle.cmark_grammar.specs.Lines.{lines, ends_line, onto, is_content, line_feed, carriage_return, begins_with_line_feed}
+use Rattle.cmark_grammar.specs.Lists.{ListBefore, tight_behind, goes_on}
+use Rattle.cmark_grammar.specs.Openings.{Leaf, ThematicBreak as ThematicBreakLeaf, AtxHeading as AtxHeadingLeaf, IndentedCode as IndentedCodeLeaf, FencedCode as FencedCodeLeaf, HtmlBlock as HtmlBlockLeaf, LinkDefinition as LinkDefinitionLeaf}
+use Rattle.cmark_grammar.specs.Options.{Options}
+use Rattle.cmark_grammar.specs.Rows.{Row, rows, rows_from, first_place, begin_of, start_of, past_of}
+use Rattle.cmark_grammar.specs.SpanDocuments.{Segment, Given, Content, stretches_of, leaf_of, is_leaf, inside_of, node_segments, segments}
+use Rattle.cmark_grammar.specs.Tokens.{texts_then, Piece, text_kind_of, html_kind_of, html_then, code_tokens, html_tokens, fenced_lines, piece_if, stretch_then, stretches, end_place, words_end, paragraph_tokens, heading_tokens, behind_hashes, heading_columns, slice}
+use Rattle.cmark_grammar.proofs.BoundaryLaws.{joined}
+use Rattle.cmark_grammar.proofs.RowPlaces.{strip-past}
+use Rattle.cmark_inline_model.specs.LeafModel.{EndsLine, HaveLineEnds, AreLeavesOfLines}
+
+-- ## Lines
+
+-- a line feed or a carriage return is its last byte
+abbrev LastEnds : List ℕ → Type 0
+LastEnds [] = ⊥
+LastEnds (b ∷ []) = is_content b ≡ false
+LastEnds (b ∷ (c ∷ bs)) = LastEnds (c ∷ bs)
+
+abbrev AreLines : List (List ℕ) → Type 0
+AreLines [] = Unit {0}
+AreLines (l ∷ ls) = ((ls ≡ []) ⊎ LastEnds l) × AreLines ls
+
+last_more : (b : ℕ) (l : List ℕ) → LastEnds l → LastEnds (b ∷ l)
+last_more b [] a = absurd (let z : ⊥ = a in z)
+last_more b (c ∷ l) a = a
+
+onto_lines : (b : ℕ) (ls : List (List ℕ)) → AreLines ls → AreLines (onto b ls)
+onto_lines b [] e = (inl refl, tt)
+onto_lines b (l ∷ ls) e = (⊎_elim inl (λ a. inr (last_more b l a)) e.0, e.1)
+
+onto_joined : (b : ℕ) (ls : List (List ℕ)) → joined (onto b ls) ≡ b ∷ joined ls
+onto_joined b [] = refl
+onto_joined b (l ∷ ls) = refl
+
+no_content : (b : ℕ) (bs : List ℕ) → ends_line b bs ≡ true → is_content b ≡ false
+no_content b bs e = go (b == line_feed) (b == carriage_return) (begins_with_line_feed bs) e
+  where
+    go : (x y z : Bool) → (x || (y && not z)) ≡ true → (not x && not y) ≡ false
+    go true y z e = refl
+    go false true z e = refl
+    go false false z e = absurd (true≢false (sym e))
+
+lines_are : (bs : List ℕ) → AreLines (lines bs) × (joined (lines bs) ≡ bs)
+lines_are [] = (tt, refl)
+lines_are (b ∷ bs) = go (ends_line b bs) refl (lines_are bs)
+  where
+    go : (z : Bool) → ends_line b bs ≡ z → AreLines (lines bs) × (joined (lines bs) ≡ bs) → AreLines (if z then (b ∷ []) ∷ lines bs else onto b (lines bs)) × (joined (if z then (b ∷ []) ∷ lines bs else onto b (lines bs)) ≡ b ∷ bs)
+    go true e h = ((inr (no_content b bs e), h.0), ap (λ t. b ∷ t) h.1)
+    go false e h = (onto_lines b (lines bs) h.0, onto_joined b (lines bs) ∙ ap (λ t. b ∷ t) h.1)
+
+-- ## Rows
+
+-- each row but the last ends with a line ending
+abbrev RowsEnd : List ℕ → List Row → Type 0
+RowsEnd text [] = Unit {0}
+RowsEnd text (r ∷ rs) = ((rs ≡ []) ⊎ EndsLine text r.past) × RowsEnd text rs
+
+rows_split : (text : List ℕ) (a b : List Row) → RowsEnd text (a ++ b) → RowsEnd text a × RowsEnd text b
+rows_split text [] b h = (tt, h)
+rows_split text (r ∷ []) b h = ((inl refl, tt), h.1)
+rows_split text (r ∷ (s ∷ a)) b h = let i = rows_split text (s ∷ a) b h.1 in ((⊎_elim (λ e. absurd (let d : ⊥ = cc in d)) inr h.0, i.0), i.1)
+
+rows_strip : (text : List ℕ) (k : Container) (bare : Bool) (rs : List Row) → RowsEnd text rs → RowsEnd text (strips k bare rs)
+rows_strip text k bare [] h = tt
+rows_strip text k bare (r ∷ []) h = (inl refl, tt)
+rows_strip text k bare (r ∷ (s ∷ rs)) h =
+    (⊎_elim (λ e. absurd (let d : ⊥ = cc in d)) (λ e. inr (subst (EndsLine text) (sym (strip-past k bare r)) e)) h.0, rows_strip text k false (s ∷ rs) h.1)
+
+rows_inside : (text : List ℕ) (k : Container) (first : Row) (more : List Row) → RowsEnd text (first ∷ more) → RowsEnd text (insides k first more)
+unfolding enter
+rows_inside text k first [] h = (inl refl, tt)
+rows_inside text k first (r ∷ more) h = (⊎_elim (λ e. absurd (let d : ⊥ = cc in d)) inr h.0, rows_strip text k (is_bare_start k first) (r ∷ more) h.1)
+
+last_ends : (text before line after : List ℕ) → text ≡ before ++ (line ++ after) → LastEnds line → EndsLine text (length before + length line)
+last_ends text before [] after e a = absurd (let z : ⊥ = a in z)
+last_ends text before (b ∷ []) after e a =
+    let z : length before + 0 ≡ (length before + 1) - 1 = omega arith in
+    let byte : get_or text ((length before + 1) - 1) 0 ≡ b = ap (λ t. get_or t ((length before + 1) - 1) 0) e ∙ ap (λ i. get_or (before ++ (b ∷ after)) i 0) (sym z) ∙ get_or-append-add before (b ∷ after) 0 0 in
+    (omega arith, ap is_content byte ∙ a)
+last_ends text before (b ∷ (c ∷ line)) after e a =
+    let i = last_ends text (before ++ b ∷ []) (c ∷ line) after (e ∙ sym (append_assoc before (b ∷ []) ((c ∷ line) ++ after))) a in
+    let l = length-append before (b ∷ []) in
+    let s : length (before ++ b ∷ []) + length (c ∷ line) ≡ length before + length (b ∷ (c ∷ line)) = omega arith in
+    subst (EndsLine text) s i
+
+rows_of_lines : (text before : List ℕ) (ls : List (List ℕ)) (at : ℕ) → text ≡ before ++ joined ls → length before ≡ at → AreLines ls → RowsEnd text (rows_from at ls)
+rows_of_lines text before [] at e l h = tt
+rows_of_lines text before (line ∷ []) at e l h = (inl refl, tt)
+rows_of_lines text before (line ∷ (next ∷ ls)) at e l h = (
+  ⊎_elim (λ n. absurd (let d : ⊥ = cc in d)) (λ a. inr (subst (λ n. EndsLine text (n + length line)) l (last_ends text before line (joined (next ∷ ls)) e a))) h.0,
+  rows_of_lines text (before ++ line) (next ∷ ls) (at + length line) (e ∙ sym (append_assoc before line (joined (next ∷ ls)))) (length-append before line ∙ ap (λ n. n + length line) l) h.1,
+)
+
+rows_end : (text : List ℕ) → RowsEnd text (rows text)
+rows_end text = let h = lines_are text in rows_of_lines text [] (lines text) 0 (sym h.1) refl h.0
+
+-- ## Documents
+
+-- the paragraphs and headings of a document are of such lines
+abbrev AreOfLines : List ℕ → BlockDocument → Type 0
+AreOfLines text Nil = Unit {0}
+AreOfLines text (Node node inside after) = (is_leaf node.kind ≡ true → HaveLineEnds text (stretches_of inside)) × AreOfLines text inside × AreOfLines text after
+
+no_leaf : (text : List ℕ) (inside : BlockDocument) → false ≡ true → HaveLineEnds text (stretches_of inside)
+no_leaf text inside e = absurd (true≢false (sym e))
+
+-- texts are no leaves
+abbrev AreTexts : BlockDocument → Type 0
+AreTexts Nil = Unit {0}
+AreTexts (Node node inside after) = (is_leaf node.kind ≡ false) × (inside ≡ Nil) × AreTexts after
+
+texts_of_lines : (text : List ℕ) (document : BlockDocument) → AreTexts document → AreOfLines text document
+texts_of_lines text Nil h = tt
+texts_of_lines text (Node node inside after) h =
+    ((λ e. absurd (true≢false (sym e ∙ h.0))), subst (AreOfLines text) (sym h.1) tt, texts_of_lines text after h.2)
+
+text_kind : (p : Piece) → is_leaf (text_kind_of p) ≡ false
+text_kind p = go p.owned
+  where
+    go : (b : Bool) → is_leaf (if b then OwnedText p.bytes else Text p.bytes) ≡ false
+    go true = refl
+    go false = refl
+
+html_kind : (p : Piece) → is_leaf (html_kind_of p) ≡ false
+html_kind p = go p.owned
+  where
+    go : (b : Bool) → is_leaf (if b then OwnedText p.bytes else Html p.bytes) ≡ false
+    go true = refl
+    go false = refl
+
+pieces_are_texts : (ps : List Piece) (after : BlockDocument) → AreTexts after → AreTexts (texts_then ps after)
+pieces_are_texts [] after h = h
+pieces_are_texts (p ∷ ps) after h = (text_kind p, refl, pieces_are_texts ps after h)
+
+html_are_texts : (ps : List Piece) (after : BlockDocument) → AreTexts after → AreTexts (html_then ps after)
+html_are_texts [] after h = h
+html_are_texts (p ∷ ps) after h = (html_kind p, refl, html_are_texts ps after h)
+
+stretches_are_texts : (text : List ℕ) (begin : ℕ) (r : Row) (more : List Row) → AreTexts (stretches text begin r more)
+stretches_are_texts text begin r [] = pieces_are_texts (piece_if text begin (words_end r) []) Nil tt
+stretches_are_texts text begin r (s ∷ more) = go (begin_of s == r.past) (stretches_are_texts text begin s more) (stretches_are_texts text (begin_of s) s more)
+  where
+    go : (z : Bool) → AreTexts (stretches text begin s more) → AreTexts (stretches text (begin_of s) s more)
+        → AreTexts (if z then stretches text begin s more else stretch_then text begin r.past (stretches text (begin_of s) s more))
+    go true p q = p
+    go false p q = pieces_are_texts (piece_if text begin r.past []) (stretches text (begin_of s) s more) q
+
+stretch_ends : (text : List ℕ) (start end : ℕ) (after : BlockDocument) → (stretches_of after ≡ []) ⊎ EndsLine text end → HaveLineEnds text (stretches_of after) → HaveLineEnds text (stretches_of (stretch_then text start end after))
+stretch_ends text start end after e h = go (nat_lt start end) refl
+  where
+    go : (z : Bool) → nat_lt start end ≡ z → HaveLineEnds text (stretches_of (texts_then (if z then record { owned = false; bytes = slice text start end; start = start; end = end } ∷ [] else []) after))
+    go true q = ((let l : start < end = grind (arith) in l), e, h)
+    go false q = h
+
+stretches_end : (text : List ℕ) (begin : ℕ) (r : Row) (more : List Row) → RowsEnd text (r ∷ more) → HaveLineEnds text (stretches_of (stretches text begin r more))
+stretches_end text begin r [] h = stretch_ends text begin (words_end r) Nil (inl refl) tt
+stretches_end text begin r (s ∷ more) h = go (begin_of s == r.past) (stretches_end text begin s more h.1) (stretches_end text (begin_of s) s more h.1)
+  where
+    go : (z : Bool) → HaveLineEnds text (stretches_of (stretches text begin s more)) → HaveLineEnds text (stretches_of (stretches text (begin_of s) s more))
+        → HaveLineEnds text (stretches_of (if z then stretches text begin s more else stretch_then text begin r.past (stretches text (begin_of s) s more)))
+    go true p q = p
+    go false p q = stretch_ends text begin r.past (stretches text (begin_of s) s more) (⊎_elim (λ n. absurd (let d : ⊥ = cc in d)) inr h.0) q
+
+heading_ends : (text : List ℕ) (level : ℕ) (r : Row) → HaveLineEnds text (stretches_of (heading_tokens text level r))
+heading_ends text level r =
+    stretch_ends text (first_place r.stop (behind_hashes level r)) (end_place (first_place r.stop (behind_hashes level r)) (heading_columns level r)) Nil (inl refl) tt
+
+heading_are_texts : (text : List ℕ) (level : ℕ) (r : Row) → AreTexts (heading_tokens text level r)
+heading_are_texts text level r =
+    let start = first_place r.stop (behind_hashes level r) in pieces_are_texts (piece_if text start (end_place start (heading_columns level r)) []) Nil tt
+
+html_tokens_are_texts : (text : List ℕ) (rows : List Row) → AreTexts (html_tokens text rows)
+html_tokens_are_texts text [] = tt
+html_tokens_are_texts text (r ∷ more) = html_are_texts _ (html_tokens text more) (html_tokens_are_texts text more)
+
+leaf_of_lines : (text : List ℕ) (lookup : Lookup) (leaf : Leaf) (first : Row) (more : List Row) (after : BlockDocument) → AreOfLines text after → AreOfLines text (leaf_then text lookup leaf first more after)
+leaf_of_lines text lookup ThematicBreakLeaf first more after a = (no_leaf text Nil, tt, a)
+leaf_of_lines text lookup (AtxHeadingLeaf level) first more after a = ((λ e. heading_ends text level first), texts_of_lines text (heading_tokens text level first) (heading_are_texts text level first), a)
+leaf_of_lines text lookup IndentedCodeLeaf first more after a =
+    let inside = code_tokens text 4 (first ∷ more) in (no_leaf text inside, texts_of_lines text inside (pieces_are_texts _ Nil tt), a)
+leaf_of_lines text lookup (FencedCodeLeaf fence) first more after a =
+    let inside = code_tokens text fence.indented (fenced_lines fence more) in (no_leaf text inside, texts_of_lines text inside (pieces_are_texts _ Nil tt), a)
+leaf_of_lines text lookup (HtmlBlockLeaf kind) first more after a =
+    let inside = html_tokens text (first ∷ more) in (no_leaf text inside, texts_of_lines text inside (html_tokens_are_texts text (first ∷ more)), a)
+leaf_of_lines text lookup (LinkDefinitionLeaf definition) first more after a = (no_leaf text Nil, tt, a)
+
+item_of_lines : (text : List ℕ) (joins : Bool) (number : Option ℕ) (tight : Bool) (item : BlockNode) (inside after : BlockDocument) → is_leaf item.kind ≡ false → AreOfLines text inside → AreOfLines text after
+    → AreOfLines text (item_then joins number tight item inside after)
+item_of_lines text false number tight item inside after e i a = (no_leaf text (Node item inside Nil), ((λ f. absurd (true≢false (sym f ∙ e))), i, tt), a)
+item_of_lines text true number tight item inside Nil e i a = (no_leaf text (Node item inside Nil), ((λ f. absurd (true≢false (sym f ∙ e))), i, tt), tt)
+item_of_lines text true number tight item inside (Node list items after) e i a = (no_leaf text (Node item inside items), ((λ f. absurd (true≢false (sym f ∙ e))), i, a.1), a.2)
+
+document_of_lines : (text : List ℕ) (options : Options) (lookup : Lookup) (direct : Bool) (before : Option ListBefore) (behind : Bool) (all : List Row) (b : Blocks) → Body options behind all b → RowsEnd text all
+    → AreOfLines text (document_of text lookup direct before b)
+document_of_lines text options lookup direct before behind all NoBlocks body g = tt
+document_of_lines text options lookup direct before behind all (BlankLine line after) body g =
+    let c : RowsEnd text (line ∷ body.rest) = subst (RowsEnd text) body.cut g in
+    document_of_lines text options lookup direct before false body.rest after body.after c.1
+document_of_lines text options lookup direct before behind all (ParagraphBlock first more after) body g =
+    let c : RowsEnd text ((first ∷ more) ++ body.rest) = subst (RowsEnd text) body.cut g in
+    let s = rows_split text (first ∷ more) body.rest c in (
+      (λ e. stretches_end text (start_of first) first more s.0),
+      texts_of_lines text (paragraph_tokens text first more) (stretches_are_texts text (start_of first) first more),
+      document_of_lines text options lookup direct None false body.rest after body.after s.1,
+    )
+document_of_lines text options lookup direct before behind all (SetextHeading level first more underline after) body g =
+    let c : RowsEnd text ((first ∷ more) ++ (underline ∷ body.rest)) = subst (RowsEnd text) body.cut g in
+    let s = rows_split text (first ∷ more) (underline ∷ body.rest) c in (
+      (λ e. stretches_end text (start_of first) first more s.0),
+      texts_of_lines text (paragraph_tokens text first more) (stretches_are_texts text (start_of first) first more),
+      document_of_lines text options lookup direct None false body.rest after body.after s.1.1,
+    )
+document_of_lines text options lookup direct before behind all (LeafBlock leaf first more after) body g =
+    let c : RowsEnd text ((first ∷ more) ++ body.rest) = subst (RowsEnd text) body.cut g in
+    let s = rows_split text (first ∷ more) body.rest c in
+    leaf_of_lines text lookup leaf first more (document_of text lookup direct None after) (document_of_lines text options lookup direct None (may_lazy leaf) body.rest after body.after s.1)
+document_of_lines text options lookup direct before behind all (ContainerBlock Quote first more inside after) body g =
+    let c : RowsEnd text ((first ∷ more) ++ body.rest) = subst (RowsEnd text) body.cut g in
+    let s = rows_split text (first ∷ more) body.rest c in (
+      no_leaf text (document_of text lookup false None inside),
+      document_of_lines text options lookup false None false (insides Quote first more) inside body.contents (rows_inside text Quote first more s.0),
+      document_of_lines text options lookup direct None false body.rest after body.after s.1,
+    )
+document_of_lines text options lookup direct before behind all (ContainerBlock (Item mark number width) first more inside after) body g =
+    let c : RowsEnd text ((first ∷ more) ++ body.rest) = subst (RowsEnd text) body.cut g in
+    let s = rows_split text (first ∷ more) body.rest c in
+    let tight = tight_behind before mark inside after in
+    item_of_lines text (goes_on mark after) number tight (node ListItem (begin_of first) (past_of first more)) (document_of text lookup tight None inside)
+    (document_of text lookup direct (Some (record { mark = mark; tight = tight })) after) refl
+    (document_of_lines text options lookup tight None false (insides (Item mark number width) first more) inside body.contents (rows_inside text (Item mark number width) first more s.0))
+    (document_of_lines text options lookup direct (Some (record { mark = mark; tight = tight })) false body.rest after body.after s.1)
+
+-- ## Leaves
+
+lines_append : (text : List ℕ) (a b : List Segment) → AreLeavesOfLines text a → AreLeavesOfLines text b → AreLeavesOfLines text (a ++ b)
+lines_append text [] b h k = k
+lines_append text (Given r ∷ a) b h k = lines_append text a b h k
+lines_append text (Content leaf ∷ a) b h k = (h.0, lines_append text a b h.1 k)
+
+pub lines-split : (text : List ℕ) (a b : List Segment) → AreLeavesOfLines text (a ++ b) → AreLeavesOfLines text a × AreLeavesOfLines text b
+lines-split text [] b h = (tt, h)
+lines-split text (Given r ∷ a) b h = lines-split text a b h
+lines-split text (Content leaf ∷ a) b h = let i = lines-split text a b h.1 in ((h.0, i.0), i.1)
+
+inside_lines : (text : List ℕ) (kind : BlockKind) (content : BlockDocument) (others : List Segment) → (is_leaf kind ≡ true → HaveLineEnds text (stretches_of content)) → AreLeavesOfLines text others
+    → AreLeavesOfLines text (inside_of kind content others)
+inside_lines text kind content others h k = go (is_leaf kind) refl
+  where
+    go : (z : Bool) → is_leaf kind ≡ z → AreLeavesOfLines text (if z then Content (leaf_of content) ∷ [] else others)
+    go true e = (h e, tt)
+    go false e = k
+
+node_lines : (text : List ℕ) (reads : Reads) (node : BlockNode) (inside : List Segment) → AreLeavesOfLines text inside → AreLeavesOfLines text (node_segments reads node inside)
+node_lines text (Around tag) node inside h = lines_append text inside (Given _ ∷ []) h tt
+node_lines text Inside node inside h = h
+node_lines text (Alone event) node inside h = tt
+node_lines text Silent node inside h = tt
+
+segments_lines : (text : List ℕ) (document : BlockDocument) → AreOfLines text document → AreLeavesOfLines text (segments document)
+segments_lines text Nil h = tt
+segments_lines text (Node node inside after) h =
+    let own = inside_of node.kind inside (segments inside) in
+    lines_append text (node_segments (read_as node.kind) node own) (segments after)
+    (node_lines text (read_as node.kind) node own (inside_lines text node.kind inside (segments inside) h.0 (segments_lines text inside h.1)))
+    (segments_lines text after h.2)
+
+pub derived-lines : (text : List ℕ) (options : Options) (lookup : Lookup) (document : BlockDocument) → Derives text options lookup document → AreLeavesOfLines text (segments document)
+derived-lines text options lookup document h =
+    segments_lines text document (subst (AreOfLines text) (sym h.2) (document_of_lines text options lookup false None false (rows text) h.0 h.1 (rows_end text)))

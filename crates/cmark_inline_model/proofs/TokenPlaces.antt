@@ -1,0 +1,338 @@
+-- Each token of a leaf ends where a byte of the leaf begins, or at its end, and the bytes of a delimiter run stand one behind the
+-- other in the source.
+use Rattle.std.specs.Prelude.{suc, zero, ◌-◌, ◌==◌, ◌&&◌, ◌||◌, not, nat_lt, if◌then◌else◌, get_or, drop, take, codes}
+use Rattle.std.specs.List.{prefix_len}
+use Rattle.std.proofs.Common.{◌≡◌, ◌⊎◌, inl, inr, ◌<◌, ◌≤◌, ◌+◌, ℕ, Bool, true, false, List, [], ◌∷◌, length, Option, Some, None, refl, sym, ap, ◌∙◌, subst, arith, length-drop, eqb-true, true≢false}
+use Rattle.cmark_grammar.specs.Autolinks.{autolink_in}
+use Rattle.cmark_grammar.specs.CodeSpans.{is_backtick, backticks, code_in}
+use Rattle.cmark_grammar.specs.Columns.{is_blank_byte}
+use Rattle.cmark_grammar.specs.Dashes.{dashes_of, dash_text}
+use Rattle.cmark_grammar.specs.Flanking.{flanking}
+use Rattle.cmark_grammar.specs.Formulas.{is_dollar, Braces, no_braces, braces_behind, inline_in, display_in}
+use Rattle.cmark_grammar.specs.InlineHtml.{behind_markup, takes_lines}
+use Rattle.cmark_grammar.specs.InlineTokens.{item_at, bracket, is_plain, from, before, place_of, size_to, character_before, character_at, line_begins, read_on, break_or, code_or, escaped_backtick, escape_at, entity_or, autolink_or, tag_or_text, source_from, markup_or, less_than, run_at, formula_or, dollar, dots, hyphens, quote_at, smart_or, begins, begins_at, goes_on, plain_end, longest, token}
+use Rattle.cmark_grammar.specs.Items.{ItemKind, Plain, Written, InlineMath, DisplayMath, Delimiters, Html, OwnedHtml, SoftBreak, HardBreak, Token, Stands, Opens, Closes, Ends}
+use Rattle.cmark_grammar.specs.LabelsOverLines.{piped}
+use Rattle.cmark_grammar.specs.LeafText.{Leaf, size_of, end_of, InTurn}
+use Rattle.cmark_grammar.specs.Letters.{first_is, starts}
+use Rattle.cmark_grammar.specs.LineBreaks.{LineBreak, backslash_break_in, blank_break_in}
+use Rattle.cmark_grammar.specs.Lines.{is_content}
+use Rattle.cmark_grammar.specs.LinkDefinitions.{Found, behind_blanks}
+use Rattle.cmark_grammar.specs.Readers.{Reader}
+use Rattle.cmark_grammar.specs.Tags.{behind_tag, no_prefix}
+use Rattle.cmark_grammar.specs.Tokens.{Entity, entity_in, is_punctuation}
+use Rattle.cmark_grammar.proofs.RowEdges.{Front}
+use Rattle.cmark_grammar.proofs.ShorterRests.{LeavesBelow, FoundBelow, either, tag-shorter, code-shorter, autolink-within, inline-shorter, display-shorter}
+use Rattle.cmark_inline_model.specs.LeafModel.{HaveLineEnds}
+use Rattle.cmark_inline_model.proofs.LeafPlaces.{bytes-size}
+use Rattle.cmark_inline_model.proofs.LeafSteps.{IsAt, at-size, at-next}
+use Rattle.cmark_inline_model.proofs.TokenLaws.{length-blanks}
+use Rattle.cmark_inline_model.proofs.WordBytes.{IsWord, and-right, or-either, word-is, punctuation-word, front-map, Leads, prefix-leads, starts-leads, first-leads, leads-cons, EntityLeads, entity-leads}
+
+module _ (reader : Reader) (leaf : Leaf) (size : ℕ) (turn : InTurn 0 leaf.stretches size) (within : size ≤ length reader.source) (lines : HaveLineEnds reader.source leaf.stretches) where
+  abbrev At : (left at : ℕ) → Type 0
+  At left at = IsAt reader.source leaf.stretches size turn within lines left at
+
+  -- a byte of the leaf begins there, or it ends there
+  abbrev pub IsPlace : ℕ → Type 0
+  IsPlace at = (left : ℕ) × IsAt reader.source leaf.stretches size turn within lines left at
+
+  -- no pipe stands among the bytes of a delimiter run
+  abbrev pub Uncut : ItemKind → (start end : ℕ) → Type 0
+  Uncut (Delimiters run) start end = (k : ℕ) → start ≤ k → k < end → (get_or reader.source k 0 == 124) ≡ false
+  Uncut _ start end = Unit {0}
+
+  -- one byte, which ends no line, and the next
+  pub next-place : (at b : ℕ) (bs : List ℕ) → IsPlace at → from reader leaf at ≡ b ∷ bs → is_content b ≡ true → IsPlace (suc at) × (from reader leaf (suc at) ≡ bs) × (get_or reader.source at 0 ≡ b)
+  next-place at b bs h e c =
+      let n = at-next reader.source leaf.stretches size turn within lines h.0 at b bs h.1 e in
+      let s = n.next c in
+      ((length bs, (n.fits, s)), ap (from reader leaf) s ∙ n.rest, n.byte)
+
+  -- what is read over some bytes that end no line
+  pub record Walked (R : ℕ → Type 0) (at n : ℕ) (rest : List ℕ) : Type 0 where
+    pub place : IsPlace (at + n)
+    pub rest_is : from reader leaf (at + n) ≡ rest
+    pub bytes : (k : ℕ) → at ≤ k → k < at + n → R (get_or reader.source k 0)
+
+  pub walk : (R : ℕ → Type 0) (n at : ℕ) (l : List ℕ) → IsPlace at → from reader leaf at ≡ l → n ≤ length l → Front (λ b. (is_content b ≡ true) × R b) n l → Walked R at n (drop n l)
+  walk R zero at l h e w f =
+      let z : at ≡ at + 0 = omega arith in
+      record { place = subst IsPlace z h; rest_is = ap (from reader leaf) (sym z) ∙ e; bytes = λ k a b. absurd (omega arith) }
+  walk R (suc n) at [] h e w f = absurd (omega arith)
+  walk R (suc n) at (b ∷ l) h e w f =
+      let s = next-place at b l h e f.0.0 in
+      let i = walk R n (suc at) l s.0 s.1 (omega arith) f.1 in
+      let z : suc at + n ≡ at + suc n = omega arith in
+      record {
+        place = subst IsPlace z i.place;
+        rest_is = ap (from reader leaf) (sym z) ∙ i.rest_is;
+        bytes = λ k x y. first k x y (λ q. i.bytes k q (omega arith)) (subst R (sym s.2) f.0.1);
+      }
+    where
+      first : (k : ℕ) → at ≤ k → k < at + suc n → (suc at ≤ k → R (get_or reader.source k 0)) → R (get_or reader.source at 0) → R (get_or reader.source k 0)
+      first k x y later here = go (nat_lt at k) refl
+        where
+          go : (z : Bool) → nat_lt at k ≡ z → R (get_or reader.source k 0)
+          go true q = later (let r : at < k = grind (arith) in omega arith)
+          go false q = subst (λ j. R (get_or reader.source j 0)) (let r : k ≤ at = grind (arith) in (let t : at ≡ k = omega arith in t)) here
+
+  pub rest-place : (at : ℕ) (rest : List ℕ) → IsPlace at → length rest ≤ length (from reader leaf at) → IsPlace (place_of reader leaf rest)
+  rest-place at rest h w =
+      let s = at-size reader.source leaf.stretches size turn within lines h.0 at h.1 in let x = h.1.0 in
+      (length rest, (omega arith, refl))
+
+  pub end-place : IsPlace (end_of leaf.stretches)
+  end-place = (0, (omega arith, refl))
+
+  abbrev pub Sits : Token → Type 0
+  Sits (Stands item past) = IsPlace past × Uncut item.kind item.start item.end
+  Sits (Opens opener) = IsPlace opener.end
+  Sits (Closes closer) = IsPlace closer.end
+  Sits Ends = Unit {0}
+
+  -- one of two, by the condition
+  when : (b : Bool) (x y : Token) → (b ≡ true → Sits x) → (b ≡ false → Sits y) → Sits (if b then x else y)
+  when true x y h k = h refl
+  when false x y h k = k refl
+
+  abbrev Anything : ℕ → Type 0
+  Anything b = Unit {0}
+
+  -- behind words
+  words : (n at : ℕ) (l : List ℕ) → IsPlace at → from reader leaf at ≡ l → Leads IsWord n l → IsPlace (at + n)
+  words n at l h e k = (walk Anything n at l h e k.fits (front-map IsWord (λ b. (is_content b ≡ true) × Unit {0}) (λ b w. (w.content, tt)) n l k.front)).place
+
+  pub read-on-place : (x : ℕ) → IsPlace (read_on reader leaf x)
+  read-on-place x = (length rest, (fits, refl))
+    where
+      rest : List ℕ
+      rest = if line_begins reader leaf x then behind_blanks (from reader leaf x) else from reader leaf x
+
+      fits : length rest ≤ size_of leaf.stretches
+      fits =
+          let w = bytes-size reader.source leaf.stretches x in let l = length-blanks (from reader leaf x) in
+          either (λ (l : List ℕ). length l ≤ size_of leaf.stretches) (line_begins reader leaf x) (behind_blanks (from reader leaf x)) (from reader leaf x) (omega arith) w
+
+  module _ (at b : ℕ) (bs : List ℕ) (there : IsPlace at) (here : from reader leaf at ≡ b ∷ bs) where
+    content_next : is_content b ≡ true → IsPlace (suc at)
+    content_next c = (next-place at b bs there here c).0
+
+    rest_there : (rest : List ℕ) → length rest ≤ suc (length bs) → IsPlace (place_of reader leaf rest)
+    rest_there rest w = let e = ap length here in rest-place at rest there (omega arith)
+
+    word_next : IsWord b → IsPlace (suc at)
+    word_next w = content_next w.content
+
+    break_sits : (found : Option LineBreak) (other : Token) → (found ≡ None → Sits other) → Sits (break_or reader leaf at found other)
+    break_sits None other h = h refl
+    break_sits (Some found) other h = (read-on-place (at + size_to reader leaf at found.behind), hard found.is_hard)
+      where
+        hard : (x : Bool) → Uncut (if x then HardBreak else SoftBreak) (at + found.before) (at + size_to reader leaf at found.behind)
+        hard true = tt
+        hard false = tt
+
+    code_sits : (found : Option Found) → FoundBelow (suc (length bs)) found → Leads IsWord (backticks (b ∷ bs)) (b ∷ bs) → Sits (code_or reader leaf at (backticks (b ∷ bs)) found)
+    code_sits (Some found) h k = (rest_there found.behind (omega arith), tt)
+    code_sits None h k = (words (backticks (b ∷ bs)) at (b ∷ bs) there here k, tt)
+
+    entity_sits : IsWord b → (entity : Option Entity) → EntityLeads bs entity → Sits (entity_or reader leaf at entity)
+    entity_sits w (Some entity) h =
+        (subst (λ n. IsPlace (at + n)) (sym h.1) (words (suc h.0) at (b ∷ bs) there here (leads-cons IsWord b h.0 bs w h.2)), tt)
+    entity_sits w None h = (word_next w, tt)
+
+    backtick_word : (c : ℕ) → is_backtick c ≡ true → IsWord c
+    backtick_word c e = word-is c 96 refl (omega arith) e
+
+    escape_sits : IsWord b → Sits (escape_at reader leaf at bs)
+    escape_sits w =
+        let second = next-place at b bs there here w.content in
+        when (first_is is_backtick bs) (escaped_backtick reader leaf (suc at) (backticks bs) (code_in (drop 1 bs)))
+        (if leaf.is_cell && starts piped bs then item_at Plain (at + 2) (at + 3) else if first_is is_punctuation bs then item_at Plain (suc at) (at + 2) else item_at Plain at (suc at))
+        (λ e. escaped (code_in (drop 1 bs)) second.0 second.1 e)
+        (λ e. when (leaf.is_cell && starts piped bs) (item_at Plain (at + 2) (at + 3)) (if first_is is_punctuation bs then item_at Plain (suc at) (at + 2) else item_at Plain at (suc at))
+        (λ f. (let k = starts-leads IsWord piped bs (record { content = refl; ascii = omega arith }, (record { content = refl; ascii = omega arith }, tt)) (and-right leaf.is_cell (starts piped bs) f) in
+        (words 3 at (b ∷ bs) there here (leads-cons IsWord b 2 bs w k), tt)))
+        (λ f. when (first_is is_punctuation bs) (item_at Plain (suc at) (at + 2)) (item_at Plain at (suc at))
+        (λ g. (words 2 at (b ∷ bs) there here (leads-cons IsWord b 1 bs w (first-leads IsWord is_punctuation bs punctuation-word g)), tt))
+        (λ g. (word_next w, tt))))
+      where
+        escaped : (found : Option Found) → IsPlace (suc at) → from reader leaf (suc at) ≡ bs → first_is is_backtick bs ≡ true → Sits (escaped_backtick reader leaf (suc at) (backticks bs) found)
+        escaped (Some found) p q e = (let z : (suc at) + 1 ≡ suc (suc at) = omega arith in subst IsPlace z (words 1 (suc at) bs p q (first-leads IsWord is_backtick bs backtick_word e)), tt)
+        escaped None p q e = (words (backticks bs) (suc at) bs p q (prefix-leads is_backtick IsWord backtick_word bs), tt)
+
+    markup_sits : (found : Option (List ℕ)) (other : Token) → Sits other → Sits (markup_or reader leaf at found other)
+    markup_sits None other h = h
+    markup_sits (Some rest) other h = (read-on-place (at + (length (source_from reader leaf at) - length rest)), tt)
+
+    tag_sits : IsWord b → (found : Option (List ℕ)) → LeavesBelow (length (from reader leaf at)) found → Sits (tag_or_text reader leaf at found)
+    tag_sits w None h = (word_next w, tt)
+    tag_sits w (Some rest) h = (let e = ap length here in rest_there rest (omega arith), kind (takes_lines (take (size_to reader leaf at rest) (from reader leaf at))))
+      where
+        kind : (x : Bool) → Uncut (if x then OwnedHtml (take (size_to reader leaf at rest) (from reader leaf at)) else Html) at (place_of reader leaf rest)
+        kind true = tt
+        kind false = tt
+
+    autolink_sits : (found : Option Found) (other : Token) → FoundBelow (suc (length bs)) found → Sits other → Sits (autolink_or reader leaf at found other)
+    autolink_sits None other h k = k
+    autolink_sits (Some found) other h k = (rest_there found.behind (omega arith), tt)
+
+    less_than_sits : IsWord b → Sits (less_than reader leaf at bs)
+    less_than_sits w =
+        let tag = tag_or_text reader leaf at (behind_tag no_prefix (from reader leaf at)) in
+        let others = markup_or reader leaf at (behind_markup (source_from reader leaf at)) tag in
+        when (first_is (λ c. c == 92) bs) (item_at Plain at (suc at)) (autolink_or reader leaf at (autolink_in bs) others) (λ e. (word_next w, tt))
+        (λ e. autolink_sits (autolink_in bs) others (autolink-within bs)
+        (markup_sits (behind_markup (source_from reader leaf at)) tag (tag_sits w (behind_tag no_prefix (from reader leaf at)) (tag-shorter no_prefix (from reader leaf at)))))
+
+    same_byte : (c : ℕ) → IsWord b → (c == b) ≡ true → (is_content c ≡ true) × ((c == b) ≡ true)
+    same_byte c w e = (subst (λ x. is_content x ≡ true) (sym (eqb-true c b e)) w.content, e)
+
+    run_sits : IsWord b → (b == 124) ≡ false → Sits (run_at reader leaf at b (prefix_len (λ c. c == b) (b ∷ bs)))
+    run_sits w other =
+        let n = prefix_len (λ c. c == b) (b ∷ bs) in
+        let beside = flanking reader.options b n (character_before reader leaf at) (character_at reader leaf (at + n)) in
+        let k = prefix-leads (λ c. c == b) (λ c. (is_content c ≡ true) × ((c == b) ≡ true)) (λ c e. same_byte c w e) (b ∷ bs) in
+        let walked = walk (λ c. (c == b) ≡ true) n at (b ∷ bs) there here k.fits k.front in
+        when (beside.opens || beside.closes) (item_at (Delimiters (record { mark = b; size = n; at = 0; left = n; opens = beside.opens; closes = beside.closes })) at (at + n)) (item_at Plain at (at + n))
+        (λ e. (walked.place, (λ k x y. subst (λ c. (c == 124) ≡ false) (sym (eqb-true (get_or reader.source k 0) b (walked.bytes k x y))) other)))
+        (λ e. (walked.place, tt))
+
+    formula_sits : IsWord b → (kind : List ℕ → ItemKind) (found : Option Found) → ((text : List ℕ) (start end : ℕ) → Uncut (kind text) start end) → FoundBelow (suc (length bs)) found
+        → Sits (formula_or reader leaf kind at found)
+    formula_sits w kind (Some found) u h = (rest_there found.behind (omega arith), u _ at (place_of reader leaf found.behind))
+    formula_sits w kind None u h = (word_next w, tt)
+
+    more_found : (n m : ℕ) (found : Option Found) → n ≤ m → FoundBelow n found → FoundBelow m found
+    more_found n m None h k = tt
+    more_found n m (Some found) h k = omega arith
+
+    dollar_sits : IsWord b → (braces : Braces) → Sits (dollar reader leaf at bs braces)
+    dollar_sits w braces =
+        let l = length-drop 1 bs in
+        when (first_is is_dollar bs) (formula_or reader leaf DisplayMath at (display_in braces (drop 1 bs))) (formula_or reader leaf InlineMath at (inline_in braces bs))
+        (λ e. formula_sits w DisplayMath (display_in braces (drop 1 bs)) (λ t a b. tt) (more_found (length (drop 1 bs)) (suc (length bs)) (display_in braces (drop 1 bs)) (omega arith) (display-shorter braces (drop 1 bs))))
+        (λ e. formula_sits w InlineMath (inline_in braces bs) (λ t a b. tt) (more_found (length bs) (suc (length bs)) (inline_in braces bs) (omega arith) (inline-shorter braces bs)))
+
+    dots_sits : IsWord b → Sits (dots reader leaf at)
+    dots_sits w =
+        when (starts (codes "...") (from reader leaf at)) (item_at (Written (226 ∷ 128 ∷ 166 ∷ [])) at (at + 3)) (item_at Plain at (suc at))
+        (λ f. (
+          words 3 at (from reader leaf at) there refl
+              (starts-leads IsWord (codes "...") (from reader leaf at) (record { content = refl; ascii = omega arith }, (record { content = refl; ascii = omega arith }, (record { content = refl; ascii = omega arith }, tt))) f),
+          tt,
+        ))
+        (λ f. (word_next w, tt))
+
+    hyphens_sits : Sits (hyphens reader leaf at (prefix_len (λ c. c == 45) (from reader leaf at)))
+    hyphens_sits =
+        let n = prefix_len (λ c. c == 45) (from reader leaf at) in
+        let k = words n at (from reader leaf at) there refl (prefix-leads (λ c. c == 45) IsWord (λ c e. word-is c 45 refl (omega arith) e) (from reader leaf at)) in
+        when (nat_lt n 2) (item_at Plain at (at + n)) (item_at (Written (dash_text (dashes_of n))) at (at + n)) (λ e. (k, tt)) (λ e. (k, tt))
+
+    smart_sits : is_content b ≡ true → Sits (smart_or reader leaf at b)
+    smart_sits c =
+        let n = prefix_len (λ c. c == 45) (from reader leaf at) in
+        when (b == 46) (dots reader leaf at) (if b == 45 then hyphens reader leaf at n else if (b == 34) || (b == 39) then quote_at reader leaf at b else item_at Plain at (suc at))
+        (λ e. dots_sits (word-is b 46 refl (omega arith) e))
+        (λ e. when (b == 45) (hyphens reader leaf at n) (if (b == 34) || (b == 39) then quote_at reader leaf at b else item_at Plain at (suc at)) (λ f. hyphens_sits)
+        (λ f. when ((b == 34) || (b == 39)) (quote_at reader leaf at b) (item_at Plain at (suc at)) (λ g. (content_next c, tt)) (λ g. (content_next c, tt))))
+
+    -- a blank ends no line, and a line ending is a break
+    no_break : (is_blank_byte b || not (is_content b)) ≡ true → blank_break_in (b ∷ bs) ≡ None → is_content b ≡ true
+    no_break e none = go (is_content b) refl
+      where
+        go : (x : Bool) → is_content b ≡ x → x ≡ true
+        go true f = refl
+        go false f = absurd (ended (b == 10) (b == 13) refl refl f)
+          where
+            ended : (x y : Bool) → (b == 10) ≡ x → (b == 13) ≡ y → (not x && not y) ≡ false → ⊥
+            ended true y p q r = let z = eqb-true b 10 p in (let k = subst (λ c. blank_break_in (c ∷ bs) ≡ None) z none in cc)
+            ended false true p q r = let z = eqb-true b 13 q in (let k = subst (λ c. blank_break_in (c ∷ bs) ≡ None) z none in cc)
+            ended false false p q r = true≢false r
+
+    -- a byte that is neither a blank nor ends a line
+    both_false : (x y : Bool) → (x || not y) ≡ false → y ≡ true
+    both_false true y e = cc
+    both_false false true e = refl
+    both_false false false e = cc
+
+    mark_word : ((b == 42) || ((b == 95) || ((b == 126) || (b == 94)))) ≡ true → IsWord b × ((b == 124) ≡ false)
+    mark_word e = one (or-either (b == 42) ((b == 95) || ((b == 126) || (b == 94))) e)
+      where
+        is : (c : ℕ) → is_content c ≡ true → c < 128 → (c == 124) ≡ false → (b == c) ≡ true → IsWord b × ((b == 124) ≡ false)
+        is c h k n f = (word-is b c h k f, subst (λ x. (x == 124) ≡ false) (sym (eqb-true b c f)) n)
+
+        three : ((b == 126) ≡ true) ⊎ ((b == 94) ≡ true) → IsWord b × ((b == 124) ≡ false)
+        three (inl f) = is 126 refl (omega arith) refl f
+        three (inr f) = is 94 refl (omega arith) refl f
+
+        two : ((b == 95) ≡ true) ⊎ (((b == 126) || (b == 94)) ≡ true) → IsWord b × ((b == 124) ≡ false)
+        two (inl f) = is 95 refl (omega arith) refl f
+        two (inr f) = three (or-either (b == 126) (b == 94) f)
+
+        one : ((b == 42) ≡ true) ⊎ (((b == 95) || ((b == 126) || (b == 94))) ≡ true) → IsWord b × ((b == 124) ≡ false)
+        one (inl f) = is 42 refl (omega arith) refl f
+        one (inr f) = two (or-either (b == 95) ((b == 126) || (b == 94)) f)
+
+    begins_sits : Sits (begins reader leaf at (b ∷ bs))
+    begins_sits =
+        let plain = item_at Plain at (suc at) in
+        let c9 = if reader.options.smart_punctuation then smart_or reader leaf at b else plain in
+        let c8 = if reader.options.math && is_dollar b then dollar reader leaf at bs (braces_behind false (before reader leaf at) no_braces) else c9 in
+        let c7 = if (b == 42) || ((b == 95) || ((b == 126) || (b == 94))) then run_at reader leaf at b (prefix_len (λ c. c == b) (b ∷ bs)) else c8 in
+        let c6 = if b == 93 then Closes (bracket false at (suc at)) else c7 in
+        let c5 = if b == 91 then Opens (bracket false at (suc at)) else c6 in
+        let bang = if first_is (λ c. c == 91) bs then Opens (bracket true at (at + 2)) else plain in
+        let c4 = if b == 33 then bang else c5 in
+        let c3 = if b == 60 then less_than reader leaf at bs else c4 in
+        let c2 = if b == 96 then code_or reader leaf at (backticks (b ∷ bs)) (code_in (b ∷ bs)) else c3 in
+        let c1 = if b == 38 then entity_or reader leaf at (entity_in reader.lookup bs) else c2 in
+        let c0 = if b == 92 then break_or reader leaf at (backslash_break_in (b ∷ bs)) (escape_at reader leaf at bs) else c1 in
+        when (is_blank_byte b || not (is_content b)) (break_or reader leaf at (blank_break_in (b ∷ bs)) plain) c0 (λ e. break_sits (blank_break_in (b ∷ bs)) plain (λ n. (content_next (no_break e n), tt)))
+        (λ e0. (let c = both_false (is_blank_byte b) (is_content b) e0 in
+        when (b == 92) (break_or reader leaf at (backslash_break_in (b ∷ bs)) (escape_at reader leaf at bs)) c1 (λ e. break_sits (backslash_break_in (b ∷ bs)) (escape_at reader leaf at bs) (λ n. escape_sits (word-is b 92 refl (omega arith) e)))
+        (λ e1. when (b == 38) (entity_or reader leaf at (entity_in reader.lookup bs)) c2 (λ e. entity_sits (word-is b 38 refl (omega arith) e) (entity_in reader.lookup bs) (entity-leads reader.lookup bs))
+        (λ e2. when (b == 96) (code_or reader leaf at (backticks (b ∷ bs)) (code_in (b ∷ bs))) c3 (λ e. code_sits (code_in (b ∷ bs)) (code-shorter (b ∷ bs)) (prefix-leads is_backtick IsWord backtick_word (b ∷ bs)))
+        (λ e3. when (b == 60) (less_than reader leaf at bs) c4 (λ e. less_than_sits (word-is b 60 refl (omega arith) e))
+        (λ e4. when (b == 33) bang c5
+        (λ e. when (first_is (λ c. c == 91) bs) (Opens (bracket true at (at + 2))) plain
+        (λ g. words 2 at (b ∷ bs) there here (leads-cons IsWord b 1 bs (word-is b 33 refl (omega arith) e) (first-leads IsWord (λ c. c == 91) bs (λ c x. word-is c 91 refl (omega arith) x) g))) (λ g. (content_next c, tt)))
+        (λ e5. when (b == 91) (Opens (bracket false at (suc at))) c6 (λ e. content_next c)
+        (λ e6. when (b == 93) (Closes (bracket false at (suc at))) c7 (λ e. content_next c)
+        (λ e7. when ((b == 42) || ((b == 95) || ((b == 126) || (b == 94)))) (run_at reader leaf at b (prefix_len (λ c. c == b) (b ∷ bs))) c8 (λ e. (let m = mark_word e in run_sits m.0 m.1))
+        (λ e8. when (reader.options.math && is_dollar b) (dollar reader leaf at bs (braces_behind false (before reader leaf at) no_braces)) c9
+        (λ e. dollar_sits (word-is b 36 refl (omega arith) (and-right reader.options.math (is_dollar b) e)) (braces_behind false (before reader leaf at) no_braces))
+        (λ e9. when reader.options.smart_punctuation (smart_or reader leaf at b) plain (λ e. smart_sits c) (λ e. (content_next c, tt)))))))))))))
+
+  begins_at_sits : (at : ℕ) → IsPlace at → Sits (begins_at reader leaf at)
+  begins_at_sits at h = go (from reader leaf at) refl
+    where
+      go : (l : List ℕ) → from reader leaf at ≡ l → Sits (begins reader leaf at l)
+      go [] e = tt
+      go (b ∷ bs) e = begins_sits at b bs h e
+
+  goes_place : (t : Token) (stop : ℕ) (more : ℕ → ℕ) → IsPlace stop → Sits t → ((x : ℕ) → IsPlace x → IsPlace (more x)) → IsPlace (goes_on reader leaf t stop more)
+  goes_place (Stands item past) stop more h k i = by (is_plain item.kind && (item.start == stop))
+    where
+      by : (b : Bool) → IsPlace (if b then more past else stop)
+      by true = i past k.0
+      by false = h
+  goes_place (Opens opener) stop more h k i = h
+  goes_place (Closes closer) stop more h k i = h
+  goes_place Ends stop more h k i = h
+
+  plain_place : (n stop : ℕ) → IsPlace stop → IsPlace (plain_end reader leaf n stop)
+  plain_place zero stop h = h
+  plain_place (suc n) stop h = goes_place (begins_at reader leaf stop) stop (plain_end reader leaf n) h (begins_at_sits stop h) (λ x k. plain_place n x k)
+
+  longest_sits : (t : Token) → Sits t → Sits (longest reader leaf t)
+  longest_sits (Stands item past) h =
+      when (is_plain item.kind) (item_at Plain item.start (plain_end reader leaf (length (from reader leaf past)) past)) (Stands item past) (λ e. (plain_place (length (from reader leaf past)) past h.0, tt)) (λ e. h)
+  longest_sits (Opens opener) h = h
+  longest_sits (Closes closer) h = h
+  longest_sits Ends h = tt
+
+  pub token-sits : (at : ℕ) → IsPlace at → Sits (token reader leaf at)
+  unfolding token
+  token-sits at h = longest_sits (begins_at reader leaf at) (begins_at_sits at h)

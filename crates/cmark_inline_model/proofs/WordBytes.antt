@@ -1,0 +1,201 @@
+-- Bytes in front of a text that are ASCII and end no line: those of entities, escapes and runs.
+use Rattle.std.specs.Prelude.{suc, zero, ◌-◌, ◌==◌, ◌&&◌, ◌||◌, not, nat_lt, nat_le, if◌then◌else◌, drop, take, take_while, cond}
+use Rattle.std.specs.List.{prefix_len}
+use Rattle.std.proofs.Common.{◌≡◌, ◌⊎◌, inl, inr, ◌<◌, ◌≤◌, ◌+◌, ℕ, Bool, true, false, List, [], ◌∷◌, length, Option, Some, None, refl, sym, ap, subst, arith, length-drop, eqb-true}
+use Rattle.std.proofs.lemmas.List.{length-take}
+use Rattle.std.proofs.lemmas.List.Sums.{prefix_len-le-length, take_while-cons}
+use Rattle.std.proofs.lemmas.Slice.Eq.{bytes_eq-Decides}
+use Rattle.cmark_grammar.specs.Answers.{Lookup}
+use Rattle.cmark_grammar.specs.Leaves.{is_empty}
+use Rattle.cmark_grammar.specs.Letters.{lower, is_letter, is_number, is_alphanumeric, first_is, starts}
+use Rattle.cmark_grammar.specs.Lines.{is_content}
+use Rattle.cmark_grammar.specs.Tokens.{Entity, entity_if, is_hexadecimal, character, value_of, numeric, hexadecimal_in, decimal_in, numeric_in, named, entity_in, is_punctuation}
+use Rattle.cmark_grammar.proofs.RowEdges.{Front, front-add, prefix-front}
+
+-- ## Bytes
+
+-- a byte that is ASCII and ends no line
+pub record IsWord (b : ℕ) : Type 0 where
+  pub content : is_content b ≡ true
+  pub ascii : b < 128
+
+le : (a b : ℕ) → nat_le a b ≡ true → a ≤ b
+le a b e = grind (arith)
+
+pub and-left : (a b : Bool) → (a && b) ≡ true → a ≡ true
+and-left true b e = refl
+and-left false b e = cc
+
+pub and-right : (a b : Bool) → (a && b) ≡ true → b ≡ true
+and-right true b e = e
+and-right false b e = cc
+
+pub or-either : (a b : Bool) → (a || b) ≡ true → (a ≡ true) ⊎ (b ≡ true)
+or-either true b e = inl refl
+or-either false b e = inr e
+
+pub word-is : (b c : ℕ) → is_content c ≡ true → c < 128 → (b == c) ≡ true → IsWord b
+word-is b c h k e = subst IsWord (sym (eqb-true b c e)) (record { content = h; ascii = k })
+
+word_between : (b : ℕ) → 14 ≤ b → b < 128 → IsWord b
+word_between b h k = record { content = go (b == 10) (b == 13) refl refl; ascii = k }
+  where
+    go : (x y : Bool) → (b == 10) ≡ x → (b == 13) ≡ y → (not x && not y) ≡ true
+    go true y e f = absurd (let p = eqb-true b 10 e in omega arith)
+    go false true e f = absurd (let p = eqb-true b 13 f in omega arith)
+    go false false e f = refl
+
+number_word : (b : ℕ) → is_number b ≡ true → IsWord b
+number_word b e = let x = le 48 b (and-left (nat_le 48 b) (nat_le b 57) e) in let y = le b 57 (and-right (nat_le 48 b) (nat_le b 57) e) in word_between b (omega arith) (omega arith)
+
+-- by its lower case
+lower_word : (b low high : ℕ) → 97 ≤ low → high ≤ 122 → (nat_le low (lower b) && nat_le (lower b) high) ≡ true → IsWord b
+lower_word b low high h k e = go (nat_le 65 b && nat_le b 90) refl (le low (lower b) (and-left (nat_le low (lower b)) (nat_le (lower b) high) e)) (le (lower b) high (and-right (nat_le low (lower b)) (nat_le (lower b) high) e))
+  where
+    go : (x : Bool) → (nat_le 65 b && nat_le b 90) ≡ x → low ≤ (if x then b + 32 else b) → (if x then b + 32 else b) ≤ high → IsWord b
+    go true f i j = word_between b (omega arith) (omega arith)
+    go false f i j = word_between b (omega arith) (omega arith)
+
+letter_word : (b : ℕ) → is_letter b ≡ true → IsWord b
+letter_word b e = lower_word b 97 122 (omega arith) (omega arith) e
+
+hexadecimal_word : (b : ℕ) → is_hexadecimal b ≡ true → IsWord b
+hexadecimal_word b e = go (or-either (is_number b) (nat_le 97 (lower b) && nat_le (lower b) 102) e)
+  where
+    go : (is_number b ≡ true) ⊎ ((nat_le 97 (lower b) && nat_le (lower b) 102) ≡ true) → IsWord b
+    go (inl f) = number_word b f
+    go (inr f) = lower_word b 97 102 (omega arith) (omega arith) f
+
+alphanumeric_word : (b : ℕ) → is_alphanumeric b ≡ true → IsWord b
+alphanumeric_word b e = go (or-either (is_letter b) (is_number b) e)
+  where
+    go : (is_letter b ≡ true) ⊎ (is_number b ≡ true) → IsWord b
+    go (inl f) = letter_word b f
+    go (inr f) = number_word b f
+
+range_word : (b low high : ℕ) → 14 ≤ low → high < 128 → (nat_le low b && nat_le b high) ≡ true → IsWord b
+range_word b low high h k e =
+    let x = le low b (and-left (nat_le low b) (nat_le b high) e) in let y = le b high (and-right (nat_le low b) (nat_le b high) e) in word_between b (omega arith) (omega arith)
+
+pub punctuation-word : (b : ℕ) → is_punctuation b ≡ true → IsWord b
+punctuation-word b e = one (or-either (nat_le 33 b && nat_le b 47) ((nat_le 58 b && nat_le b 64) || ((nat_le 91 b && nat_le b 96) || (nat_le 123 b && nat_le b 126))) e)
+  where
+    three : ((nat_le 91 b && nat_le b 96) ≡ true) ⊎ ((nat_le 123 b && nat_le b 126) ≡ true) → IsWord b
+    three (inl f) = range_word b 91 96 (omega arith) (omega arith) f
+    three (inr f) = range_word b 123 126 (omega arith) (omega arith) f
+
+    two : ((nat_le 58 b && nat_le b 64) ≡ true) ⊎ (((nat_le 91 b && nat_le b 96) || (nat_le 123 b && nat_le b 126)) ≡ true) → IsWord b
+    two (inl f) = range_word b 58 64 (omega arith) (omega arith) f
+    two (inr f) = three (or-either (nat_le 91 b && nat_le b 96) (nat_le 123 b && nat_le b 126) f)
+
+    one : ((nat_le 33 b && nat_le b 47) ≡ true) ⊎ (((nat_le 58 b && nat_le b 64) || ((nat_le 91 b && nat_le b 96) || (nat_le 123 b && nat_le b 126))) ≡ true) → IsWord b
+    one (inl f) = range_word b 33 47 (omega arith) (omega arith) f
+    one (inr f) = two (or-either (nat_le 58 b && nat_le b 64) ((nat_le 91 b && nat_le b 96) || (nat_le 123 b && nat_le b 126)) f)
+
+-- ## Bytes in front
+
+-- so many bytes there are, and this holds of them
+pub record Leads (Q : ℕ → Type 0) (n : ℕ) (l : List ℕ) : Type 0 where
+  pub front : Front Q n l
+  pub fits : n ≤ length l
+
+pub front-map : (P Q : ℕ → Type 0) → ((b : ℕ) → P b → Q b) → (n : ℕ) (l : List ℕ) → Front P n l → Front Q n l
+front-map P Q f n [] h = tt
+front-map P Q f zero (b ∷ l) h = tt
+front-map P Q f (suc n) (b ∷ l) h = (f b h.0, front-map P Q f n l h.1)
+
+pub prefix-leads : (p : ℕ → Bool) (Q : ℕ → Type 0) → ((b : ℕ) → p b ≡ true → Q b) → (l : List ℕ) → Leads Q (prefix_len p l) l
+prefix-leads p Q f l = record { front = go l; fits = prefix_len-le-length p l }
+  where
+    go : (l : List ℕ) → Front Q (prefix_len p l) l
+    go [] = tt
+    go (b ∷ l) = by (p b) refl (go l)
+      where
+        by : (x : Bool) → p b ≡ x → Front Q (prefix_len p l) l → Front Q (cond x (1 + prefix_len p l) 0) (b ∷ l)
+        by true e i = let s : suc (prefix_len p l) ≡ 1 + prefix_len p l = omega arith in subst (λ k. Front Q k (b ∷ l)) s (f b e, i)
+        by false e i = tt
+
+pub starts-leads : (Q : ℕ → Type 0) (prefix l : List ℕ) → Front Q (length prefix) prefix → starts prefix l ≡ true → Leads Q (length prefix) l
+starts-leads Q prefix l h e =
+    let same : take (length prefix) l ≡ prefix = (bytes_eq-Decides (take (length prefix) l) prefix).0 e in
+    let n = ap length same in
+    let t = length-take (length prefix) l in
+    record { front = back (length prefix) l (subst (Front Q (length prefix)) (sym same) h); fits = omega arith }
+  where
+    back : (n : ℕ) (l : List ℕ) → Front Q n (take n l) → Front Q n l
+    back zero [] k = tt
+    back zero (b ∷ l) k = tt
+    back (suc n) [] k = tt
+    back (suc n) (b ∷ l) k = (k.0, back n l k.1)
+
+pub first-leads : (Q : ℕ → Type 0) (p : ℕ → Bool) (l : List ℕ) → ((b : ℕ) → p b ≡ true → Q b) → first_is p l ≡ true → Leads Q 1 l
+first-leads Q p [] f e = cc
+first-leads Q p (b ∷ l) f e = record { front = (f b e, none l); fits = omega arith }
+  where
+    none : (l : List ℕ) → Front Q 0 l
+    none [] = tt
+    none (c ∷ l) = tt
+
+leads_both : (Q : ℕ → Type 0) (m n : ℕ) (l : List ℕ) → Leads Q m l → Leads Q n (drop m l) → Leads Q (m + n) l
+leads_both Q m n l h k = let e = length-drop m l in let a = h.fits in let b = k.fits in record { front = front-add Q m n l h.front k.front; fits = omega arith }
+
+pub leads-cons : (Q : ℕ → Type 0) (b n : ℕ) (l : List ℕ) → Q b → Leads Q n l → Leads Q (suc n) (b ∷ l)
+leads-cons Q b n l q h = let a = h.fits in record { front = (q, h.front); fits = omega arith }
+
+while_leads : (Q : ℕ → Type 0) (p : ℕ → Bool) → ((b : ℕ) → p b ≡ true → Q b) → (l : List ℕ) → Leads Q (length (take_while p l)) l
+while_leads Q p f l = record { front = prefix-front p Q f l; fits = fits l }
+  where
+    fits : (l : List ℕ) → length (take_while p l) ≤ length l
+    fits [] = omega arith
+    fits (b ∷ l) = subst (λ x. length x ≤ length (b ∷ l)) (sym (take_while-cons p b l)) (by (p b) (fits l))
+      where
+        by : (x : Bool) → length (take_while p l) ≤ length l → length (cond x (b ∷ take_while p l) []) ≤ suc (length l)
+        by true i = omega arith
+        by false i = omega arith
+
+-- the bytes of an entity behind its `&`
+abbrev pub EntityLeads : List ℕ → Option Entity → Type 0
+EntityLeads l None = Unit {0}
+EntityLeads l (Some entity) = (size : ℕ) × (entity.size ≡ suc size) × Leads IsWord size l
+
+closed_leads : (p : ℕ → Bool) → ((b : ℕ) → p b ≡ true → IsWord b) → (l : List ℕ) → first_is (λ b. b == 59) (drop (length (take_while p l)) l) ≡ true → Leads IsWord (length (take_while p l) + 1) l
+closed_leads p f l e =
+    leads_both IsWord (length (take_while p l)) 1 l (while_leads IsWord p f l)
+    (first-leads IsWord (λ b. b == 59) (drop (length (take_while p l)) l) (λ b x. word-is b 59 refl (omega arith) x) e)
+
+when : {A : Type 0} (P : A → Type 0) (b : Bool) (x y : A) → (b ≡ true → P x) → (b ≡ false → P y) → P (if b then x else y)
+when P true x y h k = h refl
+when P false x y h k = k refl
+
+numeric_leads : (base most size : ℕ) (p : ℕ → Bool) → ((b : ℕ) → p b ≡ true → IsWord b) → (head l : List ℕ)
+    → ((n : ℕ) → Leads IsWord n l → (m : ℕ) × (n + (size - 1) ≡ suc m) × Leads IsWord m head) → 2 ≤ size
+    → EntityLeads head (numeric base most size (take_while p l) (drop (length (take_while p l)) l))
+numeric_leads base most size p f head l put w =
+    let n = length (take_while p l) in
+    when (EntityLeads head) (nat_lt 0 n && (nat_le n most && first_is (λ b. b == 59) (drop n l))) (Some (record { bytes = character (value_of base (take_while p l)); size = n + size })) None
+    (λ e. (let k = put (n + 1) (closed_leads p f l (and-right (nat_le n most) (first_is (λ b. b == 59) (drop n l)) (and-right (nat_lt 0 n) (nat_le n most && first_is (λ b. b == 59) (drop n l)) e))) in
+    let s = k.1 in (k.0, omega arith, k.2))) (λ e. tt)
+
+pub entity-leads : (lookup : Lookup) (l : List ℕ) → EntityLeads l (entity_in lookup l)
+entity-leads lookup l =
+    when (EntityLeads l) (first_is (λ b. b == 35) l) (numeric_in (drop 1 l)) (named lookup (take_while is_alphanumeric l) (drop (length (take_while is_alphanumeric l)) l))
+    (λ e. (let hash = first-leads IsWord (λ b. b == 35) l (λ b x. word-is b 35 refl (omega arith) x) e in
+    when (EntityLeads l) (first_is (λ b. (b == 120) || (b == 88)) (drop 1 l)) (hexadecimal_in (drop 1 (drop 1 l))) (decimal_in (drop 1 l))
+    (λ x. numeric_leads 16 6 4 is_hexadecimal hexadecimal_word l (drop 1 (drop 1 l))
+    (λ n k. (1 + (1 + n), omega arith, leads_both IsWord 1 (1 + n) l hash (leads_both IsWord 1 n (drop 1 l) (first-leads IsWord (λ b. (b == 120) || (b == 88)) (drop 1 l) ex x) k))) (omega arith))
+    (λ x. numeric_leads 10 7 3 is_number number_word l (drop 1 l) (λ n k. (1 + n, omega arith, leads_both IsWord 1 n l hash k)) (omega arith))))
+    (λ e. when (EntityLeads l) (not (is_empty (take_while is_alphanumeric l)) && first_is (λ b. b == 59) (drop (length (take_while is_alphanumeric l)) l))
+    (entity_if (lookup (take_while is_alphanumeric l)) (length (take_while is_alphanumeric l) + 2)) None
+    (λ x. if_some (lookup (take_while is_alphanumeric l))
+    (closed_leads is_alphanumeric alphanumeric_word l (and-right (not (is_empty (take_while is_alphanumeric l))) (first_is (λ b. b == 59) (drop (length (take_while is_alphanumeric l)) l)) x))) (λ x. tt))
+  where
+    ex : (b : ℕ) → ((b == 120) || (b == 88)) ≡ true → IsWord b
+    ex b e = go (or-either (b == 120) (b == 88) e)
+      where
+        go : ((b == 120) ≡ true) ⊎ ((b == 88) ≡ true) → IsWord b
+        go (inl x) = word-is b 120 refl (omega arith) x
+        go (inr x) = word-is b 88 refl (omega arith) x
+
+    if_some : (o : Option (List ℕ)) → Leads IsWord (length (take_while is_alphanumeric l) + 1) l → EntityLeads l (entity_if o (length (take_while is_alphanumeric l) + 2))
+    if_some None k = tt
+    if_some (Some bytes) k = (length (take_while is_alphanumeric l) + 1, omega arith, k)
