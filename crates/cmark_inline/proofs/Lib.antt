@@ -11,3 +11,4 @@ pub mod MarkSteps
 pub mod AutolinkSteps
 pub mod AngleSteps
 pub mod Characters
+pub mod Lending
