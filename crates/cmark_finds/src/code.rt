@@ -6,6 +6,7 @@ ghost use Rattle.cmark_grammar.specs.CodeSpans.{backticks, up_to_run, code_in, i
 ghost use Rattle.cmark_grammar.specs.InlineHtml.{takes_lines};
 ghost use Rattle.cmark_scan_parts.specs.Shown.{IsBorrowed};
 ghost use Rattle.cmark_text.specs.Shown.{text_bytes};
+ghost use Rattle.cmark_text.specs.ZeroCopy.{IsPartIfBorrowed, IsPartOf};
 ghost use Rattle.cmark_finds.specs.Shown.{shown_code, IsCodeAt, ClosesFirst};
 
 use crate::line_end::{has_line_ending, with_line_ends};
@@ -90,7 +91,8 @@ fn is_padded(bytes: &[u8]) -> bool
 
 /// The text without a space at each end, if it is padded.
 fn without_padding(text: &str) -> &str
-    ensures { result.now ≡ without_padding text.entry.now }
+    ensures value { result.now ≡ without_padding text.entry.now }
+    ensures part { IsPartOf text.entry.now result.now }
 {
     if is_padded(text.as_bytes()) {
         &text[1..text.len() - 1]
@@ -104,6 +106,7 @@ fn without_padding(text: &str) -> &str
 pub fn code_text<'t>(alloc: Global, content: &'t str) -> Result<CowStr<'t>, AllocError>
     ensures value { IfOk result (λ made. text_bytes made ≡ code_text content.entry.now) }
     ensures lent { takes_lines content.entry.now ≡ false → IfOk result IsBorrowed }
+    ensures part { IfOk result (IsPartIfBorrowed content.entry.now) }
     ensures succeeds { takes_lines content.entry.now ≡ false → IsOk result }
 {
     if !has_line_ending(content) {

@@ -1,5 +1,5 @@
 -- How the spans of a leaf nest (CommonMark 6), and the events of a document whose leaves stand with such spans.
-use Rattle.std.specs.Prelude.{◌≡◌, ℕ, ◌≤◌, ◌<◌, List, [], ◌∷◌, ◌++◌, length}
+use Rattle.std.specs.Prelude.{◌≡◌, ℕ, ◌≤◌, List, [], ◌∷◌, ◌++◌, length}
 use Rattle.std.specs.Str.{IsCharBoundary}
 use Rattle.cmark_grammar.specs.Tag.{Tag, Emphasis, Strong, Strikethrough, Superscript, Subscript, Link, Image}
 use Rattle.cmark_grammar.specs.TagEnd.{end_of}
@@ -26,9 +26,9 @@ IsInline SoftBreak = Unit {0}
 IsInline HardBreak = Unit {0}
 IsInline _ = ⊥
 
--- some bytes of the text, which begin and end where characters do
+-- bytes of the text, which begin and end where characters do; an event may stand over none, at a place
 pub record IsRange (text : List ℕ) (start end : ℕ) : Type 0 where
-  pub some : start < end
+  pub ordered : start ≤ end
   pub within : end ≤ length text
   pub starts : IsCharBoundary text start
   pub ends : IsCharBoundary text end

@@ -12,3 +12,4 @@ pub mod MarkSteps
 pub mod AutolinkSteps
 pub mod AngleSteps
 pub mod Characters
+pub mod Lending

@@ -5,12 +5,17 @@ use Rattle.cmark_grammar.specs.TagEnd.{end_of}
 use Rattle.cmark_grammar.specs.Event.{Event, Start, End, Ranged}
 use Rattle.cmark_grammar.specs.LeafSpans.{IsInline, IsRange, IsSpan}
 use Rattle.cmark_text.specs.Shown.{shown, shown_end}
+use Rattle.cmark_text.specs.ZeroCopy.{IsZeroCopy}
 use Rattle.cmark_inline.specs.declared.event.Given.{Given}
 use Rattle.cmark_inline.specs.declared.event.Opened.{Opened}
 use Rattle.cmark_inline.specs.declared.state.InlineState.{InlineState}
 
 abbrev pub shown_given : Given → Ranged
 shown_given given = record { event = shown given.event; start = given.range.start; end = given.range.end }
+
+-- the zero-copy law of an event with its range
+abbrev pub GivesZeroCopy : (source : List ℕ) → Given → Type 0
+GivesZeroCopy source given = IsZeroCopy source given.event given.range.start given.range.end
 
 -- an element ends like this, and has this range
 pub record EndsAs (tag : end.TagEnd) (start end : ℕ) (one : Opened) : Type 0 where

@@ -1,6 +1,6 @@
 //! The events of a leaf's slots, one after the other.
 
-ghost use Rattle.std.specs.Prelude.{◌≡◌, ◌<◌, ◌≤◌, ◌+◌, ◌-◌, ℕ, List, [], IfOk, OnOk, OnSome, length};
+ghost use Rattle.std.specs.Prelude.{◌≡◌, ◌⊎◌, ◌<◌, ◌≤◌, ◌+◌, ◌-◌, ℕ, List, [], IfOk, IfSome, OnOk, OnSome, length};
 ghost use Rattle.std.specs.Str.{IsCharBoundary};
 ghost use Rattle.cmark_grammar.specs.CodeSpans.{code_text};
 ghost use Rattle.cmark_grammar.specs.Event.{InlineHtml};
@@ -8,8 +8,9 @@ ghost use Rattle.cmark_grammar.specs.LeafSpans.{IsInline, IsSpan};
 ghost use Rattle.cmark_grammar.specs.Tokens.{slice};
 ghost use Rattle.cmark_leaf_text.specs.Reads.{IsRead, IsPart, place_of, text_of, source_of};
 ghost use Rattle.cmark_scan_parts.specs.Shown.{IsBorrowed};
-ghost use Rattle.cmark_text.specs.Shown.{shown, shown_tag, text_bytes};
-ghost use Rattle.cmark_inline.specs.Opens.{Follows, Gives, Passes, events_left, shown_given};
+ghost use Rattle.cmark_text.specs.Shown.{shown, shown_tag, text_bytes, IsBoxed, IsInlined};
+ghost use Rattle.cmark_text.specs.ZeroCopy.{IsLentBy, IsPartIfBorrowed, IsZeroCopy};
+ghost use Rattle.cmark_inline.specs.Opens.{Follows, Gives, GivesZeroCopy, Passes, events_left, shown_given};
 ghost use Rattle.cmark_inline.specs.Stands.{AreOpened, AreSlots, IsSlot};
 
 use crate::link::LinkParts;
@@ -69,6 +70,7 @@ impl<'a> InlineState<'a> {
         ensures slots { self.new.slots ≡ self.old.slots }
         ensures opened { AreOpened (source_of leaf.now) self.new.walk.opened.items }
         ensures gives { IfOk result (λ given. Gives (source_of leaf.now) self.old.walk.opened.items given self.new.walk.opened.items) }
+        ensures lent { IfOk result (λ given. IfSome given (GivesZeroCopy (source_of leaf.now))) }
         ensures fewer { IfOk result (λ given. OnSome given (events_left self.new < events_left self.old)) }
         ensures most { OnOk result (events_left self.new ≤ events_left self.old) }
         ensures few { OnOk result (length self.new.slots.items < 18446744073709551616) }
@@ -94,6 +96,7 @@ impl<'a> InlineState<'a> {
         ensures place { self.new.walk.next ≡ self.old.walk.next }
         ensures opened { AreOpened (source_of leaf.now) self.new.walk.opened.items }
         ensures gives { IfOk result (λ given. Passes (source_of leaf.now) self.old.walk.opened.items given self.new.walk.opened.items) }
+        ensures lent { IfOk result (λ given. IfSome given (GivesZeroCopy (source_of leaf.now))) }
     {
         match slot.kind {
             SlotKind::Begin(element) => {
@@ -125,6 +128,7 @@ impl<'a> InlineState<'a> {
         ensures place { self.new.walk.next ≡ self.old.walk.next }
         ensures opened { AreOpened (source_of leaf.now) self.new.walk.opened.items }
         ensures gives { IfOk result (λ given. Follows (source_of leaf.now) self.old.walk.opened.items (shown_given given) self.new.walk.opened.items) }
+        ensures lent { IfOk result (GivesZeroCopy (source_of leaf.now)) }
     {
         let range = leaf.range(slot.start, slot.end);
         let tag = self.tag(element);
@@ -145,6 +149,7 @@ impl<'a> InlineState<'a> {
         ensures place { self.new.walk.next ≡ self.old.walk.next }
         ensures opened { (source : List ℕ) → AreOpened source self.old.walk.opened.items → AreOpened source self.new.walk.opened.items }
         ensures gives { (source : List ℕ) → AreOpened source self.old.walk.opened.items → Gives source self.old.walk.opened.items result self.new.walk.opened.items }
+        ensures lent { (source : List ℕ) → IfSome result (GivesZeroCopy source) }
         ensures fewer { OnSome result (length self.new.walk.opened.items < length self.old.walk.opened.items) }
         ensures most { length self.new.walk.opened.items ≤ length self.old.walk.opened.items }
     {
@@ -198,10 +203,17 @@ impl<'a> InlineState<'a> {
         ensures slots { self.new.slots ≡ self.old.slots }
         ensures walk { self.new.walk ≡ self.old.walk }
         ensures inline { IfOk result (λ event. IsInline (shown event)) }
+        ensures lent { IfOk result (λ event. IsZeroCopy (source_of leaf.now) event (place_of leaf.now slot.start) (place_of leaf.now (slot.end - 1) + 1)) }
     {
         match slot.kind {
-            SlotKind::OwnedText(index) => Ok(Event::Text(self.take_text(index))),
-            SlotKind::Character(character) => Ok(Event::Text(CowStr::from(character))),
+            SlotKind::OwnedText(index) => {
+                let text = self.take_text(index);
+                Ok(Event::Text(written(self.alloc, leaf, slot, text)?))
+            }
+            SlotKind::Character(character) => {
+                let text = CowStr::from(character);
+                Ok(Event::Text(written(self.alloc, leaf, slot, text)?))
+            }
             SlotKind::Whole(_) => Ok(Event::Text(CowStr::Borrowed(leaf.source_between(
                 slot.start, slot.end,
             )))),
@@ -262,6 +274,7 @@ pub fn text_between<'a>(
     requires part { IsPart (text_of leaf.now) from to }
     ensures value { IfOk result (λ text. text_bytes text ≡ slice (text_of leaf.now) from to) }
     ensures lent { place_of leaf.now (to - 1) + 1 ≡ place_of leaf.now from + (to - from) → IfOk result IsBorrowed }
+    ensures source { IfOk result (IsLentBy (slice (source_of leaf.now) (place_of leaf.now from) (place_of leaf.now (to - 1) + 1))) }
 {
     match leaf.slice(from, to) {
         Some(text) => Ok(CowStr::Borrowed(text)),
@@ -272,9 +285,27 @@ pub fn text_between<'a>(
 // These bytes, which borrow nothing.
 #[inline(never)]
 fn copied<'a>(alloc: Global, text: &str) -> Result<CowStr<'a>, AllocError>
-    ensures { IfOk result (λ copy. text_bytes copy ≡ text.now) }
+    ensures value { IfOk result (λ copy. text_bytes copy ≡ text.now) }
+    ensures own { IfOk result (λ copy. IsBoxed copy ⊎ IsInlined copy) }
 {
     CowStr::Borrowed(text).into_static(alloc)
+}
+
+// A text that stands for what is written at a slot, as that of an entity: the text of its own that it is, if it is not the same.
+#[inline(never)]
+fn written<'a>(
+    alloc: Global,
+    leaf: &LeafText<'a>,
+    slot: Slot,
+    text: CowStr<'a>,
+) -> Result<CowStr<'a>, AllocError>
+    requires read { IsRead leaf.now }
+    requires slot { IsSlot (text_of leaf.now) (length (text_of leaf.now)) slot }
+    ensures value { IfOk result (λ made. text_bytes made ≡ text_bytes text.entry) }
+    ensures lent { IfOk result (IsLentBy (slice (source_of leaf.now) (place_of leaf.now slot.start) (place_of leaf.now (slot.end - 1) + 1))) }
+{
+    let part = leaf.source_between(slot.start, slot.end);
+    text.lent_by(alloc, part)
 }
 
 // Inline HTML that is a part of the source: borrowed, with the prefixes of its later lines.
@@ -285,6 +316,7 @@ fn source_html<'a>(leaf: &LeafText<'a>, slot: Slot, end: usize) -> Given<'a>
     ensures end { place_of leaf.now slot.start < end → IsCharBoundary (source_of leaf.now) end → result.range.end ≡ end }
     ensures part { IsPart (source_of leaf.now) result.range.start result.range.end }
     ensures value { shown result.event ≡ InlineHtml (slice (source_of leaf.now) result.range.start result.range.end) }
+    ensures lent { GivesZeroCopy (source_of leaf.now) result }
 {
     let range = leaf.range_up_to(slot.start, slot.end, end);
     let html = leaf.source_at(range.start, range.end);
@@ -304,7 +336,8 @@ fn code_of<'a>(
     requires read { IsRead leaf.now }
     requires starts { IsCharBoundary (text_of leaf.now) from }
     requires ends { IsCharBoundary (text_of leaf.now) to }
-    ensures { IfOk result (λ text. text_bytes text ≡ code_text (slice (text_of leaf.now) from to)) }
+    ensures value { IfOk result (λ text. text_bytes text ≡ code_text (slice (text_of leaf.now) from to)) }
+    ensures part { IfOk result (IsPartIfBorrowed (source_of leaf.now)) }
 {
     if from >= to {
         return Ok(CowStr::Borrowed(""));

@@ -1,5 +1,5 @@
 -- Events that close all open elements are nested, and there are some.
-use Rattle.std.proofs.Common.{◌≡◌, ℕ, suc, List, [], ◌∷◌, ◌++◌, refl, sym, ap, ◌∙◌, subst, append-nil, arith}
+use Rattle.std.proofs.Common.{◌≡◌, ◌≤◌, ℕ, suc, List, [], ◌∷◌, ◌++◌, refl, sym, ap, ◌∙◌, subst, append-nil, arith}
 use Rattle.std.proofs.lemmas.List.{append_assoc, same_from_push}
 use Rattle.cmark_grammar.specs.Tag.{Tag}
 use Rattle.cmark_grammar.specs.TagEnd.{TagEnd, end_of}
@@ -103,9 +103,11 @@ module _ (source : List ℕ) where
   close-behind before [] after h c = (after, subst (λ l. Completes source l after) (sym (append-nil before)) c)
   close-behind before (one ∷ ones) after h c =
       let part = h 0 one (omega arith) in
+      let less = part.some in
+      let some : one.start ≤ one.end = omega (arith, less) in
       let closes : Completes source (before ++ (one ∷ [])) (end-event one ∷ after) = (
         before,
-        record { range = record { some = part.some; within = part.within; starts = part.starts; ends = part.ends }; opens = (one, record { tag_is = refl; start_is = refl; end_is = refl }, refl) },
+        record { range = record { ordered = some; within = part.within; starts = part.starts; ends = part.ends }; opens = (one, record { tag_is = refl; start_is = refl; end_is = refl }, refl) },
         c,
       ) in
       let r = close-behind (before ++ (one ∷ [])) ones (end-event one ∷ after) (λ k d lt. h (suc k) d (omega (arith, lt))) closes in

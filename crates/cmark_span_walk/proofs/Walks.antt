@@ -141,9 +141,10 @@ module _ {E F : Type 0} where
     pub budget : walk.budget ≤ old.budget
     pub most : (events_left walk ≤ events_left old) ⊎ IsFresh old walk
     pub definitions : definitions_of walk ≡ definitions_of old
+    pub source : source_of walk ≡ source_of old
 
   pub lasts-none : (walk : SpanWalk E F) → Stands walk → Lasts walk walk
-  lasts-none walk s = record { stands = s; back = λ events r. r; budget = omega arith; most = inl (omega arith); definitions = refl }
+  lasts-none walk s = record { stands = s; back = λ events r. r; budget = omega arith; most = inl (omega arith); definitions = refl; source = refl }
 
   pub gives-back : (old mid new : SpanWalk E F) (given : Given) → Lasts old mid → Gives mid (Some given) new → Gives old (Some given) new
   gives-back old mid new given l g events r = l.back (shown_ranged given ∷ events) (g events r)
@@ -202,9 +203,9 @@ module _ {E F : Type 0} where
 
     -- behind the lines of a leaf, which is entered
     pub lasts-leaf : (old head new : SpanWalk E F) (leaf : Leaf) (others : List Segment) → Lasts old head → mid.budget ≡ head.budget
-        → ((events : List Ranged) → Remains mid events → Remains head events) → definitions_of new ≡ definitions_of head
+        → ((events : List Ranged) → Remains mid events → Remains head events) → definitions_of new ≡ definitions_of head → source_of mid ≡ source_of head
         → s.0 ≡ Content leaf ∷ others → EntersLeaf others new → source_of new ≡ source_of mid → new.budget ≡ mid.budget - 1 → Lasts old new
-    lasts-leaf old head new leaf others l same back definitions e enters source spent =
+    lasts-leaf old head new leaf others l same back definitions kept e enters source spent =
         let some = not-spent (Content leaf) others e in
         let le = l.budget in
         record {
@@ -213,4 +214,5 @@ module _ {E F : Type 0} where
           budget = omega (arith, spent, same, le);
           most = inr (record { spent = (let q : new.budget < old.budget = omega (arith, some, spent, same, le) in q); inside = enters.inside; none_open = enters.none_open });
           definitions = definitions ∙ l.definitions;
+          source = source ∙ kept ∙ l.source;
         }

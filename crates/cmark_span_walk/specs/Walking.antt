@@ -11,6 +11,7 @@ use Rattle.cmark_inline.specs.Opens.{Follows}
 use Rattle.cmark_inline.specs.Stands.{AreOpened, AreSlots}
 use Rattle.cmark_leaf_text.specs.Reads as reads
 use Rattle.cmark_leaf_text.specs.Reads.{IsRead, text_of}
+use Rattle.cmark_text.specs.ZeroCopy.{IsZeroCopy}
 use Rattle.cmark_walk.specs.declared.reading.Ranged.{Ranged as Given}
 use Rattle.cmark_walk.specs.Walking as walking
 use Rattle.cmark_walk.specs.Walking.{AreLinesOf, shown_ranged}
@@ -20,6 +21,10 @@ use Rattle.cmark_span_walk.specs.declared.span_walk.SpanWalk.{SpanWalk}
 abbrev pub Completes : (source : List ℕ) → (open_ones : List Opened) → List Ranged → Type 0
 Completes source open_ones [] = open_ones ≡ []
 Completes source open_ones (r ∷ rs) = (next : List Opened) × Follows source open_ones r next × Completes source next rs
+
+-- the zero-copy law of an event with its range
+abbrev pub GivesZeroCopy : (source : List ℕ) → Given → Type 0
+GivesZeroCopy source given = IsZeroCopy source given.event given.range.start given.range.end
 
 module _ {E F : Type 0} where
   abbrev pub source_of : SpanWalk E F → List ℕ

@@ -1,12 +1,13 @@
 //! The walk over a document's events with the spans of its leaves.
 
-ghost use Rattle.std.specs.Prelude.{◌≡◌, ◌<◌, ◌≤◌, true, false, List, [], length, IfOk, OnOk, OnSome};
+ghost use Rattle.std.specs.Prelude.{◌≡◌, ◌<◌, ◌≤◌, ℕ, true, false, List, [], length, IfOk, IfSome, OnOk, OnSome};
 ghost use Rattle.cmark_grammar.specs.Event.{Ranged as Shown};
 ghost use Rattle.cmark_grammar.specs.LeafSpans.{AreGiven};
 ghost use Rattle.cmark_grammar.specs.LeafText.{Leaf};
 ghost use Rattle.cmark_grammar.specs.SpanDocuments.{Segment};
-ghost use Rattle.cmark_inline.specs.Opens.{shown_given};
+ghost use Rattle.cmark_inline.specs.Opens.{shown_given, GivesZeroCopy as SpanZeroCopy};
 ghost use Rattle.cmark_walk.specs.Walking.{Remains as BlocksRemain, definitions_of as block_definitions, shown_ranged, text_of};
+ghost use Rattle.cmark_span_walk.specs.Walking.{GivesZeroCopy};
 
 use cmark_inline::{BrokenLinkCallback, Given, InlineState, Reader, SpecialBytes, special_bytes};
 use cmark_items::RefDefs;
@@ -57,6 +58,7 @@ impl<'input, 'e, E: EntityLookup, F: BrokenLinkCallback<'input> + Drop> SpanWalk
             → Remains result events
             → AreGiven text.entry.now left events }
         ensures definitions { definitions_of result ≡ block_definitions walk.entry }
+        ensures source { source_of result ≡ text.entry.now }
     {
         SpanWalk {
             walk,
@@ -85,8 +87,10 @@ impl<'input, 'e, E: EntityLookup, F: BrokenLinkCallback<'input> + Drop> SpanWalk
         requires { Stands self.old }
         ensures stands { OnOk result (Stands self.new) }
         ensures given { IfOk result (λ given. Gives self.old given self.new) }
+        ensures lent { IfOk result (λ given. IfSome given (GivesZeroCopy (source_of self.old))) }
         ensures fewer { IfOk result (λ given. OnSome given (events_left self.new < events_left self.old)) }
         ensures definitions { definitions_of self.new ≡ definitions_of self.old }
+        ensures source { source_of self.new ≡ source_of self.old }
     {
         loop {
             if let Some(given) = self.next_span()? {
@@ -112,11 +116,13 @@ impl<'input, 'e, E: EntityLookup, F: BrokenLinkCallback<'input> + Drop> SpanWalk
         requires { Stands self.old }
         ensures stands { OnOk result (Stands self.new) }
         ensures given { IfOk result (λ given. GivesSpan self.old given self.new) }
+        ensures lent { IfOk result (λ given. IfSome given (GivesZeroCopy (source_of self.old))) }
         ensures fewer { IfOk result (λ given. OnSome given (events_left self.new < events_left self.old)) }
         ensures most { OnOk result (events_left self.new ≤ events_left self.old) }
         ensures few { OnOk result (self.old.in_leaf ≡ true → length self.new.inline.slots.items < 18446744073709551616) }
         ensures slots { OnOk result (self.new.inline.slots ≡ self.old.inline.slots) }
         ensures budget { self.new.budget ≡ self.old.budget }
+        ensures source { source_of self.new ≡ source_of self.old }
         ensures definitions { definitions_of self.new ≡ definitions_of self.old }
     {
         if !self.in_leaf {
@@ -135,7 +141,7 @@ impl<'input, 'e, E: EntityLookup, F: BrokenLinkCallback<'input> + Drop> SpanWalk
     fn enter_leaf(&mut self) -> Result<(), AllocError>
         requires { (leaf : Leaf) × (others : List Segment) × BeforeLeaf self.old leaf others }
         ensures enters { OnOk result ((leaf : Leaf) (others : List Segment) → BeforeLeaf self.old leaf others → EntersLeaf others self.new) }
-        ensures source { OnOk result (source_of self.new ≡ source_of self.old) }
+        ensures source { source_of self.new ≡ source_of self.old }
         ensures budget { self.new.budget ≡ self.old.budget }
         ensures definitions { definitions_of self.new ≡ definitions_of self.old }
     {
@@ -156,7 +162,8 @@ impl<'input, 'e, E: EntityLookup, F: BrokenLinkCallback<'input> + Drop> SpanWalk
 // An event of a leaf, as an event of the document.
 #[inline(always)]
 fn ranged<'a>(given: Given<'a>) -> Ranged<'a>
-    ensures { shown_ranged result ≡ shown_given given.entry }
+    ensures value { shown_ranged result ≡ shown_given given.entry }
+    ensures lent { (source : List ℕ) → SpanZeroCopy source given.entry → GivesZeroCopy source result }
 {
     Ranged {
         event: given.event,

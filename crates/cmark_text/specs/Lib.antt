@@ -3,3 +3,4 @@ pub mod InPlace
 pub mod Labelled
 pub mod Marks
 pub mod Shown
+pub mod ZeroCopy

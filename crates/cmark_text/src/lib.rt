@@ -9,6 +9,7 @@ mod event;
 mod inline;
 mod kind;
 mod label;
+mod lending;
 mod options;
 mod text;
 

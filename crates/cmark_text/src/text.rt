@@ -1,6 +1,6 @@
 //! Texts of events.
 
-ghost use Rattle.std.specs.Prelude.{◌≡◌, ◌≤◌, Some, IsOk, IfOk, length, string_bytes, nat_eq, encode_utf8};
+ghost use Rattle.std.specs.Prelude.{◌≡◌, ◌⊎◌, ◌≤◌, Some, IsOk, IfOk, length, string_bytes, nat_eq, encode_utf8};
 ghost use Rattle.std.specs.Cmp.{on_equiv, on_per, partial_equiv_from_equiv};
 ghost use Rattle.std.specs.Cmp.Lexicographic.{pointwise, nat_list_eq_equiv};
 ghost use Rattle.std.specs.Cmp.Rules.{hashing};
@@ -79,6 +79,7 @@ impl<'a> CowStr<'a> {
     /// The same text in a value that borrows nothing. A borrowed text is copied, into the value itself where it is short.
     pub fn into_static(self, alloc: Global) -> Result<CowStr<'static>, AllocError>
         ensures value { IfOk result (λ made. text_bytes made ≡ text_bytes self.entry) }
+        ensures own { IfOk result (λ made. IsBoxed made ⊎ IsInlined made) }
         ensures succeeds { StaysInPlace self.entry → IsOk result }
     {
         match self {
@@ -118,6 +119,7 @@ impl<'a> CowStr<'a> {
 /// A text that borrows nothing, in the value itself where it is short.
 fn own(alloc: Global, text: &str) -> Result<CowStr<'static>, AllocError>
     ensures value { IfOk result (λ made. text_bytes made ≡ text.now) }
+    ensures own { IfOk result (λ made. IsBoxed made ⊎ IsInlined made) }
     ensures succeeds { length text.now ≤ 22 → IsOk result }
 {
     match InlineStr::try_from(text) {

@@ -4,6 +4,7 @@ use Rattle.std.specs.Str.{IsCharBoundary}
 use Rattle.cmark_text.specs.declared.text.CowStr.{CowStr}
 use Rattle.cmark_text.specs.declared.event.Event.{Event as TextEvent}
 use Rattle.cmark_text.specs.Shown.{shown}
+use Rattle.cmark_text.specs.ZeroCopy.{IsZeroCopy}
 use Rattle.cmark_tree.specs.Forest as forest
 use Rattle.cmark_tree.specs.Forest.{Forest}
 use Rattle.cmark_tree.specs.Arena.{Placed}
@@ -34,6 +35,8 @@ use Rattle.cmark_walk.specs.declared.reading.Met.TheVariants as met
 use Rattle.cmark_walk.specs.declared.reading.Stage.{Stage}
 use Rattle.cmark_walk.specs.declared.reading.Stage.TheVariants as stage
 use Rattle.cmark_walk.specs.declared.reading.Ranged.{Ranged}
+use Rattle.cmark_walk.specs.declared.reading.Reading.{Reading}
+use Rattle.cmark_walk.specs.declared.reading.Reading.TheVariants as reading
 use Rattle.cmark_walk.specs.declared.reading.Step.{Step}
 use Rattle.cmark_walk.specs.declared.reading.Step.TheVariants as step
 
@@ -197,3 +200,20 @@ GivesRanged event item (step.Event given) = shown_ranged given ≡ record { even
 GivesRanged event item step.Leaf = ⊥
 GivesRanged event item step.Silent = ⊥
 GivesRanged event item step.Over = ⊥
+
+-- the zero-copy law of what is read, met and given: of an event over these bytes of the text
+abbrev pub ReadsZeroCopy : List ℕ → Item → Reading → Type 0
+ReadsZeroCopy text item (reading.Around tag) = Unit {0}
+ReadsZeroCopy text item (reading.Alone event) = IsZeroCopy text event item.start item.end
+ReadsZeroCopy text item reading.Inside = Unit {0}
+
+abbrev pub MeetsZeroCopy : List ℕ → Met → Type 0
+MeetsZeroCopy text (met.Event given) = IsZeroCopy text given.event given.range.start given.range.end
+MeetsZeroCopy text met.Leaf = Unit {0}
+MeetsZeroCopy text met.Over = Unit {0}
+
+abbrev pub StepsZeroCopy : List ℕ → Step → Type 0
+StepsZeroCopy text (step.Event given) = IsZeroCopy text given.event given.range.start given.range.end
+StepsZeroCopy text step.Leaf = Unit {0}
+StepsZeroCopy text step.Silent = Unit {0}
+StepsZeroCopy text step.Over = Unit {0}

@@ -1,6 +1,6 @@
 //! The walk over a document's tree.
 
-ghost use Rattle.std.specs.Prelude.{◌≡◌, ℕ, false, List, [], length, option_map, IfOk, OnOk, OnErr};
+ghost use Rattle.std.specs.Prelude.{◌≡◌, ℕ, false, List, [], length, option_map, IfOk, IfSome, OnOk, OnErr};
 ghost use Rattle.std.specs.Str.{IsCharBoundary};
 ghost use Rattle.cmark_tree.specs.Forest.{Forest};
 ghost use Rattle.cmark_tree.specs.Building.{Is};
@@ -10,16 +10,18 @@ ghost use Rattle.cmark_grammar.specs.BlockReading.{read_as};
 ghost use Rattle.cmark_grammar.specs.DrawnDocument.{settled, kind_within};
 ghost use Rattle.cmark_grammar.specs.Ranges.{InOrder, AllAt};
 ghost use Rattle.cmark_grammar.specs.SpanDocuments.{Segment, segments, is_leaf};
+ghost use Rattle.cmark_grammar.specs.Event as event;
 ghost use Rattle.cmark_grammar.specs.Tokens.{slice};
 ghost use Rattle.cmark_items.specs.ItemNodes.{shown_forest, nodes_of, list_number};
 ghost use Rattle.cmark_items.specs.Tables.{tables};
 ghost use Rattle.cmark_text.specs.Shown.{shown, shown_tag, shown_end, text_bytes};
+ghost use Rattle.cmark_text.specs.ZeroCopy.{IsLentBy, IsZeroCopy};
 ghost use Rattle.cmark_walk.specs.Reads.{event_in, tag_in, end_in, shown_reading};
 ghost use Rattle.cmark_leaf_text.specs.declared.stretch.LeafLine.{LeafLine};
 ghost use Rattle.cmark_text.specs.declared.text.CowStr.{CowStr};
 ghost use Rattle.cmark_walk.specs.declared.reading.Met.TheVariants as met;
 ghost use Rattle.cmark_walk.specs.declared.reading.Stage.TheVariants as stage;
-ghost use Rattle.cmark_walk.specs.Walking.{Drawn, IsDrawn, Outer, StandsBelow, IsBelow, tight_below, Remains, Goes, Gives, GivesStep, HoldsLines, definitions_of, text_of, IsAt, IsPast, GivesRanged, texts_of};
+ghost use Rattle.cmark_walk.specs.Walking.{Drawn, IsDrawn, Outer, StandsBelow, IsBelow, tight_below, Remains, Goes, Gives, GivesStep, HoldsLines, definitions_of, text_of, IsAt, IsPast, GivesRanged, texts_of, ReadsZeroCopy, StepsZeroCopy, MeetsZeroCopy};
 
 use crate::reading::{Met, Ranged, Reading, Stage, Step};
 use bitflags::Flags;
@@ -86,6 +88,7 @@ impl<'a> Walk<'a> {
     pub fn next(&mut self, lines: &mut Vec<LeafLine>) -> Result<Met<'a>, AllocError>
         requires { Goes self.old }
         ensures given { IfOk result (λ met. (left : List Segment) → Remains self.old left → Gives left met lines.new.items self.new) }
+        ensures lent { IfOk result (MeetsZeroCopy (text_of self.old)) }
         ensures refused { OnErr result ((left : List Segment) → Remains self.old left → Remains self.new left) }
         ensures goes { Goes self.new }
         ensures definitions { definitions_of self.new ≡ definitions_of self.old }
@@ -109,6 +112,7 @@ impl<'a> Walk<'a> {
     fn step(&mut self, lines: &mut Vec<LeafLine>) -> Result<Step<'a>, AllocError>
         requires { Goes self.old }
         ensures given { IfOk result (λ step. (left : List Segment) → Remains self.old left → GivesStep left step lines.new.items self.new) }
+        ensures lent { IfOk result (StepsZeroCopy (text_of self.old)) }
         ensures refused { OnErr result ((left : List Segment) → Remains self.old left → Remains self.new left) }
         ensures goes { Goes self.new }
         ensures definitions { definitions_of self.new ≡ definitions_of self.old }
@@ -133,6 +137,7 @@ impl<'a> Walk<'a> {
         requires at { IsAt self.old ix }
         requires before { self.old.stage ≡ stage.Before }
         ensures given { IfOk result (λ step. (left : List Segment) (lines : List LeafLine) → Remains self.old left → GivesStep left step lines self.new) }
+        ensures lent { IfOk result (StepsZeroCopy (text_of self.old)) }
         ensures refused { OnErr result ((left : List Segment) → Remains self.old left → Remains self.new left) }
         ensures goes { Goes self.new }
         ensures definitions { definitions_of self.new ≡ definitions_of self.old }
@@ -204,6 +209,7 @@ impl<'a> Walk<'a> {
         requires at { IsAt self.old ix }
         requires behind { self.old.stage ≡ stage.Behind }
         ensures given { (left : List Segment) (lines : List LeafLine) → Remains self.old left → GivesStep left result lines self.new }
+        ensures lent { StepsZeroCopy (text_of self.old) result }
         ensures goes { Goes self.new }
         ensures definitions { definitions_of self.new ≡ definitions_of self.old }
         ensures text { text_of self.new ≡ text_of self.old }
@@ -223,6 +229,7 @@ impl<'a> Walk<'a> {
     fn leave(&mut self) -> Step<'a>
         requires { IsPast self.old }
         ensures given { (left : List Segment) (lines : List LeafLine) → Remains self.old left → GivesStep left result lines self.new }
+        ensures lent { StepsZeroCopy (text_of self.old) result }
         ensures goes { Goes self.new }
         ensures definitions { definitions_of self.new ≡ definitions_of self.old }
         ensures text { text_of self.new ≡ text_of self.old }
@@ -244,8 +251,9 @@ impl<'a> Walk<'a> {
     fn read(&self, item: Item) -> Result<Reading<'a>, AllocError>
         requires below { IsBelow self.now }
         requires drawn { IsDrawn self.now item }
-        ensures { IfOk result (λ reading. (z : Zip Item) (above : List Outer) (node : BlockNode) → StandsBelow self.now z above → Drawn self.now.text.now (texts_of self.now) item node
+        ensures value { IfOk result (λ reading. (z : Zip Item) (above : List Outer) (node : BlockNode) → StandsBelow self.now z above → Drawn self.now.text.now (texts_of self.now) item node
             → shown_reading reading ≡ read_as (kind_within (tight_below above) node.kind)) }
+        ensures lent { IfOk result (ReadsZeroCopy (text_of self.now) item) }
     {
         if let Some(event) = self.event(item)? {
             return Ok(Reading::Alone(event));
@@ -260,17 +268,22 @@ impl<'a> Walk<'a> {
     #[inline(always)]
     fn event(&self, item: Item) -> Result<Option<Event<'a>>, AllocError>
         requires { IsDrawn self.now item }
-        ensures { IfOk result (λ event. (node : BlockNode) → Drawn self.now.text.now (texts_of self.now) item node
+        ensures value { IfOk result (λ event. (node : BlockNode) → Drawn self.now.text.now (texts_of self.now) item node
             → option_map shown event ≡ event_in (read_as node.kind)) }
+        ensures lent { IfOk result (λ event. IfSome event (λ e. IsZeroCopy (text_of self.now) e item.start item.end)) }
     {
         match item.body {
             ItemBody::Text { .. } => Ok(Some(Event::Text(self.slice(item)))),
             ItemBody::Html => Ok(Some(Event::Html(self.slice(item)))),
             ItemBody::SynthesizeText(index) => {
                 let text = self.allocations[index].clone(self.alloc)?;
-                Ok(Some(Event::Text(text)))
+                let event = self.written(text, item)?;
+                Ok(Some(event))
             }
-            ItemBody::SynthesizeChar(c) => Ok(Some(Event::Text(CowStr::from(c)))),
+            ItemBody::SynthesizeChar(c) => {
+                let event = self.written(CowStr::from(c), item)?;
+                Ok(Some(event))
+            }
             ItemBody::Rule => Ok(Some(Event::Rule)),
             _ => Ok(None),
         }
@@ -280,9 +293,21 @@ impl<'a> Walk<'a> {
     #[inline(always)]
     fn slice(&self, item: Item) -> CowStr<'a>
         requires { IsDrawn self.now item }
-        ensures { text_bytes result ≡ slice self.now.text.now item.start item.end }
+        ensures value { text_bytes result ≡ slice self.now.text.now item.start item.end }
+        ensures lent { IsLentBy (slice self.now.text.now item.start item.end) result }
     {
         CowStr::Borrowed(&self.text[item.start..item.end])
+    }
+
+    // The event of a text that is written nowhere, such as the spaces that are left of a tab.
+    #[inline(never)]
+    fn written(&self, text: CowStr<'a>, item: Item) -> Result<Event<'a>, AllocError>
+        requires { IsDrawn self.now item }
+        ensures value { IfOk result (λ made. shown made ≡ event.Text (text_bytes text.entry)) }
+        ensures lent { IfOk result (λ made. IsZeroCopy (text_of self.now) made item.start item.end) }
+    {
+        let part = &self.text[item.start..item.end];
+        Ok(Event::Text(text.lent_by(self.alloc, part)?))
     }
 
     // The tag of an element among the siblings at hand; none for what is no element.
@@ -392,7 +417,8 @@ fn first_number(mark: u8, number: u64) -> Option<u64>
 // An event with an item's range.
 #[inline(always)]
 fn given<'a>(event: Event<'a>, item: Item) -> Step<'a>
-    ensures { GivesRanged event.entry item result }
+    ensures value { GivesRanged event.entry item result }
+    ensures lent { (text : List ℕ) → IsZeroCopy text event.entry item.start item.end → StepsZeroCopy text result }
 {
     Step::Event(Ranged {
         event,

@@ -15,29 +15,30 @@ use Rattle.cmark_walk.specs.declared.reading.Ranged.{Ranged as Item}
 use Rattle.cmark_walk.specs.Walking.{shown_ranged}
 use Rattle.pulldown_cmark.specs.declared.parse.Parser.{Parser}
 use Rattle.pulldown_cmark.specs.Walking.{GoesOn}
-use Rattle.pulldown_cmark.specs.Parsing.{CanGo, IsOver, GivesStep, Left, Reads, Remains, Shows, ShowsStep, definitions, events_left}
+use Rattle.pulldown_cmark.specs.Parsing.{CanGo, IsOver, GivesStep, Left, Reads, Remains, definitions, events_left, text_of}
 
 module _ {E F : Type 0} where
   -- the walk of a parser that is not over
   pub going : (parser : Parser E F) → parser.is_over ≡ false → CanGo parser → walking.Stands parser.spans
   going parser e can = go can.goes
     where
-      go : GoesOn Remains IsOver Shows parser → walking.Stands parser.spans
+      go : GoesOn Remains IsOver parser → walking.Stands parser.spans
       go (inl over) = absurd (let q : true ≡ false = sym over ∙ e in cc)
       go (inr l) = let r = subst (λ b. Left b parser l.0) e l.1 in (r.left, r.stands)
 
-  goes : (parser : Parser E F) → parser.is_over ≡ false → walking.Stands parser.spans → GoesOn Remains IsOver ShowsStep parser
+  goes : (parser : Parser E F) → parser.is_over ≡ false → walking.Stands parser.spans → GoesOn Remains IsOver parser
   goes parser e s = let l = some-left parser.spans s in inr (l.0, subst (λ b. Left b parser l.0) (sym e) l.1)
 
   -- an event is given, and the others are left
   pub gives-some : (old new : Parser E F) (item : Item) → old.is_over ≡ false → new.is_over ≡ false → walking.Stands new.spans → walking.Gives old.spans (Some item) new.spans
-      → walking.events_left new.spans < walking.events_left old.spans → definitions new ≡ definitions old → GivesStep old (Some (Ok item)) new
-  gives-some old new item e n stands gives less same = record {
+      → walking.GivesZeroCopy (text_of old) item → walking.events_left new.spans < walking.events_left old.spans → text_of new ≡ text_of old → definitions new ≡ definitions old → GivesStep old (Some (Ok item)) new
+  gives-some old new item e n stands gives lent less text same = record {
     next = record {
-      first = (shown_ranged item, refl, back);
+      first = (shown_ranged item, record { is = refl; lent = lent }, back);
       goes_on = goes new n stands;
       over = λ over. absurd (let q : true ≡ false = sym over ∙ e in cc);
     };
+    text = text;
     definitions = same;
     fewer = let a = left-of old e in let b = left-of new n in omega (arith, a, b, less);
   }
@@ -49,13 +50,14 @@ module _ {E F : Type 0} where
       back events r = subst (λ b. Left b old (shown_ranged item ∷ events)) (sym e) (gives events (subst (λ b. Left b new events) n r))
 
   -- no event was left
-  pub gives-none : (old new : Parser E F) → old.is_over ≡ false → new.is_over ≡ true → walking.Gives old.spans None new.spans → definitions new ≡ definitions old → GivesStep old None new
-  gives-none old new e n gives same = record {
+  pub gives-none : (old new : Parser E F) → old.is_over ≡ false → new.is_over ≡ true → walking.Gives old.spans None new.spans → text_of new ≡ text_of old → definitions new ≡ definitions old → GivesStep old None new
+  gives-none old new e n gives text same = record {
     next = record {
       first = (subst (λ b. Left b old []) (sym e) gives, n);
       goes_on = inl n;
       over = λ over. absurd (let q : true ≡ false = sym over ∙ e in cc);
     };
+    text = text;
     definitions = same;
     fewer = tt;
   }

@@ -1,5 +1,5 @@
 -- What a parser still has to give, and the definitions that it found.
-use Rattle.std.specs.Prelude.{◌≡◌, ◌<◌, ℕ, suc, Bool, true, false, if◌then◌else◌, List, [], OnSome, Option, option_map, Result}
+use Rattle.std.specs.Prelude.{◌≡◌, ◌<◌, ℕ, suc, Bool, true, false, if◌then◌else◌, List, [], ◌∷◌, OnSome, Option, option_map, Result}
 use Rattle.std.specs.declared.alloc.AllocError.{AllocError}
 use Rattle.std.specs.declared.ops.Range.{Range}
 use Rattle.cmark_blocks.specs.Runs.{shown_reference}
@@ -15,29 +15,42 @@ use Rattle.cmark_items.specs.declared.definitions.RefDefs.{RefDefs}
 use Rattle.cmark_span_walk.specs.Walking as walking
 use Rattle.cmark_text.specs.declared.event.Event.{Event}
 use Rattle.cmark_text.specs.Shown.{shown}
+use Rattle.cmark_text.specs.ZeroCopy.{IsZeroCopy}
 use Rattle.cmark_walk.specs.declared.reading.Ranged.{Ranged as Given}
 use Rattle.cmark_walk.specs.Walking.{shown_ranged}
 use Rattle.pulldown_cmark.specs.declared.parse.Parser.{Parser}
 use Rattle.pulldown_cmark.specs.declared.parse.OffsetIter.{OffsetIter}
 use Rattle.pulldown_cmark.specs.Walking.{GoesOn, GivesNext, ReadsFrom}
 
--- an item is the event, or the event with its range
-abbrev pub Shows : Event → Ranged → Type 0
-Shows event r = shown event ≡ r.event
+-- an item is the event, or the event with its range, and its text is borrowed as the zero-copy law says
+pub record Shows (text : List ℕ) (event : Event) (r : Ranged) : Type 0 where
+  pub is : shown event ≡ r.event
+  pub lent : IsZeroCopy text event r.start r.end
 
-abbrev pub ShowsStep : Given → Ranged → Type 0
-ShowsStep given r = shown_ranged given ≡ r
+pub record ShowsStep (text : List ℕ) (given : Given) (r : Ranged) : Type 0 where
+  pub is : shown_ranged given ≡ r
+  pub lent : IsZeroCopy text given.event r.start r.end
 
 abbrev pub shown_item : Event × Range ℕ → Ranged
 shown_item item = record { event = shown item.0; start = item.1.start; end = item.1.end }
 
-abbrev pub ShowsRanged : Event × Range ℕ → Ranged → Type 0
-ShowsRanged item r = shown_item item ≡ r
+pub record ShowsRanged (text : List ℕ) (item : Event × Range ℕ) (r : Ranged) : Type 0 where
+  pub is : shown_item item ≡ r
+  pub lent : IsZeroCopy text item.0 r.start r.end
+
+-- each of these events is borrowed as the zero-copy law says
+abbrev pub AreZeroCopy : (text : List ℕ) → List (Event × Range ℕ) → Type 0
+AreZeroCopy text [] = Unit {0}
+AreZeroCopy text (item ∷ items) = IsZeroCopy text item.0 item.1.start item.1.end × AreZeroCopy text items
 
 module _ {E F : Type 0} where
   -- how many events are left at most
   abbrev pub events_left : Parser E F → ℕ
   events_left parser = if parser.is_over then 0 else suc (walking.events_left parser.spans)
+
+  -- the text that is parsed
+  abbrev pub text_of : Parser E F → List ℕ
+  text_of parser = walking.source_of parser.spans
 
   -- the link reference definitions
   abbrev pub definitions : Parser E F → RefDefs
@@ -57,15 +70,17 @@ module _ {E F : Type 0} where
 
   -- a call may be made: the walk is over, or some events are left
   pub record CanGo (parser : Parser E F) : Type 0 where
-    pub goes : GoesOn Remains IsOver Shows parser
+    pub goes : GoesOn Remains IsOver parser
 
-  -- one call: the first event of what was left, and the same definitions
+  -- one call: the first event of what was left, of the same text, and the same definitions
   pub record Gives (old : Parser E F) (given : Option (Result Event AllocError)) (new : Parser E F) : Type 0 where
-    pub next : GivesNext Remains IsOver Shows old given new
+    pub next : GivesNext Remains IsOver (Shows (text_of old)) old given new
+    pub text : text_of new ≡ text_of old
     pub definitions : definitions new ≡ definitions old
 
   pub record GivesStep (old : Parser E F) (given : Option (Result Given AllocError)) (new : Parser E F) : Type 0 where
-    pub next : GivesNext Remains IsOver ShowsStep old given new
+    pub next : GivesNext Remains IsOver (ShowsStep (text_of old)) old given new
+    pub text : text_of new ≡ text_of old
     pub definitions : definitions new ≡ definitions old
     pub fewer : OnSome given (events_left new < events_left old)
 
@@ -92,6 +107,9 @@ module _ {E F : Type 0} where
   abbrev pub ranged_definitions : OffsetIter E F → RefDefs
   ranged_definitions iter = definitions iter.parser
 
+  abbrev pub ranged_text : OffsetIter E F → List ℕ
+  ranged_text iter = text_of iter.parser
+
   abbrev pub RemainsRanged : OffsetIter E F → List Ranged → Type 0
   RemainsRanged iter events = Remains iter.parser events
 
@@ -102,5 +120,6 @@ module _ {E F : Type 0} where
   CanGoRanged iter = CanGo iter.parser
 
   pub record GivesRanged (old : OffsetIter E F) (given : Option (Result (Event × Range ℕ) AllocError)) (new : OffsetIter E F) : Type 0 where
-    pub next : GivesNext RemainsRanged IsRangedOver ShowsRanged old given new
+    pub next : GivesNext RemainsRanged IsRangedOver (ShowsRanged (ranged_text old)) old given new
+    pub text : ranged_text new ≡ ranged_text old
     pub definitions : ranged_definitions new ≡ ranged_definitions old

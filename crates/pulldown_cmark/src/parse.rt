@@ -36,7 +36,7 @@ pub struct Parser<'input, E, F = DefaultBrokenLinkCallback> {
 const EVENTS_A_BYTE: u128 = 12;
 
 impl<'input, E: EntityLookup> Parser<'input, E> {
-    ghost use Rattle.pulldown_cmark.specs.Parsing.{Reads, Defines, CanGo};
+    ghost use Rattle.pulldown_cmark.specs.Parsing.{Reads, Defines, CanGo, text_of};
 
     /// A parser of `text`, with no extension. `entities` says what the entity names stand for. Where memory is refused
     /// there is no parser.
@@ -45,6 +45,7 @@ impl<'input, E: EntityLookup> Parser<'input, E> {
         text: &'input str,
         entities: &'input E,
     ) -> Result<Parser<'input, E>, AllocError>
+        ensures text { IfOk result (λ parser. text_of parser ≡ text.entry.now) }
         ensures reads { IfOk result (Reads text.entry.now no_options (E.replacement entities.entry.now)) }
         ensures definitions { IfOk result (Defines text.entry.now no_options (E.replacement entities.entry.now)) }
         ensures goes { IfOk result CanGo }
@@ -61,6 +62,7 @@ impl<'input, E: EntityLookup> Parser<'input, E> {
         options: Options,
         entities: &'input E,
     ) -> Result<Parser<'input, E>, AllocError>
+        ensures text { IfOk result (λ parser. text_of parser ≡ text.entry.now) }
         ensures reads { IfOk result (Reads text.entry.now (shown_options options) (E.replacement entities.entry.now)) }
         ensures definitions { IfOk result (Defines text.entry.now (shown_options options) (E.replacement entities.entry.now)) }
         ensures goes { IfOk result CanGo }
@@ -71,7 +73,7 @@ impl<'input, E: EntityLookup> Parser<'input, E> {
 }
 
 impl<'input, E: EntityLookup, F: BrokenLinkCallback<'input> + Drop> Parser<'input, E, F> {
-    ghost use Rattle.pulldown_cmark.specs.Parsing.{Reads, Defines, CanGo, CanGoRanged, GivesStep, definitions, walk_of};
+    ghost use Rattle.pulldown_cmark.specs.Parsing.{Reads, Defines, CanGo, CanGoRanged, GivesStep, definitions, text_of, walk_of};
 
     /// A parser of `text` with these options, which asks the callback, if there is one, for each reference without a
     /// definition. The callback is asked while the events are given.
@@ -82,6 +84,7 @@ impl<'input, E: EntityLookup, F: BrokenLinkCallback<'input> + Drop> Parser<'inpu
         entities: &'input E,
         callback: Option<F>,
     ) -> Result<Parser<'input, E, F>, AllocError>
+        ensures text { IfOk result (λ parser. text_of parser ≡ text.entry.now) }
         ensures reads { IfOk result (Reads text.entry.now (shown_options options) (E.replacement entities.entry.now)) }
         ensures definitions { IfOk result (Defines text.entry.now (shown_options options) (E.replacement entities.entry.now)) }
         ensures goes { IfOk result CanGo }

@@ -12,7 +12,7 @@ pub returns-in-Some-clause-given : goal.returns-in-Some-clause-given
 returns-in-Some-clause-given g c =
     let follows = subst (λ o. Gives (source_of c.args.self.now) (opened_of c.args.self.now) o c.next.new.self.walk.opened.items) c.in-Some.is c.in_ok-given.ensures.gives in
     let new = record c.args.self.now { inline = c.next.new.self } in
-    subst (λ r. (events : List Ranged) → Remains new events → Remains c.args.self.now (r ∷ events)) (sym c.ranged.ensures) (spanned-gives c.args.self.now c.next.new.self _ c.requires c.if-not-self.false follows)
+    subst (λ r. (events : List Ranged) → Remains new events → Remains c.args.self.now (r ∷ events)) (sym c.ranged.ensures.value) (spanned-gives c.args.self.now c.next.new.self _ c.requires c.if-not-self.false follows)
 
 pub returns-in-None-clause-stands : goal.returns-in-None-clause-stands
 returns-in-None-clause-stands g c = closed-stands c.args.self.now c.next.new.self c.requires

@@ -18,45 +18,45 @@ returns-in_err-push-in-Around-clause-refused c = on-err c.from_residual-in_err-p
 pub returns-then-is_leaf-clause-given : goal.returns-then-is_leaf-clause-given
 returns-then-is_leaf-clause-given c =
     enters-leaf c.args.self.now c.item-item.result.now c.args.ix c.args.self.now.tree c.requires.at.1 c.item-item.ensures c.requires.before c.in-Around.tag c.given.result
-    (λ z above node b d. ap shown_reading (sym c.in-Around.is) ∙ c.in_ok-tag.ensures z above node b d) (λ text texts node d. sym c.if-is_leaf.true ∙ c.is_leaf.ensures text texts node d) c.given.ensures
+    (λ z above node b d. ap shown_reading (sym c.in-Around.is) ∙ c.in_ok-tag.ensures.value z above node b d) (λ text texts node d. sym c.if-is_leaf.true ∙ c.is_leaf.ensures text texts node d) c.given.ensures.value
 
 pub returns-then-is_leaf-clause-goes : goal.returns-then-is_leaf-clause-goes
 returns-then-is_leaf-clause-goes c =
     goes-after c.requires.at.0.0 c.given.result [] _ (enters-leaf c.args.self.now c.item-item.result.now c.args.ix c.args.self.now.tree c.requires.at.1 c.item-item.ensures c.requires.before c.in-Around.tag c.given.result
-    (λ z above node b d. ap shown_reading (sym c.in-Around.is) ∙ c.in_ok-tag.ensures z above node b d) (λ text texts node d. sym c.if-is_leaf.true ∙ c.is_leaf.ensures text texts node d)
-    c.given.ensures c.requires.at.0.0 [] c.requires.at.0.1)
+    (λ z above node b d. ap shown_reading (sym c.in-Around.is) ∙ c.in_ok-tag.ensures.value z above node b d) (λ text texts node d. sym c.if-is_leaf.true ∙ c.is_leaf.ensures text texts node d)
+    c.given.ensures.value c.requires.at.0.0 [] c.requires.at.0.1)
 
 pub returns-in_ok-push-in-Around-clause-given : goal.returns-in_ok-push-in-Around-clause-given
 returns-in_ok-push-in-Around-clause-given c =
     enters-around c.args.self.now c.item-item.result.now c.args.ix c.push.new.self c.requires.at.1 c.item-item.ensures c.requires.before c.in-Around.tag c.given-in-Around.result
-    (λ z above node b d. ap shown_reading (sym c.in-Around.is) ∙ c.in_ok-tag.ensures z above node b d) (λ text texts node d. sym c.if-is_leaf.false ∙ c.is_leaf.ensures text texts node d)
-    c.in_ok-push-in-Around.ensures.ok c.given-in-Around.ensures
+    (λ z above node b d. ap shown_reading (sym c.in-Around.is) ∙ c.in_ok-tag.ensures.value z above node b d) (λ text texts node d. sym c.if-is_leaf.false ∙ c.is_leaf.ensures text texts node d)
+    c.in_ok-push-in-Around.ensures.ok c.given-in-Around.ensures.value
 
 pub returns-in_ok-push-in-Around-clause-goes : goal.returns-in_ok-push-in-Around-clause-goes
 returns-in_ok-push-in-Around-clause-goes c =
     goes-after c.requires.at.0.0 c.given-in-Around.result [] _ (enters-around c.args.self.now c.item-item.result.now c.args.ix c.push.new.self c.requires.at.1 c.item-item.ensures c.requires.before c.in-Around.tag c.given-in-Around.result
-    (λ z above node b d. ap shown_reading (sym c.in-Around.is) ∙ c.in_ok-tag.ensures z above node b d) (λ text texts node d. sym c.if-is_leaf.false ∙ c.is_leaf.ensures text texts node d)
-    c.in_ok-push-in-Around.ensures.ok c.given-in-Around.ensures c.requires.at.0.0 [] c.requires.at.0.1)
+    (λ z above node b d. ap shown_reading (sym c.in-Around.is) ∙ c.in_ok-tag.ensures.value z above node b d) (λ text texts node d. sym c.if-is_leaf.false ∙ c.is_leaf.ensures text texts node d)
+    c.in_ok-push-in-Around.ensures.ok c.given-in-Around.ensures.value c.requires.at.0.0 [] c.requires.at.0.1)
 
 pub returns-in-Alone-clause-given : goal.returns-in-Alone-clause-given
 returns-in-Alone-clause-given c =
     passes-alone c.args.self.now c.item-item.result.now c.args.ix c.next_sibling.new.self c.requires.at.1 c.item-item.ensures c.requires.before c.in-Alone.event c.given-in-Alone.result
-    (λ z above node b d. ap shown_reading (sym c.in-Alone.is) ∙ c.in_ok-tag.ensures z above node b d) c.next_sibling.ensures.past c.given-in-Alone.ensures
+    (λ z above node b d. ap shown_reading (sym c.in-Alone.is) ∙ c.in_ok-tag.ensures.value z above node b d) c.next_sibling.ensures.past c.given-in-Alone.ensures.value
 
 pub returns-in-Alone-clause-goes : goal.returns-in-Alone-clause-goes
 returns-in-Alone-clause-goes c =
     goes-after c.requires.at.0.0 c.given-in-Alone.result [] _
     (passes-alone c.args.self.now c.item-item.result.now c.args.ix c.next_sibling.new.self c.requires.at.1 c.item-item.ensures c.requires.before c.in-Alone.event c.given-in-Alone.result
-    (λ z above node b d. ap shown_reading (sym c.in-Alone.is) ∙ c.in_ok-tag.ensures z above node b d) c.next_sibling.ensures.past c.given-in-Alone.ensures c.requires.at.0.0 [] c.requires.at.0.1)
+    (λ z above node b d. ap shown_reading (sym c.in-Alone.is) ∙ c.in_ok-tag.ensures.value z above node b d) c.next_sibling.ensures.past c.given-in-Alone.ensures.value c.requires.at.0.0 [] c.requires.at.0.1)
 
 pub returns-in-Inside-clause-given : goal.returns-in-Inside-clause-given
 returns-in-Inside-clause-given c = λ left lines r.
     enters-inside c.args.self.now c.item-item.result.now c.args.ix c.args.self.now.tree c.requires.at.1 c.item-item.ensures c.requires.before
-    (λ z above node b d. ap shown_reading (sym c.in-Inside.is) ∙ c.in_ok-tag.ensures z above node b d) left r
+    (λ z above node b d. ap shown_reading (sym c.in-Inside.is) ∙ c.in_ok-tag.ensures.value z above node b d) left r
 
 pub returns-in-Inside-clause-goes : goal.returns-in-Inside-clause-goes
 returns-in-Inside-clause-goes c = (
   c.requires.at.0.0,
   enters-inside c.args.self.now c.item-item.result.now c.args.ix c.args.self.now.tree c.requires.at.1 c.item-item.ensures c.requires.before
-      (λ z above node b d. ap shown_reading (sym c.in-Inside.is) ∙ c.in_ok-tag.ensures z above node b d) c.requires.at.0.0 c.requires.at.0.1,
+      (λ z above node b d. ap shown_reading (sym c.in-Inside.is) ∙ c.in_ok-tag.ensures.value z above node b d) c.requires.at.0.0 c.requires.at.0.1,
 )

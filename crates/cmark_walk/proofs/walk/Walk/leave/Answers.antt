@@ -10,13 +10,13 @@ item-item-requires c = parent-number c.args.self.now c.in-Some.ix c.pop.new.self
 pub returns-in-Some-end-clause-given : goal.returns-in-Some-end-clause-given
 returns-in-Some-end-clause-given c =
     leaves-some c.args.self.now c.in-Some.ix c.pop.new.self c.requires.1 c.in-Some.ensures.result c.in-Some.ensures.popped c.item-item.result.now c.next_sibling.new.self c.item-item.ensures c.next_sibling.ensures.past
-    c.in-Some-end.end c.given.result (λ z above node b d. ap (option_map shown_end) (sym c.in-Some-end.is) ∙ c.end-end.ensures z above node b d) c.given.ensures
+    c.in-Some-end.end c.given.result (λ z above node b d. ap (option_map shown_end) (sym c.in-Some-end.is) ∙ c.end-end.ensures z above node b d) c.given.ensures.value
 
 pub returns-in-Some-end-clause-goes : goal.returns-in-Some-end-clause-goes
 returns-in-Some-end-clause-goes c =
     goes-after c.requires.0.0 c.given.result [] _
     (leaves-some c.args.self.now c.in-Some.ix c.pop.new.self c.requires.1 c.in-Some.ensures.result c.in-Some.ensures.popped c.item-item.result.now c.next_sibling.new.self c.item-item.ensures c.next_sibling.ensures.past
-    c.in-Some-end.end c.given.result (λ z above node b d. ap (option_map shown_end) (sym c.in-Some-end.is) ∙ c.end-end.ensures z above node b d) c.given.ensures c.requires.0.0 [] c.requires.0.1)
+    c.in-Some-end.end c.given.result (λ z above node b d. ap (option_map shown_end) (sym c.in-Some-end.is) ∙ c.end-end.ensures z above node b d) c.given.ensures.value c.requires.0.0 [] c.requires.0.1)
 
 pub returns-in-None-clause-given : goal.returns-in-None-clause-given
 returns-in-None-clause-given c = λ left lines r.

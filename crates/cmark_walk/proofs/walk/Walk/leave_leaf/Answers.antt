@@ -10,12 +10,12 @@ item-item-requires c = focus-node c.args.self.now c.args.ix c.requires.at
 pub returns-in-Some-clause-given : goal.returns-in-Some-clause-given
 returns-in-Some-clause-given c =
     ends-some c.args.self.now c.item-item.result.now c.args.ix c.requires.at.1 c.item-item.ensures c.next_sibling.new.self c.next_sibling.ensures.past c.requires.behind
-    c.in-Some.end c.given.result (λ z above node b d. ap (option_map shown_end) (sym c.in-Some.is) ∙ c.end-end.ensures z above node b d) c.given.ensures
+    c.in-Some.end c.given.result (λ z above node b d. ap (option_map shown_end) (sym c.in-Some.is) ∙ c.end-end.ensures z above node b d) c.given.ensures.value
 
 pub returns-in-Some-clause-goes : goal.returns-in-Some-clause-goes
 returns-in-Some-clause-goes c =
     goes-after c.requires.at.0.0 c.given.result [] _ (ends-some c.args.self.now c.item-item.result.now c.args.ix c.requires.at.1 c.item-item.ensures c.next_sibling.new.self c.next_sibling.ensures.past c.requires.behind
-    c.in-Some.end c.given.result (λ z above node b d. ap (option_map shown_end) (sym c.in-Some.is) ∙ c.end-end.ensures z above node b d) c.given.ensures c.requires.at.0.0 [] c.requires.at.0.1)
+    c.in-Some.end c.given.result (λ z above node b d. ap (option_map shown_end) (sym c.in-Some.is) ∙ c.end-end.ensures z above node b d) c.given.ensures.value c.requires.at.0.0 [] c.requires.at.0.1)
 
 pub returns-in-None-clause-given : goal.returns-in-None-clause-given
 returns-in-None-clause-given c = λ left lines r.

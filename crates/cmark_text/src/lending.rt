@@ -1,0 +1,23 @@
+//! Which texts are borrowed.
+
+ghost use Rattle.std.specs.Prelude.{◌≡◌, IfOk};
+ghost use Rattle.cmark_text.specs.Shown.{text_bytes};
+ghost use Rattle.cmark_text.specs.ZeroCopy.{IsLentBy};
+
+use crate::text::CowStr;
+use std::alloc::{AllocError, Global};
+
+impl<'a> CowStr<'a> {
+    /// The same text as an event has it that stands over a part of another text: that part, borrowed, where it is the same, and
+    /// elsewhere a text that borrows nothing. Memory is taken only for a borrowed text that is not the part and is too long for
+    /// an [`InlineStr`](crate::InlineStr).
+    pub fn lent_by(self, alloc: Global, part: &'a str) -> Result<CowStr<'a>, AllocError>
+        ensures value { IfOk result (λ made. text_bytes made ≡ text_bytes self.entry) }
+        ensures lent { IfOk result (IsLentBy part.entry.now) }
+    {
+        if self.as_str() == part {
+            return Ok(CowStr::Borrowed(part));
+        }
+        self.into_static(alloc)
+    }
+}
