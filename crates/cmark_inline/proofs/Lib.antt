@@ -11,3 +11,6 @@ pub mod MarkSteps
 pub mod AutolinkSteps
 pub mod AngleSteps
 pub mod Characters
+pub mod MarkupSteps
+pub mod SourcePlaces
+pub mod AngleMakes
