@@ -1,16 +1,14 @@
 -- What begins at an angle bracket where no comment, declaration, CDATA section or processing instruction opens.
-use Rattle.std.specs.Prelude.{Option, Some, None, option_map, if◌then◌else◌, codes, bytes_eq, nat_le}
-use Rattle.std.proofs.Common.{◌≡◌, ◌⊎◌, inl, inr, ℕ, zero, suc, ◌+◌, ◌-◌, ◌<◌, ◌≤◌, ◌==◌, ◌||◌, Bool, true, false, List, [], ◌∷◌, length, take, drop, get_or, refl, sym, ap, subst, ◌∙◌, arith, length-drop, true≢false}
+use Rattle.std.specs.Prelude.{Some, None, if◌then◌else◌, codes}
+use Rattle.std.proofs.Common.{◌≡◌, ℕ, suc, ◌+◌, ◌-◌, ◌<◌, ◌≤◌, ◌==◌, Bool, true, false, List, [], ◌∷◌, length, take, drop, get_or, refl, sym, ap, ◌∙◌, arith, length-drop, true≢false}
 use Rattle.std.proofs.lemmas.Bool.{eq-eqb, or_parts, false_from_ne_true}
 use Rattle.std.proofs.lemmas.Slice.Eq.{bytes_eq-Decides}
 use Rattle.cmark_grammar.specs.Answers.{Lookup}
 use Rattle.cmark_grammar.specs.Autolinks.{autolink_in}
 use Rattle.cmark_grammar.specs.InlineHtml.{behind_markup, behind_opened, opened_in, behind_inline_html, takes_lines}
-use Rattle.cmark_grammar.specs.InlineTokens.{item_at, less_than, autolink_or, markup_or, tag_or_text, tag_kind, source_from, from, size_to, place_of}
-use Rattle.cmark_grammar.specs.Items.{ItemKind, Plain, Own, Autolink, Html, OwnedHtml, Token}
-use Rattle.cmark_grammar.specs.LeafText.{end_of}
+use Rattle.cmark_grammar.specs.InlineTokens.{item_at, autolink_or, markup_or, tag_or_text, tag_kind, source_from, from, size_to, place_of}
+use Rattle.cmark_grammar.specs.Items.{Plain, Own, Autolink, Html, OwnedHtml, Token}
 use Rattle.cmark_grammar.specs.Letters.{first_is, starts, behind_first}
-use Rattle.cmark_grammar.specs.LinkDefinitions.{Found}
 use Rattle.cmark_grammar.specs.Options.{Options, no_options}
 use Rattle.cmark_grammar.specs.Tags.{behind_tag, no_prefix}
 use Rattle.cmark_grammar.specs.Tokens.{slice}

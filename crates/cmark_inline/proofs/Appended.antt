@@ -1,6 +1,6 @@
 -- Slots that stand for the item that begins where they were appended.
 use Rattle.std.specs.Prelude.{Option, Some, None, option_map, if◌then◌else◌, slice_get, encode_utf8}
-use Rattle.std.proofs.Common.{◌≡◌, ◌⊎◌, inl, inr, ℕ, suc, ◌+◌, ◌-◌, ◌<◌, ◌≤◌, ◌==◌, Bool, true, false, List, [], ◌∷◌, ◌++◌, length, take, drop, get_or, refl, sym, ap, subst, ◌∙◌, arith, length-drop, append_assoc, zero}
+use Rattle.std.proofs.Common.{◌≡◌, ◌⊎◌, inl, inr, ℕ, suc, ◌+◌, ◌-◌, ◌<◌, ◌≤◌, ◌==◌, Bool, true, false, List, [], ◌∷◌, ◌++◌, length, drop, get_or, refl, sym, ap, subst, ◌∙◌, arith, length-drop, append_assoc, zero}
 use Rattle.std.specs.List.{prefix_len}
 use Rattle.std.proofs.lemmas.List.{append-nil, length_push, get_or_push}
 use Rattle.std.proofs.lemmas.Option.{slice_get-get_or}
@@ -8,11 +8,10 @@ use Rattle.cmark_grammar.specs.Answers.{Lookup}
 use Rattle.cmark_grammar.specs.CodeSpans.{is_backtick, backticks, code_in, code_text}
 use Rattle.cmark_grammar.specs.Columns.{is_blank_byte}
 use Rattle.cmark_grammar.specs.InlineTokens.{item_at, code_or, entity_or, place_of, break_or, escape_at, escaped_backtick}
-use Rattle.cmark_grammar.specs.Items.{ItemKind, SoftBreak, HardBreak, Plain, Own, Code, Written, Item, Token, Stands}
+use Rattle.cmark_grammar.specs.Items.{SoftBreak, HardBreak, Plain, Own, Code, Written, Item, Stands}
 use Rattle.cmark_grammar.specs.Letters.{first_is, behind_if, and_then}
-use Rattle.cmark_grammar.specs.LineBreaks.{ends_with_two_spaces, hard_break, backslash_break_in, line_break_in, LineBreak}
+use Rattle.cmark_grammar.specs.LineBreaks.{ends_with_two_spaces, hard_break, backslash_break_in, line_break_in}
 use Rattle.cmark_grammar.specs.Options.{Options}
-use Rattle.cmark_grammar.specs.Tags.{behind_ending}
 use Rattle.cmark_grammar.specs.Tokens.{slice, Entity, entity_in, is_punctuation}
 use Rattle.cmark_text.specs.Shown.{text_bytes}
 use Rattle.cmark_text.specs.declared.text.CowStr.{CowStr}
@@ -28,9 +27,16 @@ use Rattle.cmark_inline.specs.declared.state.InlineState.{InlineState}
 use Rattle.cmark_inline.specs.declared.step.Cursor.{Cursor}
 use Rattle.cmark_inline.proofs.TokenSteps.{line-token, found-at-ending, slash-begins, slash-break-behind, break-stands, code-begins, entity-begins, front, line-at-slash, slash-escapes, slash-run, some-ticks}
 
+-- what else a state holds stays
+pub kept : (old new between : InlineState) → new ≡ between → between ≡ record old { slots = new.slots; texts = between.texts } → new ≡ record old { slots = new.slots; texts = new.texts }
+kept old new between e f = e ∙ f ∙ ap (λ (s : InlineState). record old { slots = new.slots; texts = s.texts }) (sym e)
+
+pub slots-alone : (old new : InlineState) → new ≡ record old { slots = new.slots } → new ≡ record old { slots = new.slots; texts = new.texts }
+slots-alone old new e = kept old new (record old { slots = new.slots }) e refl
+
 module _ (o : Options) (l : Lookup) (text : List ℕ) (here : Cursor) (old new : InlineState) (next : Cursor) where
   -- where only slots were appended
-  no-texts : new ≡ record old { slots = new.slots } → new.texts.items ≡ old.texts.items ++ []
+  pub no-texts : new ≡ record old { slots = new.slots } → new.texts.items ≡ old.texts.items ++ []
   no-texts e = ap (λ (s : InlineState). s.texts.items) e ∙ sym (append-nil old.texts.items)
 
   -- ## Line breaks
@@ -57,7 +63,7 @@ module _ (o : Options) (l : Lookup) (text : List ℕ) (here : Cursor) (old new :
       → Appends o l text here old new next
   break-appends stop found slot hard behind before lt blanks ends value places is-hard is at pending slots others =
       let two : Bool = ends_with_two_spaces (slice text stop here.at) in
-      let e = ap (λ z. record { kind = if z then kind.HardBreak else kind.SoftBreak; start = if z then stop else here.at; end = found.end }) is-hard in
+      let slot-is = ap (λ z. record { kind = if z then kind.HardBreak else kind.SoftBreak; start = if z then stop else here.at; end = found.end }) is-hard in
       let a = places.behind in let b = places.ordered in let w = places.ends.0 in
       record {
         from = stop;
@@ -73,7 +79,8 @@ module _ (o : Options) (l : Lookup) (text : List ℕ) (here : Cursor) (old new :
         slots = slots;
         owned = [];
         texts = no-texts others;
-        is = break-item new.texts.items slot two stop here.at found.end (is ∙ e);
+        is = break-item new.texts.items slot two stop here.at found.end (is ∙ slot-is);
+        others = slots-alone old new others;
       }
 
   -- a hard break that begins with a backslash
@@ -108,6 +115,7 @@ module _ (o : Options) (l : Lookup) (text : List ℕ) (here : Cursor) (old new :
           end = ap (λ (s : Slot). s.end) is;
           says = subst (Says text new.texts.items slot.start slot.end HardBreak) (sym (ap (λ (s : Slot). s.kind) is)) tt;
         };
+        others = slots-alone old new others;
       }
 
   -- ## Texts of their own
@@ -128,6 +136,7 @@ module _ (o : Options) (l : Lookup) (text : List ℕ) (here : Cursor) (old new :
     owned = [];
     texts = no-texts others;
     is = record { start = refl; end = refl; says = tt };
+    others = slots-alone old new others;
   }
 
   -- ## Code spans
@@ -158,6 +167,7 @@ module _ (o : Options) (l : Lookup) (text : List ℕ) (here : Cursor) (old new :
         owned = [];
         texts = no-texts others;
         is = record { start = refl; end = refl; says = refl };
+        others = slots-alone old new others;
       }
 
   -- a run of backticks that opens none
@@ -178,8 +188,9 @@ module _ (o : Options) (l : Lookup) (text : List ℕ) (here : Cursor) (old new :
       → here.pending ≤ here.at → begins_at o l text here.at ≡ item_at (Written bytes) here.at end → next.at ≡ end → next.pending ≡ next.at
       → Puts here.pending here.at (record { kind = kind.OwnedText index; start = here.at; end = end }) old.slots.items new.slots.items
       → new.texts.items ≡ old.texts.items ++ (text_is ∷ []) → index ≡ length old.texts.items → text_bytes text_is ≡ bytes
+      → new ≡ record old { slots = new.slots; texts = new.texts }
       → Appends o l text here old new next
-  owned-appends bytes end index text_is behind token at pending slots texts place is = record {
+  owned-appends bytes end index text_is behind token at pending slots texts place is others = record {
     from = here.at;
     item = record { kind = Written bytes; start = here.at; end = end };
     slot = record { kind = kind.OwnedText index; start = here.at; end = end };
@@ -192,6 +203,7 @@ module _ (o : Options) (l : Lookup) (text : List ℕ) (here : Cursor) (old new :
     owned = text_is ∷ [];
     texts = texts;
     is = record { start = refl; end = refl; says = (text_is, last-get old.texts.items new.texts.items text_is index texts place, is) };
+    others = others;
   }
 
   -- a character that stands for some bytes
@@ -212,6 +224,7 @@ module _ (o : Options) (l : Lookup) (text : List ℕ) (here : Cursor) (old new :
     owned = [];
     texts = no-texts others;
     is = record { start = refl; end = refl; says = is };
+    others = slots-alone old new others;
   }
 
   -- ## Entities

@@ -1,11 +1,11 @@
 -- Autolinks where they were found.
-use Rattle.std.specs.Prelude.{Option, Some, None, option_map, if◌then◌else◌, nat_le}
+use Rattle.std.specs.Prelude.{Option, Some, None, if◌then◌else◌, nat_le}
 use Rattle.std.proofs.Common.{◌≡◌, ◌⊎◌, inl, inr, ℕ, zero, suc, ◌+◌, ◌-◌, ◌<◌, ◌≤◌, ◌==◌, ◌||◌, ◌&&◌, not, Bool, true, false, List, [], ◌∷◌, length, take, drop, get_or, refl, sym, ap, ◌∙◌, arith, cond, eqb-true, length-drop, drop-drop, true≢false}
 use Rattle.std.specs.List.{prefix_len}
 use Rattle.std.proofs.lemmas.Bool.{and_parts, leb-true, false_from_ne_true}
 use Rattle.std.proofs.lemmas.List.{length-take-le, get_or-drop}
 use Rattle.cmark_grammar.specs.Autolinks.{autolink_in, has_scheme, is_uri_byte, closed_by}
-use Rattle.cmark_grammar.specs.Letters.{first_is, is_letter, lower}
+use Rattle.cmark_grammar.specs.Letters.{first_is, is_letter}
 use Rattle.cmark_grammar.specs.LinkDefinitions.{Found}
 use Rattle.cmark_grammar.specs.Tokens.{slice}
 use Rattle.cmark_scan_parts.specs.Shown.{Part, cut_at}

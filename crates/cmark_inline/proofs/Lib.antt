@@ -13,3 +13,6 @@ pub mod AutolinkSteps
 pub mod AngleSteps
 pub mod Characters
 pub mod Lending
+pub mod MarkupSteps
+pub mod SourcePlaces
+pub mod AngleMakes

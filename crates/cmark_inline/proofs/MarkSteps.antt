@@ -1,6 +1,6 @@
 -- What begins at runs of delimiters, at hyphens, dots and quotes.
-use Rattle.std.specs.Prelude.{Option, Some, None, reverse, chars, encode_utf8, codes, if◌then◌else◌, nat_lt, not}
-use Rattle.std.proofs.Common.{◌≡◌, ◌⊎◌, inl, inr, ℕ, zero, suc, ◌+◌, ◌-◌, ◌<◌, ◌≤◌, ◌==◌, ◌||◌, Bool, true, false, List, [], ◌∷◌, ◌++◌, length, take, drop, get_or, refl, sym, ap, ◌∙◌, arith, eqb-true}
+use Rattle.std.specs.Prelude.{Option, reverse, chars, encode_utf8, codes, if◌then◌else◌, not}
+use Rattle.std.proofs.Common.{◌≡◌, ◌⊎◌, inl, inr, ℕ, suc, ◌+◌, ◌-◌, ◌<◌, ◌≤◌, ◌==◌, ◌||◌, Bool, true, false, List, [], ◌∷◌, ◌++◌, length, take, drop, get_or, refl, sym, ap, ◌∙◌, arith, eqb-true}
 use Rattle.std.specs.List.{prefix_len}
 use Rattle.std.proofs.lemmas.Bool.{or_cases, not-true, lt-ltb, le-ltb, false_from_ne_true}
 use Rattle.std.proofs.lemmas.List.{take-append-drop}
@@ -9,8 +9,8 @@ use lib.Utf8.{encode}
 use Rattle.cmark_grammar.specs.Answers.{Lookup}
 use Rattle.cmark_grammar.specs.Dashes.{dashes_of, dash_text}
 use Rattle.cmark_grammar.specs.Flanking.{Flanking, flanking}
-use Rattle.cmark_grammar.specs.InlineTokens.{first_of, item_at, run_at, run_or, hyphens, dots, quote_at, smart_or, character_before, character_at}
-use Rattle.cmark_grammar.specs.Items.{Plain, Written, Quoted, Delimiters, Token}
+use Rattle.cmark_grammar.specs.InlineTokens.{first_of, item_at, run_at, run_or, hyphens, quote_at, smart_or, character_before, character_at}
+use Rattle.cmark_grammar.specs.Items.{Plain, Written, Quoted, Delimiters}
 use Rattle.cmark_grammar.specs.Letters.{starts}
 use Rattle.cmark_grammar.specs.Options.{Options}
 use Rattle.cmark_grammar.specs.Quotes.{quote_beside}

@@ -1,6 +1,6 @@
 -- Where a text is read on behind a break and behind inline HTML.
-use Rattle.std.specs.Prelude.{not, if◌then◌else◌, max, min, reverse, None}
-use Rattle.std.proofs.Common.{◌≡◌, ℕ, zero, suc, ◌+◌, ◌-◌, ◌<◌, ◌≤◌, ◌==◌, Bool, true, false, List, [], ◌∷◌, ◌++◌, length, take, drop, get_or, refl, sym, ap, ◌∙◌, arith, length-drop}
+use Rattle.std.specs.Prelude.{not, if◌then◌else◌, min, reverse, None}
+use Rattle.std.proofs.Common.{◌≡◌, ℕ, ◌-◌, ◌<◌, ◌≤◌, Bool, true, false, List, length, take, drop, get_or, sym, ap, ◌∙◌, arith, length-drop}
 use Rattle.std.proofs.lemmas.List.{append-nil}
 use Rattle.cmark_grammar.specs.InlineTokens.{from, before, line_begins}
 use Rattle.cmark_grammar.specs.Lines.{is_content}

@@ -1,8 +1,8 @@
 -- What begins at a place of a text that is read as a leaf of one stretch.
-use Rattle.std.specs.Prelude.{Option, Some, None, option_map, max, min, not, if◌then◌else◌, reverse, codes, bytes_eq}
+use Rattle.std.specs.Prelude.{Option, Some, None, option_map, max, if◌then◌else◌}
 use Rattle.std.specs.Option.{option_or}
-use Rattle.std.proofs.Common.{◌≡◌, ◌⊎◌, inl, inr, ℕ, zero, suc, ◌+◌, ◌-◌, ◌<◌, ◌≤◌, ◌==◌, ◌||◌, ◌&&◌, Bool, true, false, List, [], ◌∷◌, ◌++◌, length, take, drop, get_or, refl, sym, ap, subst, ◌∙◌, arith, cond, eqb-true, length-drop, drop-drop, true≢false}
-use Rattle.std.specs.List.{prefix_len, take_while}
+use Rattle.std.proofs.Common.{◌≡◌, ◌⊎◌, inl, inr, ℕ, zero, suc, ◌+◌, ◌-◌, ◌<◌, ◌≤◌, ◌==◌, Bool, true, false, List, [], ◌∷◌, length, take, drop, get_or, refl, sym, ap, subst, ◌∙◌, arith, cond, eqb-true, length-drop, drop-drop, true≢false}
+use Rattle.std.specs.List.{take_while}
 use Rattle.std.proofs.Math.Seq.{drop-cons}
 use Rattle.std.proofs.lemmas.Bool.{or_cases}
 use Rattle.std.proofs.lemmas.List.{append-nil, get_or-drop, length-take-le}
@@ -13,11 +13,11 @@ use Rattle.cmark_grammar.specs.InlineTokens.{item_at, break_or, break_to, code_o
 use Rattle.cmark_grammar.specs.Items.{SoftBreak, HardBreak, Plain, Own, Token, Stands}
 use Rattle.cmark_grammar.specs.Letters.{first_is, behind_all, behind_if, and_then}
 use Rattle.cmark_grammar.specs.LineBreaks.{LineBreak, hard_break, ends_with_two_spaces, blank_break, backslash_break_in, blank_break_in, line_break_in}
-use Rattle.cmark_grammar.specs.LinkDefinitions.{Found, behind_blanks}
+use Rattle.cmark_grammar.specs.LinkDefinitions.{behind_blanks}
 use Rattle.cmark_grammar.specs.Options.{Options}
 use Rattle.cmark_grammar.specs.Readers.{Reader}
 use Rattle.cmark_grammar.specs.Tags.{behind_ending}
-use Rattle.cmark_grammar.specs.Tokens.{Entity, entity_in, is_punctuation, slice}
+use Rattle.cmark_grammar.specs.Tokens.{entity_in, is_punctuation, slice}
 use Rattle.cmark_scan_parts.proofs.Lists.{rest_of}
 use Rattle.cmark_finds.specs.Shown.{shown_break}
 use Rattle.cmark_finds.specs.declared.breaks.LineBreak as find

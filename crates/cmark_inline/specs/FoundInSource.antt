@@ -1,18 +1,36 @@
 -- Inline HTML that is found in the text of a leaf, or in its source.
-use Rattle.std.specs.Prelude.{◌≡◌, ◌⊎◌, ℕ, ◌+◌, ◌-◌, List, length, drop, slice_index, Option, Some}
-use Rattle.cmark_grammar.specs.InlineHtml.{behind_inline_html}
+use Rattle.std.specs.Prelude.{◌≡◌, ◌⊎◌, ℕ, ◌+◌, ◌-◌, ◌≤◌, ◌<◌, Bool, true, false, ◌&&◌, List, length, drop, codes, Some, None}
+use Rattle.cmark_grammar.specs.Answers.{Lookup}
+use Rattle.cmark_grammar.specs.Autolinks.{autolink_in}
+use Rattle.cmark_grammar.specs.InlineHtml.{behind_inline_html, behind_markup}
+use Rattle.cmark_grammar.specs.Letters.{first_is, is_letter, starts}
+use Rattle.cmark_grammar.specs.Options.{Options}
 use Rattle.cmark_grammar.specs.Tokens.{slice}
 use Rattle.cmark_leaf_text.specs.declared.leaf_text.LeafText.{LeafText}
 use Rattle.cmark_leaf_text.specs.Reads.{IsFirstFrom, text_of, source_of, place_of}
-use Rattle.cmark_inline.specs.declared.state.FoundHtml.{FoundHtml}
+use Rattle.cmark_inline.specs.Tokens.{Passes, Puts, Appends, AppendsAutolink, opens_markup, read_on}
+use Rattle.cmark_inline.specs.declared.markup.FoundHtml.{FoundHtml}
+use Rattle.cmark_inline.specs.declared.markup.MarkupKind.{MarkupKind}
+use Rattle.cmark_inline.specs.declared.markup.MarkupKind.TheVariants as markup
+use Rattle.cmark_inline.specs.declared.markup.Unclosed.{Unclosed}
 use Rattle.cmark_inline.specs.declared.slot.SlotKind.TheVariants as kind
+use Rattle.cmark_inline.specs.declared.state.InlineState.{InlineState}
+use Rattle.cmark_inline.specs.declared.step.Cursor.{Cursor}
 
 -- the source from a byte of the leaf on, up to the end of its last line
 abbrev pub source_from : LeafText → ℕ → List ℕ
 source_from leaf at = slice (source_of leaf) (place_of leaf at) (place_of leaf (length (text_of leaf) - 1) + 1)
 
+-- the bytes that open markup, and those behind it
+abbrev pub opens_as : MarkupKind → List ℕ → Bool
+opens_as markup.Comment bs = starts (codes "<!--") bs
+opens_as markup.Processing bs = starts (codes "<?") bs
+opens_as markup.Declaration bs = starts (codes "<!") bs && first_is is_letter (drop 2 bs)
+opens_as markup.Cdata bs = starts (codes "<![CDATA[") bs
+
 -- a tag of the leaf's text
 pub record IsTag (leaf : LeafText) (at : ℕ) (found : FoundHtml) : Type 0 where
+  pub opens : opens_markup (drop (at + 1) (text_of leaf)) ≡ false
   pub kind_is : found.kind ≡ kind.InlineHtml
   pub closes : behind_inline_html (drop at (text_of leaf)) ≡ Some (drop found.end (text_of leaf))
 
@@ -20,10 +38,56 @@ pub record IsTag (leaf : LeafText) (at : ℕ) (found : FoundHtml) : Type 0 where
 -- behind that
 pub record IsInSource (leaf : LeafText) (at : ℕ) (found : FoundHtml) : Type 0 where
   pub size : ℕ
-  pub opens : (slice_index (text_of leaf) (at + 1) ≡ 33) ⊎ (slice_index (text_of leaf) (at + 1) ≡ 63)
-  pub closes : behind_inline_html (source_from leaf at) ≡ Some (drop size (source_from leaf at))
+  pub opens : opens_markup (drop (at + 1) (text_of leaf)) ≡ true
+  pub closes : behind_markup (source_from leaf at) ≡ Some (drop size (source_from leaf at))
   pub kind_is : found.kind ≡ kind.SourceHtml (place_of leaf at + size)
   pub goes_on : IsFirstFrom leaf (place_of leaf at + size) found.end
 
 abbrev pub IsFound : LeafText → (at : ℕ) → FoundHtml → Type 0
 IsFound leaf at found = IsTag leaf at found ⊎ IsInSource leaf at found
+
+-- where nothing is found, the text has no tag there, or the source no markup that is closed
+pub record FindsNone (leaf : LeafText) (at : ℕ) : Type 0 where
+  pub tag : opens_markup (drop (at + 1) (text_of leaf)) ≡ false → behind_inline_html (drop at (text_of leaf)) ≡ None
+  pub markup : opens_markup (drop (at + 1) (text_of leaf)) ≡ true → behind_markup (source_from leaf at) ≡ None
+
+-- no markup of this kind is closed in the leaf that opens at this byte or behind it
+abbrev pub NoneCloses : MarkupKind → LeafText → (at : ℕ) → Type 0
+NoneCloses kind leaf at = (k : ℕ) → at ≤ k → k < length (text_of leaf) → opens_as kind (source_from leaf k) ≡ true → behind_markup (source_from leaf k) ≡ None
+
+-- what is noted as sought in vain is not closed
+pub record AreUnclosed (leaf : LeafText) (at : ℕ) (unclosed : Unclosed) : Type 0 where
+  pub comment : unclosed.comment ≡ true → NoneCloses markup.Comment leaf at
+  pub processing : unclosed.processing ≡ true → NoneCloses markup.Processing leaf at
+  pub declaration : unclosed.declaration ≡ true → NoneCloses markup.Declaration leaf at
+  pub cdata : unclosed.cdata ≡ true → NoneCloses markup.Cdata leaf at
+
+-- ## What begins at a `<`
+
+-- the text that was pending, and then a slot for markup that the source closes
+pub record AppendsMarkup (leaf : LeafText) (here : Cursor) (old new : InlineState) (next : Cursor) : Type 0 where
+  pub autolink : autolink_in (drop (here.at + 1) (text_of leaf)) ≡ None
+  pub found : FoundHtml
+  pub is : IsInSource leaf here.at found
+  pub at : next.at ≡ read_on (text_of leaf) found.end
+  pub pending : next.pending ≡ next.at
+  pub slots : Puts here.pending here.at (record { kind = found.kind; start = here.at; end = found.end }) old.slots.items new.slots.items
+  pub others : new ≡ record old { slots = new.slots }
+
+-- the text that was pending, and then the `<` as a text of its own, where markup opens that the source does not close
+pub record AppendsUnclosed (leaf : LeafText) (here : Cursor) (old new : InlineState) (next : Cursor) : Type 0 where
+  pub autolink : autolink_in (drop (here.at + 1) (text_of leaf)) ≡ None
+  pub opens : opens_markup (drop (here.at + 1) (text_of leaf)) ≡ true
+  pub closes : behind_markup (source_from leaf here.at) ≡ None
+  pub at : next.at ≡ here.at + 1
+  pub pending : next.pending ≡ next.at
+  pub slots : Puts here.pending here.at (record { kind = kind.Text; start = here.at; end = next.at }) old.slots.items new.slots.items
+  pub others : new ≡ record old { slots = new.slots }
+
+abbrev pub ReadsLess : Options → Lookup → LeafText → (here : Cursor) → (old new : InlineState) → (next : Cursor) → Type 0
+ReadsLess options lookup leaf here old new next =
+    Passes options lookup (text_of leaf) here old new next
+    ⊎ (AppendsAutolink options lookup (text_of leaf) here old new next
+    ⊎ (Appends options lookup (text_of leaf) here old new next
+    ⊎ (AppendsMarkup leaf here old new next
+    ⊎ AppendsUnclosed leaf here old new next)))

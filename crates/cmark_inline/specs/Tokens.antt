@@ -1,24 +1,27 @@
 -- What begins at a place of a leaf's text, and the slots that stand for it. The text is read as a leaf of one stretch, so places are
 -- those of the text.
-use Rattle.std.specs.Prelude.{◌≡◌, ℕ, zero, suc, ◌+◌, ◌-◌, ◌≤◌, ◌<◌, Bool, true, false, ◌==◌, ◌||◌, List, [], ◌∷◌, ◌++◌, length, drop, encode_utf8, slice_index, slice_get, Option, Some, None}
+use Rattle.std.specs.Prelude.{◌≡◌, ℕ, zero, suc, ◌+◌, ◌-◌, ◌≤◌, ◌<◌, Bool, true, false, ◌==◌, ◌||◌, List, [], ◌∷◌, ◌++◌, length, drop, encode_utf8, slice_index, slice_get, Some, None}
 use Rattle.cmark_grammar.specs.Answers.{Lookup}
 use Rattle.cmark_grammar.specs.CodeSpans.{is_backtick, backticks, code_in, code_text}
 use Rattle.cmark_grammar.specs.Columns.{is_blank_byte}
 use Rattle.cmark_grammar.specs.InlineTokens as tokens
 use Rattle.cmark_grammar.specs.InlineTokens.{item_at}
-use Rattle.cmark_grammar.specs.Items.{ItemKind, Plain, Own, Written, Quoted, Delimiters, Code, InlineMath, DisplayMath, Autolink, Html, OwnedHtml, FootnoteReference, SoftBreak, HardBreak, Item, Token, Stands, Opens, Closes, Ends}
+use Rattle.cmark_grammar.specs.Items.{ItemKind, Plain, Own, Written, Quoted, Delimiters, Code, Autolink, Html, OwnedHtml, SoftBreak, HardBreak, Item, Token, Stands}
 use Rattle.cmark_grammar.specs.LeafText.{Leaf}
 use Rattle.cmark_grammar.specs.Letters.{first_is}
 use Rattle.cmark_grammar.specs.LinkDefinitions.{Found}
 use Rattle.cmark_grammar.specs.Options.{Options, no_options}
 use Rattle.cmark_grammar.specs.Readers.{Reader}
-use Rattle.cmark_grammar.specs.Tokens.{is_punctuation, slice}
+use Rattle.cmark_grammar.specs.Tokens.{slice}
 use Rattle.cmark_emphasis.specs.Shown.{shown_quote, shown_run}
 use Rattle.cmark_emphasis.specs.declared.quotes.Quote.{Quote}
 use Rattle.cmark_emphasis.specs.declared.run.Run.{Run}
 use Rattle.cmark_text.specs.Shown.{text_bytes}
 use Rattle.cmark_text.specs.declared.text.CowStr.{CowStr}
+use Rattle.cmark_inline.specs.Linked.{IsAutolink}
 use Rattle.cmark_inline.specs.Stands.{PushesText}
+use Rattle.cmark_inline.specs.declared.link.LinkParts.{LinkParts}
+use Rattle.cmark_inline.specs.declared.slot.Element.TheVariants as element
 use Rattle.cmark_inline.specs.declared.slot.Slot.{Slot}
 use Rattle.cmark_inline.specs.declared.slot.SlotKind.{SlotKind}
 use Rattle.cmark_inline.specs.declared.slot.SlotKind.TheVariants as kind
@@ -79,6 +82,15 @@ pub record Puts (start stop : ℕ) (slot : Slot) (old new : List Slot) : Type 0 
   pub text : PushesText start stop old before
   pub slot_is : new ≡ before ++ (slot ∷ [])
 
+-- a text up to a place, unless it is empty, and then the link of this index around its text, which is all but the brackets
+pub record PutsAutolink (index start at end : ℕ) (old new : List Slot) : Type 0 where
+  pub before : List Slot
+  pub text : PushesText start at old before
+  pub slots_are :
+      new ≡ ((before ++ (record { kind = kind.Begin (element.Autolink index); start = at; end = end } ∷ []))
+      ++ (record { kind = kind.Text; start = at + 1; end = end - 1 } ∷ []))
+      ++ (record { kind = kind.End; start = end - 1; end = end } ∷ [])
+
 -- nothing was appended: from the place that was reached to the next one the bytes are one item that stands for itself
 pub record Passes (options : Options) (lookup : Lookup) (text : List ℕ) (here : Cursor) (old new : InlineState) (next : Cursor) : Type 0 where
   pub token : begins_at options lookup text here.at ≡ item_at Plain here.at next.at
@@ -99,6 +111,17 @@ pub record Appends (options : Options) (lookup : Lookup) (text : List ℕ) (here
   pub owned : List CowStr
   pub texts : new.texts.items ≡ old.texts.items ++ owned
   pub is : IsItem text new.texts.items item slot
+  pub others : new ≡ record old { slots = new.slots; texts = new.texts }
+
+-- the text that was pending, and then three slots for the autolink that begins at the place that was reached
+pub record AppendsAutolink (options : Options) (lookup : Lookup) (text : List ℕ) (here : Cursor) (old new : InlineState) (next : Cursor) : Type 0 where
+  pub token : begins_at options lookup text here.at ≡ item_at (Autolink (slice text (here.at + 1) (next.at - 1))) here.at next.at
+  pub pending : next.pending ≡ next.at
+  pub slots : PutsAutolink (length old.links.items) here.pending here.at next.at old.slots.items new.slots.items
+  pub parts : LinkParts
+  pub link : IsAutolink text here.at next.at parts
+  pub links : new.links.items ≡ old.links.items ++ (parts ∷ [])
+  pub others : new ≡ record old { slots = new.slots; links = new.links }
 
 -- the text that was pending; behind the backslash at the place that was reached a text begins with the byte that it escapes. A run
 -- of backticks is not settled there yet: its first one stands for itself where the rest of it opens a code span
@@ -131,6 +154,7 @@ pub record AppendsQuote (options : Options) (lookup : Lookup) (text : List ℕ) 
   pub text_is : PushesText here.pending here.at old.slots.items before
   pub slots : new.slots.items ≡ before ++ (record { kind = kind.Text; start = here.at; end = next.at } ∷ [])
   pub placed : new.quotes.placed.items ≡ old.quotes.placed.items ++ (record { slot = length before; quote = quote } ∷ [])
+  pub others : new ≡ record old { slots = new.slots; quotes = new.quotes }
 
 abbrev pub is_mark : ℕ → Bool
 is_mark b = (b == 42) || ((b == 95) || ((b == 126) || (b == 94)))
@@ -149,3 +173,4 @@ pub record AppendsRun (options : Options) (lookup : Lookup) (text : List ℕ) (h
   pub text_is : PushesText here.pending here.at old.slots.items before
   pub slots : new.slots.items ≡ before ++ byte_slots here.at run.size
   pub placed : new.delimiters.placed.items ≡ old.delimiters.placed.items ++ (record { slot = length before; run = run } ∷ [])
+  pub others : new ≡ record old { slots = new.slots; delimiters = new.delimiters }

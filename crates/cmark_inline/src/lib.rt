@@ -7,6 +7,7 @@ mod callback;
 mod delimiter;
 mod event;
 mod link;
+mod markup;
 mod place;
 mod quote;
 mod read;

@@ -72,6 +72,7 @@ impl<'a> InlineState<'a> {
         ensures delimiters { OnOk result (self.new.delimiters ≡ self.old.delimiters) }
         ensures links { OnOk result (NoNewLink self.old.slots.items self.new.slots.items) }
         ensures length { OnOk result (length self.new.slots.items ≡ length self.old.slots.items + (end - start)) }
+        ensures others { OnOk result (self.new ≡ record self.old { slots = self.new.slots }) }
         ensures bytes { OnOk result (self.new.slots.items ≡ self.old.slots.items ++ byte_slots start (end - start)) }
     {
         let mut at = start;

@@ -9,10 +9,12 @@ ghost use Rattle.cmark_leaf_text.specs.Reads.{IsRead, IsPart, text_of};
 ghost use Rattle.cmark_inline.specs.Linked.{IsAutolink};
 ghost use Rattle.cmark_inline.specs.declared.link.LinkParts.{LinkParts as Parts};
 ghost use Rattle.cmark_inline.specs.Stands.{AreSlots, AreBrackets, IsBracket, IsCursor, IsSlot, IsTarget, Moves, SameSpans, Stands, bytes_of};
-ghost use Rattle.cmark_inline.specs.Tokens.{Appends, TakesEscaped};
+ghost use Rattle.cmark_inline.specs.Tokens.{Appends, PutsAutolink, TakesEscaped};
+ghost use Rattle.cmark_inline.specs.FoundInSource.{AreUnclosed, ReadsLess};
 
 use crate::event::text_between;
 use crate::link::LinkParts;
+use crate::markup::Unclosed;
 use crate::place::{autolink_end, behind, is_followed_by, pass, run_end, text_start};
 use crate::slot::{Element, Slot, SlotKind};
 use crate::state::InlineState;
@@ -59,10 +61,11 @@ impl<'a> InlineState<'a> {
         Ok(next)
     }
 
-    // `<`: an autolink (CommonMark 6.5), inline HTML (CommonMark 6.6), or text.
+    // `<`: an autolink (CommonMark 6.5), inline HTML (CommonMark 6.6), or text. `unclosed` is what was sought in vain in this leaf.
     #[tactic(auto, using(std::proofs::lemmas::Str::lead_after_ascii))]
     pub(crate) fn less_than(
         &mut self,
+        unclosed: &mut Unclosed,
         leaf: &LeafText<'a>,
         text: &str,
         here: Cursor,
@@ -73,8 +76,11 @@ impl<'a> InlineState<'a> {
         requires ascii { slice_index text.now here.at < 128 }
         requires read { IsRead leaf.now }
         requires same { text.now ≡ text_of leaf.now }
+        requires kept { AreUnclosed leaf.now here.at unclosed.old }
         ensures expansion { self.new.expansion ≡ self.old.expansion }
         ensures moves { IfOk result (Moves text.now here.at self.new) }
+        ensures kept { AreUnclosed leaf.now here.at unclosed.new }
+        ensures token { (options : Options) (lookup : Lookup) → slice_index text.now here.at ≡ 60 → IfOk result (ReadsLess options lookup leaf.now here self.old self.new) }
     {
         if is_followed_by(text, here.at, b'\\') {
             return Ok(pass(text, here));
@@ -83,7 +89,7 @@ impl<'a> InlineState<'a> {
             let next = self.autolink(leaf, text, here, end)?;
             return Ok(next);
         }
-        if let Some(found) = self.unclosed.inline_html(leaf, text, here.at) {
+        if let Some(found) = unclosed.inline_html(leaf, text, here.at) {
             let slot = Slot {
                 kind: found.kind,
                 start: here.at,
@@ -115,6 +121,9 @@ impl<'a> InlineState<'a> {
         requires inside { IsPart text.now (here.at + 1) (end - 1) }
         requires read { IsRead leaf.now }
         requires same { text.now ≡ text_of leaf.now }
+        ensures at { IfOk result (λ next. (next.pending ≡ end) × (next.at ≡ end)) }
+        ensures slots { OnOk result (PutsAutolink (length self.old.links.items) here.pending here.at end self.old.slots.items self.new.slots.items) }
+        ensures others { OnOk result (self.new ≡ record self.old { slots = self.new.slots; links = self.new.links }) }
         ensures link { IfOk result (λ next. (parts : Parts) × IsAutolink text.now here.at end parts × (self.new.links.items ≡ self.old.links.items ++ (parts ∷ []))) }
         ensures expansion { self.new.expansion ≡ self.old.expansion }
         ensures moves { IfOk result (Moves text.now here.at self.new) }

@@ -6,9 +6,11 @@ ghost use Rattle.cmark_finds.specs.Backticks.{AreRunsOf};
 ghost use Rattle.cmark_leaf_text.specs.Reads.{IsRead, IsPart, text_of};
 ghost use Rattle.cmark_inline.specs.Asking.{AsksBetween, AsksUpTo, closing_brackets};
 ghost use Rattle.cmark_inline.specs.Stands.{AreSlots, AreBrackets, IsBracket, IsCursor, IsSlot, IsTarget, Moves, SameSpans, Stands, PushesText, begins_link, bytes_of};
+ghost use Rattle.cmark_inline.specs.FoundInSource.{AreUnclosed};
 ghost use Rattle.cmark_inline.specs.Tokens.{Puts};
 
 use crate::callback::BrokenLinkCallback;
+use crate::markup::Unclosed;
 use crate::place::behind;
 use crate::read::Reader;
 use crate::slot::{Slot, push_slot, push_text};
@@ -25,6 +27,13 @@ pub struct Cursor {
     pub pending: usize,
     /// The place that is reached.
     pub at: usize,
+}
+
+/// What the searches in one leaf remember: its runs of backticks, and the markup that was sought in vain.
+#[derive(Drop)]
+pub struct Sought {
+    pub runs: BacktickRuns,
+    pub unclosed: Unclosed,
 }
 
 impl<'a> InlineState<'a> {
@@ -44,10 +53,13 @@ impl<'a> InlineState<'a> {
     {
         self.clear();
         let text = leaf.as_str();
-        let mut runs = BacktickRuns::new(self.alloc);
+        let mut sought = Sought {
+            runs: BacktickRuns::new(self.alloc),
+            unclosed: Unclosed::none(),
+        };
         let mut cursor = Cursor { pending: 0, at: 0 };
         while cursor.at < text.len() {
-            cursor = self.step(leaf, reader, callback, &mut runs, text, cursor)?;
+            cursor = self.step(leaf, reader, callback, &mut sought, text, cursor)?;
         }
         self.flush(text, cursor, text.len())?;
         self.quotes.resolve(0, &mut self.slots)?;
@@ -62,17 +74,19 @@ impl<'a> InlineState<'a> {
         leaf: &LeafText<'a>,
         reader: &Reader<'_, 'a, E>,
         callback: &mut F,
-        runs: &mut BacktickRuns,
+        sought: &mut Sought,
         text: &str,
         cursor: Cursor,
     ) -> Result<Cursor, AllocError>
-        requires runs { AreRunsOf text.now runs.old }
+        requires runs { AreRunsOf text.now sought.old.runs }
         requires stands { Stands text.now cursor.pending self.old }
         requires cursor { IsCursor text.now cursor }
         requires more { cursor.at < length text.now }
         requires read { IsRead leaf.now }
         requires same { text.now ≡ text_of leaf.now }
-        ensures runs { AreRunsOf text.now runs.new }
+        requires kept { AreUnclosed leaf.now cursor.at sought.old.unclosed }
+        ensures runs { AreRunsOf text.now sought.new.runs }
+        ensures kept { IfOk result (λ next. AreUnclosed leaf.now next.at sought.new.unclosed) }
         ensures asks { AsksBetween F.answers text.now cursor.at (length text.now) callback.old callback.new }
         ensures asks_here { IfOk result (λ next. AsksBetween F.answers text.now cursor.at next.at callback.old callback.new) }
         ensures spent { self.old.expansion ≡ 0 → (callback.new ≡ callback.old) × (self.new.expansion ≡ 0) }
@@ -93,7 +107,7 @@ impl<'a> InlineState<'a> {
         if bytes[at] == b']' {
             return self.close_bracket(leaf, reader, callback, text, here);
         }
-        self.span(leaf, reader, runs, text, here)
+        self.span(leaf, reader, sought, text, here)
     }
 
     // Reads what begins with a special byte that is no closing bracket.
@@ -101,18 +115,20 @@ impl<'a> InlineState<'a> {
         &mut self,
         leaf: &LeafText<'a>,
         reader: &Reader<'_, 'a, E>,
-        runs: &mut BacktickRuns,
+        sought: &mut Sought,
         text: &str,
         here: Cursor,
     ) -> Result<Cursor, AllocError>
-        requires runs { AreRunsOf text.now runs.old }
+        requires runs { AreRunsOf text.now sought.old.runs }
         requires stands { Stands text.now here.pending self.old }
         requires cursor { IsCursor text.now here }
         requires here { here.at < length text.now }
         requires ascii { slice_index text.now here.at < 128 }
         requires read { IsRead leaf.now }
         requires same { text.now ≡ text_of leaf.now }
-        ensures runs { AreRunsOf text.now runs.new }
+        requires kept { AreUnclosed leaf.now here.at sought.old.unclosed }
+        ensures runs { AreRunsOf text.now sought.new.runs }
+        ensures kept { AreUnclosed leaf.now here.at sought.new.unclosed }
         ensures expansion { self.new.expansion ≡ self.old.expansion }
         ensures moves { IfOk result (Moves text.now here.at self.new) }
     {
@@ -120,8 +136,8 @@ impl<'a> InlineState<'a> {
             b'\n' | b'\r' => self.line_end(text, here),
             b'\\' => self.backslash(text, here),
             b'&' => self.entity(text, reader.entities, here),
-            b'`' => self.backticks(runs, text, here),
-            b'<' => self.less_than(leaf, text, here),
+            b'`' => self.backticks(&mut sought.runs, text, here),
+            b'<' => self.less_than(&mut sought.unclosed, leaf, text, here),
             b'!' => self.exclamation(text, here),
             b'[' => {
                 let next = self.open_bracket(text, here, behind(text, here.at), false)?;

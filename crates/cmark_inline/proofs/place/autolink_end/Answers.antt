@@ -1,9 +1,7 @@
-use Rattle.std.specs.Prelude.{Option, Some, None, option_map}
-use Rattle.std.proofs.Common.{◌≡◌, ◌≤◌, ◌<◌, ◌+◌, ◌-◌, true, false, ℕ, List, length, get_or, sym, ap, subst, ◌∙◌, arith, true≢false}
-use Rattle.std.specs.Str.{IsCharBoundary}
+use Rattle.std.proofs.Common.{◌≤◌, ◌<◌, ◌+◌, ◌-◌, ℕ, List, length, get_or, sym, arith, true≢false}
 use Rattle.std.proofs.lemmas.Str.{IsCharBoundary-before_ascii}
 use Rattle.cmark_scan_parts.specs.Shown.{shown_cut}
-use Rattle.cmark_inline.proofs.AutolinkSteps.{IsAutolinkAt, autolink-at}
+use Rattle.cmark_inline.proofs.AutolinkSteps.{autolink-at}
 use Rattle.cmark_inline.proofs.place.autolink_end.Goals as goal
 use Rattle.cmark_inline.proofs.place.autolink_end.Goals.{else-end-at-via-then-end-at+else-is_char_boundary, else-end-at-via-else-end-at}
 

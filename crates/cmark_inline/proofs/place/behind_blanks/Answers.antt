@@ -1,7 +1,6 @@
 use Rattle.std.proofs.Common.{◌+◌, inl, inr, ◌≡◌, ◌≤◌, ◌<◌, ◌==◌, ◌||◌, true, false, ℕ, List, length, get_or, sym, ap, ◌∙◌, arith, eqb-true, true≢false}
 use Rattle.std.proofs.lemmas.Bool.{eq-eqb, false_from_ne_true}
 use Rattle.cmark_grammar.specs.Columns.{is_blank_byte}
-use Rattle.std.specs.Str.{IsCharBoundary}
 use Rattle.std.proofs.lemmas.Str.{IsCharBoundary-after_ascii}
 use Rattle.cmark_grammar.proofs.RowEdges.{blank-ascii}
 use Rattle.cmark_inline.proofs.Bytes.{behind-end, behind-more, behind-none, blank-of}

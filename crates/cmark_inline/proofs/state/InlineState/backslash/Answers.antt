@@ -1,4 +1,4 @@
-use Rattle.std.proofs.Common.{◌≡◌, ◌+◌, ◌==◌, inl, inr, ℕ, List, refl, sym, ap, ◌∙◌, arith, drop, eqb-true}
+use Rattle.std.proofs.Common.{◌≡◌, ◌+◌, inl, inr, ℕ, List, refl, sym, ap, ◌∙◌, arith, drop, eqb-true}
 use Rattle.cmark_grammar.specs.CodeSpans.{backticks}
 use Rattle.cmark_grammar.specs.InlineTokens.{item_at}
 use Rattle.cmark_grammar.specs.Items.{Plain, Own}

@@ -1,6 +1,6 @@
 use Rattle.std.specs.Option.{IfSome}
-use Rattle.std.specs.Prelude.{Option, option_map}
-use Rattle.std.proofs.Common.{◌≡◌, inl, inr, ℕ, List, sym, ap, subst, ◌∙◌}
+use Rattle.std.specs.Prelude.{option_map}
+use Rattle.std.proofs.Common.{inl, sym, ap, subst, ◌∙◌}
 use Rattle.cmark_finds.specs.Shown.{shown_code, IsCodeAt}
 use Rattle.cmark_inline.proofs.Appended.{code-appends, ticks-make}
 use Rattle.cmark_inline.proofs.state.InlineState.backticks.Goals as goal

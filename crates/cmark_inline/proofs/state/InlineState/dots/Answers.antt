@@ -1,4 +1,4 @@
-use Rattle.std.proofs.Common.{◌≡◌, inl, inr, ℕ, List, refl, sym, ap, ◌∙◌, drop}
+use Rattle.std.proofs.Common.{inl, inr, refl, sym, ap, ◌∙◌, drop}
 use Rattle.cmark_grammar.specs.InlineTokens.{item_at}
 use Rattle.cmark_grammar.specs.Items.{Plain}
 use Rattle.cmark_inline.proofs.Appended.{character-appends}

@@ -1,9 +1,8 @@
-use Rattle.std.proofs.Common.{◌≡◌, inl, inr, ℕ, List, length, refl, sym, ap, ◌∙◌, rules}
-use Rattle.cmark_grammar.specs.Dashes.{dash_text, dashes_of}
+use Rattle.std.proofs.Common.{◌≡◌, inl, inr, length, refl, sym, ap, ◌∙◌, rules}
 use Rattle.cmark_grammar.specs.InlineTokens.{item_at}
 use Rattle.cmark_grammar.specs.Items.{Plain}
 use Rattle.cmark_inline.specs.declared.state.InlineState.{InlineState}
-use Rattle.cmark_inline.proofs.Appended.{owned-appends}
+use Rattle.cmark_inline.proofs.Appended.{kept, owned-appends}
 use Rattle.cmark_inline.proofs.MarkSteps.{many-hyphens, one-hyphen}
 use Rattle.cmark_inline.proofs.state.InlineState.hyphens.Goals as goal
 
@@ -21,4 +20,4 @@ returns-clause-token c = λ o l smart is.
     inr (owned-appends o l c.args.text.now c.args.here c.args.self.now c.put.new.self c.in_ok-next.next _ c.run_end-end.result c.len.result c.in_ok-owned.owned c.requires.cursor.ordered
     (many-hyphens o l c.args.text.now c.args.here.at c.requires.here smart c.run_end-end.result _ is c.run_end-end.ensures.value refl c.if-size-lt2.false)
     next.at (next.end ∙ sym next.at) next.slots (ap (λ (s : InlineState). s.texts.items) next.others ∙ c.in_ok-push.ensures.items) (let q : c.len.result ≡ length c.args.self.now.texts.items = search rules in q)
-    (c.in_ok-owned.ensures.value ∙ c.in_ok-dash_text.ensures))
+    (c.in_ok-owned.ensures.value ∙ c.in_ok-dash_text.ensures) (kept c.args.self.now c.put.new.self _ next.others refl))

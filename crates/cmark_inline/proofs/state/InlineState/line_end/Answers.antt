@@ -1,4 +1,4 @@
-use Rattle.std.proofs.Common.{◌≡◌, ◌-◌, ℕ, List, sym, ap, ◌∙◌, take, drop}
+use Rattle.std.proofs.Common.{◌-◌, ℕ, List, ap, ◌∙◌, take, drop}
 use Rattle.cmark_grammar.specs.LineBreaks.{ends_with_two_spaces}
 use Rattle.cmark_inline.proofs.Appended.{break-appends}
 use Rattle.cmark_inline.proofs.state.InlineState.line_end.Goals as goal

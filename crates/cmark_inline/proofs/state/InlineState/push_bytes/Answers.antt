@@ -1,6 +1,7 @@
-use Rattle.std.proofs.Common.{◌≡◌, ◌≤◌, ◌<◌, ◌+◌, ◌-◌, ◌++◌, ◌∷◌, [], ℕ, List, length, get_or, refl, ap, ◌∙◌, arith}
+use Rattle.std.proofs.Common.{◌≡◌, ◌≤◌, ◌<◌, ◌+◌, ◌-◌, ◌++◌, ℕ, List, length, refl, ap, ◌∙◌, arith}
 use Rattle.std.proofs.lemmas.List.{length_push}
 use Rattle.cmark_inline.specs.declared.slot.Slot.{Slot}
+use Rattle.cmark_inline.specs.declared.state.InlineState.{InlineState}
 use Rattle.cmark_inline.specs.declared.slot.SlotKind.TheVariants as kind
 use Rattle.cmark_inline.specs.Tokens.{byte_slots}
 use Rattle.cmark_inline.proofs.Appended.{push-byte}
@@ -34,6 +35,7 @@ loop-at-preserved c =
       expansion = i.expansion;
       delimiters = i.delimiters;
       bytes = push-byte c.args.self.now.slots.items ss ts c.args.start at b i.bytes e;
+      others = ap (λ (s : InlineState). record s { slots = c.push_slot.new.slots }) i.others;
       size = (let q : length ts ≡ length c.args.self.now.slots.items + (at + 1 - c.args.start) = omega (arith, l, m, z, b) in q);
     }
 

@@ -15,6 +15,7 @@ invariant-loop-at l = record {
   expansion : l.self.expansion ≡ l.initial.self.expansion;
   delimiters : l.self.delimiters ≡ l.initial.self.delimiters;
   bytes : l.self.slots.items ≡ l.initial.self.slots.items ++ byte_slots l.start (l.at - l.start);
+  others : l.self ≡ record l.initial.self { slots = l.self.slots };
   size : length l.self.slots.items ≡ length l.initial.self.slots.items + (l.at - l.start);
 }
 

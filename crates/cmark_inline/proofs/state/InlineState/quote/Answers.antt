@@ -1,12 +1,15 @@
-use Rattle.std.proofs.Common.{◌≡◌, ◌+◌, ◌==◌, ◌++◌, ◌∷◌, [], inl, inr, ℕ, List, length, get_or, drop, refl, sym, ap, ◌∙◌, rules}
+use Rattle.std.proofs.Common.{◌≡◌, ◌+◌, ◌==◌, ◌++◌, ◌∷◌, [], ℕ, List, length, get_or, drop, refl, sym, ap, ◌∙◌, rules}
 use Rattle.std.specs.Prelude.{chars}
 use Rattle.cmark_grammar.specs.InlineTokens.{first_of, item_at}
 use Rattle.cmark_grammar.specs.Items.{Quoted}
 use Rattle.cmark_grammar.specs.Quotes.{quote_beside}
 use Rattle.cmark_inline.specs.declared.state.InlineState.{InlineState}
-use Rattle.cmark_inline.specs.declared.quote.PlacedQuote.{PlacedQuote}
 use Rattle.cmark_inline.proofs.MarkSteps.{quote-begins}
 use Rattle.cmark_inline.proofs.state.InlineState.quote.Goals as goal
+
+-- what else a state holds stays
+made : (old new between : InlineState) → new ≡ between → between ≡ record old { slots = new.slots; quotes = between.quotes } → new ≡ record old { slots = new.slots; quotes = new.quotes }
+made old new between e f = e ∙ f ∙ ap (λ (s : InlineState). record old { slots = new.slots; quotes = s.quotes }) (sym e)
 
 pub returns-clause-token : goal.returns-clause-token
 returns-clause-token c = λ o l smart is.
@@ -28,4 +31,5 @@ returns-clause-token c = λ o l smart is.
           ap (λ (s : InlineState). s.quotes.placed.items) c.in_ok-add.ensures.others ∙ c.in_ok-push.ensures
           ∙ ap (λ (s : InlineState). s.quotes.placed.items ++ (record { slot = c.len.result; quote = c.quote_of-quote.result } ∷ [])) c.in_ok-flush.ensures.others
           ∙ ap (λ (n : ℕ). c.args.self.now.quotes.placed.items ++ (record { slot = n; quote = c.quote_of-quote.result } ∷ [])) (sym same);
+      others = made c.args.self.now c.add.new.self _ c.in_ok-add.ensures.others (ap (λ (s : InlineState). record s { slots = c.add.new.self.slots; quotes = c.push.new.self }) c.in_ok-flush.ensures.others);
     }

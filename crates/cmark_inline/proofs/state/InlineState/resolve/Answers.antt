@@ -8,7 +8,7 @@ use Rattle.cmark_inline.proofs.state.InlineState.resolve.Goals as goal
 pub loop-cursor-init : goal.loop-cursor-init
 loop-cursor-init g c =
     let b = IsCharBoundary-start c.as_str-text.result.now c.as_str-text.utf8 in
-    (c.clear.ensures.stands c.as_str-text.result.now, record { pending = b; at = b; ordered = omega arith }, refl, (λ none. (refl, none)), search rules)
+    (c.clear.ensures.stands c.as_str-text.result.now, record { pending = b; at = b; ordered = omega arith }, refl, (λ none. (refl, none)), search rules, c.none.ensures c.args.leaf.now 0)
 
 pub returns-clause-slots : goal.returns-clause-slots
 returns-clause-slots g c =
@@ -28,6 +28,7 @@ loop-cursor-preserved g c =
       asks-on g.F.BrokenLinkCallback.answers c.as_str-text.result.now a b c.args.callback.now c.loop-cursor.callback c.step.new.callback i.2 (let q : a ≤ b = omega (arith, lt) in q) c.in_ok-cursor.ensures.asks_here,
       (λ none. let p = i.3 none in let q = c.step.ensures.spent p.1 in (q.0 ∙ p.0, q.1)),
       c.step.ensures.runs,
+      c.in_ok-cursor.ensures.kept,
     )
 
 pub returns-in_err-cursor-clause-asks : goal.returns-in_err-cursor-clause-asks

@@ -1,6 +1,7 @@
 use Rattle.std.proofs.Common.{◌≡◌, ◌-◌, length, take}
 use Rattle.cmark_finds.specs.Backticks.{AreRunsOf}
 use Rattle.cmark_inline.specs.Asking.{AsksUpTo, closing_brackets}
+use Rattle.cmark_inline.specs.FoundInSource.{AreUnclosed}
 use Rattle.cmark_inline.specs.Stands.{Stands, IsCursor}
 use Rattle.cmark_inline.proofs.state.InlineState.resolve.Given as goal
 
@@ -10,7 +11,8 @@ invariant-loop-cursor g l =
     × IsCursor l.text l.cursor
     × AsksUpTo g.F.BrokenLinkCallback.answers (closing_brackets (take l.cursor.at l.text)) l.initial.callback l.callback
     × (l.initial.self.expansion ≡ 0 → (l.callback ≡ l.initial.callback) × (l.self.expansion ≡ 0))
-    × AreRunsOf l.text l.runs
+    × AreRunsOf l.text l.sought.runs
+    × AreUnclosed l.leaf l.cursor.at l.sought.unclosed
 
 abbrev pub decreases-loop-cursor : goal.decreases-loop-cursor
 decreases-loop-cursor g l = length l.text - l.cursor.at

@@ -1,12 +1,11 @@
-use Rattle.std.proofs.Common.{◌≡◌, ◌||◌, ◌-◌, inl, inr, true, false, not, Bool, true≢false, ℕ, List, [], ◌∷◌, ◌++◌, length, refl, sym, ap, ◌∙◌, rules}
+use Rattle.std.proofs.Common.{◌≡◌, ◌||◌, ◌-◌, inl, inr, true, false, not, Bool, true≢false, ℕ, [], ◌∷◌, ◌++◌, length, refl, sym, ap, ◌∙◌, rules}
 use Rattle.std.proofs.lemmas.Bool.{or_left, or_right}
 use Rattle.cmark_emphasis.specs.Shown.{shown_flanking}
-use Rattle.cmark_inline.specs.Tokens.{byte_slots}
 use Rattle.cmark_emphasis.specs.declared.run.Run.{Run}
 use Rattle.cmark_inline.specs.declared.delimiter.Delimiters.{Delimiters}
 use Rattle.cmark_inline.specs.declared.state.InlineState.{InlineState}
 use Rattle.cmark_text.specs.Shown.{shown_options}
-use Rattle.cmark_inline.proofs.MarkSteps.{IsRunAt, run-stays, run-begins-there}
+use Rattle.cmark_inline.proofs.MarkSteps.{run-stays, run-begins-there}
 use Rattle.cmark_inline.proofs.state.InlineState.run.Goals as goal
 use Rattle.cmark_inline.proofs.state.InlineState.run.Goals.{else-not-flanking-via-then-not-flanking+else-not-flanking-2, else-not-flanking-via-else-not-flanking}
 
@@ -63,4 +62,5 @@ returns-clause-token c = λ l is mark.
           c.in_ok-push.ensures.placed
           ∙ ap (λ (d : Delimiters). d.placed.items ++ (record { slot = c.len-first.result; run = run } ∷ [])) (c.in_ok-push_bytes.ensures.delimiters ∙ ap (λ (s : InlineState). s.delimiters) c.in_ok-flush.ensures.others)
           ∙ ap (λ (n : ℕ). c.args.self.now.delimiters.placed.items ++ (record { slot = n; run = run } ∷ [])) (sym same);
+      others = ap (λ (s : InlineState). record s { slots = c.push_bytes.new.self.slots; delimiters = c.push.new.self }) (c.in_ok-push_bytes.ensures.others ∙ ap (λ (s : InlineState). record s { slots = c.push_bytes.new.self.slots }) c.in_ok-flush.ensures.others);
     })

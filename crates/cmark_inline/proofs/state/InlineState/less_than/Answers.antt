@@ -1,0 +1,23 @@
+use Rattle.std.proofs.Common.{refl, sym, ◌∙◌}
+use Rattle.cmark_inline.proofs.AngleMakes.{by-autolink, by-html, by-none}
+use Rattle.cmark_inline.proofs.state.InlineState.less_than.Goals as goal
+
+pub returns-in-Some-clause-token : goal.returns-in-Some-clause-token
+returns-in-Some-clause-token c = λ o l is.
+    let next = c.in_ok-next.ensures in
+    by-autolink o l c.args.leaf.now c.args.here c.args.self.now c.autolink.new.self c.in_ok-next.next c.args.text.now c.requires.same
+    (c.requires.cursor.ordered, c.requires.here, is, sym c.if-is_followed_by.ensures.value) c.in-Some.end c.in-Some.ensures.value c.in-Some.ensures.whole next.at next.slots next.link next.others
+
+pub returns-in-Some-inline_html-clause-token : goal.returns-in-Some-inline_html-clause-token
+returns-in-Some-inline_html-clause-token c = λ o l is.
+    let next = c.in_ok-next-2.ensures in
+    by-html o l c.args.leaf.now c.args.here c.args.self.now c.put_before_words.new.self c.in_ok-next-2.next c.args.text.now c.requires.same
+    (c.requires.cursor.ordered, c.requires.here, is, sym c.if-is_followed_by.ensures.value) c.in_default.ensures.value next.pending next.others
+    c.in-Some-inline_html.found c.in-Some-inline_html.ensures.is c.in-Some-inline_html.ensures.part next.at next.slots
+
+pub returns-clause-token : goal.returns-clause-token
+returns-clause-token c = λ o l is.
+    let next = c.in_ok-next-3.ensures in
+    by-none o l c.args.leaf.now c.args.here c.args.self.now c.put.new.self c.in_ok-next-3.next c.args.text.now c.requires.same
+    (c.requires.cursor.ordered, c.requires.here, is, sym c.if-is_followed_by.ensures.value) c.in_default.ensures.value (next.end ∙ sym next.at) next.others
+    (c.in_default-inline_html.ensures.none refl) c.behind.result c.behind.ensures.value next.at next.slots
