@@ -1,7 +1,9 @@
 # make proves what mdhtml stands on and builds bin/mdhtml; make mdevents builds bin/mdevents.
-# make install puts both below PREFIX, with their manual pages and the list of entities; it builds what is not built yet.
+# make lib leaves in bin/ what C programs link: an archive, a shared library, their header and a file for pkg-config.
+# make install puts all of these below PREFIX, with the manual pages and the list of entities; it builds what is not built yet.
+# make web makes the module of the page in web/ anew, and tries the page in a browser; it is no part of make test.
 # make test passes everything; its last line is the gate's count. docs/GATE.md says what each part does and how long it takes.
-.PHONY: all mdhtml mdevents install test edits gate programs wrong outside
+.PHONY: all mdhtml mdevents lib install web test edits gate programs wrong outside
 .NOTPARALLEL:
 
 PREFIX = /usr/local
@@ -14,13 +16,31 @@ mdhtml mdevents:
 bin/mdhtml bin/mdevents:
 	tools/build $(@F)
 
-install: bin/mdhtml bin/mdevents
+lib:
+	tools/build pulldown_cmark_c
+	tools/lib
+
+bin/lib/libpulldown_cmark.a:
+	$(MAKE) lib
+
+install: bin/mdhtml bin/mdevents bin/lib/libpulldown_cmark.a
 	install -d $(DESTDIR)$(PREFIX)/bin $(DESTDIR)$(PREFIX)/share/mdhtml $(DESTDIR)$(PREFIX)/share/man/man1
 	install -m 755 bin/mdhtml bin/mdevents $(DESTDIR)$(PREFIX)/bin
 	install -m 644 share/entities.json $(DESTDIR)$(PREFIX)/share/mdhtml
 	install -m 644 share/man/man1/mdhtml.1 share/man/man1/mdevents.1 $(DESTDIR)$(PREFIX)/share/man/man1
+	install -d $(DESTDIR)$(PREFIX)/include $(DESTDIR)$(PREFIX)/lib/pkgconfig
+	install -m 644 include/pulldown_cmark.h $(DESTDIR)$(PREFIX)/include
+	install -m 644 bin/lib/libpulldown_cmark.a $(DESTDIR)$(PREFIX)/lib
+	install -m 755 bin/lib/libpulldown_cmark.so.0.13.6 $(DESTDIR)$(PREFIX)/lib
+	ln -sf libpulldown_cmark.so.0.13.6 $(DESTDIR)$(PREFIX)/lib/libpulldown_cmark.so.0
+	ln -sf libpulldown_cmark.so.0 $(DESTDIR)$(PREFIX)/lib/libpulldown_cmark.so
+	install -m 644 share/pulldown_cmark.pc $(DESTDIR)$(PREFIX)/lib/pkgconfig
 
-test: edits gate programs wrong outside
+web: bin/mdhtml bin/mdevents lib
+	tools/web
+	tests/web
+
+test: edits gate programs lib wrong outside
 	@tail -n 1 bin/gate.log
 
 # What needs no proof to find comes first.
@@ -51,3 +71,4 @@ outside:
 	tests/program
 	tests/inline_definitions 2000 1
 	tests/vectors
+	tests/bindings

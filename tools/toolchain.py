@@ -1,4 +1,5 @@
 """The toolchain's command rt as a module: it knows the crates, how each is checked, and how many checks the machine holds."""
+import hashlib
 import importlib.machinery
 import importlib.util
 import os
@@ -12,3 +13,23 @@ def load_rt():
     module = importlib.util.module_from_spec(importlib.util.spec_from_loader("rt_command", loader))
     loader.exec_module(module)
     return module
+
+
+def is_current(rt, crate):
+    """Whether the built library is that of the sources: rt's stamp says so, or the gate built it after the sources were written."""
+    if crate.is_built():
+        return True
+    if not os.path.isdir(crate.rlib) or os.path.exists(os.path.join(os.path.dirname(crate.rlib), "stamp")):
+        return False
+    made = os.path.getmtime(crate.rlib)
+    return all(os.path.getmtime(it) < made for lib in [crate, *crate.below()] for it in rt.rtlib.files_of(lib.folder))
+
+
+def sources(rt, crate):
+    """A digest of the code of a crate and of those below it, without contracts' definitions and proofs."""
+    digest = hashlib.sha256()
+    for lib in sorted([crate, *crate.below()], key=lambda it: it.name):
+        for file in sorted(it for it in rt.rtlib.files_of(lib.folder) if it.endswith(".rt")):
+            with open(file, "rb") as code:
+                digest.update(f"{os.path.relpath(file, os.path.dirname(lib.folder))}\n".encode() + code.read())
+    return digest.hexdigest()[:16]

@@ -2,13 +2,13 @@
 #![tactic(auto)]
 
 ghost use Rattle.cmark_text.specs.Shown.{shown_options};
-ghost use Rattle.mdevents_run.specs.Renders.{AreLinesOf};
+ghost use Rattle.mdevents_lines.specs.Renders.{AreLinesOf};
 ghost use Rattle.mdhtml_parts.specs.Ends.{watched_end, watched_notes};
 ghost use Rattle.mdhtml_parts.specs.Runs.{Runs};
 
-use cmark_json::append_given;
+use mdevents_lines::to_json_lines;
 use mdhtml_parts::{Render, RunFault, Watched};
-use pulldown_cmark::{EntityLookup, Options, Parser};
+use pulldown_cmark::{EntityLookup, Options};
 use std::alloc::{AllocError, Global};
 use std::io::{Read, Write};
 
@@ -23,14 +23,7 @@ impl<'a, E: EntityLookup> Render for EventLines<'a, E> {
     ghost renders = { λ lines text output. AreLinesOf text (shown_options lines.options) (E.replacement lines.entities.now) output };
 
     fn render(&self, alloc: Global, text: &str) -> Result<String, AllocError> {
-        let parser = Parser::new_ext(alloc, text, self.options, self.entities)?;
-        let mut output = String::new(alloc);
-        let mut iter = parser.into_offset_iter();
-        while let Some(item) = iter.next() {
-            let (event, range) = item?;
-            append_given(&mut output, alloc, event, range)?;
-        }
-        Ok(output)
+        to_json_lines(alloc, text, self.options, self.entities)
     }
 }
 

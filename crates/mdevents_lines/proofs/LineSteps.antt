@@ -8,7 +8,7 @@ use Rattle.cmark_grammar.specs.Event.{Ranged}
 use Rattle.cmark_grammar.specs.Options.{Options}
 use Rattle.cmark_text.specs.declared.event.Event.{Event}
 use Rattle.cmark_json.specs.Lines.{line, lines}
-use Rattle.mdevents_run.specs.Renders.{AreLinesOf}
+use Rattle.mdevents_lines.specs.Renders.{AreLinesOf}
 use Rattle.pulldown_cmark.specs.declared.parse.OffsetIter.{OffsetIter}
 use Rattle.pulldown_cmark.specs.declared.parse.Parser.{Parser}
 use Rattle.pulldown_cmark.specs.Parsing.{GivesRanged, Reads, shown_item, walk_of}

@@ -3,8 +3,8 @@ use Rattle.std.specs.Iterator.{Yields}
 use Rattle.std.specs.declared.ops.Range.{Range}
 use Rattle.cmark_text.specs.declared.event.Event.{Event}
 use Rattle.pulldown_cmark.specs.Parsing.{GivesRanged}
-use Rattle.mdevents_run.proofs.LineSteps.{given_more, rendered, written_more}
-use Rattle.mdevents_run.proofs.EventLinesRender.render.Goals as goal
+use Rattle.mdevents_lines.proofs.LineSteps.{given_more, rendered, written_more}
+use Rattle.mdevents_lines.proofs.to_json_lines.Goals as goal
 
 pub loop-item-preserved : goal.loop-item-preserved
 loop-item-preserved g c =

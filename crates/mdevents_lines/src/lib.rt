@@ -1,0 +1,30 @@
+//! From a text to a line of JSON for each of its events.
+#![tactic(auto)]
+
+ghost use Rattle.std.specs.Prelude.{IfOk, string_bytes};
+ghost use Rattle.cmark_text.specs.Shown.{shown_options};
+ghost use Rattle.mdevents_lines.specs.Renders.{AreLinesOf};
+
+use cmark_json::append_given;
+use pulldown_cmark::{EntityLookup, Options, Parser};
+use std::alloc::{AllocError, Global};
+
+/// A line of JSON for each event of a text, with its range, read with these options. `entities` says what the entity names stand
+/// for. Fails where memory is refused.
+pub fn to_json_lines<E: EntityLookup>(
+    alloc: Global,
+    text: &str,
+    options: Options,
+    entities: &E,
+) -> Result<String, AllocError>
+    ensures { IfOk result (λ output. AreLinesOf text.now (shown_options options) (E.replacement entities.now) (string_bytes output)) }
+{
+    let parser = Parser::new_ext(alloc, text, options, entities)?;
+    let mut output = String::new(alloc);
+    let mut iter = parser.into_offset_iter();
+    while let Some(item) = iter.next() {
+        let (event, range) = item?;
+        append_given(&mut output, alloc, event, range)?;
+    }
+    Ok(output)
+}

@@ -1,0 +1,132 @@
+// The page: what is typed on the left is shown on the right, as HTML, as its source and as events.
+"use strict";
+(async () => {
+  const SAMPLE = `# For *tonight*
+
+1. **Bread**, from [the corner][shop]
+2. For the pasta:
+   - tomatoes &amp; basil
+   - \`penne\`, 500 g
+
+> Remember the
+bag, says <https://example.com>.
+
+[shop]: https://example.com/bread "Open until six"
+`;
+  const at = (id) => document.getElementById(id);
+  const text = at("text"), behind = at("behind"), rendered = at("rendered"), source = at("source"), list = at("events");
+  const calls = await pulldownCmark.load();
+  at("version").textContent = calls.version();
+  at("sources").textContent = pulldownCmarkModule.sources;
+
+  // The switches.
+  const switches = Object.entries(calls.OPTIONS).map(([name, bits]) => {
+    const label = document.createElement("label"), box = document.createElement("input");
+    box.type = "checkbox";
+    box.id = `option-${name}`;
+    label.append(box, name.toLowerCase().replaceAll("_", " "));
+    at("options").append(label);
+    return { box, bits };
+  });
+  const options = () => switches.reduce((set, { box, bits }) => (box.checked ? set | bits : set), 0);
+  const choose = (set) => switches.forEach(({ box, bits }) => (box.checked = (set & bits) === bits));
+
+  // The state in the address: the options as a number, the text as base64 with the letters that an address may have.
+  const packed = (string) => {
+    let bytes = "";
+    for (const byte of new TextEncoder().encode(string)) bytes += String.fromCharCode(byte);
+    return btoa(bytes).replaceAll("+", "-").replaceAll("/", "_").replace(/=+$/, "");
+  };
+  const unpacked = (string) => {
+    const bytes = atob(string.replaceAll("-", "+").replaceAll("_", "/"));
+    return new TextDecoder("utf-8", { ignoreBOM: true }).decode(Uint8Array.from(bytes, (it) => it.charCodeAt(0)));
+  };
+  let written = null;
+  const write = () => {
+    written = `#o=${options()}&t=${packed(text.value)}`;
+    history.replaceState(null, "", written);
+  };
+  const read = () => {
+    if (location.hash === written) return;
+    const state = new URLSearchParams(location.hash.slice(1));
+    choose(Number(state.get("o")) || 0);
+    try {
+      text.value = state.has("t") ? unpacked(state.get("t")) : SAMPLE;
+    } catch {
+      text.value = SAMPLE;
+    }
+    show();
+  };
+
+  // Where an event comes from.
+  const point = (event) => {
+    const value = text.value;
+    behind.replaceChildren();
+    if (event) {
+      const mark = document.createElement("mark");
+      mark.textContent = value.slice(event.start, event.end);
+      behind.append(value.slice(0, event.start), mark, value.slice(event.end), "\n");
+    }
+    behind.scrollTop = text.scrollTop;
+  };
+  const select = (event) => {
+    text.setSelectionRange(event.start, event.end);
+    const mark = behind.querySelector("mark");
+    if (mark) text.scrollTop = Math.max(0, mark.offsetTop - text.clientHeight / 3);
+    behind.scrollTop = text.scrollTop;
+  };
+
+  // The events: elements are moved in by what is around them.
+  const row = (event, depth) => {
+    const item = document.createElement("li"), name = document.createElement("b"), place = document.createElement("i");
+    name.textContent = event.name;
+    place.textContent = ` ${event.start}..${event.end}`;
+    item.append("  ".repeat(depth), name, event.value === null ? "" : ` ${JSON.stringify(event.value)}`, place);
+    item.tabIndex = 0;
+    item.dataset.event = JSON.stringify(event);
+    item.addEventListener("mouseenter", () => point(event));
+    item.addEventListener("focus", () => point(event));
+    item.addEventListener("mouseleave", () => point(null));
+    item.addEventListener("blur", () => point(null));
+    item.addEventListener("click", () => select(event));
+    return item;
+  };
+  const rows = (events) => {
+    let depth = 0;
+    return events.map((event) => {
+      if (event.name === "End") depth--;
+      return row(event, event.name === "Start" ? depth++ : depth);
+    });
+  };
+
+  const show = () => {
+    const value = text.value, set = options(), began = performance.now();
+    let html, events;
+    try {
+      html = calls.html(value, set);
+      events = calls.events(value, set);
+    } catch (error) {
+      at("told").textContent = error.message;
+      return;
+    }
+    at("told").textContent = `${value.length} characters, ${events.length} events, read twice in ${(performance.now() - began).toFixed(1)} ms`;
+    source.textContent = html;
+    if (rendered.contentDocument && rendered.contentDocument.body) rendered.contentDocument.body.innerHTML = html;
+    list.replaceChildren(...rows(events));
+    point(null);
+    document.documentElement.dataset.shown = String(Number(document.documentElement.dataset.shown || 0) + 1);
+  };
+
+  let waiting = 0;
+  const changed = () => {
+    show();
+    clearTimeout(waiting);
+    waiting = setTimeout(write, 150);
+  };
+  text.addEventListener("input", changed);
+  text.addEventListener("scroll", () => (behind.scrollTop = text.scrollTop));
+  at("options").addEventListener("change", changed);
+  window.addEventListener("hashchange", read);
+  rendered.addEventListener("load", show);
+  read();
+})();

@@ -1,0 +1,94 @@
+// Markdown to HTML and to events: the calls of the module in module.js, which has to be loaded first. For a page, and for Node:
+//
+//     const pulldownCmark = await require("./pulldown_cmark.js").load();
+//     pulldownCmark.html("*Hi*");                        // "<p><em>Hi</em></p>\n"
+//     pulldownCmark.events("*Hi*")[2].value;             // "Hi"
+"use strict";
+var pulldownCmark = (() => {
+  const DONE = 0, TOO_LONG = 1, NOT_UTF8 = 2;
+
+  /** The rules beyond CommonMark; join them by `|`. */
+  const OPTIONS = {
+    TABLES: 2, FOOTNOTES: 4, STRIKETHROUGH: 8, TASKLISTS: 16, SMART_PUNCTUATION: 32, HEADING_ATTRIBUTES: 64,
+    YAML_STYLE_METADATA_BLOCKS: 128, PLUSES_DELIMITED_METADATA_BLOCKS: 256, OLD_FOOTNOTES: 516, MATH: 1024, GFM: 2048,
+    DEFINITION_LIST: 4096, SUPERSCRIPT: 8192, SUBSCRIPT: 16384, WIKILINKS: 32768,
+  };
+
+  const bytesOf = (base64) => {
+    const text = atob(base64), bytes = new Uint8Array(text.length);
+    for (let at = 0; at < text.length; at++) bytes[at] = text.charCodeAt(at);
+    return bytes;
+  };
+
+  /** The calls, once the module is ready. */
+  const load = async () => {
+    const { bytes } = typeof pulldownCmarkModule === "undefined" ? require("./module.js") : pulldownCmarkModule;
+    const { instance } = await WebAssembly.instantiate(bytesOf(bytes.replace(/\s/g, "")), {});
+    const module = instance.exports;
+
+    /** Memory of the module for so many bytes. */
+    const take = (size) => {
+      const place = Number(module.take(BigInt(size)));
+      if (!place) throw new RangeError("out of memory");
+      return place;
+    };
+    const give = (place) => module.give(BigInt(place));
+
+    /** What a call answers for these bytes. */
+    const answer = (call, data, options) => {
+      const held = [];
+      const keep = (size) => (held.push(take(size)), held[held.length - 1]);
+      try {
+        const text = keep(data.length + 1), size = keep(8);
+        new Uint8Array(module.memory.buffer).set(data, text);
+        for (let length = data.length + (data.length >> 2) + 64; ; ) {
+          const room = keep(length);
+          const status = call(BigInt(text), BigInt(data.length), options, BigInt(room), BigInt(length), BigInt(size));
+          const written = Number(new DataView(module.memory.buffer).getBigUint64(size, true));
+          if (status === DONE) return new TextDecoder("utf-8", { ignoreBOM: true }).decode(new Uint8Array(module.memory.buffer, room, written));
+          if (status !== TOO_LONG) throw status === NOT_UTF8 ? new TypeError("the text is not UTF-8") : new RangeError("out of memory");
+          length = written;
+        }
+      } finally {
+        held.forEach(give);
+      }
+    };
+
+    const encoded = (text) => (typeof text === "string" ? new TextEncoder().encode(text) : text);
+
+    /** The HTML of a text, a string or the bytes of one. */
+    const html = (text, options = 0) => answer(module.pcm_html, encoded(text), options);
+
+    /** The events of a text: `{name, value, start, end}` each, where `text.slice(start, end)` is what the event comes from. */
+    const events = (text, options = 0) => {
+      const places = typeof text === "string" ? placesOf(text) : null;
+      const lines = answer(module.pcm_events_json, encoded(text), options).split("\n").slice(0, -1);
+      return lines.map((line) => {
+        const { range: [start, end], event: [name, value = null] } = JSON.parse(line);
+        return places ? { name, value, start: places[start], end: places[end] } : { name, value, start, end };
+      });
+    };
+
+    const version = () => {
+      const number = module.pcm_version();
+      return `${number >> 16}.${(number >> 8) & 255}.${number & 255}`;
+    };
+    return { html, events, version, OPTIONS };
+  };
+
+  /** For each byte of a text in UTF-8, and for its end, the place in the string. */
+  const placesOf = (text) => {
+    const places = [];
+    let at = 0;
+    for (const character of text) {
+      const code = character.codePointAt(0), size = code < 0x80 ? 1 : code < 0x800 ? 2 : code < 0x10000 ? 3 : 4;
+      for (let byte = 0; byte < size; byte++) places.push(at);
+      at += character.length;
+    }
+    places.push(at);
+    return places;
+  };
+
+  return { load, OPTIONS };
+})();
+if (typeof module !== "undefined") module.exports = pulldownCmark;
