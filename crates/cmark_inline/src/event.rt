@@ -1,9 +1,10 @@
 //! The events of a leaf's slots, one after the other.
 
-ghost use Rattle.std.specs.Prelude.{◌≡◌, ◌⊎◌, ◌<◌, ◌≤◌, ◌+◌, ◌-◌, ℕ, List, [], IfOk, IfSome, OnOk, OnSome, length};
+ghost use Rattle.std.specs.Prelude.{◌≡◌, ◌⊎◌, ◌<◌, ◌≤◌, ◌+◌, ◌-◌, ℕ, false, List, [], IfOk, IfSome, OnOk, OnSome, length};
 ghost use Rattle.std.specs.Str.{IsCharBoundary};
 ghost use Rattle.cmark_grammar.specs.CodeSpans.{code_text};
 ghost use Rattle.cmark_grammar.specs.Event.{InlineHtml};
+ghost use Rattle.cmark_grammar.specs.InlineHtml.{takes_lines};
 ghost use Rattle.cmark_grammar.specs.LeafSpans.{IsInline, IsSpan};
 ghost use Rattle.cmark_grammar.specs.Tokens.{slice};
 ghost use Rattle.cmark_leaf_text.specs.Reads.{IsRead, IsPart, place_of, text_of, source_of};
@@ -337,6 +338,7 @@ fn code_of<'a>(
     requires starts { IsCharBoundary (text_of leaf.now) from }
     requires ends { IsCharBoundary (text_of leaf.now) to }
     ensures value { IfOk result (λ text. text_bytes text ≡ code_text (slice (text_of leaf.now) from to)) }
+    ensures lent { place_of leaf.now (to - 1) + 1 ≡ place_of leaf.now from + (to - from) → takes_lines (slice (text_of leaf.now) from to) ≡ false → IfOk result IsBorrowed }
     ensures part { IfOk result (IsPartIfBorrowed (source_of leaf.now)) }
 {
     if from >= to {
