@@ -80,13 +80,13 @@ module _ (reader : Reader) (leaf : Leaf) (size : ℕ) (turn : InTurn 0 leaf.stre
 
 -- ## Parts
 
-part_up : (from : ℕ) (parts : Parts) (to : ℕ) → StandBetween from parts to → from ≤ to
-part_up from NoParts to h = h
-part_up from (SinglePart x after) to h = let a = h.0 in let b = h.1 in let c = part_up x.end after to h.2 in omega arith
-part_up from (Form opener inside closer formed after) to h =
-    let a = h.0 in let b = h.1 in let c = part_up opener.end inside closer.start h.2 in let d = h.3 in let e = h.4 in let f = part_up (end_of formed) after to h.5 in omega arith
-part_up from (Closing closer after) to h = let a = h.0 in let b = h.1 in let c = part_up closer.end after to h.2 in omega arith
-part_up from (Opening opener after) to h = let a = h.0 in let b = h.1 in let c = part_up opener.end after to h.2 in omega arith
+pub part-up : (from : ℕ) (parts : Parts) (to : ℕ) → StandBetween from parts to → from ≤ to
+part-up from NoParts to h = h
+part-up from (SinglePart x after) to h = let a = h.0 in let b = h.1 in let c = part-up x.end after to h.2 in omega arith
+part-up from (Form opener inside closer formed after) to h =
+    let a = h.0 in let b = h.1 in let c = part-up opener.end inside closer.start h.2 in let d = h.3 in let e = h.4 in let f = part-up (end_of formed) after to h.5 in omega arith
+part-up from (Closing closer after) to h = let a = h.0 in let b = h.1 in let c = part-up closer.end after to h.2 in omega arith
+part-up from (Opening opener after) to h = let a = h.0 in let b = h.1 in let c = part-up opener.end after to h.2 in omega arith
 
 -- ## Siblings behind a pipe
 
@@ -226,7 +226,7 @@ module _ (reader : Reader) (leaf : Leaf) (size : ℕ) (turn : InTurn 0 leaf.stre
   siblings_order from NoParts to h f u g w = h
   siblings_order from (SinglePart x after) to h f u g w = item_order Pipe from x (siblings_of reader.options after) to h.0 h.1 f.0 (siblings_order x.end after to h.2 f.1 u.1 g w)
   siblings_order from (Form opener inside closer (Linking target) after) to h f u g w =
-      let a = h.1 in let b = h.3 in let c = h.4 in let d = part_up opener.end inside closer.start h.2 in
+      let a = h.1 in let b = h.3 in let c = h.4 in let d = part-up opener.end inside closer.start h.2 in
       let inner = dress-order Pipe reader.options opener.end (siblings_of reader.options inside) closer.start (siblings_order opener.end inside closer.start h.2 f.0 u.0 g.1 w.1) in (
         opener.start,
         h.0,
@@ -236,13 +236,13 @@ module _ (reader : Reader) (leaf : Leaf) (size : ℕ) (turn : InTurn 0 leaf.stre
         siblings_order target.end after to h.5 f.1 u.1 g.2 w.2,
       )
   siblings_order from (Form opener inside closer (Footnote label end) after) to h f u g w =
-      let a = h.1 in let b = h.3 in let c = h.4 in let d = part_up opener.end inside closer.start h.2 in
+      let a = h.1 in let b = h.3 in let c = h.4 in let d = part-up opener.end inside closer.start h.2 in
       footnote_order Pipe opener.is_image from opener.start label end (siblings_of reader.options after) to h.0 (omega arith) (siblings_order end after to h.5 f.1 u.1 g.2 w.2)
   siblings_order from (Form opener inside closer (Wiki name None end) after) to h f u g w =
       let a = h.1 in let b = h.3 in let c = h.4 in let d = w.0 in
       (opener.start, h.0, inl refl, omega arith, (omega arith, omega arith, omega arith), siblings_order end after to h.5 f.1 u.1 g.2 w.2)
   siblings_order from (Form opener inside closer (Wiki name (Some place) end) after) to h f u g w =
-      let a = h.1 in let b = h.3 in let c = h.4 in let d = part_up opener.end inside closer.start h.2 in
+      let a = h.1 in let b = h.3 in let c = h.4 in let d = part-up opener.end inside closer.start h.2 in
       let display = display_from place closer.start (siblings_of reader.options inside) in
       let inner = dress-order Pipe reader.options opener.end display closer.start
       (display_order Pipe place closer.start g.0.0 opener.end (siblings_of reader.options inside) d (siblings_order opener.end inside closer.start h.2 f.0 u.0 g.1 w.1) (parts_free place g.0.0 inside u.0)) in

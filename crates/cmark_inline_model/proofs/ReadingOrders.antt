@@ -66,13 +66,13 @@ module _ (options : Options) (text : List ℕ) where
       Element from to tag h.0 start end (inline_events source inside) (inline_events source after) h.1 h.2 h.3 (inline_placed source h.0 inside end h.4) (inline_placed source end after to h.5)
 
 -- where nothing begins there are no parts
-no_parts : (token : ℕ → Token) (decide : State → (closer : Bracket) → Decision) (Says : Saying) → ((at : ℕ) → token at ≡ Ends) → (s : State) (parts : Parts) (t : State)
+pub no-parts : (token : ℕ → Token) (decide : State → (closer : Bracket) → Decision) (Says : Saying) → ((at : ℕ) → token at ≡ Ends) → (s : State) (parts : Parts) (t : State)
     → Reads token decide Says s parts t → parts ≡ NoParts
-no_parts token decide Says ends s NoParts t h = refl
-no_parts token decide Says ends s (SinglePart item after) t h = absurd (let e = sym (ends s.at) ∙ h.1 in let d : ⊥ = cc in d)
-no_parts token decide Says ends s (Form opener inside closer formed after) t h = absurd (let e = sym (ends s.at) ∙ h.opens in let d : ⊥ = cc in d)
-no_parts token decide Says ends s (Closing closer after) t h = absurd (let e = sym (ends s.at) ∙ h.closes in let d : ⊥ = cc in d)
-no_parts token decide Says ends s (Opening opener after) t h = absurd (let e = sym (ends s.at) ∙ h.0 in let d : ⊥ = cc in d)
+no-parts token decide Says ends s NoParts t h = refl
+no-parts token decide Says ends s (SinglePart item after) t h = absurd (let e = sym (ends s.at) ∙ h.1 in let d : ⊥ = cc in d)
+no-parts token decide Says ends s (Form opener inside closer formed after) t h = absurd (let e = sym (ends s.at) ∙ h.opens in let d : ⊥ = cc in d)
+no-parts token decide Says ends s (Closing closer after) t h = absurd (let e = sym (ends s.at) ∙ h.closes in let d : ⊥ = cc in d)
+no-parts token decide Says ends s (Opening opener after) t h = absurd (let e = sym (ends s.at) ∙ h.0 in let d : ⊥ = cc in d)
 
 -- spans between the beginning and the end of some stretches stand where the stretches do
 wider : (Pipe : ℕ → Type 0) (from : ℕ) (stretches : List Stretch) (to at : ℕ) (spans : Inline) → InTurn from stretches to → at ≤ end_of stretches → (stretches ≡ [] → spans ≡ NoSpans)
@@ -116,7 +116,7 @@ module _ (reader : Reader) (Says : Saying) where
           let turn : InTurn 0 leaf.stretches to = lower from 0 leaf.stretches to (omega arith) (stretches-turn from from content to to (omega arith) (omega arith) o) in
           let last : end_of leaf.stretches ≡ 0 = ap end_of e in
           ap (spans_in reader.options)
-          (no_parts (token reader leaf) (decide reader leaf) Says (λ at. token-ends reader leaf to turn at (omega arith)) (entering leaf before) h.parts h.last h.reads.reads)
+          (no-parts (token reader leaf) (decide reader leaf) Says (λ at. token-ends reader leaf to turn at (omega arith)) (entering leaf before) h.parts h.last h.reads.reads)
 
   abbrev Placed : (from to : ℕ) → List Segment → Type 0
   Placed from to others = to ≤ length reader.source → AreLeavesOfLines reader.source others → (before after : Between) (events : List Ranged) → ReadsAll reader Says others before events after → Stand from events to
