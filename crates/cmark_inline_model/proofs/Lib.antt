@@ -72,5 +72,6 @@ pub mod TokenLaws
 pub mod TokenOptions
 pub mod TokenPlaces
 pub mod TokenSizes
+pub mod WalkLaws
 pub mod WikiGaps
 pub mod WordBytes
