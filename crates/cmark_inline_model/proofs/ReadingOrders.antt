@@ -27,7 +27,7 @@ use Rattle.cmark_grammar.proofs.RangeLaws.{derived-order}
 use Rattle.cmark_inline_model.specs.LeafModel.{HaveLineEnds, AreLeavesOfLines}
 use Rattle.cmark_inline_model.specs.ReadingRanges as plain
 use Rattle.cmark_inline_model.specs.CutRanges.{IsBehindPipe, BeginsAt, InPlaceButCut, Nothing, Single, Element}
-use Rattle.cmark_inline_model.specs.ReadingRanges.{HasNo, HasNoDisplays, ranged, InPlace}
+use Rattle.cmark_inline_model.specs.ReadingRanges.{HasNo, HasNoDisplays, ranged, InPlace, LieWithin}
 use Rattle.cmark_inline_model.proofs.DocumentLeaves.{order-up, stretches-turn}
 use Rattle.cmark_inline_model.proofs.ForwardLaws.{leaf-forward, leaf-ranges}
 use Rattle.cmark_inline_model.proofs.LeafLines.{lines-split, derived-lines}
@@ -199,3 +199,30 @@ module _ (options : Options) (text : List ℕ) (none : HasNoDisplays options tex
   uncut _ _ _ (Element from to tag written start end inside after a w b i k) =
       let e = uncut_begin written start w in
       plain.Element from to tag start end inside after (omega arith) (subst (λ n. InPlace n inside end) (sym e) (uncut written inside end i)) (uncut end after to k)
+
+-- ## Within the text
+
+within_both : (size : ℕ) (first second : List Ranged) → LieWithin size first → LieWithin size second → LieWithin size (first ++ second)
+within_both size [] second h k = k
+within_both size (r ∷ first) second h k = (h.0, h.1, within_both size first second h.2 k)
+
+placed_up : (options : Options) (text : List ℕ) (from : ℕ) (events : List Ranged) (to : ℕ) → InPlaceButCut options text from events to → from ≤ to
+placed_up options text _ _ _ (Nothing from to h) = h
+placed_up options text _ _ _ (Single from to r after single a b k) = let i = placed_up options text r.end after to k in omega arith
+placed_up options text _ _ _ (Element from to tag written start end inside after a w b i k) =
+    let x = placed_up options text written inside end i in let y = placed_up options text end after to k in omega arith
+
+within_place : (options : Options) (text : List ℕ) (size from : ℕ) (events : List Ranged) (to : ℕ) → to ≤ size → InPlaceButCut options text from events to → LieWithin size events
+within_place options text size _ _ _ w (Nothing from to h) = tt
+within_place options text size _ _ _ w (Single from to r after single a b k) =
+    let u = placed_up options text r.end after to k in (b, omega arith, within_place options text size r.end after to w k)
+within_place options text size _ _ _ w (Element from to tag written start end inside after a begins b i k) =
+    let u = placed_up options text end after to k in (
+      b,
+      omega arith,
+      within_both size inside (ranged (End (tag_end.end_of tag)) start end ∷ after) (within_place options text size written inside end (omega arith) i)
+          (b, omega arith, within_place options text size end after to w k),
+    )
+
+pub reading-within-text : (text : List ℕ) (profile : Profile) (exchanges : List Exchange) (events : List Ranged) → IsReading text profile exchanges events → LieWithin (length text) events
+reading-within-text text profile exchanges events h = within_place profile.options text (length text) 0 events (length text) (omega arith) (reading-placed text profile exchanges events h)

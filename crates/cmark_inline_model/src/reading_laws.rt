@@ -21,7 +21,7 @@ ghost use Rattle.cmark_inline_model.specs.LinkRules.{IsQuestion};
 ghost use Rattle.cmark_inline_model.specs.OptionRules.{AllItems, AreGiven, IsRead};
 ghost use Rattle.cmark_inline_model.specs.ReadingLinks.{AreLed, LinksApart, reference_costs};
 ghost use Rattle.cmark_inline_model.specs.ReadingQuestions.{AllAsked, AskedInTurn, IsCloser, IsCloserBelow};
-ghost use Rattle.cmark_inline_model.specs.ReadingRanges.{HasNoDisplays, InPlace};
+ghost use Rattle.cmark_inline_model.specs.ReadingRanges.{HasNoDisplays, InPlace, LieWithin};
 
 /// No link stands in a link, at any depth, but for autolinks (CommonMark 6.3 and 6.5).
 pub fn links_stand_apart()
@@ -51,11 +51,13 @@ pub fn questions_are_put_below_the_limit()
         → AskedInTurn (IsCloserBelow profile.expansion_limit events (reader_of text profile document) (segments document)) 0 exchanges (length text) }
 {}
 
-/// The ranges of events stand in the text, one behind the other, and the range of each element around those of what is inside it
-/// (`cut`). What a wikilink shows behind its pipe may begin inside an element, as an image: that element begins behind the pipe, and
+/// The ranges of events lie in the text (`within`), one behind the other, and the range of each element around those of what is inside
+/// it (`cut`). What a wikilink shows behind its pipe may begin inside an element, as an image: that element begins behind the pipe, and
 /// what is inside it where the element would begin without the pipe. No other element does (`uncut`): where a text is read without
 /// wikilinks, or has no `|`, the inside of each lies in its range.
 pub fn ranges_stand_in_order()
+    ensures within { (text : List ℕ) (profile : Profile) (exchanges : List Exchange) (events : List Ranged)
+        → IsReading text profile exchanges events → LieWithin (length text) events }
     ensures cut { (text : List ℕ) (profile : Profile) (exchanges : List Exchange) (events : List Ranged)
         → IsReading text profile exchanges events → InPlaceButCut profile.options text 0 events (length text) }
     ensures uncut { (text : List ℕ) (profile : Profile) (exchanges : List Exchange) (events : List Ranged)
