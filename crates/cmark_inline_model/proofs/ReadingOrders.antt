@@ -21,6 +21,7 @@ use Rattle.cmark_grammar.specs.Readers.{Reader}
 use Rattle.cmark_grammar.specs.Siblings.{Inline, Nil as NoSpans, Single as SingleItem, Around as SpanAround}
 use Rattle.cmark_grammar.specs.SiblingsModel.{spans_in}
 use Rattle.cmark_grammar.specs.SpanDocuments.{Segment, Given, Content, stretches_of, leaf_of, inside_of, node_segments, segments, ReadsAll, Profile, reader_of, at_start, IsReading}
+use Rattle.cmark_grammar.specs.Tag.{Tag}
 use Rattle.cmark_grammar.specs.TagEnd as tag_end
 use Rattle.cmark_grammar.proofs.BalanceLaws.{IsFit, fit}
 use Rattle.cmark_grammar.proofs.RangeLaws.{derived-order}
@@ -189,15 +190,15 @@ module _ (options : Options) (text : List ℕ) (none : HasNoDisplays options tex
       go (inl off) = true≢false (sym h.wikilinks ∙ off)
       go (inr k) = no_byte 124 text (at - 1) k (omega arith) h.pipe
 
-  uncut_begin : (written start : ℕ) → BeginsAt options text written start → start ≡ written
-  uncut_begin written start (inl e) = e
-  uncut_begin written start (inr h) = absurd (no_pipe start h.1)
+  uncut_begin : (tag : Tag) (written start : ℕ) → BeginsAt options text tag written start → start ≡ written
+  uncut_begin tag written start (inl e) = e
+  uncut_begin tag written start (inr h) = absurd (no_pipe start h.2)
 
   pub uncut : (from : ℕ) (events : List Ranged) (to : ℕ) → InPlaceButCut options text from events to → InPlace from events to
   uncut _ _ _ (Nothing from to h) = plain.Nothing from to h
   uncut _ _ _ (Single from to r after single a b k) = plain.Single from to r after single a b (uncut r.end after to k)
   uncut _ _ _ (Element from to tag written start end inside after a w b i k) =
-      let e = uncut_begin written start w in
+      let e = uncut_begin tag written start w in
       plain.Element from to tag start end inside after (omega arith) (subst (λ n. InPlace n inside end) (sym e) (uncut written inside end i)) (uncut end after to k)
 
 -- ## Within the text

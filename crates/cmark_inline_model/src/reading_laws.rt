@@ -52,9 +52,9 @@ pub fn questions_are_put_below_the_limit()
 {}
 
 /// The ranges of events lie in the text (`within`), one behind the other, and the range of each element around those of what is inside
-/// it (`cut`). What a wikilink shows behind its pipe may begin inside an element, as an image: that element begins behind the pipe, and
-/// what is inside it where the element would begin without the pipe. No other element does (`uncut`): where a text is read without
-/// wikilinks, or has no `|`, the inside of each lies in its range.
+/// it (`cut`). What a wikilink shows behind its pipe may begin inside a link or an image: that one begins behind the pipe, and what is
+/// inside it where it would begin without the pipe. No other element does (`uncut`): where a text is read without wikilinks, or has no
+/// `|`, the inside of each lies in its range.
 pub fn ranges_stand_in_order()
     ensures within { (text : List ℕ) (profile : Profile) (exchanges : List Exchange) (events : List Ranged)
         → IsReading text profile exchanges events → LieWithin (length text) events }
