@@ -29,6 +29,13 @@ pub turn-both : (Closer : ℕ → Type 0) (from mid to : ℕ) (first second : Li
 turn-both Closer from mid to [] second h k = turn-wide Closer Closer (λ place c. c) from mid second to to h (omega arith) k
 turn-both Closer from mid to (x ∷ xs) second h k = (h.0, h.1, h.2, h.3, h.4, turn-both Closer (suc h.0) mid to xs second h.5 k)
 
+-- what holds of each place there is
+pub turn-within : (Closer Other : ℕ → Type 0) (from : ℕ) (asked : List Exchange) (to : ℕ) → ((place : ℕ) → from ≤ place → place < to → Closer place → Other place) → AskedInTurn Closer from asked to → AskedInTurn Other from asked to
+turn-within Closer Other from [] to f h = h
+turn-within Closer Other from (x ∷ xs) to f h =
+    let a = h.1 in let u = turn-up Closer (suc h.0) xs to h.5 in
+    (h.0, h.1, f h.0 h.1 (omega arith) h.2, h.3, h.4, turn-within Closer Other (suc h.0) xs to (λ place b c. f place (omega arith) c) h.5)
+
 pub turn-none : (Closer : ℕ → Type 0) (from : ℕ) (asked : List Exchange) → AskedInTurn Closer from asked 0 → asked ≡ []
 turn-none Closer from [] h = refl
 turn-none Closer from (x ∷ xs) h = absurd (let b = turn-up Closer (suc h.0) xs 0 h.5 in let d : ⊥ = omega arith in d)
@@ -38,7 +45,7 @@ abbrev pub BeginUpTo : ℕ → List Opener → Type 0
 BeginUpTo at [] = Unit {0}
 BeginUpTo at (o ∷ os) = (o.bracket.start ≤ at) × BeginUpTo at os
 
-begin_more : (at more : ℕ) (os : List Opener) → at ≤ more → BeginUpTo at os → BeginUpTo more os
+pub begin_more : (at more : ℕ) (os : List Opener) → at ≤ more → BeginUpTo at os → BeginUpTo more os
 begin_more at more [] e h = tt
 begin_more at more (o ∷ os) e h = (let x = h.0 in omega arith, begin_more at more os e h.1)
 
@@ -107,8 +114,13 @@ module _ (token : ℕ → Token) (decide : State → (closer : Bracket) → Deci
     pub less : t.expansion ≤ s.expansion
     pub none : s.expansion ≡ 0 → more ≡ []
 
-  turns_both : (a b c : State) → Turns a b → Turns b c → Turns a c
-  turns_both a b c h k = record {
+  -- a question of one closing bracket is put at its place
+  pub record Decided (s t : State) : Type 1 where
+    pub turns : Turns s t
+    pub there : (Closer : ℕ → Type 0) → Closer s.at → AskedInTurn Closer s.at turns.more t.at
+
+  unfoldable pub turns-both : (a b c : State) → Turns a b → Turns b c → Turns a c
+  turns-both a b c h k = record {
     more = h.more ++ k.more;
     added = k.added ∙ ap (λ l. l ++ k.more) h.added ∙ append_assoc a.asked h.more k.more;
     turn = turn-both IsCloserAt a.at b.at c.at h.more k.more h.turn k.turn;
@@ -118,13 +130,13 @@ module _ (token : ℕ → Token) (decide : State → (closer : Bracket) → Deci
     none = λ e. (let x = h.less in ap (λ l. l ++ k.more) (h.none e) ∙ k.none (omega arith));
   }
 
-  turns_on : (s : State) (past : ℕ) → s.at ≤ past → BeginUpTo s.at s.openers → Turns s (moved past s)
-  turns_on s past e h =
+  unfoldable pub turns-on : (s : State) (past : ℕ) → s.at ≤ past → BeginUpTo s.at s.openers → Turns s (moved past s)
+  turns-on s past e h =
       record { more = []; added = sym (append-nil s.asked); turn = e; begin = begin_more s.at past s.openers e h; right = tt; less = omega arith; none = λ z. refl }
 
   module _ (keeps : KeepsTurn) where
-    opener_turns : (s : State) (opener : Bracket) → token s.at ≡ Opens opener → BeginUpTo s.at s.openers → Turns s (opened opener s)
-    opener_turns s opener e h =
+    unfoldable pub opener-turns : (s : State) (opener : Bracket) → token s.at ≡ Opens opener → BeginUpTo s.at s.openers → Turns s (opened opener s)
+    opener-turns s opener e h =
         let r = keeps.ranges.opens s.at opener e in
         let x = r.begins in let y = r.ordered in
         record {
@@ -137,8 +149,8 @@ module _ (token : ℕ → Token) (decide : State → (closer : Bracket) → Deci
           none = λ z. refl;
         }
 
-    decided_turns : (s : State) (closer : Bracket) (o : Outcome) → token s.at ≡ Closes closer → BeginUpTo s.at s.openers → Comes Says s.asked (decide s closer) o → Turns s o.after
-    decided_turns s closer o e h c = go (decide s closer) (keeps.asks s closer e) (keeps.recorded.keeps s closer) c
+    pub decided-turns : (s : State) (closer : Bracket) (o : Outcome) → token s.at ≡ Closes closer → BeginUpTo s.at s.openers → Comes Says s.asked (decide s closer) o → Decided s o.after
+    decided-turns s closer o e h c = go (decide s closer) (keeps.asks s closer e) (keeps.recorded.keeps s closer) c
       where
         on : s.at < o.after.at
         on = always-comes (λ x. s.at < x.after.at) Says s.asked (decide s closer) o (keeps.forward.comes s closer e) c
@@ -152,45 +164,51 @@ module _ (token : ℕ → Token) (decide : State → (closer : Bracket) → Deci
         less : o.after.expansion ≤ s.expansion
         less = pays_less s.expansion o.after.expansion o.result (always-comes (Pays s.expansion) Says s.asked (decide s closer) o (keeps.limit.pays s closer) c)
 
-        go : (d : Decision) → AsksAbout Holds s closer d → Keeps s.asked d → Comes Says s.asked d o → Turns s o.after
+        go : (d : Decision) → AsksAbout Holds s closer d → Keeps s.asked d → Comes Says s.asked d o → Decided s o.after
         go (Settled outcome) a k f =
             record {
-              more = [];
-              added = ap (λ (x : Outcome). x.after.asked) f ∙ k ∙ sym (append-nil s.asked);
-              turn = (let z : s.at ≤ o.after.at = omega (arith, on) in z);
-              begin = begin;
-              right = tt;
-              less = less;
-              none = λ z. refl;
+              turns = record {
+                more = [];
+                added = ap (λ (x : Outcome). x.after.asked) f ∙ k ∙ sym (append-nil s.asked);
+                turn = (let z : s.at ≤ o.after.at = omega (arith, on) in z);
+                begin = begin;
+                right = tt;
+                less = less;
+                none = λ z. refl;
+              };
+              there = λ Closer c. (let z : s.at ≤ o.after.at = omega (arith, on) in z);
             }
         go (Asks q answered) a k f =
             let x : Exchange = record { question = q; answer = f.0 } in
             let b = keeps.closes s.at closer e in
             let c = a.0.end in
             record {
-              more = x ∷ [];
-              added = ap (λ (y : Outcome). y.after.asked) f.2 ∙ k f.0;
-              turn = (s.at, (let z : s.at ≤ s.at = omega arith in z), (closer, e), a.0.start s.at h, (let z : s.at < q.end = omega arith in z), on);
-              begin = begin;
-              right = (a.1, tt);
-              less = less;
-              none = λ z. absurd (let y : (s.expansion == 0) ≡ true = eq-eqb s.expansion 0 z in let n = a.0.some in let d : ⊥ = cc in d);
+              turns = record {
+                more = x ∷ [];
+                added = ap (λ (y : Outcome). y.after.asked) f.2 ∙ k f.0;
+                turn = (s.at, (let z : s.at ≤ s.at = omega arith in z), (closer, e), a.0.start s.at h, (let z : s.at < q.end = omega arith in z), on);
+                begin = begin;
+                right = (a.1, tt);
+                less = less;
+                none = λ z. absurd (let y : (s.expansion == 0) ≡ true = eq-eqb s.expansion 0 z in let n = a.0.some in let d : ⊥ = cc in d);
+              };
+              there = λ Closer c. (s.at, (let z : s.at ≤ s.at = omega arith in z), c, a.0.start s.at h, (let z : s.at < q.end = omega arith in z), on);
             }
 
     pub reading-turns : (s : State) (parts : Parts) (t : State) → BeginUpTo s.at s.openers → Reads token decide Says s parts t → Turns s t
     reading-turns s Nil t b h = subst (Turns s) (sym h) (record { more = []; added = sym (append-nil s.asked); turn = (let z : s.at ≤ s.at = omega arith in z); begin = b; right = tt; less = omega arith; none = λ z. refl })
     reading-turns s (Single item after) t b h =
         let on = keeps.forward.stands s.at h.0 item h.1 in
-        let i = turns_on s h.0 (omega arith) b in
-        turns_both s (moved h.0 s) t i (reading-turns (moved h.0 s) after t i.begin h.2)
+        let i = turns-on s h.0 (omega arith) b in
+        turns-both s (moved h.0 s) t i (reading-turns (moved h.0 s) after t i.begin h.2)
     reading-turns s (Form opener inside closer formed after) t b h =
-        let a = opener_turns s opener h.opens b in
+        let a = opener-turns s opener h.opens b in
         let i = reading-turns (opened opener s) inside h.until a.begin h.inside in
-        let d = decided_turns h.until closer (record { result = Forms (openings inside) formed; after = h.next }) h.closes i.begin h.comes in
-        turns_both s (opened opener s) t a (turns_both (opened opener s) h.until t i (turns_both h.until h.next t d (reading-turns h.next after t d.begin h.after)))
+        let d = (decided-turns h.until closer (record { result = Forms (openings inside) formed; after = h.next }) h.closes i.begin h.comes).turns in
+        turns-both s (opened opener s) t a (turns-both (opened opener s) h.until t i (turns-both h.until h.next t d (reading-turns h.next after t d.begin h.after)))
     reading-turns s (Closing closer after) t b h =
-        let d = decided_turns s closer (record { result = StaysText; after = h.next }) h.closes b h.comes in
-        turns_both s h.next t d (reading-turns h.next after t d.begin h.after)
+        let d = (decided-turns s closer (record { result = StaysText; after = h.next }) h.closes b h.comes).turns in
+        turns-both s h.next t d (reading-turns h.next after t d.begin h.after)
     reading-turns s (Opening opener after) t b h =
-        let a = opener_turns s opener h.0 b in
-        turns_both s (opened opener s) t a (reading-turns (opened opener s) after t a.begin h.1)
+        let a = opener-turns s opener h.0 b in
+        turns-both s (opened opener s) t a (reading-turns (opened opener s) after t a.begin h.1)

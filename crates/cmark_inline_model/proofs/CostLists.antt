@@ -8,6 +8,10 @@ abbrev pub total : List ℕ → ℕ
 total [] = 0
 total (c ∷ cs) = c + total cs
 
+pub sum-total : (cs : List ℕ) → sum cs ≡ total cs
+sum-total [] = refl
+sum-total (c ∷ cs) = let i = sum-total cs in let e : sum (c ∷ cs) ≡ c + sum cs = sum_by-cons (λ n. n) c cs in omega arith
+
 -- those before each come to less than the limit, with what was spent before
 abbrev pub Within : (limit spent : ℕ) → List ℕ → Type 0
 Within limit spent [] = Unit {0}

@@ -1,3 +1,4 @@
+pub mod AskedBelow
 pub mod AskedTurn
 pub mod Backwards
 pub mod BracketQuestions
@@ -38,6 +39,7 @@ pub mod PartOrders
 pub mod QuestionExamples
 pub mod RangeExamples
 pub mod ReadingBalanced
+pub mod ReadingBelow
 pub mod ReadingDocuments
 pub mod ReadingLaws
 pub mod ReadingLinkLaws
@@ -61,6 +63,7 @@ pub mod SpanElements
 pub mod SpanItems
 pub mod SpanKinds
 pub mod SpanRanges
+pub mod SpentEvents
 pub mod SpentLaws
 pub mod TextLaws
 pub mod TightSpans
@@ -69,5 +72,6 @@ pub mod TokenLaws
 pub mod TokenOptions
 pub mod TokenPlaces
 pub mod TokenSizes
+pub mod WalkLaws
 pub mod WikiGaps
 pub mod WordBytes

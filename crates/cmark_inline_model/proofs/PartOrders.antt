@@ -14,11 +14,12 @@ use Rattle.cmark_grammar.specs.LinkDefinitions.{Found}
 use Rattle.cmark_grammar.specs.Parts.{Parts, Nil as NoParts, Single as SinglePart, Form, Closing, Opening, Linking, Footnote, Wiki}
 use Rattle.cmark_grammar.specs.Questions.{Saying}
 use Rattle.cmark_grammar.specs.Readers.{Reader}
-use Rattle.cmark_grammar.specs.Siblings.{Inline, Nil, Single, Around, item, item_then, footnote_then, from_place, display_from}
+use Rattle.cmark_grammar.specs.Siblings.{Inline, Nil, Single, Around, tag_by, item, item_then, footnote_then, from_place, display_from}
 use Rattle.cmark_grammar.specs.SiblingsModel.{dress, siblings_of, spans_in}
 use Rattle.cmark_inline_model.specs.LeafModel.{HaveLineEnds}
 use Rattle.cmark_inline_model.specs.PartRanges.{StandBetween, end_of}
-use Rattle.cmark_inline_model.specs.CutRanges.{IsBehindPipe}
+use Rattle.cmark_grammar.specs.Tag.{Linked}
+use Rattle.cmark_inline_model.specs.CutRanges.{IsLinkOrImage, IsBehindPipe}
 use Rattle.cmark_inline_model.proofs.KindViews.{KindView, AQuote, ARun, AnAutolink, AText, kind-view}
 use Rattle.cmark_inline_model.proofs.LeafPlaces.{place-behind, next-size}
 use Rattle.cmark_inline_model.proofs.ReadingPlaces.{HavePipes}
@@ -80,13 +81,13 @@ module _ (reader : Reader) (leaf : Leaf) (size : ℕ) (turn : InTurn 0 leaf.stre
 
 -- ## Parts
 
-part_up : (from : ℕ) (parts : Parts) (to : ℕ) → StandBetween from parts to → from ≤ to
-part_up from NoParts to h = h
-part_up from (SinglePart x after) to h = let a = h.0 in let b = h.1 in let c = part_up x.end after to h.2 in omega arith
-part_up from (Form opener inside closer formed after) to h =
-    let a = h.0 in let b = h.1 in let c = part_up opener.end inside closer.start h.2 in let d = h.3 in let e = h.4 in let f = part_up (end_of formed) after to h.5 in omega arith
-part_up from (Closing closer after) to h = let a = h.0 in let b = h.1 in let c = part_up closer.end after to h.2 in omega arith
-part_up from (Opening opener after) to h = let a = h.0 in let b = h.1 in let c = part_up opener.end after to h.2 in omega arith
+pub part-up : (from : ℕ) (parts : Parts) (to : ℕ) → StandBetween from parts to → from ≤ to
+part-up from NoParts to h = h
+part-up from (SinglePart x after) to h = let a = h.0 in let b = h.1 in let c = part-up x.end after to h.2 in omega arith
+part-up from (Form opener inside closer formed after) to h =
+    let a = h.0 in let b = h.1 in let c = part-up opener.end inside closer.start h.2 in let d = h.3 in let e = h.4 in let f = part-up (end_of formed) after to h.5 in omega arith
+part-up from (Closing closer after) to h = let a = h.0 in let b = h.1 in let c = part-up closer.end after to h.2 in omega arith
+part-up from (Opening opener after) to h = let a = h.0 in let b = h.1 in let c = part-up opener.end after to h.2 in omega arith
 
 -- ## Siblings behind a pipe
 
@@ -121,6 +122,10 @@ fills_later (FootnoteReference label) place start end h f k = tt
 fills_later SoftBreak place start end h f k = tt
 fills_later HardBreak place start end h f k = tt
 
+link_tag : (is_image : Bool) (linked : Linked) → IsLinkOrImage (tag_by is_image linked)
+link_tag true linked = tt
+link_tag false linked = tt
+
 module _ (Pipe : ℕ → Type 0) where
   abbrev Siblings : ℕ → Inline → ℕ → Type 0
   Siblings from siblings to = SiblingOrder Pipe from siblings to
@@ -128,7 +133,7 @@ module _ (Pipe : ℕ → Type 0) where
   siblings_lower : (less from : ℕ) (siblings : Inline) (to : ℕ) → less ≤ from → Siblings from siblings to → Siblings less siblings to
   siblings_lower less from Nil to e h = let x : from ≤ to = h in omega arith
   siblings_lower less from (Single x after) to e h = ((let y = h.0 in omega arith), h.1, h.2, h.3)
-  siblings_lower less from (Around tag start end inside after) to e h = (h.0, (let y = h.1 in omega arith), h.2, h.3, h.4, h.5)
+  siblings_lower less from (Around tag start end inside after) to e h = (h.0, (let y = h.1 in omega arith), h.2, h.3, h.4, h.5, h.6)
 
   from_order : (place : ℕ) → Pipe place → (from : ℕ) (siblings : Inline) (to : ℕ) → Siblings from siblings to → IsFree place siblings → Siblings from (from_place place siblings) to
   from_order place pipe from Nil to h f = h
@@ -143,15 +148,15 @@ module _ (Pipe : ℕ → Type 0) where
   from_order place pipe from (Around tag start end inside after) to h f = go (nat_le end place) refl (from_order place pipe end after to h.5 f)
     where
       go : (b : Bool) → nat_le end place ≡ b → Siblings end (from_place place after) to → Siblings from (if b then from_place place after else Around tag (max start place) end inside after) to
-      go true e i = siblings_lower from end (from_place place after) to (let a = h.1 in let b = begun-up Pipe h.0 start h.2 in let c = h.3 in omega arith) i
-      go false e i = (h.0, h.1, begun (nat_le place start) refl, (let l : place < end = grind (arith) in let c = h.3 in omega arith), h.4, h.5)
+      go true e i = siblings_lower from end (from_place place after) to (let a = h.1 in let b = begun-up Pipe tag h.0 start h.2 in let c = h.3 in omega arith) i
+      go false e i = (h.0, h.1, begun (nat_le place start) refl, (let l : place < end = grind (arith) in let c = h.3 in omega arith), h.4, h.5, h.6)
         where
-          begun : (z : Bool) → nat_le place start ≡ z → Begun Pipe h.0 (max start place)
-          begun true q = let l : place ≤ start = grind (arith) in subst (Begun Pipe h.0) (let m : start ≡ max start place = omega arith in m) h.2
+          begun : (z : Bool) → nat_le place start ≡ z → Begun Pipe tag h.0 (max start place)
+          begun true q = let l : place ≤ start = grind (arith) in subst (Begun Pipe tag h.0) (let m : start ≡ max start place = omega arith in m) h.2
           begun false q =
               let l : start < place = grind (arith) in
-              let u = begun-up Pipe h.0 start h.2 in
-              subst (Begun Pipe h.0) (let m : place ≡ max start place = omega arith in m) (inr (omega arith, pipe))
+              let u = begun-up Pipe tag h.0 start h.2 in
+              subst (Begun Pipe tag h.0) (let m : place ≡ max start place = omega arith in m) (inr (h.6, omega arith, pipe))
 
   display_order : (place end : ℕ) → Pipe place → (from : ℕ) (siblings : Inline) → from ≤ end → Siblings from siblings end → IsFree place siblings → Siblings from (display_from place end siblings) end
   display_order place end pipe from siblings w h f = go (place == end) refl
@@ -166,7 +171,7 @@ module _ (Pipe : ℕ → Type 0) where
       go : (kind : ItemKind) → KindView kind → Fills kind x.start x.end → Siblings from (item_then kind x after) to
       go _ (AQuote quote) g = (a, b, f, k)
       go _ (ARun run) g = (a, b, f, k)
-      go _ (AnAutolink uri) g = (x.start, a, inl refl, b, (omega arith, omega arith, omega arith), k)
+      go _ (AnAutolink uri) g = (x.start, a, inl refl, b, (omega arith, omega arith, omega arith), k, tt)
       go _ (AText kind t) g = subst (λ l. Siblings from l to) (sym (t.item x after)) (a, b, f, k)
 
   footnote_order : (is_image : Bool) (from start : ℕ) (label : List ℕ) (end : ℕ) (others : Inline) (to : ℕ) → from ≤ start → start < end → Siblings end others to
@@ -226,7 +231,7 @@ module _ (reader : Reader) (leaf : Leaf) (size : ℕ) (turn : InTurn 0 leaf.stre
   siblings_order from NoParts to h f u g w = h
   siblings_order from (SinglePart x after) to h f u g w = item_order Pipe from x (siblings_of reader.options after) to h.0 h.1 f.0 (siblings_order x.end after to h.2 f.1 u.1 g w)
   siblings_order from (Form opener inside closer (Linking target) after) to h f u g w =
-      let a = h.1 in let b = h.3 in let c = h.4 in let d = part_up opener.end inside closer.start h.2 in
+      let a = h.1 in let b = h.3 in let c = h.4 in let d = part-up opener.end inside closer.start h.2 in
       let inner = dress-order Pipe reader.options opener.end (siblings_of reader.options inside) closer.start (siblings_order opener.end inside closer.start h.2 f.0 u.0 g.1 w.1) in (
         opener.start,
         h.0,
@@ -234,19 +239,20 @@ module _ (reader : Reader) (leaf : Leaf) (size : ℕ) (turn : InTurn 0 leaf.stre
         omega arith,
         inline-wide Pipe opener.start opener.end (dress reader.options (siblings_of reader.options inside)) closer.start target.end a (omega arith) inner,
         siblings_order target.end after to h.5 f.1 u.1 g.2 w.2,
+        link_tag opener.is_image target.linked,
       )
   siblings_order from (Form opener inside closer (Footnote label end) after) to h f u g w =
-      let a = h.1 in let b = h.3 in let c = h.4 in let d = part_up opener.end inside closer.start h.2 in
+      let a = h.1 in let b = h.3 in let c = h.4 in let d = part-up opener.end inside closer.start h.2 in
       footnote_order Pipe opener.is_image from opener.start label end (siblings_of reader.options after) to h.0 (omega arith) (siblings_order end after to h.5 f.1 u.1 g.2 w.2)
   siblings_order from (Form opener inside closer (Wiki name None end) after) to h f u g w =
       let a = h.1 in let b = h.3 in let c = h.4 in let d = w.0 in
-      (opener.start, h.0, inl refl, omega arith, (omega arith, omega arith, omega arith), siblings_order end after to h.5 f.1 u.1 g.2 w.2)
+      (opener.start, h.0, inl refl, omega arith, (omega arith, omega arith, omega arith), siblings_order end after to h.5 f.1 u.1 g.2 w.2, link_tag opener.is_image _)
   siblings_order from (Form opener inside closer (Wiki name (Some place) end) after) to h f u g w =
-      let a = h.1 in let b = h.3 in let c = h.4 in let d = part_up opener.end inside closer.start h.2 in
+      let a = h.1 in let b = h.3 in let c = h.4 in let d = part-up opener.end inside closer.start h.2 in
       let display = display_from place closer.start (siblings_of reader.options inside) in
       let inner = dress-order Pipe reader.options opener.end display closer.start
       (display_order Pipe place closer.start g.0.0 opener.end (siblings_of reader.options inside) d (siblings_order opener.end inside closer.start h.2 f.0 u.0 g.1 w.1) (parts_free place g.0.0 inside u.0)) in
-      (opener.start, h.0, inl refl, omega arith, inline-wide Pipe opener.start opener.end (dress reader.options display) closer.start end a (omega arith) inner, siblings_order end after to h.5 f.1 u.1 g.2 w.2)
+      (opener.start, h.0, inl refl, omega arith, inline-wide Pipe opener.start opener.end (dress reader.options display) closer.start end a (omega arith) inner, siblings_order end after to h.5 f.1 u.1 g.2 w.2, link_tag opener.is_image _)
   siblings_order from (Closing closer after) to h f u g w = (h.0, (let b = h.1 in omega arith), tt, siblings_order closer.end after to h.2 f u g w)
   siblings_order from (Opening opener after) to h f u g w = (h.0, h.1, tt, siblings_order opener.end after to h.2 f u g w)
 

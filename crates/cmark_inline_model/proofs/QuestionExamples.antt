@@ -19,6 +19,7 @@ use Rattle.cmark_grammar.specs.Questions.{Question, Exchange, Plan}
 use Rattle.cmark_grammar.specs.Tag.{Link}
 use Rattle.cmark_grammar.specs.TagEnd.{end_of as end_tag}
 use Rattle.cmark_inline_model.specs.LeafModel.{leaf_events, leaf_after}
+use Rattle.cmark_inline_model.specs.ReadingLinks.{reference_costs, spent_before}
 use Rattle.cmark_inline_model.proofs.SampleReading.{never, plain_reader, defining_reader, asking, stretch, paragraph, whole, start, html_of, questions, answered_html, leading}
 
 -- the second question alone is answered
@@ -131,3 +132,15 @@ two_of_three : places (leaf_events (record (plain_reader no_options (codes "[x] 
     ≡ 0 ∷ 3 ∷ 1 ∷ 2 ∷ 0 ∷ 3 ∷ 3 ∷ 4 ∷ 4 ∷ 7 ∷ 5 ∷ 6 ∷ 4 ∷ 7 ∷ 7 ∷ 8 ∷ 8 ∷ 9 ∷ 9 ∷ 10 ∷ 10 ∷ 11 ∷ []
 unfolding caseless encode chars token decide ucd_category is_unicode_white_space is_unicode_punctuation agrees pair_of rest_of_opener rest_of_closer kinds_of shuts closed
 two_of_three = refl
+
+-- references cost the bytes of their destination and title, where they end
+abbrev two_references : List Ranged
+two_references = leaf_events (defining_reader no_options (codes "[x] ![x]")) never (whole (codes "[x] ![x]")) start
+
+costs_in_order : reference_costs [] two_references ≡ 2 ∷ (2 ∷ [])
+unfolding caseless encode chars token decide ucd_category is_unicode_white_space is_unicode_punctuation agrees pair_of rest_of_opener rest_of_closer kinds_of shuts closed
+costs_in_order = refl
+
+costs_up_to_places : map (λ place. spent_before place two_references) (2 ∷ (3 ∷ (7 ∷ (8 ∷ [])))) ≡ 0 ∷ (2 ∷ (2 ∷ (4 ∷ [])))
+unfolding caseless encode chars token decide ucd_category is_unicode_white_space is_unicode_punctuation agrees pair_of rest_of_opener rest_of_closer kinds_of shuts closed
+costs_up_to_places = refl

@@ -19,12 +19,12 @@ use Rattle.cmark_grammar.specs.TagEnd.{end_of}
 use Rattle.cmark_grammar.proofs.BalanceLaws.{IsFit, fit}
 use Rattle.cmark_inline_model.specs.ReadingRanges.{ranged, Matched, NoMore, Alone as AloneEvent, Pair}
 
-matched_append : (first second : List Ranged) → Matched first → Matched second → Matched (first ++ second)
-matched_append _ second NoMore b = b
-matched_append _ second (AloneEvent r after single a) b = AloneEvent r (after ++ second) single (matched_append after second a b)
-matched_append _ second (Pair tag start end inside after i a) b =
+pub matched-append : (first second : List Ranged) → Matched first → Matched second → Matched (first ++ second)
+matched-append _ second NoMore b = b
+matched-append _ second (AloneEvent r after single a) b = AloneEvent r (after ++ second) single (matched-append after second a b)
+matched-append _ second (Pair tag start end inside after i a) b =
     subst (λ es. Matched (ranged (Start tag) start end ∷ es)) (sym (append_assoc inside (ranged (End (end_of tag)) start end ∷ after) second))
-    (Pair tag start end inside (after ++ second) i (matched_append after second a b))
+    (Pair tag start end inside (after ++ second) i (matched-append after second a b))
 
 pub matched-balanced : (events : List Ranged) → Matched events → Balanced (map Ranged.event events)
 matched-balanced _ NoMore = balance.Nothing
@@ -88,12 +88,12 @@ module _ (reader : Reader) (Says : Saying) where
   append_matches : (a b : List Segment) → Balances a → Balances b → Balances (a ++ b)
   append_matches a b h k before after events r =
       let s = split a b before events after r in
-      subst Matched (sym s.joined) (matched_append s.first s.second (h before s.between s.first s.reads_first) (k s.between after s.second s.reads_second))
+      subst Matched (sym s.joined) (matched-append s.first s.second (h before s.between s.first s.reads_first) (k s.between after s.second s.reads_second))
 
   leaf_matches : (leaf : Leaf) → Balances (Content leaf ∷ [])
   leaf_matches leaf before after events h =
       subst Matched (sym h.5)
-      (matched_append h.0 h.1 (subst Matched (sym h.3.events_are) (spans_matched reader.source h.3.spans)) (subst Matched (sym h.4.0) NoMore))
+      (matched-append h.0 h.1 (subst Matched (sym h.3.events_are) (spans_matched reader.source h.3.spans)) (subst Matched (sym h.4.0) NoMore))
 
   inside_matches : (kind : BlockKind) (content : BlockDocument) (others : List Segment) → Balances others → Balances (inside_of kind content others)
   inside_matches Paragraph content others k = leaf_matches _

@@ -15,7 +15,7 @@ use Rattle.cmark_inline_model.specs.Expansion.{costs}
 use Rattle.cmark_inline_model.specs.LinkRules.{IsFormedRightly}
 use Rattle.cmark_inline_model.specs.OptionRules.{IsGiven, AreGiven}
 use Rattle.cmark_inline_model.specs.ReadingLinks.{LinkEvent, ApartBy, LinksApart, LedBy, AreLed, costs_by, reference_costs}
-use Rattle.cmark_inline_model.proofs.CostLists.{total, Within, within-less, within-both, within-last, spends-within}
+use Rattle.cmark_inline_model.proofs.CostLists.{total, Within, within-less, within-both, within-front, within-last, spends-within}
 use Rattle.cmark_inline_model.proofs.DecisionLaws.{decide-recorded, decide-apart, decide-pays}
 use Rattle.cmark_inline_model.proofs.DecisionRules.{rightly-more, forms-rightly}
 use Rattle.cmark_inline_model.proofs.DocumentLaws.{all-grow}
@@ -121,8 +121,9 @@ module _ (text : List ℕ) (profile : Profile) (exchanges : List Exchange) (even
   pub reading-given : AreGiven profile.options events
   reading-given = all-given reader (IsNext exchanges) (segments h.document) (at_start profile) h.after events (segments-optionless profile.options h.document) h.reads
 
-  pub reading-within : (front : List ℕ) (last : ℕ) → reference_costs [] events ≡ front ++ (last ∷ []) → sum front < profile.expansion_limit
-  reading-within front last e =
+  pub reading-within : (front behind : List ℕ) (own : ℕ) → reference_costs [] events ≡ front ++ (own ∷ behind) → sum front < profile.expansion_limit
+  reading-within front behind own e =
       let w = all-within reader (IsNext exchanges) profile.expansion_limit 0 (segments h.document) (at_start profile) h.after events (omega arith) (segments-neither h.document) h.reads in
-      let k = within-last profile.expansion_limit 0 front last (subst (Within profile.expansion_limit 0) e w) in
+      let all = subst (Within profile.expansion_limit 0) (e ∙ sym (append_assoc front (own ∷ []) behind)) w in
+      let k = within-last profile.expansion_limit 0 front own (within-front profile.expansion_limit 0 (front ++ (own ∷ [])) behind all) in
       omega (arith, k)

@@ -21,13 +21,14 @@ use Rattle.cmark_grammar.specs.Readers.{Reader}
 use Rattle.cmark_grammar.specs.Siblings.{Inline, Nil as NoSpans, Single as SingleItem, Around as SpanAround}
 use Rattle.cmark_grammar.specs.SiblingsModel.{spans_in}
 use Rattle.cmark_grammar.specs.SpanDocuments.{Segment, Given, Content, stretches_of, leaf_of, inside_of, node_segments, segments, ReadsAll, Profile, reader_of, at_start, IsReading}
+use Rattle.cmark_grammar.specs.Tag.{Tag}
 use Rattle.cmark_grammar.specs.TagEnd as tag_end
 use Rattle.cmark_grammar.proofs.BalanceLaws.{IsFit, fit}
 use Rattle.cmark_grammar.proofs.RangeLaws.{derived-order}
 use Rattle.cmark_inline_model.specs.LeafModel.{HaveLineEnds, AreLeavesOfLines}
 use Rattle.cmark_inline_model.specs.ReadingRanges as plain
 use Rattle.cmark_inline_model.specs.CutRanges.{IsBehindPipe, BeginsAt, InPlaceButCut, Nothing, Single, Element}
-use Rattle.cmark_inline_model.specs.ReadingRanges.{HasNo, HasNoDisplays, ranged, InPlace}
+use Rattle.cmark_inline_model.specs.ReadingRanges.{HasNo, HasNoDisplays, ranged, InPlace, LieWithin}
 use Rattle.cmark_inline_model.proofs.DocumentLeaves.{order-up, stretches-turn}
 use Rattle.cmark_inline_model.proofs.ForwardLaws.{leaf-forward, leaf-ranges}
 use Rattle.cmark_inline_model.proofs.LeafLines.{lines-split, derived-lines}
@@ -66,13 +67,13 @@ module _ (options : Options) (text : List ℕ) where
       Element from to tag h.0 start end (inline_events source inside) (inline_events source after) h.1 h.2 h.3 (inline_placed source h.0 inside end h.4) (inline_placed source end after to h.5)
 
 -- where nothing begins there are no parts
-no_parts : (token : ℕ → Token) (decide : State → (closer : Bracket) → Decision) (Says : Saying) → ((at : ℕ) → token at ≡ Ends) → (s : State) (parts : Parts) (t : State)
+pub no-parts : (token : ℕ → Token) (decide : State → (closer : Bracket) → Decision) (Says : Saying) → ((at : ℕ) → token at ≡ Ends) → (s : State) (parts : Parts) (t : State)
     → Reads token decide Says s parts t → parts ≡ NoParts
-no_parts token decide Says ends s NoParts t h = refl
-no_parts token decide Says ends s (SinglePart item after) t h = absurd (let e = sym (ends s.at) ∙ h.1 in let d : ⊥ = cc in d)
-no_parts token decide Says ends s (Form opener inside closer formed after) t h = absurd (let e = sym (ends s.at) ∙ h.opens in let d : ⊥ = cc in d)
-no_parts token decide Says ends s (Closing closer after) t h = absurd (let e = sym (ends s.at) ∙ h.closes in let d : ⊥ = cc in d)
-no_parts token decide Says ends s (Opening opener after) t h = absurd (let e = sym (ends s.at) ∙ h.0 in let d : ⊥ = cc in d)
+no-parts token decide Says ends s NoParts t h = refl
+no-parts token decide Says ends s (SinglePart item after) t h = absurd (let e = sym (ends s.at) ∙ h.1 in let d : ⊥ = cc in d)
+no-parts token decide Says ends s (Form opener inside closer formed after) t h = absurd (let e = sym (ends s.at) ∙ h.opens in let d : ⊥ = cc in d)
+no-parts token decide Says ends s (Closing closer after) t h = absurd (let e = sym (ends s.at) ∙ h.closes in let d : ⊥ = cc in d)
+no-parts token decide Says ends s (Opening opener after) t h = absurd (let e = sym (ends s.at) ∙ h.0 in let d : ⊥ = cc in d)
 
 -- spans between the beginning and the end of some stretches stand where the stretches do
 wider : (Pipe : ℕ → Type 0) (from : ℕ) (stretches : List Stretch) (to at : ℕ) (spans : Inline) → InTurn from stretches to → at ≤ end_of stretches → (stretches ≡ [] → spans ≡ NoSpans)
@@ -116,7 +117,7 @@ module _ (reader : Reader) (Says : Saying) where
           let turn : InTurn 0 leaf.stretches to = lower from 0 leaf.stretches to (omega arith) (stretches-turn from from content to to (omega arith) (omega arith) o) in
           let last : end_of leaf.stretches ≡ 0 = ap end_of e in
           ap (spans_in reader.options)
-          (no_parts (token reader leaf) (decide reader leaf) Says (λ at. token-ends reader leaf to turn at (omega arith)) (entering leaf before) h.parts h.last h.reads.reads)
+          (no-parts (token reader leaf) (decide reader leaf) Says (λ at. token-ends reader leaf to turn at (omega arith)) (entering leaf before) h.parts h.last h.reads.reads)
 
   abbrev Placed : (from to : ℕ) → List Segment → Type 0
   Placed from to others = to ≤ length reader.source → AreLeavesOfLines reader.source others → (before after : Between) (events : List Ranged) → ReadsAll reader Says others before events after → Stand from events to
@@ -189,13 +190,40 @@ module _ (options : Options) (text : List ℕ) (none : HasNoDisplays options tex
       go (inl off) = true≢false (sym h.wikilinks ∙ off)
       go (inr k) = no_byte 124 text (at - 1) k (omega arith) h.pipe
 
-  uncut_begin : (written start : ℕ) → BeginsAt options text written start → start ≡ written
-  uncut_begin written start (inl e) = e
-  uncut_begin written start (inr h) = absurd (no_pipe start h.1)
+  uncut_begin : (tag : Tag) (written start : ℕ) → BeginsAt options text tag written start → start ≡ written
+  uncut_begin tag written start (inl e) = e
+  uncut_begin tag written start (inr h) = absurd (no_pipe start h.2)
 
   pub uncut : (from : ℕ) (events : List Ranged) (to : ℕ) → InPlaceButCut options text from events to → InPlace from events to
   uncut _ _ _ (Nothing from to h) = plain.Nothing from to h
   uncut _ _ _ (Single from to r after single a b k) = plain.Single from to r after single a b (uncut r.end after to k)
   uncut _ _ _ (Element from to tag written start end inside after a w b i k) =
-      let e = uncut_begin written start w in
+      let e = uncut_begin tag written start w in
       plain.Element from to tag start end inside after (omega arith) (subst (λ n. InPlace n inside end) (sym e) (uncut written inside end i)) (uncut end after to k)
+
+-- ## Within the text
+
+within_both : (size : ℕ) (first second : List Ranged) → LieWithin size first → LieWithin size second → LieWithin size (first ++ second)
+within_both size [] second h k = k
+within_both size (r ∷ first) second h k = (h.0, h.1, within_both size first second h.2 k)
+
+placed_up : (options : Options) (text : List ℕ) (from : ℕ) (events : List Ranged) (to : ℕ) → InPlaceButCut options text from events to → from ≤ to
+placed_up options text _ _ _ (Nothing from to h) = h
+placed_up options text _ _ _ (Single from to r after single a b k) = let i = placed_up options text r.end after to k in omega arith
+placed_up options text _ _ _ (Element from to tag written start end inside after a w b i k) =
+    let x = placed_up options text written inside end i in let y = placed_up options text end after to k in omega arith
+
+within_place : (options : Options) (text : List ℕ) (size from : ℕ) (events : List Ranged) (to : ℕ) → to ≤ size → InPlaceButCut options text from events to → LieWithin size events
+within_place options text size _ _ _ w (Nothing from to h) = tt
+within_place options text size _ _ _ w (Single from to r after single a b k) =
+    let u = placed_up options text r.end after to k in (b, omega arith, within_place options text size r.end after to w k)
+within_place options text size _ _ _ w (Element from to tag written start end inside after a begins b i k) =
+    let u = placed_up options text end after to k in (
+      b,
+      omega arith,
+      within_both size inside (ranged (End (tag_end.end_of tag)) start end ∷ after) (within_place options text size written inside end (omega arith) i)
+          (b, omega arith, within_place options text size end after to w k),
+    )
+
+pub reading-within-text : (text : List ℕ) (profile : Profile) (exchanges : List Exchange) (events : List Ranged) → IsReading text profile exchanges events → LieWithin (length text) events
+reading-within-text text profile exchanges events h = within_place profile.options text (length text) 0 events (length text) (omega arith) (reading-placed text profile exchanges events h)

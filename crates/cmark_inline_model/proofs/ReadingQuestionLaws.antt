@@ -41,8 +41,8 @@ module _ (reader : Reader) where
         go (Settled o) h = tt
         go (Asks q answered) h = (put_about s closer q within h.0.1, h.0.0)
 
-    leaf_keeps : (Says : Saying) → KeepsTurn (token reader leaf) (decide reader leaf) Says (end_of leaf.stretches) (IsQuestion reader)
-    leaf_keeps Says = record {
+    pub leaf-keeps : (Says : Saying) → KeepsTurn (token reader leaf) (decide reader leaf) Says (end_of leaf.stretches) (IsQuestion reader)
+    leaf-keeps Says = record {
       forward = leaf-forward reader leaf size turn;
       recorded = decide-recorded reader leaf;
       apart = decide-apart reader leaf;
@@ -62,7 +62,7 @@ module _ (reader : Reader) where
     pub none : before.expansion ≡ 0 → more ≡ []
 
   module _ (Says : Saying) where
-    widen : (Closer : ℕ → Type 0) (stretches : List Stretch) (from mid at : ℕ) (asked : List Exchange) → InTurn from stretches mid → at ≤ end_of stretches
+    pub widen : (Closer : ℕ → Type 0) (stretches : List Stretch) (from mid at : ℕ) (asked : List Exchange) → InTurn from stretches mid → at ≤ end_of stretches
         → AskedInTurn Closer (begin_of stretches) asked at → AskedInTurn Closer from asked mid
     widen Closer [] from mid at asked h w k =
         let none : asked ≡ [] = turn-none Closer 0 asked (turn-wide Closer Closer (λ place c. c) 0 0 asked at 0 (omega arith) (omega (arith, w)) k) in
@@ -77,7 +77,7 @@ module _ (reader : Reader) where
     leaf_adds leaf from mid before after events h k =
         let turn = lower from 0 leaf.stretches mid (omega arith) h in
         let start = entering leaf before in
-        let t = reading-turns (token reader leaf) (decide reader leaf) Says (end_of leaf.stretches) (IsQuestion reader) (leaf_keeps leaf mid turn Says) start k.parts k.last tt k.reads.reads in
+        let t = reading-turns (token reader leaf) (decide reader leaf) Says (end_of leaf.stretches) (IsQuestion reader) (leaf-keeps leaf mid turn Says) start k.parts k.last tt k.reads.reads in
         let stands = reading-stands (token reader leaf) (decide reader leaf) Says (end_of leaf.stretches) (leaf-ranges reader leaf mid turn) start k.parts k.last start.at (omega arith)
         (leaf-up leaf.stretches mid turn) k.reads.reads in
         record {

@@ -1,15 +1,17 @@
 -- What the references of a leaf cost: in its spans and events no more than in its parts, and in the same order.
 use Rattle.std.specs.Prelude.{zero, suc, ◌-◌, ◌==◌, nat_le, if◌then◌else◌, max, get_or, drop}
 use Rattle.std.proofs.Common.{◌≡◌, ℕ, ◌+◌, ◌<◌, ◌≤◌, Bool, true, false, List, [], ◌∷◌, ◌++◌, length, Option, Some, None, refl, sym, ap, subst, arith, ◌∙◌, append_assoc, append-nil}
+use Rattle.cmark_grammar.specs.BracketDecisions.{linked as leading}
 use Rattle.cmark_grammar.specs.Emphasis.{StandFrom, places_taken}
 use Rattle.cmark_grammar.specs.EmphasisModel.{spans_of}
 use Rattle.cmark_grammar.specs.Event.{Start, End, Ranged}
 use Rattle.cmark_grammar.specs.InlineReading.{inline_events, over}
 use Rattle.cmark_grammar.specs.Items.{ItemKind, Own, Item}
+use Rattle.cmark_grammar.specs.LinkType.{WikiLink}
 use Rattle.cmark_grammar.specs.Options.{Options}
 use Rattle.cmark_grammar.specs.Parts.{Parts, Nil as NoParts, Single as SinglePart, Form, Closing, Opening, Linking, Footnote, Wiki}
 use Rattle.cmark_grammar.specs.Quotes.{quote_characters}
-use Rattle.cmark_grammar.specs.Siblings.{Inline, Nil, Single, Around, append, item, quotes_of, quote_as, with_characters, with_quotes, run_then, runs_from, run_bytes, put_gap, no_gaps, gap_then, gaps_of, no_item, element, dressed, item_then, footnote_then, tag_by, wiki_tag, from_place, display_from}
+use Rattle.cmark_grammar.specs.Siblings.{Inline, Nil, Single, Around, append, item, quotes_of, quote_as, with_characters, with_quotes, run_then, runs_from, run_bytes, put_gap, no_gaps, gap_then, gaps_of, no_item, element, dressed, item_then, footnote_then, tag_by, wiki_tag, from_place, display_from, uri_link}
 use Rattle.cmark_grammar.specs.SiblingsModel.{dress, siblings_of, spans_in}
 use Rattle.cmark_grammar.specs.Spans as spans
 use Rattle.cmark_grammar.specs.Spans.{SpanKind, Emphasis, Strong, SingleTilde, DoubleTilde, Caret, span_tag, span_width, Spans, TakePlaces}
@@ -23,67 +25,13 @@ use Rattle.cmark_inline_model.proofs.KindViews.{KindView, AQuote, ARun, AnAutoli
 use Rattle.cmark_inline_model.proofs.LinkSpans.{TagView, ALink, NoLink, tag-view, span-neither, item-neither}
 use Rattle.cmark_inline_model.proofs.SpanElements.{quoted_then, other_then}
 
-abbrev begun_cost : LinkEvent → List ℕ
+abbrev pub begun_cost : LinkEvent → List ℕ
 begun_cost (Begins is_image linked) = own_cost linked
 begun_cost (Finishes is_image) = []
 begun_cost Neither = []
 
--- in the order in which the elements end
-abbrev pub costs_in : Inline → List ℕ
-costs_in Nil = []
-costs_in (Single x after) = costs_in after
-costs_in (Around tag start end inside after) = costs_in inside ++ (begun_cost (of_tag tag) ++ costs_in after)
-
--- ## Siblings and gaps
-
 three : (a b c d : List ℕ) → (a ++ (b ++ c)) ++ d ≡ a ++ (b ++ (c ++ d))
 three a b c d = append_assoc a (b ++ c) d ∙ ap (λ l. a ++ l) (append_assoc b c d)
-
-costs_append : (a b : Inline) → costs_in (append a b) ≡ costs_in a ++ costs_in b
-costs_append Nil b = refl
-costs_append (Single x after) b = costs_append after b
-costs_append (Around tag start end inside after) b =
-    ap (λ l. costs_in inside ++ (begun_cost (of_tag tag) ++ l)) (costs_append after b) ∙ sym (three (costs_in inside) (begun_cost (of_tag tag)) (costs_in after) (costs_in b))
-
-costs_quoted : (siblings : Inline) (cs : List ℕ) → costs_in (with_characters siblings cs) ≡ costs_in siblings
-costs_quoted Nil cs = refl
-costs_quoted (Around tag start end inside after) cs = ap (λ l. costs_in inside ++ (begun_cost (of_tag tag) ++ l)) (costs_quoted after cs)
-costs_quoted (Single x after) cs = go (costs_quoted after (drop 1 cs)) (costs_quoted after cs) x.kind (kind-view x.kind)
-  where
-    go : costs_in (with_characters after (drop 1 cs)) ≡ costs_in after → costs_in (with_characters after cs) ≡ costs_in after → (kind : ItemKind) → KindView kind
-        → costs_in (quote_as (quoted_then x after) (other_then x after) kind cs) ≡ costs_in after
-    go quoted other _ (AQuote quote) = quoted
-    go quoted other _ (ARun run) = other
-    go quoted other _ (AnAutolink uri) = other
-    go quoted other _ (AText kind t) = ap costs_in (t.quote (quoted_then x after) (other_then x after) cs) ∙ other
-
-abbrev gathered : List Inline → List ℕ
-gathered [] = []
-gathered (gap ∷ gaps) = costs_in gap ++ gathered gaps
-
-gathered_none : (n : ℕ) (gaps : List Inline) → gathered (no_gaps n gaps) ≡ gathered gaps
-gathered_none zero gaps = refl
-gathered_none (suc n) gaps = gathered_none n gaps
-
-gathered_single : (x : Item) (gaps : List Inline) → gathered (put_gap (Single x) gaps) ≡ gathered gaps
-gathered_single x [] = refl
-gathered_single x (gap ∷ gaps) = refl
-
-gathered_around : (tag : Tag) (start end : ℕ) (inside : Inline) (gaps : List Inline) → gathered (put_gap (Around tag start end inside) gaps) ≡ costs_in inside ++ (begun_cost (of_tag tag) ++ gathered gaps)
-gathered_around tag start end inside [] = append-nil (costs_in inside ++ (begun_cost (of_tag tag) ++ []))
-gathered_around tag start end inside (gap ∷ gaps) = three (costs_in inside) (begun_cost (of_tag tag)) (costs_in gap) (gathered gaps)
-
-gathered_gaps : (siblings : Inline) → gathered (gaps_of siblings) ≡ costs_in siblings
-gathered_gaps Nil = refl
-gathered_gaps (Around tag start end inside after) =
-    gathered_around tag start end inside (gaps_of after) ∙ ap (λ l. costs_in inside ++ (begun_cost (of_tag tag) ++ l)) (gathered_gaps after)
-gathered_gaps (Single x after) = go (gathered_gaps after) x.kind (kind-view x.kind)
-  where
-    go : gathered (gaps_of after) ≡ costs_in after → (kind : ItemKind) → KindView kind → gathered (gap_then kind x (gaps_of after)) ≡ costs_in after
-    go i _ (AQuote quote) = gathered_single x (gaps_of after) ∙ i
-    go i _ (ARun run) = gathered_none run.size (gaps_of after) ∙ i
-    go i _ (AnAutolink uri) = gathered_single x (gaps_of after) ∙ i
-    go i _ (AText kind t) = ap gathered (t.gap x (gaps_of after)) ∙ gathered_single x (gaps_of after) ∙ i
 
 -- ## The places of the runs
 
@@ -134,174 +82,282 @@ width-some SingleTilde = omega arith
 width-some DoubleTilde = omega arith
 width-some Caret = omega arith
 
--- ## Spans
+-- ## What elements are priced at
 
-module _ (options : Options) (gaps : List Inline) (bytes : List Item) where
-  -- the costs of so many gaps from one on
-  abbrev some_gaps : (n count : ℕ) → List ℕ
-  some_gaps n zero = []
-  some_gaps n (suc count) = costs_in (get_or gaps n Nil) ++ some_gaps (suc n) count
+-- a price for elements, and one for what links and images lead by: nothing for spans of emphasis, autolinks and wikilinks
+pub record IsPriced (priced : Tag → (end : ℕ) → List ℕ) (price : Linked → (end : ℕ) → List ℕ) : Type 0 where
+  pub span : (options : Options) (kind : SpanKind) (tag : Tag) (end : ℕ) → span_tag options kind ≡ Some tag → priced tag end ≡ []
+  pub linked : (is_image : Bool) (linked : Linked) (end : ℕ) → priced (tag_by is_image linked) end ≡ price linked end
+  pub autolink : (uri : List ℕ) (end : ℕ) → price (uri_link uri) end ≡ []
+  pub wiki : (name : List ℕ) (has_pothole : Bool) (end : ℕ) → price (leading (WikiLink has_pothole) (record { url = name; title = [] }) []) end ≡ []
 
-  gaps_split : (a b n : ℕ) → some_gaps n (a + b) ≡ some_gaps n a ++ some_gaps (n + a) b
-  gaps_split zero b n = let e : 0 + b ≡ b = omega arith in let f : n ≡ n + 0 = omega arith in ap (some_gaps n) e ∙ ap (λ k. some_gaps k b) f
-  gaps_split (suc a) b n =
-      let e : suc a + b ≡ suc (a + b) = omega arith in
-      let f : suc n + a ≡ n + suc a = omega arith in
-      ap (some_gaps n) e
-      ∙ ap (λ l. costs_in (get_or gaps n Nil) ++ l) (gaps_split a b (suc n) ∙ ap (λ k. some_gaps (suc n) a ++ some_gaps k b) f)
-      ∙ sym (append_assoc (costs_in (get_or gaps n Nil)) (some_gaps (suc n) a) (some_gaps (n + suc a) b))
+module _ (priced : Tag → (end : ℕ) → List ℕ) (price : Linked → (end : ℕ) → List ℕ) (is_priced : IsPriced priced price) where
+  -- what the links and images of parts are priced at, in the order of their closing brackets
+  abbrev pub prices : Parts → List ℕ
+  prices NoParts = []
+  prices (SinglePart x after) = prices after
+  prices (Form opener inside closer (Linking target) after) = prices inside ++ (price target.linked target.end ++ prices after)
+  prices (Form opener inside closer (Footnote label end) after) = prices inside ++ prices after
+  prices (Form opener inside closer (Wiki name display end) after) = prices inside ++ prices after
+  prices (Closing closer after) = prices after
+  prices (Opening opener after) = prices after
 
-  -- a gap with some spans behind it
-  gap_then_spans : (n k : ℕ) (f : Inline) → Fewer (costs_in f) (some_gaps (suc n) k) → Fewer (costs_in (append (get_or gaps n Nil) f)) (some_gaps n (suc k))
-  gap_then_spans n k f h =
-      subst (λ l. Fewer l (some_gaps n (suc k))) (sym (costs_append (get_or gaps n Nil) f))
-      (fewer-both (costs_in (get_or gaps n Nil)) (costs_in (get_or gaps n Nil)) (costs_in f) (some_gaps (suc n) k) (fewer-same (costs_in (get_or gaps n Nil))) h)
+  -- in the order in which the elements end
+  abbrev pub priced_in : Inline → List ℕ
+  priced_in Nil = []
+  priced_in (Single x after) = priced_in after
+  priced_in (Around tag start end inside after) = priced_in inside ++ (priced tag end ++ priced_in after)
 
-  element_costs : (kind : SpanKind) (start end : ℕ) (inside after : Inline) (first second : List ℕ) → Fewer (costs_in inside) first → Fewer (costs_in after) second
-      → Fewer (costs_in (element (span_tag options kind) start end inside after)) (first ++ second)
-  element_costs kind start end inside after first second h k = go (span_tag options kind) refl
+  -- ## Siblings and gaps
+
+  costs_append : (a b : Inline) → priced_in (append a b) ≡ priced_in a ++ priced_in b
+  costs_append Nil b = refl
+  costs_append (Single x after) b = costs_append after b
+  costs_append (Around tag start end inside after) b =
+      ap (λ l. priced_in inside ++ (priced tag end ++ l)) (costs_append after b) ∙ sym (three (priced_in inside) (priced tag end) (priced_in after) (priced_in b))
+
+  costs_quoted : (siblings : Inline) (cs : List ℕ) → priced_in (with_characters siblings cs) ≡ priced_in siblings
+  costs_quoted Nil cs = refl
+  costs_quoted (Around tag start end inside after) cs = ap (λ l. priced_in inside ++ (priced tag end ++ l)) (costs_quoted after cs)
+  costs_quoted (Single x after) cs = go (costs_quoted after (drop 1 cs)) (costs_quoted after cs) x.kind (kind-view x.kind)
     where
-      go : (tag : Option Tag) → span_tag options kind ≡ tag → Fewer (costs_in (element tag start end inside after)) (first ++ second)
-      go None e = fewer-behind first (costs_in after) second k
-      go (Some tag) e =
-          subst (λ l. Fewer (costs_in inside ++ (begun_cost l ++ costs_in after)) (first ++ second)) (sym (span-neither options kind tag e))
-          (fewer-both (costs_in inside) first (costs_in after) second h k)
+      go : priced_in (with_characters after (drop 1 cs)) ≡ priced_in after → priced_in (with_characters after cs) ≡ priced_in after → (kind : ItemKind) → KindView kind
+          → priced_in (quote_as (quoted_then x after) (other_then x after) kind cs) ≡ priced_in after
+      go quoted other _ (AQuote quote) = quoted
+      go quoted other _ (ARun run) = other
+      go quoted other _ (AnAutolink uri) = other
+      go quoted other _ (AText kind t) = ap priced_in (t.quote (quoted_then x after) (other_then x after) cs) ∙ other
 
-  dressed_costs : (f : Spans) (n m : ℕ) → TakePlaces n f m → Fewer (costs_in (dressed options gaps bytes f)) (some_gaps (suc n) (m - n))
-  dressed_costs spans.Nil n m h = record { less = omega arith; within = λ limit spent w. tt }
-  dressed_costs (spans.Single at after) n m h =
-      let up = takes-up after (suc n) m h.1 in
-      let i = gap_then_spans (suc n) (m - suc n) (dressed options gaps bytes after) (dressed_costs after (suc n) m h.1) in
-      let e : suc (m - suc n) ≡ m - n = omega arith in
-      let s : suc n ≡ suc at = ap suc (sym h.0) in
-      subst (λ k. Fewer (costs_in (append (get_or gaps k Nil) (dressed options gaps bytes after))) (some_gaps (suc n) (m - n))) s
-      (subst (λ c. Fewer (costs_in (append (get_or gaps (suc n) Nil) (dressed options gaps bytes after))) (some_gaps (suc n) c)) e i)
-  dressed_costs (spans.Around span inside after) n m h =
-      let w = span_width span.kind in
-      let some = width-some span.kind in
-      let up = takes-up inside (n + w) h.mid h.inside in
-      let on = takes-up after span.end m h.after in
-      let ends = h.end in
-      let a = h.mid - (n + w) in
-      let b = m - span.end in
-      let starts : n + w ≡ span.start + w = ap (λ k. k + w) (sym h.start) in
-      let inner =
-      subst (λ k. Fewer (costs_in (append (get_or gaps k Nil) (dressed options gaps bytes inside))) (some_gaps (n + w) (suc a))) starts
-      (gap_then_spans (n + w) a (dressed options gaps bytes inside) (dressed_costs inside (n + w) h.mid h.inside)) in
-      let others = gap_then_spans span.end b (dressed options gaps bytes after) (dressed_costs after span.end m h.after) in
-      let counts : m - n ≡ (w - 1) + (suc a + ((w - 1) + suc b)) = omega arith in
-      let e : suc n + (w - 1) ≡ n + w = omega arith in
-      let f : (n + w) + suc a ≡ suc h.mid = omega arith in
-      let g : suc h.mid + (w - 1) ≡ span.end = omega arith in
-      let split : some_gaps (suc n) (m - n) ≡ some_gaps (suc n) (w - 1) ++ (some_gaps (n + w) (suc a) ++ (some_gaps (suc h.mid) (w - 1) ++ some_gaps span.end (suc b))) =
-      ap (some_gaps (suc n)) counts
-      ∙ gaps_split (w - 1) (suc a + ((w - 1) + suc b)) (suc n)
-      ∙ ap (λ k. some_gaps (suc n) (w - 1) ++ some_gaps k (suc a + ((w - 1) + suc b))) e
-      ∙ ap (λ l. some_gaps (suc n) (w - 1) ++ l) (gaps_split (suc a) ((w - 1) + suc b) (n + w) ∙ ap (λ k. some_gaps (n + w) (suc a) ++ some_gaps k ((w - 1) + suc b)) f)
-      ∙ ap (λ l. some_gaps (suc n) (w - 1) ++ (some_gaps (n + w) (suc a) ++ l))
-      (gaps_split (w - 1) (suc b) (suc h.mid) ∙ ap (λ k. some_gaps (suc h.mid) (w - 1) ++ some_gaps k (suc b)) g) in
-      let whole =
-      element_costs span.kind (get_or bytes span.start no_item).start (get_or bytes (span.end - 1) no_item).end
-      (append (get_or gaps (span.start + w) Nil) (dressed options gaps bytes inside))
-      (append (get_or gaps span.end Nil) (dressed options gaps bytes after))
-      (some_gaps (n + w) (suc a)) (some_gaps (suc h.mid) (w - 1) ++ some_gaps span.end (suc b))
-      inner (fewer-behind (some_gaps (suc h.mid) (w - 1)) _ (some_gaps span.end (suc b)) others) in
-      subst (Fewer (costs_in (dressed options gaps bytes (spans.Around span inside after)))) (sym split) (fewer-behind (some_gaps (suc n) (w - 1)) _ _ whole)
+  abbrev gathered : List Inline → List ℕ
+  gathered [] = []
+  gathered (gap ∷ gaps) = priced_in gap ++ gathered gaps
 
-gaps_shift : (options : Options) (bytes : List Item) (gap : Inline) (gaps : List Inline) (n count : ℕ) → some_gaps options (gap ∷ gaps) bytes (suc n) count ≡ some_gaps options gaps bytes n count
-gaps_shift options bytes gap gaps n zero = refl
-gaps_shift options bytes gap gaps n (suc count) = ap (λ l. costs_in (get_or gaps n Nil) ++ l) (gaps_shift options bytes gap gaps (suc n) count)
+  gathered_none : (n : ℕ) (gaps : List Inline) → gathered (no_gaps n gaps) ≡ gathered gaps
+  gathered_none zero gaps = refl
+  gathered_none (suc n) gaps = gathered_none n gaps
 
-gaps_all : (options : Options) (bytes : List Item) (gaps : List Inline) (count : ℕ) → length gaps ≡ count → some_gaps options gaps bytes 0 count ≡ gathered gaps
-gaps_all options bytes [] zero e = refl
-gaps_all options bytes [] (suc count) e = cc
-gaps_all options bytes (gap ∷ gaps) zero e = cc
-gaps_all options bytes (gap ∷ gaps) (suc count) e = ap (λ l. costs_in gap ++ l) (gaps_shift options bytes gap gaps 0 count ∙ gaps_all options bytes gaps count (let f : length gaps ≡ count = cc in f))
+  gathered_single : (x : Item) (gaps : List Inline) → gathered (put_gap (Single x) gaps) ≡ gathered gaps
+  gathered_single x [] = refl
+  gathered_single x (gap ∷ gaps) = refl
 
-module _ (options : Options) where
-  dress_costs : (siblings : Inline) → Fewer (costs_in (dress options siblings)) (costs_in siblings)
-  dress_costs siblings =
-      let quoted = with_quotes siblings in
-      let gaps = gaps_of quoted in
-      let bytes = run_bytes quoted in
-      let n = places_taken (runs_from quoted 0) in
-      let own = dressed_costs options gaps bytes (spans_of (runs_from quoted 0)) 0 n (places (runs_from quoted 0) (runs-stand quoted 0)) in
-      let e : n - 0 ≡ n = omega arith in
-      let whole = gap_then_spans options gaps bytes 0 n (dressed options gaps bytes (spans_of (runs_from quoted 0)))
-      (subst (λ c. Fewer (costs_in (dressed options gaps bytes (spans_of (runs_from quoted 0)))) (some_gaps options gaps bytes 1 c)) e own) in
-      subst (Fewer (costs_in (dress options siblings)))
-      (gaps_all options bytes gaps (suc n) (gaps_size quoted 0) ∙ gathered_gaps quoted ∙ costs_quoted siblings (quote_characters [] (quotes_of siblings))) whole
+  gathered_around : (tag : Tag) (start end : ℕ) (inside : Inline) (gaps : List Inline) → gathered (put_gap (Around tag start end inside) gaps) ≡ priced_in inside ++ (priced tag end ++ gathered gaps)
+  gathered_around tag start end inside [] = append-nil (priced_in inside ++ (priced tag end ++ []))
+  gathered_around tag start end inside (gap ∷ gaps) = three (priced_in inside) (priced tag end) (priced_in gap) (gathered gaps)
 
-  item_costs : (x : Item) (after : Inline) → costs_in (item_then x.kind x after) ≡ costs_in after
-  item_costs x after = go x.kind (kind-view x.kind)
+  gathered_gaps : (siblings : Inline) → gathered (gaps_of siblings) ≡ priced_in siblings
+  gathered_gaps Nil = refl
+  gathered_gaps (Around tag start end inside after) =
+      gathered_around tag start end inside (gaps_of after) ∙ ap (λ l. priced_in inside ++ (priced tag end ++ l)) (gathered_gaps after)
+  gathered_gaps (Single x after) = go (gathered_gaps after) x.kind (kind-view x.kind)
     where
-      go : (kind : ItemKind) → KindView kind → costs_in (item_then kind x after) ≡ costs_in after
-      go _ (AQuote quote) = refl
-      go _ (ARun run) = refl
-      go _ (AnAutolink uri) = refl
-      go _ (AText kind t) = ap costs_in (t.item x after)
+      go : gathered (gaps_of after) ≡ priced_in after → (kind : ItemKind) → KindView kind → gathered (gap_then kind x (gaps_of after)) ≡ priced_in after
+      go i _ (AQuote quote) = gathered_single x (gaps_of after) ∙ i
+      go i _ (ARun run) = gathered_none run.size (gaps_of after) ∙ i
+      go i _ (AnAutolink uri) = gathered_single x (gaps_of after) ∙ i
+      go i _ (AText kind t) = ap gathered (t.gap x (gaps_of after)) ∙ gathered_single x (gaps_of after) ∙ i
 
-  from_costs : (place : ℕ) (siblings : Inline) → Fewer (costs_in (from_place place siblings)) (costs_in siblings)
-  from_costs place Nil = fewer-same []
-  from_costs place (Single x after) = go (nat_le x.end place) (from_costs place after)
-    where
-      go : (b : Bool) → Fewer (costs_in (from_place place after)) (costs_in after) → Fewer (costs_in (if b then from_place place after else Single (item x.kind (max x.start place) x.end) after)) (costs_in after)
-      go true i = i
-      go false i = fewer-same (costs_in after)
-  from_costs place (Around tag start end inside after) = go (nat_le end place) (from_costs place after)
-    where
-      go : (b : Bool) → Fewer (costs_in (from_place place after)) (costs_in after) → Fewer (costs_in (if b then from_place place after else Around tag (max start place) end inside after)) (costs_in (Around tag start end inside after))
-      go true i =
-          fewer-behind (costs_in inside) (costs_in (from_place place after)) (begun_cost (of_tag tag) ++ costs_in after)
-          (fewer-behind (begun_cost (of_tag tag)) (costs_in (from_place place after)) (costs_in after) i)
-      go false i = fewer-same (costs_in (Around tag start end inside after))
+  -- ## Spans
 
-  display_costs : (place end : ℕ) (siblings : Inline) → Fewer (costs_in (display_from place end siblings)) (costs_in siblings)
-  display_costs place end siblings = go (place == end)
-    where
-      go : (b : Bool) → Fewer (costs_in (if b then Single (item Own place place) Nil else from_place place siblings)) (costs_in siblings)
-      go true = record { less = omega arith; within = λ limit spent w. tt }
-      go false = from_costs place siblings
+  module _ (options : Options) (gaps : List Inline) (bytes : List Item) where
+    -- the costs of so many gaps from one on
+    abbrev some_gaps : (n count : ℕ) → List ℕ
+    some_gaps n zero = []
+    some_gaps n (suc count) = priced_in (get_or gaps n Nil) ++ some_gaps (suc n) count
 
-  footnote_costs : (is_image : Bool) (start : ℕ) (label : List ℕ) (end : ℕ) (others : Inline) → costs_in (footnote_then is_image start label end others) ≡ costs_in others
-  footnote_costs true start label end others = refl
-  footnote_costs false start label end others = refl
+    gaps_split : (a b n : ℕ) → some_gaps n (a + b) ≡ some_gaps n a ++ some_gaps (n + a) b
+    gaps_split zero b n = let e : 0 + b ≡ b = omega arith in let f : n ≡ n + 0 = omega arith in ap (some_gaps n) e ∙ ap (λ k. some_gaps k b) f
+    gaps_split (suc a) b n =
+        let e : suc a + b ≡ suc (a + b) = omega arith in
+        let f : suc n + a ≡ n + suc a = omega arith in
+        ap (some_gaps n) e
+        ∙ ap (λ l. priced_in (get_or gaps n Nil) ++ l) (gaps_split a b (suc n) ∙ ap (λ k. some_gaps (suc n) a ++ some_gaps k b) f)
+        ∙ sym (append_assoc (priced_in (get_or gaps n Nil)) (some_gaps (suc n) a) (some_gaps (n + suc a) b))
 
-  tag_costs : (is_image : Bool) (linked : Linked) → begun_cost (of_tag (tag_by is_image linked)) ≡ own_cost linked
-  tag_costs true linked = refl
-  tag_costs false linked = refl
+    -- a gap with some spans behind it
+    gap_then_spans : (n k : ℕ) (f : Inline) → Fewer (priced_in f) (some_gaps (suc n) k) → Fewer (priced_in (append (get_or gaps n Nil) f)) (some_gaps n (suc k))
+    gap_then_spans n k f h =
+        subst (λ l. Fewer l (some_gaps n (suc k))) (sym (costs_append (get_or gaps n Nil) f))
+        (fewer-both (priced_in (get_or gaps n Nil)) (priced_in (get_or gaps n Nil)) (priced_in f) (some_gaps (suc n) k) (fewer-same (priced_in (get_or gaps n Nil))) h)
 
-  wiki_costs : (is_image : Bool) (name : List ℕ) (has_pothole : Bool) → begun_cost (of_tag (wiki_tag is_image name has_pothole)) ≡ []
-  wiki_costs true name has_pothole = refl
-  wiki_costs false name has_pothole = refl
+    element_costs : (kind : SpanKind) (start end : ℕ) (inside after : Inline) (first second : List ℕ) → Fewer (priced_in inside) first → Fewer (priced_in after) second
+        → Fewer (priced_in (element (span_tag options kind) start end inside after)) (first ++ second)
+    element_costs kind start end inside after first second h k = go (span_tag options kind) refl
+      where
+        go : (tag : Option Tag) → span_tag options kind ≡ tag → Fewer (priced_in (element tag start end inside after)) (first ++ second)
+        go None e = fewer-behind first (priced_in after) second k
+        go (Some tag) e =
+            subst (λ l. Fewer (priced_in inside ++ (l ++ priced_in after)) (first ++ second)) (sym (is_priced.span options kind tag end e))
+            (fewer-both (priced_in inside) first (priced_in after) second h k)
 
-  siblings_costs : (parts : Parts) → Fewer (costs_in (siblings_of options parts)) (costs parts)
-  siblings_costs NoParts = fewer-same []
-  siblings_costs (SinglePart x after) = subst (λ l. Fewer l (costs after)) (sym (item_costs x (siblings_of options after))) (siblings_costs after)
-  siblings_costs (Form opener inside closer (Linking target) after) =
-      let inner = siblings_of options inside in
-      subst (λ l. Fewer (costs_in (dress options inner) ++ (l ++ costs_in (siblings_of options after))) (costs inside ++ (own_cost target.linked ++ costs after))) (sym (tag_costs opener.is_image target.linked))
-      (fewer-both (costs_in (dress options inner)) (costs inside) (own_cost target.linked ++ costs_in (siblings_of options after)) (own_cost target.linked ++ costs after)
-      (fewer-then (costs_in (dress options inner)) (costs_in inner) (costs inside) (dress_costs inner) (siblings_costs inside))
-      (fewer-both (own_cost target.linked) (own_cost target.linked) (costs_in (siblings_of options after)) (costs after) (fewer-same (own_cost target.linked)) (siblings_costs after)))
-  siblings_costs (Form opener inside closer (Footnote label end) after) =
-      subst (λ l. Fewer l (costs inside ++ costs after)) (sym (footnote_costs opener.is_image opener.start label end (siblings_of options after)))
-      (fewer-behind (costs inside) (costs_in (siblings_of options after)) (costs after) (siblings_costs after))
-  siblings_costs (Form opener inside closer (Wiki name None end) after) =
-      subst (λ l. Fewer (l ++ costs_in (siblings_of options after)) (costs inside ++ costs after)) (sym (wiki_costs opener.is_image name false))
-      (fewer-behind (costs inside) (costs_in (siblings_of options after)) (costs after) (siblings_costs after))
-  siblings_costs (Form opener inside closer (Wiki name (Some place) end) after) =
-      let inner = siblings_of options inside in
-      let display = display_from place closer.start inner in
-      subst (λ l. Fewer (costs_in (dress options display) ++ (l ++ costs_in (siblings_of options after))) (costs inside ++ costs after)) (sym (wiki_costs opener.is_image name true))
-      (fewer-both (costs_in (dress options display)) (costs inside) (costs_in (siblings_of options after)) (costs after)
-      (fewer-then (costs_in (dress options display)) (costs_in display) (costs inside) (dress_costs display) (fewer-then (costs_in display) (costs_in inner) (costs inside) (display_costs place closer.start inner) (siblings_costs inside)))
-      (siblings_costs after))
-  siblings_costs (Closing closer after) = siblings_costs after
-  siblings_costs (Opening opener after) = siblings_costs after
+    dressed_costs : (f : Spans) (n m : ℕ) → TakePlaces n f m → Fewer (priced_in (dressed options gaps bytes f)) (some_gaps (suc n) (m - n))
+    dressed_costs spans.Nil n m h = record { less = omega arith; within = λ limit spent w. tt }
+    dressed_costs (spans.Single at after) n m h =
+        let up = takes-up after (suc n) m h.1 in
+        let i = gap_then_spans (suc n) (m - suc n) (dressed options gaps bytes after) (dressed_costs after (suc n) m h.1) in
+        let e : suc (m - suc n) ≡ m - n = omega arith in
+        let s : suc n ≡ suc at = ap suc (sym h.0) in
+        subst (λ k. Fewer (priced_in (append (get_or gaps k Nil) (dressed options gaps bytes after))) (some_gaps (suc n) (m - n))) s
+        (subst (λ c. Fewer (priced_in (append (get_or gaps (suc n) Nil) (dressed options gaps bytes after))) (some_gaps (suc n) c)) e i)
+    dressed_costs (spans.Around span inside after) n m h =
+        let w = span_width span.kind in
+        let some = width-some span.kind in
+        let up = takes-up inside (n + w) h.mid h.inside in
+        let on = takes-up after span.end m h.after in
+        let ends = h.end in
+        let a = h.mid - (n + w) in
+        let b = m - span.end in
+        let starts : n + w ≡ span.start + w = ap (λ k. k + w) (sym h.start) in
+        let inner =
+        subst (λ k. Fewer (priced_in (append (get_or gaps k Nil) (dressed options gaps bytes inside))) (some_gaps (n + w) (suc a))) starts
+        (gap_then_spans (n + w) a (dressed options gaps bytes inside) (dressed_costs inside (n + w) h.mid h.inside)) in
+        let others = gap_then_spans span.end b (dressed options gaps bytes after) (dressed_costs after span.end m h.after) in
+        let counts : m - n ≡ (w - 1) + (suc a + ((w - 1) + suc b)) = omega arith in
+        let e : suc n + (w - 1) ≡ n + w = omega arith in
+        let f : (n + w) + suc a ≡ suc h.mid = omega arith in
+        let g : suc h.mid + (w - 1) ≡ span.end = omega arith in
+        let split : some_gaps (suc n) (m - n) ≡ some_gaps (suc n) (w - 1) ++ (some_gaps (n + w) (suc a) ++ (some_gaps (suc h.mid) (w - 1) ++ some_gaps span.end (suc b))) =
+        ap (some_gaps (suc n)) counts
+        ∙ gaps_split (w - 1) (suc a + ((w - 1) + suc b)) (suc n)
+        ∙ ap (λ k. some_gaps (suc n) (w - 1) ++ some_gaps k (suc a + ((w - 1) + suc b))) e
+        ∙ ap (λ l. some_gaps (suc n) (w - 1) ++ l) (gaps_split (suc a) ((w - 1) + suc b) (n + w) ∙ ap (λ k. some_gaps (n + w) (suc a) ++ some_gaps k ((w - 1) + suc b)) f)
+        ∙ ap (λ l. some_gaps (suc n) (w - 1) ++ (some_gaps (n + w) (suc a) ++ l))
+        (gaps_split (w - 1) (suc b) (suc h.mid) ∙ ap (λ k. some_gaps (suc h.mid) (w - 1) ++ some_gaps k (suc b)) g) in
+        let whole =
+        element_costs span.kind (get_or bytes span.start no_item).start (get_or bytes (span.end - 1) no_item).end
+        (append (get_or gaps (span.start + w) Nil) (dressed options gaps bytes inside))
+        (append (get_or gaps span.end Nil) (dressed options gaps bytes after))
+        (some_gaps (n + w) (suc a)) (some_gaps (suc h.mid) (w - 1) ++ some_gaps span.end (suc b))
+        inner (fewer-behind (some_gaps (suc h.mid) (w - 1)) _ (some_gaps span.end (suc b)) others) in
+        subst (Fewer (priced_in (dressed options gaps bytes (spans.Around span inside after)))) (sym split) (fewer-behind (some_gaps (suc n) (w - 1)) _ _ whole)
 
-  pub spans-costs : (parts : Parts) → Fewer (costs_in (spans_in options parts)) (costs parts)
-  spans-costs parts = fewer-then (costs_in (spans_in options parts)) (costs_in (siblings_of options parts)) (costs parts) (dress_costs (siblings_of options parts)) (siblings_costs parts)
+  gaps_shift : (options : Options) (bytes : List Item) (gap : Inline) (gaps : List Inline) (n count : ℕ) → some_gaps options (gap ∷ gaps) bytes (suc n) count ≡ some_gaps options gaps bytes n count
+  gaps_shift options bytes gap gaps n zero = refl
+  gaps_shift options bytes gap gaps n (suc count) = ap (λ l. priced_in (get_or gaps n Nil) ++ l) (gaps_shift options bytes gap gaps (suc n) count)
+
+  gaps_all : (options : Options) (bytes : List Item) (gaps : List Inline) (count : ℕ) → length gaps ≡ count → some_gaps options gaps bytes 0 count ≡ gathered gaps
+  gaps_all options bytes [] zero e = refl
+  gaps_all options bytes [] (suc count) e = cc
+  gaps_all options bytes (gap ∷ gaps) zero e = cc
+  gaps_all options bytes (gap ∷ gaps) (suc count) e = ap (λ l. priced_in gap ++ l) (gaps_shift options bytes gap gaps 0 count ∙ gaps_all options bytes gaps count (let f : length gaps ≡ count = cc in f))
+
+  module _ (options : Options) where
+    dress_costs : (siblings : Inline) → Fewer (priced_in (dress options siblings)) (priced_in siblings)
+    dress_costs siblings =
+        let quoted = with_quotes siblings in
+        let gaps = gaps_of quoted in
+        let bytes = run_bytes quoted in
+        let n = places_taken (runs_from quoted 0) in
+        let own = dressed_costs options gaps bytes (spans_of (runs_from quoted 0)) 0 n (places (runs_from quoted 0) (runs-stand quoted 0)) in
+        let e : n - 0 ≡ n = omega arith in
+        let whole = gap_then_spans options gaps bytes 0 n (dressed options gaps bytes (spans_of (runs_from quoted 0)))
+        (subst (λ c. Fewer (priced_in (dressed options gaps bytes (spans_of (runs_from quoted 0)))) (some_gaps options gaps bytes 1 c)) e own) in
+        subst (Fewer (priced_in (dress options siblings)))
+        (gaps_all options bytes gaps (suc n) (gaps_size quoted 0) ∙ gathered_gaps quoted ∙ costs_quoted siblings (quote_characters [] (quotes_of siblings))) whole
+
+    item_costs : (x : Item) (after : Inline) → priced_in (item_then x.kind x after) ≡ priced_in after
+    item_costs x after = go x.kind (kind-view x.kind)
+      where
+        go : (kind : ItemKind) → KindView kind → priced_in (item_then kind x after) ≡ priced_in after
+        go _ (AQuote quote) = refl
+        go _ (ARun run) = refl
+        go _ (AnAutolink uri) = ap (λ l. l ++ priced_in after) (is_priced.linked false (uri_link uri) x.end ∙ is_priced.autolink uri x.end)
+        go _ (AText kind t) = ap priced_in (t.item x after)
+
+    from_costs : (place : ℕ) (siblings : Inline) → Fewer (priced_in (from_place place siblings)) (priced_in siblings)
+    from_costs place Nil = fewer-same []
+    from_costs place (Single x after) = go (nat_le x.end place) (from_costs place after)
+      where
+        go : (b : Bool) → Fewer (priced_in (from_place place after)) (priced_in after) → Fewer (priced_in (if b then from_place place after else Single (item x.kind (max x.start place) x.end) after)) (priced_in after)
+        go true i = i
+        go false i = fewer-same (priced_in after)
+    from_costs place (Around tag start end inside after) = go (nat_le end place) (from_costs place after)
+      where
+        go : (b : Bool) → Fewer (priced_in (from_place place after)) (priced_in after) → Fewer (priced_in (if b then from_place place after else Around tag (max start place) end inside after)) (priced_in (Around tag start end inside after))
+        go true i =
+            fewer-behind (priced_in inside) (priced_in (from_place place after)) (priced tag end ++ priced_in after)
+            (fewer-behind (priced tag end) (priced_in (from_place place after)) (priced_in after) i)
+        go false i = fewer-same (priced_in (Around tag start end inside after))
+
+    display_costs : (place end : ℕ) (siblings : Inline) → Fewer (priced_in (display_from place end siblings)) (priced_in siblings)
+    display_costs place end siblings = go (place == end)
+      where
+        go : (b : Bool) → Fewer (priced_in (if b then Single (item Own place place) Nil else from_place place siblings)) (priced_in siblings)
+        go true = record { less = omega arith; within = λ limit spent w. tt }
+        go false = from_costs place siblings
+
+    footnote_costs : (is_image : Bool) (start : ℕ) (label : List ℕ) (end : ℕ) (others : Inline) → priced_in (footnote_then is_image start label end others) ≡ priced_in others
+    footnote_costs true start label end others = refl
+    footnote_costs false start label end others = refl
+
+    wiki_costs : (is_image : Bool) (name : List ℕ) (has_pothole : Bool) (end : ℕ) → priced (wiki_tag is_image name has_pothole) end ≡ []
+    wiki_costs is_image name has_pothole end = is_priced.linked is_image (leading (WikiLink has_pothole) (record { url = name; title = [] }) []) end ∙ is_priced.wiki name has_pothole end
+
+    siblings_costs : (parts : Parts) → Fewer (priced_in (siblings_of options parts)) (prices parts)
+    siblings_costs NoParts = fewer-same []
+    siblings_costs (SinglePart x after) = subst (λ l. Fewer l (prices after)) (sym (item_costs x (siblings_of options after))) (siblings_costs after)
+    siblings_costs (Form opener inside closer (Linking target) after) =
+        let inner = siblings_of options inside in
+        subst (λ l. Fewer (priced_in (dress options inner) ++ (l ++ priced_in (siblings_of options after))) (prices inside ++ (price target.linked target.end ++ prices after))) (sym (is_priced.linked opener.is_image target.linked target.end))
+        (fewer-both (priced_in (dress options inner)) (prices inside) (price target.linked target.end ++ priced_in (siblings_of options after)) (price target.linked target.end ++ prices after)
+        (fewer-then (priced_in (dress options inner)) (priced_in inner) (prices inside) (dress_costs inner) (siblings_costs inside))
+        (fewer-both (price target.linked target.end) (price target.linked target.end) (priced_in (siblings_of options after)) (prices after) (fewer-same (price target.linked target.end)) (siblings_costs after)))
+    siblings_costs (Form opener inside closer (Footnote label end) after) =
+        subst (λ l. Fewer l (prices inside ++ prices after)) (sym (footnote_costs opener.is_image opener.start label end (siblings_of options after)))
+        (fewer-behind (prices inside) (priced_in (siblings_of options after)) (prices after) (siblings_costs after))
+    siblings_costs (Form opener inside closer (Wiki name None end) after) =
+        subst (λ l. Fewer (l ++ priced_in (siblings_of options after)) (prices inside ++ prices after)) (sym (wiki_costs opener.is_image name false end))
+        (fewer-behind (prices inside) (priced_in (siblings_of options after)) (prices after) (siblings_costs after))
+    siblings_costs (Form opener inside closer (Wiki name (Some place) end) after) =
+        let inner = siblings_of options inside in
+        let display = display_from place closer.start inner in
+        subst (λ l. Fewer (priced_in (dress options display) ++ (l ++ priced_in (siblings_of options after))) (prices inside ++ prices after)) (sym (wiki_costs opener.is_image name true end))
+        (fewer-both (priced_in (dress options display)) (prices inside) (priced_in (siblings_of options after)) (prices after)
+        (fewer-then (priced_in (dress options display)) (priced_in display) (prices inside) (dress_costs display) (fewer-then (priced_in display) (priced_in inner) (prices inside) (display_costs place closer.start inner) (siblings_costs inside)))
+        (siblings_costs after))
+    siblings_costs (Closing closer after) = siblings_costs after
+    siblings_costs (Opening opener after) = siblings_costs after
+
+    pub spans-priced : (parts : Parts) → Fewer (priced_in (spans_in options parts)) (prices parts)
+    spans-priced parts = fewer-then (priced_in (spans_in options parts)) (priced_in (siblings_of options parts)) (prices parts) (dress_costs (siblings_of options parts)) (siblings_costs parts)
+
+-- ## What references cost
+
+abbrev pub own_priced : Tag → (end : ℕ) → List ℕ
+own_priced tag end = begun_cost (of_tag tag)
+
+abbrev pub own_price : Linked → (end : ℕ) → List ℕ
+own_price linked end = own_cost linked
+
+pub own_is_priced : IsPriced own_priced own_price
+own_is_priced = record {
+  span = λ options kind tag end e. ap begun_cost (span-neither options kind tag e);
+  linked = by;
+  autolink = λ uri end. refl;
+  wiki = λ name has_pothole end. refl;
+}
+  where
+    by : (is_image : Bool) (linked : Linked) (end : ℕ) → begun_cost (of_tag (tag_by is_image linked)) ≡ own_cost linked
+    by true linked end = refl
+    by false linked end = refl
+
+-- in the order in which the elements end
+abbrev pub costs_in : Inline → List ℕ
+costs_in spans = priced_in own_priced own_price own_is_priced spans
+
+own_prices : (parts : Parts) → prices own_priced own_price own_is_priced parts ≡ costs parts
+own_prices NoParts = refl
+own_prices (SinglePart x after) = own_prices after
+own_prices (Form opener inside closer (Linking target) after) =
+    ap (λ l. l ++ (own_cost target.linked ++ prices own_priced own_price own_is_priced after)) (own_prices inside) ∙ ap (λ l. costs inside ++ (own_cost target.linked ++ l)) (own_prices after)
+own_prices (Form opener inside closer (Footnote label end) after) =
+    ap (λ l. l ++ prices own_priced own_price own_is_priced after) (own_prices inside) ∙ ap (λ l. costs inside ++ l) (own_prices after)
+own_prices (Form opener inside closer (Wiki name display end) after) =
+    ap (λ l. l ++ prices own_priced own_price own_is_priced after) (own_prices inside) ∙ ap (λ l. costs inside ++ l) (own_prices after)
+own_prices (Closing closer after) = own_prices after
+own_prices (Opening opener after) = own_prices after
+
+pub spans-costs : (options : Options) (parts : Parts) → Fewer (costs_in (spans_in options parts)) (costs parts)
+spans-costs options parts = subst (Fewer (costs_in (spans_in options parts))) (own_prices parts) (spans-priced own_priced own_price own_is_priced options parts)
 
 -- ## Events
 

@@ -12,6 +12,7 @@ use Rattle.cmark_grammar.specs.Spans as spans
 use Rattle.cmark_grammar.specs.Spans.{span_tag, span_width, Spans, TakePlaces}
 use Rattle.cmark_grammar.specs.Tag.{Tag}
 use Rattle.cmark_grammar.proofs.SpanPlaces.{places}
+use Rattle.cmark_inline_model.specs.CutRanges.{IsLinkOrImage}
 use Rattle.cmark_inline_model.proofs.KindViews.{KindView, AQuote, ARun, AnAutolink, AText, kind-view}
 use Rattle.cmark_inline_model.proofs.SpanCosts.{runs-stand, takes-up, width-some}
 use Rattle.cmark_inline_model.proofs.SpanElements.{quoted_then, other_then}
@@ -23,12 +24,12 @@ Fills (Autolink uri) start end = start + 2 ≤ end
 Fills _ start end = Unit {0}
 
 -- an element begins where it is written to begin, or behind a pipe that cuts it
-abbrev pub Begun : (Pipe : ℕ → Type 0) → (written start : ℕ) → Type 0
-Begun Pipe written start = (start ≡ written) ⊎ ((written < start) × Pipe start)
+abbrev pub Begun : (Pipe : ℕ → Type 0) → Tag → (written start : ℕ) → Type 0
+Begun Pipe tag written start = (start ≡ written) ⊎ (IsLinkOrImage tag × (written < start) × Pipe start)
 
-pub begun-up : (Pipe : ℕ → Type 0) (written start : ℕ) → Begun Pipe written start → written ≤ start
-begun-up Pipe written start (inl e) = omega arith
-begun-up Pipe written start (inr h) = let a = h.0 in omega arith
+pub begun-up : (Pipe : ℕ → Type 0) (tag : Tag) (written start : ℕ) → Begun Pipe tag written start → written ≤ start
+begun-up Pipe tag written start (inl e) = omega arith
+begun-up Pipe tag written start (inr h) = let a = h.1 in omega arith
 
 module _ (Pipe : ℕ → Type 0) where
   -- spans from one place to another, one behind the other and each element around what is inside it, which begins where the element is
@@ -37,19 +38,19 @@ module _ (Pipe : ℕ → Type 0) where
   InlineOrder from Nil to = from ≤ to
   InlineOrder from (Single x after) to = (from ≤ x.start) × (x.start ≤ x.end) × InlineOrder x.end after to
   InlineOrder from (Around tag start end inside after) to =
-      (written : ℕ) × (from ≤ written) × Begun Pipe written start × (start ≤ end) × InlineOrder written inside end × InlineOrder end after to
+      (written : ℕ) × (from ≤ written) × Begun Pipe tag written start × (start ≤ end) × InlineOrder written inside end × InlineOrder end after to
 
   -- siblings of which those inside of elements are spans already
   abbrev pub SiblingOrder : ℕ → Inline → ℕ → Type 0
   SiblingOrder from Nil to = from ≤ to
   SiblingOrder from (Single x after) to = (from ≤ x.start) × (x.start ≤ x.end) × Fills x.kind x.start x.end × SiblingOrder x.end after to
   SiblingOrder from (Around tag start end inside after) to =
-      (written : ℕ) × (from ≤ written) × Begun Pipe written start × (start ≤ end) × InlineOrder written inside end × SiblingOrder end after to
+      (written : ℕ) × (from ≤ written) × Begun Pipe tag written start × (start ≤ end) × InlineOrder written inside end × SiblingOrder end after to × IsLinkOrImage tag
 
   pub inline-up : (from : ℕ) (spans : Inline) (to : ℕ) → InlineOrder from spans to → from ≤ to
   inline-up from Nil to h = h
   inline-up from (Single x after) to h = let a = h.0 in let b = h.1 in let c = inline-up x.end after to h.2 in omega arith
-  inline-up from (Around tag start end inside after) to h = let a = h.1 in let b = begun-up Pipe h.0 start h.2 in let c = h.3 in let d = inline-up end after to h.5 in omega arith
+  inline-up from (Around tag start end inside after) to h = let a = h.1 in let b = begun-up Pipe tag h.0 start h.2 in let c = h.3 in let d = inline-up end after to h.5 in omega arith
 
   pub inline-wide : (less from : ℕ) (spans : Inline) (to more : ℕ) → less ≤ from → to ≤ more → InlineOrder from spans to → InlineOrder less spans more
   inline-wide less from Nil to more a b h = let x : from ≤ to = h in omega arith
@@ -63,7 +64,7 @@ module _ (Pipe : ℕ → Type 0) where
 
   characters_order : (from : ℕ) (siblings : Inline) (to : ℕ) (cs : List ℕ) → SiblingOrder from siblings to → SiblingOrder from (with_characters siblings cs) to
   characters_order from Nil to cs h = h
-  characters_order from (Around tag start end inside after) to cs h = (h.0, h.1, h.2, h.3, h.4, characters_order end after to cs h.5)
+  characters_order from (Around tag start end inside after) to cs h = (h.0, h.1, h.2, h.3, h.4, characters_order end after to cs h.5, h.6)
   characters_order from (Single x after) to cs h = go x.kind (kind-view x.kind) refl (characters_order x.end after to (drop 1 cs) h.3) (characters_order x.end after to cs h.3)
     where
       go : (kind : ItemKind) → KindView kind → x.kind ≡ kind → SiblingOrder x.end (with_characters after (drop 1 cs)) to → SiblingOrder x.end (with_characters after cs) to

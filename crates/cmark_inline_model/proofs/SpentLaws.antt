@@ -1,8 +1,7 @@
 -- Where nothing of the expansion limit is left, no further question is put.
 use Rattle.std.specs.Prelude.{◌-◌, sum}
-use Rattle.std.proofs.Common.{◌≡◌, ℕ, ◌+◌, ◌≤◌, true, false, List, [], ◌∷◌, ◌++◌, refl, sym, ap, subst, arith, ◌∙◌}
+use Rattle.std.proofs.Common.{◌≡◌, ℕ, ◌+◌, ◌≤◌, true, false, List, [], ◌∷◌, ◌++◌, sym, ap, subst, arith, ◌∙◌}
 use Rattle.std.proofs.lemmas.Bool.{eq-eqb}
-use Rattle.std.proofs.lemmas.List.Sums.{sum_by-cons}
 use Rattle.cmark_grammar.specs.BlockDocument.{BlockDocument}
 use Rattle.cmark_grammar.specs.BracketDecisions.{decide}
 use Rattle.cmark_grammar.specs.BracketReading.{Comes, Reads}
@@ -22,7 +21,7 @@ use Rattle.cmark_inline_model.specs.Expansion.{cost, costs, Spends, PaysBy, Pays
 use Rattle.cmark_inline_model.specs.LinkRules.{AsksRightly}
 use Rattle.cmark_inline_model.specs.Progress.{Keeps}
 use Rattle.cmark_inline_model.specs.ReadingLinks.{LinkEvent, costs_by, reference_costs}
-use Rattle.cmark_inline_model.proofs.CostLists.{total, total-append, spends-within}
+use Rattle.cmark_inline_model.proofs.CostLists.{total, sum-total, total-append, spends-within}
 use Rattle.cmark_inline_model.proofs.DecisionLaws.{decide-recorded, decide-pays}
 use Rattle.cmark_inline_model.proofs.DecisionRules.{asks-rightly}
 use Rattle.cmark_inline_model.proofs.LinkNesting.{always-comes}
@@ -115,10 +114,6 @@ module _ (reader : Reader) (Says : Saying) where
       let l = i.left in
       record { more = total (costs parts) + i.more; left = omega arith; all = omega arith }
 
-sum_total : (cs : List ℕ) → sum cs ≡ total cs
-sum_total [] = refl
-sum_total (c ∷ cs) = let i = sum_total cs in let e : sum (c ∷ cs) ≡ c + sum cs = sum_by-cons (λ n. n) c cs in omega arith
-
 first_neither : (first others : List Segment) → AreNeither (first ++ others) → AreNeither first
 first_neither [] others h = tt
 first_neither (Given r ∷ first) others h = (h.0, first_neither first others h.1)
@@ -131,7 +126,7 @@ leaves-silent text profile document Says first others earlier later between afte
     let reader = reader_of text profile document in
     let neither = first_neither first others (subst AreNeither e (segments-neither document)) in
     let taken = all_taken reader Says profile.expansion_limit 0 first (at_start profile) between earlier (omega arith) neither h in
-    let s = sum_total (reference_costs [] earlier) in
+    let s = sum-total (reference_costs [] earlier) in
     let left = taken.left in
     let all = taken.all in
     all_silent reader Says others between after later (omega arith) k

@@ -3,7 +3,7 @@ use Rattle.std.specs.Prelude.{◌≡◌, ◌⊎◌, ℕ, ◌-◌, ◌≤◌, ◌
 use Rattle.cmark_grammar.specs.Balance.{IsSingle}
 use Rattle.cmark_grammar.specs.Event.{Start, End, Ranged}
 use Rattle.cmark_grammar.specs.Options.{Options}
-use Rattle.cmark_grammar.specs.Tag.{Tag}
+use Rattle.cmark_grammar.specs.Tag.{Tag, Link, Image}
 use Rattle.cmark_grammar.specs.TagEnd.{end_of}
 use Rattle.cmark_inline_model.specs.ReadingRanges.{ranged}
 
@@ -13,9 +13,14 @@ pub record IsBehindPipe (options : Options) (text : List ℕ) (at : ℕ) : Type 
   pub some : 0 < at
   pub pipe : get_or text (at - 1) 0 ≡ 124
 
--- an element begins where it is written to begin; but one that a pipe cuts begins directly behind the pipe
-abbrev pub BeginsAt : Options → (text : List ℕ) → (written start : ℕ) → Type 0
-BeginsAt options text written start = (start ≡ written) ⊎ ((written < start) × IsBehindPipe options text start)
+abbrev pub IsLinkOrImage : Tag → Type 0
+IsLinkOrImage (Link linked) = Unit {0}
+IsLinkOrImage (Image linked) = Unit {0}
+IsLinkOrImage _ = ⊥
+
+-- an element begins where it is written to begin; but a link or an image that a pipe cuts begins directly behind the pipe
+abbrev pub BeginsAt : Options → (text : List ℕ) → Tag → (written start : ℕ) → Type 0
+BeginsAt options text tag written start = (start ≡ written) ⊎ (IsLinkOrImage tag × (written < start) × IsBehindPipe options text start)
 
 -- from one place to another the events stand one behind the other, and each element around what is inside it, but for what a pipe
 -- cuts: the inside of such an element begins where the element is written to begin, which is behind all events before it
@@ -23,6 +28,6 @@ pub data InPlaceButCut (options : Options) (text : List ℕ) : (from : ℕ) → 
   Nothing : (from to : ℕ) → from ≤ to → InPlaceButCut options text from [] to
   Single : (from to : ℕ) (r : Ranged) (after : List Ranged) → IsSingle r.event → from ≤ r.start → r.start ≤ r.end → InPlaceButCut options text r.end after to
       → InPlaceButCut options text from (r ∷ after) to
-  Element : (from to : ℕ) (tag : Tag) (written start end : ℕ) (inside after : List Ranged) → from ≤ written → BeginsAt options text written start → start ≤ end
+  Element : (from to : ℕ) (tag : Tag) (written start end : ℕ) (inside after : List Ranged) → from ≤ written → BeginsAt options text tag written start → start ≤ end
       → InPlaceButCut options text written inside end → InPlaceButCut options text end after to
       → InPlaceButCut options text from (ranged (Start tag) start end ∷ (inside ++ (ranged (End (end_of tag)) start end ∷ after))) to

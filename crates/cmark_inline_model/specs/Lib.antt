@@ -1,4 +1,5 @@
 pub mod BracketPass
+pub mod CharacterRanges
 pub mod CutRanges
 pub mod Expansion
 pub mod FormedParts

@@ -1,6 +1,6 @@
 -- Links and images among the events of a text: no link in a link but autolinks (CommonMark 6.3 and 6.5), where each leads (4.7), and
 -- what references take off the expansion limit (this profile's own).
-use Rattle.std.specs.Prelude.{◌≡◌, ℕ, zero, suc, pred, ◌+◌, Bool, true, false, List, [], ◌∷◌, ◌++◌, length}
+use Rattle.std.specs.Prelude.{◌≡◌, ℕ, zero, suc, pred, ◌+◌, Bool, true, false, nat_le, if◌then◌else◌, List, [], ◌∷◌, ◌++◌, length, sum}
 use Rattle.cmark_grammar.specs.Event.{Event, Start, End, Ranged}
 use Rattle.cmark_grammar.specs.LinkType.{Autolink}
 use Rattle.cmark_grammar.specs.Questions.{Exchange}
@@ -81,3 +81,13 @@ costs_by Neither begun others = others begun
 abbrev pub reference_costs : (begun : List (List ℕ)) → List Ranged → List ℕ
 reference_costs begun [] = []
 reference_costs begun (r ∷ rs) = costs_by (link_event r.event) begun (λ more. reference_costs more rs)
+
+-- what the references cost whose ranges end at a place or before it
+abbrev pub spent_by : LinkEvent → (end place : ℕ) → ℕ
+spent_by (Begins is_image linked) end place = if nat_le end place then sum (own_cost linked) else 0
+spent_by (Finishes is_image) end place = 0
+spent_by Neither end place = 0
+
+abbrev pub spent_before : (place : ℕ) → List Ranged → ℕ
+spent_before place [] = 0
+spent_before place (r ∷ rs) = spent_by (link_event r.event) r.end place + spent_before place rs

@@ -1,11 +1,13 @@
 -- The questions that are put about a text, in order (this profile's own).
 use Rattle.std.specs.Prelude.{◌≡◌, ◌⊎◌, ℕ, suc, ◌≤◌, ◌<◌, List, [], ◌∷◌}
+use Rattle.cmark_grammar.specs.Event.{Ranged}
 use Rattle.cmark_grammar.specs.InlineTokens.{token}
 use Rattle.cmark_grammar.specs.Items.{Bracket, Closes}
 use Rattle.cmark_grammar.specs.LeafText.{Leaf}
 use Rattle.cmark_grammar.specs.Questions.{Question, Exchange}
 use Rattle.cmark_grammar.specs.Readers.{Reader}
 use Rattle.cmark_grammar.specs.SpanDocuments.{Segment, Given, Content}
+use Rattle.cmark_inline_model.specs.ReadingLinks.{spent_before}
 
 -- a closing bracket of a leaf stands at this place
 abbrev pub HasCloser : Reader → Leaf → ℕ → Type 0
@@ -16,6 +18,10 @@ abbrev pub IsCloser : Reader → List Segment → ℕ → Type 0
 IsCloser reader [] place = ⊥
 IsCloser reader (Given r ∷ others) place = IsCloser reader others place
 IsCloser reader (Content leaf ∷ others) place = HasCloser reader leaf place ⊎ IsCloser reader others place
+
+-- and the references that end before it cost less than the limit
+abbrev pub IsCloserBelow : (limit : ℕ) → List Ranged → Reader → List Segment → ℕ → Type 0
+IsCloserBelow limit events reader segments place = IsCloser reader segments place × (spent_before place events < limit)
 
 -- each question has a closing bracket of its own among its bytes, from one place on and before another, behind that of the question
 -- before it

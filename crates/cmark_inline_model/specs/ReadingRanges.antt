@@ -16,6 +16,11 @@ pub data Matched : List Ranged → Type 0 where
   Pair : (tag : Tag) (start end : ℕ) (inside after : List Ranged) → Matched inside → Matched after
       → Matched (ranged (Start tag) start end ∷ (inside ++ (ranged (End (end_of tag)) start end ∷ after)))
 
+-- each range lies within so many bytes, and ends where it begins or behind that
+abbrev pub LieWithin : (size : ℕ) → List Ranged → Type 0
+LieWithin size [] = Unit {0}
+LieWithin size (r ∷ rs) = (r.start ≤ r.end) × (r.end ≤ size) × LieWithin size rs
+
 -- from one place to another the events stand one behind the other, and each element around what is inside it
 pub data InPlace : (from : ℕ) → List Ranged → (to : ℕ) → Type 0 where
   Nothing : (from to : ℕ) → from ≤ to → InPlace from [] to

@@ -20,8 +20,8 @@ ghost use Rattle.cmark_inline_model.specs.CutRanges.{InPlaceButCut};
 ghost use Rattle.cmark_inline_model.specs.LinkRules.{IsQuestion};
 ghost use Rattle.cmark_inline_model.specs.OptionRules.{AllItems, AreGiven, IsRead};
 ghost use Rattle.cmark_inline_model.specs.ReadingLinks.{AreLed, LinksApart, reference_costs};
-ghost use Rattle.cmark_inline_model.specs.ReadingQuestions.{AllAsked, AskedInTurn, IsCloser};
-ghost use Rattle.cmark_inline_model.specs.ReadingRanges.{HasNoDisplays, InPlace};
+ghost use Rattle.cmark_inline_model.specs.ReadingQuestions.{AllAsked, AskedInTurn, IsCloser, IsCloserBelow};
+ghost use Rattle.cmark_inline_model.specs.ReadingRanges.{HasNoDisplays, InPlace, LieWithin};
 
 /// No link stands in a link, at any depth, but for autolinks (CommonMark 6.3 and 6.5).
 pub fn links_stand_apart()
@@ -35,18 +35,29 @@ pub fn links_lead_by_definitions_and_answers()
         → Derives text profile.options profile.lookup document → IsReading text profile exchanges events → AreLed (reader_of text profile document) exchanges events }
 {}
 
-/// The destinations and titles of all references but the last, in the order in which they end, have fewer bytes than the
-/// expansion limit, over all leaves of the text.
+/// A reference is formed only where something of the expansion limit is left: in the order in which they end, the destinations and
+/// titles of all references before it, over all leaves of the text, have fewer bytes than the limit. So have those of all but the last.
 pub fn references_stay_below_the_limit()
-    ensures { (text : List ℕ) (profile : Profile) (exchanges : List Exchange) (events : List Ranged) (front : List ℕ) (last : ℕ)
-        → IsReading text profile exchanges events → reference_costs [] events ≡ front ++ (last ∷ []) → sum front < profile.expansion_limit }
+    ensures { (text : List ℕ) (profile : Profile) (exchanges : List Exchange) (events : List Ranged) (front behind : List ℕ) (own : ℕ)
+        → IsReading text profile exchanges events → reference_costs [] events ≡ front ++ (own ∷ behind) → sum front < profile.expansion_limit }
 {}
 
-/// The ranges of events stand in the text, one behind the other, and the range of each element around those of what is inside it
-/// (`cut`). What a wikilink shows behind its pipe may begin inside an element, as an image: that element begins behind the pipe, and
-/// what is inside it where the element would begin without the pipe. No other element does (`uncut`): where a text is read without
-/// wikilinks, or has no `|`, the inside of each lies in its range.
+/// A question is put only where something of the expansion limit is left: each has a closing bracket of its own among its bytes, in
+/// turn, and the destinations and titles of all references that end before that bracket, in its leaf and in the leaves before, have
+/// fewer bytes than the limit.
+pub fn questions_are_put_below_the_limit()
+    ensures { (text : List ℕ) (profile : Profile) (document : BlockDocument) (exchanges : List Exchange) (events : List Ranged)
+        → Derives text profile.options profile.lookup document → IsReading text profile exchanges events
+        → AskedInTurn (IsCloserBelow profile.expansion_limit events (reader_of text profile document) (segments document)) 0 exchanges (length text) }
+{}
+
+/// The ranges of events lie in the text (`within`), one behind the other, and the range of each element around those of what is inside
+/// it (`cut`). What a wikilink shows behind its pipe may begin inside a link or an image: that one begins behind the pipe, and what is
+/// inside it where it would begin without the pipe. No other element does (`uncut`): where a text is read without wikilinks, or has no
+/// `|`, the inside of each lies in its range.
 pub fn ranges_stand_in_order()
+    ensures within { (text : List ℕ) (profile : Profile) (exchanges : List Exchange) (events : List Ranged)
+        → IsReading text profile exchanges events → LieWithin (length text) events }
     ensures cut { (text : List ℕ) (profile : Profile) (exchanges : List Exchange) (events : List Ranged)
         → IsReading text profile exchanges events → InPlaceButCut profile.options text 0 events (length text) }
     ensures uncut { (text : List ℕ) (profile : Profile) (exchanges : List Exchange) (events : List Ranged)

@@ -1,6 +1,9 @@
 use Rattle.std.proofs.Common.{length}
-use Rattle.cmark_inline_model.proofs.ReadingOrders.{reading-placed, uncut}
+use Rattle.cmark_inline_model.proofs.ReadingOrders.{reading-placed, reading-within-text, uncut}
 use Rattle.cmark_inline_model.proofs.reading_laws.ranges_stand_in_order.Goals as goal
+
+pub returns-clause-within : goal.returns-clause-within
+returns-clause-within c = reading-within-text
 
 pub returns-clause-cut : goal.returns-clause-cut
 returns-clause-cut c = reading-placed

@@ -1,0 +1,27 @@
+//! Theorems over what a walk over a document gives: the document's own events, and spans in its leaves (`AreGiven`, of `LeafSpans`,
+//! which is what the parser's contracts speak of). Each is the contract of a function that does nothing.
+
+ghost use Rattle.std.specs.Prelude.{ℕ, List, IsUtf8, map};
+ghost use Rattle.cmark_grammar.specs.Answers.{Lookup};
+ghost use Rattle.cmark_grammar.specs.Balance.{Balanced};
+ghost use Rattle.cmark_grammar.specs.BlockDocument.{BlockDocument};
+ghost use Rattle.cmark_grammar.specs.Derivation.{Derives};
+ghost use Rattle.cmark_grammar.specs.Event.{Ranged};
+ghost use Rattle.cmark_grammar.specs.LeafSpans.{AreGiven};
+ghost use Rattle.cmark_grammar.specs.Options.{Options};
+ghost use Rattle.cmark_grammar.specs.SpanDocuments.{segments};
+ghost use Rattle.cmark_inline_model.specs.CharacterRanges.{CutNoCharacter};
+ghost use Rattle.cmark_inline_model.specs.ReadingRanges.{Matched};
+
+/// The events of a walk that ends are balanced: each start has its end behind it, of the same tag and with the same bytes.
+pub fn walks_are_balanced()
+    ensures matched { (text : List ℕ) (document : BlockDocument) (events : List Ranged) → AreGiven text (segments document) events → Matched events }
+    ensures balanced { (text : List ℕ) (document : BlockDocument) (events : List Ranged)
+        → AreGiven text (segments document) events → Balanced (map Ranged.event events) }
+{}
+
+/// Both ends of each range of a walk over a text's document lie in the text, and cut no character of it.
+pub fn walks_cut_no_character()
+    ensures { (text : List ℕ) (options : Options) (lookup : Lookup) (document : BlockDocument) (events : List Ranged)
+        → IsUtf8 text → Derives text options lookup document → AreGiven text (segments document) events → CutNoCharacter text events }
+{}
