@@ -1,6 +1,6 @@
 -- The events of a reading stand in order in the text, each element around what is inside it, where no wikilink has a display.
 use Rattle.std.proofs.Common.{◌≡◌, ℕ, ◌≤◌, List, [], ◌∷◌, ◌++◌, length, refl, sym, ap, subst, arith, ◌∙◌, append_assoc, append-nil}
-use Rattle.cmark_grammar.specs.BlockDocument.{BlockKind, Paragraph, TightParagraph, Heading, ThematicBreak, IndentedCode, FencedCode, HtmlBlock, LinkDefinition, BlockQuote, BlockList, ListItem, Text, OwnedText, Html, BlockNode, BlockDocument, Nil, Node}
+use Rattle.cmark_grammar.specs.BlockDocument.{BlockKind, Paragraph, TightParagraph, Heading, ThematicBreak, IndentedCode, FencedCode, HtmlBlock, LinkDefinition, MetadataBlock, BlockQuote, BlockList, ListItem, Text, OwnedText, Html, BlockNode, BlockDocument, Nil, Node}
 use Rattle.cmark_grammar.specs.BlockReading.{Reads as ReadsAs, Around, Inside, Alone, Silent, read_as, over}
 use Rattle.cmark_grammar.specs.BracketDecisions.{decide}
 use Rattle.cmark_grammar.specs.BracketReading.{Reads}
@@ -115,6 +115,7 @@ module _ (reader : Reader) (Says : Saying) (none : HasNoDisplays reader.options 
   inside_placed IndentedCode content from to o k = k
   inside_placed (FencedCode info) content from to o k = k
   inside_placed HtmlBlock content from to o k = k
+  inside_placed (MetadataBlock kind) content from to o k = k
   inside_placed (LinkDefinition reference) content from to o k = k
   inside_placed (BlockQuote alert) content from to o k = k
   inside_placed (BlockList number tight) content from to o k = k

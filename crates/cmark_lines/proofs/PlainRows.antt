@@ -1,5 +1,5 @@
 -- A line whose words begin with a letter begins nothing but a paragraph's text.
-use Rattle.std.proofs.Common.{◌≡◌, ℕ, Bool, true, false, ◌==◌, ◌&&◌, ◌||◌, not, List, [], ◌∷◌, length, drop, take_while, Some, None, refl, sym, ap, ◌∙◌, arith, cond, true≢false}
+use Rattle.std.proofs.Common.{◌≡◌, ℕ, Bool, true, false, ◌==◌, ◌&&◌, ◌||◌, List, [], ◌∷◌, length, drop, take_while, Some, None, refl, sym, ap, ◌∙◌, arith, cond, true≢false}
 use Rattle.std.specs.Prelude.{if◌then◌else◌, nat_lt, nat_le, count_by}
 use Rattle.std.proofs.lemmas.List.Sums.{take_while-cons}
 use Rattle.cmark_grammar.specs.Options.{Options}
