@@ -6,12 +6,12 @@ use Rattle.cmark_grammar.specs.Options.{Options}
 use Rattle.cmark_grammar.specs.Rows.{Row, start_of, begin_of, words_of, is_blank_line, shown}
 use Rattle.cmark_grammar.specs.HtmlBlocks.{holds_end}
 use Rattle.cmark_grammar.specs.Containers.{Container, Quote, Item, enter, strips, is_bare_start}
-use Rattle.cmark_grammar.specs.Openings.{Leaf, ThematicBreak, AtxHeading, IndentedCode, FencedCode, HtmlBlock, LinkDefinition, Opening, Blank, Nests, Takes, Plain, opens}
+use Rattle.cmark_grammar.specs.Openings.{Leaf, ThematicBreak, AtxHeading, IndentedCode, FencedCode, HtmlBlock, LinkDefinition, Opening, Blank, Nests, Takes, Plain, opens, MetadataBlock}
 use Rattle.cmark_grammar.specs.Blocks.{Blocks, Nil as NoBlocks, BlankLine, join as join_blocks}
 use Rattle.cmark_grammar.specs.BlocksModel.{within}
 use Rattle.cmark_grammar.specs.BlocksByLine.{OpenLines, Between, html_begun as html_lines_begun, leaf_begun as leaf_lines_begun, lines_begin_as, lines_begin_in, lines_begin}
 use Rattle.cmark_grammar.specs.BlockDocument as document
-use Rattle.cmark_grammar.proofs.BlockLaws.{enter_len, enter-lazy, opens-len}
+use Rattle.cmark_grammar.proofs.BlockLaws.{no_metadata, enter_len, enter-lazy, opens-len}
 use Rattle.cmark_block_model.specs.OpenBlocks.{OpenList, OpenContainer, Closed, InParagraph as InParagraphLeaf, Pass}
 use Rattle.cmark_block_model.specs.BlockPass.{item_begun, list_begun, list_goes_on, container_begun, inside_of, node_opened, is_item, ahead_in, html_begun, leaf_begun, begin_as, begin_in, begin}
 use Rattle.cmark_block_model.proofs.Replay.{Level, begun, item_if, item_level, level_opened, entered, leaf_level, replay, replay-join}
@@ -41,7 +41,7 @@ module _ (text : List ℕ) (options : Options) (lookup : Lookup) where
   -- a blank line begins nothing, whatever is ahead
   opens-blank : (r : Row) (ahead : List Row) → r.lazy ≡ false → is_blank_line r ≡ true → opens options r ahead ≡ Blank
   unfolding opens
-  opens-blank r ahead l b = rw (l, b) refl
+  opens-blank r ahead l b = rw (l, no_metadata options r b, b) refl
 
   bare-start : (k : Container) (r : Row) → is_bare_start k r ≡ true → is_blank_line (enter k r) ≡ true
   bare-start Quote r e = absurd (true≢false (sym e))
@@ -77,6 +77,7 @@ module _ (text : List ℕ) (options : Options) (lookup : Lookup) where
   leaf-begins (FencedCode fence) more closed r ahead l outer b n t = refl
   leaf-begins (HtmlBlock kind) more closed r ahead l outer b n t = html-begins (nat_le kind 5 && holds_end kind (words_of r)) kind closed r ahead l outer b n
   leaf-begins (LinkDefinition definition) more closed r ahead l outer b n t = refl
+  leaf-begins (MetadataBlock kind) more closed r ahead l outer b n t = refl
 
   leaf-alone : (leaf : Leaf) (more : ℕ) (closed : Blocks) (r : Row) (l : Level) → containers_at text lookup (leaf_lines_begun leaf more closed r) l ≡ []
   leaf-alone ThematicBreak more closed r l = refl
@@ -89,6 +90,7 @@ module _ (text : List ℕ) (options : Options) (lookup : Lookup) where
       go true = refl
       go false = refl
   leaf-alone (LinkDefinition definition) more closed r l = refl
+  leaf-alone (MetadataBlock kind) more closed r l = refl
 
   leaf-bare : (leaf : Leaf) (more : ℕ) (closed : Blocks) (r : Row) (a b : Bool) → bare_at a (leaf_lines_begun leaf more closed r) ≡ bare_at b (leaf_lines_begun leaf more closed r)
   leaf-bare ThematicBreak more closed r a b = refl
@@ -101,6 +103,7 @@ module _ (text : List ℕ) (options : Options) (lookup : Lookup) where
       go true = refl
       go false = refl
   leaf-bare (LinkDefinition definition) more closed r a b = refl
+  leaf-bare (MetadataBlock kind) more closed r a b = refl
 
   -- what the first line begins inside a container
   abbrev pub inside_begun : ℕ → Container → Row → List Row → OpenLines
@@ -210,6 +213,7 @@ module _ (text : List ℕ) (options : Options) (lookup : Lookup) where
       leaf-fits (FencedCode fence) more nb le t = (nb, (refl, q, tt))
       leaf-fits (HtmlBlock kind) more nb le t = html (nat_le kind 5 && holds_end kind (words_of r)) kind nb
       leaf-fits (LinkDefinition definition) more nb le t = (nb, le, λ never. absurd (true≢false never))
+      leaf-fits (MetadataBlock kind) more nb le t = (nb, (refl, q, tt))
 
       go : (o : Opening) → opens options r ahead ≡ o → Tells r o → ((k : Container) → opens options r ahead ≡ Nests k → Fits (is_bare_start k r) (inside_begun m k r (within k (is_bare_start k r) ahead)) (within k (is_bare_start k r) ahead) n)
           → Fits b (lines_begin_as o (λ k. lines_begin_in options m NoBlocks (enter k r) (within k (is_bare_start k r) ahead)) closed r) ahead n

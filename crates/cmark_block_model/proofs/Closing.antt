@@ -3,28 +3,29 @@ use Rattle.std.proofs.Common.{◌≡◌, ℕ, zero, suc, Bool, true, false, List
 use Rattle.cmark_grammar.specs.Answers.{Lookup}
 use Rattle.cmark_grammar.specs.Options.{Options}
 use Rattle.cmark_grammar.specs.Rows.{Row, start_of, begin_of, past_of, first_place}
-use Rattle.cmark_grammar.specs.Leaves.{Fence}
+use Rattle.cmark_grammar.specs.Leaves.{closes_fence}
 use Rattle.cmark_grammar.specs.Containers.{is_bare_start, bare_after}
-use Rattle.cmark_grammar.specs.Openings.{Leaf, ThematicBreak, AtxHeading, IndentedCode, FencedCode, HtmlBlock, LinkDefinition}
+use Rattle.cmark_grammar.specs.Openings.{Leaf, ThematicBreak, AtxHeading, IndentedCode, FencedCode, HtmlBlock, LinkDefinition, MetadataBlock}
 use Rattle.cmark_grammar.specs.Blocks.{Blocks, Nil as NoBlocks, Paragraph, LeafBlock, ContainerBlock, join as join_blocks}
-use Rattle.cmark_grammar.specs.BlocksByLine.{Verbatim, Indented, Fenced, HtmlLines, leaf_in, OpenLines, Between, InParagraph, InLeaf, InVerbatim, InContainer, blank_lines, close_lines}
-use Rattle.cmark_grammar.specs.Tokens.{resolved, words_end, stretch_then, stop_at, html_tokens, fenced_lines, code_tokens, code_columns}
+use Rattle.cmark_grammar.specs.BlocksByLine.{Verbatim, Indented, Fenced, HtmlLines, leaf_in, OpenLines, Between, InParagraph, InLeaf, InVerbatim, InContainer, blank_lines, close_lines, Metadata}
+use Rattle.cmark_grammar.specs.Tokens.{resolved, words_end, stretch_then, stop_at, html_tokens, fenced_lines, code_tokens, code_columns, lines_before}
 use Rattle.cmark_grammar.specs.BlockDocument as document
 use Rattle.cmark_grammar.specs.BlockDocument.{BlockDocument, BlockKind, Nil, Node, node, join}
+use Rattle.cmark_grammar.specs.Metadata.{ends_metadata}
 use Rattle.cmark_block_model.specs.OpenBlocks.{OpenContainer, Closed}
 use Rattle.cmark_block_model.specs.BlockPass.{close_leaf, is_some, containers_closed, container_closed}
 use Rattle.cmark_block_model.proofs.CodeRuns.{run-tokens}
 use Rattle.cmark_block_model.proofs.Replay.{Level, begun, level_drawn, standing, entered, leaf_level, left_by, blank_level, replay, replay-join}
-use Rattle.cmark_block_model.proofs.Mirror.{last_of, last_begin, pass_with, leaf_left, AreCode, FitsVerbatim, Fits, lines_drawn, drawn-tokens, verbatim_level, verbatim_leaf, inner_at, leaf_at, container_at, containers_at}
+use Rattle.cmark_block_model.proofs.Mirror.{last_of, last_begin, pass_with, leaf_left, AreBefore, FitsVerbatim, Fits, lines_drawn, drawn-tokens, verbatim_level, verbatim_leaf, inner_at, leaf_at, container_at, containers_at}
 
 pub take-none : (n : ℕ) → take {A = Row} n [] ≡ []
 take-none zero = refl
 take-none (suc n) = refl
 
--- a fence's lines that do not close it
-pub code-lines : (fence : Fence) (rs : List Row) → AreCode fence rs → fenced_lines fence rs ≡ rs
-code-lines fence [] h = refl
-code-lines fence (r ∷ rs) h = ap (λ y. stop_at y r (fenced_lines fence rs)) h.0 ∙ ap (λ x. r ∷ x) (code-lines fence rs h.1)
+-- lines of which none closes the block
+pub before-lines : (closes : Row → Bool) (rs : List Row) → AreBefore closes rs → lines_before closes rs ≡ rs
+before-lines closes [] h = refl
+before-lines closes (r ∷ rs) h = ap (λ y. stop_at y r (lines_before closes rs)) h.0 ∙ ap (λ x. r ∷ x) (before-lines closes rs h.1)
 
 module _ (text : List ℕ) (options : Options) (lookup : Lookup) where
   blank-replay : (rs : List Row) (l : Level) → l.inner.has_block ≡ true → l.inner.blank ≡ true → replay text lookup (blank_lines rs) l ≡ l
@@ -54,6 +55,7 @@ module _ (text : List ℕ) (options : Options) (lookup : Lookup) where
   leaf-left IndentedCode left q outer bare n = refl
   leaf-left (FencedCode fence) left q outer bare n = refl
   leaf-left (HtmlBlock kind) left q outer bare n = refl
+  leaf-left (MetadataBlock kind) left q outer bare n = refl
   leaf-left (LinkDefinition definition) left q outer bare n = refl
 
   replay-nil : (b : Blocks) (l : Level) → replay text lookup (join_blocks b NoBlocks) l ≡ replay text lookup b l
@@ -73,7 +75,7 @@ module _ (text : List ℕ) (options : Options) (lookup : Lookup) where
       let c = replay text lookup closed l in
       let x = join_blocks closed (LeafBlock (FencedCode fence) first had NoBlocks) in
       ap (λ t. pass_with (noded (document.FencedCode (resolved lookup fence.info)) (start_of first) n t (begun c)) outer bare Closed n) (sym (run-tokens text fence.indented had))
-      ∙ ap (λ t. pass_with (noded (document.FencedCode (resolved lookup fence.info)) (start_of first) n (code_tokens text fence.indented t) (begun c)) outer bare Closed n) (sym (code-lines fence had f.2))
+      ∙ ap (λ t. pass_with (noded (document.FencedCode (resolved lookup fence.info)) (start_of first) n (code_tokens text fence.indented t) (begun c)) outer bare Closed n) (sym (before-lines (closes_fence fence) had f.2))
       ∙ ap (λ m. pass_with (noded (document.FencedCode (resolved lookup fence.info)) (start_of first) m (code_tokens text fence.indented (fenced_lines fence had)) (begun c)) outer bare Closed n) (sym f.1)
       ∙ ap (λ q. pass_with q outer bare Closed n) (sym (ap (λ w. replay text lookup (join_blocks x (blank_lines w)) l) f.0 ∙ replay-nil x l ∙ replay-join text lookup closed (LeafBlock (FencedCode fence) first had NoBlocks) l))
   verbatim-closes (HtmlLines kind) closed first had waiting n l outer bare f =
@@ -81,6 +83,13 @@ module _ (text : List ℕ) (options : Options) (lookup : Lookup) where
       let x = join_blocks closed (LeafBlock (HtmlBlock kind) first had NoBlocks) in
       ap (λ m. pass_with (noded document.HtmlBlock (begin_of first) m (html_tokens text (first ∷ had)) (begun c)) outer bare Closed n) (sym f.1)
       ∙ ap (λ q. pass_with q outer bare Closed n) (sym (ap (λ w. replay text lookup (join_blocks x (blank_lines w)) l) f.0 ∙ replay-nil x l ∙ replay-join text lookup closed (LeafBlock (HtmlBlock kind) first had NoBlocks) l))
+  verbatim-closes (Metadata kind) closed first had waiting n l outer bare f =
+      let c = replay text lookup closed l in
+      let x = join_blocks closed (LeafBlock (MetadataBlock kind) first had NoBlocks) in
+      ap (λ t. pass_with (noded (document.MetadataBlock kind) (start_of first) n t (begun c)) outer bare Closed n) (sym (run-tokens text 0 had))
+      ∙ ap (λ t. pass_with (noded (document.MetadataBlock kind) (start_of first) n (code_tokens text 0 t) (begun c)) outer bare Closed n) (sym (before-lines (ends_metadata kind) had f.2))
+      ∙ ap (λ m. pass_with (noded (document.MetadataBlock kind) (start_of first) m (code_tokens text 0 (lines_before (ends_metadata kind) had)) (begun c)) outer bare Closed n) (sym f.1)
+      ∙ ap (λ q. pass_with q outer bare Closed n) (sym (ap (λ w. replay text lookup (join_blocks x (blank_lines w)) l) f.0 ∙ replay-nil x l ∙ replay-join text lookup closed (LeafBlock (MetadataBlock kind) first had NoBlocks) l))
 
   pub leaf-closes : (o : OpenLines) (b : Bool) (n : ℕ) (l : Level) (outer : List OpenContainer) (bare : Bool) → Fits b o [] n
       → close_leaf text options lookup (leaf_at text lookup o) (pass_with (inner_at text lookup o [] l) outer bare (leaf_at text lookup o) n) ≡ pass_with (inner_closed o l) outer bare Closed n

@@ -3,14 +3,15 @@ use Rattle.std.proofs.Common.{◌≡◌, ◌==◌, ℕ, Bool, true, false, List,
 use Rattle.cmark_grammar.specs.Answers.{Lookup}
 use Rattle.cmark_grammar.specs.Rows.{Row, past_of, begin_of, start_of}
 use Rattle.cmark_grammar.specs.Containers.{Quote, Item}
-use Rattle.cmark_grammar.specs.Openings.{Leaf, ThematicBreak, AtxHeading, IndentedCode, FencedCode, HtmlBlock, LinkDefinition}
+use Rattle.cmark_grammar.specs.Openings.{Leaf, ThematicBreak, AtxHeading, IndentedCode, FencedCode, HtmlBlock, LinkDefinition, MetadataBlock}
 use Rattle.cmark_grammar.specs.Blocks.{Blocks, Nil as NoBlocks, BlankLine, Paragraph, SetextHeading, LeafBlock, ContainerBlock}
 use Rattle.cmark_grammar.specs.Lists.{ListBefore, tight_behind, goes_on}
-use Rattle.cmark_grammar.specs.Tokens.{fenced_lines}
+use Rattle.cmark_grammar.specs.Tokens.{fenced_lines, lines_before}
 use Rattle.cmark_grammar.specs.Derivation.{paragraph_kind, leaf_then, item_then, document_of, reference_of, stop_of}
 use Rattle.cmark_grammar.specs.BlockDocument as document
 use Rattle.cmark_grammar.specs.BlockDocument.{Reference, BlockKind, BlockNode, BlockDocument, Nil, Node, node}
 use Rattle.cmark_grammar.specs.References.{references}
+use Rattle.cmark_grammar.specs.Metadata.{ends_metadata}
 use Rattle.cmark_block_model.specs.OpenBlocks.{OpenList}
 use Rattle.cmark_block_model.proofs.PlainTokens.{IsPlain, paragraph_plain, heading_plain, code_plain, html_tokens_plain}
 use Rattle.cmark_block_model.proofs.Split.{Split, split}
@@ -43,6 +44,7 @@ module _ (text : List ℕ) (lookup : Lookup) where
   leaf-references (FencedCode fence) first more rs d = ap (λ r. rs ++ (r ++ references d)) (sym (code_plain text fence.indented (fenced_lines fence more)).defines)
   leaf-references (HtmlBlock kind) first more rs d = ap (λ r. rs ++ (r ++ references d)) (sym (html_tokens_plain text (first ∷ more)).defines)
   leaf-references (LinkDefinition definition) first more rs d = append_assoc rs (reference_of lookup definition (start_of first) (stop_of first more) ∷ []) (references d)
+  leaf-references (MetadataBlock kind) first more rs d = ap (λ r. rs ++ (r ++ references d)) (sym (code_plain text 0 (lines_before (ends_metadata kind) more)).defines)
 
   pub defines : (b : Blocks) (direct : Bool) (before : Option ListBefore) (l : Level) → (replay text lookup b l).references ≡ (l.references ++ references (document_of text lookup direct before b))
   defines NoBlocks direct before l = sym (append-nil l.references)

@@ -6,7 +6,7 @@ use Rattle.cmark_grammar.specs.Attributes.{no_attributes}
 use Rattle.cmark_grammar.specs.Options.{Options}
 use Rattle.cmark_grammar.specs.Rows.{Row, begin_of, start_of}
 use Rattle.cmark_grammar.specs.Leaves.{underlines}
-use Rattle.cmark_grammar.specs.Openings.{Leaf, ThematicBreak, AtxHeading, IndentedCode, FencedCode, HtmlBlock, LinkDefinition, texts}
+use Rattle.cmark_grammar.specs.Openings.{Leaf, ThematicBreak, AtxHeading, IndentedCode, FencedCode, HtmlBlock, LinkDefinition, texts, MetadataBlock}
 use Rattle.cmark_grammar.specs.Blocks.{Blocks, Nil as NoBlocks, Paragraph, SetextHeading, LeafBlock, join as join_blocks, may_lazy}
 use Rattle.cmark_grammar.specs.BlocksByLine.{Between, InParagraph, InLeaf, lines_underline_or, lines_go_on_or, lines_begin, lines_feed}
 use Rattle.cmark_grammar.specs.Tokens.{stretch_then}
@@ -99,6 +99,7 @@ module _ (text : List ℕ) (options : Options) (lookup : Lookup) where
       done (FencedCode fence) q = refl
       done (HtmlBlock kind) q = refl
       done (LinkDefinition definition) q = refl
+      done (MetadataBlock kind) q = refl
   leaf-feeds closed leaf first had (suc left) r next ahead l outer b n e a f = go leaf f.2
     where
       none : {A : Type 0} → suc left ≡ 0 → A
@@ -111,6 +112,7 @@ module _ (text : List ℕ) (options : Options) (lookup : Lookup) where
       go IndentedCode h = none (h refl)
       go (FencedCode fence) h = none (h refl)
       go (HtmlBlock kind) h = none (h refl)
+      go (MetadataBlock kind) h = none (h refl)
       go (LinkDefinition definition) h =
           ap (λ x. pass_with (leaf_level text lookup (LinkDefinition definition) first x (replay text lookup closed l)) outer false (InDefinition left) n) (sym (append_assoc had (r ∷ []) (take left ahead)))
           ∙ ap (λ o. pass_with (leaf_level text lookup (LinkDefinition definition) first ((had ++ r ∷ []) ++ take left ahead) (replay text lookup closed l)) o false (InDefinition left) n) (sym (append-nil outer))

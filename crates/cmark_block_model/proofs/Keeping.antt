@@ -4,24 +4,25 @@ use Rattle.std.specs.Prelude.{if◌then◌else◌}
 use Rattle.cmark_grammar.specs.Answers.{Lookup}
 use Rattle.cmark_grammar.specs.Options.{Options}
 use Rattle.cmark_grammar.specs.Rows.{Row, lazy_row, show_as}
-use Rattle.cmark_grammar.specs.Leaves.{Fence, Further, GoesOn, Closes, Waits, Stops, underlines, code_further, closes_fence}
+use Rattle.cmark_grammar.specs.Leaves.{Further, GoesOn, Closes, Waits, Stops, underlines, code_further, closes_fence}
 use Rattle.cmark_grammar.specs.HtmlBlocks.{html_further}
 use Rattle.cmark_grammar.specs.Containers.{Container, keeps, strip, is_bare_start, bare_after}
 use Rattle.cmark_grammar.specs.Openings.{texts, lazily}
 use Rattle.cmark_grammar.specs.Blocks.{Blocks, Nil as NoBlocks, Paragraph, SetextHeading, LeafBlock, ContainerBlock, join as join_blocks}
 use Rattle.cmark_grammar.specs.BlocksModel.{within}
-use Rattle.cmark_grammar.specs.BlocksByLine.{Verbatim, Indented, Fenced, HtmlLines, further_in, further_if, OpenLines, Between, InParagraph, InLeaf, InVerbatim, InContainer, close_lines, lines_take_lazy, lines_underline_or, lines_go_on_or, lines_kept_or, verbatim_line, lines_begin, lines_feed}
+use Rattle.cmark_grammar.specs.BlocksByLine.{Verbatim, Indented, Fenced, HtmlLines, further_in, further_if, OpenLines, Between, InParagraph, InLeaf, InVerbatim, InContainer, close_lines, lines_take_lazy, lines_underline_or, lines_go_on_or, lines_kept_or, verbatim_line, lines_begin, lines_feed, Metadata}
+use Rattle.cmark_grammar.specs.Metadata.{ends_metadata}
 use Rattle.cmark_grammar.proofs.BlockLaws.{strip_lazy, strip_whole}
 use Rattle.cmark_grammar.proofs.BlocksSound.{bare_push, is_both}
 use Rattle.cmark_grammar.proofs.RowPlaces.{strip-past}
-use Rattle.cmark_block_model.proofs.Mirror.{past_push, AreCode, FitsVerbatim, Fits}
+use Rattle.cmark_block_model.proofs.Mirror.{past_push, AreBefore, FitsVerbatim, Fits}
 use Rattle.cmark_block_model.proofs.Beginning.{starts-fit}
 use Rattle.cmark_block_model.proofs.LazyLines.{lazy-begins, lazy-paragraph, lazy-container}
 use Rattle.cmark_block_model.proofs.VerbatimLines.{had-more, never-waits}
 
-code-push : (fence : Fence) (rs : List Row) (r : Row) → AreCode fence rs → closes_fence fence r ≡ false → AreCode fence (rs ++ r ∷ [])
-code-push fence [] r h e = (e, tt)
-code-push fence (s ∷ rs) r h e = (h.0, code-push fence rs r h.1 e)
+before-push : (closes : Row → Bool) (rs : List Row) (r : Row) → AreBefore closes rs → closes r ≡ false → AreBefore closes (rs ++ r ∷ [])
+before-push closes [] r h e = (e, tt)
+before-push closes (s ∷ rs) r h e = (h.0, before-push closes rs r h.1 e)
 
 -- what is ahead inside, where the line has the prefix, and where it lacks it
 pub kept-ahead : (options : Options) (k : Container) (b : Bool) (r s : Row) (ahead : List Row) → r.lazy ≡ false → keeps k b r ≡ Some s → within k b (r ∷ ahead) ≡ strip k b r ∷ within k false ahead
@@ -60,7 +61,7 @@ module _ (text : List ℕ) (options : Options) (lookup : Lookup) where
     where
       go : (z : Bool) → closes_fence fence r ≡ z → Fits false (verbatim_line (if z then Closes else GoesOn) closed (Fenced fence) first had waiting r (lines_begin options (close_lines (InVerbatim closed (Fenced fence) first had waiting)) r ahead)) ahead r.past
       go true q = (refl, omega arith, λ never. refl)
-      go false q = (refl, (refl, past_push first (had ++ waiting) r, subst (AreCode fence) (sym (had-more text options lookup had waiting r f.0)) (code-push fence had r f.2 q)))
+      go false q = (refl, (refl, past_push first (had ++ waiting) r, subst (AreBefore (closes_fence fence)) (sym (had-more text options lookup had waiting r f.0)) (before-push (closes_fence fence) had r f.2 q)))
   verbatim-fits (HtmlLines kind) closed first had waiting r ahead b n e f = go (html_further kind r) refl
     where
       go : (z : Further) → html_further kind r ≡ z → Fits false (verbatim_line z closed (HtmlLines kind) first had waiting r (lines_begin options (close_lines (InVerbatim closed (HtmlLines kind) first had waiting)) r ahead)) ahead r.past
@@ -68,6 +69,11 @@ module _ (text : List ℕ) (options : Options) (lookup : Lookup) where
       go Closes q = (refl, omega arith, λ never. refl)
       go Waits q = absurd (never-waits text options lookup kind r q)
       go Stops q = starts-fit text options lookup (close_lines (InVerbatim closed (HtmlLines kind) first had waiting)) r ahead e
+  verbatim-fits (Metadata kind) closed first had waiting r ahead b n e f = go (ends_metadata kind r) refl
+    where
+      go : (z : Bool) → ends_metadata kind r ≡ z → Fits false (verbatim_line (if z then Closes else GoesOn) closed (Metadata kind) first had waiting r (lines_begin options (close_lines (InVerbatim closed (Metadata kind) first had waiting)) r ahead)) ahead r.past
+      go true q = (refl, omega arith, λ never. refl)
+      go false q = (refl, (refl, past_push first (had ++ waiting) r, subst (AreBefore (ends_metadata kind)) (sym (had-more text options lookup had waiting r f.0)) (before-push (ends_metadata kind) had r f.2 q)))
 
   pub feed-fits : (o : OpenLines) (b : Bool) (r : Row) (ahead : List Row) (n : ℕ) → r.lazy ≡ false → Fits b o (r ∷ ahead) n → Fits false (lines_feed options o r ahead) ahead r.past
   feed-fits (Between closed) b r ahead n e f = starts-fit text options lookup closed r ahead e

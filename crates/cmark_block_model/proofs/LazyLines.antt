@@ -4,7 +4,7 @@ use Rattle.cmark_grammar.specs.Answers.{Lookup}
 use Rattle.cmark_grammar.specs.Options.{Options}
 use Rattle.cmark_grammar.specs.Rows.{Row, start_of, lazy_row}
 use Rattle.cmark_grammar.specs.Containers.{Container, enter, strip, is_bare_start, bare_after}
-use Rattle.cmark_grammar.specs.Openings.{Leaf, ThematicBreak, AtxHeading, IndentedCode, FencedCode, HtmlBlock, LinkDefinition, texts, lazily}
+use Rattle.cmark_grammar.specs.Openings.{Leaf, ThematicBreak, AtxHeading, IndentedCode, FencedCode, HtmlBlock, LinkDefinition, texts, lazily, MetadataBlock}
 use Rattle.cmark_grammar.specs.Blocks.{Blocks, Nil as NoBlocks, Paragraph, SetextHeading, LeafBlock, ContainerBlock, join as join_blocks, may_lazy}
 use Rattle.cmark_grammar.specs.BlocksModel.{within}
 use Rattle.cmark_grammar.specs.BlocksByLine.{OpenLines, Between, InParagraph, InLeaf, InVerbatim, InContainer, close_lines, lines_take_lazy, lines_underline_or, lines_go_on_or, lines_kept_or, lines_begin_as, lines_begin_in, lines_begin, lines_feed}
@@ -72,6 +72,7 @@ module _ (text : List ℕ) (options : Options) (lookup : Lookup) where
       go IndentedCode y = absurd (true≢false (sym y))
       go (FencedCode fence) y = absurd (true≢false (sym y))
       go (HtmlBlock kind) y = absurd (true≢false (sym y))
+      go (MetadataBlock kind) y = absurd (true≢false (sym y))
       go (LinkDefinition definition) y =
           let d = LinkDefinition definition in
           ap (λ h. pass_with (paragraph_open text lookup r [] (leaf_level text lookup d first h (replay text lookup closed l))) (outer ++ []) false (InParagraphLeaf (start_of r) r) n) (append-nil had)

@@ -6,10 +6,10 @@ use Rattle.cmark_grammar.specs.Event.{End}
 use Rattle.cmark_grammar.specs.TagEnd.{end_of}
 use Rattle.cmark_grammar.specs.Rows.{Row, first_place, begin_of, start_of, past_of}
 use Rattle.cmark_grammar.specs.Containers.{Quote, Item}
-use Rattle.cmark_grammar.specs.Openings.{Leaf, ThematicBreak as ThematicBreakLeaf, AtxHeading as AtxHeadingLeaf, IndentedCode as IndentedCodeLeaf, FencedCode as FencedCodeLeaf, HtmlBlock as HtmlBlockLeaf, LinkDefinition as LinkDefinitionLeaf}
+use Rattle.cmark_grammar.specs.Openings.{Leaf, ThematicBreak as ThematicBreakLeaf, AtxHeading as AtxHeadingLeaf, IndentedCode as IndentedCodeLeaf, FencedCode as FencedCodeLeaf, HtmlBlock as HtmlBlockLeaf, LinkDefinition as LinkDefinitionLeaf, MetadataBlock as MetadataBlockLeaf}
 use Rattle.cmark_grammar.specs.Blocks.{Blocks, Nil as NoBlocks, BlankLine, Paragraph as ParagraphBlock, SetextHeading, LeafBlock, ContainerBlock}
 use Rattle.cmark_grammar.specs.Lists.{ListBefore, tight_behind, goes_on}
-use Rattle.cmark_grammar.specs.Tokens.{Piece, end_place, piece_if, texts_then, words_end, stretch_then, stretches, html_then, html_tokens, verbatim_line, behind_hashes, heading_columns, code_pieces, fenced_lines}
+use Rattle.cmark_grammar.specs.Tokens.{Piece, end_place, piece_if, texts_then, words_end, stretch_then, stretches, html_then, html_tokens, verbatim_line, behind_hashes, heading_columns, code_pieces, fenced_lines, lines_before}
 use Rattle.cmark_grammar.specs.BlockDocument.{Text, OwnedText, ListItem, BlockNode, BlockDocument, Nil, Node, node}
 use Rattle.cmark_grammar.specs.BlockReading.{Reads, Around, Inside, Alone, Silent, read_as, over}
 use Rattle.cmark_grammar.specs.Derivation.{Derives, leaf_then, item_then, document_of, document}
@@ -17,6 +17,7 @@ use Rattle.cmark_grammar.specs.DrawnDocument.{is_definition, node_unless, settle
 use Rattle.cmark_grammar.specs.LeafText.{Stretch}
 use Rattle.cmark_grammar.specs.Ranges.{count_nodes}
 use Rattle.cmark_grammar.specs.SpanDocuments.{Segment, Given, Content, is_leaf, leaf_of, stretches_of, inside_of, node_segments, segments}
+use Rattle.cmark_grammar.specs.Metadata.{ends_metadata}
 use Rattle.cmark_grammar.proofs.CountLaws.{derived-count}
 use Rattle.cmark_block_model.specs.BlockPass.{pass_over}
 use Rattle.cmark_block_model.proofs.Drawings.{derived, silent}
@@ -90,6 +91,8 @@ leaf-whole text lookup (FencedCodeLeaf fence) first more after h =
     (λ e. texts-free (code_pieces text fence.indented (fenced_lines fence more)) Nil tt, texts-whole (code_pieces text fence.indented (fenced_lines fence more)) Nil tt, h)
 leaf-whole text lookup (HtmlBlockLeaf kind) first more after h = (λ e. no-leaf false refl _ e, html-whole text (first ∷ more), h)
 leaf-whole text lookup (LinkDefinitionLeaf definition) first more after h = (λ e. tt, tt, h)
+leaf-whole text lookup (MetadataBlockLeaf kind) first more after h =
+    (λ e. texts-free (code_pieces text 0 (lines_before (ends_metadata kind) more)) Nil tt, texts-whole (code_pieces text 0 (lines_before (ends_metadata kind) more)) Nil tt, h)
 
 item-whole : (joins : Bool) (number : Option ℕ) (tight : Bool) (start end : ℕ) (inside after : BlockDocument) → HasWholeLeaves inside → HasWholeLeaves after
     → HasWholeLeaves (item_then joins number tight (node ListItem start end) inside after)

@@ -3,17 +3,18 @@ use Rattle.std.proofs.Common.{◌≡◌, ℕ, ◌≤◌, Bool, true, false, ◌=
 use Rattle.std.specs.Prelude.{if◌then◌else◌}
 use Rattle.cmark_grammar.specs.Answers.{Lookup}
 use Rattle.cmark_grammar.specs.Rows.{Row, start_of, begin_of, past_of, first_place}
-use Rattle.cmark_grammar.specs.Leaves.{Fence, closes_fence}
+use Rattle.cmark_grammar.specs.Leaves.{closes_fence}
 use Rattle.cmark_grammar.specs.Containers.{Container, is_bare_start, bare_after}
-use Rattle.cmark_grammar.specs.Openings.{Leaf, ThematicBreak, AtxHeading, IndentedCode, FencedCode, HtmlBlock, LinkDefinition}
+use Rattle.cmark_grammar.specs.Openings.{Leaf, ThematicBreak, AtxHeading, IndentedCode, FencedCode, HtmlBlock, LinkDefinition, MetadataBlock}
 use Rattle.cmark_grammar.specs.Blocks.{may_lazy}
 use Rattle.cmark_grammar.specs.BlocksModel.{within}
-use Rattle.cmark_grammar.specs.BlocksByLine.{Verbatim, Indented, Fenced, HtmlLines, OpenLines, Between, InParagraph, InLeaf, InVerbatim, InContainer}
+use Rattle.cmark_grammar.specs.BlocksByLine.{Verbatim, Indented, Fenced, HtmlLines, OpenLines, Between, InParagraph, InLeaf, InVerbatim, InContainer, Metadata}
 use Rattle.cmark_grammar.specs.Tokens.{resolved, words_end, stretch_then, stretches, html_tokens, html_then, verbatim_line, code_columns}
 use Rattle.cmark_grammar.specs.BlockDocument as document
 use Rattle.cmark_grammar.specs.BlockDocument.{BlockDocument, Nil, Node, node, join}
+use Rattle.cmark_grammar.specs.Metadata.{ends_metadata}
 use Rattle.cmark_block_model.specs.CodeLines.{no_run, texts_of}
-use Rattle.cmark_block_model.specs.OpenBlocks.{OpenContainer, OpenLeaf, Closed, InParagraph as InParagraphLeaf, InDefinition, InIndented, InFenced, InHtml, Pass}
+use Rattle.cmark_block_model.specs.OpenBlocks.{OpenContainer, OpenLeaf, Closed, InParagraph as InParagraphLeaf, InDefinition, InIndented, InFenced, InHtml, Pass, InMetadata}
 use Rattle.cmark_block_model.proofs.PlainTokens.{stretch-join, html-join}
 use Rattle.cmark_block_model.proofs.CodeRuns.{code_run}
 use Rattle.cmark_block_model.proofs.Replay.{Level, begun, level_opened, level_drawn, standing, entered, leaf_level, replay}
@@ -23,7 +24,7 @@ abbrev pub whole : Row → Row
 whole r = record r { lazy = false }
 
 pub whole-same : (r : Row) → r.lazy ≡ false → whole r ≡ r
-whole-same r e = ap (λ z. record { columns = r.columns; stop = r.stop; past = r.past; lazy = z }) (sym e)
+whole-same r e = ap (λ z. record { columns = r.columns; at = r.at; stop = r.stop; past = r.past; lazy = z }) (sym e)
 
 abbrev pub last_of : Row → List Row → Row
 last_of first [] = first
@@ -66,6 +67,7 @@ leaf_left (AtxHeading level) left = Closed
 leaf_left IndentedCode left = Closed
 leaf_left (FencedCode fence) left = Closed
 leaf_left (HtmlBlock kind) left = Closed
+leaf_left (MetadataBlock kind) left = Closed
 leaf_left (LinkDefinition definition) left = InDefinition left
 
 -- the bare flag: of the container around, where nothing is open
@@ -76,16 +78,17 @@ bare_at bare (InLeaf closed leaf first had left) = false
 bare_at bare (InVerbatim closed verbatim first had waiting) = false
 bare_at bare (InContainer closed k first more inside) = bare_at (bare_after (is_bare_start k first) more) inside
 
--- none of these lines closes the fence
-abbrev pub AreCode : Fence → List Row → Type 0
-AreCode fence [] = Unit {0}
-AreCode fence (r ∷ rs) = (closes_fence fence r ≡ false) × AreCode fence rs
+-- none of these lines closes the block
+abbrev pub AreBefore : (closes : Row → Bool) → List Row → Type 0
+AreBefore closes [] = Unit {0}
+AreBefore closes (r ∷ rs) = (closes r ≡ false) × AreBefore closes rs
 
 -- what is known of what is open: bare of the container around, where the last line ended, and the lines ahead
 abbrev pub FitsVerbatim : Verbatim → Row → (had waiting : List Row) → ℕ → Type 0
 FitsVerbatim Indented first had waiting n = Unit {0}
-FitsVerbatim (Fenced fence) first had waiting n = (waiting ≡ []) × (past_of first had ≡ n) × AreCode fence had
+FitsVerbatim (Fenced fence) first had waiting n = (waiting ≡ []) × (past_of first had ≡ n) × AreBefore (closes_fence fence) had
 FitsVerbatim (HtmlLines kind) first had waiting n = (waiting ≡ []) × (past_of first had ≡ n)
+FitsVerbatim (Metadata kind) first had waiting n = (waiting ≡ []) × (past_of first had ≡ n) × AreBefore (ends_metadata kind) had
 
 abbrev pub Fits : Bool → OpenLines → List Row → ℕ → Type 0
 Fits bare (Between closed) ahead n = Unit {0}
@@ -156,11 +159,14 @@ module _ (text : List ℕ) (lookup : Lookup) where
       level_drawn (texts_of (code_run text fence.indented no_run had).done) (level_opened (start_of first) (document.FencedCode (resolved lookup fence.info)) (begun l))
   verbatim_level (HtmlLines kind) first had l =
       level_drawn (html_tokens text (first ∷ had)) (level_opened (begin_of first) document.HtmlBlock (begun l))
+  verbatim_level (Metadata kind) first had l =
+      level_drawn (texts_of (code_run text 0 no_run had).done) (level_opened (start_of first) (document.MetadataBlock kind) (begun l))
 
   abbrev pub verbatim_leaf : Verbatim → Row → (had waiting : List Row) → OpenLeaf
   verbatim_leaf Indented first had waiting = InIndented (code_run text 4 no_run (first ∷ had)).waits (past_of first had) waiting
   verbatim_leaf (Fenced fence) first had waiting = InFenced fence (code_run text fence.indented no_run had).waits
   verbatim_leaf (HtmlLines kind) first had waiting = InHtml kind
+  verbatim_leaf (Metadata kind) first had waiting = InMetadata kind (code_run text 0 no_run had).waits
 
   abbrev pub paragraph_leaf : Row → List Row → OpenLeaf
   paragraph_leaf first more = InParagraphLeaf (last_begin (start_of first) first more) (whole (last_of first more))

@@ -5,14 +5,15 @@ use Rattle.cmark_grammar.specs.Answers.{Lookup}
 use Rattle.cmark_grammar.specs.Attributes.{no_attributes}
 use Rattle.cmark_grammar.specs.Rows.{Row, past_of, begin_of, start_of}
 use Rattle.cmark_grammar.specs.Containers.{Quote, Item}
-use Rattle.cmark_grammar.specs.Openings.{Leaf, ThematicBreak, AtxHeading, IndentedCode, FencedCode, HtmlBlock, LinkDefinition}
+use Rattle.cmark_grammar.specs.Openings.{Leaf, ThematicBreak, AtxHeading, IndentedCode, FencedCode, HtmlBlock, LinkDefinition, MetadataBlock}
 use Rattle.cmark_grammar.specs.Blocks.{Blocks, Nil as NoBlocks, BlankLine, Paragraph, SetextHeading, LeafBlock, ContainerBlock}
 use Rattle.cmark_grammar.specs.Lists.{ListBefore, is_tight, tight_behind, goes_on}
-use Rattle.cmark_grammar.specs.Tokens.{paragraph_tokens, fenced_lines}
+use Rattle.cmark_grammar.specs.Tokens.{paragraph_tokens, fenced_lines, lines_before}
 use Rattle.cmark_grammar.specs.Derivation.{paragraph_kind, leaf_then, item_then, document_of}
 use Rattle.cmark_grammar.specs.BlockDocument as document
 use Rattle.cmark_grammar.specs.BlockDocument.{Reference, BlockKind, BlockNode, BlockDocument, Nil, Node, node, join}
 use Rattle.cmark_grammar.specs.DrawnDocument.{settled, without_definitions}
+use Rattle.cmark_grammar.specs.Metadata.{ends_metadata}
 use Rattle.cmark_block_model.proofs.PlainTokens.{IsPlain, paragraph_plain, heading_plain, code_plain, html_tokens_plain}
 use Rattle.cmark_block_model.proofs.Split.{Split, end_or, lone, item_split, leaf_raw, split}
 use Rattle.cmark_block_model.proofs.Draws.{other-mark}
@@ -56,6 +57,7 @@ module _ (text : List ℕ) (lookup : Lookup) where
   leaf-settles (FencedCode fence) first more direct x d e = let h = code_plain text fence.indented (fenced_lines fence more) in node-same _ (h.still false ∙ sym h.whole) e
   leaf-settles (HtmlBlock kind) first more direct x d e = let h = html_tokens_plain text (first ∷ more) in node-same _ (h.still false ∙ sym h.whole) e
   leaf-settles (LinkDefinition definition) first more direct x d e = e
+  leaf-settles (MetadataBlock kind) first more direct x d e = let h = code_plain text 0 (lines_before (ends_metadata kind) more) in node-same _ (h.still false ∙ sym h.whole) e
 
   -- an item and what goes on with it
   pub record IsWhole (direct tight : Bool) (number : Option ℕ) (start past : ℕ) (inside : BlockDocument) (s : Split) (d : BlockDocument) : Type 0 where

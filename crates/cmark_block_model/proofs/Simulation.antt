@@ -5,10 +5,10 @@ use Rattle.cmark_grammar.specs.Answers.{Lookup}
 use Rattle.cmark_grammar.specs.Options.{Options}
 use Rattle.cmark_grammar.specs.Rows.{Row}
 use Rattle.cmark_grammar.specs.Containers.{keeps, strip, strip_as, is_bare_start, bare_after}
-use Rattle.cmark_grammar.specs.Openings.{Leaf, ThematicBreak, AtxHeading, IndentedCode, FencedCode, HtmlBlock, LinkDefinition, lazily}
+use Rattle.cmark_grammar.specs.Openings.{Leaf, ThematicBreak, AtxHeading, IndentedCode, FencedCode, HtmlBlock, LinkDefinition, lazily, MetadataBlock}
 use Rattle.cmark_grammar.specs.Blocks.{Nil as NoBlocks, ContainerBlock, join as join_blocks, may_lazy}
 use Rattle.cmark_grammar.specs.BlocksModel.{within}
-use Rattle.cmark_grammar.specs.BlocksByLine.{Verbatim, Indented, Fenced, HtmlLines, further_if, OpenLines, Between, InParagraph, InLeaf, InVerbatim, InContainer, close_lines, lines_take_lazy, lines_kept_or, verbatim_line, lines_begin, lines_feed}
+use Rattle.cmark_grammar.specs.BlocksByLine.{Verbatim, Indented, Fenced, HtmlLines, further_if, OpenLines, Between, InParagraph, InLeaf, InVerbatim, InContainer, close_lines, lines_take_lazy, lines_kept_or, verbatim_line, lines_begin, lines_feed, Metadata}
 use Rattle.cmark_grammar.proofs.BlockLaws.{strip_lazy, strip_whole}
 use Rattle.cmark_grammar.proofs.BlocksSound.{is_both}
 use Rattle.cmark_block_model.specs.OpenBlocks.{OpenContainer, Closed, takes_lazy, Pass}
@@ -36,12 +36,14 @@ module _ (text : List ℕ) (options : Options) (lookup : Lookup) where
       go (FencedCode fence) = refl
       go (HtmlBlock kind) = refl
       go (LinkDefinition definition) = refl
+      go (MetadataBlock kind) = refl
   takes-lazy (InVerbatim closed verbatim first had waiting) = go verbatim
     where
       go : (v : Verbatim) → takes_lazy (verbatim_leaf text lookup v first had waiting) ≡ false
       go Indented = refl
       go (Fenced fence) = refl
       go (HtmlLines kind) = refl
+      go (Metadata kind) = refl
   takes-lazy (InContainer closed k first more inside) = takes-lazy inside
 
   -- only the innermost container is bare

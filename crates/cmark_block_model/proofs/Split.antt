@@ -5,7 +5,7 @@ use Rattle.cmark_grammar.specs.Answers.{Lookup}
 use Rattle.cmark_grammar.specs.Attributes.{no_attributes}
 use Rattle.cmark_grammar.specs.Rows.{Row, start_of, begin_of, past_of}
 use Rattle.cmark_grammar.specs.Containers.{Quote, Item}
-use Rattle.cmark_grammar.specs.Openings.{Leaf, ThematicBreak, AtxHeading, IndentedCode, FencedCode, HtmlBlock, LinkDefinition}
+use Rattle.cmark_grammar.specs.Openings.{Leaf, ThematicBreak, AtxHeading, IndentedCode, FencedCode, HtmlBlock, LinkDefinition, MetadataBlock}
 use Rattle.cmark_grammar.specs.Blocks.{Blocks, Nil as NoBlocks, BlankLine, Paragraph, SetextHeading, LeafBlock, ContainerBlock}
 use Rattle.cmark_grammar.specs.Lists.{is_tight}
 use Rattle.cmark_grammar.specs.Tokens.{paragraph_tokens}
@@ -44,6 +44,7 @@ module _ (text : List ℕ) (lookup : Lookup) where
   leaf_raw (FencedCode fence) first more after = leaf_then text lookup (FencedCode fence) first more after
   leaf_raw (HtmlBlock kind) first more after = leaf_then text lookup (HtmlBlock kind) first more after
   leaf_raw (LinkDefinition definition) first more after = after
+  leaf_raw (MetadataBlock kind) first more after = leaf_then text lookup (MetadataBlock kind) first more after
 
   abbrev pub split : Option ℕ → Blocks → Split
   split mark NoBlocks = lone Nil

@@ -7,7 +7,9 @@ use Rattle.cmark_grammar.specs.Leaves.{Fence, counted, is_thematic_break, is_atx
 use Rattle.cmark_grammar.specs.HtmlBlocks.{html_kind}
 use Rattle.cmark_grammar.specs.LinkDefinitions.{Defined, definition_in, bytes_over}
 use Rattle.cmark_grammar.specs.Containers.{Container, container_of}
-use Rattle.cmark_grammar.specs.Openings.{ThematicBreak, AtxHeading, IndentedCode, FencedCode, HtmlBlock, LinkDefinition, Opening, Blank, Nests, Takes, Plain, or_else, nests_if, fenced_if, html_if, break_if, heading_if, text_lines, defined_if, definition_of, leaf_of, opens}
+use Rattle.cmark_grammar.specs.Openings.{ThematicBreak, AtxHeading, IndentedCode, FencedCode, HtmlBlock, LinkDefinition, Opening, Blank, Nests, Takes, Plain, or_else, nests_if, fenced_if, html_if, break_if, heading_if, text_lines, defined_if, definition_of, leaf_of, opens, MetadataBlock, metadata_begun, whole_opens}
+use Rattle.cmark_grammar.specs.Metadata.{metadata_kind, metadata_further, holds_metadata}
+use Rattle.cmark_grammar.specs.MetadataBlockKind.{MetadataBlockKind}
 
 -- one that begins nothing is blank, and a break or heading takes no further line
 abbrev pub Tells : Row → Opening → Type 0
@@ -20,6 +22,7 @@ Tells r (Takes IndentedCode n) = Unit {0}
 Tells r (Takes (FencedCode fence) n) = Unit {0}
 Tells r (Takes (HtmlBlock kind) n) = Unit {0}
 Tells r (Takes (LinkDefinition definition) n) = Unit {0}
+Tells r (Takes (MetadataBlock kind) n) = Unit {0}
 
 tells-or : (r : Row) (x y : Opening) → Tells r x → Tells r y → Tells r (or_else x y)
 tells-or r Blank y p q = p
@@ -51,6 +54,14 @@ tells-defined : (r : Row) (lines : ℕ) (o : Option Defined) → Tells r (define
 tells-defined r lines (Some found) = tt
 tells-defined r lines None = tt
 
+tells-metadata : (r : Row) (o : Option MetadataBlockKind) (ahead : List Row) → Tells r (metadata_begun o ahead)
+tells-metadata r None ahead = tt
+tells-metadata r (Some kind) ahead = go (holds_metadata kind ahead)
+  where
+    go : (z : Bool) → Tells r (if z then Takes (MetadataBlock kind) (counted (metadata_further kind) ahead) else Plain)
+    go true = tt
+    go false = tt
+
 module _ (options : Options) where
   tells-leaf : (r : Row) (ahead : List Row) → Tells r (leaf_of options r ahead)
   tells-leaf r ahead =
@@ -62,10 +73,13 @@ module _ (options : Options) where
 
   pub tells : (r : Row) (ahead : List Row) → Tells r (opens options r ahead)
   unfolding opens
-  tells r ahead = go r.lazy refl (is_blank_line r) refl (nat_le 4 (indent_of r))
+  tells r ahead = go r.lazy refl
     where
-      go : (a : Bool) → r.lazy ≡ a → (b : Bool) → is_blank_line r ≡ b → (c : Bool) → Tells r (if a then Plain else if b then Blank else if c then Takes IndentedCode (counted code_further ahead) else or_else (nests_if (container_of r)) (leaf_of options r ahead))
-      go true l b e c = tt
-      go false l true e c = (l, e)
-      go false l false e true = tt
-      go false l false e false = tells-or r (nests_if (container_of r)) (leaf_of options r ahead) (tells-nests r (container_of r)) (tells-leaf r ahead)
+      opened : (b : Bool) → r.lazy ≡ false → is_blank_line r ≡ b → (c : Bool) → Tells r (if b then Blank else if c then Takes IndentedCode (counted code_further ahead) else or_else (nests_if (container_of r)) (leaf_of options r ahead))
+      opened true l e c = (l, e)
+      opened false l e true = tt
+      opened false l e false = tells-or r (nests_if (container_of r)) (leaf_of options r ahead) (tells-nests r (container_of r)) (tells-leaf r ahead)
+
+      go : (a : Bool) → r.lazy ≡ a → Tells r (if a then Plain else or_else (metadata_begun (metadata_kind options r) ahead) (whole_opens options r ahead))
+      go true l = tt
+      go false l = tells-or r (metadata_begun (metadata_kind options r) ahead) (whole_opens options r ahead) (tells-metadata r (metadata_kind options r) ahead) (opened (is_blank_line r) l refl (nat_le 4 (indent_of r)))

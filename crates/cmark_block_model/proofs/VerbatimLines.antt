@@ -1,23 +1,24 @@
--- One more line of code or HTML.
+-- One more line of code, HTML or metadata.
 use Rattle.std.proofs.Common.{◌≡◌, ℕ, Bool, true, false, List, [], ◌∷◌, ◌++◌, refl, ap, ◌∙◌, sym, append_assoc, append-nil}
 use Rattle.std.specs.Prelude.{nat_le, if◌then◌else◌}
 use Rattle.cmark_grammar.specs.Answers.{Lookup}
 use Rattle.cmark_grammar.specs.Options.{Options}
 use Rattle.cmark_grammar.specs.Rows.{Row, start_of, begin_of, past_of, first_place, is_blank_line, indent_of}
-use Rattle.cmark_grammar.specs.Leaves.{Fence, Further, GoesOn, Closes, Waits, Stops, code_further, closes_fence}
+use Rattle.cmark_grammar.specs.Leaves.{Further, GoesOn, Closes, Waits, Stops, code_further, closes_fence}
 use Rattle.cmark_grammar.specs.HtmlBlocks.{html_further}
-use Rattle.cmark_grammar.specs.Openings.{FencedCode, HtmlBlock}
+use Rattle.cmark_grammar.specs.Openings.{FencedCode, HtmlBlock, MetadataBlock}
 use Rattle.cmark_grammar.specs.Blocks.{Blocks}
-use Rattle.cmark_grammar.specs.BlocksByLine.{Verbatim, Indented, Fenced, HtmlLines, further_in, InVerbatim, close_lines, verbatim_line, lines_begin}
-use Rattle.cmark_grammar.specs.Tokens.{resolved, code_tokens, code_columns, fenced_lines, html_tokens, stop_at}
+use Rattle.cmark_grammar.specs.BlocksByLine.{Verbatim, Indented, Fenced, HtmlLines, further_in, InVerbatim, close_lines, verbatim_line, lines_begin, Metadata}
+use Rattle.cmark_grammar.specs.Tokens.{resolved, code_tokens, code_columns, fenced_lines, html_tokens, stop_at, lines_before}
 use Rattle.cmark_grammar.specs.BlockDocument as document
 use Rattle.cmark_grammar.specs.BlockDocument.{BlockDocument, Nil, Node, node, join}
+use Rattle.cmark_grammar.specs.Metadata.{ends_metadata}
 use Rattle.cmark_block_model.specs.CodeLines.{no_run, code_line, texts_of, rest_of}
-use Rattle.cmark_block_model.specs.OpenBlocks.{OpenContainer, OpenLeaf, Closed, InFenced, InHtml, Pass}
+use Rattle.cmark_block_model.specs.OpenBlocks.{OpenContainer, OpenLeaf, Closed, InFenced, InHtml, Pass, InMetadata}
 use Rattle.cmark_block_model.specs.BlockPass.{node_closed, with_drawn, code_drawn, ahead_in, begin, leaf_closed, leaf_fed, indented_lines, indented_further, html_goes_on}
 use Rattle.cmark_block_model.proofs.CodeRuns.{code_run, code_run-append, run-tokens, run-line, run-waits}
 use Rattle.cmark_block_model.proofs.Replay.{Level, begun, level_opened, level_drawn, leaf_level, replay}
-use Rattle.cmark_block_model.proofs.Mirror.{past_push, pass_with, AreCode, Fits, html-push, verbatim_level, verbatim_leaf, pass_at}
+use Rattle.cmark_block_model.proofs.Mirror.{past_push, pass_with, AreBefore, Fits, html-push, verbatim_level, verbatim_leaf, pass_at}
 use Rattle.cmark_block_model.proofs.Closing.{noded, leaf-closes}
 use Rattle.cmark_block_model.proofs.Beginning.{starts}
 
@@ -45,9 +46,9 @@ module _ (text : List ℕ) (options : Options) (lookup : Lookup) where
   had-all : (had waiting : List Row) (r : Row) → waiting ≡ [] → (((had ++ waiting) ++ r ∷ []) ++ []) ≡ (had ++ r ∷ [])
   had-all had waiting r e = append-nil ((had ++ waiting) ++ r ∷ []) ∙ had-more had waiting r e
 
-  fence-ends : (fence : Fence) (rs : List Row) (r : Row) → AreCode fence rs → closes_fence fence r ≡ true → fenced_lines fence (rs ++ r ∷ []) ≡ rs
-  fence-ends fence [] r h e = ap (λ z. stop_at z r []) e
-  fence-ends fence (s ∷ rs) r h e = ap (λ z. stop_at z s (fenced_lines fence (rs ++ r ∷ []))) h.0 ∙ ap (λ x. s ∷ x) (fence-ends fence rs r h.1 e)
+  before-ends : (closes : Row → Bool) (rs : List Row) (r : Row) → AreBefore closes rs → closes r ≡ true → lines_before closes (rs ++ r ∷ []) ≡ rs
+  before-ends closes [] r h e = ap (λ z. stop_at z r []) e
+  before-ends closes (s ∷ rs) r h e = ap (λ z. stop_at z s (lines_before closes (rs ++ r ∷ []))) h.0 ∙ ap (λ x. s ∷ x) (before-ends closes rs r h.1 e)
 
   never-closes : (r : Row) → code_further r ≡ Closes → ⊥
   never-closes r = go (is_blank_line r) (nat_le 4 (indent_of r))
@@ -110,7 +111,7 @@ module _ (text : List ℕ) (options : Options) (lookup : Lookup) where
       go true q =
           let kind = document.FencedCode (resolved lookup fence.info) in
           ap (λ t. pass_with (noded text options lookup kind (start_of first) r.past t (begun c)) outer false Closed n)
-          (sym (run-tokens text fence.indented had) ∙ ap (code_tokens text fence.indented) (sym (fence-ends fence had r f.1.2 q)))
+          (sym (run-tokens text fence.indented had) ∙ ap (code_tokens text fence.indented) (sym (before-ends (closes_fence fence) had r f.1.2 q)))
           ∙ ap (λ m. pass_with (noded text options lookup kind (start_of first) m (code_tokens text fence.indented (fenced_lines fence (had ++ r ∷ []))) (begun c)) outer false Closed n) (sym (past_push first had r))
           ∙ ap (λ h. pass_with (leaf_level text lookup (FencedCode fence) first h c) outer false Closed n) (sym (had-all had waiting r f.1.0))
           ∙ alone outer (leaf_level text lookup (FencedCode fence) first (((had ++ waiting) ++ r ∷ []) ++ []) c) Closed n
@@ -144,3 +145,28 @@ module _ (text : List ℕ) (options : Options) (lookup : Lookup) where
           ∙ alone outer (leaf_level text lookup (HtmlBlock kind) first (((had ++ waiting) ++ r ∷ []) ++ []) c) Closed n
       go Waits q = absurd (never-waits kind r q)
       go Stops q = stops (HtmlLines kind) closed first had waiting r next ahead l outer b n e a f
+  verbatim-feeds (Metadata kind) closed first had waiting r next ahead l outer b n e a f = go (ends_metadata kind r) refl
+    where
+      c : Level
+      c = replay text lookup closed l
+
+      p : Pass
+      p = pass_with (verbatim_level text lookup (Metadata kind) first had (replay text lookup closed l)) outer false (verbatim_leaf text lookup (Metadata kind) first had waiting) n
+
+      go : (z : Bool) → ends_metadata kind r ≡ z → (if z then node_closed r.past (with_drawn (texts_of (rest_of (code_run text 0 no_run had).waits)) p) else code_drawn text options lookup 0 r (code_run text 0 no_run had).waits (InMetadata kind) p)
+          ≡ pass_at text lookup (verbatim_line (if z then Closes else GoesOn) closed (Metadata kind) first had waiting r (lines_begin options (close_lines (InVerbatim closed (Metadata kind) first had waiting)) r ahead)) ahead l outer false n
+      go true q =
+          ap (λ t. pass_with (noded text options lookup (document.MetadataBlock kind) (start_of first) r.past t (begun c)) outer false Closed n)
+          (sym (run-tokens text 0 had) ∙ ap (code_tokens text 0) (sym (before-ends (ends_metadata kind) had r f.1.2 q)))
+          ∙ ap (λ m. pass_with (noded text options lookup (document.MetadataBlock kind) (start_of first) m (code_tokens text 0 (lines_before (ends_metadata kind) (had ++ r ∷ []))) (begun c)) outer false Closed n) (sym (past_push first had r))
+          ∙ ap (λ h. pass_with (leaf_level text lookup (MetadataBlock kind) first h c) outer false Closed n) (sym (had-all had waiting r f.1.0))
+          ∙ alone outer (leaf_level text lookup (MetadataBlock kind) first (((had ++ waiting) ++ r ∷ []) ++ []) c) Closed n
+      go false q =
+          let run = code_run text 0 no_run had in
+          let d = level_opened (start_of first) (document.MetadataBlock kind) (begun c) in
+          let same = code_run-append text 0 no_run had (r ∷ []) in
+          let one = code_line text 0 r run.waits in
+          ap (λ t. pass_with (level_drawn t d) outer false (InMetadata kind one.waits) n) (sym (ap (λ x. texts_of x.done) same ∙ run-line text 0 run r))
+          ∙ ap (λ w. pass_with (verbatim_level text lookup (Metadata kind) first (had ++ r ∷ []) c) outer false (InMetadata kind w) n) (sym (ap (λ x. x.waits) same ∙ run-waits text 0 run r))
+          ∙ ap (λ h. pass_with (verbatim_level text lookup (Metadata kind) first h c) outer false (verbatim_leaf text lookup (Metadata kind) first h []) n) (sym (had-more had waiting r f.1.0))
+          ∙ alone outer (verbatim_level text lookup (Metadata kind) first ((had ++ waiting) ++ r ∷ []) c) (verbatim_leaf text lookup (Metadata kind) first ((had ++ waiting) ++ r ∷ []) []) n

@@ -7,14 +7,15 @@ use Rattle.cmark_grammar.specs.Rows.{Row, rows, shown, first_place, begin_of, st
 use Rattle.cmark_grammar.specs.Leaves.{Further, GoesOn, Closes, Waits, Stops, underlines, code_further, closes_fence}
 use Rattle.cmark_grammar.specs.HtmlBlocks.{holds_end, html_further}
 use Rattle.cmark_grammar.specs.Containers.{Container, Quote, Item, enter, keeps, strips}
-use Rattle.cmark_grammar.specs.Openings.{Leaf, ThematicBreak, AtxHeading, IndentedCode, FencedCode, HtmlBlock, LinkDefinition, Opening, Blank, Nests, Takes, Plain, opens, texts, lazily}
+use Rattle.cmark_grammar.specs.Openings.{Leaf, ThematicBreak, AtxHeading, IndentedCode, FencedCode, HtmlBlock, LinkDefinition, Opening, Blank, Nests, Takes, Plain, opens, texts, lazily, MetadataBlock}
 use Rattle.cmark_grammar.specs.Tokens.{Piece, resolved, words_end, stretch_then, heading_tokens, verbatim_line, html_then, code_columns}
 use Rattle.cmark_grammar.specs.Derivation.{stop_of, reference_of}
 use Rattle.cmark_grammar.specs.BlockDocument as document
 use Rattle.cmark_grammar.specs.BlockDocument.{BlockDocument, BlockKind, Reference, Nil, Node, node}
+use Rattle.cmark_grammar.specs.Metadata.{ends_metadata}
 use Rattle.cmark_block_model.specs.Drawing.{Drawing, drawn, opened, closed_as, closed_at}
 use Rattle.cmark_block_model.specs.CodeLines.{code_line, rest_of, texts_of}
-use Rattle.cmark_block_model.specs.OpenBlocks.{OpenList, Siblings, no_siblings, OpenContainer, OpenLeaf, Closed, InParagraph, InDefinition, InIndented, InFenced, InHtml, takes_lazy, Pass, at_start}
+use Rattle.cmark_block_model.specs.OpenBlocks.{OpenList, Siblings, no_siblings, OpenContainer, OpenLeaf, Closed, InParagraph, InDefinition, InIndented, InFenced, InHtml, takes_lazy, Pass, at_start, InMetadata}
 
 -- the list closed, if one is open
 abbrev pub list_closed : Option OpenList → Drawing → Drawing
@@ -118,6 +119,7 @@ module _ (text : List ℕ) (options : Options) (lookup : Lookup) where
       let q = node_closed end (with_drawn (texts_of (rest_of waits)) p) in record q { inner = record q.inner { blank = is_some blank } }
   close_leaf (InFenced fence waits) p = node_closed p.past (with_drawn (texts_of (rest_of waits)) p)
   close_leaf (InHtml kind) p = node_closed p.past p
+  close_leaf (InMetadata kind waits) p = node_closed p.past (with_drawn (texts_of (rest_of waits)) p)
 
   abbrev pub leaf_closed : Pass → Pass
   leaf_closed p = close_leaf p.leaf p
@@ -176,6 +178,7 @@ module _ (text : List ℕ) (options : Options) (lookup : Lookup) where
         leaf = InDefinition more;
         references = q.references ++ reference_of lookup definition (start_of r) (stop_of r (take more ahead)) ∷ [];
       }
+  leaf_begun (MetadataBlock kind) more r ahead p = let q = node_opened (start_of r) (document.MetadataBlock kind) (block_begun p) in record q { leaf = InMetadata kind None }
 
   abbrev pub begin_as : Opening → (Container → Pass) → Row → (ahead : List Row) → (bare : Bool) → Pass → Pass
   begin_as Blank inside r ahead bare p = record p { inner = record p.inner { blank = p.inner.has_block }; bare = bare }
@@ -220,6 +223,8 @@ module _ (text : List ℕ) (options : Options) (lookup : Lookup) where
   leaf_fed (InFenced fence waits) r next p =
       if closes_fence fence r then node_closed r.past (with_drawn (texts_of (rest_of waits)) p) else code_drawn fence.indented r waits (InFenced fence) p
   leaf_fed (InHtml kind) r next p = html_goes_on (html_further kind r) r next p
+  leaf_fed (InMetadata kind waits) r next p =
+      if ends_metadata kind r then node_closed r.past (with_drawn (texts_of (rest_of waits)) p) else code_drawn 0 r waits (InMetadata kind) p
 
   -- a lazy line: it goes on with a paragraph, or begins one behind a definition
   abbrev pub lazy_fed : OpenLeaf → Row → Pass → Pass
@@ -229,6 +234,7 @@ module _ (text : List ℕ) (options : Options) (lookup : Lookup) where
   lazy_fed (InIndented waits end blank) r p = p
   lazy_fed (InFenced fence waits) r p = p
   lazy_fed (InHtml kind) r p = p
+  lazy_fed (InMetadata kind waits) r p = p
 
   -- the containers that keep a line, those that do not, and what is left of the line
   pub record Kept : Type 0 where

@@ -5,6 +5,7 @@ use Rattle.cmark_grammar.specs.Leaves.{Fence}
 use Rattle.cmark_grammar.specs.Containers.{Container}
 use Rattle.cmark_grammar.specs.Tokens.{Piece}
 use Rattle.cmark_grammar.specs.BlockDocument.{Reference}
+use Rattle.cmark_grammar.specs.MetadataBlockKind.{MetadataBlockKind}
 use Rattle.cmark_block_model.specs.Drawing.{Drawing, nothing_drawn}
 
 -- a list to which further items may come: its character, the number of its first item, whether it is known to be loose, and
@@ -33,7 +34,7 @@ pub record OpenContainer : Type 0 where
 
 -- The open leaf, if there is one. A paragraph has its last line, and the place where the stretch of the text begins that this
 -- line stands in, which is drawn when it is seen what follows; a link reference definition has lines to come; indented code has
--- the stretch of the text that waits, the place where its last line ends, and the blank lines behind that.
+-- the stretch of the text that waits (so have fenced code and metadata), the place where its last line ends, and the blank lines behind that.
 pub data OpenLeaf : Type 0 where
   Closed : OpenLeaf
   InParagraph : (from : ℕ) → (last : Row) → OpenLeaf
@@ -41,6 +42,7 @@ pub data OpenLeaf : Type 0 where
   InIndented : (waits : Option Piece) → (end : ℕ) → (blank : List Row) → OpenLeaf
   InFenced : (fence : Fence) → (waits : Option Piece) → OpenLeaf
   InHtml : (kind : ℕ) → OpenLeaf
+  InMetadata : (kind : MetadataBlockKind) → (waits : Option Piece) → OpenLeaf
 
 -- a lazy line may stand behind the leaf
 abbrev pub takes_lazy : OpenLeaf → Bool
@@ -50,6 +52,7 @@ takes_lazy (InDefinition left) = true
 takes_lazy (InIndented waits end blank) = false
 takes_lazy (InFenced fence waits) = false
 takes_lazy (InHtml kind) = false
+takes_lazy (InMetadata kind waits) = false
 
 -- what was drawn, the innermost siblings, the containers around them, the outermost first, whether the innermost container
 -- is an item whose first line was blank and came last, the leaf, the place where the next line begins, and the link

@@ -37,15 +37,15 @@ module _ {E : Type 0} (replacement : E → Lookup) (kept : ℕ) (old : Pass E) w
       let r = towards text options lookup m outer inner split long runs in
       go r.0 r.1 r.2 r.3 r.4
     where
-      go : (left : List model.OpenContainer) (p : model.Pass) → p.outer ≡ outer ++ left → Runs replacement text lookup p mid → containers_closed text options lookup outer inner m ≡ containers_closed text options lookup outer left p →
-          (left : List model.OpenContainer) × (p : model.Pass) × (p.outer ≡ outer ++ left) × Runs replacement text lookup p new × (containers_closed text options lookup outer inner m ≡ containers_closed text options lookup outer left p)
+      go : (left : List model.OpenContainer) (p : model.Pass) → p.outer ≡ outer ++ left → Runs replacement text options lookup p mid → containers_closed text options lookup outer inner m ≡ containers_closed text options lookup outer left p →
+          (left : List model.OpenContainer) × (p : model.Pass) × (p.outer ≡ outer ++ left) × Runs replacement text options lookup p new × (containers_closed text options lookup outer inner m ≡ containers_closed text options lookup outer left p)
       go [] p is now same = absurd (omega (arith, more, long, shows-length mid.outer.items p.outer now.outer, ap length (is ∙ append-nil outer)))
       go (y ∷ ys) p is now same =
           let l = last-of y ys in (
             l.0,
             container_closed l.1 (outer ++ l.0) p,
             refl,
-            closes text lookup p (outer ++ l.0) l.1 (is ∙ ap (λ z. outer ++ z) l.2 ∙ sym (append_assoc outer l.0 (l.1 ∷ []))) now,
+            closes text options lookup p (outer ++ l.0) l.1 (is ∙ ap (λ z. outer ++ z) l.2 ∙ sym (append_assoc outer l.0 (l.1 ∷ []))) now,
             same ∙ ap (λ z. containers_closed text options lookup outer z p) l.2 ∙ closed-last text options lookup outer l.0 l.1 p,
           )
 
@@ -53,4 +53,4 @@ module _ {E : Type 0} (replacement : E → Lookup) (kept : ℕ) (old : Pass E) w
   towards-end new towards few text options lookup m outer inner split long runs =
       let r = towards text options lookup m outer inner split long runs in
       let none : r.0 ≡ [] = nil_from_length r.0 (omega (arith, few, long, shows-length new.outer.items r.1.outer r.3.outer, ap length r.2, length-append outer r.0)) in
-      subst (λ p. Runs replacement text lookup p new) (sym (r.4 ∙ ap (λ z. containers_closed text options lookup outer z r.1) none)) r.3
+      subst (λ p. Runs replacement text options lookup p new) (sym (r.4 ∙ ap (λ z. containers_closed text options lookup outer z r.1) none)) r.3

@@ -54,13 +54,14 @@ module _ (text : List ℕ) (options : Options) (lookup : Lookup) (m : model.Pass
       paragraph_begun text options lookup r m ≡ begin_as text options lookup (definition_of options r ahead) inside r ahead bare m
   begins-none is = ap (λ o. begin_as text options lookup (defined_if (length (text_lines options ahead)) o) inside r ahead bare m) is
 
-module _ {E : Type 0} (replacement : E → Lookup) (text : List ℕ) (lookup : Lookup) (m : model.Pass) (pass : Pass E) where
+module _ {E : Type 0} (replacement : E → Lookup) (text : List ℕ) (options : Options) (lookup : Lookup) (m : model.Pass) (pass : Pass E) where
   -- another table of definitions
-  pub runs-references : (table : RefDefs) (refs : List Reference) → Runs replacement text lookup m pass →
+  pub runs-references : (table : RefDefs) (refs : List Reference) → Runs replacement text options lookup m pass →
       ((folded : List ℕ) → option_map shown_definition (definition table folded) ≡ option_map shown_reference (first_with fold folded refs)) →
-      Runs replacement text lookup (record m { references = refs }) (record pass { builder = record pass.builder { allocations = record pass.builder.allocations { refdefs = table } } })
+      Runs replacement text options lookup (record m { references = refs }) (record pass { builder = record pass.builder { allocations = record pass.builder.allocations { refdefs = table } } })
   runs-references table refs runs same = record {
     text_is = runs.text_is;
+    options_is = runs.options_is;
     lookup_is = runs.lookup_is;
     drawing = record { here = runs.drawing.here; up = runs.drawing.up; is = runs.drawing.is; here_is = runs.drawing.here_is; up_is = runs.drawing.up_is };
     inner = runs.inner;

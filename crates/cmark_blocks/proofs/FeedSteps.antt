@@ -24,7 +24,7 @@ use Rattle.cmark_blocks.specs.Fed.{Feeds, FeedsSoFar, FeedsAll}
 use Rattle.cmark_blocks.specs.Runs.{Runs, ShowsLeaf}
 use Rattle.cmark_leaves.proofs.EndSteps.{equal-true, equal-false}
 
-module _ {E : Type 0} (replacement : E → Lookup) (text : List ℕ) (lookup : Lookup) (m : model.Pass) (pass : Pass E) (runs : Runs replacement text lookup m pass) where
+module _ {E : Type 0} (replacement : E → Lookup) (text : List ℕ) (options : Options) (lookup : Lookup) (m : model.Pass) (pass : Pass E) (runs : Runs replacement text options lookup m pass) where
   pub in_paragraph : (from : ℕ) (last : LineRest) → pass.leaf ≡ leaf.Paragraph from last → m.leaf ≡ model.InParagraph from (row_of last)
   in_paragraph from last is = (subst (λ l. ShowsLeaf text l pass.blank_lines.items m.leaf) is runs.leaf).0
 
@@ -111,6 +111,7 @@ module _ (text : List ℕ) (options : Options) (lookup : Lookup) (m : model.Pass
   closed-outer (model.InIndented waits end blank) = refl
   closed-outer (model.InFenced fence waits) = refl
   closed-outer (model.InHtml kind) = refl
+  closed-outer (model.InMetadata kind waits) = refl
 
 pub and-true : (a t : Bool) → t ≡ true → a ≡ (a && t)
 and-true true true e = refl
@@ -149,7 +150,7 @@ module _ {E : Type 0} (replacement : E → Lookup) (old : Pass E) where
   feeds-end mid so_far end text options lookup m runs =
       let before = so_far text options lookup m runs in
       let over : length text ≤ before.0.past = omega (arith, end, before.1.past, ap length before.1.text_is) in
-      subst (λ p. Runs replacement text lookup p mid) (sym (before.2 ∙ ap (λ (rs : List Row). lines_fed text options lookup rs before.0) (no-lines text before.0.past over))) before.1
+      subst (λ p. Runs replacement text options lookup p mid) (sym (before.2 ∙ ap (λ (rs : List Row). lines_fed text options lookup rs before.0) (no-lines text before.0.past over))) before.1
 
 -- outside of containers
 pub is-zero : (n : ℕ) → (n == 0) ≡ true → n ≡ 0

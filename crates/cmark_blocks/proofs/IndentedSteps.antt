@@ -81,10 +81,11 @@ module _ (text : List ℕ) (options : Options) (lookup : Lookup) where
     indented-stops x further = ⊎_elim (λ e. further-fed grammar.Closes (sym further ∙ ap shown_further e)) (λ e. further-fed grammar.Stops (sym further ∙ ap shown_further e))
 
 -- the open leaf, and the blank lines that wait behind it
-pub runs-waiting : {E : Type 0} (replacement : E → Lookup) (text : List ℕ) (lookup : Lookup) (m : model.Pass) (pass : Pass E) (open_leaf : OpenLeaf) (blanks : Vec LineRest Global) (l : model.OpenLeaf) →
-    Runs replacement text lookup m pass → ShowsLeaf text open_leaf blanks.items l → Runs replacement text lookup (record m { leaf = l }) (record pass { leaf = open_leaf; blank_lines = blanks })
-runs-waiting replacement text lookup m pass open_leaf blanks l runs shows = record {
+pub runs-waiting : {E : Type 0} (replacement : E → Lookup) (text : List ℕ) (options : Options) (lookup : Lookup) (m : model.Pass) (pass : Pass E) (open_leaf : OpenLeaf) (blanks : Vec LineRest Global) (l : model.OpenLeaf) →
+    Runs replacement text options lookup m pass → ShowsLeaf text open_leaf blanks.items l → Runs replacement text options lookup (record m { leaf = l }) (record pass { leaf = open_leaf; blank_lines = blanks })
+runs-waiting replacement text options lookup m pass open_leaf blanks l runs shows = record {
   text_is = runs.text_is;
+  options_is = runs.options_is;
   lookup_is = runs.lookup_is;
   drawing = runs.drawing;
   inner = runs.inner;

@@ -13,6 +13,7 @@ pub mod KeptSteps
 pub mod LeafSteps
 pub mod LineFeeds
 pub mod LineSteps
+pub mod MetadataSteps
 pub mod OpeningSteps
 pub mod PassSteps
 pub mod PrefixSteps

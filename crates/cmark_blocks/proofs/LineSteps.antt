@@ -1,11 +1,14 @@
 -- What a line begins, one container after the other.
+use Rattle.std.specs.Prelude.{if◌then◌else◌}
 use Rattle.std.proofs.Common.{◌≡◌, ℕ, zero, suc, ◌<◌, ◌≤◌, Bool, true, false, List, [], length, Some, None, refl, sym, ap, subst, ◌∙◌, arith}
 use Rattle.cmark_grammar.specs.Answers.{Lookup}
 use Rattle.cmark_grammar.specs.Containers.{Container, enter}
 use Rattle.cmark_grammar.specs.Leaves.{run}
+use Rattle.cmark_grammar.specs.Metadata.{metadata_kind}
+use Rattle.cmark_grammar.specs.Openings.{Leaf, Takes, Plain, or_else, metadata_begun, whole_opens, opens}
 use Rattle.cmark_grammar.specs.Options.{Options, no_options}
 use Rattle.cmark_grammar.specs.Rows.{Row, is_blank_line, words_of}
-use Rattle.cmark_lines.proofs.OpeningRows.{opens-blank}
+use Rattle.cmark_lines.proofs.OpeningRows.{opens-blank, none_ahead}
 use Rattle.cmark_lines.specs.Opened.{opened, HasInside, InsideIsIn}
 use Rattle.cmark_lines.specs.Rests.{row_of, IsIn}
 use Rattle.cmark_lines.specs.Starts.{shown_start, inside_of}
@@ -18,7 +21,7 @@ use Rattle.cmark_text.specs.declared.kind.HeadingLevel.{HeadingLevel}
 use Rattle.cmark_text.specs.Shown.{level_number}
 use Rattle.cmark_leaves.specs.Told.{AreTold}
 use Rattle.cmark_leaves.proofs.ToldSteps.{enter-told}
-use Rattle.cmark_block_model.specs.BlockPass.{ahead_in, begin, begin_as, begin_in, container_begun, is_item}
+use Rattle.cmark_block_model.specs.BlockPass.{ahead_in, begin, begin_as, begin_in, leaf_begun, container_begun, is_item}
 use Rattle.cmark_block_model.specs.OpenBlocks as model
 use Rattle.cmark_blocks.specs.Ahead.{lines_at}
 use Rattle.cmark_blocks.specs.declared.state.Pass.{Pass}
@@ -29,7 +32,8 @@ use Rattle.cmark_blocks.proofs.OpeningSteps.{Fits, opens-fits}
 
 opened-fits : (r : Row) (open_as is : Opening) → OpensAs open_as r → open_as ≡ is → Fits (run 35 (words_of r)) (opened no_options is r [])
 opened-fits r open_as is opens_as e =
-    subst (λ (x : Opening). Fits (run 35 (words_of r)) (opened no_options x r [])) e (subst (Fits (run 35 (words_of r))) (opens_as no_options []) (opens-fits no_options r []))
+    subst (λ (x : Opening). Fits (run 35 (words_of r)) (opened no_options x r [])) e
+    (subst (Fits (run 35 (words_of r))) (opens_as no_options [] ∙ none_ahead (metadata_kind no_options r) (opened no_options open_as r [])) (opens-fits no_options r []))
 
 -- the number of an item that begins is told by its character
 pub start-numbered : (r : Row) (open_as : Opening) (start : ContainerStart) → OpensAs open_as r → open_as ≡ opening.Nests start → HasNumber start
@@ -58,17 +62,36 @@ module _ (r : Row) (open_as : Opening) (start : ContainerStart) (inside : LineRe
     told = subst (λ (s : Row). AreTold text s.columns) (sym inside-row) (enter-told text (shown_start start) r told);
   }
 
-  pub inside-begins : (text : List ℕ) (options : Options) (lookup : Lookup) (item bare : Bool) (columns : ℕ) (m : model.Pass) → OpensAs open_as r → item ≡ is_item (shown_start start) →
+  pub inside-begins : (text : List ℕ) (options : Options) (lookup : Lookup) (item bare : Bool) (columns : ℕ) (m : model.Pass) → OpensAs open_as r →
+      metadata_begun (metadata_kind options r) (ahead_in text options lookup m.outer (lines_at text r.past)) ≡ Plain → item ≡ is_item (shown_start start) →
       begin_in text options lookup (suc columns) r (lines_at text r.past) bare m
       ≡ begin_in text options lookup columns (row_of inside) (lines_at text (row_of inside).past) item (container_begun (shown_start start) r m)
-  inside-begins text options lookup item bare columns m opens_as is =
+  inside-begins text options lookup item bare columns m opens_as none is =
       let ahead = ahead_in text options lookup m.outer (lines_at text r.past) in
       let k = shown_start start in
       ap (λ o. begin_as text options lookup o (λ k. begin_in text options lookup columns (enter k r) (lines_at text r.past) (is_item k) (container_begun k r m)) r ahead bare m)
-      (opens_as options ahead ∙ ap (λ (x : Opening). opened options x r ahead) nests)
+      (opens_as options ahead ∙ ap (λ o. or_else o (opened options open_as r ahead)) none ∙ ap (λ (x : Opening). opened options x r ahead) nests)
       ∙ ap (λ (s : Row). begin_in text options lookup columns s (lines_at text r.past) (is_item k) (container_begun k r m)) (sym inside-row)
       ∙ ap (λ (p : ℕ). begin_in text options lookup columns (row_of inside) (lines_at text p) (is_item k) (container_begun k r m)) (sym inside-past)
       ∙ ap (λ (b : Bool). begin_in text options lookup columns (row_of inside) (lines_at text (row_of inside).past) b (container_begun k r m)) (sym is)
+
+-- a line that begins no container, or metadata
+module _ (text : List ℕ) (options : Options) (lookup : Lookup) (r : Row) (next : List Row) (columns : ℕ) (bare : Bool) (m : model.Pass) where
+  pub leaf-begins : (open_as : Opening) → OpensAs open_as r → metadata_begun (metadata_kind options r) (ahead_in text options lookup m.outer next) ≡ Plain →
+      begin_as text options lookup (opened options open_as r (ahead_in text options lookup m.outer next)) (λ k. begin_in text options lookup columns (enter k r) next (is_item k) (container_begun k r m)) r (ahead_in text options lookup m.outer next) bare m
+      ≡ begin_in text options lookup (suc columns) r next bare m
+  leaf-begins open_as opens_as none =
+      let ahead = ahead_in text options lookup m.outer next in
+      ap (λ o. begin_as text options lookup o (λ k. begin_in text options lookup columns (enter k r) next (is_item k) (container_begun k r m)) r ahead bare m)
+      (sym (opens_as options ahead ∙ ap (λ o. or_else o (opened options open_as r ahead)) none))
+
+  pub metadata-begins : (leaf : Leaf) (more : ℕ) → r.lazy ≡ false → metadata_begun (metadata_kind options r) (ahead_in text options lookup m.outer next) ≡ Takes leaf more →
+      leaf_begun text options lookup leaf more r (ahead_in text options lookup m.outer next) m ≡ begin_in text options lookup (suc columns) r next bare m
+  unfolding opens
+  metadata-begins leaf more whole is =
+      let ahead = ahead_in text options lookup m.outer next in
+      ap (λ o. begin_as text options lookup o (λ k. begin_in text options lookup columns (enter k r) next (is_item k) (container_begun k r m)) r ahead bare m)
+      (sym (ap (λ z. if z then Plain else or_else (metadata_begun (metadata_kind options r) ahead) (whole_opens options r ahead)) whole ∙ ap (λ o. or_else o (whole_opens options r ahead)) is))
 
 module _ {E : Type 0} (replacement : E → Lookup) (line : LineRest) (old : Pass E) where
   pub begins-start : BeginsSoFar replacement line false line old old
@@ -83,9 +106,9 @@ module _ {E : Type 0} (replacement : E → Lookup) (line : LineRest) (old : Pass
       let before = so_far text options lookup m runs in
       go before.0 before.1 before.2 before.3 before.4
     where
-      go : (columns : ℕ) (p : model.Pass) → length (row_of rest).columns ≤ columns → Runs replacement text lookup p mid →
+      go : (columns : ℕ) (p : model.Pass) → length (row_of rest).columns ≤ columns → Runs replacement text options lookup p mid →
           (begin text options lookup (row_of line) (lines_at text (row_of line).past) m ≡ begin_in text options lookup (suc columns) (row_of rest) (lines_at text (row_of rest).past) bare p) →
-          (columns : ℕ) × (p : model.Pass) × (length (row_of inside).columns ≤ columns) × Runs replacement text lookup p new
+          (columns : ℕ) × (p : model.Pass) × (length (row_of inside).columns ≤ columns) × Runs replacement text options lookup p new
           × (begin text options lookup (row_of line) (lines_at text (row_of line).past) m ≡ begin_in text options lookup (suc columns) (row_of inside) (lines_at text (row_of inside).past) item p)
       go zero p le now same = absurd (omega (arith, le, shorter))
       go (suc n) p le now same = let r = first text options lookup (suc n) p now in (n, r.0, omega (arith, le, shorter), r.1, same ∙ r.3)
@@ -93,7 +116,7 @@ module _ {E : Type 0} (replacement : E → Lookup) (line : LineRest) (old : Pass
   pub begins-end : (rest : LineRest) (bare : Bool) (mid new : Pass E) → BeginsSoFar replacement line bare rest old mid → BeginsFirst replacement bare rest None mid new → Begins replacement line old new
   begins-end rest bare mid new so_far first text options lookup m runs =
       let before = so_far text options lookup m runs in
-      subst (λ p. Runs replacement text lookup p new) (sym before.4) (first text options lookup before.0 before.1 before.3)
+      subst (λ p. Runs replacement text options lookup p new) (sym before.4) (first text options lookup before.0 before.1 before.3)
 
 -- a blank line begins nothing
 pub begins-blank : (text : List ℕ) (options : Options) (lookup : Lookup) (r : Row) (next : List Row) (m : model.Pass) → r.lazy ≡ false → is_blank_line r ≡ true →

@@ -6,7 +6,9 @@ use Rattle.cmark_grammar.specs.Containers.{Container, Quote, Item, Marker, marke
 use Rattle.cmark_grammar.specs.HtmlBlocks.{html_kind}
 use Rattle.cmark_grammar.specs.Leaves.{Fence, is_parted, run, is_thematic_break, is_atx_heading, fence_of, counted, code_further}
 use Rattle.cmark_grammar.specs.LinkDefinitions.{Defined, definition_in, bytes_over}
-use Rattle.cmark_grammar.specs.Openings.{AtxHeading, ThematicBreak, IndentedCode, FencedCode, HtmlBlock, LinkDefinition, Opening, Blank, Nests, Takes, Plain, or_else, nests_if, html_if, break_if, heading_if, fenced_if, defined_if, text_lines, definition_of, leaf_of, opens}
+use Rattle.cmark_grammar.specs.Openings.{AtxHeading, ThematicBreak, IndentedCode, FencedCode, HtmlBlock, LinkDefinition, MetadataBlock, Opening, Blank, Nests, Takes, Plain, or_else, nests_if, html_if, break_if, heading_if, fenced_if, defined_if, metadata_begun, text_lines, definition_of, leaf_of, whole_opens, opens}
+use Rattle.cmark_grammar.specs.Metadata.{metadata_kind, metadata_further, holds_metadata}
+use Rattle.cmark_grammar.specs.MetadataBlockKind.{MetadataBlockKind}
 use Rattle.cmark_grammar.specs.Options.{Options}
 use Rattle.cmark_items.specs.ItemNodes.{list_number}
 use Rattle.cmark_lines.proofs.PrefixRows.{IsShort, marker-short}
@@ -35,6 +37,7 @@ Fits level (Takes IndentedCode more) = Unit {0}
 Fits level (Takes (FencedCode fence) more) = Unit {0}
 Fits level (Takes (HtmlBlock kind) more) = Unit {0}
 Fits level (Takes (LinkDefinition definition) more) = Unit {0}
+Fits level (Takes (MetadataBlock kind) more) = Unit {0}
 Fits level Plain = Unit {0}
 
 marker-numbered : (m : Option Marker) → IsShort m → MarkerNumbered m
@@ -82,6 +85,14 @@ module _ (level : ℕ) where
   fenced-fits (Some fence) ahead = tt
   fenced-fits None ahead = tt
 
+  metadata-fits : (o : Option MetadataBlockKind) (ahead : List Row) → Fits level (metadata_begun o ahead)
+  metadata-fits None ahead = tt
+  metadata-fits (Some kind) ahead = by (holds_metadata kind ahead)
+    where
+      by : (t : Bool) → Fits level (if t then Takes (MetadataBlock kind) (counted (metadata_further kind) ahead) else Plain)
+      by true = tt
+      by false = tt
+
   defined-fits : (lines : ℕ) (found : Option Defined) → Fits level (defined_if lines found)
   defined-fits lines (Some found) = tt
   defined-fits lines None = tt
@@ -101,16 +112,19 @@ leaf-fits options r ahead =
 
 pub opens-fits : (options : Options) (r : Row) (ahead : List Row) → Fits (run 35 (words_of r)) (opens options r ahead)
 unfolding opens
-opens-fits options r ahead = by r.lazy (is_blank_line r) (nat_le 4 (indent_of r))
+opens-fits options r ahead = by r.lazy
   where
     level : ℕ
     level = run 35 (words_of r)
 
-    by : (lazy blank indented : Bool) → Fits level (if lazy then Plain else if blank then Blank else if indented then Takes IndentedCode (counted code_further ahead) else or_else (nests_if (container_of r)) (leaf_of options r ahead))
-    by true blank indented = tt
-    by false true indented = tt
-    by false false true = tt
-    by false false false =
+    whole : (blank indented : Bool) → Fits level (if blank then Blank else if indented then Takes IndentedCode (counted code_further ahead) else or_else (nests_if (container_of r)) (leaf_of options r ahead))
+    whole true indented = tt
+    whole false true = tt
+    whole false false =
         else-fits level (nests_if (container_of r)) (leaf_of options r ahead)
         (nests-fits level (container_of r) (container-numbered (item_of r) (is_quote r) (item-numbered r (marker_of (words_of r)) (marker-numbered (marker_of (words_of r)) (marker-short (words_of r))))))
         (leaf-fits options r ahead)
+
+    by : (lazy : Bool) → Fits level (if lazy then Plain else or_else (metadata_begun (metadata_kind options r) ahead) (whole_opens options r ahead))
+    by true = tt
+    by false = else-fits level (metadata_begun (metadata_kind options r) ahead) (whole_opens options r ahead) (metadata-fits level (metadata_kind options r) ahead) (whole (is_blank_line r) (nat_le 4 (indent_of r)))

@@ -28,7 +28,7 @@ unfolding pass_over
 over-is text options lookup = refl
 
 module _ {E : Type 0} (replacement : E → Lookup) (text : List ℕ) (options : Options) (lookup : Lookup) (pass : Pass E) (left : FirstPass) where
-  pub leaves : Runs replacement text lookup (all_closed text options lookup (lines_fed text options lookup (lines_at text 0) at_start)) pass →
+  pub leaves : Runs replacement text options lookup (all_closed text options lookup (lines_fed text options lookup (lines_at text 0) at_start)) pass →
       left.tree ≡ pass.builder.tree → left.allocations ≡ pass.builder.allocations → Leaves text options lookup left
   leaves there tree allocations = record {
     forest = runs.drawing.here;
@@ -41,8 +41,8 @@ module _ {E : Type 0} (replacement : E → Lookup) (text : List ℕ) (options : 
         ∙ ap (λ rs. option_map shown_reference (first_with fold folded rs)) (pass-draws text options lookup).2;
   }
     where
-      runs : Runs replacement text lookup (pass_over text options lookup) pass
-      runs = subst (λ p. Runs replacement text lookup p pass) (sym (over-is text options lookup)) there
+      runs : Runs replacement text options lookup (pass_over text options lookup) pass
+      runs = subst (λ p. Runs replacement text options lookup p pass) (sym (over-is text options lookup)) there
 
       none : runs.drawing.up ≡ []
       none = none-mapped (shown_open text (tables pass.builder.allocations).texts) open_node runs.drawing.up (pass_over text options lookup).drawing.up runs.drawing.up_is (pass-draws text options lookup).1

@@ -1,6 +1,7 @@
 -- The pass in another state, where one part of it has changed.
 use Rattle.std.proofs.Common.{◌≡◌, ℕ, Bool, true, false, List, [], ◌∷◌, ◌++◌, Option, Some, None, option_map, refl, ap, subst, ◌∙◌, Vec, String, Global, ◌==◌}
 use Rattle.cmark_grammar.specs.Answers.{Lookup}
+use Rattle.cmark_grammar.specs.Options.{Options}
 use Rattle.cmark_items.specs.Definitions.{definition, shown_definition}
 use Rattle.cmark_items.specs.Tables.{tables}
 use Rattle.cmark_block_model.specs.Drawing.{Drawing}
@@ -55,11 +56,12 @@ module _ (mark : ℕ) (number : Option ℕ) (start : ℕ) (p : model.Pass) where
       go true e = absurd (let q : Some k ≡ None = e in cc)
       go false e = refl
 
-module _ {E : Type 0} (replacement : E → Lookup) (text : List ℕ) (lookup : Lookup) (m : model.Pass) (pass : Pass E) where
+module _ {E : Type 0} (replacement : E → Lookup) (text : List ℕ) (options : Options) (lookup : Lookup) (m : model.Pass) (pass : Pass E) where
   -- something was drawn
-  pub runs-builder : (b : Builder) (d : Drawing) → Runs replacement text lookup m pass → Draws text b d → (tables b.allocations).references ≡ (tables pass.builder.allocations).references → Runs replacement text lookup (record m { drawing = d }) (record pass { builder = b })
+  pub runs-builder : (b : Builder) (d : Drawing) → Runs replacement text options lookup m pass → Draws text b d → (tables b.allocations).references ≡ (tables pass.builder.allocations).references → Runs replacement text options lookup (record m { drawing = d }) (record pass { builder = b })
   runs-builder b d runs draws same = record {
     text_is = runs.text_is;
+    options_is = runs.options_is;
     lookup_is = runs.lookup_is;
     drawing = draws;
     inner = runs.inner;
@@ -71,9 +73,10 @@ module _ {E : Type 0} (replacement : E → Lookup) (text : List ℕ) (lookup : L
   }
 
   -- the innermost siblings
-  pub runs-inner : (s : Siblings) (t : model.Siblings) → Runs replacement text lookup m pass → shown_siblings s ≡ t → Runs replacement text lookup (record m { inner = t }) (record pass { inner = s })
+  pub runs-inner : (s : Siblings) (t : model.Siblings) → Runs replacement text options lookup m pass → shown_siblings s ≡ t → Runs replacement text options lookup (record m { inner = t }) (record pass { inner = s })
   runs-inner s t runs e = record {
     text_is = runs.text_is;
+    options_is = runs.options_is;
     lookup_is = runs.lookup_is;
     drawing = runs.drawing;
     inner = e;
@@ -84,13 +87,14 @@ module _ {E : Type 0} (replacement : E → Lookup) (text : List ℕ) (lookup : L
     references = runs.references;
   }
 
-  pub list_is : Runs replacement text lookup m pass → option_map shown_list pass.inner.list ≡ m.inner.list
+  pub list_is : Runs replacement text options lookup m pass → option_map shown_list pass.inner.list ≡ m.inner.list
   list_is runs = ap (λ s. s.list) runs.inner
 
   -- the open containers
-  pub runs-outer : (outer : Vec OpenContainer Global) (ms : List model.OpenContainer) → Runs replacement text lookup m pass → ShowsContainers outer.items ms → Runs replacement text lookup (record m { outer = ms }) (record pass { outer = outer })
+  pub runs-outer : (outer : Vec OpenContainer Global) (ms : List model.OpenContainer) → Runs replacement text options lookup m pass → ShowsContainers outer.items ms → Runs replacement text options lookup (record m { outer = ms }) (record pass { outer = outer })
   runs-outer outer ms runs shows = record {
     text_is = runs.text_is;
+    options_is = runs.options_is;
     lookup_is = runs.lookup_is;
     drawing = runs.drawing;
     inner = runs.inner;
@@ -102,9 +106,10 @@ module _ {E : Type 0} (replacement : E → Lookup) (text : List ℕ) (lookup : L
   }
 
   -- the open leaf
-  pub runs-leaf : (open_leaf : OpenLeaf) (l : model.OpenLeaf) → Runs replacement text lookup m pass → ShowsLeaf text open_leaf pass.blank_lines.items l → Runs replacement text lookup (record m { leaf = l }) (record pass { leaf = open_leaf })
+  pub runs-leaf : (open_leaf : OpenLeaf) (l : model.OpenLeaf) → Runs replacement text options lookup m pass → ShowsLeaf text open_leaf pass.blank_lines.items l → Runs replacement text options lookup (record m { leaf = l }) (record pass { leaf = open_leaf })
   runs-leaf open_leaf l runs shows = record {
     text_is = runs.text_is;
+    options_is = runs.options_is;
     lookup_is = runs.lookup_is;
     drawing = runs.drawing;
     inner = runs.inner;
@@ -116,16 +121,17 @@ module _ {E : Type 0} (replacement : E → Lookup) (text : List ℕ) (lookup : L
   }
 
   -- blank lines wait behind indented code alone
-  pub none_behind_closed : pass.leaf ≡ leaf.Closed → Runs replacement text lookup m pass → pass.blank_lines.items ≡ []
+  pub none_behind_closed : pass.leaf ≡ leaf.Closed → Runs replacement text options lookup m pass → pass.blank_lines.items ≡ []
   none_behind_closed is runs = (subst (λ l. ShowsLeaf text l pass.blank_lines.items m.leaf) is runs.leaf).1
 
-  pub none_behind_paragraph : (from : ℕ) (last : LineRest) → pass.leaf ≡ leaf.Paragraph from last → Runs replacement text lookup m pass → pass.blank_lines.items ≡ []
+  pub none_behind_paragraph : (from : ℕ) (last : LineRest) → pass.leaf ≡ leaf.Paragraph from last → Runs replacement text options lookup m pass → pass.blank_lines.items ≡ []
   none_behind_paragraph from last is runs = (subst (λ l. ShowsLeaf text l pass.blank_lines.items m.leaf) is runs.leaf).1
 
   -- no leaf is open, and no blank lines wait
-  pub runs-closed : (blanks : Vec LineRest Global) → Runs replacement text lookup m pass → blanks.items ≡ [] → Runs replacement text lookup (record m { leaf = model.Closed }) (record pass { leaf = leaf.Closed; blank_lines = blanks })
+  pub runs-closed : (blanks : Vec LineRest Global) → Runs replacement text options lookup m pass → blanks.items ≡ [] → Runs replacement text options lookup (record m { leaf = model.Closed }) (record pass { leaf = leaf.Closed; blank_lines = blanks })
   runs-closed blanks runs none = record {
     text_is = runs.text_is;
+    options_is = runs.options_is;
     lookup_is = runs.lookup_is;
     drawing = runs.drawing;
     inner = runs.inner;
@@ -137,9 +143,10 @@ module _ {E : Type 0} (replacement : E → Lookup) (text : List ℕ) (lookup : L
   }
 
   -- whether the innermost container is a bare item
-  pub runs-bare : (bare : Bool) → Runs replacement text lookup m pass → Runs replacement text lookup (record m { bare = bare }) (record pass { bare = bare })
+  pub runs-bare : (bare : Bool) → Runs replacement text options lookup m pass → Runs replacement text options lookup (record m { bare = bare }) (record pass { bare = bare })
   runs-bare bare runs = record {
     text_is = runs.text_is;
+    options_is = runs.options_is;
     lookup_is = runs.lookup_is;
     drawing = runs.drawing;
     inner = runs.inner;
@@ -151,9 +158,10 @@ module _ {E : Type 0} (replacement : E → Lookup) (text : List ℕ) (lookup : L
   }
 
   -- where the next line begins
-  pub runs-past : (past there : ℕ) → Runs replacement text lookup m pass → past ≡ there → Runs replacement text lookup (record m { past = there }) (record pass { past = past })
+  pub runs-past : (past there : ℕ) → Runs replacement text options lookup m pass → past ≡ there → Runs replacement text options lookup (record m { past = there }) (record pass { past = past })
   runs-past past there runs same = record {
     text_is = runs.text_is;
+    options_is = runs.options_is;
     lookup_is = runs.lookup_is;
     drawing = runs.drawing;
     inner = runs.inner;
@@ -165,9 +173,10 @@ module _ {E : Type 0} (replacement : E → Lookup) (text : List ℕ) (lookup : L
   }
 
   -- what stands in the memory for a paragraph's text does not matter
-  pub runs-room : (room : String Global) → Runs replacement text lookup m pass → Runs replacement text lookup m (record pass { room = room })
+  pub runs-room : (room : String Global) → Runs replacement text options lookup m pass → Runs replacement text options lookup m (record pass { room = room })
   runs-room room runs = record {
     text_is = runs.text_is;
+    options_is = runs.options_is;
     lookup_is = runs.lookup_is;
     drawing = runs.drawing;
     inner = runs.inner;

@@ -20,13 +20,20 @@ module _ {E : Type 0} (replacement : E → Lookup) where
   -- a line, in front of others, is seen inside the containers as this; where one of them misses it, nothing is seen
   abbrev pub SeenInside : Pass E → LineRest → Option LineRest → Type 0
   SeenInside pass line seen =
-      (text : List ℕ) (options : Options) (lookup : Lookup) (m : model.Pass) (more : List Row) → Runs replacement text lookup m pass →
+      (text : List ℕ) (options : Options) (lookup : Lookup) (m : model.Pass) (more : List Row) → Runs replacement text options lookup m pass →
       MatchOption seen (ahead_in text options lookup m.outer (row_of line ∷ more) ≡ [])
       (λ rest. ((row_of rest).past ≡ (row_of line).past) × (ahead_in text options lookup m.outer (row_of line ∷ more) ≡ row_of rest ∷ ahead_in text options lookup m.outer more))
+
+  -- the line behind this one is seen inside the containers as this; where none is left, or one of them misses it, nothing is seen
+  abbrev pub SeesNext : Pass E → LineRest → Option LineRest → Type 0
+  SeesNext pass last next =
+      (text : List ℕ) (options : Options) (lookup : Lookup) (m : model.Pass) → Runs replacement text options lookup m pass →
+      let lines_from = λ (at : ℕ). ahead_in text options lookup m.outer (lines_at text at) in
+      MatchOption next (lines_from (row_of last).past ≡ []) (λ rest. lines_from (row_of last).past ≡ row_of rest ∷ lines_from (row_of rest).past)
 
   -- the paragraph that this line is in goes on with that one, or ends
   abbrev pub GoesOnWith : Pass E → LineRest → Option LineRest → Type 0
   GoesOnWith pass last next =
-      (text : List ℕ) (options : Options) (lookup : Lookup) (m : model.Pass) → Runs replacement text lookup m pass →
+      (text : List ℕ) (options : Options) (lookup : Lookup) (m : model.Pass) → Runs replacement text options lookup m pass →
       let texts_at = λ (at : ℕ). text_lines options (ahead_in text options lookup m.outer (lines_at text at)) in
       MatchOption next (texts_at (row_of last).past ≡ []) (λ rest. texts_at (row_of last).past ≡ row_of rest ∷ texts_at (row_of rest).past)

@@ -1,8 +1,12 @@
 -- What a line begins, one container or leaf after the other.
-use Rattle.std.specs.Prelude.{◌≡◌, ◌≤◌, ℕ, suc, Bool, List, length, unwrap_or, Option, MatchOption}
+use Rattle.std.specs.Prelude.{◌≡◌, ◌≤◌, ℕ, suc, Bool, List, length, unwrap_or, Option, Some, None, MatchOption}
 use Rattle.cmark_grammar.specs.Answers.{Lookup}
 use Rattle.cmark_grammar.specs.Containers.{Container}
-use Rattle.cmark_grammar.specs.Openings.{opens}
+use Rattle.cmark_grammar.specs.Leaves.{counted}
+use Rattle.cmark_grammar.specs.Metadata.{metadata_kind, metadata_further, holds_metadata}
+use Rattle.cmark_grammar.specs.MetadataBlockKind.{MetadataBlockKind}
+use Rattle.cmark_grammar.specs.Openings as grammar
+use Rattle.cmark_grammar.specs.Openings.{MetadataBlock, Takes, Plain, or_else, metadata_begun, opens}
 use Rattle.cmark_grammar.specs.Options.{Options}
 use Rattle.cmark_grammar.specs.Rows.{Row}
 use Rattle.cmark_items.specs.ItemNodes.{list_number}
@@ -19,9 +23,14 @@ use Rattle.cmark_blocks.specs.Ahead.{lines_at}
 use Rattle.cmark_blocks.specs.declared.state.Pass.{Pass}
 use Rattle.cmark_blocks.specs.Runs.{Runs}
 
--- the line begins this
+-- the line begins this, where it begins no metadata
 abbrev pub OpensAs : Opening → Row → Type 0
-OpensAs open_as r = (options : Options) (ahead : List Row) → opens options r ahead ≡ opened options open_as r ahead
+OpensAs open_as r = (options : Options) (ahead : List Row) → opens options r ahead ≡ or_else (metadata_begun (metadata_kind options r) ahead) (opened options open_as r ahead)
+
+-- the metadata block that a line begins, if it begins one
+abbrev pub metadata_taken : Option MetadataBlockKind → List Row → grammar.Opening
+metadata_taken None ahead = Plain
+metadata_taken (Some kind) ahead = Takes (MetadataBlock kind) (counted (metadata_further kind) ahead)
 
 abbrev pub IsNoContainer : Opening → Type 0
 IsNoContainer open_as = (start : ContainerStart) → open_as ≡ opening.Nests start → ⊥
@@ -32,30 +41,43 @@ HasNumber (begun.Quote inside) = Unit {0}
 HasNumber (begun.Item item inside) = list_number item.mark (unwrap_or item.number 0) ≡ item.number
 
 module _ {E : Type 0} (replacement : E → Lookup) where
+  -- whether the lines behind this one are those of a metadata block of this kind
+  abbrev pub HoldsMetadata : Pass E → (kind : MetadataBlockKind) → LineRest → Bool → Type 0
+  HoldsMetadata pass kind rest holds =
+      (text : List ℕ) (options : Options) (lookup : Lookup) (m : model.Pass) → Runs replacement text options lookup m pass →
+      holds ≡ holds_metadata kind (ahead_in text options lookup m.outer (lines_at text (row_of rest).past))
+
+  -- whether a line begins metadata, and of which kind
+  abbrev pub TellsMetadata : Pass E → LineRest → Option MetadataBlockKind → Type 0
+  TellsMetadata pass rest kind =
+      (text : List ℕ) (options : Options) (lookup : Lookup) (m : model.Pass) → Runs replacement text options lookup m pass →
+      let ahead = ahead_in text options lookup m.outer (lines_at text (row_of rest).past) in
+      metadata_begun (metadata_kind options (row_of rest)) ahead ≡ metadata_taken kind ahead
+
   -- what a line begins was begun, where it is no container
   abbrev pub BeginsAs : Opening → (bare : Bool) → LineRest → Pass E → Pass E → Type 0
   BeginsAs open_as bare rest old new =
-      (text : List ℕ) (options : Options) (lookup : Lookup) (m : model.Pass) (inside : Container → model.Pass) → Runs replacement text lookup m old →
+      (text : List ℕ) (options : Options) (lookup : Lookup) (m : model.Pass) (inside : Container → model.Pass) → Runs replacement text options lookup m old →
       let ahead = ahead_in text options lookup m.outer (lines_at text (row_of rest).past) in
-      Runs replacement text lookup (begin_as text options lookup (opened options open_as (row_of rest) ahead) inside (row_of rest) ahead bare m) new
+      Runs replacement text options lookup (begin_as text options lookup (opened options open_as (row_of rest) ahead) inside (row_of rest) ahead bare m) new
 
   -- behind the marker of a container that was begun, the rest of the line begins what is left
   abbrev pub Enters : List ℕ → Options → Lookup → (columns : ℕ) → (bare : Bool) → LineRest → model.Pass → LineRest × Bool → Pass E → Type 0
   Enters text options lookup columns bare rest m entered new =
-      (p : model.Pass) × Runs replacement text lookup p new × ((row_of entered.0).past ≡ (row_of rest).past)
+      (p : model.Pass) × Runs replacement text options lookup p new × ((row_of entered.0).past ≡ (row_of rest).past)
       × (begin_in text options lookup (suc columns) (row_of rest) (lines_at text (row_of rest).past) bare m
       ≡ begin_in text options lookup columns (row_of entered.0) (lines_at text (row_of entered.0).past) entered.1 p)
 
   -- the first thing that a line begins was begun
   abbrev pub BeginsFirst : (bare : Bool) → LineRest → Option (LineRest × Bool) → Pass E → Pass E → Type 0
   BeginsFirst bare rest entered old new =
-      (text : List ℕ) (options : Options) (lookup : Lookup) (columns : ℕ) (m : model.Pass) → Runs replacement text lookup m old →
-      MatchOption entered (Runs replacement text lookup (begin_in text options lookup (suc columns) (row_of rest) (lines_at text (row_of rest).past) bare m) new)
+      (text : List ℕ) (options : Options) (lookup : Lookup) (columns : ℕ) (m : model.Pass) → Runs replacement text options lookup m old →
+      MatchOption entered (Runs replacement text options lookup (begin_in text options lookup (suc columns) (row_of rest) (lines_at text (row_of rest).past) bare m) new)
       (λ inside. Enters text options lookup columns bare rest m inside new)
 
   -- some of the containers were begun that a line begins: what is left of the line begins what is left
   abbrev pub BeginsSoFar : LineRest → (bare : Bool) → LineRest → Pass E → Pass E → Type 0
   BeginsSoFar line bare rest old now =
-      (text : List ℕ) (options : Options) (lookup : Lookup) (m : model.Pass) → Runs replacement text lookup m old →
-      (columns : ℕ) × (p : model.Pass) × (length (row_of rest).columns ≤ columns) × Runs replacement text lookup p now
+      (text : List ℕ) (options : Options) (lookup : Lookup) (m : model.Pass) → Runs replacement text options lookup m old →
+      (columns : ℕ) × (p : model.Pass) × (length (row_of rest).columns ≤ columns) × Runs replacement text options lookup p now
       × (begin text options lookup (row_of line) (lines_at text (row_of line).past) m ≡ begin_in text options lookup (suc columns) (row_of rest) (lines_at text (row_of rest).past) bare p)

@@ -22,34 +22,34 @@ module _ {E : Type 0} (replacement : E → Lookup) where
   -- whether a line that some container misses goes on with the open leaf
   abbrev pub IsLazy : Pass E → LineRest → Bool → Type 0
   IsLazy pass rest lazy =
-      (text : List ℕ) (options : Options) (lookup : Lookup) (m : model.Pass) (ahead : List Row) → Runs replacement text lookup m pass →
+      (text : List ℕ) (options : Options) (lookup : Lookup) (m : model.Pass) (ahead : List Row) → Runs replacement text options lookup m pass →
       lazy ≡ (not (interrupts options false (row_of rest) ahead) && takes_lazy m.leaf)
 
   -- what so many containers left of a line was fed to the pass; the others miss the line
   abbrev pub FeedsRest : (kept : ℕ) → LineRest → Pass E → Pass E → Type 0
   FeedsRest kept rest old new =
-      (text : List ℕ) (options : Options) (lookup : Lookup) (m : model.Pass) → Runs replacement text lookup m old →
-      Runs replacement text lookup (line_with text options lookup (drop kept m.outer) (take kept m.outer) (row_of rest) (lines_at text (row_of rest).past) m) new
+      (text : List ℕ) (options : Options) (lookup : Lookup) (m : model.Pass) → Runs replacement text options lookup m old →
+      Runs replacement text options lookup (line_with text options lookup (drop kept m.outer) (take kept m.outer) (row_of rest) (lines_at text (row_of rest).past) m) new
 
   -- one more whole line was fed to the pass
   abbrev pub Feeds : LineRest → Pass E → Pass E → Type 0
   Feeds line old new =
-      (text : List ℕ) (options : Options) (lookup : Lookup) (m : model.Pass) → Runs replacement text lookup m old →
-      Runs replacement text lookup (line_fed text options lookup (row_of line) (lines_at text (row_of line).past) m) new
+      (text : List ℕ) (options : Options) (lookup : Lookup) (m : model.Pass) → Runs replacement text options lookup m old →
+      Runs replacement text options lookup (line_fed text options lookup (row_of line) (lines_at text (row_of line).past) m) new
 
   -- some of the lines from this place on were fed to the pass
   abbrev pub FeedsSoFar : Pass E → Pass E → Type 0
   FeedsSoFar old now =
-      (text : List ℕ) (options : Options) (lookup : Lookup) (m : model.Pass) → Runs replacement text lookup m old →
-      (p : model.Pass) × Runs replacement text lookup p now × (lines_fed text options lookup (lines_at text m.past) m ≡ lines_fed text options lookup (lines_at text p.past) p)
+      (text : List ℕ) (options : Options) (lookup : Lookup) (m : model.Pass) → Runs replacement text options lookup m old →
+      (p : model.Pass) × Runs replacement text options lookup p now × (lines_fed text options lookup (lines_at text m.past) m ≡ lines_fed text options lookup (lines_at text p.past) p)
 
   -- all lines from this place on were fed to the pass
   abbrev pub FeedsAll : Pass E → Pass E → Type 0
   FeedsAll old new =
-      (text : List ℕ) (options : Options) (lookup : Lookup) (m : model.Pass) → Runs replacement text lookup m old →
-      Runs replacement text lookup (lines_fed text options lookup (lines_at text m.past) m) new
+      (text : List ℕ) (options : Options) (lookup : Lookup) (m : model.Pass) → Runs replacement text options lookup m old →
+      Runs replacement text options lookup (lines_fed text options lookup (lines_at text m.past) m) new
 
   -- everything was closed
   abbrev pub ClosesEverything : Pass E → Pass E → Type 0
   ClosesEverything old new =
-      (text : List ℕ) (options : Options) (lookup : Lookup) (m : model.Pass) → Runs replacement text lookup m old → Runs replacement text lookup (all_closed text options lookup m) new
+      (text : List ℕ) (options : Options) (lookup : Lookup) (m : model.Pass) → Runs replacement text options lookup m old → Runs replacement text options lookup (all_closed text options lookup m) new

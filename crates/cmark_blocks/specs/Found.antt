@@ -24,5 +24,5 @@ module _ {E : Type 0} (replacement : E → Lookup) where
   -- the line and so many behind it, as far as a paragraph goes on, end here
   abbrev pub StopsAt : Pass E → LineRest → (more : ℕ) → (stop : ℕ) → Type 0
   StopsAt pass first more stop =
-      (text : List ℕ) (options : Options) (lookup : Lookup) (m : model.Pass) → Runs replacement text lookup m pass →
+      (text : List ℕ) (options : Options) (lookup : Lookup) (m : model.Pass) → Runs replacement text options lookup m pass →
       stop ≡ stop_of (row_of first) (take more (texts_at text options lookup m (row_of first).past))

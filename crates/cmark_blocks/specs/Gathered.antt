@@ -44,12 +44,12 @@ module _ (text : List ℕ) (options : Options) (lookup : Lookup) (m : model.Pass
 module _ {E : Type 0} (replacement : E → Lookup) where
   -- the text of a paragraph that this line may begin was gathered up to some line
   abbrev pub Gathers : Pass E → LineRest → Gathered → Type 0
-  Gathers pass first gathered = (text : List ℕ) (options : Options) (lookup : Lookup) (m : model.Pass) → Runs replacement text lookup m pass → Holds text options lookup m first gathered
+  Gathers pass first gathered = (text : List ℕ) (options : Options) (lookup : Lookup) (m : model.Pass) → Runs replacement text options lookup m pass → Holds text options lookup m first gathered
 
   -- no line more goes on with the paragraph
   abbrev pub IsWhole : Pass E → Gathered → Type 0
   IsWhole pass gathered =
-      (text : List ℕ) (options : Options) (lookup : Lookup) (m : model.Pass) → Runs replacement text lookup m pass → texts_at text options lookup m (row_of gathered.last).past ≡ []
+      (text : List ℕ) (options : Options) (lookup : Lookup) (m : model.Pass) → Runs replacement text options lookup m pass → texts_at text options lookup m (row_of gathered.last).past ≡ []
 
   -- one more line at least was gathered; or else no line is left
   abbrev pub GathersMore : Pass E → Gathered → (more : Bool) → Gathered → Type 0
@@ -59,6 +59,6 @@ module _ {E : Type 0} (replacement : E → Lookup) where
   -- the definition in front of what was gathered stands in front of the whole text of the paragraph, and if none does, none stands there
   abbrev pub Decides : Pass E → Gathered → Type 0
   Decides pass gathered =
-      (text : List ℕ) (options : Options) (lookup : Lookup) (m : model.Pass) → Runs replacement text lookup m pass →
+      (text : List ℕ) (options : Options) (lookup : Lookup) (m : model.Pass) → Runs replacement text options lookup m pass →
       let behind = further_bytes (row_of gathered.last) (texts_at text options lookup m (row_of gathered.last).past) in
       definition_in (string_bytes gathered.text ++ behind) ≡ option_map (defined_before behind) (definition_in (string_bytes gathered.text))

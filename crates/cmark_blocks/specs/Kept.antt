@@ -18,11 +18,11 @@ module _ {E : Type 0} (replacement : E → Lookup) where
   -- this many containers keep the line, and this is left of it
   abbrev pub KeepsOf : Pass E → LineRest → ℕ → LineRest → Type 0
   KeepsOf pass line kept rest =
-      (text : List ℕ) (options : Options) (lookup : Lookup) (m : model.Pass) → Runs replacement text lookup m pass →
+      (text : List ℕ) (options : Options) (lookup : Lookup) (m : model.Pass) → Runs replacement text options lookup m pass →
       kept_by text options lookup [] m.outer m.bare (row_of line) ≡ record { kept = take kept m.outer; missed = drop kept m.outer; left = row_of rest }
 
   -- this many keep it; of the others it is not yet known
   abbrev pub KeepsSoFar : Pass E → LineRest → ℕ → LineRest → Type 0
   KeepsSoFar pass line kept rest =
-      (text : List ℕ) (options : Options) (lookup : Lookup) (m : model.Pass) → Runs replacement text lookup m pass →
+      (text : List ℕ) (options : Options) (lookup : Lookup) (m : model.Pass) → Runs replacement text options lookup m pass →
       kept_by text options lookup [] m.outer m.bare (row_of line) ≡ kept_by text options lookup (take kept m.outer) (drop kept m.outer) m.bare (row_of rest)

@@ -3,6 +3,7 @@ use Rattle.std.specs.Prelude.{◌≡◌, ℕ, List, [], option_map, map, Option,
 use Rattle.std.specs.Str.{IsCharBoundary}
 use Rattle.cmark_tree.specs.Building.{IsPlaced}
 use Rattle.cmark_grammar.specs.Answers.{Lookup}
+use Rattle.cmark_grammar.specs.Options.{Options}
 use Rattle.cmark_grammar.specs.Labels.{fold}
 use Rattle.cmark_grammar.specs.References.{first_with}
 use Rattle.cmark_grammar.specs.BlockDocument.{Reference}
@@ -11,6 +12,7 @@ use Rattle.cmark_items.specs.Tables.{tables}
 use Rattle.cmark_builder.specs.Drawn.{Draws}
 use Rattle.cmark_lines.specs.Rests.{row_of, IsIn}
 use Rattle.cmark_lines.specs.declared.line_rest.LineRest.{LineRest}
+use Rattle.cmark_text.specs.Shown.{shown_metadata_block_kind, shown_options}
 use Rattle.cmark_scan.specs.HtmlLines.{kind_number}
 use Rattle.cmark_grammar.specs.Leaves.{Fence}
 use Rattle.cmark_leaves.specs.Stretches.{shown_waits}
@@ -39,8 +41,9 @@ ShowsLeaf text (leaf.Indented waits end) blanks m = m ≡ model.InIndented (show
 ShowsLeaf text (leaf.Fenced mark size indent waits) blanks m =
     (fence : Fence) × IsFence fence mark size indent × (m ≡ model.InFenced fence (shown_waits text waits)) × (blanks ≡ [])
 ShowsLeaf text (leaf.Html kind) blanks m = (m ≡ model.InHtml (kind_number kind)) × (blanks ≡ [])
+ShowsLeaf text (leaf.Metadata kind waits) blanks m = (m ≡ model.InMetadata (shown_metadata_block_kind kind) (shown_waits text waits)) × (blanks ≡ [])
 
--- fenced code with this stretch that waits, or HTML, where none does
+-- fenced code or metadata with this stretch that waits, or HTML, where none does
 abbrev pub IsVerbatim : OpenLeaf → Option Stretch → Type 0
 IsVerbatim leaf.Closed waits = ⊥
 IsVerbatim (leaf.Paragraph from last) waits = ⊥
@@ -48,6 +51,7 @@ IsVerbatim (leaf.Definition left) waits = ⊥
 IsVerbatim (leaf.Indented others end) waits = ⊥
 IsVerbatim (leaf.Fenced mark size indent others) waits = waits ≡ others
 IsVerbatim (leaf.Html kind) waits = waits ≡ None
+IsVerbatim (leaf.Metadata kind others) waits = waits ≡ others
 
 module _ {E : Type 0} where
   -- what holds of the pass whatever happens, want of memory too: nodes can be added, and no character is cut where the next line
@@ -60,9 +64,10 @@ abbrev pub shown_reference : Reference → ShownDefinition
 shown_reference r = record { destination = r.destination; title = r.title; start = r.start; end = r.end }
 
 module _ {E : Type 0} (replacement : E → Lookup) where
-  -- the pass over this text, with this meaning of entity names, is in this state
-  pub record Runs (text : List ℕ) (lookup : Lookup) (m : model.Pass) (pass : Pass E) : Type 0 where
+  -- the pass over this text, with these options and this meaning of entity names, is in this state
+  pub record Runs (text : List ℕ) (options : Options) (lookup : Lookup) (m : model.Pass) (pass : Pass E) : Type 0 where
     pub text_is : pass.text.now ≡ text
+    pub options_is : shown_options pass.options ≡ options
     pub lookup_is : replacement pass.entities.now ≡ lookup
     pub drawing : Draws text pass.builder m.drawing
     pub inner : shown_siblings pass.inner ≡ m.inner

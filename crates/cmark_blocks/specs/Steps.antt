@@ -15,87 +15,87 @@ use Rattle.cmark_blocks.specs.Runs.{Runs}
 
 module _ {E : Type 0} (replacement : E → Lookup) where
   -- from whichever state of the model it was in, over whichever text, it makes this step
-  abbrev pub StepsOver : Pass E → Pass E → (List ℕ → Lookup → model.Pass → model.Pass) → Type 0
-  StepsOver old new step = (text : List ℕ) (lookup : Lookup) (m : model.Pass) → Runs replacement text lookup m old → Runs replacement text lookup (step text lookup m) new
+  abbrev pub StepsOver : Pass E → Pass E → (List ℕ → Options → Lookup → model.Pass → model.Pass) → Type 0
+  StepsOver old new step = (text : List ℕ) (options : Options) (lookup : Lookup) (m : model.Pass) → Runs replacement text options lookup m old → Runs replacement text options lookup (step text options lookup m) new
 
   abbrev pub Steps : Pass E → Pass E → (model.Pass → model.Pass) → Type 0
-  Steps old new step = StepsOver old new (λ text lookup. step)
+  Steps old new step = StepsOver old new (λ text options lookup. step)
 
   -- the innermost container was closed
   abbrev pub ClosesLast : Pass E → Pass E → Type 0
   ClosesLast old new =
-      (text : List ℕ) (lookup : Lookup) (m : model.Pass) (outer : List model.OpenContainer) (c : model.OpenContainer) →
-      m.outer ≡ outer ++ c ∷ [] → Runs replacement text lookup m old → Runs replacement text lookup (container_closed c outer m) new
+      (text : List ℕ) (options : Options) (lookup : Lookup) (m : model.Pass) (outer : List model.OpenContainer) (c : model.OpenContainer) →
+      m.outer ≡ outer ++ c ∷ [] → Runs replacement text options lookup m old → Runs replacement text options lookup (container_closed c outer m) new
 
   -- the containers but the outermost ones, of this number, were closed
   abbrev pub ClosesAll : ℕ → Pass E → Pass E → Type 0
   ClosesAll kept old new =
       (text : List ℕ) (options : Options) (lookup : Lookup) (m : model.Pass) (outer inner : List model.OpenContainer) →
-      m.outer ≡ outer ++ inner → length outer ≡ kept → Runs replacement text lookup m old → Runs replacement text lookup (containers_closed text options lookup outer inner m) new
+      m.outer ≡ outer ++ inner → length outer ≡ kept → Runs replacement text options lookup m old → Runs replacement text options lookup (containers_closed text options lookup outer inner m) new
 
   -- the containers but the outermost ones, of this number, are being closed: some of them are left
   abbrev pub ClosesTowards : ℕ → Pass E → Pass E → Type 0
   ClosesTowards kept old now =
       (text : List ℕ) (options : Options) (lookup : Lookup) (m : model.Pass) (outer inner : List model.OpenContainer) →
-      m.outer ≡ outer ++ inner → length outer ≡ kept → Runs replacement text lookup m old →
-      (left : List model.OpenContainer) × (p : model.Pass) × (p.outer ≡ outer ++ left) × Runs replacement text lookup p now
+      m.outer ≡ outer ++ inner → length outer ≡ kept → Runs replacement text options lookup m old →
+      (left : List model.OpenContainer) × (p : model.Pass) × (p.outer ≡ outer ++ left) × Runs replacement text options lookup p now
       × (containers_closed text options lookup outer inner m ≡ containers_closed text options lookup outer left p)
 
   -- a paragraph was begun on a line
   abbrev pub BeginsParagraph : LineRest → Pass E → Pass E → Type 0
   BeginsParagraph rest old new =
-      (text : List ℕ) (options : Options) (lookup : Lookup) (m : model.Pass) → Runs replacement text lookup m old → Runs replacement text lookup (paragraph_begun text options lookup (row_of rest) m) new
+      (text : List ℕ) (options : Options) (lookup : Lookup) (m : model.Pass) → Runs replacement text options lookup m old → Runs replacement text options lookup (paragraph_begun text options lookup (row_of rest) m) new
 
   -- the leaf was closed
   abbrev pub ClosesLeaf : Pass E → Pass E → Type 0
   ClosesLeaf old new =
-      (text : List ℕ) (options : Options) (lookup : Lookup) (m : model.Pass) → Runs replacement text lookup m old → Runs replacement text lookup (leaf_closed text options lookup m) new
+      (text : List ℕ) (options : Options) (lookup : Lookup) (m : model.Pass) → Runs replacement text options lookup m old → Runs replacement text options lookup (leaf_closed text options lookup m) new
 
   -- a leaf was begun on a line, whatever is ahead
   abbrev pub BeginsLeaf : Leaf → (more : ℕ) → LineRest → Pass E → Pass E → Type 0
   BeginsLeaf leaf more rest old new =
-      (text : List ℕ) (options : Options) (lookup : Lookup) (m : model.Pass) (ahead : List Row) → Runs replacement text lookup m old →
-      Runs replacement text lookup (leaf_begun text options lookup leaf more (row_of rest) ahead m) new
+      (text : List ℕ) (options : Options) (lookup : Lookup) (m : model.Pass) (ahead : List Row) → Runs replacement text options lookup m old →
+      Runs replacement text options lookup (leaf_begun text options lookup leaf more (row_of rest) ahead m) new
 
   -- one more line of a paragraph, behind this last one, which the lines from this place on touch
   abbrev pub AddsLine : (from : ℕ) → (last rest : LineRest) → Pass E → Pass E → Type 0
   AddsLine from last rest old new =
-      (text : List ℕ) (options : Options) (lookup : Lookup) (m : model.Pass) → Runs replacement text lookup m old →
-      Runs replacement text lookup (paragraph_line text options lookup from (row_of last) (row_of rest) m) new
+      (text : List ℕ) (options : Options) (lookup : Lookup) (m : model.Pass) → Runs replacement text options lookup m old →
+      Runs replacement text options lookup (paragraph_line text options lookup from (row_of last) (row_of rest) m) new
 
   -- a paragraph with this last line was underlined
   abbrev pub MakesHeading : (level from : ℕ) → (last rest : LineRest) → Pass E → Pass E → Type 0
   MakesHeading level from last rest old new =
-      (text : List ℕ) (options : Options) (lookup : Lookup) (m : model.Pass) → Runs replacement text lookup m old →
-      Runs replacement text lookup (heading_made text options lookup level from (row_of last) (row_of rest) m) new
+      (text : List ℕ) (options : Options) (lookup : Lookup) (m : model.Pass) → Runs replacement text options lookup m old →
+      Runs replacement text options lookup (heading_made text options lookup level from (row_of last) (row_of rest) m) new
 
   -- a line that may begin a link reference definition began one, or else a paragraph
   abbrev pub BeginsBracket : LineRest → Pass E → Pass E → Type 0
   BeginsBracket rest old new =
-      (text : List ℕ) (options : Options) (lookup : Lookup) (m : model.Pass) (inside : Container → model.Pass) (bare : Bool) → Runs replacement text lookup m old →
+      (text : List ℕ) (options : Options) (lookup : Lookup) (m : model.Pass) (inside : Container → model.Pass) (bare : Bool) → Runs replacement text options lookup m old →
       let ahead = ahead_in text options lookup m.outer (lines_at text (row_of rest).past) in
-      Runs replacement text lookup (begin_as text options lookup (definition_of options (row_of rest) ahead) inside (row_of rest) ahead bare m) new
+      Runs replacement text options lookup (begin_as text options lookup (definition_of options (row_of rest) ahead) inside (row_of rest) ahead bare m) new
 
   -- all that a line begins was begun
   abbrev pub Begins : LineRest → Pass E → Pass E → Type 0
   Begins rest old new =
-      (text : List ℕ) (options : Options) (lookup : Lookup) (m : model.Pass) → Runs replacement text lookup m old →
-      Runs replacement text lookup (begin text options lookup (row_of rest) (lines_at text (row_of rest).past) m) new
+      (text : List ℕ) (options : Options) (lookup : Lookup) (m : model.Pass) → Runs replacement text options lookup m old →
+      Runs replacement text options lookup (begin text options lookup (row_of rest) (lines_at text (row_of rest).past) m) new
 
   -- the leaf was closed, and all that a line begins was begun
   abbrev pub BeginsAnew : LineRest → Pass E → Pass E → Type 0
   BeginsAnew rest old new =
-      (text : List ℕ) (options : Options) (lookup : Lookup) (m : model.Pass) → Runs replacement text lookup m old →
-      Runs replacement text lookup (begin text options lookup (row_of rest) (lines_at text (row_of rest).past) (leaf_closed text options lookup m)) new
+      (text : List ℕ) (options : Options) (lookup : Lookup) (m : model.Pass) → Runs replacement text options lookup m old →
+      Runs replacement text options lookup (begin text options lookup (row_of rest) (lines_at text (row_of rest).past) (leaf_closed text options lookup m)) new
 
   -- a line that lacks no prefix was fed to the open leaf
   abbrev pub FeedsLeaf : LineRest → Pass E → Pass E → Type 0
   FeedsLeaf rest old new =
-      (text : List ℕ) (options : Options) (lookup : Lookup) (m : model.Pass) → Runs replacement text lookup m old →
-      Runs replacement text lookup (leaf_fed text options lookup m.leaf (row_of rest) (lines_at text (row_of rest).past) m) new
+      (text : List ℕ) (options : Options) (lookup : Lookup) (m : model.Pass) → Runs replacement text options lookup m old →
+      Runs replacement text options lookup (leaf_fed text options lookup m.leaf (row_of rest) (lines_at text (row_of rest).past) m) new
 
   -- a lazy line was fed to the open leaf
   abbrev pub FeedsLazily : LineRest → Pass E → Pass E → Type 0
   FeedsLazily rest old new =
-      (text : List ℕ) (options : Options) (lookup : Lookup) (m : model.Pass) → Runs replacement text lookup m old →
-      Runs replacement text lookup (lazy_fed text options lookup m.leaf (row_of rest) m) new
+      (text : List ℕ) (options : Options) (lookup : Lookup) (m : model.Pass) → Runs replacement text options lookup m old →
+      Runs replacement text options lookup (lazy_fed text options lookup m.leaf (row_of rest) m) new

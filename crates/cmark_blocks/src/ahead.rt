@@ -13,7 +13,7 @@ use cmark_lines::{LineRest, interrupts, underlines};
 use cmark_text::EntityLookup;
 
 impl<'a, E: EntityLookup> Pass<'a, E> {
-    ghost use Rattle.cmark_blocks.specs.Ahead.{SeenInside, GoesOnWith};
+    ghost use Rattle.cmark_blocks.specs.Ahead.{SeenInside, SeesNext, GoesOnWith};
     ghost use Rattle.cmark_blocks.specs.Kept.{IsBehind};
 
     /// What all open containers leave of a line, if they keep it.
@@ -30,11 +30,12 @@ impl<'a, E: EntityLookup> Pass<'a, E> {
         Some(rest)
     }
 
-    /// The line behind this one, inside all open containers, if it goes on with a paragraph there.
-    pub(crate) fn text_ahead(&self, last: LineRest<'a>) -> Option<LineRest<'a>>
+    /// The line behind this one, inside all open containers, if there is one and they keep it.
+    #[inline]
+    pub(crate) fn line_ahead(&self, last: LineRest<'a>) -> Option<LineRest<'a>>
         requires bare { self.now.bare ≡ false }
         requires within { IsIn self.now.text.now last }
-        ensures next { GoesOnWith E.replacement self.now last.entry result }
+        ensures next { SeesNext E.replacement self.now last.entry result }
         ensures placed { IfSome result (IsIn self.now.text.now) }
         ensures told { IfSome result (λ rest. AreTold self.now.text.now (row_of rest).columns) }
         ensures further { IfSome result (λ rest. (row_of last.entry).past < (row_of rest).past) }
@@ -44,9 +45,19 @@ impl<'a, E: EntityLookup> Pass<'a, E> {
             return None;
         }
         let line = LineRest::new(self.text.as_bytes(), start);
-        let Some(rest) = self.inside(line) else {
-            return None;
-        };
+        self.inside(line)
+    }
+
+    /// The line behind this one, inside all open containers, if it goes on with a paragraph there.
+    pub(crate) fn text_ahead(&self, last: LineRest<'a>) -> Option<LineRest<'a>>
+        requires bare { self.now.bare ≡ false }
+        requires within { IsIn self.now.text.now last }
+        ensures next { GoesOnWith E.replacement self.now last.entry result }
+        ensures placed { IfSome result (IsIn self.now.text.now) }
+        ensures told { IfSome result (λ rest. AreTold self.now.text.now (row_of rest).columns) }
+        ensures further { IfSome result (λ rest. (row_of last.entry).past < (row_of rest).past) }
+    {
+        let rest = self.line_ahead(last)?;
         if is_text(rest) { Some(rest) } else { None }
     }
 }

@@ -19,7 +19,8 @@ fn takes_lazy(leaf: OpenLeaf<'_>) -> bool
         OpenLeaf::Closed
         | OpenLeaf::Indented(_, _)
         | OpenLeaf::Fenced(_, _, _, _)
-        | OpenLeaf::Html(_) => false,
+        | OpenLeaf::Html(_)
+        | OpenLeaf::Metadata(_, _) => false,
     }
 }
 
@@ -99,6 +100,7 @@ impl<'a, E: EntityLookup> Pass<'a, E> {
                 self.feed_fenced(mark, size, indent, waits, rest)
             }
             OpenLeaf::Html(kind) => self.feed_html(kind, rest),
+            OpenLeaf::Metadata(kind, waits) => self.feed_metadata(kind, waits, rest),
         }
     }
 
@@ -119,7 +121,8 @@ impl<'a, E: EntityLookup> Pass<'a, E> {
             OpenLeaf::Closed
             | OpenLeaf::Indented(_, _)
             | OpenLeaf::Fenced(_, _, _, _)
-            | OpenLeaf::Html(_) => Ok(()),
+            | OpenLeaf::Html(_)
+            | OpenLeaf::Metadata(_, _) => Ok(()),
         }
     }
 

@@ -62,18 +62,18 @@ impl<'a, E: EntityLookup> Pass<'a, E> {
 }
 
 /// The blocks of a text with the texts in them (CommonMark 3 to 5), and its link reference definitions, of which the first one of
-/// a label stands in the table. `entities` says what entity names stand for. No option has a rule of its own yet. The tree has at
-/// most four nodes a byte of the text. A line takes time in proportion to its bytes and to the containers around it. Fails only
-/// where memory is refused.
+/// a label stands in the table. `entities` says what entity names stand for. Of the options those for metadata blocks have rules
+/// here, the others none yet. The tree has at most four nodes a byte of the text. A line takes time in proportion to its bytes and
+/// to the containers around it. Fails only where memory is refused.
 pub fn run_first_pass<'a, E: EntityLookup>(
     alloc: Global,
     text: &'a str,
-    _options: Options,
+    options: Options,
     entities: &'a E,
 ) -> Result<FirstPass<'a>, AllocError>
-    ensures document { IfOk result (Leaves text.entry.now (shown_options _options) (E.replacement entities.entry.now)) }
+    ensures document { IfOk result (Leaves text.entry.now (shown_options options) (E.replacement entities.entry.now)) }
 {
-    let mut pass = Pass::new(alloc, text, entities)?;
+    let mut pass = Pass::new(alloc, text, options, entities)?;
     pass.feed_all()?;
     pass.close_everything()?;
     Ok(pass.finish())

@@ -60,7 +60,7 @@ impl<'a, E: EntityLookup> Pass<'a, E> {
         Ok(())
     }
 
-    /// Closes fenced code, or HTML, where the last line ended.
+    /// Closes fenced code, HTML or metadata where the last line ended.
     fn close_verbatim(&mut self, waits: Option<Stretch>) -> Result<(), AllocError>
         requires good { IsGood self.old }
         requires is { IsVerbatim self.old.leaf waits }
@@ -95,6 +95,7 @@ impl<'a, E: EntityLookup> Pass<'a, E> {
             OpenLeaf::Indented(waits, end) => self.close_indented(waits, end),
             OpenLeaf::Fenced(_, _, _, waits) => self.close_verbatim(waits),
             OpenLeaf::Html(_) => self.close_verbatim(None),
+            OpenLeaf::Metadata(_, waits) => self.close_verbatim(waits),
         }
     }
 }

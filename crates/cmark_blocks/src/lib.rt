@@ -14,6 +14,7 @@ mod gathered;
 mod html;
 mod leaf;
 mod line;
+mod metadata;
 mod paragraph;
 mod pass;
 mod prefixes;

@@ -120,6 +120,10 @@ impl<'a, E: EntityLookup> Pass<'a, E> {
         ensures leaf { IfOk result (λ entered. IfSome entered (λ inside. self.new.leaf ≡ leaf.Closed)) }
         ensures bare { IfOk result (λ entered. IfSome entered (λ inside. self.new.bare ≡ false)) }
     {
+        if let Some(kind) = self.metadata_begun(rest) {
+            self.begin_metadata(kind, rest)?;
+            return Ok(None);
+        }
         let opening = what_opens(rest);
         if let Opening::Nests(start) = opening {
             let item = self.begin_container(start, rest)?;

@@ -6,7 +6,7 @@ use crate::siblings::Siblings;
 use cmark_builder::Builder;
 use cmark_leaves::Stretch;
 use cmark_lines::{Container, HtmlKind, LineRest};
-use cmark_text::EntityLookup;
+use cmark_text::{EntityLookup, MetadataBlockKind, Options};
 use std::alloc::{AllocError, Global};
 
 /// The leaf that is open, if one is.
@@ -25,6 +25,8 @@ pub(crate) enum OpenLeaf<'a> {
     Fenced(u8, usize, usize, Option<Stretch>),
     /// HTML.
     Html(HtmlKind),
+    /// Metadata: its kind, and the stretch of the text that waits.
+    Metadata(MetadataBlockKind, Option<Stretch>),
 }
 
 /// An open container, with the siblings that it stands behind.
@@ -39,6 +41,7 @@ pub(crate) struct OpenContainer {
 pub(crate) struct Pass<'a, E> {
     pub alloc: Global,
     pub text: &'a str,
+    pub options: Options,
     pub entities: &'a E,
     /// The tree so far, and its tables.
     pub builder: Builder<'a>,
@@ -60,19 +63,22 @@ pub(crate) struct Pass<'a, E> {
 impl<'a, E: EntityLookup> Pass<'a, E> {
     ghost use Rattle.cmark_block_model.specs.OpenBlocks.{at_start};
     ghost use Rattle.cmark_blocks.specs.Runs.{Runs, IsGood};
+    ghost use Rattle.cmark_text.specs.Shown.{shown_options};
 
-    /// Before the first line of this text.
+    /// Before the first line of this text, of which these options say what is read.
     pub(crate) fn new(
         alloc: Global,
         text: &'a str,
+        options: Options,
         entities: &'a E,
     ) -> Result<Pass<'a, E>, AllocError>
         ensures good { IfOk result IsGood }
-        ensures runs { IfOk result (Runs E.replacement text.entry.now (E.replacement entities.entry.now) at_start) }
+        ensures runs { IfOk result (Runs E.replacement text.entry.now (shown_options options) (E.replacement entities.entry.now) at_start) }
     {
         Ok(Pass {
             alloc,
             text,
+            options,
             entities,
             builder: Builder::new(alloc)?,
             inner: Siblings::none(),

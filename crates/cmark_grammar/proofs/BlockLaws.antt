@@ -1,14 +1,49 @@
 -- The laws of openings and prefixes that the theorems on blocks use.
-use Rattle.std.proofs.Common.{◌≡◌, ◌≢◌, ◌⊎◌, inl, inr, ℕ, zero, suc, ◌≤◌, ◌<◌, Bool, true, false, ◌||◌, ◌&&◌, List, [], ◌∷◌, length, drop, refl, sym, ap, ◌∙◌, subst, arith, Option, Some, None, length-drop, true≢false, not}
-use Rattle.std.specs.Prelude.{if◌then◌else◌, nat_le, nat_lt}
-use Rattle.cmark_grammar.specs.Columns.{Column, without_indent}
-use Rattle.cmark_grammar.specs.Rows.{Row, without, lazy_row, is_bare, is_blank_line, indent_of, words_of}
+use Rattle.std.proofs.Common.{◌≡◌, ◌≢◌, ◌⊎◌, inl, inr, ℕ, zero, suc, ◌≤◌, ◌<◌, Bool, true, false, ◌||◌, ◌&&◌, List, [], ◌∷◌, length, drop, take_while, refl, sym, ap, ◌∙◌, subst, arith, Option, Some, None, length-drop, true≢false, not, ◌==◌}
+use Rattle.std.specs.Prelude.{if◌then◌else◌, cond, nat_le, nat_lt}
+use Rattle.std.proofs.lemmas.List.Sums.{take_while-cons}
+use Rattle.cmark_grammar.specs.Columns.{Column, is_blank_byte, is_blank, without_indent, bytes_of}
+use Rattle.cmark_grammar.specs.Letters.{starts}
+use Rattle.cmark_grammar.specs.Metadata.{metadata_of, metadata_if, metadata_kind, metadata_further, holds_metadata}
+use Rattle.cmark_grammar.specs.MetadataBlockKind.{MetadataBlockKind}
+use Rattle.cmark_grammar.specs.Rows.{Row, without, lazy_row, is_bare, is_blank_line, is_whole_line, indent_of, words_of}
 use Rattle.cmark_grammar.specs.Leaves.{Fence, Further, GoesOn, Closes, Waits, Stops, count_more, counted, underlines, is_thematic_break, is_atx_heading, run, fence_of, fence_further, code_further}
 use Rattle.cmark_grammar.specs.Containers.{Container, Quote, Item, Marker, marker_of, delimited, digits, is_bullet, is_delimiter, number_of, item_with, width_with, container_with, container_of, item_of, is_quote, quote_width, width_of, enter, keep_as, keeps, strip_as, strip}
 use Rattle.cmark_grammar.specs.HtmlBlocks.{html_kind, holds_end, html_further}
 use Rattle.cmark_grammar.specs.LinkDefinitions.{Defined, definition_in, bytes_over}
-use Rattle.cmark_grammar.specs.Openings.{Leaf, IndentedCode, Opening, Blank, Nests, Takes, Plain, or_else, nests_if, fenced_if, leaf_of, whole_opens, opens, texts, lazily, html_if, break_if, heading_if, text_lines, defined_if, put_if, definition_of, is_none}
+use Rattle.cmark_grammar.specs.Openings.{Leaf, IndentedCode, MetadataBlock, Opening, Blank, Nests, Takes, Plain, or_else, nests_if, fenced_if, metadata_begun, leaf_of, whole_opens, opens, texts, lazily, html_if, break_if, heading_if, text_lines, defined_if, put_if, definition_of, is_none}
 use Rattle.cmark_grammar.specs.Options.{Options}
+
+-- blanks begin with no other byte
+blank-starts : (cs : List Column) (b : ℕ) (mark : List ℕ) → is_blank_byte b ≡ false → is_bare (without_indent cs) ≡ true → starts (b ∷ mark) (bytes_of cs) ≡ false
+blank-starts [] b mark other bare = refl
+blank-starts (c ∷ cs) b mark other bare = go (is_blank c) refl bare (λ inside. blank-starts cs b mark other inside)
+  where
+    differs : (z : Bool) → (c.byte == b) ≡ z → is_blank c ≡ true → (c.byte == b) ≡ false
+    differs false e blank = e
+    differs true e blank = let same : c.byte ≡ b = grind (arith, e) in absurd (true≢false (sym blank ∙ ap is_blank_byte same ∙ other))
+
+    begins : (z : Bool) → (c.part == 0) ≡ z → is_blank c ≡ true → starts (b ∷ mark) (bytes_of cs) ≡ false → starts (b ∷ mark) (if z then c.byte ∷ bytes_of cs else bytes_of cs) ≡ false
+    begins true e blank ih = rw (differs (c.byte == b) refl blank) refl
+    begins false e blank ih = ih
+
+    front : (z : Bool) → is_blank c ≡ z → without_indent (c ∷ cs) ≡ drop (length (cond z (c ∷ take_while is_blank cs) [])) (c ∷ cs)
+    front z e = ap (λ n. drop n (c ∷ cs)) (ap length (take_while-cons is_blank c cs ∙ ap (λ z. cond z (c ∷ take_while is_blank cs) []) e))
+
+    go : (z : Bool) → is_blank c ≡ z → is_bare (without_indent (c ∷ cs)) ≡ true → (is_bare (without_indent cs) ≡ true → starts (b ∷ mark) (bytes_of cs) ≡ false) → starts (b ∷ mark) (bytes_of (c ∷ cs)) ≡ false
+    go true e bare ih = begins (c.part == 0) refl e (ih (ap is_bare (sym (front true e)) ∙ bare))
+    go false e bare ih = absurd (true≢false (sym bare ∙ ap is_bare (front false e)))
+
+-- a blank line begins no metadata
+pub no_metadata : (options : Options) (r : Row) → is_blank_line r ≡ true → metadata_kind options r ≡ None
+no_metadata options r blank = go (is_whole_line r)
+  where
+    none : metadata_of (bytes_of r.columns) ≡ None
+    none = rw (blank-starts r.columns 45 (45 ∷ 45 ∷ []) refl blank, blank-starts r.columns 43 (43 ∷ 43 ∷ []) refl blank) refl
+
+    go : (z : Bool) → (if z then metadata_if options (metadata_of (bytes_of r.columns)) else None) ≡ None
+    go true = ap (metadata_if options) none
+    go false = refl
 
 module _ (options : Options) where
   pub opens-lazy : (r : Row) (ahead : List Row) → r.lazy ≡ true → opens options r ahead ≡ Plain
@@ -102,13 +137,22 @@ module _ (options : Options) where
       (fits_or (fenced_if (fence_of (indent_of r) (words_of r)) ahead) (definition_of options r ahead) ahead (fits_fenced (fence_of (indent_of r) (words_of r)) ahead)
       (fits_defined (length (text_lines options ahead)) (definition_in (bytes_over r (text_lines options ahead))) ahead (text_lines-len ahead)))))
 
+  fits_metadata : (o : Option MetadataBlockKind) (ahead : List Row) → Fits (metadata_begun o ahead) ahead
+  fits_metadata None ahead = tt
+  fits_metadata (Some kind) ahead = go (holds_metadata kind ahead)
+    where
+      go : (z : Bool) → Fits (if z then Takes (MetadataBlock kind) (counted (metadata_further kind) ahead) else Plain) ahead
+      go true = counted-len (metadata_further kind) ahead
+      go false = tt
+
   fits_opens : (r : Row) (ahead : List Row) → Fits (opens options r ahead) ahead
   unfolding opens
   fits_opens r ahead =
-      fits_if r.lazy Plain (whole_opens options r ahead) ahead tt
+      fits_if r.lazy Plain _ ahead tt
+      (fits_or (metadata_begun (metadata_kind options r) ahead) (whole_opens options r ahead) ahead (fits_metadata (metadata_kind options r) ahead)
       (fits_if (is_blank_line r) Blank _ ahead tt
       (fits_if (nat_le 4 (indent_of r)) (Takes IndentedCode (counted code_further ahead)) _ ahead (counted-len code_further ahead)
-      (fits_or (nests_if (container_of r)) (leaf_of options r ahead) ahead (fits_nests (container_of r) ahead) (fits_leaf r ahead))))
+      (fits_or (nests_if (container_of r)) (leaf_of options r ahead) ahead (fits_nests (container_of r) ahead) (fits_leaf r ahead)))))
 
   pub opens-len : (r : Row) (ahead : List Row) (leaf : Leaf) (n : ℕ) → opens options r ahead ≡ Takes leaf n → n ≤ length ahead
   opens-len r ahead leaf n e = subst (λ o. Fits o ahead) e (fits_opens r ahead)
@@ -200,23 +244,36 @@ module _ (options : Options) where
       (wide_or r (fenced_if (fence_of (indent_of r) (words_of r)) ahead) (definition_of options r ahead) (wide_fenced r (fence_of (indent_of r) (words_of r)) ahead)
       (wide_defined r (length (text_lines options ahead)) (definition_in (bytes_over r (text_lines options ahead)))))))
 
+  wide_metadata : (r : Row) (o : Option MetadataBlockKind) (ahead : List Row) → IsWide r (metadata_begun o ahead)
+  wide_metadata r None ahead = tt
+  wide_metadata r (Some kind) ahead = go (holds_metadata kind ahead)
+    where
+      go : (z : Bool) → IsWide r (if z then Takes (MetadataBlock kind) (counted (metadata_further kind) ahead) else Plain)
+      go true = tt
+      go false = tt
+
   pub wide_opens : (r : Row) (ahead : List Row) → IsWide r (opens options r ahead)
   unfolding opens
   wide_opens r ahead =
-      wide_if r r.lazy Plain (whole_opens options r ahead) tt
+      wide_if r r.lazy Plain _ tt
+      (wide_or r (metadata_begun (metadata_kind options r) ahead) (whole_opens options r ahead) (wide_metadata r (metadata_kind options r) ahead)
       (wide_if r (is_blank_line r) Blank _ tt
       (wide_if r (nat_le 4 (indent_of r)) (Takes IndentedCode (counted code_further ahead)) _ tt
-      (wide_or r (nests_if (container_of r)) (leaf_of options r ahead) (wide_nests r (container_of r) (container-wide (item_of r) (is_quote r) r (item-wide (marker_of (words_of r)) r (marker-size (words_of r))))) (wide_leaf r ahead))))
+      (wide_or r (nests_if (container_of r)) (leaf_of options r ahead) (wide_nests r (container_of r) (container-wide (item_of r) (is_quote r) r (item-wide (marker_of (words_of r)) r (marker-size (words_of r))))) (wide_leaf r ahead)))))
 
   opens-some : (r : Row) (ahead : List Row) (k : Container) → opens options r ahead ≡ Nests k → 0 < length r.columns
   unfolding opens
   opens-some r ahead k e = go r.columns r.lazy refl refl
     where
+      whole : Opening
+      whole = or_else (metadata_begun (metadata_kind options r) ahead) (whole_opens options r ahead)
+
       go : (cs : List Column) (z : Bool) → r.columns ≡ cs → r.lazy ≡ z → 0 < length r.columns
       go (c ∷ cs) z ec ez = let n : length r.columns ≡ suc (length cs) = ap length ec in omega (arith, n)
-      go [] true ec ez = let q : Plain ≡ Nests k = sym (ap (λ b. if b then Plain else whole_opens options r ahead) ez) ∙ e in cc
+      go [] true ec ez = let q : Plain ≡ Nests k = sym (ap (λ b. if b then Plain else whole) ez) ∙ e in cc
       go [] false ec ez =
-          let p : whole_opens options r ahead ≡ Nests k = sym (ap (λ b. if b then Plain else whole_opens options r ahead) ez) ∙ e in
+          let none : metadata_kind options r ≡ None = no_metadata options r (ap (λ cs. is_bare (without_indent cs)) ec) in
+          let p : whole_opens options r ahead ≡ Nests k = sym (ap (λ b. if b then Plain else whole) ez ∙ ap (λ o. or_else (metadata_begun o ahead) (whole_opens options r ahead)) none) ∙ e in
           let q : Blank ≡ Nests k = sym (ap (λ cs. if is_bare (without_indent cs) then Blank else if nat_le 4 (indent_of r) then Takes IndentedCode (counted code_further ahead) else or_else (nests_if (container_of r)) (leaf_of options r ahead)) ec) ∙ p in cc
 
   -- inside a container a first line has fewer columns
@@ -269,7 +326,7 @@ module _ (options : Options) where
   strip-still k bare r e = ap (λ s. s.lazy) (strip_lazy k bare r (keeps-lazy k bare r e))
 
   pub lazy-same : (r : Row) → r.lazy ≡ true → lazy_row r ≡ r
-  lazy-same r e = ap (λ z. record { columns = r.columns; stop = r.stop; past = r.past; lazy = z }) (sym e)
+  lazy-same r e = ap (λ z. record { columns = r.columns; at = r.at; stop = r.stop; past = r.past; lazy = z }) (sym e)
 
   -- a lazy line looks at nothing ahead
   pub texts-lazy : (r : Row) (x y : List Row) → r.lazy ≡ true → texts options r x ≡ texts options r y
@@ -303,7 +360,7 @@ module _ (options : Options) where
     where
       go : (z : Bool) → is_blank_line r ≡ z → is_blank_line r ≡ false
       go false e = e
-      go true e = absurd (ne (rw (w, e) refl))
+      go true e = absurd (ne (rw (w, no_metadata options r e, e) refl))
 
   pub texts-words : (r : Row) (ahead : List Row) → texts options r ahead ≡ true → is_blank_line r ≡ false
   unfolding texts

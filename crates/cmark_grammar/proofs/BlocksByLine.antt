@@ -6,13 +6,15 @@ use Rattle.cmark_grammar.specs.Rows.{Row, rows, shown, show_as, words_of, is_bla
 use Rattle.cmark_grammar.specs.Leaves.{Fence, Further, GoesOn, Closes, Waits, Stops, count_more, counted, underlines, is_thematic_break, is_atx_heading, run, fence_of, code_further, fence_further, closes_fence}
 use Rattle.cmark_grammar.specs.HtmlBlocks.{html_kind, holds_end, html_further}
 use Rattle.cmark_grammar.specs.LinkDefinitions.{Defined, definition_in, bytes_over}
+use Rattle.cmark_grammar.specs.Metadata.{metadata_kind, metadata_further, holds_metadata, ends_metadata}
+use Rattle.cmark_grammar.specs.MetadataBlockKind.{MetadataBlockKind}
 use Rattle.cmark_grammar.specs.Containers.{Container, enter, keeps, strip, is_bare_start, bare_after, container_of}
-use Rattle.cmark_grammar.specs.Openings.{Leaf, ThematicBreak, AtxHeading, IndentedCode, FencedCode, HtmlBlock, LinkDefinition, Opening, Blank, Nests, Takes, Plain, or_else, nests_if, fenced_if, html_if, break_if, heading_if, text_lines, defined_if, definition_of, leaf_of, whole_opens, opens, texts, lazily}
+use Rattle.cmark_grammar.specs.Openings.{Leaf, ThematicBreak, AtxHeading, IndentedCode, FencedCode, HtmlBlock, LinkDefinition, MetadataBlock, Opening, Blank, Nests, Takes, Plain, or_else, nests_if, fenced_if, metadata_begun, html_if, break_if, heading_if, text_lines, defined_if, definition_of, leaf_of, whole_opens, opens, texts, lazily}
 use Rattle.cmark_grammar.specs.Blocks.{Blocks, Nil, BlankLine, Paragraph, SetextHeading, LeafBlock, ContainerBlock, join, may_lazy}
 use Rattle.cmark_grammar.specs.BlocksModel.{Open, Between as IsBetween, InParagraph as IsInParagraph, InLeaf as IsInLeaf, InContainer as IsInContainer, close, takes_lazy, within, begin_as, begin_in, begin, underline_or, goes_on_or, kept_or, feed, feed_all, blocks}
-use Rattle.cmark_grammar.specs.BlocksByLine.{Verbatim, Indented, Fenced, HtmlLines, leaf_in, further_in, further_if, OpenLines, Between, InParagraph, InLeaf, InVerbatim, InContainer, blank_lines, close_lines, lines_take_lazy, html_begun, leaf_begun, lines_begin_as, lines_underline_or, lines_go_on_or, lines_kept_or, verbatim_line, lines_begin_in, lines_begin, lines_feed, lines_feed_all, blocks_by_line}
+use Rattle.cmark_grammar.specs.BlocksByLine.{Verbatim, Indented, Fenced, HtmlLines, Metadata, leaf_in, further_in, further_if, OpenLines, Between, InParagraph, InLeaf, InVerbatim, InContainer, blank_lines, close_lines, lines_take_lazy, html_begun, leaf_begun, lines_begin_as, lines_underline_or, lines_go_on_or, lines_kept_or, verbatim_line, lines_begin_in, lines_begin, lines_feed, lines_feed_all, blocks_by_line}
 use Rattle.cmark_grammar.proofs.BlocksSound.{join_assoc, join-Nil, within_row, bare_push}
-use Rattle.cmark_grammar.proofs.BlockLaws.{strip_lazy}
+use Rattle.cmark_grammar.proofs.BlockLaws.{no_metadata, strip_lazy}
 
 -- what a leaf's lines that have waited are, when so many of the lines ahead belong to it
 abbrev pub waited : Blocks → Leaf → Row → (had waiting : List Row) → ℕ → Open
@@ -32,6 +34,7 @@ never_lazy : (verbatim : Verbatim) → may_lazy (leaf_in verbatim) ≡ false
 never_lazy Indented = refl
 never_lazy (Fenced fence) = refl
 never_lazy (HtmlLines kind) = refl
+never_lazy (Metadata kind) = refl
 
 seen_lazy : (o : OpenLines) (ahead : List Row) → takes_lazy (seen o ahead) ≡ lines_take_lazy o
 seen_lazy (Between closed) ahead = refl
@@ -78,6 +81,7 @@ Counts r ahead (Takes IndentedCode n) = n ≡ counted code_further ahead
 Counts r ahead (Takes (FencedCode fence) n) = n ≡ counted (fence_further fence) ahead
 Counts r ahead (Takes (HtmlBlock kind) n) = n ≡ (if nat_le kind 5 && holds_end kind (words_of r) then 0 else counted (html_further kind) ahead)
 Counts r ahead (Takes (LinkDefinition definition) n) = Unit {0}
+Counts r ahead (Takes (MetadataBlock kind) n) = n ≡ counted (metadata_further kind) ahead
 
 counts_if : (r : Row) (ahead : List Row) (b : Bool) (x y : Opening) → Counts r ahead x → Counts r ahead y → Counts r ahead (if b then x else y)
 counts_if r ahead true x y p q = p
@@ -113,6 +117,14 @@ counts_defined : (r : Row) (ahead : List Row) (lines : ℕ) (o : Option Defined)
 counts_defined r ahead lines (Some found) = tt
 counts_defined r ahead lines None = tt
 
+counts_metadata : (r : Row) (ahead : List Row) (o : Option MetadataBlockKind) → Counts r ahead (metadata_begun o ahead)
+counts_metadata r ahead None = tt
+counts_metadata r ahead (Some kind) = go (holds_metadata kind ahead)
+  where
+    go : (z : Bool) → Counts r ahead (if z then Takes (MetadataBlock kind) (counted (metadata_further kind) ahead) else Plain)
+    go true = refl
+    go false = tt
+
 module _ (options : Options) where
   counts_leaf : (r : Row) (ahead : List Row) → Counts r ahead (leaf_of options r ahead)
   counts_leaf r ahead =
@@ -125,10 +137,11 @@ module _ (options : Options) where
   counts_opens : (r : Row) (ahead : List Row) → Counts r ahead (opens options r ahead)
   unfolding opens
   counts_opens r ahead =
-      counts_if r ahead r.lazy Plain (whole_opens options r ahead) tt
+      counts_if r ahead r.lazy Plain _ tt
+      (counts_or r ahead (metadata_begun (metadata_kind options r) ahead) (whole_opens options r ahead) (counts_metadata r ahead (metadata_kind options r))
       (counts_if r ahead (is_blank_line r) Blank _ tt
       (counts_if r ahead (nat_le 4 (indent_of r)) (Takes IndentedCode (counted code_further ahead)) _ refl
-      (counts_or r ahead (nests_if (container_of r)) (leaf_of options r ahead) (counts_nests r ahead (container_of r)) (counts_leaf r ahead))))
+      (counts_or r ahead (nests_if (container_of r)) (leaf_of options r ahead) (counts_nests r ahead (container_of r)) (counts_leaf r ahead)))))
 
   -- a line that waits is blank
   waits_blank : (verbatim : Verbatim) (r : Row) (ahead : List Row) → further_if r.lazy verbatim r ≡ Waits → opens options r ahead ≡ Blank
@@ -157,10 +170,11 @@ module _ (options : Options) where
       blank Indented f = indented (is_blank_line r) refl f
       blank (Fenced fence) f = fenced (closes_fence fence r) f
       blank (HtmlLines kind) f = html _ _ _ f
+      blank (Metadata kind) f = fenced (ends_metadata kind r) f
 
-      go : (z : Bool) → r.lazy ≡ z → further_if z verbatim r ≡ Waits → (if r.lazy then Plain else whole_opens options r ahead) ≡ Blank
+      go : (z : Bool) → r.lazy ≡ z → further_if z verbatim r ≡ Waits → (if r.lazy then Plain else or_else (metadata_begun (metadata_kind options r) ahead) (whole_opens options r ahead)) ≡ Blank
       go true l f = cc
-      go false l f = rw (l, blank verbatim f) refl
+      go false l f = rw (l, no_metadata options r (blank verbatim f), blank verbatim f) refl
 
   begin_blank : (closed : Blocks) (r : Row) (ahead : List Row) → opens options r ahead ≡ Blank → begin options closed r ahead ≡ IsBetween (join closed (BlankLine r Nil))
   unfolding begin
@@ -181,6 +195,7 @@ module _ (options : Options) where
       leaf (FencedCode fence) m c = ap (IsInLeaf closed (FencedCode fence) r []) (sym c)
       leaf (HtmlBlock kind) m c = html kind (nat_le kind 5 && holds_end kind (words_of r)) ∙ ap (IsInLeaf closed (HtmlBlock kind) r []) (sym c)
       leaf (LinkDefinition definition) m c = refl
+      leaf (MetadataBlock kind) m c = ap (IsInLeaf closed (MetadataBlock kind) r []) (sym c)
 
       go : (o : Opening) → Counts r ahead o → ((k : Container) → seen (lines_begin_in options n Nil (enter k r) (within k (is_bare_start k r) ahead)) (within k (is_bare_start k r) ahead) ≡ begin_in options n Nil (enter k r) (within k (is_bare_start k r) ahead)) → seen (lines_begin_as o (λ k. lines_begin_in options n Nil (enter k r) (within k (is_bare_start k r) ahead)) closed r) ahead ≡ begin_as o (λ k. begin_in options n Nil (enter k r) (within k (is_bare_start k r) ahead)) closed r
       go Blank c ih = refl

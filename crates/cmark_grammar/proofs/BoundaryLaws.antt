@@ -9,16 +9,18 @@ use Rattle.cmark_grammar.specs.Lines.{lines, ends_line, onto, content, is_conten
 use Rattle.cmark_grammar.specs.Columns.{Column, tab, expand, tab_columns, to_tab_stop}
 use Rattle.cmark_grammar.specs.Rows.{Row, rows, rows_from, row_at, begin_of, past_of}
 use Rattle.cmark_grammar.specs.Containers.{Quote, Item, is_bare_start, insides}
-use Rattle.cmark_grammar.specs.Openings.{Leaf, ThematicBreak as ThematicBreakLeaf, AtxHeading as AtxHeadingLeaf, IndentedCode as IndentedCodeLeaf, FencedCode as FencedCodeLeaf, HtmlBlock as HtmlBlockLeaf, LinkDefinition as LinkDefinitionLeaf}
+use Rattle.cmark_grammar.specs.Openings.{Leaf, ThematicBreak as ThematicBreakLeaf, AtxHeading as AtxHeadingLeaf, IndentedCode as IndentedCodeLeaf, FencedCode as FencedCodeLeaf, HtmlBlock as HtmlBlockLeaf, LinkDefinition as LinkDefinitionLeaf, MetadataBlock as MetadataBlockLeaf}
 use Rattle.cmark_grammar.specs.Blocks.{Blocks, Nil as NoBlocks, BlankLine, Paragraph as ParagraphBlock, SetextHeading, LeafBlock, ContainerBlock, may_lazy, Body}
 use Rattle.cmark_grammar.specs.Lists.{ListBefore, tight_behind, goes_on}
-use Rattle.cmark_grammar.specs.Tokens.{fenced_lines}
+use Rattle.cmark_grammar.specs.Tokens.{fenced_lines, lines_before}
 use Rattle.cmark_grammar.specs.BlockDocument.{ListItem, BlockNode, BlockDocument, Nil, Node, node}
 use Rattle.cmark_grammar.specs.Derivation.{leaf_then, item_then, document_of, Derives}
 use Rattle.cmark_grammar.specs.Ranges.{AllAt}
+use Rattle.cmark_grammar.specs.Metadata.{ends_metadata}
+use Rattle.cmark_grammar.specs.Leaves.{closes_fence}
 use Rattle.cmark_grammar.proofs.RowPlaces.{Runs, expand-Runs, first_place-Runs}
 use Rattle.cmark_grammar.proofs.RowEdges.{is-ascii, AreGood, GoodRow, GoodRows, LeafFront, leaf-front, start-E, enter-good, strips-good, split-good}
-use Rattle.cmark_grammar.proofs.TokenEdges.{paragraph-edged, heading-edged, code-edged, code_place-edge, fenced-good, html-edged}
+use Rattle.cmark_grammar.proofs.TokenEdges.{paragraph-edged, heading-edged, code-edged, code_place-edge, before-good, html-edged}
 
 module _ (E : ℕ → Type 0) where
   past-edge : (first : Row) (more : List Row) → GoodRow E first → GoodRows E more → E (past_of first more)
@@ -34,9 +36,10 @@ module _ (E : ℕ → Type 0) where
   leaf-edged text lookup ThematicBreakLeaf first more after g gs f a = (start-E E first g, past-edge first more g gs, tt, a)
   leaf-edged text lookup (AtxHeadingLeaf level) first more after g gs f a = (start-E E first g, past-edge first more g gs, heading-edged E text level first g f, a)
   leaf-edged text lookup IndentedCodeLeaf first more after g gs f a = (code_place-edge E 4 first g, past-edge first more g gs, code-edged E text 4 (first ∷ more) (g, gs), a)
-  leaf-edged text lookup (FencedCodeLeaf fence) first more after g gs f a = (start-E E first g, past-edge first more g gs, code-edged E text fence.indented (fenced_lines fence more) (fenced-good E fence more gs), a)
+  leaf-edged text lookup (FencedCodeLeaf fence) first more after g gs f a = (start-E E first g, past-edge first more g gs, code-edged E text fence.indented (fenced_lines fence more) (before-good E (closes_fence fence) more gs), a)
   leaf-edged text lookup (HtmlBlockLeaf kind) first more after g gs f a = (g.begin, past-edge first more g gs, html-edged E text (first ∷ more) (g, gs), a)
   leaf-edged text lookup (LinkDefinitionLeaf definition) first more after g gs f a = (start-E E first g, past-edge first more g gs, tt, a)
+  leaf-edged text lookup (MetadataBlockLeaf kind) first more after g gs f a = (start-E E first g, past-edge first more g gs, code-edged E text 0 (lines_before (ends_metadata kind) more) (before-good E (ends_metadata kind) more gs), a)
 
   document-edged : (text : List ℕ) (options : Options) (lookup : Lookup) (direct : Bool) (before : Option ListBefore) (behind : Bool) (all : List Row) (b : Blocks) → Body options behind all b → GoodRows E all → AllAt E (document_of text lookup direct before b)
   document-edged text options lookup direct before behind all NoBlocks body g = tt

@@ -7,15 +7,16 @@ use Rattle.cmark_grammar.specs.Options.{Options}
 use Rattle.cmark_grammar.specs.Lines.{lines, ends_line, onto, content}
 use Rattle.cmark_grammar.specs.Columns.{Column, tab, expand, tab_columns, to_tab_stop, indent, without_indent, is_blank, without_trailing_blanks}
 use Rattle.cmark_grammar.specs.Rows.{Row, rows, rows_from, without, place, first_place, begin_of, start_of, past_of, is_bare, is_blank_line}
-use Rattle.cmark_grammar.specs.Leaves.{Fence, closes_fence}
+use Rattle.cmark_grammar.specs.Leaves.{closes_fence}
 use Rattle.cmark_grammar.specs.Containers.{Container, Quote, Item, keeps, strip_as, strip, strips, enter, width_of, is_bare_start, insides}
-use Rattle.cmark_grammar.specs.Openings.{Leaf, ThematicBreak as ThematicBreakLeaf, AtxHeading as AtxHeadingLeaf, IndentedCode as IndentedCodeLeaf, FencedCode as FencedCodeLeaf, HtmlBlock as HtmlBlockLeaf, LinkDefinition as LinkDefinitionLeaf, Blank, Nests, Takes, Plain, opens}
+use Rattle.cmark_grammar.specs.Openings.{Leaf, ThematicBreak as ThematicBreakLeaf, AtxHeading as AtxHeadingLeaf, IndentedCode as IndentedCodeLeaf, FencedCode as FencedCodeLeaf, HtmlBlock as HtmlBlockLeaf, LinkDefinition as LinkDefinitionLeaf, MetadataBlock as MetadataBlockLeaf, Blank, Nests, Takes, Plain, opens}
 use Rattle.cmark_grammar.specs.Blocks.{Blocks, Nil as NoBlocks, BlankLine, Paragraph as ParagraphBlock, SetextHeading, LeafBlock, ContainerBlock, MayBegin, Body, may_lazy}
 use Rattle.cmark_grammar.specs.Lists.{ListBefore, tight_behind, goes_on}
 use Rattle.cmark_grammar.specs.BlockDocument.{ListItem, BlockNode, BlockDocument, Nil, Node, node}
 use Rattle.cmark_grammar.specs.Derivation.{leaf_then, item_then, document_of, Derives}
 use Rattle.cmark_grammar.specs.Ranges.{count_nodes}
-use Rattle.cmark_grammar.specs.Tokens.{Piece, texts_then, line_columns, words_end, stretch_then, stretches, paragraph_tokens, heading_columns, heading_tokens, piece_if, plain_line, left_columns, spaces_if, verbatim_line, touches, merge, merge_all, code_columns, code_pieces, stop_at, fenced_lines, html_then, html_tokens, slice, end_place}
+use Rattle.cmark_grammar.specs.Tokens.{Piece, texts_then, line_columns, words_end, stretch_then, stretches, paragraph_tokens, heading_columns, heading_tokens, piece_if, plain_line, left_columns, spaces_if, verbatim_line, touches, merge, merge_all, code_columns, code_pieces, stop_at, fenced_lines, html_then, html_tokens, slice, end_place, lines_before}
+use Rattle.cmark_grammar.specs.Metadata.{ends_metadata}
 use Rattle.cmark_grammar.proofs.BlockLaws.{opens-whole, opens-words, texts-words, IsWide, wide_opens}
 use Rattle.cmark_grammar.proofs.RowPlaces.{Runs, Runs-le, first_place-Runs, drop-Runs, drop-mono, Lies, begin-start, start-Runs, start-stop, Lies-without, strip-Lies, kept-without, strip-past, Along, text-Along}
 use Rattle.cmark_grammar.proofs.TokenRanges.{UpTo, up-more, end_place-Runs, line-UpTo, drop_end-UpTo, without_closing-UpTo}
@@ -230,11 +231,11 @@ code-count text most from (r ∷ rs) to f =
     let ih = code-count text most r.past rs to f.2 in
     omega (arith, a, b, c, ih)
 
-fenced-fed : (fence : Fence) (from : ℕ) (rs : List Row) (to : ℕ) → Fed from rs to → Fed from (fenced_lines fence rs) to
-fenced-fed fence from [] to f = f
-fenced-fed fence from (r ∷ rs) to f = go (closes_fence fence r) (fenced-fed fence r.past rs to f.2)
+before-fed : (closes : Row → Bool) (from : ℕ) (rs : List Row) (to : ℕ) → Fed from rs to → Fed from (lines_before closes rs) to
+before-fed closes from [] to f = f
+before-fed closes from (r ∷ rs) to f = go (closes r) (before-fed closes r.past rs to f.2)
   where
-    go : (z : Bool) → Fed r.past (fenced_lines fence rs) to → Fed from (stop_at z r (fenced_lines fence rs)) to
+    go : (z : Bool) → Fed r.past (lines_before closes rs) to → Fed from (stop_at z r (lines_before closes rs)) to
     go true ih = fed-le from (r ∷ rs) to f
     go false ih = (f.0, f.1, ih)
 
@@ -286,7 +287,7 @@ leaf-count text lookup from leaf first more after s e f = go leaf
         let t = texts-count (code_pieces text 4 (first ∷ more)) Nil in
         omega (arith, low, some, high, b, c, d, t)
     go (FencedCodeLeaf fence) =
-        let d = code-count text fence.indented first.past (fenced_lines fence more) (past_of first more) (fenced-fed fence first.past more (past_of first more) f) in
+        let d = code-count text fence.indented first.past (fenced_lines fence more) (past_of first more) (before-fed (closes_fence fence) first.past more (past_of first more) f) in
         let t = texts-count (code_pieces text fence.indented (fenced_lines fence more)) Nil in
         omega (arith, low, some, high, d, t)
     go (HtmlBlockLeaf kind) =
@@ -295,6 +296,10 @@ leaf-count text lookup from leaf first more after s e f = go leaf
         let d = html-count text first.past more (past_of first more) f in
         omega (arith, low, some, high, b, c, d)
     go (LinkDefinitionLeaf definition) = omega (arith, low, some, high, up)
+    go (MetadataBlockLeaf kind) =
+        let d = code-count text 0 first.past (lines_before (ends_metadata kind) more) (past_of first more) (before-fed (ends_metadata kind) first.past more (past_of first more) f) in
+        let t = texts-count (code_pieces text 0 (lines_before (ends_metadata kind) more)) Nil in
+        omega (arith, low, some, high, d, t)
 
 item-count : (joins : Bool) (number : Option ℕ) (tight : Bool) (item : BlockNode) (inside after : BlockDocument) → count_nodes (item_then joins number tight item inside after) ≤ 2 + (count_nodes inside + count_nodes after)
 item-count false number tight item inside after = omega arith

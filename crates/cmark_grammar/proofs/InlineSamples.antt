@@ -14,7 +14,7 @@ use Rattle.cmark_grammar.specs.InlineTokens.{token}
 use Rattle.cmark_grammar.specs.Items.{ItemKind, Plain, Own, Code, InlineMath, DisplayMath, Autolink, Html, OwnedHtml, SoftBreak, HardBreak, Bracket, Token, Stands}
 use Rattle.cmark_grammar.specs.LeafText.{Stretch, Leaf}
 use Rattle.cmark_grammar.specs.Options.{Options, no_options}
-use Rattle.cmark_grammar.specs.Parts.{Formed, Linking, Footnote, Wiki}
+use Rattle.cmark_grammar.specs.Parts.{Linking, Footnote, Wiki}
 use Rattle.cmark_grammar.specs.Readers.{Reader}
 
 abbrev math : Options

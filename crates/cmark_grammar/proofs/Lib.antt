@@ -18,6 +18,7 @@ pub mod HtmlSamples
 pub mod InlineSamples
 pub mod LeafSpanLaws
 pub mod LineSteps
+pub mod MetadataBlockSamples
 pub mod NotDerived
 pub mod QuoteSamples
 pub mod RangeLaws

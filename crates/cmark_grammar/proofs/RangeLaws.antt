@@ -5,15 +5,17 @@ use Rattle.cmark_grammar.specs.Options.{Options}
 use Rattle.cmark_grammar.specs.Columns.{indent}
 use Rattle.cmark_grammar.specs.Rows.{Row, rows, first_place, begin_of, start_of, past_of}
 use Rattle.cmark_grammar.specs.Containers.{Container, Quote, Item, enter, quote_width, one_blank, strips, is_bare_start, insides}
-use Rattle.cmark_grammar.specs.Openings.{Leaf, ThematicBreak as ThematicBreakLeaf, AtxHeading as AtxHeadingLeaf, IndentedCode as IndentedCodeLeaf, FencedCode as FencedCodeLeaf, HtmlBlock as HtmlBlockLeaf, LinkDefinition as LinkDefinitionLeaf}
+use Rattle.cmark_grammar.specs.Openings.{Leaf, ThematicBreak as ThematicBreakLeaf, AtxHeading as AtxHeadingLeaf, IndentedCode as IndentedCodeLeaf, FencedCode as FencedCodeLeaf, HtmlBlock as HtmlBlockLeaf, LinkDefinition as LinkDefinitionLeaf, MetadataBlock as MetadataBlockLeaf}
 use Rattle.cmark_grammar.specs.Blocks.{Blocks, Nil as NoBlocks, BlankLine, Paragraph as ParagraphBlock, SetextHeading, LeafBlock, ContainerBlock, may_lazy, Body}
 use Rattle.cmark_grammar.specs.Lists.{ListBefore, tight_behind, goes_on}
-use Rattle.cmark_grammar.specs.Tokens.{fenced_lines, paragraph_tokens, code_tokens, code_columns}
+use Rattle.cmark_grammar.specs.Tokens.{fenced_lines, paragraph_tokens, code_tokens, code_columns, lines_before}
 use Rattle.cmark_grammar.specs.BlockDocument.{ListItem, BlockNode, BlockDocument, Nil, Node, node}
 use Rattle.cmark_grammar.specs.Derivation.{leaf_then, item_then, document_of, Derives}
 use Rattle.cmark_grammar.specs.Ranges.{InOrder}
+use Rattle.cmark_grammar.specs.Metadata.{ends_metadata}
+use Rattle.cmark_grammar.specs.Leaves.{closes_fence}
 use Rattle.cmark_grammar.proofs.RowPlaces.{drop-mono, Lies, begin-start, start-stop, Lies-without, Along, Along-split, Along-le, strips-Along, text-Along}
-use Rattle.cmark_grammar.proofs.TokenRanges.{InOrder-lower, InOrder-upper, paragraph-order, heading-order, code-order, code_place, indented-order, fenced-Along, html-order}
+use Rattle.cmark_grammar.proofs.TokenRanges.{InOrder-lower, InOrder-upper, paragraph-order, heading-order, code-order, code_place, indented-order, before-Along, html-order}
 
 -- what lines end at is not in front of the first line's end
 past-le : (first : Row) (more : List Row) → Along first.past more (past_of first more) → first.past ≤ past_of first more
@@ -38,7 +40,7 @@ leaf-order text lookup from IndentedCodeLeaf first more after to h a o =
 leaf-order text lookup from (FencedCodeLeaf fence) first more after to h a o = (
   from-start from first h,
   InOrder-lower (start_of first) first.past (code_tokens text fence.indented (fenced_lines fence more)) (past_of first more) (start-past from first h)
-      (code-order text fence.indented first.past (fenced_lines fence more) (past_of first more) (fenced-Along fence first.past more (past_of first more) a)),
+      (code-order text fence.indented first.past (fenced_lines fence more) (past_of first more) (before-Along (closes_fence fence) first.past more (past_of first more) a)),
   o,
 )
 leaf-order text lookup from (HtmlBlockLeaf kind) first more after to h a o =
@@ -47,6 +49,12 @@ leaf-order text lookup from (HtmlBlockLeaf kind) first more after to h a o =
 leaf-order text lookup from (LinkDefinitionLeaf definition) first more after to h a o =
     let p : start_of first ≤ first.past = start-past from first h in let q : first.past ≤ past_of first more = past-le first more a in
     (from-start from first h, omega (arith, p, q), o)
+leaf-order text lookup from (MetadataBlockLeaf kind) first more after to h a o = (
+  from-start from first h,
+  InOrder-lower (start_of first) first.past (code_tokens text 0 (lines_before (ends_metadata kind) more)) (past_of first more) (start-past from first h)
+      (code-order text 0 first.past (lines_before (ends_metadata kind) more) (past_of first more) (before-Along (ends_metadata kind) first.past more (past_of first more) a)),
+  o,
+)
 
 item-order : (from : ℕ) (joins : Bool) (number : Option ℕ) (tight : Bool) (item : BlockNode) (inside after : BlockDocument) (to : ℕ) → from ≤ item.start → InOrder item.start inside item.end → InOrder item.end after to → InOrder from (item_then joins number tight item inside after) to
 item-order from false number tight item inside after to a i o = (a, (omega arith, i, omega arith), o)

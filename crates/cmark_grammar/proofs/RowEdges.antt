@@ -8,8 +8,10 @@ use Rattle.cmark_grammar.specs.Rows.{Row, without, first_place, begin_of, start_
 use Rattle.cmark_grammar.specs.Leaves.{run, Fence, is_thematic_break, is_atx_heading, fence_of, counted, code_further, is_parted}
 use Rattle.cmark_grammar.specs.HtmlBlocks.{html_kind}
 use Rattle.cmark_grammar.specs.LinkDefinitions.{Defined, definition_in, bytes_over}
+use Rattle.cmark_grammar.specs.Metadata.{metadata_kind, metadata_further, holds_metadata}
+use Rattle.cmark_grammar.specs.MetadataBlockKind.{MetadataBlockKind}
 use Rattle.cmark_grammar.specs.Containers.{Container, Quote, Item, Marker, is_bullet, is_digit, is_delimiter, digits, number_of, delimited, marker_of, behind_marker, padding, width_with, item_with, item_of, begins_with, is_quote, one_blank, quote_width, container_with, container_of, width_of, enter, keep_as, keeps, strip_as, strip, strips}
-use Rattle.cmark_grammar.specs.Openings.{Leaf, ThematicBreak, AtxHeading, IndentedCode, FencedCode, HtmlBlock, LinkDefinition, Opening, Blank, Nests, Takes, Plain, or_else, nests_if, fenced_if, html_if, break_if, heading_if, text_lines, defined_if, definition_of, leaf_of, whole_opens, opens}
+use Rattle.cmark_grammar.specs.Openings.{Leaf, ThematicBreak, AtxHeading, IndentedCode, FencedCode, HtmlBlock, LinkDefinition, MetadataBlock, Opening, Blank, Nests, Takes, Plain, or_else, nests_if, fenced_if, metadata_begun, html_if, break_if, heading_if, text_lines, defined_if, definition_of, leaf_of, whole_opens, opens}
 use Rattle.cmark_grammar.proofs.RowPlaces.{Runs, first_place-Runs, drop-Runs}
 
 -- what holds of the first n elements, as far as there are any
@@ -236,6 +238,7 @@ module _ (E : ℕ → Type 0) where
   LeafFront r (FencedCode fence) = Unit {0}
   LeafFront r (HtmlBlock kind) = Unit {0}
   LeafFront r (LinkDefinition definition) = Unit {0}
+  LeafFront r (MetadataBlock kind) = Unit {0}
 
   abbrev OpeningFront : Row → Opening → Type 0
   OpeningFront r Blank = Unit {0}
@@ -285,13 +288,22 @@ module _ (E : ℕ → Type 0) where
       (front_or r (fenced_if (fence_of (indent_of r) (words_of r)) ahead) (definition_of options r ahead) (front_fenced r (fence_of (indent_of r) (words_of r)) ahead)
       (front_defined r (length (text_lines options ahead)) (definition_in (bytes_over r (text_lines options ahead)))))))
 
+  front_metadata : (r : Row) (o : Option MetadataBlockKind) (ahead : List Row) → OpeningFront r (metadata_begun o ahead)
+  front_metadata r None ahead = tt
+  front_metadata r (Some kind) ahead = go (holds_metadata kind ahead)
+    where
+      go : (z : Bool) → OpeningFront r (if z then Takes (MetadataBlock kind) (counted (metadata_further kind) ahead) else Plain)
+      go true = tt
+      go false = tt
+
   front_opens : (options : Options) (r : Row) (ahead : List Row) → GoodRow r → OpeningFront r (opens options r ahead)
   unfolding opens
   front_opens options r ahead g =
-      front_if r r.lazy Plain (whole_opens options r ahead) tt
+      front_if r r.lazy Plain _ tt
+      (front_or r (metadata_begun (metadata_kind options r) ahead) (whole_opens options r ahead) (front_metadata r (metadata_kind options r) ahead)
       (front_if r (is_blank_line r) Blank _ tt
       (front_if r (nat_le 4 (indent_of r)) (Takes IndentedCode (counted code_further ahead)) _ tt
-      (front_or r (nests_if (container_of r)) (leaf_of options r ahead) (front_nests r (container_of r) (container-front (item_of r) (is_quote r) r g refl (item-front r (marker_of (words_of r)) g (marker-front (words_of r))))) (front_leaf options r ahead g))))
+      (front_or r (nests_if (container_of r)) (leaf_of options r ahead) (front_nests r (container_of r) (container-front (item_of r) (is_quote r) r g refl (item-front r (marker_of (words_of r)) g (marker-front (words_of r))))) (front_leaf options r ahead g)))))
 
   pub enter-good : (options : Options) (k : Container) (r : Row) (ahead : List Row) → opens options r ahead ≡ Nests k → GoodRow r → GoodRow (enter k r)
   unfolding enter

@@ -6,13 +6,14 @@ use Rattle.cmark_grammar.specs.Options.{Options}
 use Rattle.cmark_grammar.specs.Columns.{Column}
 use Rattle.cmark_grammar.specs.Rows.{Row, first_place, begin_of, start_of}
 use Rattle.cmark_grammar.specs.Containers.{Quote, Item}
-use Rattle.cmark_grammar.specs.Openings.{Leaf, ThematicBreak as ThematicBreakLeaf, AtxHeading as AtxHeadingLeaf, IndentedCode as IndentedCodeLeaf, FencedCode as FencedCodeLeaf, HtmlBlock as HtmlBlockLeaf, LinkDefinition as LinkDefinitionLeaf}
+use Rattle.cmark_grammar.specs.Openings.{Leaf, ThematicBreak as ThematicBreakLeaf, AtxHeading as AtxHeadingLeaf, IndentedCode as IndentedCodeLeaf, FencedCode as FencedCodeLeaf, HtmlBlock as HtmlBlockLeaf, LinkDefinition as LinkDefinitionLeaf, MetadataBlock as MetadataBlockLeaf}
 use Rattle.cmark_grammar.specs.Blocks.{Blocks, Nil as NoBlocks, BlankLine, Paragraph as ParagraphBlock, SetextHeading, LeafBlock, ContainerBlock}
 use Rattle.cmark_grammar.specs.Lists.{ListBefore, tight_behind, goes_on}
 use Rattle.cmark_grammar.specs.BlockDocument.{Text, OwnedText, Html, ListItem, BlockNode, BlockDocument, Nil, Node, node}
 use Rattle.cmark_grammar.specs.Derivation.{leaf_then, item_then, paragraph_kind, document_of, Derives}
 use Rattle.cmark_grammar.specs.Ranges.{IsSlice, HasSlices}
-use Rattle.cmark_grammar.specs.Tokens.{slice, Piece, texts_then, end_place, words_end, stretch_then, stretches, paragraph_tokens, behind_hashes, heading_columns, piece_if, plain_line, left_columns, spaces_if, verbatim_line, touches, merge, merge_all, code_columns, code_pieces, fenced_lines, html_then, html_tokens}
+use Rattle.cmark_grammar.specs.Tokens.{slice, Piece, texts_then, end_place, words_end, stretch_then, stretches, paragraph_tokens, behind_hashes, heading_columns, piece_if, plain_line, left_columns, spaces_if, verbatim_line, touches, merge, merge_all, code_columns, code_pieces, fenced_lines, html_then, html_tokens, lines_before}
+use Rattle.cmark_grammar.specs.Metadata.{ends_metadata}
 
 both : (x y : Bool) → (x && y) ≡ true → (x ≡ true) × (y ≡ true)
 both true y e = (refl, e)
@@ -127,6 +128,7 @@ module _ (text : List ℕ) where
   leaf-sliced lookup (FencedCodeLeaf fence) first more after a = (tt, texts-sliced (code_pieces text fence.indented (fenced_lines fence more)) Nil (code-sliced fence.indented (fenced_lines fence more)) tt, a)
   leaf-sliced lookup (HtmlBlockLeaf kind) first more after a = (tt, html-sliced (first ∷ more), a)
   leaf-sliced lookup (LinkDefinitionLeaf definition) first more after a = (tt, tt, a)
+  leaf-sliced lookup (MetadataBlockLeaf kind) first more after a = (tt, texts-sliced (code_pieces text 0 (lines_before (ends_metadata kind) more)) Nil (code-sliced 0 (lines_before (ends_metadata kind) more)) tt, a)
 
   item-sliced : (joins : Bool) (number : Option ℕ) (tight : Bool) (item : BlockNode) (inside after : BlockDocument) → IsSlice text item.kind item.start item.end → HasSlices text inside → HasSlices text after → HasSlices text (item_then joins number tight item inside after)
   item-sliced false number tight item inside after k i a = (tt, (k, i, tt), a)

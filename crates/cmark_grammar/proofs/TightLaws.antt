@@ -5,13 +5,14 @@ use Rattle.cmark_grammar.specs.Answers.{Lookup}
 use Rattle.cmark_grammar.specs.Options.{Options}
 use Rattle.cmark_grammar.specs.Rows.{Row, first_place, start_of, past_of, begin_of}
 use Rattle.cmark_grammar.specs.Containers.{Quote, Item}
-use Rattle.cmark_grammar.specs.Openings.{Leaf, ThematicBreak as ThematicBreakLeaf, AtxHeading as AtxHeadingLeaf, IndentedCode as IndentedCodeLeaf, FencedCode as FencedCodeLeaf, HtmlBlock as HtmlBlockLeaf, LinkDefinition as LinkDefinitionLeaf}
+use Rattle.cmark_grammar.specs.Openings.{Leaf, ThematicBreak as ThematicBreakLeaf, AtxHeading as AtxHeadingLeaf, IndentedCode as IndentedCodeLeaf, FencedCode as FencedCodeLeaf, HtmlBlock as HtmlBlockLeaf, LinkDefinition as LinkDefinitionLeaf, MetadataBlock as MetadataBlockLeaf}
 use Rattle.cmark_grammar.specs.Blocks.{Blocks, Nil as NoBlocks, BlankLine, Paragraph as ParagraphBlock, SetextHeading, LeafBlock, ContainerBlock}
 use Rattle.cmark_grammar.specs.Lists.{ListBefore, tight_behind, goes_on, is_tight}
-use Rattle.cmark_grammar.specs.Tokens.{Piece, end_place, piece_if, texts_then, words_end, stretch_then, stretches, paragraph_tokens, html_then, html_tokens, html_kind_of, verbatim_line, behind_hashes, heading_columns, code_pieces, fenced_lines}
+use Rattle.cmark_grammar.specs.Tokens.{Piece, end_place, piece_if, texts_then, words_end, stretch_then, stretches, paragraph_tokens, html_then, html_tokens, html_kind_of, verbatim_line, behind_hashes, heading_columns, code_pieces, fenced_lines, lines_before}
 use Rattle.cmark_grammar.specs.BlockDocument.{Text, OwnedText, BlockList, ListItem, BlockNode, BlockDocument, Nil, Node, node}
 use Rattle.cmark_grammar.specs.Derivation.{leaf_then, item_then, paragraph_kind, document_of, Derives}
 use Rattle.cmark_grammar.specs.Tightness.{tight_within, IsElement, HasTightParagraphs}
+use Rattle.cmark_grammar.specs.Metadata.{ends_metadata}
 
 texts_tight : (tight : Bool) (ps : List Piece) (after : BlockDocument) → HasTightParagraphs tight after → HasTightParagraphs tight (texts_then ps after)
 texts_tight tight [] after h = h
@@ -58,6 +59,7 @@ leaf_tight text lookup tight IndentedCodeLeaf first more after h = (tt, texts_ti
 leaf_tight text lookup tight (FencedCodeLeaf fence) first more after h = (tt, texts_tight false (code_pieces text fence.indented (fenced_lines fence more)) Nil tt, h)
 leaf_tight text lookup tight (HtmlBlockLeaf kind) first more after h = (tt, html_tight text false (first ∷ more), h)
 leaf_tight text lookup tight (LinkDefinitionLeaf definition) first more after h = (tt, tt, h)
+leaf_tight text lookup tight (MetadataBlockLeaf kind) first more after h = (tt, texts_tight false (code_pieces text 0 (lines_before (ends_metadata kind) more)) Nil tt, h)
 
 module _ (text : List ℕ) (lookup : Lookup) where
   -- where the list goes on, the next node is its rest

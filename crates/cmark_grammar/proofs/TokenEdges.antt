@@ -3,10 +3,9 @@ use Rattle.std.proofs.Common.{◌≡◌, ℕ, zero, suc, ◌-◌, ◌≤◌, ◌
 use Rattle.std.specs.Prelude.{if◌then◌else◌, nat_le, nat_lt}
 use Rattle.cmark_grammar.specs.Columns.{Column, indent, without_indent, drop_end, put_before, without_trailing_blanks, is_blank}
 use Rattle.cmark_grammar.specs.Rows.{Row, place, first_place, begin_of, start_of, indent_of}
-use Rattle.cmark_grammar.specs.Leaves.{Fence, closes_fence}
 use Rattle.cmark_grammar.specs.BlockDocument.{BlockDocument, Nil}
 use Rattle.cmark_grammar.specs.Ranges.{AllAt}
-use Rattle.cmark_grammar.specs.Tokens.{slice, Piece, texts_then, line_columns, end_place, words_end, stretch_then, stretches, paragraph_tokens, is_hash, without_closing, heading_columns, heading_tokens, piece_if, plain_line, left_columns, spaces_if, verbatim_line, touches, merge, merge_all, code_columns, code_pieces, code_tokens, stop_at, fenced_lines, html_then, html_tokens}
+use Rattle.cmark_grammar.specs.Tokens.{slice, Piece, texts_then, line_columns, end_place, words_end, stretch_then, stretches, paragraph_tokens, is_hash, without_closing, heading_columns, heading_tokens, piece_if, plain_line, left_columns, spaces_if, verbatim_line, touches, merge, merge_all, code_columns, code_pieces, code_tokens, stop_at, html_then, html_tokens, lines_before}
 use Rattle.cmark_grammar.proofs.RowPlaces.{Runs, drop-Runs}
 use Rattle.cmark_grammar.proofs.RowEdges.{Front, front-less, IsAsciiColumn, is-ascii, blank-ascii, indent-front, Good, AreGood, drop-good, drop-E, GoodRow, start-E, GoodRows}
 
@@ -149,11 +148,11 @@ module _ (E : ℕ → Type 0) where
   pub code-edged : (text : List ℕ) (most : ℕ) (rs : List Row) → GoodRows E rs → AllAt E (code_tokens text most rs)
   code-edged text most rs g = texts-edged (code_pieces text most rs) Nil (code_pieces-edged text most rs g) tt
 
-  pub fenced-good : (fence : Fence) (rs : List Row) → GoodRows E rs → GoodRows E (fenced_lines fence rs)
-  fenced-good fence [] g = tt
-  fenced-good fence (r ∷ rs) g = go (closes_fence fence r) (fenced-good fence rs g.1)
+  pub before-good : (closes : Row → Bool) (rs : List Row) → GoodRows E rs → GoodRows E (lines_before closes rs)
+  before-good closes [] g = tt
+  before-good closes (r ∷ rs) g = go (closes r) (before-good closes rs g.1)
     where
-      go : (z : Bool) → GoodRows E (fenced_lines fence rs) → GoodRows E (stop_at z r (fenced_lines fence rs))
+      go : (z : Bool) → GoodRows E (lines_before closes rs) → GoodRows E (stop_at z r (lines_before closes rs))
       go true ih = tt
       go false ih = (g.0, ih)
 

@@ -3,10 +3,9 @@ use Rattle.std.proofs.Common.{◌≡◌, ℕ, zero, suc, ◌-◌, ◌≤◌, Boo
 use Rattle.std.specs.Prelude.{if◌then◌else◌, nat_lt}
 use Rattle.cmark_grammar.specs.Columns.{Column, indent, without_indent, drop_end, put_before, without_trailing_blanks, is_blank}
 use Rattle.cmark_grammar.specs.Rows.{Row, first_place, begin_of, start_of, past_of}
-use Rattle.cmark_grammar.specs.Leaves.{Fence, closes_fence}
 use Rattle.cmark_grammar.specs.BlockDocument.{BlockDocument, Nil, Node}
 use Rattle.cmark_grammar.specs.Ranges.{InOrder}
-use Rattle.cmark_grammar.specs.Tokens.{slice, Piece, texts_then, line_columns, end_place, words_end, stretch_then, stretches, paragraph_tokens, is_hash, without_closing, heading_columns, heading_tokens, piece_if, plain_line, left_columns, spaces_if, verbatim_line, touches, merge, merge_all, code_columns, code_pieces, code_tokens, stop_at, fenced_lines, html_then, html_tokens}
+use Rattle.cmark_grammar.specs.Tokens.{slice, Piece, texts_then, line_columns, end_place, words_end, stretch_then, stretches, paragraph_tokens, is_hash, without_closing, heading_columns, heading_tokens, piece_if, plain_line, left_columns, spaces_if, verbatim_line, touches, merge, merge_all, code_columns, code_pieces, code_tokens, stop_at, html_then, html_tokens, lines_before}
 use Rattle.cmark_grammar.proofs.RowPlaces.{Runs, Runs-le, first_place-Runs, drop-Runs, Lies, begin-start, start-Runs, Along, Along-le}
 
 pub InOrder-le : (from : ℕ) (d : BlockDocument) (to : ℕ) → InOrder from d to → from ≤ to
@@ -208,11 +207,11 @@ indented-order text most from r rs to h a =
     texts-order f (code_pieces text most (r ∷ rs)) to Nil to
     (merge_all-order f (verbatim_line text (code_columns most r) r) r.past (code_pieces text most rs) to (verbatim-order text f (code_columns most r) r d.0 h.2) (code_pieces-order text most r.past rs to a)) (omega arith)
 
-pub fenced-Along : (fence : Fence) (from : ℕ) (rs : List Row) (to : ℕ) → Along from rs to → Along from (fenced_lines fence rs) to
-fenced-Along fence from [] to h = h
-fenced-Along fence from (r ∷ rs) to h = go (closes_fence fence r) (fenced-Along fence r.past rs to h.1)
+pub before-Along : (closes : Row → Bool) (from : ℕ) (rs : List Row) (to : ℕ) → Along from rs to → Along from (lines_before closes rs) to
+before-Along closes from [] to h = h
+before-Along closes from (r ∷ rs) to h = go (closes r) (before-Along closes r.past rs to h.1)
   where
-    go : (z : Bool) → Along r.past (fenced_lines fence rs) to → Along from (stop_at z r (fenced_lines fence rs)) to
+    go : (z : Bool) → Along r.past (lines_before closes rs) to → Along from (stop_at z r (lines_before closes rs)) to
     go true ih = Along-le from (r ∷ rs) to h
     go false ih = (h.0, ih)
 

@@ -2,6 +2,7 @@
 use Rattle.std.specs.Prelude.{ℕ, Bool, List, [], ◌∷◌, ◌++◌, Option}
 use Rattle.cmark_grammar.specs.Attributes.{Attributes}
 use Rattle.cmark_grammar.specs.BlockQuoteKind.{BlockQuoteKind}
+use Rattle.cmark_grammar.specs.MetadataBlockKind.{MetadataBlockKind}
 
 -- a link reference definition: its label's normal form, its destination and title, and where its text begins and ends
 pub record Reference : Type 0 where
@@ -24,6 +25,7 @@ pub data BlockKind : Type 0 where
   FencedCode : (info : List ℕ) → BlockKind
   HtmlBlock : BlockKind
   LinkDefinition : (reference : Reference) → BlockKind
+  MetadataBlock : (kind : MetadataBlockKind) → BlockKind
   BlockQuote : (alert : Option BlockQuoteKind) → BlockKind
   BlockList : (number : Option ℕ) → (tight : Bool) → BlockKind
   ListItem : BlockKind

@@ -3,7 +3,7 @@ use Rattle.std.specs.Prelude.{◌≡◌, ◌⊎◌, ℕ, Bool, true, false, List
 use Rattle.cmark_grammar.specs.Rows.{Row, shown}
 use Rattle.cmark_grammar.specs.Leaves.{underlines}
 use Rattle.cmark_grammar.specs.Containers.{Container, keeps, is_bare_start, bare_after, insides}
-use Rattle.cmark_grammar.specs.Openings.{Leaf, ThematicBreak, AtxHeading, IndentedCode, FencedCode, HtmlBlock, LinkDefinition, Blank, Nests, Takes, Plain, opens, texts, lazily}
+use Rattle.cmark_grammar.specs.Openings.{Leaf, ThematicBreak, AtxHeading, IndentedCode, FencedCode, HtmlBlock, LinkDefinition, MetadataBlock, Blank, Nests, Takes, Plain, opens, texts, lazily}
 use Rattle.cmark_grammar.specs.Options.{Options}
 
 -- the blocks of some lines, in their order: each with its lines, behind the prefixes of the containers around it, and a
@@ -33,6 +33,7 @@ may_lazy IndentedCode = false
 may_lazy (FencedCode fence) = false
 may_lazy (HtmlBlock kind) = false
 may_lazy (LinkDefinition definition) = true
+may_lazy (MetadataBlock kind) = false
 
 -- whether a lazy line may stand behind these blocks: whether their last line lies in a paragraph, or in a leaf behind
 -- which a lazy line may begin one. So: what holds where there is no block

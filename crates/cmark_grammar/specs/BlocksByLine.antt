@@ -1,12 +1,14 @@
 -- The blocks of lines, as one line after the other shows them: of the lines ahead only a link reference definition is
--- looked up. Code and HTML go on as their lines come, and blank lines wait until it is seen whether they belong to code.
+-- looked up, and whether metadata is ended. Code, HTML and metadata go on as their lines come, and blank lines wait until it is seen whether they belong to code.
 use Rattle.std.specs.Prelude.{ℕ, zero, suc, Bool, true, false, ◌&&◌, nat_le, List, [], ◌∷◌, ◌++◌, length, Option, Some, None}
 use Rattle.cmark_grammar.specs.Options.{Options}
 use Rattle.cmark_grammar.specs.Rows.{Row, rows, shown, words_of}
 use Rattle.cmark_grammar.specs.Leaves.{Fence, Further, GoesOn, Closes, Waits, Stops, underlines, code_further, fence_further}
 use Rattle.cmark_grammar.specs.HtmlBlocks.{holds_end, html_further}
+use Rattle.cmark_grammar.specs.Metadata.{metadata_further}
+use Rattle.cmark_grammar.specs.MetadataBlockKind.{MetadataBlockKind}
 use Rattle.cmark_grammar.specs.Containers.{Container, enter, keeps, strip, is_bare_start, bare_after}
-use Rattle.cmark_grammar.specs.Openings.{Leaf, ThematicBreak, AtxHeading, IndentedCode, FencedCode, HtmlBlock, LinkDefinition, Opening, Blank, Nests, Takes, Plain, opens, texts, lazily}
+use Rattle.cmark_grammar.specs.Openings.{Leaf, ThematicBreak, AtxHeading, IndentedCode, FencedCode, HtmlBlock, LinkDefinition, MetadataBlock, Opening, Blank, Nests, Takes, Plain, opens, texts, lazily}
 use Rattle.cmark_grammar.specs.Blocks.{Blocks, Nil, BlankLine, Paragraph, SetextHeading, LeafBlock, ContainerBlock, join, may_lazy}
 use Rattle.cmark_grammar.specs.BlocksModel.{within}
 
@@ -15,16 +17,19 @@ pub data Verbatim : Type 0 where
   Indented : Verbatim
   Fenced : (fence : Fence) → Verbatim
   HtmlLines : (kind : ℕ) → Verbatim
+  Metadata : (kind : MetadataBlockKind) → Verbatim
 
 abbrev pub leaf_in : Verbatim → Leaf
 leaf_in Indented = IndentedCode
 leaf_in (Fenced fence) = FencedCode fence
 leaf_in (HtmlLines kind) = HtmlBlock kind
+leaf_in (Metadata kind) = MetadataBlock kind
 
 abbrev pub further_in : Verbatim → Row → Further
 further_in Indented r = code_further r
 further_in (Fenced fence) r = fence_further fence r
 further_in (HtmlLines kind) r = html_further kind r
+further_in (Metadata kind) r = metadata_further kind r
 
 abbrev pub further_if : (is_lazy : Bool) → Verbatim → Row → Further
 further_if true verbatim r = Stops
@@ -70,6 +75,7 @@ leaf_begun IndentedCode n closed r = InVerbatim closed Indented r [] []
 leaf_begun (FencedCode fence) n closed r = InVerbatim closed (Fenced fence) r [] []
 leaf_begun (HtmlBlock kind) n closed r = html_begun (nat_le kind 5 && holds_end kind (words_of r)) closed kind r
 leaf_begun (LinkDefinition definition) n closed r = InLeaf closed (LinkDefinition definition) r [] n
+leaf_begun (MetadataBlock kind) n closed r = InVerbatim closed (Metadata kind) r [] []
 
 abbrev pub lines_begin_as : Opening → (Container → OpenLines) → Blocks → Row → OpenLines
 lines_begin_as Blank inside closed r = Between (join closed (BlankLine r Nil))

@@ -7,13 +7,14 @@ use Rattle.cmark_grammar.specs.Options.{Options}
 use Rattle.cmark_grammar.specs.Rows.{Row, rows, first_place, begin_of, start_of, past_of}
 use Rattle.cmark_grammar.specs.Labels.{normal_form}
 use Rattle.cmark_grammar.specs.LinkDefinitions.{Definition}
+use Rattle.cmark_grammar.specs.Metadata.{ends_metadata}
 use Rattle.cmark_grammar.specs.Containers.{Quote, Item}
-use Rattle.cmark_grammar.specs.Openings.{Leaf, ThematicBreak as ThematicBreakLeaf, AtxHeading as AtxHeadingLeaf, IndentedCode as IndentedCodeLeaf, FencedCode as FencedCodeLeaf, HtmlBlock as HtmlBlockLeaf, LinkDefinition as LinkDefinitionLeaf}
+use Rattle.cmark_grammar.specs.Openings.{Leaf, ThematicBreak as ThematicBreakLeaf, AtxHeading as AtxHeadingLeaf, IndentedCode as IndentedCodeLeaf, FencedCode as FencedCodeLeaf, HtmlBlock as HtmlBlockLeaf, LinkDefinition as LinkDefinitionLeaf, MetadataBlock as MetadataBlockLeaf}
 use Rattle.cmark_grammar.specs.Blocks.{Blocks, Nil as NoBlocks, BlankLine, Paragraph as ParagraphBlock, SetextHeading, LeafBlock, ContainerBlock, Body}
 use Rattle.cmark_grammar.specs.BlocksModel.{blocks}
 use Rattle.cmark_grammar.specs.Lists.{ListBefore, tight_behind, goes_on}
-use Rattle.cmark_grammar.specs.Tokens.{resolved, title_lines, paragraph_tokens, heading_tokens, code_tokens, fenced_lines, html_tokens, code_columns}
-use Rattle.cmark_grammar.specs.BlockDocument.{Reference, BlockKind, Paragraph, TightParagraph, Heading, ThematicBreak, IndentedCode, FencedCode, HtmlBlock, LinkDefinition, BlockQuote, BlockList, ListItem, BlockNode, BlockDocument, Nil, Node, node}
+use Rattle.cmark_grammar.specs.Tokens.{resolved, title_lines, paragraph_tokens, heading_tokens, code_tokens, lines_before, fenced_lines, html_tokens, code_columns}
+use Rattle.cmark_grammar.specs.BlockDocument.{Reference, BlockKind, Paragraph, TightParagraph, Heading, ThematicBreak, IndentedCode, FencedCode, HtmlBlock, LinkDefinition, MetadataBlock, BlockQuote, BlockList, ListItem, BlockNode, BlockDocument, Nil, Node, node}
 
 -- where the last of these lines ends, without its line ending
 abbrev pub stop_of : Row → List Row → ℕ
@@ -46,6 +47,8 @@ leaf_then text lookup (FencedCodeLeaf fence) first more after =
 leaf_then text lookup (HtmlBlockLeaf kind) first more after = Node (node HtmlBlock (begin_of first) (past_of first more)) (html_tokens text (first ∷ more)) after
 leaf_then text lookup (LinkDefinitionLeaf definition) first more after =
     Node (node (LinkDefinition (reference_of lookup definition (start_of first) (stop_of first more))) (start_of first) (past_of first more)) Nil after
+leaf_then text lookup (MetadataBlockLeaf kind) first more after =
+    Node (node (MetadataBlock kind) (start_of first) (past_of first more)) (code_tokens text 0 (lines_before (ends_metadata kind) more)) after
 
 -- an item before others of its list, or alone in its list
 abbrev pub new_list : Option ℕ → (tight : Bool) → BlockNode → (inside after : BlockDocument) → BlockDocument
@@ -76,7 +79,7 @@ document_of text lookup direct list (ContainerBlock (Item mark number width) fir
     item_then (goes_on mark after) number tight (node ListItem (begin_of first) (past_of first more)) (document_of text lookup tight None inside)
     (document_of text lookup direct (Some (record { mark = mark; tight = tight })) after)
 
--- the text derives the document. No option has a part in the grammar of today
+-- the text derives the document. Of the options those for metadata blocks have a part in the grammar of today
 abbrev pub Derives : List ℕ → Options → Lookup → BlockDocument → Type 0
 Derives text options lookup document =
     (structure : Blocks) × (Body options false (rows text) structure) × (document ≡ document_of text lookup false None structure)

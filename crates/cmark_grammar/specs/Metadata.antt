@@ -1,8 +1,11 @@
 -- Metadata blocks: the lines that they begin and end with (this profile's own).
-use Rattle.std.specs.Prelude.{ℕ, Bool, ◌&&◌, ◌||◌, if◌then◌else◌, List, length, drop, codes, Option, Some, None}
-use Rattle.cmark_grammar.specs.Leaves.{are_blank}
+use Rattle.std.specs.Prelude.{ℕ, Bool, false, ◌&&◌, ◌||◌, not, if◌then◌else◌, List, [], ◌∷◌, length, drop, codes, Option, Some, None}
+use Rattle.cmark_grammar.specs.Columns.{bytes_of}
+use Rattle.cmark_grammar.specs.Rows.{Row, is_blank_line, is_whole_line}
+use Rattle.cmark_grammar.specs.Leaves.{Further, GoesOn, Closes, are_blank}
 use Rattle.cmark_grammar.specs.HtmlBlocks.{starts}
 use Rattle.cmark_grammar.specs.MetadataBlockKind.{MetadataBlockKind, YamlStyle, PlusesStyle}
+use Rattle.cmark_grammar.specs.Options.{Options}
 
 -- exactly these bytes, and blanks behind them
 abbrev pub is_line_of : (mark bs : List ℕ) → Bool
@@ -19,3 +22,32 @@ metadata_of bs =
 abbrev pub closes_metadata : MetadataBlockKind → List ℕ → Bool
 closes_metadata YamlStyle bs = is_line_of (codes "---") bs || is_line_of (codes "...") bs
 closes_metadata PlusesStyle bs = is_line_of (codes "+++") bs
+
+-- whether a line ends one, from its first column on
+abbrev pub ends_metadata : MetadataBlockKind → Row → Bool
+ends_metadata kind r = closes_metadata kind (bytes_of r.columns)
+
+abbrev pub metadata_further : MetadataBlockKind → Row → Further
+metadata_further kind r = if ends_metadata kind r then Closes else GoesOn
+
+abbrev pub is_ended : MetadataBlockKind → List Row → Bool
+is_ended kind [] = false
+is_ended kind (r ∷ ahead) = ends_metadata kind r || is_ended kind ahead
+
+-- whether the lines ahead are those of a metadata block: one of them ends it, and the first is neither that one nor blank
+abbrev pub holds_metadata : MetadataBlockKind → List Row → Bool
+holds_metadata kind [] = false
+holds_metadata kind (r ∷ ahead) = not (is_blank_line r || ends_metadata kind r) && is_ended kind ahead
+
+-- whether blocks of this kind are read
+abbrev pub has_metadata : Options → MetadataBlockKind → Bool
+has_metadata options YamlStyle = options.yaml_style_metadata_blocks
+has_metadata options PlusesStyle = options.pluses_delimited_metadata_blocks
+
+abbrev pub metadata_if : Options → Option MetadataBlockKind → Option MetadataBlockKind
+metadata_if options None = None
+metadata_if options (Some kind) = if has_metadata options kind then Some kind else None
+
+-- the kind of the metadata block that a line may begin, which must stand in no container and begin with its marks
+abbrev pub metadata_kind : Options → Row → Option MetadataBlockKind
+metadata_kind options r = if is_whole_line r then metadata_if options (metadata_of (bytes_of r.columns)) else None

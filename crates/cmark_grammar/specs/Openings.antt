@@ -5,6 +5,8 @@ use Rattle.cmark_grammar.specs.Leaves.{Fence, underlines, counted, run, is_thema
 use Rattle.cmark_grammar.specs.HtmlBlocks.{html_kind, html_lines}
 use Rattle.cmark_grammar.specs.LinkDefinitions.{Definition, Defined, definition_in, bytes_over, line_ends}
 use Rattle.cmark_grammar.specs.Containers.{Container, Quote, Item, item_of, is_quote, container_of}
+use Rattle.cmark_grammar.specs.Metadata.{metadata_kind, holds_metadata, metadata_further}
+use Rattle.cmark_grammar.specs.MetadataBlockKind.{MetadataBlockKind}
 use Rattle.cmark_grammar.specs.Options.{Options}
 
 -- a leaf that is no paragraph
@@ -15,6 +17,7 @@ pub data Leaf : Type 0 where
   FencedCode : (fence : Fence) → Leaf
   HtmlBlock : (kind : ℕ) → Leaf
   LinkDefinition : (definition : Definition) → Leaf
+  MetadataBlock : (kind : MetadataBlockKind) → Leaf
 
 -- what a line begins: nothing, for it is blank; a container; a leaf, to which so many of the lines ahead belong; or, if
 -- none of these, a paragraph
@@ -81,6 +84,10 @@ abbrev pub heading_if : Bool → (level : ℕ) → Opening
 heading_if true level = Takes (AtxHeading level) 0
 heading_if false level = Plain
 
+abbrev pub metadata_begun : Option MetadataBlockKind → List Row → Opening
+metadata_begun None ahead = Plain
+metadata_begun (Some kind) ahead = if holds_metadata kind ahead then Takes (MetadataBlock kind) (counted (metadata_further kind) ahead) else Plain
+
 module _ (options : Options) where
   -- whether a line interrupts a paragraph, which stands in the same container or further in (CommonMark 4.8)
   abbrev pub interrupts : (same : Bool) → Row → List Row → Bool
@@ -121,6 +128,7 @@ module _ (options : Options) where
       else if nat_le 4 (indent_of r) then Takes IndentedCode (counted code_further ahead)
       else or_else (nests_if (container_of r)) (leaf_of r ahead)
 
-  -- what a line begins, with these lines ahead; a lazy line can begin a paragraph alone
+  -- what a line begins, with these lines ahead; a lazy line can begin a paragraph alone. Metadata comes first: its first line is
+  -- neither blank nor indented, and begins no container
   unfoldable pub opens : Row → List Row → Opening
-  opens r ahead = if r.lazy then Plain else whole_opens r ahead
+  opens r ahead = if r.lazy then Plain else or_else (metadata_begun (metadata_kind options r) ahead) (whole_opens r ahead)

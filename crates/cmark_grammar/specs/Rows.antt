@@ -3,16 +3,17 @@ use Rattle.std.specs.Prelude.{ℕ, suc, ◌+◌, Bool, true, false, ◌==◌, if
 use Rattle.cmark_grammar.specs.Lines.{lines, content}
 use Rattle.cmark_grammar.specs.Columns.{Column, expand, indent, without_indent, bytes_of}
 
--- the columns of a line behind the prefixes of the containers around it, the places of the text where its line ending
--- begins and where the next line begins, and whether it lacks a prefix: such a line is lazy (CommonMark 5.1)
+-- the columns of a line behind the prefixes of the containers around it, the places of the text where the whole line begins, where its
+-- line ending begins and where the next line begins, and whether it lacks a prefix: such a line is lazy (CommonMark 5.1)
 pub record Row : Type 0 where
   pub columns : List Column
+  pub at : ℕ
   pub stop : ℕ
   pub past : ℕ
   pub lazy : Bool
 
 abbrev pub row_at : ℕ → List ℕ → Row
-row_at at line = record { columns = expand 0 at (content line); stop = at + length (content line); past = at + length line; lazy = false }
+row_at at line = record { columns = expand 0 at (content line); at = at; stop = at + length (content line); past = at + length line; lazy = false }
 
 -- lines that begin at this place of the text
 abbrev pub rows_from : ℕ → List (List ℕ) → List Row
@@ -60,6 +61,10 @@ begin_of r = first_place r.stop r.columns
 
 abbrev pub start_of : Row → ℕ
 start_of r = first_place r.stop (without_indent r.columns)
+
+-- no column was taken from the front of the line, so that it stands in no container
+abbrev pub is_whole_line : Row → Bool
+is_whole_line r = begin_of r == r.at
 
 -- where the last of these lines ends
 abbrev pub past_of : Row → List Row → ℕ

@@ -238,14 +238,17 @@ code_pieces text most (r ∷ rs) = merge_all (verbatim_line text (code_columns m
 abbrev pub code_tokens : List ℕ → (most : ℕ) → List Row → BlockDocument
 code_tokens text most rs = texts_then (code_pieces text most rs) Nil
 
--- a fence's lines, without the closing fence
+-- the lines in front of the first that closes a block, as of those behind a fence without the closing fence
 abbrev pub stop_at : Bool → Row → List Row → List Row
 stop_at true r rs = []
 stop_at false r rs = r ∷ rs
 
+abbrev pub lines_before : (closes : Row → Bool) → List Row → List Row
+lines_before closes [] = []
+lines_before closes (r ∷ rs) = stop_at (closes r) r (lines_before closes rs)
+
 abbrev pub fenced_lines : Fence → List Row → List Row
-fenced_lines fence [] = []
-fenced_lines fence (r ∷ rs) = stop_at (closes_fence fence r) r (fenced_lines fence rs)
+fenced_lines fence rs = lines_before (closes_fence fence) rs
 
 -- HTML lines: a node a line, but for CR LF and the spaces left of a tab
 abbrev pub html_kind_of : Piece → BlockKind

@@ -1,6 +1,6 @@
 -- The segments of a document: its blocks are no links and need no option of spans, and its leaves stand one behind the other.
 use Rattle.std.proofs.Common.{◌≡◌, ℕ, ◌≤◌, List, [], ◌∷◌, ◌++◌, refl, arith}
-use Rattle.cmark_grammar.specs.BlockDocument.{BlockKind, Paragraph, TightParagraph, Heading, ThematicBreak, IndentedCode, FencedCode, HtmlBlock, LinkDefinition, BlockQuote, BlockList, ListItem, Text, OwnedText, Html, BlockNode, BlockDocument, Nil, Node}
+use Rattle.cmark_grammar.specs.BlockDocument.{BlockKind, Paragraph, TightParagraph, Heading, ThematicBreak, IndentedCode, FencedCode, HtmlBlock, LinkDefinition, MetadataBlock, BlockQuote, BlockList, ListItem, Text, OwnedText, Html, BlockNode, BlockDocument, Nil, Node}
 use Rattle.cmark_grammar.specs.BlockReading.{Reads, Around, Inside, Alone, Silent, read_as, over}
 use Rattle.cmark_grammar.specs.Event.{Event, Start, End}
 use Rattle.cmark_grammar.specs.LeafText.{Stretch, InTurn}
@@ -39,6 +39,7 @@ inside_given Holds ThematicBreak content others k = k
 inside_given Holds IndentedCode content others k = k
 inside_given Holds (FencedCode info) content others k = k
 inside_given Holds HtmlBlock content others k = k
+inside_given Holds (MetadataBlock kind) content others k = k
 inside_given Holds (LinkDefinition reference) content others k = k
 inside_given Holds (BlockQuote alert) content others k = k
 inside_given Holds (BlockList number tight) content others k = k
@@ -73,6 +74,7 @@ kind_neither ThematicBreak = refl
 kind_neither IndentedCode = (refl, refl)
 kind_neither (FencedCode info) = (refl, refl)
 kind_neither HtmlBlock = (refl, refl)
+kind_neither (MetadataBlock kind) = (refl, refl)
 kind_neither (LinkDefinition reference) = tt
 kind_neither (BlockQuote alert) = (refl, refl)
 kind_neither (BlockList number tight) = (refl, refl)
@@ -93,6 +95,7 @@ kind_optionless options ThematicBreak = tt
 kind_optionless options IndentedCode = (tt, tt)
 kind_optionless options (FencedCode info) = (tt, tt)
 kind_optionless options HtmlBlock = (tt, tt)
+kind_optionless options (MetadataBlock kind) = (tt, tt)
 kind_optionless options (LinkDefinition reference) = tt
 kind_optionless options (BlockQuote alert) = (tt, tt)
 kind_optionless options (BlockList number tight) = (tt, tt)
@@ -137,6 +140,7 @@ inside_rise from to ThematicBreak content others h k = k
 inside_rise from to IndentedCode content others h k = k
 inside_rise from to (FencedCode info) content others h k = k
 inside_rise from to HtmlBlock content others h k = k
+inside_rise from to (MetadataBlock kind) content others h k = k
 inside_rise from to (LinkDefinition reference) content others h k = k
 inside_rise from to (BlockQuote alert) content others h k = k
 inside_rise from to (BlockList number tight) content others h k = k

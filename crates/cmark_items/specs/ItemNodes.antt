@@ -1,7 +1,7 @@
 -- The items of a document's blocks as nodes of the grammar's documents.
 use Rattle.std.specs.Char.{encode_utf8}
 use Rattle.std.specs.Prelude.{ℕ, ◌%◌, Bool, ◌==◌, if◌then◌else◌, List, Option, Some, None, option_map, slice_get}
-use Rattle.cmark_text.specs.Shown.{text_bytes, level_number, shown_block_quote_kind}
+use Rattle.cmark_text.specs.Shown.{text_bytes, level_number, shown_block_quote_kind, shown_metadata_block_kind}
 use Rattle.cmark_tree.specs.Forest as forest
 use Rattle.cmark_tree.specs.Forest.{Forest}
 use Rattle.cmark_grammar.specs.Attributes.{no_attributes}
@@ -44,6 +44,7 @@ shape body.Rule = Element document.ThematicBreak
 shape body.IndentCodeBlock = Element document.IndentedCode
 shape (body.FencedCodeBlock index) = Spelt document.FencedCode index.0
 shape body.HtmlBlock = Element document.HtmlBlock
+shape (body.MetadataBlock kind) = Element (document.MetadataBlock (shown_metadata_block_kind kind))
 shape (body.BlockQuote kind) = Element (document.BlockQuote (option_map shown_block_quote_kind kind))
 shape (body.List flags mark number) = Element (document.BlockList (list_number mark number) (is_tight flags))
 shape (body.ListItem width) = Element document.ListItem

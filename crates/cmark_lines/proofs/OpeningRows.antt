@@ -9,7 +9,9 @@ use Rattle.cmark_grammar.specs.Leaves.{Fence, run, is_thematic_break, is_atx_hea
 use Rattle.cmark_grammar.specs.HtmlBlocks.{html_kind}
 use Rattle.cmark_grammar.specs.LinkDefinitions.{label_in, with_label, definition_in, further_bytes, bytes_over}
 use Rattle.cmark_grammar.specs.Containers.{Container, Item, begins_with, container_of, enter}
-use Rattle.cmark_grammar.specs.Openings.{Opening, Blank, Nests, Takes, Plain, AtxHeading, IndentedCode, or_else, nests_if, is_one, item_interrupts, fenced_if, html_if, break_if, heading_if, defined_if, text_lines, definition_of, leaf_of, whole_opens, opens}
+use Rattle.cmark_grammar.specs.Openings.{Opening, Blank, Nests, Takes, Plain, AtxHeading, IndentedCode, or_else, nests_if, is_one, item_interrupts, fenced_if, html_if, break_if, heading_if, defined_if, metadata_begun, text_lines, definition_of, leaf_of, whole_opens, opens}
+use Rattle.cmark_grammar.specs.Metadata.{metadata_kind}
+use Rattle.cmark_grammar.specs.MetadataBlockKind.{MetadataBlockKind}
 use Rattle.cmark_grammar.proofs.BlockLaws.{enter_len}
 use Rattle.cmark_grammar.proofs.RowEdges.{enter-good}
 use Rattle.cmark_scan.specs.LeafLines.{atx_level}
@@ -74,33 +76,39 @@ module _ (options : Options) (r : Row) (ahead : List Row) where
 
   -- what a line begins that lacks no prefix
   module _ (whole : r.lazy ≡ false) where
-    as_whole : opens options r ahead ≡ whole_opens options r ahead
+    as_whole : opens options r ahead ≡ or_else (metadata_begun (metadata_kind options r) ahead) (whole_opens options r ahead)
     unfolding opens
-    as_whole = ap (λ z. if z then Plain else whole_opens options r ahead) whole
+    as_whole = ap (λ z. if z then Plain else or_else (metadata_begun (metadata_kind options r) ahead) (whole_opens options r ahead)) whole
 
     abbrev chosen : (blank deep : Bool) → Opening
     chosen blank deep =
-        if blank then Blank else if deep then Takes IndentedCode (counted code_further ahead) else or_else (nests_if (container_of r)) (leaf_of options r ahead)
+        or_else (metadata_begun (metadata_kind options r) ahead)
+        (if blank then Blank else if deep then Takes IndentedCode (counted code_further ahead) else or_else (nests_if (container_of r)) (leaf_of options r ahead))
 
-    pub opens-blank : is_blank_line r ≡ true → opens options r ahead ≡ Blank
+    pub opens-blank : is_blank_line r ≡ true → opens options r ahead ≡ or_else (metadata_begun (metadata_kind options r) ahead) Blank
     opens-blank blank = as_whole ∙ ap (λ z. chosen z (nat_le 4 (indent_of r))) blank
 
-    pub opens-code : is_blank_line r ≡ false → 4 ≤ indent_of r → opens options r ahead ≡ Takes IndentedCode (counted code_further ahead)
+    pub opens-code : is_blank_line r ≡ false → 4 ≤ indent_of r → opens options r ahead ≡ or_else (metadata_begun (metadata_kind options r) ahead) (Takes IndentedCode (counted code_further ahead))
     opens-code blank deep = as_whole ∙ ap (λ z. chosen z (nat_le 4 (indent_of r))) blank ∙ ap (chosen false) (at_least (indent_of r) deep)
       where
         at_least : (n : ℕ) → 4 ≤ n → nat_le 4 n ≡ true
         at_least n le = grind (arith)
 
-    pub opens-shallow : is_blank_line r ≡ false → indent_of r ≤ 3 → opens options r ahead ≡ or_else (nests_if (begun_container r)) (leaf_of options r ahead)
+    pub opens-shallow : is_blank_line r ≡ false → indent_of r ≤ 3 → opens options r ahead ≡ or_else (metadata_begun (metadata_kind options r) ahead) (or_else (nests_if (begun_container r)) (leaf_of options r ahead))
     opens-shallow blank le =
         as_whole ∙ ap (λ z. chosen z (nat_le 4 (indent_of r))) blank ∙ ap (chosen false) (below (indent_of r) le)
-        ∙ ap (λ o. or_else (nests_if o) (leaf_of options r ahead)) (sym (ap (λ z. if z then container_of r else None) (at_most (indent_of r) le)))
+        ∙ ap (λ o. or_else (metadata_begun (metadata_kind options r) ahead) (or_else (nests_if o) (leaf_of options r ahead))) (sym (ap (λ z. if z then container_of r else None) (at_most (indent_of r) le)))
       where
         below : (n : ℕ) → n ≤ 3 → nat_le 4 n ≡ false
         below n le = grind (arith)
 
         at_most : (n : ℕ) → n ≤ 3 → nat_le n 3 ≡ true
         at_most n le = grind (arith)
+
+-- with no line ahead none begins metadata
+pub none_ahead : (o : Option MetadataBlockKind) (other : Opening) → or_else (metadata_begun o []) other ≡ other
+none_ahead None other = refl
+none_ahead (Some kind) other = refl
 
 entered-past : (k : Container) (r : Row) → (enter k r).past ≡ r.past
 unfolding enter

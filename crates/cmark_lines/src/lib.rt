@@ -1,10 +1,11 @@
 //! What a line is behind the prefixes of the containers around it: which containers keep it, what it begins, whether it
-//! interrupts a paragraph, and what it does to a code or HTML block. Each answer is that of the grammar's definitions.
+//! interrupts a paragraph, and what it does to a code, HTML or metadata block. Each answer is that of the grammar's definitions.
 #![tactic(auto)]
 
 mod container;
 mod interrupt;
 mod line_rest;
+mod metadata;
 mod opening;
 mod verbatim;
 
@@ -12,5 +13,6 @@ pub use cmark_scan::{CodeFence, HtmlKind};
 pub use container::{Container, ContainerStart, ItemStart};
 pub use interrupt::{interrupts, underlines};
 pub use line_rest::LineRest;
+pub use metadata::{ends_metadata, metadata_kind};
 pub use opening::{Opening, what_opens};
 pub use verbatim::{Further, Verbatim, ends_at_once};

@@ -29,7 +29,7 @@ impl<'a> LineRest<'a> {
     ghost use Rattle.cmark_grammar.specs.Columns.{bytes_of};
     ghost use Rattle.cmark_grammar.specs.Letters.{is_letter, first_is};
     ghost use Rattle.cmark_grammar.specs.Lines.{lines};
-    ghost use Rattle.cmark_grammar.specs.Rows.{row_at, rows_from, without, is_blank_line, indent_of, words_of, begin_of, start_of};
+    ghost use Rattle.cmark_grammar.specs.Rows.{row_at, rows_from, without, is_blank_line, is_whole_line, indent_of, words_of, begin_of, start_of};
     ghost use Rattle.cmark_scan.specs.LineStart.{cut_columns};
     ghost use Rattle.cmark_lines.specs.Rests.{row_of, no_row, IsIn};
 
@@ -71,6 +71,14 @@ impl<'a> LineRest<'a> {
         ensures boundary { (text : List ℕ) → IsIn text self.now → IsCharBoundary text result }
     {
         self.start + self.front.bytes_scanned()
+    }
+
+    /// Whether nothing was taken of the line, so that it stands in no container.
+    #[inline]
+    pub fn is_whole(&self) -> bool
+        ensures { result ≡ is_whole_line (row_of self.now) }
+    {
+        self.begin() == self.start
     }
 
     /// The place behind the spaces and tabs in front: that of the words.

@@ -4,7 +4,8 @@ ghost use Rattle.std.specs.Prelude.{◌≡◌, ℕ, List};
 ghost use Rattle.cmark_grammar.specs.Options.{Options};
 ghost use Rattle.cmark_grammar.specs.Rows.{Row, words_of, indent_of};
 ghost use Rattle.cmark_grammar.specs.Containers.{begins_with};
-ghost use Rattle.cmark_grammar.specs.Openings.{opens, leaf_of};
+ghost use Rattle.cmark_grammar.specs.Metadata.{metadata_kind};
+ghost use Rattle.cmark_grammar.specs.Openings.{opens, or_else, metadata_begun, leaf_of};
 ghost use Rattle.cmark_lines.specs.Rests.{row_of, CutsNoCharacter, IsIn};
 ghost use Rattle.cmark_lines.specs.Opened.{opened, HasInside, InsideIsShorter, HasInfo, HasBracket, InsideIsIn, InfoIsIn};
 
@@ -14,7 +15,7 @@ use crate::line_rest::LineRest;
 use cmark_scan::{CodeFence, HtmlKind, html_kind, scan_atx_heading, scan_code_fence, scan_hrule};
 use cmark_text::HeadingLevel;
 
-/// What a line begins that lacks no prefix of the containers around it.
+/// What a line begins that lacks no prefix of the containers around it, metadata aside.
 #[derive(Clone, Copy, Debug)]
 pub enum Opening<'a> {
     /// Nothing: the line is blank.
@@ -43,10 +44,11 @@ pub enum Opening<'a> {
     Plain,
 }
 
-/// What the line begins. A line that is indented by four columns or more begins an indented code block, unless it is blank;
-/// behind up to three columns a container's marker comes first, then the leaf blocks.
+/// What the line begins, where it begins no metadata. A line that is indented by four columns or more begins an indented code
+/// block, unless it is blank; behind up to three columns a container's marker comes first, then the leaf blocks.
 pub fn what_opens<'a>(rest: LineRest<'a>) -> Opening<'a>
-    ensures opens { (options : Options) (ahead : List Row) → opens options (row_of rest.entry) ahead ≡ opened options result (row_of rest.entry) ahead }
+    ensures opens { (options : Options) (ahead : List Row) → opens options (row_of rest.entry) ahead
+        ≡ or_else (metadata_begun (metadata_kind options (row_of rest.entry)) ahead) (opened options result (row_of rest.entry) ahead) }
     ensures inside { HasInside result (row_of rest.entry) }
     ensures shorter { InsideIsShorter result (row_of rest.entry) }
     ensures info { HasInfo result (row_of rest.entry) }

@@ -1,6 +1,6 @@
 -- Which nodes are leaves, and what is inside them.
 use Rattle.std.proofs.Common.{◌≡◌, Bool, true, false, if◌then◌else◌, List, [], ◌∷◌, refl, ap}
-use Rattle.cmark_grammar.specs.BlockDocument.{BlockKind, Paragraph, TightParagraph, Heading, ThematicBreak, IndentedCode, FencedCode, HtmlBlock, LinkDefinition, BlockQuote, BlockList, ListItem, Text, OwnedText, Html, BlockDocument, Nil, Node}
+use Rattle.cmark_grammar.specs.BlockDocument.{BlockKind, Paragraph, TightParagraph, Heading, ThematicBreak, IndentedCode, FencedCode, HtmlBlock, LinkDefinition, MetadataBlock, BlockQuote, BlockList, ListItem, Text, OwnedText, Html, BlockDocument, Nil, Node}
 use Rattle.cmark_grammar.specs.BlockReading.{Around, Inside, Alone, Silent, read_as}
 use Rattle.cmark_grammar.specs.DrawnDocument.{kind_within, settled}
 use Rattle.cmark_grammar.specs.LeafText.{Stretch}
@@ -16,6 +16,7 @@ leaf-within tight ThematicBreak = refl
 leaf-within tight IndentedCode = refl
 leaf-within tight (FencedCode info) = refl
 leaf-within tight HtmlBlock = refl
+leaf-within tight (MetadataBlock kind) = refl
 leaf-within tight (LinkDefinition reference) = refl
 leaf-within tight (BlockQuote alert) = refl
 leaf-within tight (BlockList number t) = refl
@@ -39,6 +40,7 @@ only-leaves-inside ThematicBreak e = absurd (let q : Inside ≡ Alone _ = e in c
 only-leaves-inside IndentedCode e = absurd (let q : Inside ≡ Around _ = e in cc)
 only-leaves-inside (FencedCode info) e = absurd (let q : Inside ≡ Around _ = e in cc)
 only-leaves-inside HtmlBlock e = absurd (let q : Inside ≡ Around _ = e in cc)
+only-leaves-inside (MetadataBlock kind) e = absurd (let q : Inside ≡ Around _ = e in cc)
 only-leaves-inside (LinkDefinition reference) e = absurd (let q : Inside ≡ Silent = e in cc)
 only-leaves-inside (BlockQuote alert) e = absurd (let q : Inside ≡ Around _ = e in cc)
 only-leaves-inside (BlockList number tight) e = absurd (let q : Inside ≡ Around _ = e in cc)

@@ -11,7 +11,7 @@ use Rattle.std.proofs.lemmas.List.{same_from_push}
 use Rattle.std.proofs.lemmas.Option.{same_Some}
 use Rattle.std.specs.Char.{encode_utf8}
 use Rattle.cmark_text.specs.declared.text.CowStr.{CowStr}
-use Rattle.cmark_text.specs.Shown.{level_number, shown_block_quote_kind}
+use Rattle.cmark_text.specs.Shown.{level_number, shown_block_quote_kind, shown_metadata_block_kind}
 use Rattle.cmark_grammar.specs.Attributes.{no_attributes}
 use Rattle.cmark_grammar.specs.Tokens.{slice}
 use Rattle.cmark_grammar.specs.BlockDocument as document
@@ -147,7 +147,7 @@ kind-within text texts start end tight (body.BlockQuote x0) kind e = ap (tight_w
 kind-within text texts start end tight (body.List x0 x1 x2) kind e = ap (tight_within tight) (sym (same_Some (document.BlockList (list_number x1 x2) (is_tight x0)) kind e))
 kind-within text texts start end tight (body.ListItem x0) kind e = ap (tight_within tight) (sym (same_Some document.ListItem kind e))
 kind-within text texts start end tight (body.FootnoteDefinition x0) kind e = absurd (let q : None ≡ Some kind = e in cc)
-kind-within text texts start end tight (body.MetadataBlock x0) kind e = absurd (let q : None ≡ Some kind = e in cc)
+kind-within text texts start end tight (body.MetadataBlock x0) kind e = ap (tight_within tight) (sym (same_Some (document.MetadataBlock (shown_metadata_block_kind x0)) kind e))
 kind-within text texts start end tight (body.DefinitionList x0) kind e = absurd (let q : None ≡ Some kind = e in cc)
 kind-within text texts start end tight body.MaybeDefinitionListTitle kind e = absurd (let q : None ≡ Some kind = e in cc)
 kind-within text texts start end tight body.DefinitionListTitle kind e = absurd (let q : None ≡ Some kind = e in cc)

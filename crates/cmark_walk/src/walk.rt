@@ -33,8 +33,8 @@ use std::alloc::{AllocError, Global};
 
 /// A walk over the tree of a document, which meets the events of its blocks and the lines of its leaves in the order of the text.
 ///
-/// A leaf is a paragraph or a heading: whether a text is content that has spans is seen from the node around it, so the texts of code
-/// and of HTML blocks are events. A paragraph that stands directly in an item of a tight list is met as its lines alone (CommonMark
+/// A leaf is a paragraph or a heading: whether a text is content that has spans is seen from the node around it, so the texts of code,
+/// of HTML blocks and of metadata are events. A paragraph that stands directly in an item of a tight list is met as its lines alone (CommonMark
 /// 5.3).
 #[derive(Drop)]
 pub struct Walk<'a> {
@@ -336,6 +336,7 @@ impl<'a> Walk<'a> {
                 Ok(Some(Tag::CodeBlock(CodeBlockKind::Fenced(info))))
             }
             ItemBody::HtmlBlock => Ok(Some(Tag::HtmlBlock)),
+            ItemBody::MetadataBlock(kind) => Ok(Some(Tag::MetadataBlock(kind))),
             ItemBody::BlockQuote(kind) => Ok(Some(Tag::BlockQuote(kind))),
             ItemBody::List(_, mark, number) => Ok(Some(Tag::List(first_number(mark, number)))),
             ItemBody::ListItem(_) => Ok(Some(Tag::Item)),
@@ -362,6 +363,7 @@ impl<'a> Walk<'a> {
             ItemBody::IndentCodeBlock => Some(TagEnd::CodeBlock),
             ItemBody::FencedCodeBlock(_) => Some(TagEnd::CodeBlock),
             ItemBody::HtmlBlock => Some(TagEnd::HtmlBlock),
+            ItemBody::MetadataBlock(kind) => Some(TagEnd::MetadataBlock(kind)),
             ItemBody::BlockQuote(kind) => Some(TagEnd::BlockQuote(kind)),
             ItemBody::List(_, mark, number) => {
                 Some(TagEnd::List(first_number(mark, number).is_some()))

@@ -52,12 +52,12 @@ pub static FLAGS: [LineFlag; 15] = [
     LineFlag {
         name: "yaml-metadata",
         option: Options::ENABLE_YAML_STYLE_METADATA_BLOCKS,
-        help: "Metadata between lines of --- (no effect yet)",
+        help: "Metadata between lines of ---",
     },
     LineFlag {
         name: "plus-metadata",
         option: Options::ENABLE_PLUSES_DELIMITED_METADATA_BLOCKS,
-        help: "Metadata between lines of +++ (no effect yet)",
+        help: "Metadata between lines of +++",
     },
     LineFlag {
         name: "old-footnotes",

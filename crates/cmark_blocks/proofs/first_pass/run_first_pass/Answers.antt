@@ -9,7 +9,7 @@ pub returns : goal.returns
 returns g c =
     let replacement = g.E.EntityLookup.replacement in
     let text = c.args.text.now in
-    let options = shown_options c.args._options in
+    let options = shown_options c.args.options in
     let lookup = replacement c.args.entities.now in
     let fed = c.in_ok-feed_all.ensures.runs text options lookup at_start c.in_ok-pass.ensures.runs in
     record {

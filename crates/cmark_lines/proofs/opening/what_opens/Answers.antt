@@ -1,11 +1,12 @@
 use Rattle.std.proofs.Common.{◌≡◌, ◌≤◌, [], sym, ap, ◌∙◌, arith}
 use Rattle.cmark_grammar.specs.Options.{no_options}
 use Rattle.cmark_grammar.specs.Rows.{indent_of}
-use Rattle.cmark_grammar.specs.Openings.{Nests, or_else, nests_if, leaf_of, opens}
+use Rattle.cmark_grammar.specs.Openings.{Nests, or_else, nests_if, metadata_begun, leaf_of, opens}
+use Rattle.cmark_grammar.specs.Metadata.{metadata_kind}
 use Rattle.cmark_lines.specs.Rests.{row_of}
 use Rattle.cmark_lines.specs.Starts.{shown_start, inside_of}
 use Rattle.cmark_lines.proofs.RestSteps.{whole}
-use Rattle.cmark_lines.proofs.OpeningRows.{opens-blank, opens-code, opens-shallow, begun-in, begun-shorter}
+use Rattle.cmark_lines.proofs.OpeningRows.{opens-blank, opens-code, opens-shallow, none_ahead, begun-in, begun-shorter}
 use Rattle.cmark_lines.proofs.opening.what_opens.Goals as goal
 
 pub returns-then-is_blank-clause-opens : goal.returns-then-is_blank-clause-opens
@@ -21,15 +22,18 @@ pub returns-in-Some-clause-opens : goal.returns-in-Some-clause-opens
 returns-in-Some-clause-opens c options ahead =
     let count = c.indent_upto-indent.ensures in
     let other = c.if-indent-eq4.false in
-    opens-shallow options (row_of c.args.rest) ahead (whole c.args.rest) (sym c.if-is_blank.ensures) (omega (arith, count, other))
-    ∙ ap (λ o. or_else (nests_if o) (leaf_of options (row_of c.args.rest) ahead)) (sym c.in-Some.ensures.container)
+    let row = row_of c.args.rest in
+    opens-shallow options row ahead (whole c.args.rest) (sym c.if-is_blank.ensures) (omega (arith, count, other))
+    ∙ ap (λ o. or_else (metadata_begun (metadata_kind options row) ahead) (or_else (nests_if o) (leaf_of options row ahead))) (sym c.in-Some.ensures.container)
 
 begun : (c : goal.In-Some) → opens no_options (row_of c.args.rest) [] ≡ Nests (shown_start c.in-Some.start)
 begun c =
     let count = c.indent_upto-indent.ensures in
     let other = c.if-indent-eq4.false in
-    opens-shallow no_options (row_of c.args.rest) [] (whole c.args.rest) (sym c.if-is_blank.ensures) (omega (arith, count, other))
-    ∙ ap (λ o. or_else (nests_if o) (leaf_of no_options (row_of c.args.rest) [])) (sym c.in-Some.ensures.container)
+    let row = row_of c.args.rest in
+    opens-shallow no_options row [] (whole c.args.rest) (sym c.if-is_blank.ensures) (omega (arith, count, other))
+    ∙ none_ahead (metadata_kind no_options row) _
+    ∙ ap (λ o. or_else (nests_if o) (leaf_of no_options row [])) (sym c.in-Some.ensures.container)
 
 pub returns-in-Some-clause-placed : goal.returns-in-Some-clause-placed
 returns-in-Some-clause-placed c text = begun-in text c.args.rest (inside_of c.in-Some.start) (shown_start c.in-Some.start) (begun c) c.in-Some.ensures.inside
@@ -41,10 +45,11 @@ pub returns-clause-opens : goal.returns-clause-opens
 returns-clause-opens c options ahead =
     let count = c.indent_upto-indent.ensures in
     let other = c.if-indent-eq4.false in
-    let le : indent_of (row_of c.args.rest) ≤ 3 = omega (arith, count, other) in
-    opens-shallow options (row_of c.args.rest) ahead (whole c.args.rest) (sym c.if-is_blank.ensures) le
-    ∙ ap (λ o. or_else (nests_if o) (leaf_of options (row_of c.args.rest) ahead)) (sym c.in_default.ensures.container)
-    ∙ c.leaf_opening.ensures.opens options (row_of c.args.rest) ahead (sym c.words.ensures) (omega (arith, count, le))
+    let row = row_of c.args.rest in
+    let le : indent_of row ≤ 3 = omega (arith, count, other) in
+    opens-shallow options row ahead (whole c.args.rest) (sym c.if-is_blank.ensures) le
+    ∙ ap (λ o. or_else (metadata_begun (metadata_kind options row) ahead) (or_else (nests_if o) (leaf_of options row ahead))) (sym c.in_default.ensures.container)
+    ∙ ap (or_else (metadata_begun (metadata_kind options row) ahead)) (c.leaf_opening.ensures.opens options row ahead (sym c.words.ensures) (omega (arith, count, le)))
 
 pub returns-clause-placed : goal.returns-clause-placed
 returns-clause-placed c text placed = c.leaf_opening.ensures.placed text

@@ -16,10 +16,10 @@ returns-then-begin-past-clause-runs g c text options lookup m runs =
     let replacement = g.E.EntityLookup.replacement in
     let before = c.args.self.now in
     let row = row_of c.args.rest in
-    subst (λ p. Runs replacement text lookup p (record before { leaf = leaf.Paragraph c.args.from c.args.rest }))
+    subst (λ p. Runs replacement text options lookup p (record before { leaf = leaf.Paragraph c.args.from c.args.rest }))
     (sym (line-touches text options lookup row m c.args.from (row_of c.args.last) (sym c.begin-begin.ensures.place ∙ c.if-begin-past.true ∙ c.past.ensures.place)))
-    (runs-leaf replacement text lookup m before (leaf.Paragraph c.args.from c.args.rest) (model.InParagraph c.args.from row) runs
-    (refl, none_behind_paragraph replacement text lookup m before c.args.from c.args.last c.requires.is runs))
+    (runs-leaf replacement text options lookup m before (leaf.Paragraph c.args.from c.args.rest) (model.InParagraph c.args.from row) runs
+    (refl, none_behind_paragraph replacement text options lookup m before c.args.from c.args.last c.requires.is runs))
 
 pub returns-clause-runs : goal.returns-clause-runs
 returns-clause-runs g c text options lookup m runs =
@@ -30,8 +30,8 @@ returns-clause-runs g c text options lookup m runs =
     let last = row_of c.args.last in
     let lines = c.in_ok-draw_lines.ensures.drawn text m.drawing runs.drawing in
     let leaf_open = leaf.Paragraph c.begin-begin.result c.args.rest in
-    subst (λ p. Runs replacement text lookup p (record before { builder = new; leaf = leaf_open }))
+    subst (λ p. Runs replacement text options lookup p (record before { builder = new; leaf = leaf_open }))
     (sym (line-apart text options lookup row m c.args.from last (λ e. c.if-begin-past.false (c.begin-begin.ensures.place ∙ e ∙ sym c.past.ensures.place))))
-    (runs-leaf replacement text lookup _ _ leaf_open (model.InParagraph (begin_of row) row)
-    (runs-builder replacement text lookup m before new (drawn (stretch_then text c.args.from last.past Nil) m.drawing) runs lines c.in_ok-draw_lines.ensures.references)
-    (ap (λ from. model.InParagraph from row) (sym c.begin-begin.ensures.place), none_behind_paragraph replacement text lookup m before c.args.from c.args.last c.requires.is runs))
+    (runs-leaf replacement text options lookup _ _ leaf_open (model.InParagraph (begin_of row) row)
+    (runs-builder replacement text options lookup m before new (drawn (stretch_then text c.args.from last.past Nil) m.drawing) runs lines c.in_ok-draw_lines.ensures.references)
+    (ap (λ from. model.InParagraph from row) (sym c.begin-begin.ensures.place), none_behind_paragraph replacement text options lookup m before c.args.from c.args.last c.requires.is runs))

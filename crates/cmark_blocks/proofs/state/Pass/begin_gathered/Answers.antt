@@ -19,7 +19,7 @@ returns-in_default-clause-runs g c text options lookup m inside bare runs =
     let holds = c.requires.holds text options lookup m runs in
     let more = left_bytes text options lookup m c.args.rest gathered holds in
     let none : None ≡ definition_in para = ap (option_map (shown_definition para)) (sym c.in_default.is) ∙ c.scan_definition.ensures.value in
-    subst (λ p. Runs replacement text lookup p c.begin_paragraph.new.self)
+    subst (λ p. Runs replacement text options lookup p c.begin_paragraph.new.self)
     (begins-none text options lookup m inside r ahead bare
     (ap (option_map (defined_before more)) none ∙ decided text options lookup m c.args.rest gathered holds para c.as_str-paragraph.ensures.value (c.requires.decides text options lookup m runs)))
     (c.in_ok-begin_paragraph.ensures.runs text options lookup m runs)
@@ -35,10 +35,10 @@ returns-clause-runs g c text options lookup m inside bare runs =
     let holds = c.requires.holds text options lookup m runs in
     let more = left_bytes text options lookup m c.args.rest gathered holds in
     let some : Some found ≡ definition_in para = ap (option_map (shown_definition para)) (sym c.in-Some.is) ∙ c.scan_definition.ensures.value in
-    subst (λ p. Runs replacement text lookup p c.begin_definition.new.self)
+    subst (λ p. Runs replacement text options lookup p c.begin_definition.new.self)
     (begins-definition text options lookup m inside r ahead bare (defined_before more found) c.words_begin.result c.stop_behind-end.result c.saturating_sub-more.result
     (ap (option_map (defined_before more)) some ∙ decided text options lookup m c.args.rest gathered holds para c.as_str-paragraph.ensures.value (c.requires.decides text options lookup m runs))
     c.words_begin.ensures.place
     (c.saturating_sub-more.ensures ∙ ap (λ n. gathered.lines - n) c.line_ends_behind-behind.ensures ∙ lines-taken text options lookup m c.args.rest gathered holds found.behind)
     (c.stop_behind-end.ensures text options lookup m runs))
-    (c.in_ok-begin_definition.ensures.runs text lookup m runs)
+    (c.in_ok-begin_definition.ensures.runs text options lookup m runs)

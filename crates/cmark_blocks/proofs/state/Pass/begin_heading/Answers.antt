@@ -20,7 +20,7 @@ returns-clause-runs g c text options lookup m ahead runs =
     let row = row_of c.args.rest in
     let n = level_number c.args.level in
     let kind = Heading n no_attributes in
-    let r = c.begin_block.ensures.runs text lookup m runs in
+    let r = c.begin_block.ensures.runs text options lookup m runs in
     let begun : Drawing = opened (start_of row) kind d in
     let open_one = subst (λ start. Draws text c.open.new.self (opened start kind d)) c.words_begin.ensures.place
     (draws-open text before.builder c.open.new.self c.words_begin.result _ kind d c.in_ok-open.ensures.ok c.in_ok-open.ensures.tables refl r.drawing) in
@@ -28,5 +28,5 @@ returns-clause-runs g c text options lookup m ahead runs =
     let level = subst (λ l. Draws text c.draw_heading.new.builder (drawn (heading_tokens text l row) begun)) (sym c.requires.level) line in
     let draws = subst (λ past. Draws text c.close.new.self (closed_at past (drawn (heading_tokens text n row) begun))) c.past.ensures.place
     (draws-close text c.draw_heading.new.builder c.close.new.self c.past.result (drawn (heading_tokens text n row) begun) c.close.ensures.closed c.close.ensures.none c.close.ensures.tables level) in
-    runs-builder replacement text lookup (block_begun m) before c.close.new.self (drawn (Node (node kind (start_of row) row.past) (heading_tokens text n row) Nil) d) r draws
+    runs-builder replacement text options lookup (block_begun m) before c.close.new.self (drawn (Node (node kind (start_of row) row.past) (heading_tokens text n row) Nil) d) r draws
     (ap (λ a. a.refdefs) c.close.ensures.tables ∙ c.in_ok-draw_heading.ensures.references ∙ ap (λ a. a.refdefs) c.in_ok-open.ensures.tables)

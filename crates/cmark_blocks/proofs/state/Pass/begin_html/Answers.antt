@@ -21,19 +21,19 @@ returns-then-ends_at_once-clause-runs g c more text options lookup m ahead runs 
     let d = (block_begun m).drawing in
     let row = row_of c.args.rest in
     let kind = kind_number c.args.kind in
-    let r = c.begin_block.ensures.runs text lookup m runs in
+    let r = c.begin_block.ensures.runs text options lookup m runs in
     let begun : Drawing = opened (begin_of row) HtmlBlock d in
     let first = subst (λ start. Draws text c.open.new.self (opened start HtmlBlock d)) c.begin.ensures.place
     (draws-open text before.builder c.open.new.self c.begin.result _ HtmlBlock d c.in_ok-open.ensures.ok c.in_ok-open.ensures.tables refl r.drawing) in
     let line : Drawing = drawn (html_then (verbatim_line text row.columns row) Nil) begun in
     let draws = subst (λ past. Draws text c.close.new.self (closed_at past line)) c.past.ensures.place
     (draws-close text c.draw_html_line.new.builder c.close.new.self c.past.result line c.close.ensures.closed c.close.ensures.none c.close.ensures.tables (c.in_ok-draw_html_line.ensures.drawn text begun first)) in
-    subst (λ b. Runs replacement text lookup (html_begun text options lookup b kind row.past (html_line text options lookup row (node_opened (begin_of row) HtmlBlock (block_begun m)))) (record before { builder = c.close.new.self; leaf = leaf.Closed }))
+    subst (λ b. Runs replacement text options lookup (html_begun text options lookup b kind row.past (html_line text options lookup row (node_opened (begin_of row) HtmlBlock (block_begun m)))) (record before { builder = c.close.new.self; leaf = leaf.Closed }))
     (sym c.if-ends_at_once.true ∙ c.ends_at_once.ensures)
-    (runs-leaf replacement text lookup _ _ leaf.Closed model.Closed
-    (runs-builder replacement text lookup (block_begun m) before c.close.new.self (closed_at row.past line) r draws
+    (runs-leaf replacement text options lookup _ _ leaf.Closed model.Closed
+    (runs-builder replacement text options lookup (block_begun m) before c.close.new.self (closed_at row.past line) r draws
     (ap (λ a. a.refdefs) c.close.ensures.tables ∙ c.in_ok-draw_html_line.ensures.references ∙ ap (λ a. a.refdefs) c.in_ok-open.ensures.tables))
-    (refl, ap (λ b. b.items) c.begin_block.ensures.blank_lines ∙ none_behind_closed replacement text lookup m c.args.self.now c.requires.closed runs))
+    (refl, ap (λ b. b.items) c.begin_block.ensures.blank_lines ∙ none_behind_closed replacement text options lookup m c.args.self.now c.requires.closed runs))
 
 pub returns-else-ends_at_once-clause-runs : goal.returns-else-ends_at_once-clause-runs
 returns-else-ends_at_once-clause-runs g c more text options lookup m ahead runs =
@@ -42,14 +42,14 @@ returns-else-ends_at_once-clause-runs g c more text options lookup m ahead runs 
     let d = (block_begun m).drawing in
     let row = row_of c.args.rest in
     let kind = kind_number c.args.kind in
-    let r = c.begin_block.ensures.runs text lookup m runs in
+    let r = c.begin_block.ensures.runs text options lookup m runs in
     let begun : Drawing = opened (begin_of row) HtmlBlock d in
     let first = subst (λ start. Draws text c.open.new.self (opened start HtmlBlock d)) c.begin.ensures.place
     (draws-open text before.builder c.open.new.self c.begin.result _ HtmlBlock d c.in_ok-open.ensures.ok c.in_ok-open.ensures.tables refl r.drawing) in
     let line : Drawing = drawn (html_then (verbatim_line text row.columns row) Nil) begun in
-    subst (λ b. Runs replacement text lookup (html_begun text options lookup b kind row.past (html_line text options lookup row (node_opened (begin_of row) HtmlBlock (block_begun m)))) (record before { builder = c.draw_html_line.new.builder; leaf = leaf.Html c.args.kind }))
+    subst (λ b. Runs replacement text options lookup (html_begun text options lookup b kind row.past (html_line text options lookup row (node_opened (begin_of row) HtmlBlock (block_begun m)))) (record before { builder = c.draw_html_line.new.builder; leaf = leaf.Html c.args.kind }))
     (sym c.if-ends_at_once.false ∙ c.ends_at_once.ensures)
-    (runs-leaf replacement text lookup _ _ (leaf.Html c.args.kind) (model.InHtml kind)
-    (runs-builder replacement text lookup (block_begun m) before c.draw_html_line.new.builder line r (c.in_ok-draw_html_line.ensures.drawn text begun first)
+    (runs-leaf replacement text options lookup _ _ (leaf.Html c.args.kind) (model.InHtml kind)
+    (runs-builder replacement text options lookup (block_begun m) before c.draw_html_line.new.builder line r (c.in_ok-draw_html_line.ensures.drawn text begun first)
     (c.in_ok-draw_html_line.ensures.references ∙ ap (λ a. a.refdefs) c.in_ok-open.ensures.tables))
-    (refl, ap (λ b. b.items) c.begin_block.ensures.blank_lines ∙ none_behind_closed replacement text lookup m c.args.self.now c.requires.closed runs))
+    (refl, ap (λ b. b.items) c.begin_block.ensures.blank_lines ∙ none_behind_closed replacement text options lookup m c.args.self.now c.requires.closed runs))

@@ -19,7 +19,7 @@ begin_heading-requires-clause-level g c = heading-level (row_of c.args.rest) c.a
 pub returns-in-Blank-clause-runs : goal.returns-in-Blank-clause-runs
 returns-in-Blank-clause-runs g c =
     subst (λ o. BeginsAs g.E.EntityLookup.replacement o c.args.bare c.args.rest c.args.self.now c.pass_blank_line.new.self) (sym c.in-Blank.is)
-    (λ text options lookup m inside runs. c.pass_blank_line.ensures.runs text lookup m runs)
+    (λ text options lookup m inside runs. c.pass_blank_line.ensures.runs text options lookup m runs)
 
 pub returns-in-IndentedCode-clause-runs : goal.returns-in-IndentedCode-clause-runs
 returns-in-IndentedCode-clause-runs g c =
@@ -62,3 +62,10 @@ returns-in-Plain-clause-runs g c =
     (λ begins. subst (λ o. BeginsAs g.E.EntityLookup.replacement o c.args.bare c.args.rest c.args.self.now c.begin_paragraph.new.self) (sym c.in-Plain.is)
     (λ text options lookup m inside runs. begins text options lookup m runs))
     c.begin_paragraph.ensures.runs
+
+pub returns-in-Bracket-clause-runs : goal.returns-in-Bracket-clause-runs
+returns-in-Bracket-clause-runs g c =
+    on_ok_weaker c.begin_bracket.result
+    (λ begins. subst (λ o. BeginsAs g.E.EntityLookup.replacement o c.args.bare c.args.rest c.args.self.now c.begin_bracket.new.self) (sym c.in-Bracket.is)
+    (λ text options lookup m inside runs. begins text options lookup m inside c.args.bare runs))
+    c.begin_bracket.ensures.runs

@@ -9,17 +9,17 @@ use Rattle.cmark_blocks.proofs.RunSteps.{runs-builder, runs-inner}
 use Rattle.cmark_blocks.proofs.state.Pass.begin_list.Goals as goal
 
 pub returns-clause-runs : goal.returns-clause-runs
-returns-clause-runs g c text lookup m runs =
+returns-clause-runs g c text options lookup m runs =
     let replacement = g.E.EntityLookup.replacement in
     let item = c.args.item in
     let start = c.args.start in
     let before = c.begin_block.new.self in
-    let r = c.begin_block.ensures.runs text lookup m runs in
+    let r = c.begin_block.ensures.runs text options lookup m runs in
     let number : list_number item.mark c.unwrap_or-number.result ≡ item.number = ap (list_number item.mark) c.unwrap_or-number.ensures ∙ c.requires.number in
     let draws = draws-open text before.builder c.open.new.self start _ (BlockList item.number false) (block_begun m).drawing c.in_ok-open.ensures.ok c.in_ok-open.ensures.tables
     (ap (λ n. Some (node (BlockList n (is_tight c.list_flags.result)) start start)) number ∙ ap (λ t. Some (node (BlockList item.number t) start start)) c.list_flags.ensures)
     r.drawing in
-    runs-inner replacement text lookup _ _ _ _
-    (runs-builder replacement text lookup (block_begun m) before c.open.new.self (opened start (BlockList item.number false) (block_begun m).drawing) r draws (ap (λ a. a.refdefs) c.in_ok-open.ensures.tables))
+    runs-inner replacement text options lookup _ _ _ _
+    (runs-builder replacement text options lookup (block_begun m) before c.open.new.self (opened start (BlockList item.number false) (block_begun m).drawing) r draws (ap (λ a. a.refdefs) c.in_ok-open.ensures.tables))
     (ap {A = model.Siblings} {B = model.Siblings} (λ s. record s { list = Some (record { mark = item.mark; number = list_number item.mark c.unwrap_or-number.result; loose = false; end = start }) }) r.inner
     ∙ ap {A = Option ℕ} {B = model.Siblings} (λ n. record (block_begun m).inner { list = Some (record { mark = item.mark; number = n; loose = false; end = start }) }) number)

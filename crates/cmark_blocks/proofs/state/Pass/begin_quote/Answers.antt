@@ -8,9 +8,9 @@ use Rattle.cmark_blocks.proofs.RunSteps.{runs-builder}
 use Rattle.cmark_blocks.proofs.state.Pass.begin_quote.Goals as goal
 
 pub returns-clause-runs : goal.returns-clause-runs
-returns-clause-runs g c text lookup m runs =
+returns-clause-runs g c text options lookup m runs =
     let before = c.begin_block.new.self in
-    let r = c.begin_block.ensures.runs text lookup m runs in
+    let r = c.begin_block.ensures.runs text options lookup m runs in
     let draws = draws-open text before.builder c.open.new.self c.args.start _ (BlockQuote None) (block_begun m).drawing c.in_ok-open.ensures.ok c.in_ok-open.ensures.tables refl r.drawing in
-    c.in_ok-enter.ensures.runs Quote tt text lookup _
-    (runs-builder g.E.EntityLookup.replacement text lookup (block_begun m) before c.open.new.self (opened c.args.start (BlockQuote None) (block_begun m).drawing) r draws (ap (λ a. a.refdefs) c.in_ok-open.ensures.tables))
+    c.in_ok-enter.ensures.runs Quote tt text options lookup _
+    (runs-builder g.E.EntityLookup.replacement text options lookup (block_begun m) before c.open.new.self (opened c.args.start (BlockQuote None) (block_begun m).drawing) r draws (ap (λ a. a.refdefs) c.in_ok-open.ensures.tables))

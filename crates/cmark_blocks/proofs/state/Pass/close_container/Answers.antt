@@ -9,18 +9,18 @@ use Rattle.cmark_blocks.proofs.RunSteps.{shows-unsnoc, shows-none, runs-builder,
 use Rattle.cmark_blocks.proofs.state.Pass.close_container.Goals as goal
 
 pub returns-in-Some-clause-runs : goal.returns-in-Some-clause-runs
-returns-in-Some-clause-runs g c text lookup m outer last split runs =
+returns-in-Some-clause-runs g c text options lookup m outer last split runs =
     let replacement = g.E.EntityLookup.replacement in
     let before = c.close_list.new.self in
-    let r = c.close_list.ensures.runs text lookup m runs in
+    let r = c.close_list.ensures.runs text options lookup m runs in
     let parts = shows-unsnoc c.pop.new.self.items outer c.in-Some.open last
     (subst (λ items. ShowsContainers items (outer ++ last ∷ [])) c.in-Some.ensures.items (subst (ShowsContainers before.outer.items) split r.outer)) in
     let drawing = list_closed m.inner.list m.drawing in
     let draws = subst (λ end. Draws text c.close.new.self (closed_at end drawing)) r.past
     (draws-close text before.builder c.close.new.self before.past drawing c.close.ensures.closed c.close.ensures.none c.close.ensures.tables r.drawing) in
-    runs-inner replacement text lookup _ _ c.siblings_behind-self.result (behind_container last.container m.past m.inner last.around)
-    (runs-builder replacement text lookup _ _ c.close.new.self (closed_at m.past drawing)
-    (runs-outer replacement text lookup _ before c.pop.new.self outer r parts.0) draws (ap (λ a. a.refdefs) c.close.ensures.tables))
+    runs-inner replacement text options lookup _ _ c.siblings_behind-self.result (behind_container last.container m.past m.inner last.around)
+    (runs-builder replacement text options lookup _ _ c.close.new.self (closed_at m.past drawing)
+    (runs-outer replacement text options lookup _ before c.pop.new.self outer r parts.0) draws (ap (λ a. a.refdefs) c.close.ensures.tables))
     (c.siblings_behind-self.ensures last parts.1
     ∙ ap (λ end. behind_container last.container end (shown_siblings before.inner) last.around) r.past
     ∙ ap (λ inside. behind_container last.container m.past inside last.around) r.inner)
@@ -32,8 +32,8 @@ returns-in-Some-clause-fewer g c =
     omega (arith, items, same)
 
 pub returns-in_default-clause-runs : goal.returns-in_default-clause-runs
-returns-in_default-clause-runs g c text lookup m outer last split runs =
-    let r = c.close_list.ensures.runs text lookup m runs in
+returns-in_default-clause-runs g c text options lookup m outer last split runs =
+    let r = c.close_list.ensures.runs text options lookup m runs in
     absurd (shows-none outer last (subst (λ items. ShowsContainers items (outer ++ last ∷ [])) (nil_from_length c.close_list.new.self.outer.items (omega (arith, c.close_list.new.self.outer.ok, c.in_default.ensures.cases.0))) (subst (ShowsContainers c.close_list.new.self.outer.items) split r.outer)))
 
 pub returns-in_default-clause-fewer : goal.returns-in_default-clause-fewer

@@ -19,9 +19,9 @@ returns-clause-runs g c text options lookup m runs =
     let d : Drawing = drawn (texts_of (rest_of (shown_waits text c.args.waits))) m.drawing in
     let draws = draws-close text built c.close.new.self c.args.end d c.close.ensures.closed c.close.ensures.none c.close.ensures.tables (c.in_ok-draw_stretch.ensures.drawn text m.drawing runs.drawing) in
     let shows = subst (λ l. ShowsLeaf text l before.blank_lines.items m.leaf) c.requires.is runs.leaf in
-    subst (λ l. Runs replacement text lookup (close_leaf text options lookup l m) (record before { builder = c.close.new.self; inner = record before.inner { blank = c.has_lines-self.result }; blank_lines = c.clear.new.self; leaf = leaf.Closed })) (sym shows)
-    (runs-closed replacement text lookup _ _ c.clear.new.self
-    (runs-inner replacement text lookup _ _ (record before.inner { blank = c.has_lines-self.result }) _
-    (runs-builder replacement text lookup m before c.close.new.self (closed_at c.args.end d) runs draws (ap (λ a. a.refdefs) c.close.ensures.tables ∙ c.in_ok-draw_stretch.ensures.references))
+    subst (λ l. Runs replacement text options lookup (close_leaf text options lookup l m) (record before { builder = c.close.new.self; inner = record before.inner { blank = c.has_lines-self.result }; blank_lines = c.clear.new.self; leaf = leaf.Closed })) (sym shows)
+    (runs-closed replacement text options lookup _ _ c.clear.new.self
+    (runs-inner replacement text options lookup _ _ (record before.inner { blank = c.has_lines-self.result }) _
+    (runs-builder replacement text options lookup m before c.close.new.self (closed_at c.args.end d) runs draws (ap (λ a. a.refdefs) c.close.ensures.tables ∙ c.in_ok-draw_stretch.ensures.references))
     (ap {A = model.Siblings} {B = model.Siblings} (λ s. record s { blank = c.has_lines-self.result }) runs.inner ∙ ap {B = model.Siblings} (λ b. record m.inner { blank = b }) (c.has_lines-self.ensures ∙ ap (λ xs. is_some (map row_of xs)) c.deref.ensures.value)))
     c.clear.ensures.items)

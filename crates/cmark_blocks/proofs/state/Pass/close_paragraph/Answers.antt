@@ -22,7 +22,7 @@ returns-clause-runs g c text options lookup m runs =
     let line = c.in_ok-draw_last_lines.ensures.drawn text m.drawing runs.drawing in
     let draws = subst (λ e. Draws text c.close.new.self (closed_at e d)) runs.past
     (draws-close text built c.close.new.self before.past d c.close.ensures.closed c.close.ensures.none c.close.ensures.tables line) in
-    subst (λ l. Runs replacement text lookup (close_leaf text options lookup l m) (record before { builder = c.close.new.self; leaf = leaf.Closed })) (sym shows.0)
-    (runs-leaf replacement text lookup _ _ leaf.Closed model.Closed
-    (runs-builder replacement text lookup m before c.close.new.self (closed_at m.past d) runs draws (ap (λ a. a.refdefs) c.close.ensures.tables ∙ c.in_ok-draw_last_lines.ensures.references))
+    subst (λ l. Runs replacement text options lookup (close_leaf text options lookup l m) (record before { builder = c.close.new.self; leaf = leaf.Closed })) (sym shows.0)
+    (runs-leaf replacement text options lookup _ _ leaf.Closed model.Closed
+    (runs-builder replacement text options lookup m before c.close.new.self (closed_at m.past d) runs draws (ap (λ a. a.refdefs) c.close.ensures.tables ∙ c.in_ok-draw_last_lines.ensures.references))
     (refl, shows.1))

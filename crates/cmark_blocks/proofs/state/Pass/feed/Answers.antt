@@ -26,10 +26,10 @@ returns-then-is_empty-clause-runs g c text options lookup m runs =
     let row = row_of c.args.line in
     let before = c.args.self.now in
     let none : vec_len before.outer ≡ 0 = is-zero (vec_len before.outer) (sym c.is_empty.ensures ∙ c.if-is_empty.true) in
-    let fed = c.in_ok-feed_leaf.ensures.runs text options lookup (record m { bare = false }) (runs-bare replacement text lookup m before false runs) in
-    subst (λ p. Runs replacement text lookup p (record c.feed_leaf.new.self { past = c.past-self.result }))
+    let fed = c.in_ok-feed_leaf.ensures.runs text options lookup (record m { bare = false }) (runs-bare replacement text options lookup m before false runs) in
+    subst (λ p. Runs replacement text options lookup p (record c.feed_leaf.new.self { past = c.past-self.result }))
     (fed-outside text options lookup row (lines_at text row.past) m before.outer.items (omega (arith, none, before.outer.ok.0)) runs.outer)
-    (runs-past replacement text lookup _ c.feed_leaf.new.self c.past-self.result row.past fed c.past-self.ensures.place)
+    (runs-past replacement text options lookup _ c.feed_leaf.new.self c.past-self.result row.past fed c.past-self.ensures.place)
 
 pub returns-clause-runs : goal.returns-clause-runs
 returns-clause-runs g c text options lookup m runs =
@@ -38,8 +38,8 @@ returns-clause-runs g c text options lookup m runs =
     let kept = c.kept_by-kept.result.0 in
     let rest = c.kept_by-kept.result.1 in
     let p : model.Pass = record m { bare = false } in
-    let fed = c.in_ok-feed_rest.ensures.runs text options lookup p (runs-bare replacement text lookup m c.args.self.now false runs) in
-    let there = subst (λ (past : ℕ). Runs replacement text lookup (line_with text options lookup (drop kept m.outer) (take kept m.outer) (row_of rest) (lines_at text past) p) c.feed_rest.new.self) (ap (λ (r : Row). r.past) (sym c.kept_by-kept.ensures.behind.1)) fed in
-    let whole = subst (λ (w : Kept text options lookup). Runs replacement text lookup (line_with text options lookup w.missed w.kept w.left (lines_at text row.past) p) c.feed_rest.new.self)
+    let fed = c.in_ok-feed_rest.ensures.runs text options lookup p (runs-bare replacement text options lookup m c.args.self.now false runs) in
+    let there = subst (λ (past : ℕ). Runs replacement text options lookup (line_with text options lookup (drop kept m.outer) (take kept m.outer) (row_of rest) (lines_at text past) p) c.feed_rest.new.self) (ap (λ (r : Row). r.past) (sym c.kept_by-kept.ensures.behind.1)) fed in
+    let whole = subst (λ (w : Kept text options lookup). Runs replacement text options lookup (line_with text options lookup w.missed w.kept w.left (lines_at text row.past) p) c.feed_rest.new.self)
     (sym (c.kept_by-kept.ensures.kept text options lookup m runs)) there in
-    runs-past replacement text lookup _ c.feed_rest.new.self _ row.past whole c.past-self-2.ensures.place
+    runs-past replacement text options lookup _ c.feed_rest.new.self _ row.past whole c.past-self-2.ensures.place

@@ -23,8 +23,8 @@ returns-in_default-further-clause-runs g c text options lookup m runs =
     let shows = subst (λ l. ShowsLeaf text l before.blank_lines.items m.leaf) c.requires.is runs.leaf in
     let line : Drawing = drawn (html_then (verbatim_line text row.columns row) Nil) m.drawing in
     let fed = html-goes-on text options lookup (kind_number c.args.kind) row (lines_at text row.past) m c.further-further.result shows.0 (c.further-further.ensures []) c.in_default.not-Stops c.in_default-further.not-Closes in
-    subst (λ p. Runs replacement text lookup p (record before { builder = new })) (sym fed)
-    (runs-builder replacement text lookup m before new line runs (c.in_ok-draw_html_line.ensures.drawn text m.drawing runs.drawing) c.in_ok-draw_html_line.ensures.references)
+    subst (λ p. Runs replacement text options lookup p (record before { builder = new })) (sym fed)
+    (runs-builder replacement text options lookup m before new line runs (c.in_ok-draw_html_line.ensures.drawn text m.drawing runs.drawing) c.in_ok-draw_html_line.ensures.references)
 
 pub returns-in-Closes-clause-runs : goal.returns-in-Closes-clause-runs
 returns-in-Closes-clause-runs g c text options lookup m runs =
@@ -36,9 +36,9 @@ returns-in-Closes-clause-runs g c text options lookup m runs =
     let fed = html-closes text options lookup (kind_number c.args.kind) row (lines_at text row.past) m c.further-further.result shows.0 (c.further-further.ensures []) c.in-Closes.is in
     let draws = subst (λ past. Draws text c.close.new.self (closed_at past line)) c.past.ensures.place
     (draws-close text c.draw_html_line.new.builder c.close.new.self c.past.result line c.close.ensures.closed c.close.ensures.none c.close.ensures.tables (c.in_ok-draw_html_line.ensures.drawn text m.drawing runs.drawing)) in
-    subst (λ p. Runs replacement text lookup p (record before { builder = c.close.new.self; leaf = leaf.Closed })) (sym fed)
-    (runs-leaf replacement text lookup _ _ leaf.Closed model.Closed
-    (runs-builder replacement text lookup m before c.close.new.self (closed_at row.past line) runs draws
+    subst (λ p. Runs replacement text options lookup p (record before { builder = c.close.new.self; leaf = leaf.Closed })) (sym fed)
+    (runs-leaf replacement text options lookup _ _ leaf.Closed model.Closed
+    (runs-builder replacement text options lookup m before c.close.new.self (closed_at row.past line) runs draws
     (ap (λ a. a.refdefs) c.close.ensures.tables ∙ c.in_ok-draw_html_line.ensures.references))
     (refl, shows.1))
 
@@ -47,6 +47,6 @@ returns-in-Stops-clause-runs g c text options lookup m runs =
     let before = c.args.self.now in
     let row = row_of c.args.rest in
     let shows = subst (λ l. ShowsLeaf text l before.blank_lines.items m.leaf) c.requires.is runs.leaf in
-    subst (λ p. Runs g.E.EntityLookup.replacement text lookup p c.begin_anew.new.self)
+    subst (λ p. Runs g.E.EntityLookup.replacement text options lookup p c.begin_anew.new.self)
     (sym (html-stops text options lookup (kind_number c.args.kind) row (lines_at text row.past) m c.further-further.result shows.0 (c.further-further.ensures []) c.in-Stops.is))
     (c.in_ok-begin_anew.ensures.runs text options lookup m runs)

@@ -18,6 +18,6 @@ returns-in_ok-begin_anew-in-Closes-clause-runs g c text options lookup m runs =
     let before = c.args.self.now in
     let row = row_of c.args.rest in
     let is = subst (λ l. ShowsLeaf text l before.blank_lines.items m.leaf) c.requires.is runs.leaf in
-    subst (λ p. Runs g.E.EntityLookup.replacement text lookup p c.begin_anew.new.self)
+    subst (λ p. Runs g.E.EntityLookup.replacement text options lookup p c.begin_anew.new.self)
     (sym (indented-stops text options lookup row (lines_at text row.past) m (shown_waits text c.args.waits) c.args.end (map row_of before.blank_lines.items) is c.further.result (c.further.ensures []) c.in-Closes.is))
     (c.in_ok-begin_anew-in-Closes.ensures.runs text options lookup m runs)

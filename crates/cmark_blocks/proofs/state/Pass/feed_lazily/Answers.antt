@@ -11,8 +11,8 @@ returns-in-Paragraph-clause-runs g c =
     let replacement = g.E.EntityLookup.replacement in
     let row = row_of c.args.rest in
     on_ok_weaker c.add_to_paragraph.result
-    (λ adds. λ text options lookup m runs. subst (λ p. Runs replacement text lookup p c.add_to_paragraph.new.self)
-    (sym (lazy-paragraph text options lookup row (lines_at text row.past) m c.in-Paragraph.from (row_of c.in-Paragraph.last) (in_paragraph replacement text lookup m c.args.self.now runs c.in-Paragraph.from c.in-Paragraph.last c.in-Paragraph.is)))
+    (λ adds. λ text options lookup m runs. subst (λ p. Runs replacement text options lookup p c.add_to_paragraph.new.self)
+    (sym (lazy-paragraph text options lookup row (lines_at text row.past) m c.in-Paragraph.from (row_of c.in-Paragraph.last) (in_paragraph replacement text options lookup m c.args.self.now runs c.in-Paragraph.from c.in-Paragraph.last c.in-Paragraph.is)))
     (adds text options lookup m runs))
     c.add_to_paragraph.ensures.runs
 
@@ -20,6 +20,6 @@ pub returns-in_ok-begin_paragraph-in-Definition-clause-runs : goal.returns-in_ok
 returns-in_ok-begin_paragraph-in-Definition-clause-runs g c text options lookup m runs =
     let replacement = g.E.EntityLookup.replacement in
     let row = row_of c.args.rest in
-    subst (λ p. Runs replacement text lookup p c.begin_paragraph.new.self)
-    (sym (lazy-definition text options lookup row (lines_at text row.past) m _ (in_definition replacement text lookup m c.args.self.now runs _ c.in-Definition.is)))
+    subst (λ p. Runs replacement text options lookup p c.begin_paragraph.new.self)
+    (sym (lazy-definition text options lookup row (lines_at text row.past) m _ (in_definition replacement text options lookup m c.args.self.now runs _ c.in-Definition.is)))
     (c.in_ok-begin_paragraph-in-Definition.ensures.runs text options lookup _ (c.in_ok-close_leaf-in-Definition.ensures.runs text options lookup m runs))

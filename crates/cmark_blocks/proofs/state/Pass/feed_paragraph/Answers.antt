@@ -14,33 +14,33 @@ returns-then-begins_with_letter-clause-runs g c text options lookup m runs =
     let replacement = g.E.EntityLookup.replacement in
     let row = row_of c.args.rest in
     let letter = sym c.begins_with_letter.ensures ∙ c.if-begins_with_letter.true in
-    subst (λ p. Runs replacement text lookup p c.add_to_paragraph.new.self)
+    subst (λ p. Runs replacement text options lookup p c.add_to_paragraph.new.self)
     (sym (feeds-text text options lookup row (lines_at text row.past) m c.args.from (row_of c.args.last) (sym (letter-underlines-not row letter)) (whole c.args.rest)
-    (sym (letter-interrupts-not options true row (ahead_in text options lookup m.outer (lines_at text row.past)) letter)) (in_paragraph replacement text lookup m c.args.self.now runs c.args.from c.args.last c.requires.is)))
+    (sym (letter-interrupts-not options true row (ahead_in text options lookup m.outer (lines_at text row.past)) letter)) (in_paragraph replacement text options lookup m c.args.self.now runs c.args.from c.args.last c.requires.is)))
     (c.in_ok-add_to_paragraph.ensures.runs text options lookup m runs)
 
 pub returns-in-Some-clause-runs : goal.returns-in-Some-clause-runs
 returns-in-Some-clause-runs g c text options lookup m runs =
     let replacement = g.E.EntityLookup.replacement in
     let row = row_of c.args.rest in
-    subst (λ p. Runs replacement text lookup p c.underline.new.self)
-    (sym (feeds-underline text options lookup row (lines_at text row.past) m c.args.from (row_of c.args.last) (level_number c.in-Some.level) (ap (option_map level_number) (sym c.in-Some.is) ∙ c.underlines.ensures) (in_paragraph replacement text lookup m c.args.self.now runs c.args.from c.args.last c.requires.is)))
+    subst (λ p. Runs replacement text options lookup p c.underline.new.self)
+    (sym (feeds-underline text options lookup row (lines_at text row.past) m c.args.from (row_of c.args.last) (level_number c.in-Some.level) (ap (option_map level_number) (sym c.in-Some.is) ∙ c.underlines.ensures) (in_paragraph replacement text options lookup m c.args.self.now runs c.args.from c.args.last c.requires.is)))
     (c.in_ok-underline.ensures.runs text options lookup m runs)
 
 pub returns-in_ok-begin_anew-clause-runs : goal.returns-in_ok-begin_anew-clause-runs
 returns-in_ok-begin_anew-clause-runs g c text options lookup m runs =
     let replacement = g.E.EntityLookup.replacement in
     let row = row_of c.args.rest in
-    subst (λ p. Runs replacement text lookup p c.begin_anew.new.self)
+    subst (λ p. Runs replacement text options lookup p c.begin_anew.new.self)
     (sym (feeds-interrupted text options lookup row (lines_at text row.past) m c.args.from (row_of c.args.last) (ap (option_map level_number) (sym c.in_default.is) ∙ c.underlines.ensures) (whole c.args.rest)
-    (sym c.if-interrupts.true ∙ c.interrupts.ensures options (ahead_in text options lookup m.outer (lines_at text row.past))) (in_paragraph replacement text lookup m c.args.self.now runs c.args.from c.args.last c.requires.is)))
+    (sym c.if-interrupts.true ∙ c.interrupts.ensures options (ahead_in text options lookup m.outer (lines_at text row.past))) (in_paragraph replacement text options lookup m c.args.self.now runs c.args.from c.args.last c.requires.is)))
     (c.in_ok-begin_anew.ensures.runs text options lookup m runs)
 
 pub returns-in_ok-add_to_paragraph-2-clause-runs : goal.returns-in_ok-add_to_paragraph-2-clause-runs
 returns-in_ok-add_to_paragraph-2-clause-runs g c text options lookup m runs =
     let replacement = g.E.EntityLookup.replacement in
     let row = row_of c.args.rest in
-    subst (λ p. Runs replacement text lookup p c.add_to_paragraph-else-interrupts.new.self)
+    subst (λ p. Runs replacement text options lookup p c.add_to_paragraph-else-interrupts.new.self)
     (sym (feeds-text text options lookup row (lines_at text row.past) m c.args.from (row_of c.args.last) (ap (option_map level_number) (sym c.in_default.is) ∙ c.underlines.ensures) (whole c.args.rest)
-    (sym c.if-interrupts.false ∙ c.interrupts.ensures options (ahead_in text options lookup m.outer (lines_at text row.past))) (in_paragraph replacement text lookup m c.args.self.now runs c.args.from c.args.last c.requires.is)))
+    (sym c.if-interrupts.false ∙ c.interrupts.ensures options (ahead_in text options lookup m.outer (lines_at text row.past))) (in_paragraph replacement text options lookup m c.args.self.now runs c.args.from c.args.last c.requires.is)))
     (c.in_ok-add_to_paragraph-2.ensures.runs text options lookup m runs)

@@ -14,7 +14,7 @@ returns-then-kept-len-clause-runs g c text options lookup m runs =
     let row = row_of c.args.rest in
     let cs = c.args.self.now.outer.items in
     let all : length cs ≤ c.args.kept = omega (arith, c.if-kept-len.true, c.len.ensures, c.args.self.now.outer.ok.0) in
-    subst (λ p. Runs g.E.EntityLookup.replacement text lookup p c.feed_leaf.new.self)
+    subst (λ p. Runs g.E.EntityLookup.replacement text options lookup p c.feed_leaf.new.self)
     (sym (rest-kept text options lookup row (lines_at text row.past) m c.args.kept (shows-all cs m.outer c.args.kept runs.outer all).1))
     (c.in_ok-feed_leaf.ensures.runs text options lookup m runs)
 
@@ -26,7 +26,7 @@ returns-then-is_lazy-clause-runs g c text options lookup m runs =
     let cs = c.args.self.now.outer.items in
     let some : kept < length cs = omega (arith, c.requires.few, c.if-kept-len.false, c.len.ensures, c.args.self.now.outer.ok.0) in
     let missed = shows-some cs m.outer kept runs.outer some in
-    subst (λ p. Runs g.E.EntityLookup.replacement text lookup p c.feed_lazily.new.self)
+    subst (λ p. Runs g.E.EntityLookup.replacement text options lookup p c.feed_lazily.new.self)
     (sym (rest-lazy text options lookup row next m kept missed.0 missed.1 missed.2 (sym (c.is_lazy.ensures text options lookup m (ahead_in text options lookup (take kept m.outer) next) runs) ∙ c.if-is_lazy.true)))
     (c.in_ok-feed_lazily.ensures.runs text options lookup m runs)
 
@@ -41,7 +41,7 @@ returns-clause-runs g c text options lookup m runs =
     let within : kept ≤ length m.outer = omega (arith, c.requires.few, shows-length cs m.outer runs.outer) in
     let closed = c.in_ok-close_leaf.ensures.runs text options lookup m runs in
     let outer = closed-outer text options lookup m m.leaf in
-    subst (λ p. Runs g.E.EntityLookup.replacement text lookup p c.begin.new.self)
+    subst (λ p. Runs g.E.EntityLookup.replacement text options lookup p c.begin.new.self)
     (sym (rest-ends text options lookup row next m kept missed.0 missed.1 missed.2 (sym (c.is_lazy.ensures text options lookup m (ahead_in text options lookup (take kept m.outer) next) runs) ∙ c.if-is_lazy.false)))
     (c.in_ok-begin.ensures.runs text options lookup _
     (c.close_containers.ensures.runs text options lookup (leaf_closed text options lookup m) (take kept m.outer) (drop kept m.outer) (outer ∙ sym (take-append-drop kept m.outer)) (length-take-le kept m.outer within) closed))

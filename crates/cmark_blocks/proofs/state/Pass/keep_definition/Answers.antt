@@ -8,14 +8,14 @@ use Rattle.cmark_blocks.proofs.ReferenceSteps.{fold-again, with-more}
 use Rattle.cmark_blocks.proofs.state.Pass.keep_definition.Goals as goal
 
 pub returns-clause-runs : goal.returns-clause-runs
-returns-clause-runs g c text lookup m runs =
+returns-clause-runs g c text options lookup m runs =
     let replacement = g.E.EntityLookup.replacement in
     let before = c.args.self.now in
     let found = written c.args.definition.now in
     let reference = reference_of lookup found c.args.span.start c.args.span.end in
     let kept = c.in_ok-label.kept in
     let made = c.in_ok-label.ensures in
-    runs-references replacement text lookup m before c.insert.new.self (m.references ++ reference ∷ []) runs
+    runs-references replacement text options lookup m before c.insert.new.self (m.references ++ reference ∷ []) runs
     (λ folded.
     ap (option_map shown_definition) (c.in_ok-insert.ensures.first_stays folded
     ∙ ap (λ key. first_of (definition before.builder.allocations.refdefs folded) (at_label key kept folded)) (made.key ∙ sym (fold-again found.label)))

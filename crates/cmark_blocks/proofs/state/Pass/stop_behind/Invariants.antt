@@ -11,7 +11,7 @@ use Rattle.cmark_blocks.proofs.state.Pass.stop_behind.Given as goal
 abbrev pub invariant-loop-left : goal.invariant-loop-left
 invariant-loop-left g l =
     IsIn l.self.text.now l.last
-    × ((text : List ℕ) (options : Options) (lookup : Lookup) (m : model.Pass) → Runs g.E.EntityLookup.replacement text lookup m l.self →
+    × ((text : List ℕ) (options : Options) (lookup : Lookup) (m : model.Pass) → Runs g.E.EntityLookup.replacement text options lookup m l.self →
     stop_of (row_of l.last) (take l.left (texts_at text options lookup m (row_of l.last).past)) ≡ stop_of (row_of l.rest) (take l.more (texts_at text options lookup m (row_of l.rest).past)))
 
 abbrev pub decreases-loop-left : goal.decreases-loop-left

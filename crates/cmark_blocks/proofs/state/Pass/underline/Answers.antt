@@ -22,6 +22,6 @@ returns-clause-runs g c text options lookup m runs =
     let d : Drawing = drawn (stretch_then text c.args.from (words_end (row_of c.args.last)) Nil) m.drawing in
     let draws = subst (λ past. Draws text c.close_as.new.self (closed_as kind past d)) c.past.ensures.place
     (draws-close_as text built c.close_as.new.self c.past.result _ kind d c.close_as.ensures.closed c.close_as.ensures.none c.close_as.ensures.tables refl line) in
-    runs-leaf replacement text lookup _ _ leaf.Closed model.Closed
-    (runs-builder replacement text lookup m before c.close_as.new.self (closed_as kind (row_of c.args.rest).past d) runs draws (ap (λ a. a.refdefs) c.close_as.ensures.tables ∙ c.in_ok-draw_last_lines.ensures.references))
-    (refl, none_behind_paragraph replacement text lookup m before c.args.from c.args.last c.requires.is runs)
+    runs-leaf replacement text options lookup _ _ leaf.Closed model.Closed
+    (runs-builder replacement text options lookup m before c.close_as.new.self (closed_as kind (row_of c.args.rest).past d) runs draws (ap (λ a. a.refdefs) c.close_as.ensures.tables ∙ c.in_ok-draw_last_lines.ensures.references))
+    (refl, none_behind_paragraph replacement text options lookup m before c.args.from c.args.last c.requires.is runs)

@@ -1,0 +1,81 @@
+-- Metadata blocks, by computation: which lines begin and end them, and which do not.
+use Rattle.std.specs.Prelude.{◌≡◌, ◌∷◌, [], true, codes, None}
+use Rattle.std.proofs.Common.{refl}
+use Rattle.cmark_grammar.specs.Attributes.{no_attributes}
+use Rattle.cmark_grammar.specs.Options.{Options, no_options}
+use Rattle.cmark_grammar.specs.Containers.{enter, keeps}
+use Rattle.cmark_grammar.specs.Leaves.{underlines}
+use Rattle.cmark_grammar.specs.MetadataBlockKind.{YamlStyle, PlusesStyle}
+use Rattle.cmark_grammar.specs.Openings.{opens, texts, lazily}
+use Rattle.cmark_grammar.specs.BlocksModel.{begin, blocks}
+use Rattle.cmark_grammar.specs.Entities.{basic_entity}
+use Rattle.cmark_grammar.specs.BlockDocument.{Paragraph, Heading, ThematicBreak, MetadataBlock, BlockQuote, Text, outline, node}
+use Rattle.cmark_grammar.specs.Derivation.{document}
+
+abbrev yaml : Options
+yaml = record no_options { yaml_style_metadata_blocks = true }
+
+abbrev pluses : Options
+pluses = record no_options { pluses_delimited_metadata_blocks = true }
+
+-- the lines between stand as they are, as one text
+between : outline (document (codes "---\na: *b*\n\n\tc\n--- \nd\n") yaml basic_entity) ≡
+    node (MetadataBlock YamlStyle) 0 20 ∷ node (Text (codes "a: *b*\n\n\tc\n")) 4 15 ∷ node Paragraph 20 22 ∷ node (Text (codes "d")) 20 21 ∷ []
+unfolding blocks begin opens texts lazily enter keeps underlines
+between = refl
+
+-- with the option off there is none
+off : outline (document (codes "---\na\n---\n") pluses basic_entity) ≡ node ThematicBreak 0 4 ∷ node (Heading 2 no_attributes) 4 10 ∷ node (Text (codes "a")) 4 5 ∷ []
+unfolding blocks begin opens texts lazily enter keeps underlines
+off = refl
+
+-- between lines of pluses
+with_pluses : outline (document (codes "+++\na\n...\n+++\n") pluses basic_entity) ≡ node (MetadataBlock PlusesStyle) 0 14 ∷ node (Text (codes "a\n...\n")) 4 10 ∷ []
+unfolding blocks begin opens texts lazily enter keeps underlines
+with_pluses = refl
+
+-- dots end a block of the first kind
+dots : outline (document (codes "---\na\n...\nb") yaml basic_entity) ≡
+    node (MetadataBlock YamlStyle) 0 10 ∷ node (Text (codes "a\n")) 4 6 ∷ node Paragraph 10 11 ∷ node (Text (codes "b")) 10 11 ∷ []
+unfolding blocks begin opens texts lazily enter keeps underlines
+dots = refl
+
+-- none without a line that ends it
+not_ended : outline (document (codes "---\na\n +++\n") yaml basic_entity) ≡ node ThematicBreak 0 4 ∷ node Paragraph 4 11 ∷ node (Text (codes "a\n +++")) 4 10 ∷ []
+unfolding blocks begin opens texts lazily enter keeps underlines
+not_ended = refl
+
+-- none before a blank line, or before the line that would end it
+before_blank : outline (document (codes "---\n\n---\n") yaml basic_entity) ≡ node ThematicBreak 0 4 ∷ node ThematicBreak 5 9 ∷ []
+unfolding blocks begin opens texts lazily enter keeps underlines
+before_blank = refl
+
+empty : outline (document (codes "---\n...\na\n---\n") yaml basic_entity) ≡ node ThematicBreak 0 4 ∷ node (Heading 2 no_attributes) 4 14 ∷ node (Text (codes "...\na")) 4 9 ∷ []
+unfolding blocks begin opens texts lazily enter keeps underlines
+empty = refl
+
+-- none behind an indent, and none in a container
+indented : outline (document (codes " ---\na\n---\n") yaml basic_entity) ≡ node ThematicBreak 1 5 ∷ node (Heading 2 no_attributes) 5 11 ∷ node (Text (codes "a")) 5 6 ∷ []
+unfolding blocks begin opens texts lazily enter keeps underlines
+indented = refl
+
+in_quote : outline (document (codes ">---\n>a\n>---\n") yaml basic_entity) ≡
+    node (BlockQuote None) 0 13 ∷ node ThematicBreak 1 5 ∷ node (Heading 2 no_attributes) 6 13 ∷ node (Text (codes "a")) 6 7 ∷ []
+unfolding blocks begin opens texts lazily enter keeps underlines
+in_quote = refl
+
+-- behind a container that ends with it
+behind_quote : outline (document (codes "> a\n---\nb\n---\n") yaml basic_entity) ≡
+    node (BlockQuote None) 0 4 ∷ node Paragraph 2 4 ∷ node (Text (codes "a")) 2 3 ∷ node (MetadataBlock YamlStyle) 4 14 ∷ node (Text (codes "b\n")) 8 10 ∷ []
+unfolding blocks begin opens texts lazily enter keeps underlines
+behind_quote = refl
+
+-- it interrupts no paragraph
+behind_paragraph : outline (document (codes "a\n+++\nb\n+++\n") pluses basic_entity) ≡ node Paragraph 0 12 ∷ node (Text (codes "a\n+++\nb\n+++")) 0 11 ∷ []
+unfolding blocks begin opens texts lazily enter keeps underlines
+behind_paragraph = refl
+
+underline : outline (document (codes "a\n---\nb\n---\n") yaml basic_entity) ≡
+    node (Heading 2 no_attributes) 0 6 ∷ node (Text (codes "a")) 0 1 ∷ node (Heading 2 no_attributes) 6 12 ∷ node (Text (codes "b")) 6 7 ∷ []
+unfolding blocks begin opens texts lazily enter keeps underlines
+underline = refl
