@@ -14,3 +14,5 @@ pub mod Characters
 pub mod MarkupSteps
 pub mod SourcePlaces
 pub mod AngleMakes
+pub mod SpecialSteps
+pub mod SpanReads
