@@ -16,3 +16,5 @@ pub mod Lending
 pub mod MarkupSteps
 pub mod SourcePlaces
 pub mod AngleMakes
+pub mod SpecialSteps
+pub mod SpanReads

@@ -1,10 +1,10 @@
 -- Questions that are counted while a text is read.
-use Rattle.std.proofs.Common.{◌≡◌, ℕ, zero, suc, ◌+◌, ◌-◌, ◌≤◌, ◌<◌, ◌⊎◌, inl, inr, List, length, take, get_or, refl, sym, subst, arith, eq-eqb}
+use Rattle.std.proofs.Common.{◌≡◌, ℕ, zero, suc, ◌+◌, ◌-◌, ◌≤◌, ◌<◌, inl, inr, List, length, take, get_or, refl, sym, subst, arith, eq-eqb}
 use Rattle.std.specs.Prelude.{Option, cond}
 use Rattle.std.proofs.lemmas.List.{take-take}
 use Rattle.std.proofs.lemmas.List.Sums.{count_by_more_yes, sum_by-take-le}
 use Rattle.cmark_text.specs.declared.text.CowStr.{CowStr}
-use Rattle.cmark_inline.specs.Asking.{AsksOnce, AsksUpTo, AsksBetween, closing_brackets, is_closing_bracket}
+use Rattle.cmark_inline.specs.Asking.{AsksUpTo, AsksBetween, closing_brackets, is_closing_bracket}
 use Rattle.cmark_inline.specs.declared.callback.BrokenLink.{BrokenLink}
 
 pub all-bytes : (a : ℕ) (text : List ℕ) → closing_brackets (take a text) ≤ closing_brackets text

@@ -1,11 +1,11 @@
 -- What a reference leads to.
-use Rattle.std.proofs.Common.{◌≡◌, ℕ, List, refl, sym, ap, ◌∙◌, subst, Some, None}
+use Rattle.std.proofs.Common.{◌≡◌, ℕ, List, ap, ◌∙◌, Some, None}
 use Rattle.std.specs.Prelude.{Option, option_map}
 use Rattle.cmark_items.specs.declared.definitions.LinkDef.{LinkDef}
-use Rattle.cmark_text.specs.Shown.{text_bytes, shown_link_type}
+use Rattle.cmark_text.specs.Shown.{text_bytes}
 use Rattle.cmark_text.specs.declared.kind.LinkType.{LinkType}
 use Rattle.cmark_text.specs.declared.text.CowStr.{CowStr}
-use Rattle.cmark_inline.specs.Linked.{Answers, IsAnswered, Refers, said_by, said_in, shown_destination, Said}
+use Rattle.cmark_inline.specs.Linked.{Answers, IsAnswered, Refers, said_by, said_in, shown_destination}
 use Rattle.cmark_inline.specs.declared.callback.BrokenLink.{BrokenLink}
 use Rattle.cmark_inline.specs.declared.link.Destination.{Destination}
 use Rattle.cmark_inline.specs.declared.link.Target.{Target}

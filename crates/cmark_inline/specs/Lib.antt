@@ -4,5 +4,6 @@ pub mod FoundInSource
 pub mod Linked
 pub mod Opens
 pub mod Quoted
+pub mod SpecialReads
 pub mod Stands
 pub mod Tokens

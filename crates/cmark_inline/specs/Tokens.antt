@@ -6,7 +6,7 @@ use Rattle.cmark_grammar.specs.CodeSpans.{is_backtick, backticks, code_in, code_
 use Rattle.cmark_grammar.specs.Columns.{is_blank_byte}
 use Rattle.cmark_grammar.specs.InlineTokens as tokens
 use Rattle.cmark_grammar.specs.InlineTokens.{item_at}
-use Rattle.cmark_grammar.specs.Items.{ItemKind, Plain, Own, Written, Quoted, Delimiters, Code, Autolink, Html, OwnedHtml, SoftBreak, HardBreak, Item, Token, Stands}
+use Rattle.cmark_grammar.specs.Items.{ItemKind, Plain, Own, Written, Quoted, Delimiters, Code, Autolink, Html, OwnedHtml, SoftBreak, HardBreak, Item, Token, Stands, Opens}
 use Rattle.cmark_grammar.specs.LeafText.{Leaf}
 use Rattle.cmark_grammar.specs.Letters.{first_is}
 use Rattle.cmark_grammar.specs.LinkDefinitions.{Found}
@@ -97,6 +97,17 @@ pub record Passes (options : Options) (lookup : Lookup) (text : List ℕ) (here 
   pub pending : next.pending ≡ here.pending
   pub same : new ≡ old
 
+-- pipes, and the signs of formulas, which no call reads yet
+abbrev pub is_other : ℕ → Bool
+is_other b = (b == 124) || ((b == 36) || ((b == 123) || (b == 125)))
+
+-- nothing was appended: from the place that was reached to the next one each byte is an item that stands for itself
+pub record PassesOver (options : Options) (lookup : Lookup) (text : List ℕ) (here : Cursor) (old new : InlineState) (next : Cursor) : Type 0 where
+  pub further : here.at < next.at
+  pub plain : (k : ℕ) → here.at ≤ k → k < next.at → begins_at options lookup text k ≡ item_at Plain k (k + 1)
+  pub pending : next.pending ≡ here.pending
+  pub same : new ≡ old
+
 -- the text that was pending, and then a slot for the item that begins at the place that was reached, or at the blanks before it
 pub record Appends (options : Options) (lookup : Lookup) (text : List ℕ) (here : Cursor) (old new : InlineState) (next : Cursor) : Type 0 where
   pub from : ℕ
@@ -174,3 +185,25 @@ pub record AppendsRun (options : Options) (lookup : Lookup) (text : List ℕ) (h
   pub slots : new.slots.items ≡ before ++ byte_slots here.at run.size
   pub placed : new.delimiters.placed.items ≡ old.delimiters.placed.items ++ (record { slot = length before; run = run } ∷ [])
   pub others : new ≡ record old { slots = new.slots; delimiters = new.delimiters }
+
+-- ## Opening brackets
+
+-- a text up to a place, unless it is empty, and then a slot for an opening bracket, which knows its slot and how many runs and
+-- quotes stand before it
+pub record PutsBracket (is_image : Bool) (start at inside : ℕ) (old new : InlineState) : Type 0 where
+  pub before : List Slot
+  pub text : PushesText start at old.slots.items before
+  pub slots : new.slots.items ≡ before ++ (record { kind = kind.Text; start = at; end = inside } ∷ [])
+  pub standing :
+      new.brackets.standing.items
+      ≡ old.brackets.standing.items
+      ++ (record { slot = length before; runs = length old.delimiters.placed.items; quotes = length old.quotes.placed.items; start = at; inside = inside; is_image = is_image } ∷ [])
+  pub shut : new.brackets.shut ≡ old.brackets.shut
+  pub others : new ≡ record old { slots = new.slots; brackets = new.brackets }
+
+-- the opening bracket that begins at the place that was reached
+pub record OpensBracket (options : Options) (lookup : Lookup) (text : List ℕ) (here : Cursor) (old new : InlineState) (next : Cursor) : Type 0 where
+  pub is_image : Bool
+  pub token : begins_at options lookup text here.at ≡ Opens (tokens.bracket is_image here.at next.at)
+  pub pending : next.pending ≡ next.at
+  pub puts : PutsBracket is_image here.pending here.at next.at old new

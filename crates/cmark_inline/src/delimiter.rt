@@ -48,7 +48,9 @@ impl Delimiters {
     }
 
     /// How many runs there are.
-    pub fn len(&self) -> usize {
+    pub fn len(&self) -> usize
+        ensures { result ≡ length self.now.placed.items }
+    {
         self.placed.len()
     }
 

@@ -38,7 +38,9 @@ impl Quotes {
     }
 
     /// How many quotes there are.
-    pub fn len(&self) -> usize {
+    pub fn len(&self) -> usize
+        ensures { result ≡ length self.now.placed.items }
+    {
         self.placed.len()
     }
 

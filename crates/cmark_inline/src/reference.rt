@@ -7,7 +7,10 @@ ghost use Rattle.cmark_grammar.specs.Labels.{fold, normal_form};
 ghost use Rattle.cmark_items.specs.Definitions.{definition};
 ghost use Rattle.cmark_text.specs.Labelled.{link_text};
 ghost use Rattle.cmark_inline.specs.Linked.{Answers, Refers, left_behind};
+ghost use Rattle.cmark_grammar.specs.Answers.{Lookup};
+ghost use Rattle.cmark_grammar.specs.Options.{Options as Extensions};
 ghost use Rattle.cmark_inline.specs.Asking.{AsksOnce};
+ghost use Rattle.cmark_inline.specs.Tokens.{OpensBracket, Passes, PutsBracket};
 ghost use Rattle.cmark_inline.specs.Stands.{HoldNoLink, IsEnd, NoNewLink, AreSlots, AreBrackets, IsBracket, IsCursor, IsSlot, IsTarget, Moves, SameSpans, Stands, bytes_of};
 
 use crate::bracket::Bracket;
@@ -32,6 +35,7 @@ impl<'a> InlineState<'a> {
         requires ascii { slice_index text.now here.at < 128 }
         ensures expansion { self.new.expansion ≡ self.old.expansion }
         ensures moves { IfOk result (Moves text.now here.at self.new) }
+        ensures token { (options : Extensions) (lookup : Lookup) → slice_index text.now here.at ≡ 33 → IfOk result (λ next. Passes options lookup text.now here self.old self.new next ⊎ OpensBracket options lookup text.now here self.old self.new next) }
     {
         if is_followed_by(text, here.at, b'[') {
             let inside = behind(text, behind(text, here.at));
@@ -54,6 +58,8 @@ impl<'a> InlineState<'a> {
         requires part { IsPart text.now here.at inside }
         ensures expansion { self.new.expansion ≡ self.old.expansion }
         ensures moves { IfOk result (Moves text.now here.at self.new) }
+        ensures at { IfOk result (λ next. (next.pending ≡ inside) × (next.at ≡ inside)) }
+        ensures puts { OnOk result (PutsBracket is_image here.pending here.at inside self.old self.new) }
     {
         self.flush(text, here, here.at)?;
         let bracket = Bracket {

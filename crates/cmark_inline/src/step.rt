@@ -1,13 +1,18 @@
 //! One pass over a leaf's text, from special byte to special byte.
 
-ghost use Rattle.std.specs.Prelude.{◌≡◌, ◌⊎◌, true, false, ◌<◌, ◌≤◌, ◌+◌, ◌-◌, ◌++◌, ◌∷◌, ℕ, List, [], length, slice_index, IfOk, OnOk, IfSome};
+ghost use Rattle.std.specs.Prelude.{◌≡◌, ◌==◌, ◌⊎◌, true, false, ◌<◌, ◌≤◌, ◌+◌, ◌-◌, ◌++◌, ◌∷◌, ℕ, List, [], drop, length, slice_index, IfOk, OnOk, IfSome};
 ghost use Rattle.std.specs.Str.{IsCharBoundary};
 ghost use Rattle.cmark_finds.specs.Backticks.{AreRunsOf};
 ghost use Rattle.cmark_leaf_text.specs.Reads.{IsRead, IsPart, text_of};
 ghost use Rattle.cmark_inline.specs.Asking.{AsksBetween, AsksUpTo, closing_brackets};
 ghost use Rattle.cmark_inline.specs.Stands.{AreSlots, AreBrackets, IsBracket, IsCursor, IsSlot, IsTarget, Moves, SameSpans, Stands, PushesText, begins_link, bytes_of};
 ghost use Rattle.cmark_inline.specs.FoundInSource.{AreUnclosed};
+ghost use Rattle.cmark_inline.specs.SpecialReads.{ReadsSpecial};
 ghost use Rattle.cmark_inline.specs.Tokens.{Puts};
+ghost use Rattle.cmark_grammar.specs.SpecialBytes.{is_special};
+ghost use Rattle.cmark_search.specs.Sets.{in_rows};
+ghost use Rattle.cmark_text.specs.Shown.{shown_options};
+ghost use Rattle.std.specs.List.{position_or_len};
 
 use crate::callback::BrokenLinkCallback;
 use crate::markup::Unclosed;
@@ -91,6 +96,7 @@ impl<'a> InlineState<'a> {
         ensures asks_here { IfOk result (λ next. AsksBetween F.answers text.now cursor.at next.at callback.old callback.new) }
         ensures spent { self.old.expansion ≡ 0 → (callback.new ≡ callback.old) × (self.new.expansion ≡ 0) }
         ensures moves { IfOk result (Moves text.now cursor.at self.new) }
+        ensures token { (at : ℕ) → at ≡ cursor.at + position_or_len (in_rows reader.now.special.now) (drop cursor.at text.now) → at < length text.now → is_special (shown_options reader.now.options) (slice_index text.now at) ≡ true → (slice_index text.now at == 93) ≡ false → IfOk result (ReadsSpecial (shown_options reader.now.options) (E.replacement reader.now.entities.now) leaf.now (record { pending = cursor.pending; at = at }) self.old self.new) }
     {
         let bytes = text.as_bytes();
         let at = reader.special.next(bytes, cursor.at);
@@ -131,6 +137,7 @@ impl<'a> InlineState<'a> {
         ensures kept { AreUnclosed leaf.now here.at sought.new.unclosed }
         ensures expansion { self.new.expansion ≡ self.old.expansion }
         ensures moves { IfOk result (Moves text.now here.at self.new) }
+        ensures token { is_special (shown_options reader.now.options) (slice_index text.now here.at) ≡ true → (slice_index text.now here.at == 93) ≡ false → IfOk result (ReadsSpecial (shown_options reader.now.options) (E.replacement reader.now.entities.now) leaf.now here self.old self.new) }
     {
         match text.as_bytes()[here.at] {
             b'\n' | b'\r' => self.line_end(text, here),

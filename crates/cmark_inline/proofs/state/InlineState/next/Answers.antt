@@ -1,8 +1,7 @@
-use Rattle.std.proofs.Common.{◌≤◌, ◌+◌, ℕ, List, sym, ◌∙◌, subst, arith}
+use Rattle.std.proofs.Common.{sym, ◌∙◌, subst, arith}
 use Rattle.cmark_leaf_text.specs.Reads.{source_of}
 use Rattle.cmark_inline.specs.Opens.{Passes}
 use Rattle.cmark_inline.specs.Stands.{AreOpened}
-use Rattle.cmark_inline.specs.declared.event.Opened.{Opened}
 use Rattle.cmark_inline.proofs.state.InlineState.next.Goals as goal
 
 pub loop-self-preserved : goal.loop-self-preserved

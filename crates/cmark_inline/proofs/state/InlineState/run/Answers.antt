@@ -5,6 +5,8 @@ use Rattle.cmark_emphasis.specs.declared.run.Run.{Run}
 use Rattle.cmark_inline.specs.declared.delimiter.Delimiters.{Delimiters}
 use Rattle.cmark_inline.specs.declared.state.InlineState.{InlineState}
 use Rattle.cmark_text.specs.Shown.{shown_options}
+use Rattle.cmark_grammar.specs.Flanking.{Flanking}
+use Rattle.cmark_inline.proofs.SpecialSteps.{others-flank, others-stand}
 use Rattle.cmark_inline.proofs.MarkSteps.{run-stays, run-begins-there}
 use Rattle.cmark_inline.proofs.state.InlineState.run.Goals as goal
 use Rattle.cmark_inline.proofs.state.InlineState.run.Goals.{else-not-flanking-via-then-not-flanking+else-not-flanking-2, else-not-flanking-via-else-not-flanking}
@@ -64,3 +66,22 @@ returns-clause-token c = λ l is mark.
           ∙ ap (λ (n : ℕ). c.args.self.now.delimiters.placed.items ++ (record { slot = n; run = run } ∷ [])) (sym same);
       others = ap (λ (s : InlineState). record s { slots = c.push_bytes.new.self.slots; delimiters = c.push.new.self }) (c.in_ok-push_bytes.ensures.others ∙ ap (λ (s : InlineState). record s { slots = c.push_bytes.new.self.slots }) c.in_ok-flush.ensures.others);
     })
+
+pub returns-then-not-flanking-2-clause-others : goal.returns-then-not-flanking-2-clause-others
+returns-then-not-flanking-2-clause-others c = λ l is other.
+    record {
+      further = c.run_end-end.ensures.further;
+      plain = others-stand (shown_options c.args.options) l c.args.text.now c.args.here.at c.args.mark c.run_end-end.result is other c.run_end-end.ensures.value;
+      pending = refl;
+      same = refl;
+    }
+
+pub returns-clause-others : goal.returns-clause-others
+returns-clause-others c = λ l is other.
+    let none = c.flanking_of-flanking.ensures ∙ others-flank (shown_options c.args.options) c.args.mark (c.run_end-end.result - c.args.here.at) c.character_before-before.result c.character_at-after.result other in
+    let opens : c.flanking_of-flanking.result.opens ≡ false = ap (λ (f : Flanking). f.opens) none in
+    let closes : c.flanking_of-flanking.result.closes ≡ false = ap (λ (f : Flanking). f.closes) none in
+    absurd (elim c.else-not-flanking.branch [
+      | else-not-flanking-via-then-not-flanking+else-not-flanking-2 w ↦ true≢false (sym (ap not closes) ∙ w.if-not-flanking-2.false)
+      | else-not-flanking-via-else-not-flanking w ↦ true≢false (sym (ap not opens) ∙ w.if-not-flanking.false)
+    ])

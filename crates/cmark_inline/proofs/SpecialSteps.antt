@@ -1,0 +1,192 @@
+-- Which bytes are special, and what begins at brackets and at bytes that stand for themselves.
+use Rattle.std.specs.Prelude.{Option, if◌then◌else◌, codes}
+use Rattle.std.specs.List.{prefix_len}
+use Rattle.std.proofs.Common.{◌≡◌, ◌⊎◌, inl, inr, ℕ, suc, ◌+◌, ◌-◌, ◌<◌, ◌≤◌, ◌==◌, ◌||◌, ◌&&◌, Bool, true, false, List, [], ◌∷◌, length, drop, get_or, refl, sym, ap, ◌∙◌, arith, eqb-true, length-drop, true≢false}
+use Rattle.std.proofs.lemmas.Bool.{or_cases, and_parts}
+use Rattle.std.proofs.lemmas.List.{get_or-drop}
+use Rattle.std.proofs.lemmas.List.Sums.{prefix_len_passes, prefix_len-le-length}
+use Rattle.cmark_grammar.specs.Answers.{Lookup}
+use Rattle.cmark_grammar.specs.Flanking.{Flanking, flanking}
+use Rattle.cmark_grammar.specs.InlineTokens.{item_at, bracket}
+use Rattle.cmark_grammar.specs.Items.{Plain, Token, Opens, Closes}
+use Rattle.cmark_grammar.specs.Letters.{first_is}
+use Rattle.cmark_grammar.specs.Options.{Options}
+use Rattle.cmark_grammar.specs.SpecialBytes.{is_one_of, is_always_special, is_special}
+use Rattle.cmark_inline.specs.Tokens.{begins_at, is_mark, is_other}
+use Rattle.cmark_inline.proofs.TokenSteps.{begins-with}
+
+-- ## Special bytes
+abbrev pub Kinds : Options → ℕ → Type 0
+Kinds o b =
+    (is_always_special b ≡ true)
+    ⊎ (((b == 124) ≡ true)
+    ⊎ (((b == 126) ≡ true)
+    ⊎ (((b == 94) ≡ true)
+    ⊎ ((is_one_of (codes "${}") b ≡ true)
+    ⊎ ((o.smart_punctuation ≡ true) × (is_one_of (codes ".-\"'") b ≡ true))))))
+
+special-kinds : (o : Options) (b : ℕ) → is_special o b ≡ true → Kinds o b
+special-kinds o b e = first (or_cases (is_always_special b) _ e)
+  where
+    last : (x : Bool) → (x ≡ true) → (o.smart_punctuation && is_one_of (codes ".-\"'") b) ≡ x → Kinds o b
+    last x e f = inr (inr (inr (inr (inr (and_parts o.smart_punctuation (is_one_of (codes ".-\"'") b) (f ∙ e))))))
+
+    fifth : ((o.math && is_one_of (codes "${}") b) ≡ true) ⊎ ((o.smart_punctuation && is_one_of (codes ".-\"'") b) ≡ true) → Kinds o b
+    fifth (inl h) = inr (inr (inr (inr (inl (and_parts o.math (is_one_of (codes "${}") b) h).1))))
+    fifth (inr h) = last true refl h
+
+    fourth : ((o.superscript && (b == 94)) ≡ true) ⊎ (((o.math && is_one_of (codes "${}") b) || (o.smart_punctuation && is_one_of (codes ".-\"'") b)) ≡ true) → Kinds o b
+    fourth (inl h) = inr (inr (inr (inl (and_parts o.superscript (b == 94) h).1)))
+    fourth (inr h) = fifth (or_cases (o.math && is_one_of (codes "${}") b) (o.smart_punctuation && is_one_of (codes ".-\"'") b) h)
+
+    third : (((o.strikethrough || o.subscript) && (b == 126)) ≡ true) ⊎ (((o.superscript && (b == 94)) || ((o.math && is_one_of (codes "${}") b) || (o.smart_punctuation && is_one_of (codes ".-\"'") b))) ≡ true) → Kinds o b
+    third (inl h) = inr (inr (inl (and_parts (o.strikethrough || o.subscript) (b == 126) h).1))
+    third (inr h) = fourth (or_cases (o.superscript && (b == 94)) ((o.math && is_one_of (codes "${}") b) || (o.smart_punctuation && is_one_of (codes ".-\"'") b)) h)
+
+    second : ((o.tables && (b == 124)) ≡ true) ⊎ ((((o.strikethrough || o.subscript) && (b == 126)) || ((o.superscript && (b == 94)) || ((o.math && is_one_of (codes "${}") b) || (o.smart_punctuation && is_one_of (codes ".-\"'") b)))) ≡ true) → Kinds o b
+    second (inl h) = inr (inl (and_parts o.tables (b == 124) h).1)
+    second (inr h) = third (or_cases ((o.strikethrough || o.subscript) && (b == 126)) ((o.superscript && (b == 94)) || ((o.math && is_one_of (codes "${}") b) || (o.smart_punctuation && is_one_of (codes ".-\"'") b))) h)
+
+    first : (is_always_special b ≡ true) ⊎ (((o.tables && (b == 124)) || (((o.strikethrough || o.subscript) && (b == 126)) || ((o.superscript && (b == 94)) || ((o.math && is_one_of (codes "${}") b) || (o.smart_punctuation && is_one_of (codes ".-\"'") b))))) ≡ true) → Kinds o b
+    first (inl h) = inl h
+    first (inr h) = second (or_cases (o.tables && (b == 124)) (((o.strikethrough || o.subscript) && (b == 126)) || ((o.superscript && (b == 94)) || ((o.math && is_one_of (codes "${}") b) || (o.smart_punctuation && is_one_of (codes ".-\"'") b)))) h)
+
+-- a dot, a hyphen or a quote is special with typographic punctuation alone
+pub smart-special : (o : Options) (b : ℕ) → (b ≡ 46) ⊎ ((b ≡ 45) ⊎ ((b ≡ 34) ⊎ (b ≡ 39))) → is_special o b ≡ true → o.smart_punctuation ≡ true
+smart-special o b is e = go is
+  where
+    no : {A : Type 0} → false ≡ true → A
+    no h = absurd (true≢false (sym h))
+
+    by : (n : ℕ) → is_always_special n ≡ false → (n == 124) ≡ false → (n == 126) ≡ false → (n == 94) ≡ false → is_one_of (codes "${}") n ≡ false → Kinds o n → o.smart_punctuation ≡ true
+    by n p q r s t (inl h) = no (sym p ∙ h)
+    by n p q r s t (inr (inl h)) = no (sym q ∙ h)
+    by n p q r s t (inr (inr (inl h))) = no (sym r ∙ h)
+    by n p q r s t (inr (inr (inr (inl h)))) = no (sym s ∙ h)
+    by n p q r s t (inr (inr (inr (inr (inl h))))) = no (sym t ∙ h)
+    by n p q r s t (inr (inr (inr (inr (inr h))))) = h.0
+
+    go : (b ≡ 46) ⊎ ((b ≡ 45) ⊎ ((b ≡ 34) ⊎ (b ≡ 39))) → o.smart_punctuation ≡ true
+    go (inl h) = by 46 refl refl refl refl refl (special-kinds o 46 (sym (ap (is_special o) h) ∙ e))
+    go (inr (inl h)) = by 45 refl refl refl refl refl (special-kinds o 45 (sym (ap (is_special o) h) ∙ e))
+    go (inr (inr (inl h))) = by 34 refl refl refl refl refl (special-kinds o 34 (sym (ap (is_special o) h) ∙ e))
+    go (inr (inr (inr h))) = by 39 refl refl refl refl refl (special-kinds o 39 (sym (ap (is_special o) h) ∙ e))
+
+-- the bytes at which a call of its own begins
+abbrev pub has_call : ℕ → Bool
+has_call b = is_one_of (codes "\n\r\\&`<![].-\"'") b
+
+-- a test that all signs pass
+abbrev AllPass : (ℕ → Bool) → List ℕ → Type 0
+AllPass f [] = Unit {0}
+AllPass f (x ∷ xs) = (f x ≡ true) × AllPass f xs
+
+sign-passes : (f : ℕ → Bool) (b : ℕ) (signs : List ℕ) → AllPass f signs → is_one_of signs b ≡ true → f b ≡ true
+sign-passes f b [] all e = absurd (true≢false (sym e))
+sign-passes f b (x ∷ xs) all e = go (sign-passes f b xs all.1) (or_cases (x == b) (is_one_of xs b) e)
+  where
+    go : (is_one_of xs b ≡ true → f b ≡ true) → ((x == b) ≡ true) ⊎ (is_one_of xs b ≡ true) → f b ≡ true
+    go rest (inl h) = ap f (sym (eqb-true x b h)) ∙ all.0
+    go rest (inr h) = rest h
+
+abbrev is_known : ℕ → Bool
+is_known n = has_call n || (is_mark n || is_other n)
+
+-- all others are marks, pipes, or signs of formulas
+pub other-special : (o : Options) (b : ℕ) → has_call b ≡ false → is_special o b ≡ true → (is_mark b ≡ true) ⊎ (is_other b ≡ true)
+other-special o b uncalled e = or_cases (is_mark b) (is_other b) (others (or_cases (has_call b) (is_mark b || is_other b) (known (special-kinds o b e))))
+  where
+    here : (n : ℕ) → (b == n) ≡ true → is_known n ≡ true → is_known b ≡ true
+    here n h k = ap is_known (eqb-true b n h) ∙ k
+
+    known : Kinds o b → is_known b ≡ true
+    known (inl h) = sign-passes is_known b (codes "\n\r*_&\\[]<!`") (refl, (refl, (refl, (refl, (refl, (refl, (refl, (refl, (refl, (refl, (refl, tt))))))))))) h
+    known (inr (inl h)) = here 124 h refl
+    known (inr (inr (inl h))) = here 126 h refl
+    known (inr (inr (inr (inl h)))) = here 94 h refl
+    known (inr (inr (inr (inr (inl h))))) = sign-passes is_known b (codes "${}") (refl, (refl, (refl, tt))) h
+    known (inr (inr (inr (inr (inr h))))) = sign-passes is_known b (codes ".-\"'") (refl, (refl, (refl, (refl, tt)))) h.1
+
+    others : (has_call b ≡ true) ⊎ ((is_mark b || is_other b) ≡ true) → (is_mark b || is_other b) ≡ true
+    others (inl h) = absurd (true≢false (sym h ∙ uncalled))
+    others (inr h) = h
+
+-- ## Brackets, and bytes that stand for themselves
+module _ (o : Options) (l : Lookup) (text : List ℕ) (at : ℕ) (lt : at < length text) where
+  one-more : suc at ≡ at + 1
+  one-more = omega arith
+
+  next-is : drop (suc at) text ≡ drop (at + 1) text
+  next-is = ap (λ k. drop k text) one-more
+
+  abbrev by_bracket : List ℕ → Token
+  by_bracket rest = if first_is (λ c. c == 91) rest then Opens (bracket true at (at + 2)) else item_at Plain at (suc at)
+
+  mark-begins : get_or text at 0 ≡ 33 → begins_at o l text at ≡ by_bracket (drop (at + 1) text)
+  mark-begins is = begins-with o l text at 33 lt is ∙ ap by_bracket next-is
+
+  pub image-opens : get_or text at 0 ≡ 33 → first_is (λ c. c == 91) (drop (at + 1) text) ≡ true → begins_at o l text at ≡ Opens (bracket true at (at + 2))
+  image-opens is e = mark-begins is ∙ ap (λ z. if z then Opens (bracket true at (at + 2)) else item_at Plain at (suc at)) e
+
+  pub mark-stands : get_or text at 0 ≡ 33 → first_is (λ c. c == 91) (drop (at + 1) text) ≡ false → begins_at o l text at ≡ item_at Plain at (at + 1)
+  mark-stands is e = mark-begins is ∙ ap (λ z. if z then Opens (bracket true at (at + 2)) else item_at Plain at (suc at)) e ∙ ap (item_at Plain at) one-more
+
+  pub link-opens : get_or text at 0 ≡ 91 → begins_at o l text at ≡ Opens (bracket false at (at + 1))
+  link-opens is = begins-with o l text at 91 lt is ∙ ap (λ e. Opens (bracket false at e)) one-more
+
+  pub bracket-closes : get_or text at 0 ≡ 93 → begins_at o l text at ≡ Closes (bracket false at (at + 1))
+  bracket-closes is = begins-with o l text at 93 lt is ∙ ap (λ e. Closes (bracket false at e)) one-more
+
+  either-way : (z : Bool) → ◌≡◌ {A = Token} (if z then item_at Plain at (suc at) else item_at Plain at (suc at)) (item_at Plain at (at + 1))
+  either-way true = ap (item_at Plain at) one-more
+  either-way false = ap (item_at Plain at) one-more
+
+  other-stands : (b : ℕ) → get_or text at 0 ≡ b → is_other b ≡ true → begins_at o l text at ≡ item_at Plain at (at + 1)
+  other-stands b is e = go (or_cases (b == 124) ((b == 36) || ((b == 123) || (b == 125))) e)
+    where
+      last : ((b == 123) ≡ true) ⊎ ((b == 125) ≡ true) → begins_at o l text at ≡ item_at Plain at (at + 1)
+      last (inl h) = begins-with o l text at 123 lt (is ∙ eqb-true b 123 h) ∙ either-way o.smart_punctuation
+      last (inr h) = begins-with o l text at 125 lt (is ∙ eqb-true b 125 h) ∙ either-way o.smart_punctuation
+
+      more : ((b == 36) ≡ true) ⊎ (((b == 123) || (b == 125)) ≡ true) → begins_at o l text at ≡ item_at Plain at (at + 1)
+      more (inl h) = begins-with o l text at 36 lt (is ∙ eqb-true b 36 h) ∙ either-way o.smart_punctuation
+      more (inr h) = last (or_cases (b == 123) (b == 125) h)
+
+      go : ((b == 124) ≡ true) ⊎ (((b == 36) || ((b == 123) || (b == 125))) ≡ true) → begins_at o l text at ≡ item_at Plain at (at + 1)
+      go (inl h) = begins-with o l text at 124 lt (is ∙ eqb-true b 124 h) ∙ either-way o.smart_punctuation
+      go (inr h) = more (or_cases (b == 36) ((b == 123) || (b == 125)) h)
+
+-- each byte of a run of them
+pub others-stand : (o : Options) (l : Lookup) (text : List ℕ) (at b end : ℕ) → get_or text at 0 ≡ b → is_other b ≡ true → end ≡ at + prefix_len (λ c. c == get_or text at 0) (drop at text)
+    → (k : ℕ) → at ≤ k → k < end → begins_at o l text k ≡ item_at Plain k (k + 1)
+others-stand o l text at b end is e ends k low high =
+    let p : ℕ → Bool = λ c. c == get_or text at 0 in
+    let n = prefix_len-le-length p (drop at text) in
+    let d = length-drop at text in
+    let inside : k - at < prefix_len p (drop at text) = omega (arith, ends, low, high) in
+    let byte : get_or text k 0 ≡ b =
+    ap (λ i. get_or text i 0) (let q : k ≡ at + (k - at) = omega (arith, low) in q) ∙ sym (get_or-drop at text (k - at) 0)
+    ∙ eqb-true (get_or (drop at text) (k - at) 0) (get_or text at 0) (prefix_len_passes p (drop at text) (k - at) 0 inside) ∙ is in
+    other-stands o l text k (let q : k < length text = omega (arith, inside, n, d) in q) b byte e
+
+abbrev none : Flanking
+none = record { opens = false; closes = false }
+
+-- such a run is no delimiter run
+pub others-flank : (o : Options) (b size : ℕ) (before after : Option ℕ) → is_other b ≡ true → flanking o b size before after ≡ record { opens = false; closes = false }
+others-flank o b size before after e = go (or_cases (b == 124) ((b == 36) || ((b == 123) || (b == 125))) e)
+  where
+    at-byte : (n : ℕ) → (b == n) ≡ true → flanking o n size before after ≡ none → flanking o b size before after ≡ none
+    at-byte n h q = ap (λ m. flanking o m size before after) (eqb-true b n h) ∙ q
+
+    last : ((b == 123) ≡ true) ⊎ ((b == 125) ≡ true) → flanking o b size before after ≡ none
+    last (inl h) = at-byte 123 h refl
+    last (inr h) = at-byte 125 h refl
+
+    more : ((b == 36) ≡ true) ⊎ (((b == 123) || (b == 125)) ≡ true) → flanking o b size before after ≡ none
+    more (inl h) = at-byte 36 h refl
+    more (inr h) = last (or_cases (b == 123) (b == 125) h)
+
+    go : ((b == 124) ≡ true) ⊎ (((b == 36) || ((b == 123) || (b == 125))) ≡ true) → flanking o b size before after ≡ none
+    go (inl h) = at-byte 124 h refl
+    go (inr h) = more (or_cases (b == 36) ((b == 123) || (b == 125)) h)
