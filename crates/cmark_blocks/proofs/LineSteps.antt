@@ -5,9 +5,10 @@ use Rattle.cmark_grammar.specs.Answers.{Lookup}
 use Rattle.cmark_grammar.specs.Containers.{Container, enter}
 use Rattle.cmark_grammar.specs.Leaves.{run}
 use Rattle.cmark_grammar.specs.Metadata.{metadata_kind}
-use Rattle.cmark_grammar.specs.Openings.{Leaf, Takes, Plain, or_else, metadata_begun, whole_opens, opens}
+use Rattle.cmark_grammar.specs.Openings.{Leaf, Blank, Takes, Plain, or_else, metadata_begun, whole_opens, opens}
 use Rattle.cmark_grammar.specs.Options.{Options, no_options}
 use Rattle.cmark_grammar.specs.Rows.{Row, is_blank_line, words_of}
+use Rattle.cmark_grammar.proofs.BlockLaws.{no_metadata}
 use Rattle.cmark_lines.proofs.OpeningRows.{opens-blank, none_ahead}
 use Rattle.cmark_lines.specs.Opened.{opened, HasInside, InsideIsIn}
 use Rattle.cmark_lines.specs.Rests.{row_of, IsIn}
@@ -123,4 +124,4 @@ pub begins-blank : (text : List ℕ) (options : Options) (lookup : Lookup) (r : 
     begin text options lookup r next m ≡ record m { inner = record m.inner { blank = m.inner.has_block }; bare = false }
 begins-blank text options lookup r next m whole blank =
     ap (λ o. begin_as text options lookup o (λ k. begin_in text options lookup (length r.columns) (enter k r) next (is_item k) (container_begun k r m)) r (ahead_in text options lookup m.outer next) false m)
-    (opens-blank options r (ahead_in text options lookup m.outer next) whole blank)
+    (opens-blank options r (ahead_in text options lookup m.outer next) whole blank ∙ ap (λ kind. or_else (metadata_begun kind (ahead_in text options lookup m.outer next)) Blank) (no_metadata options r blank))

@@ -11,4 +11,4 @@ returns-then-is_blank-clause-runs g c text options lookup m runs =
     let row = row_of c.args.line in
     subst (λ p. Runs g.E.EntityLookup.replacement text options lookup p c.pass_blank_line.new.self)
     (sym (begins-blank text options lookup row (lines_at text row.past) m (whole c.args.line) (sym c.is_blank.ensures ∙ c.if-is_blank.true)))
-    (c.pass_blank_line.ensures.runs text lookup m runs)
+    (c.pass_blank_line.ensures.runs text options lookup m runs)
