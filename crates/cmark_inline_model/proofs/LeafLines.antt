@@ -9,11 +9,12 @@ use Rattle.cmark_grammar.specs.Containers.{Container, Quote, Item, enter, strips
 use Rattle.cmark_grammar.specs.Derivation.{leaf_then, item_then, document_of, Derives}
 use Rattle.cmark_grammar.specs.Lines.{lines, ends_line, onto, is_content, line_feed, carriage_return, begins_with_line_feed}
 use Rattle.cmark_grammar.specs.Lists.{ListBefore, tight_behind, goes_on}
-use Rattle.cmark_grammar.specs.Openings.{Leaf, ThematicBreak as ThematicBreakLeaf, AtxHeading as AtxHeadingLeaf, IndentedCode as IndentedCodeLeaf, FencedCode as FencedCodeLeaf, HtmlBlock as HtmlBlockLeaf, LinkDefinition as LinkDefinitionLeaf}
+use Rattle.cmark_grammar.specs.Metadata.{ends_metadata}
+use Rattle.cmark_grammar.specs.Openings.{Leaf, ThematicBreak as ThematicBreakLeaf, AtxHeading as AtxHeadingLeaf, IndentedCode as IndentedCodeLeaf, FencedCode as FencedCodeLeaf, HtmlBlock as HtmlBlockLeaf, LinkDefinition as LinkDefinitionLeaf, MetadataBlock as MetadataBlockLeaf}
 use Rattle.cmark_grammar.specs.Options.{Options}
 use Rattle.cmark_grammar.specs.Rows.{Row, rows, rows_from, first_place, begin_of, start_of, past_of}
 use Rattle.cmark_grammar.specs.SpanDocuments.{Segment, Given, Content, stretches_of, leaf_of, is_leaf, inside_of, node_segments, segments}
-use Rattle.cmark_grammar.specs.Tokens.{texts_then, Piece, text_kind_of, html_kind_of, html_then, code_tokens, html_tokens, fenced_lines, piece_if, stretch_then, stretches, end_place, words_end, paragraph_tokens, heading_tokens, behind_hashes, heading_columns, slice}
+use Rattle.cmark_grammar.specs.Tokens.{texts_then, Piece, text_kind_of, html_kind_of, html_then, code_tokens, html_tokens, fenced_lines, lines_before, piece_if, stretch_then, stretches, end_place, words_end, paragraph_tokens, heading_tokens, behind_hashes, heading_columns, slice}
 use Rattle.cmark_grammar.proofs.BoundaryLaws.{joined}
 use Rattle.cmark_grammar.proofs.RowPlaces.{strip-past}
 use Rattle.cmark_inline_model.specs.LeafModel.{EndsLine, HaveLineEnds, AreLeavesOfLines}
@@ -193,6 +194,8 @@ leaf_of_lines text lookup (FencedCodeLeaf fence) first more after a =
 leaf_of_lines text lookup (HtmlBlockLeaf kind) first more after a =
     let inside = html_tokens text (first ∷ more) in (no_leaf text inside, texts_of_lines text inside (html_tokens_are_texts text (first ∷ more)), a)
 leaf_of_lines text lookup (LinkDefinitionLeaf definition) first more after a = (no_leaf text Nil, tt, a)
+leaf_of_lines text lookup (MetadataBlockLeaf kind) first more after a =
+    let inside = code_tokens text 0 (lines_before (ends_metadata kind) more) in (no_leaf text inside, texts_of_lines text inside (pieces_are_texts _ Nil tt), a)
 
 item_of_lines : (text : List ℕ) (joins : Bool) (number : Option ℕ) (tight : Bool) (item : BlockNode) (inside after : BlockDocument) → is_leaf item.kind ≡ false → AreOfLines text inside → AreOfLines text after
     → AreOfLines text (item_then joins number tight item inside after)
