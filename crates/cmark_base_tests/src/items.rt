@@ -1,7 +1,7 @@
 //! Tests of the items' tables, with ample memory.
 
 use bitflags::Flags;
-use cmark_items::{Allocations, HeadingAttributes, Item, ItemBody, LinkDef, ListFlags, RefDefs};
+use cmark_items::{Allocations, Item, ItemBody, LinkDef, ListFlags, RefDefs};
 use cmark_text::{Alignment, CowStr, LinkLabel, LinkType};
 use cmark_tree::TreeSpan;
 use std::alloc::{AllocError, Global};
@@ -45,18 +45,6 @@ fn alignments_are_kept_and_taken(rt: HostRuntime) -> Result<(), Fail> {
     assert_eq!(rt; tables[index].len(), 2);
     assert_eq!(rt; tables.take_alignment(index).len(), 2);
     assert_eq!(rt; tables[index].len(), 0);
-    Ok(())
-}
-
-#[test]
-fn headings_are_kept(rt: HostRuntime) -> Result<(), Fail> {
-    let mut tables = Allocations::new(rt.alloc());
-    let index = tables.allocate_heading(HeadingAttributes {
-        id: Some(CowStr::Borrowed("b")),
-        classes: Vec::new(rt.alloc()),
-        attrs: Vec::new(rt.alloc()),
-    })?;
-    assert_eq!(rt; tables[index].id.is_some(), true);
     Ok(())
 }
 

@@ -24,7 +24,7 @@ module _ (text : List ℕ) (options : Options) (lookup : Lookup) where
   ahead-inside [] c next = refl
   ahead-inside (o ∷ outer) c next = ahead-inside outer c (shown (strips o.container false next))
 
-  container-begins : (k : Container) (r : Row) (l : Level) (outer : List OpenContainer) (n : ℕ) → container_begun k r (pass_with l outer false Closed n) ≡ pass_with (entered k r l) (outer ++ container_at text lookup k r l ∷ []) false Closed n
+  container-begins : (k : Container) (r : Row) (l : Level) (outer : List OpenContainer) (n : ℕ) → container_begun k r (pass_with l outer false Closed n) ≡ pass_with (entered k r l) (outer ++ container_at text options lookup k r l ∷ []) false Closed n
   container-begins Quote r l outer n = refl
   container-begins (Item mark number width) r l outer n = go l.inner.list
     where
@@ -61,32 +61,32 @@ module _ (text : List ℕ) (options : Options) (lookup : Lookup) where
 
   -- a leaf that begins
   html-begins : (z : Bool) (kind : ℕ) (closed : Blocks) (r : Row) (ahead : List Row) (l : Level) (outer : List OpenContainer) (b : Bool) (n : ℕ)
-      → html_begun text options lookup z kind r.past (pass_with (record (replay text lookup closed l) { drawing = (inner_at text lookup (html_lines_begun false closed kind r) ahead l).drawing; inner = (begun (replay text lookup closed l)).inner }) outer false Closed n)
-      ≡ pass_with (inner_at text lookup (html_lines_begun z closed kind r) ahead l) outer (bare_at b (html_lines_begun z closed kind r)) (leaf_at text lookup (html_lines_begun z closed kind r)) n
+      → html_begun text options lookup z kind r.past (pass_with (record (replay text options lookup closed l) { drawing = (inner_at text options lookup (html_lines_begun false closed kind r) ahead l).drawing; inner = (begun (replay text options lookup closed l)).inner }) outer false Closed n)
+      ≡ pass_with (inner_at text options lookup (html_lines_begun z closed kind r) ahead l) outer (bare_at b (html_lines_begun z closed kind r)) (leaf_at text options lookup (html_lines_begun z closed kind r)) n
   html-begins true kind closed r ahead l outer b n = refl
   html-begins false kind closed r ahead l outer b n = refl
 
   leaf-begins : (leaf : Leaf) (more : ℕ) (closed : Blocks) (r : Row) (ahead : List Row) (l : Level) (outer : List OpenContainer) (b : Bool) (n : ℕ) → Tells r (Takes leaf more)
-      → leaf_begun text options lookup leaf more r ahead (pass_with (replay text lookup closed l) outer false Closed n)
-      ≡ pass_with (inner_at text lookup (leaf_lines_begun leaf more closed r) ahead l) outer (bare_at b (leaf_lines_begun leaf more closed r)) (leaf_at text lookup (leaf_lines_begun leaf more closed r)) n
+      → leaf_begun text options lookup leaf more r ahead (pass_with (replay text options lookup closed l) outer false Closed n)
+      ≡ pass_with (inner_at text options lookup (leaf_lines_begun leaf more closed r) ahead l) outer (bare_at b (leaf_lines_begun leaf more closed r)) (leaf_at text options lookup (leaf_lines_begun leaf more closed r)) n
   leaf-begins ThematicBreak more closed r ahead l outer b n t =
-      ap (λ m. pass_with (leaf_level text lookup ThematicBreak r (take m ahead) (replay text lookup closed l)) outer false Closed n) (sym t)
+      ap (λ m. pass_with (leaf_level text options lookup ThematicBreak r (take m ahead) (replay text options lookup closed l)) outer false Closed n) (sym t)
   leaf-begins (AtxHeading level) more closed r ahead l outer b n t =
-      ap (λ m. pass_with (leaf_level text lookup (AtxHeading level) r (take m ahead) (replay text lookup closed l)) outer false Closed n) (sym t)
+      ap (λ m. pass_with (leaf_level text options lookup (AtxHeading level) r (take m ahead) (replay text options lookup closed l)) outer false Closed n) (sym t)
   leaf-begins IndentedCode more closed r ahead l outer b n t = refl
   leaf-begins (FencedCode fence) more closed r ahead l outer b n t = refl
   leaf-begins (HtmlBlock kind) more closed r ahead l outer b n t = html-begins (nat_le kind 5 && holds_end kind (words_of r)) kind closed r ahead l outer b n
   leaf-begins (LinkDefinition definition) more closed r ahead l outer b n t = refl
   leaf-begins (MetadataBlock kind) more closed r ahead l outer b n t = refl
 
-  leaf-alone : (leaf : Leaf) (more : ℕ) (closed : Blocks) (r : Row) (l : Level) → containers_at text lookup (leaf_lines_begun leaf more closed r) l ≡ []
+  leaf-alone : (leaf : Leaf) (more : ℕ) (closed : Blocks) (r : Row) (l : Level) → containers_at text options lookup (leaf_lines_begun leaf more closed r) l ≡ []
   leaf-alone ThematicBreak more closed r l = refl
   leaf-alone (AtxHeading level) more closed r l = refl
   leaf-alone IndentedCode more closed r l = refl
   leaf-alone (FencedCode fence) more closed r l = refl
   leaf-alone (HtmlBlock kind) more closed r l = go (nat_le kind 5 && holds_end kind (words_of r))
     where
-      go : (z : Bool) → containers_at text lookup (html_lines_begun z closed kind r) l ≡ []
+      go : (z : Bool) → containers_at text options lookup (html_lines_begun z closed kind r) l ≡ []
       go true = refl
       go false = refl
   leaf-alone (LinkDefinition definition) more closed r l = refl
@@ -127,66 +127,66 @@ module _ (text : List ℕ) (options : Options) (lookup : Lookup) where
       go Plain t = refl
 
   inside-same : (m : ℕ) (k : Container) (r : Row) (ahead : List Row) (l : Level) (outer : List OpenContainer) (n : ℕ) → r.lazy ≡ false → length (enter k r).columns < m
-      → pass_at text lookup (inside_begun m k r (within k false ahead)) (within k false ahead) l outer (is_item k) n
-      ≡ pass_at text lookup (inside_begun m k r (within k (is_bare_start k r) ahead)) (within k (is_bare_start k r) ahead) l outer (is_bare_start k r) n
+      → pass_at text options lookup (inside_begun m k r (within k false ahead)) (within k false ahead) l outer (is_item k) n
+      ≡ pass_at text options lookup (inside_begun m k r (within k (is_bare_start k r) ahead)) (within k (is_bare_start k r) ahead) l outer (is_bare_start k r) n
   inside-same zero k r ahead l outer n e f = absurd (omega (arith, f))
   inside-same (suc m) k r ahead l outer n e f = go (is_bare_start k r) refl
     where
-      go : (z : Bool) → is_bare_start k r ≡ z → pass_at text lookup (inside_begun (suc m) k r (within k false ahead)) (within k false ahead) l outer (is_item k) n
-          ≡ pass_at text lookup (inside_begun (suc m) k r (within k (is_bare_start k r) ahead)) (within k (is_bare_start k r) ahead) l outer (is_bare_start k r) n
+      go : (z : Bool) → is_bare_start k r ≡ z → pass_at text options lookup (inside_begun (suc m) k r (within k false ahead)) (within k false ahead) l outer (is_item k) n
+          ≡ pass_at text options lookup (inside_begun (suc m) k r (within k (is_bare_start k r) ahead)) (within k (is_bare_start k r) ahead) l outer (is_bare_start k r) n
       go true b =
-          ap (λ o. pass_at text lookup o (within k false ahead) l outer (is_item k) n) (blank-begins m k r (within k false ahead) e (bare-start k r b))
-          ∙ ap (λ z. pass_at text lookup (Between (BlankLine (enter k r) NoBlocks)) [] l outer z n) (bare-item k r b ∙ sym b)
-          ∙ ap (λ o. pass_at text lookup o (within k (is_bare_start k r) ahead) l outer (is_bare_start k r) n) (sym (blank-begins m k r (within k (is_bare_start k r) ahead) e (bare-start k r b)))
+          ap (λ o. pass_at text options lookup o (within k false ahead) l outer (is_item k) n) (blank-begins m k r (within k false ahead) e (bare-start k r b))
+          ∙ ap (λ z. pass_at text options lookup (Between (BlankLine (enter k r) NoBlocks)) [] l outer z n) (bare-item k r b ∙ sym b)
+          ∙ ap (λ o. pass_at text options lookup o (within k (is_bare_start k r) ahead) l outer (is_bare_start k r) n) (sym (blank-begins m k r (within k (is_bare_start k r) ahead) e (bare-start k r b)))
       go false b =
           let o = inside_begun (suc m) k r (within k false ahead) in
-          ap (λ z. pass_with (inner_at text lookup o (within k false ahead) l) (outer ++ containers_at text lookup o l) z (leaf_at text lookup o) n) (bare-begins m k r (within k false ahead) b)
-          ∙ ap (λ z. pass_at text lookup (inside_begun (suc m) k r (within k z ahead)) (within k z ahead) l outer z n) (sym b)
+          ap (λ z. pass_with (inner_at text options lookup o (within k false ahead) l) (outer ++ containers_at text options lookup o l) z (leaf_at text options lookup o) n) (bare-begins m k r (within k false ahead) b)
+          ∙ ap (λ z. pass_at text options lookup (inside_begun (suc m) k r (within k z ahead)) (within k z ahead) l outer z n) (sym b)
 
   pub begins : (m : ℕ) (closed : Blocks) (r : Row) (next ahead : List Row) (l : Level) (outer : List OpenContainer) (b : Bool) (n : ℕ) → r.lazy ≡ false → length r.columns < m → ahead_in text options lookup outer next ≡ ahead
-      → begin_in text options lookup m r next b (pass_with (replay text lookup closed l) outer false Closed n) ≡ pass_at text lookup (lines_begin_in options m closed r ahead) ahead l outer b n
+      → begin_in text options lookup m r next b (pass_with (replay text options lookup closed l) outer false Closed n) ≡ pass_at text options lookup (lines_begin_in options m closed r ahead) ahead l outer b n
   begins zero closed r next ahead l outer b n e f a = absurd (omega (arith, f))
   begins (suc m) closed r next ahead l outer b n e f a =
       ap (λ x. begin_as text options lookup (opens options r x) (λ k. begin_in text options lookup m (enter k r) next (is_item k) (container_begun k r p)) r x b p) a
       ∙ go (opens options r ahead) refl (tells options r ahead)
       (λ k o. let le : length (enter k r).columns < length r.columns = enter_len options k r ahead o in
-      begins m NoBlocks (enter k r) next (within k false ahead) (entered k r c) (outer ++ container_at text lookup k r c ∷ []) (is_item k) n (enter-lazy options k r ∙ e) (omega (arith, f, le))
-      (ahead-inside outer (container_at text lookup k r c) next ∙ ap (within k false) a))
+      begins m NoBlocks (enter k r) next (within k false ahead) (entered k r c) (outer ++ container_at text options lookup k r c ∷ []) (is_item k) n (enter-lazy options k r ∙ e) (omega (arith, f, le))
+      (ahead-inside outer (container_at text options lookup k r c) next ∙ ap (within k false) a))
     where
       c : Level
-      c = replay text lookup closed l
+      c = replay text options lookup closed l
 
       p : Pass
-      p = pass_with (replay text lookup closed l) outer false Closed n
+      p = pass_with (replay text options lookup closed l) outer false Closed n
 
       inside : Container → OpenLines
       inside k = lines_begin_in options m NoBlocks (enter k r) (within k (is_bare_start k r) ahead)
 
       Inside : Container → Type 0
-      Inside k = begin_in text options lookup m (enter k r) next (is_item k) (pass_with (entered k r (replay text lookup closed l)) (outer ++ container_at text lookup k r (replay text lookup closed l) ∷ []) false Closed n)
-          ≡ pass_at text lookup (inside_begun m k r (within k false ahead)) (within k false ahead) (entered k r (replay text lookup closed l)) (outer ++ container_at text lookup k r (replay text lookup closed l) ∷ []) (is_item k) n
+      Inside k = begin_in text options lookup m (enter k r) next (is_item k) (pass_with (entered k r (replay text options lookup closed l)) (outer ++ container_at text options lookup k r (replay text options lookup closed l) ∷ []) false Closed n)
+          ≡ pass_at text options lookup (inside_begun m k r (within k false ahead)) (within k false ahead) (entered k r (replay text options lookup closed l)) (outer ++ container_at text options lookup k r (replay text options lookup closed l) ∷ []) (is_item k) n
 
       go : (o : Opening) → opens options r ahead ≡ o → Tells r o → ((k : Container) → opens options r ahead ≡ Nests k → Inside k)
-          → begin_as text options lookup o (λ k. begin_in text options lookup m (enter k r) next (is_item k) (container_begun k r (pass_with (replay text lookup closed l) outer false Closed n))) r ahead b (pass_with (replay text lookup closed l) outer false Closed n)
-          ≡ pass_at text lookup (lines_begin_as o (λ k. lines_begin_in options m NoBlocks (enter k r) (within k (is_bare_start k r) ahead)) closed r) ahead l outer b n
+          → begin_as text options lookup o (λ k. begin_in text options lookup m (enter k r) next (is_item k) (container_begun k r (pass_with (replay text options lookup closed l) outer false Closed n))) r ahead b (pass_with (replay text options lookup closed l) outer false Closed n)
+          ≡ pass_at text options lookup (lines_begin_as o (λ k. lines_begin_in options m NoBlocks (enter k r) (within k (is_bare_start k r) ahead)) closed r) ahead l outer b n
       go Blank q t ih =
-          ap (λ x. pass_with x outer b Closed n) (sym (replay-join text lookup closed (BlankLine r NoBlocks) l))
-          ∙ ap (λ o. pass_with (replay text lookup (join_blocks closed (BlankLine r NoBlocks)) l) o b Closed n) (sym (append-nil outer))
+          ap (λ x. pass_with x outer b Closed n) (sym (replay-join text options lookup closed (BlankLine r NoBlocks) l))
+          ∙ ap (λ o. pass_with (replay text options lookup (join_blocks closed (BlankLine r NoBlocks)) l) o b Closed n) (sym (append-nil outer))
       go (Nests k) q t ih =
-          let v = container_at text lookup k r c in
+          let v = container_at text options lookup k r c in
           let i = inside_begun m k r (within k (is_bare_start k r) ahead) in
           let le : length (enter k r).columns < length r.columns = enter_len options k r ahead q in
           ap (begin_in text options lookup m (enter k r) next (is_item k)) (container-begins k r c outer n)
           ∙ ih k q
           ∙ inside-same m k r ahead (entered k r c) (outer ++ v ∷ []) n e (omega (arith, f, le))
-          ∙ ap (λ o. pass_with (inner_at text lookup i (within k (is_bare_start k r) ahead) (entered k r c)) o (bare_at (is_bare_start k r) i) (leaf_at text lookup i) n) (append_assoc outer (v ∷ []) (containers_at text lookup i (entered k r c)))
+          ∙ ap (λ o. pass_with (inner_at text options lookup i (within k (is_bare_start k r) ahead) (entered k r c)) o (bare_at (is_bare_start k r) i) (leaf_at text options lookup i) n) (append_assoc outer (v ∷ []) (containers_at text options lookup i (entered k r c)))
       go (Takes leaf more) q t ih =
           let i = leaf_lines_begun leaf more closed r in
           leaf-begins leaf more closed r ahead l outer b n t
-          ∙ ap (λ o. pass_with (inner_at text lookup i ahead l) o (bare_at b i) (leaf_at text lookup i) n) (sym (ap (λ x. outer ++ x) (leaf-alone leaf more closed r l) ∙ append-nil outer))
+          ∙ ap (λ o. pass_with (inner_at text options lookup i ahead l) o (bare_at b i) (leaf_at text options lookup i) n) (sym (ap (λ x. outer ++ x) (leaf-alone leaf more closed r l) ∙ append-nil outer))
       go Plain q t ih =
-          ap (λ x. pass_with (paragraph_open text lookup r [] (replay text lookup closed l)) outer false (InParagraphLeaf (start_of x) x) n) (sym (whole-same r e))
-          ∙ ap (λ o. pass_with (paragraph_open text lookup r [] (replay text lookup closed l)) o false (InParagraphLeaf (start_of r) (whole r)) n) (sym (append-nil outer))
+          ap (λ x. pass_with (paragraph_open text options lookup r [] (replay text options lookup closed l)) outer false (InParagraphLeaf (start_of x) x) n) (sym (whole-same r e))
+          ∙ ap (λ o. pass_with (paragraph_open text options lookup r [] (replay text options lookup closed l)) o false (InParagraphLeaf (start_of r) (whole r)) n) (sym (append-nil outer))
 
   -- where nothing but a blank line may begin, no line that is bare begins something
   not-bare : (b : Bool) (r : Row) (ahead : List Row) → r.lazy ≡ false → (b ≡ true → is_blank_line r ≡ true) → (opens options r ahead ≡ Blank → ⊥) → b ≡ false
@@ -224,7 +224,7 @@ module _ (text : List ℕ) (options : Options) (lookup : Lookup) where
 
   -- behind closed blocks
   pub starts : (closed : Blocks) (r : Row) (next ahead : List Row) (l : Level) (outer : List OpenContainer) (n : ℕ) → r.lazy ≡ false → ahead_in text options lookup outer next ≡ ahead
-      → begin text options lookup r next (pass_with (replay text lookup closed l) outer false Closed n) ≡ pass_at text lookup (lines_begin options closed r ahead) ahead l outer false n
+      → begin text options lookup r next (pass_with (replay text options lookup closed l) outer false Closed n) ≡ pass_at text options lookup (lines_begin options closed r ahead) ahead l outer false n
   unfolding lines_begin
   starts closed r next ahead l outer n e a = begins (suc (length r.columns)) closed r next ahead l outer false n e (omega arith) a
 

@@ -28,22 +28,22 @@ before-lines closes [] h = refl
 before-lines closes (r ∷ rs) h = ap (λ y. stop_at y r (lines_before closes rs)) h.0 ∙ ap (λ x. r ∷ x) (before-lines closes rs h.1)
 
 module _ (text : List ℕ) (options : Options) (lookup : Lookup) where
-  blank-replay : (rs : List Row) (l : Level) → l.inner.has_block ≡ true → l.inner.blank ≡ true → replay text lookup (blank_lines rs) l ≡ l
+  blank-replay : (rs : List Row) (l : Level) → l.inner.has_block ≡ true → l.inner.blank ≡ true → replay text options lookup (blank_lines rs) l ≡ l
   blank-replay [] l h b = refl
   blank-replay (r ∷ rs) l h b =
       blank-replay rs (blank_level l) h h ∙ ap (λ z. record l { inner = record l.inner { blank = z } }) (h ∙ sym b)
 
-  blanks-replay : (rs : List Row) (l : Level) → l.inner.has_block ≡ true → l.inner.blank ≡ false → replay text lookup (blank_lines rs) l ≡ record l { inner = record l.inner { blank = is_some rs } }
+  blanks-replay : (rs : List Row) (l : Level) → l.inner.has_block ≡ true → l.inner.blank ≡ false → replay text options lookup (blank_lines rs) l ≡ record l { inner = record l.inner { blank = is_some rs } }
   blanks-replay [] l h b = ap (λ z. record l { inner = record l.inner { blank = z } }) b
   blanks-replay (r ∷ rs) l h b = blank-replay rs (blank_level l) h h ∙ ap (λ z. record l { inner = record l.inner { blank = z } }) h
 
   -- the innermost level, when the leaf is closed
   abbrev pub inner_closed : OpenLines → Level → Level
-  inner_closed (Between closed) l = replay text lookup (close_lines (Between closed)) l
-  inner_closed (InParagraph closed first more) l = replay text lookup (close_lines (InParagraph closed first more)) l
-  inner_closed (InLeaf closed leaf first had left) l = replay text lookup (close_lines (InLeaf closed leaf first had left)) l
-  inner_closed (InVerbatim closed verbatim first had waiting) l = replay text lookup (close_lines (InVerbatim closed verbatim first had waiting)) l
-  inner_closed (InContainer closed k first more inside) l = inner_closed inside (entered k first (replay text lookup closed l))
+  inner_closed (Between closed) l = replay text options lookup (close_lines (Between closed)) l
+  inner_closed (InParagraph closed first more) l = replay text options lookup (close_lines (InParagraph closed first more)) l
+  inner_closed (InLeaf closed leaf first had left) l = replay text options lookup (close_lines (InLeaf closed leaf first had left)) l
+  inner_closed (InVerbatim closed verbatim first had waiting) l = replay text options lookup (close_lines (InVerbatim closed verbatim first had waiting)) l
+  inner_closed (InContainer closed k first more inside) l = inner_closed inside (entered k first (replay text options lookup closed l))
 
   -- a leaf's node closed: this kind, these tokens
   abbrev pub noded : BlockKind → (start end : ℕ) → BlockDocument → Level → Level
@@ -58,68 +58,68 @@ module _ (text : List ℕ) (options : Options) (lookup : Lookup) where
   leaf-left (MetadataBlock kind) left q outer bare n = refl
   leaf-left (LinkDefinition definition) left q outer bare n = refl
 
-  replay-nil : (b : Blocks) (l : Level) → replay text lookup (join_blocks b NoBlocks) l ≡ replay text lookup b l
-  replay-nil b l = replay-join text lookup b NoBlocks l
+  replay-nil : (b : Blocks) (l : Level) → replay text options lookup (join_blocks b NoBlocks) l ≡ replay text options lookup b l
+  replay-nil b l = replay-join text options lookup b NoBlocks l
 
   verbatim-closes : (v : Verbatim) (closed : Blocks) (first : Row) (had waiting : List Row) (n : ℕ) (l : Level) (outer : List OpenContainer) (bare : Bool) → FitsVerbatim v first had waiting n
-      → close_leaf text options lookup (verbatim_leaf text lookup v first had waiting) (pass_with (verbatim_level text lookup v first had (replay text lookup closed l)) outer bare (verbatim_leaf text lookup v first had waiting) n)
-      ≡ pass_with (replay text lookup (join_blocks (join_blocks closed (LeafBlock (leaf_in v) first had NoBlocks)) (blank_lines waiting)) l) outer bare Closed n
+      → close_leaf text options lookup (verbatim_leaf text options lookup v first had waiting) (pass_with (verbatim_level text options lookup v first had (replay text options lookup closed l)) outer bare (verbatim_leaf text options lookup v first had waiting) n)
+      ≡ pass_with (replay text options lookup (join_blocks (join_blocks closed (LeafBlock (leaf_in v) first had NoBlocks)) (blank_lines waiting)) l) outer bare Closed n
   verbatim-closes Indented closed first had waiting n l outer bare f =
-      let c = replay text lookup closed l in
+      let c = replay text options lookup closed l in
       ap (λ t. let q = noded document.IndentedCode (first_place first.stop (code_columns 4 first)) (past_of first had) t (begun c) in pass_with (record q { inner = record q.inner { blank = is_some waiting } }) outer bare Closed n) (sym (run-tokens text 4 (first ∷ had)))
       ∙ ap (λ q. pass_with q outer bare Closed n)
-      (sym (replay-join text lookup (join_blocks closed (LeafBlock IndentedCode first had NoBlocks)) (blank_lines waiting) l
-      ∙ ap (replay text lookup (blank_lines waiting)) (replay-join text lookup closed (LeafBlock IndentedCode first had NoBlocks) l)
-      ∙ blanks-replay waiting (leaf_level text lookup IndentedCode first had c) refl refl))
+      (sym (replay-join text options lookup (join_blocks closed (LeafBlock IndentedCode first had NoBlocks)) (blank_lines waiting) l
+      ∙ ap (replay text options lookup (blank_lines waiting)) (replay-join text options lookup closed (LeafBlock IndentedCode first had NoBlocks) l)
+      ∙ blanks-replay waiting (leaf_level text options lookup IndentedCode first had c) refl refl))
   verbatim-closes (Fenced fence) closed first had waiting n l outer bare f =
-      let c = replay text lookup closed l in
+      let c = replay text options lookup closed l in
       let x = join_blocks closed (LeafBlock (FencedCode fence) first had NoBlocks) in
       ap (λ t. pass_with (noded (document.FencedCode (resolved lookup fence.info)) (start_of first) n t (begun c)) outer bare Closed n) (sym (run-tokens text fence.indented had))
       ∙ ap (λ t. pass_with (noded (document.FencedCode (resolved lookup fence.info)) (start_of first) n (code_tokens text fence.indented t) (begun c)) outer bare Closed n) (sym (before-lines (closes_fence fence) had f.2))
       ∙ ap (λ m. pass_with (noded (document.FencedCode (resolved lookup fence.info)) (start_of first) m (code_tokens text fence.indented (fenced_lines fence had)) (begun c)) outer bare Closed n) (sym f.1)
-      ∙ ap (λ q. pass_with q outer bare Closed n) (sym (ap (λ w. replay text lookup (join_blocks x (blank_lines w)) l) f.0 ∙ replay-nil x l ∙ replay-join text lookup closed (LeafBlock (FencedCode fence) first had NoBlocks) l))
+      ∙ ap (λ q. pass_with q outer bare Closed n) (sym (ap (λ w. replay text options lookup (join_blocks x (blank_lines w)) l) f.0 ∙ replay-nil x l ∙ replay-join text options lookup closed (LeafBlock (FencedCode fence) first had NoBlocks) l))
   verbatim-closes (HtmlLines kind) closed first had waiting n l outer bare f =
-      let c = replay text lookup closed l in
+      let c = replay text options lookup closed l in
       let x = join_blocks closed (LeafBlock (HtmlBlock kind) first had NoBlocks) in
       ap (λ m. pass_with (noded document.HtmlBlock (begin_of first) m (html_tokens text (first ∷ had)) (begun c)) outer bare Closed n) (sym f.1)
-      ∙ ap (λ q. pass_with q outer bare Closed n) (sym (ap (λ w. replay text lookup (join_blocks x (blank_lines w)) l) f.0 ∙ replay-nil x l ∙ replay-join text lookup closed (LeafBlock (HtmlBlock kind) first had NoBlocks) l))
+      ∙ ap (λ q. pass_with q outer bare Closed n) (sym (ap (λ w. replay text options lookup (join_blocks x (blank_lines w)) l) f.0 ∙ replay-nil x l ∙ replay-join text options lookup closed (LeafBlock (HtmlBlock kind) first had NoBlocks) l))
   verbatim-closes (Metadata kind) closed first had waiting n l outer bare f =
-      let c = replay text lookup closed l in
+      let c = replay text options lookup closed l in
       let x = join_blocks closed (LeafBlock (MetadataBlock kind) first had NoBlocks) in
       ap (λ t. pass_with (noded (document.MetadataBlock kind) (start_of first) n t (begun c)) outer bare Closed n) (sym (run-tokens text 0 had))
       ∙ ap (λ t. pass_with (noded (document.MetadataBlock kind) (start_of first) n (code_tokens text 0 t) (begun c)) outer bare Closed n) (sym (before-lines (ends_metadata kind) had f.2))
       ∙ ap (λ m. pass_with (noded (document.MetadataBlock kind) (start_of first) m (code_tokens text 0 (lines_before (ends_metadata kind) had)) (begun c)) outer bare Closed n) (sym f.1)
-      ∙ ap (λ q. pass_with q outer bare Closed n) (sym (ap (λ w. replay text lookup (join_blocks x (blank_lines w)) l) f.0 ∙ replay-nil x l ∙ replay-join text lookup closed (LeafBlock (MetadataBlock kind) first had NoBlocks) l))
+      ∙ ap (λ q. pass_with q outer bare Closed n) (sym (ap (λ w. replay text options lookup (join_blocks x (blank_lines w)) l) f.0 ∙ replay-nil x l ∙ replay-join text options lookup closed (LeafBlock (MetadataBlock kind) first had NoBlocks) l))
 
   pub leaf-closes : (o : OpenLines) (b : Bool) (n : ℕ) (l : Level) (outer : List OpenContainer) (bare : Bool) → Fits b o [] n
-      → close_leaf text options lookup (leaf_at text lookup o) (pass_with (inner_at text lookup o [] l) outer bare (leaf_at text lookup o) n) ≡ pass_with (inner_closed o l) outer bare Closed n
+      → close_leaf text options lookup (leaf_at text options lookup o) (pass_with (inner_at text options lookup o [] l) outer bare (leaf_at text options lookup o) n) ≡ pass_with (inner_closed o l) outer bare Closed n
   leaf-closes (Between closed) b n l outer bare f = refl
   leaf-closes (InParagraph closed first more) b n l outer bare f =
-      let c = replay text lookup closed l in
-      ap (λ p. pass_with (noded document.Paragraph (start_of first) p (join (lines_drawn text lookup (start_of first) first more) (stretch_then text (last_begin (start_of first) first more) (words_end (last_of first more)) Nil)) (begun c)) outer bare Closed n) (sym f.1)
-      ∙ ap (λ t. pass_with (noded document.Paragraph (start_of first) (past_of first more) t (begun c)) outer bare Closed n) (sym (drawn-tokens text lookup (start_of first) first more))
-      ∙ ap (λ q. pass_with q outer bare Closed n) (sym (replay-join text lookup closed (Paragraph first more NoBlocks) l))
+      let c = replay text options lookup closed l in
+      ap (λ p. pass_with (noded document.Paragraph (start_of first) p (join (lines_drawn text options lookup (start_of first) first more) (stretch_then text (last_begin (start_of first) first more) (words_end (last_of first more)) Nil)) (begun c)) outer bare Closed n) (sym f.1)
+      ∙ ap (λ t. pass_with (noded document.Paragraph (start_of first) (past_of first more) t (begun c)) outer bare Closed n) (sym (drawn-tokens text options lookup (start_of first) first more))
+      ∙ ap (λ q. pass_with q outer bare Closed n) (sym (replay-join text options lookup closed (Paragraph first more NoBlocks) l))
   leaf-closes (InLeaf closed leaf first had left) b n l outer bare f =
-      leaf-left leaf left (leaf_level text lookup leaf first (had ++ take left []) (replay text lookup closed l)) outer bare n
-      ∙ ap (λ h. pass_with (leaf_level text lookup leaf first h (replay text lookup closed l)) outer bare Closed n) (ap (λ t. had ++ t) (take-none left) ∙ append-nil had)
-      ∙ ap (λ q. pass_with q outer bare Closed n) (sym (replay-join text lookup closed (LeafBlock leaf first had NoBlocks) l))
+      leaf-left leaf left (leaf_level text options lookup leaf first (had ++ take left []) (replay text options lookup closed l)) outer bare n
+      ∙ ap (λ h. pass_with (leaf_level text options lookup leaf first h (replay text options lookup closed l)) outer bare Closed n) (ap (λ t. had ++ t) (take-none left) ∙ append-nil had)
+      ∙ ap (λ q. pass_with q outer bare Closed n) (sym (replay-join text options lookup closed (LeafBlock leaf first had NoBlocks) l))
   leaf-closes (InVerbatim closed verbatim first had waiting) b n l outer bare f = verbatim-closes verbatim closed first had waiting n l outer bare f.1
   leaf-closes (InContainer closed k first more inside) b n l outer bare f =
-      leaf-closes inside (bare_after (is_bare_start k first) more) n (entered k first (replay text lookup closed l)) outer bare f.2
+      leaf-closes inside (bare_after (is_bare_start k first) more) n (entered k first (replay text options lookup closed l)) outer bare f.2
 
   -- all containers closed
   pub containers-close : (o : OpenLines) (b : Bool) (n : ℕ) (l : Level) (outer : List OpenContainer) (bare : Bool) → Fits b o [] n
-      → containers_closed text options lookup outer (containers_at text lookup o l) (pass_with (inner_closed o l) (outer ++ containers_at text lookup o l) bare Closed n) ≡ pass_with (replay text lookup (close_lines o) l) outer bare Closed n
-  containers-close (Between closed) b n l outer bare f = ap (λ o. pass_with (replay text lookup closed l) o bare Closed n) (append-nil outer)
-  containers-close (InParagraph closed first more) b n l outer bare f = ap (λ o. pass_with (replay text lookup (close_lines (InParagraph closed first more)) l) o bare Closed n) (append-nil outer)
-  containers-close (InLeaf closed leaf first had left) b n l outer bare f = ap (λ o. pass_with (replay text lookup (close_lines (InLeaf closed leaf first had left)) l) o bare Closed n) (append-nil outer)
+      → containers_closed text options lookup outer (containers_at text options lookup o l) (pass_with (inner_closed o l) (outer ++ containers_at text options lookup o l) bare Closed n) ≡ pass_with (replay text options lookup (close_lines o) l) outer bare Closed n
+  containers-close (Between closed) b n l outer bare f = ap (λ o. pass_with (replay text options lookup closed l) o bare Closed n) (append-nil outer)
+  containers-close (InParagraph closed first more) b n l outer bare f = ap (λ o. pass_with (replay text options lookup (close_lines (InParagraph closed first more)) l) o bare Closed n) (append-nil outer)
+  containers-close (InLeaf closed leaf first had left) b n l outer bare f = ap (λ o. pass_with (replay text options lookup (close_lines (InLeaf closed leaf first had left)) l) o bare Closed n) (append-nil outer)
   containers-close (InVerbatim closed verbatim first had waiting) b n l outer bare f =
-      ap (λ o. pass_with (replay text lookup (close_lines (InVerbatim closed verbatim first had waiting)) l) o bare Closed n) (append-nil outer)
+      ap (λ o. pass_with (replay text options lookup (close_lines (InVerbatim closed verbatim first had waiting)) l) o bare Closed n) (append-nil outer)
   containers-close (InContainer closed k first more inside) b n l outer bare f =
-      let c = replay text lookup closed l in
-      let v = container_at text lookup k first c in
-      let cs = containers_at text lookup inside (entered k first c) in
+      let c = replay text options lookup closed l in
+      let v = container_at text options lookup k first c in
+      let cs = containers_at text options lookup inside (entered k first c) in
       ap (λ o. container_closed v outer (containers_closed text options lookup (outer ++ v ∷ []) cs (pass_with (inner_closed inside (entered k first c)) o bare Closed n))) (sym (append_assoc outer (v ∷ []) cs))
       ∙ ap (container_closed v outer) (containers-close inside (bare_after (is_bare_start k first) more) n (entered k first c) (outer ++ v ∷ []) bare f.2)
-      ∙ ap (λ m. pass_with (left_by k (standing k first c).inner m (replay text lookup (close_lines inside) (entered k first c))) outer bare Closed n) (sym f.1)
-      ∙ ap (λ q. pass_with q outer bare Closed n) (sym (replay-join text lookup closed (ContainerBlock k first more (close_lines inside) NoBlocks) l))
+      ∙ ap (λ m. pass_with (left_by k (standing k first c).inner m (replay text options lookup (close_lines inside) (entered k first c))) outer bare Closed n) (sym f.1)
+      ∙ ap (λ q. pass_with q outer bare Closed n) (sym (replay-join text options lookup closed (ContainerBlock k first more (close_lines inside) NoBlocks) l))

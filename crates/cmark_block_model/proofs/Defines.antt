@@ -1,5 +1,6 @@
 -- The references of closed blocks are the definitions of their document.
 use Rattle.std.proofs.Common.{◌≡◌, ◌==◌, ℕ, Bool, true, false, List, [], ◌∷◌, ◌++◌, refl, ap, ◌∙◌, sym, append_assoc, append-nil, Option, Some, None}
+use Rattle.cmark_grammar.specs.Options.{Options}
 use Rattle.cmark_grammar.specs.Answers.{Lookup}
 use Rattle.cmark_grammar.specs.Rows.{Row, past_of, begin_of, start_of}
 use Rattle.cmark_grammar.specs.Containers.{Quote, Item}
@@ -36,37 +37,37 @@ item-keeps mark number start l (Some o) = go (o.mark == mark)
     go true = refl
     go false = refl
 
-module _ (text : List ℕ) (lookup : Lookup) where
-  leaf-references : (leaf : Leaf) (first : Row) (more : List Row) (rs : List Reference) (d : BlockDocument) → (leaf_references text lookup leaf first more rs ++ references d) ≡ (rs ++ references (leaf_then text lookup leaf first more d))
+module _ (text : List ℕ) (options : Options) (lookup : Lookup) where
+  leaf-references : (leaf : Leaf) (first : Row) (more : List Row) (rs : List Reference) (d : BlockDocument) → (leaf_references text options lookup leaf first more rs ++ references d) ≡ (rs ++ references (leaf_then text options lookup leaf first more d))
   leaf-references ThematicBreak first more rs d = refl
-  leaf-references (AtxHeading level) first more rs d = ap (λ r. rs ++ (r ++ references d)) (sym (heading_plain text level first).defines)
+  leaf-references (AtxHeading level) first more rs d = ap (λ r. rs ++ (r ++ references d)) (sym (heading_plain text options.heading_attributes level first).defines)
   leaf-references IndentedCode first more rs d = ap (λ r. rs ++ (r ++ references d)) (sym (code_plain text 4 (first ∷ more)).defines)
   leaf-references (FencedCode fence) first more rs d = ap (λ r. rs ++ (r ++ references d)) (sym (code_plain text fence.indented (fenced_lines fence more)).defines)
   leaf-references (HtmlBlock kind) first more rs d = ap (λ r. rs ++ (r ++ references d)) (sym (html_tokens_plain text (first ∷ more)).defines)
   leaf-references (LinkDefinition definition) first more rs d = append_assoc rs (reference_of lookup definition (start_of first) (stop_of first more) ∷ []) (references d)
   leaf-references (MetadataBlock kind) first more rs d = ap (λ r. rs ++ (r ++ references d)) (sym (code_plain text 0 (lines_before (ends_metadata kind) more)).defines)
 
-  pub defines : (b : Blocks) (direct : Bool) (before : Option ListBefore) (l : Level) → (replay text lookup b l).references ≡ (l.references ++ references (document_of text lookup direct before b))
+  pub defines : (b : Blocks) (direct : Bool) (before : Option ListBefore) (l : Level) → (replay text options lookup b l).references ≡ (l.references ++ references (document_of text options lookup direct before b))
   defines NoBlocks direct before l = sym (append-nil l.references)
   defines (BlankLine line after) direct before l = defines after direct before (blank_level l)
   defines (Paragraph first more after) direct before l =
-      defines after direct None (paragraph_level text lookup first more l)
-      ∙ ap (λ r. l.references ++ r) (sym (paragraph-references direct (start_of first) (past_of first more) _ (document_of text lookup direct None after) (paragraph_plain text first more)))
+      defines after direct None (paragraph_level text options lookup first more l)
+      ∙ ap (λ r. l.references ++ r) (sym (paragraph-references direct (start_of first) (past_of first more) _ (document_of text options lookup direct None after) (paragraph_plain text first more)))
   defines (SetextHeading level first more underline after) direct before l =
-      defines after direct None (heading_level text lookup level first more underline l)
-      ∙ ap (λ r. l.references ++ (r ++ references (document_of text lookup direct None after))) (sym (paragraph_plain text first more).defines)
+      defines after direct None (heading_level text options lookup level first more underline l)
+      ∙ ap (λ r. l.references ++ (r ++ references (document_of text options lookup direct None after))) (sym (paragraph_plain text first more).defines)
   defines (LeafBlock leaf first more after) direct before l =
-      defines after direct None (leaf_level text lookup leaf first more l) ∙ leaf-references leaf first more l.references (document_of text lookup direct None after)
+      defines after direct None (leaf_level text options lookup leaf first more l) ∙ leaf-references leaf first more l.references (document_of text options lookup direct None after)
   defines (ContainerBlock Quote first more inside after) direct before l =
-      defines after direct None (left_by Quote (standing Quote first l).inner (past_of first more) (replay text lookup inside (entered Quote first l)))
-      ∙ ap (λ r. r ++ references (document_of text lookup direct None after)) (defines inside false None (entered Quote first l))
-      ∙ append_assoc l.references (references (document_of text lookup false None inside)) (references (document_of text lookup direct None after))
+      defines after direct None (left_by Quote (standing Quote first l).inner (past_of first more) (replay text options lookup inside (entered Quote first l)))
+      ∙ ap (λ r. r ++ references (document_of text options lookup direct None after)) (defines inside false None (entered Quote first l))
+      ∙ append_assoc l.references (references (document_of text options lookup false None inside)) (references (document_of text options lookup direct None after))
   defines (ContainerBlock (Item mark number width) first more inside after) direct before l =
       let k = Item mark number width in
       let t = tight_behind before mark inside after in
-      let d = document_of text lookup direct (Some (record { mark = mark; tight = t })) after in
-      let i = document_of text lookup t None inside in
-      defines after direct (Some (record { mark = mark; tight = t })) (left_by k (standing k first l).inner (past_of first more) (replay text lookup inside (entered k first l)))
+      let d = document_of text options lookup direct (Some (record { mark = mark; tight = t })) after in
+      let i = document_of text options lookup t None inside in
+      defines after direct (Some (record { mark = mark; tight = t })) (left_by k (standing k first l).inner (past_of first more) (replay text options lookup inside (entered k first l)))
       ∙ ap (λ r. r ++ references d) (defines inside t None (entered k first l) ∙ ap (λ r. r ++ references i) (item-keeps mark number (begin_of first) l l.inner.list))
       ∙ append_assoc l.references (references i) (references d)
-      ∙ ap (λ r. l.references ++ r) (sym (item-references (goes_on mark after) direct t number (begin_of first) (past_of first more) i (split text lookup (Some mark) after) d (settles text lookup after direct (Some (record { mark = mark; tight = t })))))
+      ∙ ap (λ r. l.references ++ r) (sym (item-references (goes_on mark after) direct t number (begin_of first) (past_of first more) i (split text options lookup (Some mark) after) d (settles text options lookup after direct (Some (record { mark = mark; tight = t })))))

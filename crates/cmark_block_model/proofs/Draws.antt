@@ -1,5 +1,6 @@
 -- Closed blocks draw their document: one behind the other, the same as from the last one on.
 use Rattle.std.proofs.Common.{◌≡◌, ℕ, Bool, true, false, ◌==◌, ◌||◌, ◌&&◌, not, List, ◌∷◌, refl, ap, ◌∙◌, sym, Option, Some, None, arith}
+use Rattle.cmark_grammar.specs.Options.{Options}
 use Rattle.cmark_grammar.specs.Answers.{Lookup}
 use Rattle.cmark_grammar.specs.Attributes.{no_attributes}
 use Rattle.cmark_grammar.specs.Rows.{Row, past_of, begin_of, start_of}
@@ -78,18 +79,18 @@ loose true blank p l m e = refl
 loose false true p l m e = sym (ap (λ z. z && true) e)
 loose false false p l m e = sym (ap (λ z. z && (p || l)) e)
 
-module _ (text : List ℕ) (lookup : Lookup) where
+module _ (text : List ℕ) (options : Options) (lookup : Lookup) where
   -- what these blocks draw, wherever they stand
   abbrev pub Draws : Blocks → Type 0
   Draws b =
       (s : Stand) (v : OpenNode) (here : BlockDocument) (up : List OpenNode) (blank p : Bool) (rs : List Reference)
-      → finished (replay text lookup b (level_of s (drawing_at s v here up) blank p rs)) ≡ completed s v here up (loose_at s blank b) (split text lookup (mark_of s) b)
+      → finished (replay text options lookup b (level_of s (drawing_at s v here up) blank p rs)) ≡ completed s v here up (loose_at s blank b) (split text options lookup (mark_of s) b)
 
   -- behind a block that is no item
-  behind : (b : Blocks) → Draws b → (d : Drawing) (blank p : Bool) (rs : List Reference) → finished (replay text lookup b (level_of Behind d blank p rs)) ≡ drawn (split text lookup None b).after d
+  behind : (b : Blocks) → Draws b → (d : Drawing) (blank p : Bool) (rs : List Reference) → finished (replay text options lookup b (level_of Behind d blank p rs)) ≡ drawn (split text options lookup None b).after d
   behind b h d blank p rs = h Behind (record { left = Nil; node = node document.Paragraph 0 0 }) d.here d.up blank p rs
 
-  inside-draws : (b : Blocks) → Draws b → (d : Drawing) (rs : List Reference) → finished (replay text lookup b (level_of First d false false rs)) ≡ drawn (split text lookup None b).after d
+  inside-draws : (b : Blocks) → Draws b → (d : Drawing) (rs : List Reference) → finished (replay text options lookup b (level_of First d false false rs)) ≡ drawn (split text options lookup None b).after d
   inside-draws b h d rs = h First (record { left = Nil; node = node document.Paragraph 0 0 }) d.here d.up false false rs
 
   loose-none : (s : Stand) (blank : Bool) (b : Blocks) → ((mark : ℕ) → loose_from mark blank b ≡ false) → loose_at s blank b ≡ false
@@ -100,14 +101,14 @@ module _ (text : List ℕ) (lookup : Lookup) where
 
   -- a block that is no item
   alone : (after : Blocks) → Draws after → (s : Stand) (v : OpenNode) (here : BlockDocument) (up : List OpenNode) (n : BlockDocument) (d : Drawing) (p : Bool) (rs : List Reference) → d ≡ drawn n (list_closed (list_of s) (drawing_at s v here up))
-      → (z : Bool) → z ≡ false → finished (replay text lookup after (level_of Behind d false p rs)) ≡ completed s v here up z (lone (join n (split text lookup None after).after))
+      → (z : Bool) → z ≡ false → finished (replay text options lookup after (level_of Behind d false p rs)) ≡ completed s v here up z (lone (join n (split text options lookup None after).after))
   alone after ih s v here up n d p rs e z f =
-      behind after ih d false p rs ∙ ap (drawn (split text lookup None after).after) e
-      ∙ drawn-twice n (split text lookup None after).after (list_closed (list_of s) (drawing_at s v here up))
-      ∙ drawn-done s v here up (join n (split text lookup None after).after)
-      ∙ ap (λ y. completed s v here up y (lone (join n (split text lookup None after).after))) (sym f)
+      behind after ih d false p rs ∙ ap (drawn (split text options lookup None after).after) e
+      ∙ drawn-twice n (split text options lookup None after).after (list_closed (list_of s) (drawing_at s v here up))
+      ∙ drawn-done s v here up (join n (split text options lookup None after).after)
+      ∙ ap (λ y. completed s v here up y (lone (join n (split text options lookup None after).after))) (sym f)
 
-  leaf-drawing : (leaf : Leaf) (first : Row) (more : List Row) (d : Drawing) → leaf_drawing text lookup leaf first more d ≡ drawn (leaf_raw text lookup leaf first more Nil) d
+  leaf-drawing : (leaf : Leaf) (first : Row) (more : List Row) (d : Drawing) → leaf_drawing text options lookup leaf first more d ≡ drawn (leaf_raw text options lookup leaf first more Nil) d
   leaf-drawing ThematicBreak first more d = refl
   leaf-drawing (AtxHeading level) first more d = refl
   leaf-drawing IndentedCode first more d = refl
@@ -116,7 +117,7 @@ module _ (text : List ℕ) (lookup : Lookup) where
   leaf-drawing (LinkDefinition definition) first more d = ap (λ h. record { here = h; up = d.up }) (sym (join-nil d.here))
   leaf-drawing (MetadataBlock kind) first more d = refl
 
-  leaf-raw : (leaf : Leaf) (first : Row) (more : List Row) (x : BlockDocument) → join (leaf_raw text lookup leaf first more Nil) x ≡ leaf_raw text lookup leaf first more x
+  leaf-raw : (leaf : Leaf) (first : Row) (more : List Row) (x : BlockDocument) → join (leaf_raw text options lookup leaf first more Nil) x ≡ leaf_raw text options lookup leaf first more x
   leaf-raw ThematicBreak first more x = refl
   leaf-raw (AtxHeading level) first more x = refl
   leaf-raw IndentedCode first more x = refl
@@ -127,23 +128,23 @@ module _ (text : List ℕ) (lookup : Lookup) where
 
   -- behind an item that stands in this list
   item-draws : (inside after : Blocks) → HasFilledItems inside → IsNearlyFilled inside → Draws inside → Draws after → (start past : ℕ) (o : OpenList) (v : OpenNode) (here : BlockDocument) (up : List OpenNode) (p : Bool) (rs : List Reference)
-      → finished (replay text lookup after (behind_item text lookup start past inside o (record { here = here; up = v ∷ up }) p rs))
-      ≡ completed (InList (item_list o (is_parted_item inside) past)) v (join here (Node (node document.ListItem start past) (split text lookup None inside).after Nil)) up (loose_from o.mark (ends_blank true false inside) after) (split text lookup (Some o.mark) after)
+      → finished (replay text options lookup after (behind_item text options lookup start past inside o (record { here = here; up = v ∷ up }) p rs))
+      ≡ completed (InList (item_list o (is_parted_item inside) past)) v (join here (Node (node document.ListItem start past) (split text options lookup None inside).after Nil)) up (loose_from o.mark (ends_blank true false inside) after) (split text options lookup (Some o.mark) after)
   item-draws inside after hi ni di da start past o v here up p rs =
-      let i = replay text lookup inside (in_item text lookup start (record { here = here; up = v ∷ up }) rs) in
-      let item : BlockDocument = Node (node document.ListItem start past) (split text lookup None inside).after Nil in
-      ap (λ d. finished (replay text lookup after (level_of (InList (item_list o i.inner.parted past)) (closed_at past d) i.inner.blank p i.references))) (inside-draws inside di (opened start document.ListItem (record { here = here; up = v ∷ up })) rs)
-      ∙ ap (λ z. finished (replay text lookup after (level_of (InList (item_list o z past)) (record { here = join here item; up = v ∷ up }) i.inner.blank p i.references))) (parted_behind text lookup inside hi First (opened start document.ListItem (record { here = here; up = v ∷ up })) false false rs)
-      ∙ ap (λ z. finished (replay text lookup after (level_of (InList (item_list o (is_parted_item inside) past)) (record { here = join here item; up = v ∷ up }) z p i.references))) (blank_behind text lookup inside hi First ni (opened start document.ListItem (record { here = here; up = v ∷ up })) false false rs)
+      let i = replay text options lookup inside (in_item text options lookup start (record { here = here; up = v ∷ up }) rs) in
+      let item : BlockDocument = Node (node document.ListItem start past) (split text options lookup None inside).after Nil in
+      ap (λ d. finished (replay text options lookup after (level_of (InList (item_list o i.inner.parted past)) (closed_at past d) i.inner.blank p i.references))) (inside-draws inside di (opened start document.ListItem (record { here = here; up = v ∷ up })) rs)
+      ∙ ap (λ z. finished (replay text options lookup after (level_of (InList (item_list o z past)) (record { here = join here item; up = v ∷ up }) i.inner.blank p i.references))) (parted_behind text options lookup inside hi First (opened start document.ListItem (record { here = here; up = v ∷ up })) false false rs)
+      ∙ ap (λ z. finished (replay text options lookup after (level_of (InList (item_list o (is_parted_item inside) past)) (record { here = join here item; up = v ∷ up }) z p i.references))) (blank_behind text options lookup inside hi First ni (opened start document.ListItem (record { here = here; up = v ∷ up })) false false rs)
       ∙ da (InList (item_list o (is_parted_item inside) past)) v (join here item) up (ends_blank true false inside) p i.references
 
   -- an item that begins a list
   new-draws : (mark : ℕ) (number : Option ℕ) (inside after : Blocks) → HasFilledItems inside → IsNearlyFilled inside → Draws inside → Draws after → (start past : ℕ) (s : Stand) (v : OpenNode) (here : BlockDocument) (up : List OpenNode) (p : Bool) (rs : List Reference) (z : Bool) → z ≡ false
-      → finished (replay text lookup after (behind_item text lookup start past inside (fresh mark number start) (opened start (document.BlockList number false) (list_closed (list_of s) (drawing_at s v here up))) p rs))
-      ≡ completed s v here up z (item_split false number (is_tight mark inside after) start past (split text lookup None inside).after (split text lookup (Some mark) after))
+      → finished (replay text options lookup after (behind_item text options lookup start past inside (fresh mark number start) (opened start (document.BlockList number false) (list_closed (list_of s) (drawing_at s v here up))) p rs))
+      ≡ completed s v here up z (item_split false number (is_tight mark inside after) start past (split text options lookup None inside).after (split text options lookup (Some mark) after))
   new-draws mark number inside after hi ni di da start past s v here up p rs z f =
       let d = list_closed (list_of s) (drawing_at s v here up) in
-      let t = item_split false number (is_tight mark inside after) start past (split text lookup None inside).after (split text lookup (Some mark) after) in
+      let t = item_split false number (is_tight mark inside after) start past (split text options lookup None inside).after (split text options lookup (Some mark) after) in
       item-draws inside after hi ni di da start past (fresh mark number start) (record { left = d.here; node = node (document.BlockList number false) start start }) Nil d.up p rs
       ∙ drawn-done s v here up t.after ∙ ap (λ y. completed s v here up y t) (sym f)
 
@@ -160,24 +161,24 @@ module _ (text : List ℕ) (lookup : Lookup) where
       alone after (draws after h) s v here up (Node (node (document.Heading level no_attributes) (start_of first) underline.past) (paragraph_tokens text first more) Nil) _ (p || blank) rs refl
       (loose_at s blank (SetextHeading level first more underline after)) (loose-none s blank (SetextHeading level first more underline after) (λ mark. refl))
   draws (LeafBlock leaf first more after) h s v here up blank p rs =
-      alone after (draws after h) s v here up (leaf_raw text lookup leaf first more Nil) _ (p || blank) (leaf_references text lookup leaf first more rs) (leaf-drawing leaf first more (list_closed (list_of s) (drawing_at s v here up)))
+      alone after (draws after h) s v here up (leaf_raw text options lookup leaf first more Nil) _ (p || blank) (leaf_references text options lookup leaf first more rs) (leaf-drawing leaf first more (list_closed (list_of s) (drawing_at s v here up)))
       (loose_at s blank (LeafBlock leaf first more after)) (loose-none s blank (LeafBlock leaf first more after) (λ mark. refl))
-      ∙ ap (λ x. completed s v here up (loose_at s blank (LeafBlock leaf first more after)) (lone x)) (leaf-raw leaf first more (split text lookup None after).after)
+      ∙ ap (λ x. completed s v here up (loose_at s blank (LeafBlock leaf first more after)) (lone x)) (leaf-raw leaf first more (split text options lookup None after).after)
   draws (ContainerBlock Quote first more inside after) h s v here up blank p rs =
       let d = list_closed (list_of s) (drawing_at s v here up) in
-      alone after (draws after h.1) s v here up (Node (node (document.BlockQuote None) (start_of first) (past_of first more)) (split text lookup None inside).after Nil) _ (p || blank) _
+      alone after (draws after h.1) s v here up (Node (node (document.BlockQuote None) (start_of first) (past_of first more)) (split text options lookup None inside).after Nil) _ (p || blank) _
       (ap (closed_at (past_of first more)) (inside-draws inside (draws inside h.0) (opened (start_of first) (document.BlockQuote None) d) rs))
       (loose_at s blank (ContainerBlock Quote first more inside after)) (loose-none s blank (ContainerBlock Quote first more inside after) (λ mark. refl))
   draws (ContainerBlock (Item mark number width) first more inside after) h s v here up blank p rs = go s (draws inside h.1) (draws after h.2)
     where
-      same : Draws inside → Draws after → (z : Bool) (o : OpenList) → (o.mark == mark) ≡ z → finished (replay text lookup after (left_by (Item mark number width) (item_if z mark number (begin_of first) o (level_of (InList o) (record { here = here; up = v ∷ up }) blank p rs)).inner (past_of first more)
-          (replay text lookup inside (record (level_opened (begin_of first) document.ListItem (item_if z mark number (begin_of first) o (level_of (InList o) (record { here = here; up = v ∷ up }) blank p rs))) { inner = no_siblings })))) ≡ completed (InList o) v here up (loose_from o.mark blank (ContainerBlock (Item mark number width) first more inside after)) (item_split z number (is_tight mark inside after) (begin_of first) (past_of first more) (split text lookup None inside).after (split text lookup (Some mark) after))
+      same : Draws inside → Draws after → (z : Bool) (o : OpenList) → (o.mark == mark) ≡ z → finished (replay text options lookup after (left_by (Item mark number width) (item_if z mark number (begin_of first) o (level_of (InList o) (record { here = here; up = v ∷ up }) blank p rs)).inner (past_of first more)
+          (replay text options lookup inside (record (level_opened (begin_of first) document.ListItem (item_if z mark number (begin_of first) o (level_of (InList o) (record { here = here; up = v ∷ up }) blank p rs))) { inner = no_siblings })))) ≡ completed (InList o) v here up (loose_from o.mark blank (ContainerBlock (Item mark number width) first more inside after)) (item_split z number (is_tight mark inside after) (begin_of first) (past_of first more) (split text options lookup None inside).after (split text options lookup (Some mark) after))
       same di da true o e =
-          let item : BlockDocument = Node (node document.ListItem (begin_of first) (past_of first more)) (split text lookup None inside).after Nil in
-          let t = split text lookup (Some mark) after in
+          let item : BlockDocument = Node (node document.ListItem (begin_of first) (past_of first more)) (split text options lookup None inside).after Nil in
+          let t = split text options lookup (Some mark) after in
           let l = loose_from o.mark (ends_blank true false inside) after in
           item-draws inside after h.1 h.0 di da (begin_of first) (past_of first more) (longer o blank) v here up p rs
-          ∙ ap (λ m. completed (InList (item_list (longer o blank) (is_parted_item inside) (past_of first more))) v (join here item) up l (split text lookup (Some m) after)) (same-mark o.mark mark e)
+          ∙ ap (λ m. completed (InList (item_list (longer o blank) (is_parted_item inside) (past_of first more))) v (join here item) up l (split text options lookup (Some m) after)) (same-mark o.mark mark e)
           ∙ ap (λ z. record { here = join v.left (Node (node (document.BlockList o.number (not z)) v.node.start (end_or (past_of first more) t.end)) (join (join here item) t.items) t.after); up = up }) (loose o.loose blank (is_parted_item inside) l (mark == o.mark) (other-mark o.mark mark true e))
           ∙ ap (λ i. record { here = join v.left (Node (node (document.BlockList o.number (not (o.loose || ((mark == o.mark) && (blank || (is_parted_item inside || l)))))) v.node.start (end_or (past_of first more) t.end)) i t.after); up = up }) (join-assoc here item t.items)
       same di da false o e =
@@ -185,7 +186,7 @@ module _ (text : List ℕ) (lookup : Lookup) where
           (loose_from o.mark blank (ContainerBlock (Item mark number width) first more inside after))
           (ap (λ z. z && (blank || (is_parted_item inside || loose_from o.mark (ends_blank true false inside) after))) (other-mark o.mark mark false e))
 
-      go : (s : Stand) → Draws inside → Draws after → finished (replay text lookup (ContainerBlock (Item mark number width) first more inside after) (level_of s (drawing_at s v here up) blank p rs)) ≡ completed s v here up (loose_at s blank (ContainerBlock (Item mark number width) first more inside after)) (split text lookup (mark_of s) (ContainerBlock (Item mark number width) first more inside after))
+      go : (s : Stand) → Draws inside → Draws after → finished (replay text options lookup (ContainerBlock (Item mark number width) first more inside after) (level_of s (drawing_at s v here up) blank p rs)) ≡ completed s v here up (loose_at s blank (ContainerBlock (Item mark number width) first more inside after)) (split text options lookup (mark_of s) (ContainerBlock (Item mark number width) first more inside after))
       go First di da = new-draws mark number inside after h.1 h.0 di da (begin_of first) (past_of first more) First v here up (p || blank) rs false refl
       go FirstBlank di da = new-draws mark number inside after h.1 h.0 di da (begin_of first) (past_of first more) FirstBlank v here up (p || blank) rs false refl
       go Behind di da = new-draws mark number inside after h.1 h.0 di da (begin_of first) (past_of first more) Behind v here up (p || blank) rs false refl

@@ -22,14 +22,14 @@ use Rattle.cmark_block_model.proofs.Beginning.{starts}
 module _ (text : List ℕ) (options : Options) (lookup : Lookup) where
   -- a paragraph goes on
   pub paragraph-goes : (first : Row) (more : List Row) (r s : Row) (l : Level) (outer : List OpenContainer) (leaf : OpenLeaf) (n : ℕ) → whole s ≡ r
-      → paragraph_line text options lookup (last_begin (start_of first) first more) (whole (last_of first more)) r (pass_with (paragraph_open text lookup first more l) outer false leaf n)
-      ≡ pass_with (paragraph_open text lookup first (more ++ s ∷ []) l) outer false (paragraph_leaf text lookup first (more ++ s ∷ [])) n
+      → paragraph_line text options lookup (last_begin (start_of first) first more) (whole (last_of first more)) r (pass_with (paragraph_open text options lookup first more l) outer false leaf n)
+      ≡ pass_with (paragraph_open text options lookup first (more ++ s ∷ []) l) outer false (paragraph_leaf text options lookup first (more ++ s ∷ [])) n
   paragraph-goes first more r s l outer leaf n e =
-      ap (λ x. paragraph_line text options lookup from (whole (last_of first more)) x (pass_with (paragraph_open text lookup first more l) outer false leaf n)) (sym e)
+      ap (λ x. paragraph_line text options lookup from (whole (last_of first more)) x (pass_with (paragraph_open text options lookup first more l) outer false leaf n)) (sym e)
       ∙ go (begin_of s == past)
-      ∙ ap (λ x. goes (one_more text lookup (begin_of s == past) from past before) (if begin_of s == past then from else begin_of s) x) (sym (last_push first more s))
-      ∙ ap (λ x. goes (one_more text lookup (begin_of s == past) from past before) x (last_of first (more ++ s ∷ []))) (sym (begin_push (start_of first) first more s))
-      ∙ ap (λ x. goes x (last_begin (start_of first) first (more ++ s ∷ [])) (last_of first (more ++ s ∷ []))) (sym (drawn-push text lookup (start_of first) first more s))
+      ∙ ap (λ x. goes (one_more text options lookup (begin_of s == past) from past before) (if begin_of s == past then from else begin_of s) x) (sym (last_push first more s))
+      ∙ ap (λ x. goes (one_more text options lookup (begin_of s == past) from past before) x (last_of first (more ++ s ∷ []))) (sym (begin_push (start_of first) first more s))
+      ∙ ap (λ x. goes x (last_begin (start_of first) first (more ++ s ∷ [])) (last_of first (more ++ s ∷ []))) (sym (drawn-push text options lookup (start_of first) first more s))
     where
       from : ℕ
       from = last_begin (start_of first) first more
@@ -38,58 +38,58 @@ module _ (text : List ℕ) (options : Options) (lookup : Lookup) where
       past = (last_of first more).past
 
       before : BlockDocument
-      before = lines_drawn text lookup (start_of first) first more
+      before = lines_drawn text options lookup (start_of first) first more
 
       goes : BlockDocument → ℕ → Row → Pass
       goes d at x = pass_with (level_drawn d (level_opened (start_of first) document.Paragraph (begun l))) outer false (InParagraphLeaf at (whole x)) n
 
-      go : (z : Bool) → (if z then goes before from s else goes (join before (stretch_then text from past Nil)) (begin_of s) s) ≡ goes (one_more text lookup z from past before) (if z then from else begin_of s) s
+      go : (z : Bool) → (if z then goes before from s else goes (join before (stretch_then text from past Nil)) (begin_of s) s) ≡ goes (one_more text options lookup z from past before) (if z then from else begin_of s) s
       go true = refl
       go false = refl
 
   pub paragraph-feeds : (closed : Blocks) (first : Row) (more : List Row) (r : Row) (next ahead : List Row) (l : Level) (outer : List OpenContainer) (b : Bool) (n : ℕ) → r.lazy ≡ false → ahead_in text options lookup outer next ≡ ahead
       → Fits b (InParagraph closed first more) (r ∷ ahead) n
-      → leaf_fed text options lookup (leaf_at text lookup (InParagraph closed first more)) r next (pass_with (inner_at text lookup (InParagraph closed first more) (r ∷ ahead) l) outer false (leaf_at text lookup (InParagraph closed first more)) n)
-      ≡ pass_at text lookup (lines_feed options (InParagraph closed first more) r ahead) ahead l outer false n
+      → leaf_fed text options lookup (leaf_at text options lookup (InParagraph closed first more)) r next (pass_with (inner_at text options lookup (InParagraph closed first more) (r ∷ ahead) l) outer false (leaf_at text options lookup (InParagraph closed first more)) n)
+      ≡ pass_at text options lookup (lines_feed options (InParagraph closed first more) r ahead) ahead l outer false n
   paragraph-feeds closed first more r next ahead l outer b n e a f = go (underlines r)
     where
       c : Level
-      c = replay text lookup closed l
+      c = replay text options lookup closed l
 
       from : ℕ
       from = last_begin (start_of first) first more
 
       p : Pass
-      p = pass_with (paragraph_open text lookup first more (replay text lookup closed l)) outer false (paragraph_leaf text lookup first more) n
+      p = pass_with (paragraph_open text options lookup first more (replay text options lookup closed l)) outer false (paragraph_leaf text options lookup first more) n
 
       end : (o : List OpenContainer) (x : Level) (leaf : OpenLeaf) → pass_with x o false leaf n ≡ pass_with x (o ++ []) false leaf n
       end o x leaf = ap (λ y. pass_with x y false leaf n) (sym (append-nil o))
 
       text-goes : (z : Bool) → (if z then paragraph_line text options lookup from (whole (last_of first more)) r p else begin text options lookup r next (leaf_closed text options lookup p))
-          ≡ pass_at text lookup (lines_go_on_or z (InParagraph closed first (more ++ r ∷ [])) (lines_begin options (join_blocks closed (Paragraph first more NoBlocks)) r ahead)) ahead l outer false n
-      text-goes true = paragraph-goes first more r r c outer (paragraph_leaf text lookup first more) n (whole-same r e) ∙ end outer (paragraph_open text lookup first (more ++ r ∷ []) c) (paragraph_leaf text lookup first (more ++ r ∷ []))
+          ≡ pass_at text options lookup (lines_go_on_or z (InParagraph closed first (more ++ r ∷ [])) (lines_begin options (join_blocks closed (Paragraph first more NoBlocks)) r ahead)) ahead l outer false n
+      text-goes true = paragraph-goes first more r r c outer (paragraph_leaf text options lookup first more) n (whole-same r e) ∙ end outer (paragraph_open text options lookup first (more ++ r ∷ []) c) (paragraph_leaf text options lookup first (more ++ r ∷ []))
       text-goes false =
           ap (begin text options lookup r next) (leaf-closes text options lookup (InParagraph closed first more) b n l outer false f)
           ∙ starts text options lookup (join_blocks closed (Paragraph first more NoBlocks)) r next ahead l outer n e a
 
       go : (u : Option ℕ) → underlined_or text options lookup u (λ level. heading_made text options lookup level from (whole (last_of first more)) r p) (if texts options r (ahead_in text options lookup outer next) then paragraph_line text options lookup from (whole (last_of first more)) r p else begin text options lookup r next (leaf_closed text options lookup p))
-          ≡ pass_at text lookup (lines_underline_or u (λ level. Between (join_blocks closed (SetextHeading level first more r NoBlocks))) (lines_go_on_or (texts options r ahead) (InParagraph closed first (more ++ r ∷ [])) (lines_begin options (join_blocks closed (Paragraph first more NoBlocks)) r ahead))) ahead l outer false n
+          ≡ pass_at text options lookup (lines_underline_or u (λ level. Between (join_blocks closed (SetextHeading level first more r NoBlocks))) (lines_go_on_or (texts options r ahead) (InParagraph closed first (more ++ r ∷ [])) (lines_begin options (join_blocks closed (Paragraph first more NoBlocks)) r ahead))) ahead l outer false n
       go (Some level) =
-          ap (λ t. pass_with (noded text options lookup (document.Heading level no_attributes) (start_of first) r.past t (begun c)) outer false Closed n) (sym (drawn-tokens text lookup (start_of first) first more))
-          ∙ ap (λ q. pass_with q outer false Closed n) (sym (replay-join text lookup closed (SetextHeading level first more r NoBlocks) l))
-          ∙ end outer (replay text lookup (join_blocks closed (SetextHeading level first more r NoBlocks)) l) Closed
+          ap (λ t. pass_with (noded text options lookup (document.Heading level no_attributes) (start_of first) r.past t (begun c)) outer false Closed n) (sym (drawn-tokens text options lookup (start_of first) first more))
+          ∙ ap (λ q. pass_with q outer false Closed n) (sym (replay-join text options lookup closed (SetextHeading level first more r NoBlocks) l))
+          ∙ end outer (replay text options lookup (join_blocks closed (SetextHeading level first more r NoBlocks)) l) Closed
       go None =
           ap (λ x. if texts options r x then paragraph_line text options lookup from (whole (last_of first more)) r p else begin text options lookup r next (leaf_closed text options lookup p)) a
           ∙ text-goes (texts options r ahead)
 
   pub leaf-feeds : (closed : Blocks) (leaf : Leaf) (first : Row) (had : List Row) (left : ℕ) (r : Row) (next ahead : List Row) (l : Level) (outer : List OpenContainer) (b : Bool) (n : ℕ) → r.lazy ≡ false → ahead_in text options lookup outer next ≡ ahead
       → Fits b (InLeaf closed leaf first had left) (r ∷ ahead) n
-      → leaf_fed text options lookup (leaf_left leaf left) r next (pass_with (inner_at text lookup (InLeaf closed leaf first had left) (r ∷ ahead) l) outer false (leaf_left leaf left) n)
-      ≡ pass_at text lookup (lines_feed options (InLeaf closed leaf first had left) r ahead) ahead l outer false n
+      → leaf_fed text options lookup (leaf_left leaf left) r next (pass_with (inner_at text options lookup (InLeaf closed leaf first had left) (r ∷ ahead) l) outer false (leaf_left leaf left) n)
+      ≡ pass_at text options lookup (lines_feed options (InLeaf closed leaf first had left) r ahead) ahead l outer false n
   leaf-feeds closed leaf first had zero r next ahead l outer b n e a f =
-      done leaf (leaf_level text lookup leaf first (had ++ []) (replay text lookup closed l))
-      ∙ ap (λ h. begin text options lookup r next (pass_with (leaf_level text lookup leaf first h (replay text lookup closed l)) outer false Closed n)) (append-nil had)
-      ∙ ap (λ q. begin text options lookup r next (pass_with q outer false Closed n)) (sym (replay-join text lookup closed (LeafBlock leaf first had NoBlocks) l))
+      done leaf (leaf_level text options lookup leaf first (had ++ []) (replay text options lookup closed l))
+      ∙ ap (λ h. begin text options lookup r next (pass_with (leaf_level text options lookup leaf first h (replay text options lookup closed l)) outer false Closed n)) (append-nil had)
+      ∙ ap (λ q. begin text options lookup r next (pass_with q outer false Closed n)) (sym (replay-join text options lookup closed (LeafBlock leaf first had NoBlocks) l))
       ∙ starts text options lookup (join_blocks closed (LeafBlock leaf first had NoBlocks)) r next ahead l outer n e a
     where
       done : (leaf : Leaf) (q : Level) → leaf_fed text options lookup (leaf_left leaf zero) r next (pass_with q outer false (leaf_left leaf zero) n) ≡ begin text options lookup r next (pass_with q outer false Closed n)
@@ -105,8 +105,8 @@ module _ (text : List ℕ) (options : Options) (lookup : Lookup) where
       none : {A : Type 0} → suc left ≡ 0 → A
       none q = absurd (omega (arith, q))
 
-      go : (leaf : Leaf) → (may_lazy leaf ≡ false → suc left ≡ 0) → leaf_fed text options lookup (leaf_left leaf (suc left)) r next (pass_with (leaf_level text lookup leaf first (had ++ take (suc left) (r ∷ ahead)) (replay text lookup closed l)) outer false (leaf_left leaf (suc left)) n)
-          ≡ pass_with (leaf_level text lookup leaf first ((had ++ r ∷ []) ++ take left ahead) (replay text lookup closed l)) (outer ++ []) false (leaf_left leaf left) n
+      go : (leaf : Leaf) → (may_lazy leaf ≡ false → suc left ≡ 0) → leaf_fed text options lookup (leaf_left leaf (suc left)) r next (pass_with (leaf_level text options lookup leaf first (had ++ take (suc left) (r ∷ ahead)) (replay text options lookup closed l)) outer false (leaf_left leaf (suc left)) n)
+          ≡ pass_with (leaf_level text options lookup leaf first ((had ++ r ∷ []) ++ take left ahead) (replay text options lookup closed l)) (outer ++ []) false (leaf_left leaf left) n
       go ThematicBreak h = none (h refl)
       go (AtxHeading level) h = none (h refl)
       go IndentedCode h = none (h refl)
@@ -114,5 +114,5 @@ module _ (text : List ℕ) (options : Options) (lookup : Lookup) where
       go (HtmlBlock kind) h = none (h refl)
       go (MetadataBlock kind) h = none (h refl)
       go (LinkDefinition definition) h =
-          ap (λ x. pass_with (leaf_level text lookup (LinkDefinition definition) first x (replay text lookup closed l)) outer false (InDefinition left) n) (sym (append_assoc had (r ∷ []) (take left ahead)))
-          ∙ ap (λ o. pass_with (leaf_level text lookup (LinkDefinition definition) first ((had ++ r ∷ []) ++ take left ahead) (replay text lookup closed l)) o false (InDefinition left) n) (sym (append-nil outer))
+          ap (λ x. pass_with (leaf_level text options lookup (LinkDefinition definition) first x (replay text options lookup closed l)) outer false (InDefinition left) n) (sym (append_assoc had (r ∷ []) (take left ahead)))
+          ∙ ap (λ o. pass_with (leaf_level text options lookup (LinkDefinition definition) first ((had ++ r ∷ []) ++ take left ahead) (replay text options lookup closed l)) o false (InDefinition left) n) (sym (append-nil outer))

@@ -47,26 +47,26 @@ module _ (options : Options) where
 module _ (text : List ℕ) (options : Options) (lookup : Lookup) where
   -- a container goes on
   pub container-goes : (closed : Blocks) (k : Container) (first : Row) (more : List Row) (s : Row) (i : OpenLines) (ahead : List Row) (l : Level) (outer : List OpenContainer) (b : Bool) (n : ℕ)
-      → pass_at text lookup i (within k false ahead) (entered k first (replay text lookup closed l)) (outer ++ container_at text lookup k first (replay text lookup closed l) ∷ []) false n
-      ≡ pass_at text lookup (InContainer closed k first (more ++ s ∷ []) i) ahead l outer b n
+      → pass_at text options lookup i (within k false ahead) (entered k first (replay text options lookup closed l)) (outer ++ container_at text options lookup k first (replay text options lookup closed l) ∷ []) false n
+      ≡ pass_at text options lookup (InContainer closed k first (more ++ s ∷ []) i) ahead l outer b n
   container-goes closed k first more s i ahead l outer b n =
-      let c = replay text lookup closed l in
-      let v = container_at text lookup k first c in
-      let cs = containers_at text lookup i (entered k first c) in
-      ap (λ o. pass_with (inner_at text lookup i (within k false ahead) (entered k first c)) o (bare_at false i) (leaf_at text lookup i) n) (append_assoc outer (v ∷ []) cs)
-      ∙ ap (λ z. pass_with (inner_at text lookup i (within k z ahead) (entered k first c)) (outer ++ v ∷ cs) (bare_at z i) (leaf_at text lookup i) n) (sym (bare_push options (is_bare_start k first) more s))
+      let c = replay text options lookup closed l in
+      let v = container_at text options lookup k first c in
+      let cs = containers_at text options lookup i (entered k first c) in
+      ap (λ o. pass_with (inner_at text options lookup i (within k false ahead) (entered k first c)) o (bare_at false i) (leaf_at text options lookup i) n) (append_assoc outer (v ∷ []) cs)
+      ∙ ap (λ z. pass_with (inner_at text options lookup i (within k z ahead) (entered k first c)) (outer ++ v ∷ cs) (bare_at z i) (leaf_at text options lookup i) n) (sym (bare_push options (is_bare_start k first) more s))
 
   pub lazy-feeds : (o : OpenLines) (b : Bool) (r : Row) (ahead x : List Row) (l : Level) (outer : List OpenContainer) (n : ℕ) → r.lazy ≡ false → Fits b o [] n → lines_take_lazy o ≡ true → lazily options r x ≡ true
-      → lazy_fed text options lookup (leaf_at text lookup o) r (pass_with (inner_at text lookup o [] l) (outer ++ containers_at text lookup o l) false (leaf_at text lookup o) n)
-      ≡ pass_at text lookup (lines_feed options o (lazy_row r) ahead) ahead l outer false n
+      → lazy_fed text options lookup (leaf_at text options lookup o) r (pass_with (inner_at text options lookup o [] l) (outer ++ containers_at text options lookup o l) false (leaf_at text options lookup o) n)
+      ≡ pass_at text options lookup (lines_feed options o (lazy_row r) ahead) ahead l outer false n
   lazy-feeds (Between closed) b r ahead x l outer n e f t z = absurd (true≢false (sym t))
   lazy-feeds (InParagraph closed first more) b r ahead x l outer n e f t z =
-      paragraph-goes text options lookup first more r (lazy_row r) (replay text lookup closed l) (outer ++ []) (paragraph_leaf text lookup first more) n (whole-same r e)
-      ∙ ap (λ o. pass_at text lookup o ahead l outer false n) (sym (lazy-paragraph options closed first more r ahead x z))
+      paragraph-goes text options lookup first more r (lazy_row r) (replay text options lookup closed l) (outer ++ []) (paragraph_leaf text options lookup first more) n (whole-same r e)
+      ∙ ap (λ o. pass_at text options lookup o ahead l outer false n) (sym (lazy-paragraph options closed first more r ahead x z))
   lazy-feeds (InLeaf closed leaf first had zero) b r ahead x l outer n e f t z = go leaf t
     where
-      go : (leaf : Leaf) → may_lazy leaf ≡ true → lazy_fed text options lookup (leaf_at text lookup (InLeaf closed leaf first had zero)) r (pass_with (inner_at text lookup (InLeaf closed leaf first had zero) [] l) (outer ++ []) false (leaf_at text lookup (InLeaf closed leaf first had zero)) n)
-          ≡ pass_at text lookup (lines_begin options (join_blocks closed (LeafBlock leaf first had NoBlocks)) (lazy_row r) ahead) ahead l outer false n
+      go : (leaf : Leaf) → may_lazy leaf ≡ true → lazy_fed text options lookup (leaf_at text options lookup (InLeaf closed leaf first had zero)) r (pass_with (inner_at text options lookup (InLeaf closed leaf first had zero) [] l) (outer ++ []) false (leaf_at text options lookup (InLeaf closed leaf first had zero)) n)
+          ≡ pass_at text options lookup (lines_begin options (join_blocks closed (LeafBlock leaf first had NoBlocks)) (lazy_row r) ahead) ahead l outer false n
       go ThematicBreak y = absurd (true≢false (sym y))
       go (AtxHeading level) y = absurd (true≢false (sym y))
       go IndentedCode y = absurd (true≢false (sym y))
@@ -75,17 +75,17 @@ module _ (text : List ℕ) (options : Options) (lookup : Lookup) where
       go (MetadataBlock kind) y = absurd (true≢false (sym y))
       go (LinkDefinition definition) y =
           let d = LinkDefinition definition in
-          ap (λ h. pass_with (paragraph_open text lookup r [] (leaf_level text lookup d first h (replay text lookup closed l))) (outer ++ []) false (InParagraphLeaf (start_of r) r) n) (append-nil had)
-          ∙ ap (λ q. pass_with (paragraph_open text lookup r [] q) (outer ++ []) false (InParagraphLeaf (start_of r) r) n) (sym (replay-join text lookup closed (LeafBlock d first had NoBlocks) l))
-          ∙ ap (λ q. pass_with (paragraph_open text lookup r [] (replay text lookup (join_blocks closed (LeafBlock d first had NoBlocks)) l)) (outer ++ []) false (InParagraphLeaf (start_of q) q) n) (sym (whole-same r e))
-          ∙ ap (λ o. pass_at text lookup o ahead l outer false n) (sym (lazy-begins options (join_blocks closed (LeafBlock d first had NoBlocks)) r ahead))
+          ap (λ h. pass_with (paragraph_open text options lookup r [] (leaf_level text options lookup d first h (replay text options lookup closed l))) (outer ++ []) false (InParagraphLeaf (start_of r) r) n) (append-nil had)
+          ∙ ap (λ q. pass_with (paragraph_open text options lookup r [] q) (outer ++ []) false (InParagraphLeaf (start_of r) r) n) (sym (replay-join text options lookup closed (LeafBlock d first had NoBlocks) l))
+          ∙ ap (λ q. pass_with (paragraph_open text options lookup r [] (replay text options lookup (join_blocks closed (LeafBlock d first had NoBlocks)) l)) (outer ++ []) false (InParagraphLeaf (start_of q) q) n) (sym (whole-same r e))
+          ∙ ap (λ o. pass_at text options lookup o ahead l outer false n) (sym (lazy-begins options (join_blocks closed (LeafBlock d first had NoBlocks)) r ahead))
   lazy-feeds (InLeaf closed leaf first had (suc left)) b r ahead x l outer n e f t z = absurd (let le : suc left ≤ 0 = f.1 in omega (arith, le))
   lazy-feeds (InVerbatim closed verbatim first had waiting) b r ahead x l outer n e f t z = absurd (true≢false (sym t))
   lazy-feeds (InContainer closed k first more inside) b r ahead x l outer n e f t z =
-      let c = replay text lookup closed l in
-      let v = container_at text lookup k first c in
-      let cs = containers_at text lookup inside (entered k first c) in
-      ap (λ o. lazy_fed text options lookup (leaf_at text lookup inside) r (pass_with (inner_at text lookup inside [] (entered k first c)) o false (leaf_at text lookup inside) n)) (sym (append_assoc outer (v ∷ []) cs))
+      let c = replay text options lookup closed l in
+      let v = container_at text options lookup k first c in
+      let cs = containers_at text options lookup inside (entered k first c) in
+      ap (λ o. lazy_fed text options lookup (leaf_at text options lookup inside) r (pass_with (inner_at text options lookup inside [] (entered k first c)) o false (leaf_at text options lookup inside) n)) (sym (append_assoc outer (v ∷ []) cs))
       ∙ lazy-feeds inside (bare_after (is_bare_start k first) more) r (within k false ahead) x (entered k first c) (outer ++ v ∷ []) n e f.2 t z
       ∙ container-goes closed k first more (lazy_row r) (lines_feed options inside (lazy_row r) (within k false ahead)) ahead l outer false n
-      ∙ ap (λ o. pass_at text lookup o ahead l outer false n) (sym (lazy-container options closed k first more inside r ahead x z t))
+      ∙ ap (λ o. pass_at text options lookup o ahead l outer false n) (sym (lazy-container options closed k first more inside r ahead x z t))

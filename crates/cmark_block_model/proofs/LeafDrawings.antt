@@ -80,18 +80,18 @@ html-whole text (r ∷ rs) = html-then-whole (verbatim_line text r.columns r) (h
 no-leaf : (kind : Bool) → kind ≡ false → (P : Type 0) → kind ≡ true → P
 no-leaf kind e P f = absurd (let q : true ≡ false = sym f ∙ e in cc)
 
-leaf-whole : (text : List ℕ) (lookup : Lookup) (leaf : Leaf) (first : Row) (more : List Row) (after : BlockDocument) → HasWholeLeaves after → HasWholeLeaves (leaf_then text lookup leaf first more after)
-leaf-whole text lookup ThematicBreakLeaf first more after h = (λ e. tt, tt, h)
-leaf-whole text lookup (AtxHeadingLeaf level) first more after h =
+leaf-whole : (text : List ℕ) (options : Options) (lookup : Lookup) (leaf : Leaf) (first : Row) (more : List Row) (after : BlockDocument) → HasWholeLeaves after → HasWholeLeaves (leaf_then text options lookup leaf first more after)
+leaf-whole text options lookup ThematicBreakLeaf first more after h = (λ e. tt, tt, h)
+leaf-whole text options lookup (AtxHeadingLeaf level) first more after h =
     let start = first_place first.stop (behind_hashes level first) in
-    let end = end_place start (heading_columns level first) in
+    let end = end_place start (heading_columns options.heading_attributes level first) in
     (λ e. stretch-free text start end Nil tt, stretch-whole text start end Nil tt, h)
-leaf-whole text lookup IndentedCodeLeaf first more after h = (λ e. texts-free (code_pieces text 4 (first ∷ more)) Nil tt, texts-whole (code_pieces text 4 (first ∷ more)) Nil tt, h)
-leaf-whole text lookup (FencedCodeLeaf fence) first more after h =
+leaf-whole text options lookup IndentedCodeLeaf first more after h = (λ e. texts-free (code_pieces text 4 (first ∷ more)) Nil tt, texts-whole (code_pieces text 4 (first ∷ more)) Nil tt, h)
+leaf-whole text options lookup (FencedCodeLeaf fence) first more after h =
     (λ e. texts-free (code_pieces text fence.indented (fenced_lines fence more)) Nil tt, texts-whole (code_pieces text fence.indented (fenced_lines fence more)) Nil tt, h)
-leaf-whole text lookup (HtmlBlockLeaf kind) first more after h = (λ e. no-leaf false refl _ e, html-whole text (first ∷ more), h)
-leaf-whole text lookup (LinkDefinitionLeaf definition) first more after h = (λ e. tt, tt, h)
-leaf-whole text lookup (MetadataBlockLeaf kind) first more after h =
+leaf-whole text options lookup (HtmlBlockLeaf kind) first more after h = (λ e. no-leaf false refl _ e, html-whole text (first ∷ more), h)
+leaf-whole text options lookup (LinkDefinitionLeaf definition) first more after h = (λ e. tt, tt, h)
+leaf-whole text options lookup (MetadataBlockLeaf kind) first more after h =
     (λ e. texts-free (code_pieces text 0 (lines_before (ends_metadata kind) more)) Nil tt, texts-whole (code_pieces text 0 (lines_before (ends_metadata kind) more)) Nil tt, h)
 
 item-whole : (joins : Bool) (number : Option ℕ) (tight : Bool) (start end : ℕ) (inside after : BlockDocument) → HasWholeLeaves inside → HasWholeLeaves after
@@ -100,21 +100,21 @@ item-whole false number tight start end inside after i a = (λ e. no-leaf false 
 item-whole true number tight start end inside Nil i a = (λ e. no-leaf false refl _ e, (λ e. no-leaf false refl _ e, i, tt), tt)
 item-whole true number tight start end inside (Node list items after) i a = (λ e. no-leaf false refl _ e, (λ e. no-leaf false refl _ e, i, a.1), a.2)
 
-document-whole : (text : List ℕ) (lookup : Lookup) (direct : Bool) (before : Option ListBefore) (b : Blocks) → HasWholeLeaves (document_of text lookup direct before b)
-document-whole text lookup direct before NoBlocks = tt
-document-whole text lookup direct before (BlankLine line after) = document-whole text lookup direct before after
-document-whole text lookup direct before (ParagraphBlock first more after) = (λ e. stretches-free text (start_of first) first more, stretches-whole text (start_of first) first more, document-whole text lookup direct None after)
-document-whole text lookup direct before (SetextHeading level first more underline after) =
-    (λ e. stretches-free text (start_of first) first more, stretches-whole text (start_of first) first more, document-whole text lookup direct None after)
-document-whole text lookup direct before (LeafBlock leaf first more after) = leaf-whole text lookup leaf first more (document_of text lookup direct None after) (document-whole text lookup direct None after)
-document-whole text lookup direct before (ContainerBlock Quote first more inside after) = (λ e. no-leaf false refl _ e, document-whole text lookup false None inside, document-whole text lookup direct None after)
-document-whole text lookup direct before (ContainerBlock (Item mark number width) first more inside after) =
+document-whole : (text : List ℕ) (options : Options) (lookup : Lookup) (direct : Bool) (before : Option ListBefore) (b : Blocks) → HasWholeLeaves (document_of text options lookup direct before b)
+document-whole text options lookup direct before NoBlocks = tt
+document-whole text options lookup direct before (BlankLine line after) = document-whole text options lookup direct before after
+document-whole text options lookup direct before (ParagraphBlock first more after) = (λ e. stretches-free text (start_of first) first more, stretches-whole text (start_of first) first more, document-whole text options lookup direct None after)
+document-whole text options lookup direct before (SetextHeading level first more underline after) =
+    (λ e. stretches-free text (start_of first) first more, stretches-whole text (start_of first) first more, document-whole text options lookup direct None after)
+document-whole text options lookup direct before (LeafBlock leaf first more after) = leaf-whole text options lookup leaf first more (document_of text options lookup direct None after) (document-whole text options lookup direct None after)
+document-whole text options lookup direct before (ContainerBlock Quote first more inside after) = (λ e. no-leaf false refl _ e, document-whole text options lookup false None inside, document-whole text options lookup direct None after)
+document-whole text options lookup direct before (ContainerBlock (Item mark number width) first more inside after) =
     let tight = tight_behind before mark inside after in
-    item-whole (goes_on mark after) number tight (begin_of first) (past_of first more) (document_of text lookup tight None inside) (document_of text lookup direct (Some (record { mark = mark; tight = tight })) after)
-    (document-whole text lookup tight None inside) (document-whole text lookup direct (Some (record { mark = mark; tight = tight })) after)
+    item-whole (goes_on mark after) number tight (begin_of first) (past_of first more) (document_of text options lookup tight None inside) (document_of text options lookup direct (Some (record { mark = mark; tight = tight })) after)
+    (document-whole text options lookup tight None inside) (document-whole text options lookup direct (Some (record { mark = mark; tight = tight })) after)
 
 derived-whole : (text : List ℕ) (options : Options) (lookup : Lookup) (d : BlockDocument) → Derives text options lookup d → HasWholeLeaves d
-derived-whole text options lookup d h = subst HasWholeLeaves (sym h.2) (document-whole text lookup false None h.0)
+derived-whole text options lookup d h = subst HasWholeLeaves (sym h.2) (document-whole text options lookup false None h.0)
 
 -- a leaf without definitions keeps its stretches
 same-stretches : (d : BlockDocument) → AreNoDefinitions d → stretches_of (without_definitions d) ≡ stretches_of d

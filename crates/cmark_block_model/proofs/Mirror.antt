@@ -1,6 +1,7 @@
 -- The pass as what is open in the model: each field as a function of the open lines, with the lines ahead.
 use Rattle.std.proofs.Common.{◌≡◌, ℕ, ◌≤◌, Bool, true, false, ◌==◌, List, [], ◌∷◌, ◌++◌, length, take, refl, ap, ◌∙◌, sym}
 use Rattle.std.specs.Prelude.{if◌then◌else◌}
+use Rattle.cmark_grammar.specs.Options.{Options}
 use Rattle.cmark_grammar.specs.Answers.{Lookup}
 use Rattle.cmark_grammar.specs.Rows.{Row, start_of, begin_of, past_of, first_place}
 use Rattle.cmark_grammar.specs.Leaves.{closes_fence}
@@ -98,7 +99,7 @@ Fits bare (InVerbatim closed verbatim first had waiting) ahead n = (bare ≡ fal
 Fits bare (InContainer closed k first more inside) ahead n =
     (bare ≡ false) × (past_of first more ≡ n) × Fits (bare_after (is_bare_start k first) more) inside (within k (bare_after (is_bare_start k first) more) ahead) n
 
-module _ (text : List ℕ) (lookup : Lookup) where
+module _ (text : List ℕ) (options : Options) (lookup : Lookup) where
   -- the stretches of a paragraph but the last
   abbrev pub lines_drawn : (begin : ℕ) → Row → List Row → BlockDocument
   lines_drawn begin first [] = Nil
@@ -173,12 +174,12 @@ module _ (text : List ℕ) (lookup : Lookup) where
 
   -- the innermost level
   abbrev pub inner_at : OpenLines → List Row → Level → Level
-  inner_at (Between closed) ahead l = replay text lookup closed l
-  inner_at (InParagraph closed first more) ahead l = paragraph_open first more (replay text lookup closed l)
-  inner_at (InLeaf closed leaf first had left) ahead l = leaf_level text lookup leaf first (had ++ take left ahead) (replay text lookup closed l)
-  inner_at (InVerbatim closed verbatim first had waiting) ahead l = verbatim_level verbatim first had (replay text lookup closed l)
+  inner_at (Between closed) ahead l = replay text options lookup closed l
+  inner_at (InParagraph closed first more) ahead l = paragraph_open first more (replay text options lookup closed l)
+  inner_at (InLeaf closed leaf first had left) ahead l = leaf_level text options lookup leaf first (had ++ take left ahead) (replay text options lookup closed l)
+  inner_at (InVerbatim closed verbatim first had waiting) ahead l = verbatim_level verbatim first had (replay text options lookup closed l)
   inner_at (InContainer closed k first more inside) ahead l =
-      inner_at inside (within k (bare_after (is_bare_start k first) more) ahead) (entered k first (replay text lookup closed l))
+      inner_at inside (within k (bare_after (is_bare_start k first) more) ahead) (entered k first (replay text options lookup closed l))
 
   abbrev pub leaf_at : OpenLines → OpenLeaf
   leaf_at (Between closed) = Closed
@@ -196,7 +197,7 @@ module _ (text : List ℕ) (lookup : Lookup) where
   containers_at (InLeaf closed leaf first had left) l = []
   containers_at (InVerbatim closed verbatim first had waiting) l = []
   containers_at (InContainer closed k first more inside) l =
-      container_at k first (replay text lookup closed l) ∷ containers_at inside (entered k first (replay text lookup closed l))
+      container_at k first (replay text options lookup closed l) ∷ containers_at inside (entered k first (replay text options lookup closed l))
 
   abbrev pub pass_at : OpenLines → List Row → Level → List OpenContainer → Bool → ℕ → Pass
   pass_at o ahead l outer bare n = pass_with (inner_at o ahead l) (outer ++ containers_at o l) (bare_at bare o) (leaf_at o) n

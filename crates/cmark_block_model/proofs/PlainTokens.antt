@@ -50,9 +50,9 @@ pub html_tokens_plain : (text : List ℕ) (rs : List Row) → IsPlain (html_toke
 html_tokens_plain text [] = nil_plain
 html_tokens_plain text (r ∷ rs) = html_then_plain (verbatim_line text r.columns r) (html_tokens text rs) (html_tokens_plain text rs)
 
-pub heading_plain : (text : List ℕ) (level : ℕ) (r : Row) → IsPlain (heading_tokens text level r)
-heading_plain text level r =
-    stretch_plain text (first_place r.stop (behind_hashes level r)) (end_place (first_place r.stop (behind_hashes level r)) (heading_columns level r)) Nil nil_plain
+pub heading_plain : (text : List ℕ) (attributes : Bool) (level : ℕ) (r : Row) → IsPlain (heading_tokens text attributes level r)
+heading_plain text attributes level r =
+    stretch_plain text (first_place r.stop (behind_hashes level r)) (end_place (first_place r.stop (behind_hashes level r)) (heading_columns attributes level r)) Nil nil_plain
 
 pub code_plain : (text : List ℕ) (most : ℕ) (rs : List Row) → IsPlain (code_tokens text most rs)
 code_plain text most rs = texts_plain (code_pieces text most rs) Nil nil_plain

@@ -1,5 +1,6 @@
 -- What closed blocks leave of a level: what is drawn there, its siblings' flags and the references, block by block.
 use Rattle.std.specs.Prelude.{ℕ, Bool, true, false, ◌==◌, ◌||◌, List, [], ◌∷◌, ◌++◌, Option, Some, None}
+use Rattle.cmark_grammar.specs.Options.{Options}
 use Rattle.cmark_grammar.specs.Answers.{Lookup}
 use Rattle.cmark_grammar.specs.Attributes.{no_attributes}
 use Rattle.cmark_grammar.specs.Rows.{Row, start_of, begin_of, past_of}
@@ -69,7 +70,7 @@ left_by k around end l = record l {
 abbrev pub blank_level : Level → Level
 blank_level l = record l { inner = record l.inner { blank = l.inner.has_block } }
 
-module _ (text : List ℕ) (lookup : Lookup) where
+module _ (text : List ℕ) (options : Options) (lookup : Lookup) where
   abbrev pub paragraph_level : Row → List Row → Level → Level
   paragraph_level first more l =
       level_drawn (Node (node document.Paragraph (start_of first) (past_of first more)) (paragraph_tokens text first more) document.Nil) (begun l)
@@ -79,13 +80,13 @@ module _ (text : List ℕ) (lookup : Lookup) where
       level_drawn (Node (node (document.Heading level no_attributes) (start_of first) underline.past) (paragraph_tokens text first more) document.Nil) (begun l)
 
   abbrev pub leaf_drawing : Leaf → Row → List Row → Drawing → Drawing
-  leaf_drawing ThematicBreak first more d = drawn (leaf_then text lookup ThematicBreak first more document.Nil) d
-  leaf_drawing (AtxHeading level) first more d = drawn (leaf_then text lookup (AtxHeading level) first more document.Nil) d
-  leaf_drawing IndentedCode first more d = drawn (leaf_then text lookup IndentedCode first more document.Nil) d
-  leaf_drawing (FencedCode fence) first more d = drawn (leaf_then text lookup (FencedCode fence) first more document.Nil) d
-  leaf_drawing (HtmlBlock kind) first more d = drawn (leaf_then text lookup (HtmlBlock kind) first more document.Nil) d
+  leaf_drawing ThematicBreak first more d = drawn (leaf_then text options lookup ThematicBreak first more document.Nil) d
+  leaf_drawing (AtxHeading level) first more d = drawn (leaf_then text options lookup (AtxHeading level) first more document.Nil) d
+  leaf_drawing IndentedCode first more d = drawn (leaf_then text options lookup IndentedCode first more document.Nil) d
+  leaf_drawing (FencedCode fence) first more d = drawn (leaf_then text options lookup (FencedCode fence) first more document.Nil) d
+  leaf_drawing (HtmlBlock kind) first more d = drawn (leaf_then text options lookup (HtmlBlock kind) first more document.Nil) d
   leaf_drawing (LinkDefinition definition) first more d = d
-  leaf_drawing (MetadataBlock kind) first more d = drawn (leaf_then text lookup (MetadataBlock kind) first more document.Nil) d
+  leaf_drawing (MetadataBlock kind) first more d = drawn (leaf_then text options lookup (MetadataBlock kind) first more document.Nil) d
 
   abbrev pub leaf_references : Leaf → Row → List Row → List Reference → List Reference
   leaf_references ThematicBreak first more rs = rs

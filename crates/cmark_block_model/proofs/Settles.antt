@@ -1,6 +1,7 @@
 -- The drawn document, settled, is the document of the grammar without its definitions; the references are its definitions.
 use Rattle.std.proofs.Common.{◌≡◌, ℕ, Bool, true, false, ◌==◌, List, ◌∷◌, refl, ap, ◌∙◌, sym, subst, Option, Some, None}
 use Rattle.std.specs.Prelude.{if◌then◌else◌}
+use Rattle.cmark_grammar.specs.Options.{Options}
 use Rattle.cmark_grammar.specs.Answers.{Lookup}
 use Rattle.cmark_grammar.specs.Attributes.{no_attributes}
 use Rattle.cmark_grammar.specs.Rows.{Row, past_of, begin_of, start_of}
@@ -8,7 +9,7 @@ use Rattle.cmark_grammar.specs.Containers.{Quote, Item}
 use Rattle.cmark_grammar.specs.Openings.{Leaf, ThematicBreak, AtxHeading, IndentedCode, FencedCode, HtmlBlock, LinkDefinition, MetadataBlock}
 use Rattle.cmark_grammar.specs.Blocks.{Blocks, Nil as NoBlocks, BlankLine, Paragraph, SetextHeading, LeafBlock, ContainerBlock}
 use Rattle.cmark_grammar.specs.Lists.{ListBefore, is_tight, tight_behind, goes_on}
-use Rattle.cmark_grammar.specs.Tokens.{paragraph_tokens, fenced_lines, lines_before}
+use Rattle.cmark_grammar.specs.Tokens.{paragraph_tokens, heading_attributes, fenced_lines, lines_before}
 use Rattle.cmark_grammar.specs.Derivation.{paragraph_kind, leaf_then, item_then, document_of}
 use Rattle.cmark_grammar.specs.BlockDocument as document
 use Rattle.cmark_grammar.specs.BlockDocument.{Reference, BlockKind, BlockNode, BlockDocument, Nil, Node, node, join}
@@ -49,10 +50,10 @@ paragraph-settles : (direct : Bool) (start end : ℕ) (t x d : BlockDocument) �
 paragraph-settles true start end t x d h e = node-same (node document.TightParagraph start end) (h.still false ∙ sym h.whole) e
 paragraph-settles false start end t x d h e = node-same (node document.Paragraph start end) (h.still false ∙ sym h.whole) e
 
-module _ (text : List ℕ) (lookup : Lookup) where
-  leaf-settles : (leaf : Leaf) (first : Row) (more : List Row) (direct : Bool) (x d : BlockDocument) → settled direct x ≡ without_definitions d → settled direct (leaf_raw text lookup leaf first more x) ≡ without_definitions (leaf_then text lookup leaf first more d)
+module _ (text : List ℕ) (options : Options) (lookup : Lookup) where
+  leaf-settles : (leaf : Leaf) (first : Row) (more : List Row) (direct : Bool) (x d : BlockDocument) → settled direct x ≡ without_definitions d → settled direct (leaf_raw text options lookup leaf first more x) ≡ without_definitions (leaf_then text options lookup leaf first more d)
   leaf-settles ThematicBreak first more direct x d e = ap (Node (node document.ThematicBreak (start_of first) (past_of first more)) Nil) e
-  leaf-settles (AtxHeading level) first more direct x d e = let h = heading_plain text level first in node-same (node (document.Heading level no_attributes) (start_of first) (past_of first more)) (h.still false ∙ sym h.whole) e
+  leaf-settles (AtxHeading level) first more direct x d e = let h = heading_plain text options.heading_attributes level first in node-same (node (document.Heading level (heading_attributes options.heading_attributes level first)) (start_of first) (past_of first more)) (h.still false ∙ sym h.whole) e
   leaf-settles IndentedCode first more direct x d e = let h = code_plain text 4 (first ∷ more) in node-same _ (h.still false ∙ sym h.whole) e
   leaf-settles (FencedCode fence) first more direct x d e = let h = code_plain text fence.indented (fenced_lines fence more) in node-same _ (h.still false ∙ sym h.whole) e
   leaf-settles (HtmlBlock kind) first more direct x d e = let h = html_tokens_plain text (first ∷ more) in node-same _ (h.still false ∙ sym h.whole) e
@@ -95,43 +96,43 @@ module _ (text : List ℕ) (lookup : Lookup) where
       ∙ node-same (node (document.BlockList number tight) start w.end) w.same_items w.same_after
       ∙ ap without_definitions (sym w.is)
 
-  pub settles : (b : Blocks) (direct : Bool) (before : Option ListBefore) → Settles direct before (λ mark. goes_on mark b) (λ mark. split text lookup mark b) (document_of text lookup direct before b)
+  pub settles : (b : Blocks) (direct : Bool) (before : Option ListBefore) → Settles direct before (λ mark. goes_on mark b) (λ mark. split text options lookup mark b) (document_of text options lookup direct before b)
   settles NoBlocks direct before = stands direct before Nil Nil refl
   settles (BlankLine line after) direct None = settles after direct None
   settles (BlankLine line after) direct (Some before) = settles after direct (Some before)
   settles (Paragraph first more after) direct before =
-      stands direct before _ _ (paragraph-settles direct (start_of first) (past_of first more) (paragraph_tokens text first more) (split text lookup None after).after (document_of text lookup direct None after) (paragraph_plain text first more) (settles after direct None))
+      stands direct before _ _ (paragraph-settles direct (start_of first) (past_of first more) (paragraph_tokens text first more) (split text options lookup None after).after (document_of text options lookup direct None after) (paragraph_plain text first more) (settles after direct None))
   settles (SetextHeading level first more underline after) direct before =
       let h = paragraph_plain text first more in
       stands direct before _ _ (node-same (node (document.Heading level no_attributes) (start_of first) underline.past) (h.still false ∙ sym h.whole) (settles after direct None))
   settles (LeafBlock leaf first more after) direct before =
-      stands direct before _ _ (leaf-settles leaf first more direct (split text lookup None after).after (document_of text lookup direct None after) (settles after direct None))
+      stands direct before _ _ (leaf-settles leaf first more direct (split text options lookup None after).after (document_of text options lookup direct None after) (settles after direct None))
   settles (ContainerBlock Quote first more inside after) direct before =
       stands direct before _ _ (node-same (node (document.BlockQuote None) (start_of first) (past_of first more)) (settles inside false None) (settles after direct None))
   settles (ContainerBlock (Item mark number width) first more inside after) direct before =
       go before (λ t. settles inside t None) (λ t. settles after direct (Some (record { mark = mark; tight = t })))
     where
       Inside : Bool → Type 0
-      Inside t = settled t (split text lookup None inside).after ≡ without_definitions (document_of text lookup t None inside)
+      Inside t = settled t (split text options lookup None inside).after ≡ without_definitions (document_of text options lookup t None inside)
 
       After : Bool → Type 0
-      After t = Joins (goes_on mark after) direct t (split text lookup (Some mark) after) (document_of text lookup direct (Some (record { mark = mark; tight = t })) after)
+      After t = Joins (goes_on mark after) direct t (split text options lookup (Some mark) after) (document_of text options lookup direct (Some (record { mark = mark; tight = t })) after)
 
       D : Bool → BlockDocument
-      D t = item_then (goes_on mark after) number t (node document.ListItem (begin_of first) (past_of first more)) (document_of text lookup t None inside) (document_of text lookup direct (Some (record { mark = mark; tight = t })) after)
+      D t = item_then (goes_on mark after) number t (node document.ListItem (begin_of first) (past_of first more)) (document_of text options lookup t None inside) (document_of text options lookup direct (Some (record { mark = mark; tight = t })) after)
 
-      whole : (t : Bool) → Inside t → After t → IsWhole direct t number (begin_of first) (past_of first more) (split text lookup None inside).after (split text lookup (Some mark) after) (D t)
-      whole t i a = item-whole (goes_on mark after) direct t number (begin_of first) (past_of first more) (split text lookup None inside).after (document_of text lookup t None inside) (split text lookup (Some mark) after) (document_of text lookup direct (Some (record { mark = mark; tight = t })) after) i a
+      whole : (t : Bool) → Inside t → After t → IsWhole direct t number (begin_of first) (past_of first more) (split text options lookup None inside).after (split text options lookup (Some mark) after) (D t)
+      whole t i a = item-whole (goes_on mark after) direct t number (begin_of first) (past_of first more) (split text options lookup None inside).after (document_of text options lookup t None inside) (split text options lookup (Some mark) after) (document_of text options lookup direct (Some (record { mark = mark; tight = t })) after) i a
 
-      same : (z : Bool) (l : ListBefore) → ((t : Bool) → Inside t) → ((t : Bool) → After t) → Joins z direct l.tight (item_split z number (is_tight mark inside after) (begin_of first) (past_of first more) (split text lookup None inside).after (split text lookup (Some mark) after)) (D (if z then l.tight else is_tight mark inside after))
+      same : (z : Bool) (l : ListBefore) → ((t : Bool) → Inside t) → ((t : Bool) → After t) → Joins z direct l.tight (item_split z number (is_tight mark inside after) (begin_of first) (past_of first more) (split text options lookup None inside).after (split text options lookup (Some mark) after)) (D (if z then l.tight else is_tight mark inside after))
       same true l i a =
           let w = whole l.tight (i l.tight) (a l.tight) in
           record { number = number; start = begin_of first; end = w.end; items = w.items; after = w.after; is = w.is; same_items = w.same_items; same_after = w.same_after; ends = ap Some w.ends }
       same false l i a =
-          (refl, refl, whole-settles direct (is_tight mark inside after) number (begin_of first) (past_of first more) (split text lookup None inside).after (split text lookup (Some mark) after) (D (is_tight mark inside after)) (whole (is_tight mark inside after) (i (is_tight mark inside after)) (a (is_tight mark inside after))))
+          (refl, refl, whole-settles direct (is_tight mark inside after) number (begin_of first) (past_of first more) (split text options lookup None inside).after (split text options lookup (Some mark) after) (D (is_tight mark inside after)) (whole (is_tight mark inside after) (i (is_tight mark inside after)) (a (is_tight mark inside after))))
 
-      go : (before : Option ListBefore) → ((t : Bool) → Inside t) → ((t : Bool) → After t) → Settles direct before (λ m. mark == m) (λ m. split text lookup m (ContainerBlock (Item mark number width) first more inside after)) (D (tight_behind before mark inside after))
-      go None i a = whole-settles direct (is_tight mark inside after) number (begin_of first) (past_of first more) (split text lookup None inside).after (split text lookup (Some mark) after) (D (is_tight mark inside after)) (whole (is_tight mark inside after) (i (is_tight mark inside after)) (a (is_tight mark inside after)))
+      go : (before : Option ListBefore) → ((t : Bool) → Inside t) → ((t : Bool) → After t) → Settles direct before (λ m. mark == m) (λ m. split text options lookup m (ContainerBlock (Item mark number width) first more inside after)) (D (tight_behind before mark inside after))
+      go None i a = whole-settles direct (is_tight mark inside after) number (begin_of first) (past_of first more) (split text options lookup None inside).after (split text options lookup (Some mark) after) (D (is_tight mark inside after)) (whole (is_tight mark inside after) (i (is_tight mark inside after)) (a (is_tight mark inside after)))
       go (Some l) i a =
-          subst (λ z. Joins z direct l.tight (item_split (l.mark == mark) number (is_tight mark inside after) (begin_of first) (past_of first more) (split text lookup None inside).after (split text lookup (Some mark) after)) (D (tight_behind (Some l) mark inside after)))
+          subst (λ z. Joins z direct l.tight (item_split (l.mark == mark) number (is_tight mark inside after) (begin_of first) (past_of first more) (split text options lookup None inside).after (split text options lookup (Some mark) after)) (D (tight_behind (Some l) mark inside after)))
           (sym (other-mark l.mark mark (l.mark == mark) refl)) (same (l.mark == mark) l i a)

@@ -24,7 +24,7 @@ use Rattle.cmark_block_model.proofs.LazyLines.{container-goes, lazy-feeds}
 use Rattle.cmark_block_model.proofs.Keeping.{kept-ahead, off-ahead}
 
 module _ (text : List ℕ) (options : Options) (lookup : Lookup) where
-  takes-lazy : (o : OpenLines) → takes_lazy (leaf_at text lookup o) ≡ lines_take_lazy o
+  takes-lazy : (o : OpenLines) → takes_lazy (leaf_at text options lookup o) ≡ lines_take_lazy o
   takes-lazy (Between closed) = refl
   takes-lazy (InParagraph closed first more) = refl
   takes-lazy (InLeaf closed leaf first had left) = go leaf
@@ -39,7 +39,7 @@ module _ (text : List ℕ) (options : Options) (lookup : Lookup) where
       go (MetadataBlock kind) = refl
   takes-lazy (InVerbatim closed verbatim first had waiting) = go verbatim
     where
-      go : (v : Verbatim) → takes_lazy (verbatim_leaf text lookup v first had waiting) ≡ false
+      go : (v : Verbatim) → takes_lazy (verbatim_leaf text options lookup v first had waiting) ≡ false
       go Indented = refl
       go (Fenced fence) = refl
       go (HtmlLines kind) = refl
@@ -47,7 +47,7 @@ module _ (text : List ℕ) (options : Options) (lookup : Lookup) where
   takes-lazy (InContainer closed k first more inside) = takes-lazy inside
 
   -- only the innermost container is bare
-  bare-flag : (o : OpenLines) (b : Bool) (ahead : List Row) (n : ℕ) (l : Level) → Fits b o ahead n → (bare_at b o && is_last text options lookup (containers_at text lookup o l)) ≡ b
+  bare-flag : (o : OpenLines) (b : Bool) (ahead : List Row) (n : ℕ) (l : Level) → Fits b o ahead n → (bare_at b o && is_last text options lookup (containers_at text options lookup o l)) ≡ b
   bare-flag (Between closed) b ahead n l f = and-true b
   bare-flag (InParagraph closed first more) b ahead n l f = sym f.0
   bare-flag (InLeaf closed leaf first had left) b ahead n l f = sym f.0
@@ -58,23 +58,23 @@ module _ (text : List ℕ) (options : Options) (lookup : Lookup) where
   fed w next p = line_with text options lookup w.missed w.kept w.left next p
 
   pub simulates : (o : OpenLines) (b : Bool) (r : Row) (next ahead : List Row) (l : Level) (outer : List OpenContainer) (n : ℕ) → r.lazy ≡ false → ahead_in text options lookup outer next ≡ ahead → Fits b o (r ∷ ahead) n
-      → fed (kept_by text options lookup outer (containers_at text lookup o l) (bare_at b o) r) next (pass_with (inner_at text lookup o (r ∷ ahead) l) (outer ++ containers_at text lookup o l) false (leaf_at text lookup o) n)
-      ≡ pass_at text lookup (lines_feed options o r ahead) ahead l outer false n
+      → fed (kept_by text options lookup outer (containers_at text options lookup o l) (bare_at b o) r) next (pass_with (inner_at text options lookup o (r ∷ ahead) l) (outer ++ containers_at text options lookup o l) false (leaf_at text options lookup o) n)
+      ≡ pass_at text options lookup (lines_feed options o r ahead) ahead l outer false n
   simulates (Between closed) b r next ahead l outer n e a f =
-      ap (λ o. begin text options lookup r next (pass_with (replay text lookup closed l) o false Closed n)) (append-nil outer) ∙ starts text options lookup closed r next ahead l outer n e a
+      ap (λ o. begin text options lookup r next (pass_with (replay text options lookup closed l) o false Closed n)) (append-nil outer) ∙ starts text options lookup closed r next ahead l outer n e a
   simulates (InParagraph closed first more) b r next ahead l outer n e a f =
       let i = InParagraph closed first more in
-      ap (λ o. leaf_fed text options lookup (leaf_at text lookup i) r next (pass_with (inner_at text lookup i (r ∷ ahead) l) o false (leaf_at text lookup i) n)) (append-nil outer)
+      ap (λ o. leaf_fed text options lookup (leaf_at text options lookup i) r next (pass_with (inner_at text options lookup i (r ∷ ahead) l) o false (leaf_at text options lookup i) n)) (append-nil outer)
       ∙ paragraph-feeds text options lookup closed first more r next ahead l outer b n e a f
   simulates (InLeaf closed leaf first had left) b r next ahead l outer n e a f =
       let i = InLeaf closed leaf first had left in
-      ap (λ o. leaf_fed text options lookup (leaf_at text lookup i) r next (pass_with (inner_at text lookup i (r ∷ ahead) l) o false (leaf_at text lookup i) n)) (append-nil outer)
+      ap (λ o. leaf_fed text options lookup (leaf_at text options lookup i) r next (pass_with (inner_at text options lookup i (r ∷ ahead) l) o false (leaf_at text options lookup i) n)) (append-nil outer)
       ∙ leaf-feeds text options lookup closed leaf first had left r next ahead l outer b n e a f
   simulates (InVerbatim closed v first had waiting) b r next ahead l outer n e a f =
       let i = InVerbatim closed v first had waiting in
-      ap (λ o. leaf_fed text options lookup (leaf_at text lookup i) r next (pass_with (inner_at text lookup i (r ∷ ahead) l) o false (leaf_at text lookup i) n)) (append-nil outer)
+      ap (λ o. leaf_fed text options lookup (leaf_at text options lookup i) r next (pass_with (inner_at text options lookup i (r ∷ ahead) l) o false (leaf_at text options lookup i) n)) (append-nil outer)
       ∙ verbatim-feeds text options lookup v closed first had waiting r next ahead l outer b n e a f
-      ∙ ap (λ z. pass_at text lookup (verbatim_line (further_if z v r) closed v first had waiting r (lines_begin options (close_lines i) r ahead)) ahead l outer false n) (sym e)
+      ∙ ap (λ z. pass_at text options lookup (verbatim_line (further_if z v r) closed v first had waiting r (lines_begin options (close_lines i) r ahead)) ahead l outer false n) (sym e)
   simulates (InContainer closed k first more inside) b r next ahead l outer n e a f =
       ap (λ z. fed (kept_if text options lookup (keeps k z r) (λ s. kept_by text options lookup (outer ++ v ∷ []) cs (bare_at bare inside) s) (record { kept = outer; missed = v ∷ cs; left = r })) next p)
       (bare-flag inside bare (within k bare (r ∷ ahead)) n (entered k first c) f.2)
@@ -88,20 +88,20 @@ module _ (text : List ℕ) (options : Options) (lookup : Lookup) where
       inner = f.2
 
       c : Level
-      c = replay text lookup closed l
+      c = replay text options lookup closed l
 
       v : OpenContainer
-      v = container_at text lookup k first (replay text lookup closed l)
+      v = container_at text options lookup k first (replay text options lookup closed l)
 
       cs : List OpenContainer
-      cs = containers_at text lookup inside (entered k first (replay text lookup closed l))
+      cs = containers_at text options lookup inside (entered k first (replay text options lookup closed l))
 
       p : Pass
-      p = pass_with (inner_at text lookup inside (within k (bare_after (is_bare_start k first) more) (r ∷ ahead)) (entered k first (replay text lookup closed l))) (outer ++ v ∷ cs) false (leaf_at text lookup inside) n
+      p = pass_with (inner_at text options lookup inside (within k (bare_after (is_bare_start k first) more) (r ∷ ahead)) (entered k first (replay text options lookup closed l))) (outer ++ v ∷ cs) false (leaf_at text options lookup inside) n
 
       -- the pass where these lines are ahead inside
       seen : List Row → Pass
-      seen x = pass_with (inner_at text lookup inside x (entered k first (replay text lookup closed l))) (outer ++ v ∷ cs) false (leaf_at text lookup inside) n
+      seen x = pass_with (inner_at text options lookup inside x (entered k first (replay text options lookup closed l))) (outer ++ v ∷ cs) false (leaf_at text options lookup inside) n
 
       on : OpenLines
       on = InContainer closed k first (more ++ r ∷ []) (lines_feed options inside (strip k bare r) (within k false ahead))
@@ -110,15 +110,15 @@ module _ (text : List ℕ) (options : Options) (lookup : Lookup) where
       off = lines_begin options (join_blocks closed (ContainerBlock k first more (close_lines inside) NoBlocks)) r ahead
 
       missed : keeps k bare r ≡ None → (z : Bool) → (lazily options r ahead && lines_take_lazy inside) ≡ z
-          → (if z then lazy_fed text options lookup (leaf_at text lookup inside) r p else begin text options lookup r next (containers_closed text options lookup outer (v ∷ cs) (leaf_closed text options lookup p)))
-          ≡ pass_at text lookup (lines_kept_or None z on off) ahead l outer false n
+          → (if z then lazy_fed text options lookup (leaf_at text options lookup inside) r p else begin text options lookup r next (containers_closed text options lookup outer (v ∷ cs) (leaf_closed text options lookup p)))
+          ≡ pass_at text options lookup (lines_kept_or None z on off) ahead l outer false n
       missed q true t =
           let y = is_both options (lazily options r ahead) (lines_take_lazy inside) t in
           let g : Fits bare inside [] n = subst (λ x. Fits bare inside x n) (off-ahead options k bare r ahead q) inner in
-          ap (λ x. lazy_fed text options lookup (leaf_at text lookup inside) r (seen x)) (off-ahead options k bare r ahead q)
-          ∙ ap (λ o. lazy_fed text options lookup (leaf_at text lookup inside) r (pass_with (inner_at text lookup inside [] (entered k first c)) o false (leaf_at text lookup inside) n)) (sym (append_assoc outer (v ∷ []) cs))
+          ap (λ x. lazy_fed text options lookup (leaf_at text options lookup inside) r (seen x)) (off-ahead options k bare r ahead q)
+          ∙ ap (λ o. lazy_fed text options lookup (leaf_at text options lookup inside) r (pass_with (inner_at text options lookup inside [] (entered k first c)) o false (leaf_at text options lookup inside) n)) (sym (append_assoc outer (v ∷ []) cs))
           ∙ lazy-feeds text options lookup inside bare r (within k false ahead) ahead (entered k first c) (outer ++ v ∷ []) n e g y.1 y.0
-          ∙ ap (λ s. pass_at text lookup (lines_feed options inside s (within k false ahead)) (within k false ahead) (entered k first c) (outer ++ v ∷ []) false n) (sym (strip_lazy options k bare r q))
+          ∙ ap (λ s. pass_at text options lookup (lines_feed options inside s (within k false ahead)) (within k false ahead) (entered k first c) (outer ++ v ∷ []) false n) (sym (strip_lazy options k bare r q))
           ∙ container-goes text options lookup closed k first more r (lines_feed options inside (strip k bare r) (within k false ahead)) ahead l outer false n
       missed q false t =
           let g : Fits bare inside [] n = subst (λ x. Fits bare inside x n) (off-ahead options k bare r ahead q) inner in
@@ -128,17 +128,17 @@ module _ (text : List ℕ) (options : Options) (lookup : Lookup) where
           ∙ starts text options lookup (join_blocks closed (ContainerBlock k first more (close_lines inside) NoBlocks)) r next ahead l outer n e a
 
       go : (o : Option Row) → keeps k bare r ≡ o
-          → ((s : Row) → keeps k bare r ≡ Some s → fed (kept_by text options lookup (outer ++ v ∷ []) cs (bare_at bare inside) (strip k bare r)) next (pass_with (inner_at text lookup inside (strip k bare r ∷ within k false ahead) (entered k first (replay text lookup closed l))) ((outer ++ v ∷ []) ++ cs) false (leaf_at text lookup inside) n)
-          ≡ pass_at text lookup (lines_feed options inside (strip k bare r) (within k false ahead)) (within k false ahead) (entered k first (replay text lookup closed l)) (outer ++ v ∷ []) false n)
+          → ((s : Row) → keeps k bare r ≡ Some s → fed (kept_by text options lookup (outer ++ v ∷ []) cs (bare_at bare inside) (strip k bare r)) next (pass_with (inner_at text options lookup inside (strip k bare r ∷ within k false ahead) (entered k first (replay text options lookup closed l))) ((outer ++ v ∷ []) ++ cs) false (leaf_at text options lookup inside) n)
+          ≡ pass_at text options lookup (lines_feed options inside (strip k bare r) (within k false ahead)) (within k false ahead) (entered k first (replay text options lookup closed l)) (outer ++ v ∷ []) false n)
           → fed (kept_if text options lookup o (λ s. kept_by text options lookup (outer ++ v ∷ []) cs (bare_at bare inside) s) (record { kept = outer; missed = v ∷ cs; left = r })) next p
-          ≡ pass_at text lookup (lines_kept_or o (lazily options r ahead && lines_take_lazy inside) on off) ahead l outer false n
+          ≡ pass_at text options lookup (lines_kept_or o (lazily options r ahead && lines_take_lazy inside) on off) ahead l outer false n
       go (Some s) q ih =
           ap (λ x. fed (kept_by text options lookup (outer ++ v ∷ []) cs (bare_at bare inside) x) next p) (sym (ap (λ o. strip_as o r) q))
           ∙ ap (λ x. fed (kept_by text options lookup (outer ++ v ∷ []) cs (bare_at bare inside) (strip k bare r)) next (seen x)) (kept-ahead options k bare r s ahead e q)
-          ∙ ap (λ o. fed (kept_by text options lookup (outer ++ v ∷ []) cs (bare_at bare inside) (strip k bare r)) next (pass_with (inner_at text lookup inside (strip k bare r ∷ within k false ahead) (entered k first c)) o false (leaf_at text lookup inside) n)) (sym (append_assoc outer (v ∷ []) cs))
+          ∙ ap (λ o. fed (kept_by text options lookup (outer ++ v ∷ []) cs (bare_at bare inside) (strip k bare r)) next (pass_with (inner_at text options lookup inside (strip k bare r ∷ within k false ahead) (entered k first c)) o false (leaf_at text options lookup inside) n)) (sym (append_assoc outer (v ∷ []) cs))
           ∙ ih s q
           ∙ container-goes text options lookup closed k first more r (lines_feed options inside (strip k bare r) (within k false ahead)) ahead l outer false n
       go None q ih =
-          ap (λ x. if lazily options r x && takes_lazy (leaf_at text lookup inside) then lazy_fed text options lookup (leaf_at text lookup inside) r p else begin text options lookup r next (containers_closed text options lookup outer (v ∷ cs) (leaf_closed text options lookup p))) a
-          ∙ ap (λ x. if lazily options r ahead && x then lazy_fed text options lookup (leaf_at text lookup inside) r p else begin text options lookup r next (containers_closed text options lookup outer (v ∷ cs) (leaf_closed text options lookup p))) (takes-lazy inside)
+          ap (λ x. if lazily options r x && takes_lazy (leaf_at text options lookup inside) then lazy_fed text options lookup (leaf_at text options lookup inside) r p else begin text options lookup r next (containers_closed text options lookup outer (v ∷ cs) (leaf_closed text options lookup p))) a
+          ∙ ap (λ x. if lazily options r ahead && x then lazy_fed text options lookup (leaf_at text options lookup inside) r p else begin text options lookup r next (containers_closed text options lookup outer (v ∷ cs) (leaf_closed text options lookup p))) (takes-lazy inside)
           ∙ missed q (lazily options r ahead && lines_take_lazy inside) refl

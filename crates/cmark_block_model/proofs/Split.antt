@@ -1,6 +1,7 @@
 -- The document of blocks before its paragraphs are settled, without definitions: what goes on with the list before, and what
 -- stands behind that.
 use Rattle.std.specs.Prelude.{ℕ, Bool, true, false, ◌==◌, List, Option, Some, None}
+use Rattle.cmark_grammar.specs.Options.{Options}
 use Rattle.cmark_grammar.specs.Answers.{Lookup}
 use Rattle.cmark_grammar.specs.Attributes.{no_attributes}
 use Rattle.cmark_grammar.specs.Rows.{Row, start_of, begin_of, past_of}
@@ -36,15 +37,15 @@ item_split true number tight start past inside s =
 item_split false number tight start past inside s =
     lone (Node (node (document.BlockList number tight) start (end_or past s.end)) (Node (node document.ListItem start past) inside s.items) s.after)
 
-module _ (text : List ℕ) (lookup : Lookup) where
+module _ (text : List ℕ) (options : Options) (lookup : Lookup) where
   abbrev pub leaf_raw : Leaf → Row → List Row → BlockDocument → BlockDocument
-  leaf_raw ThematicBreak first more after = leaf_then text lookup ThematicBreak first more after
-  leaf_raw (AtxHeading level) first more after = leaf_then text lookup (AtxHeading level) first more after
-  leaf_raw IndentedCode first more after = leaf_then text lookup IndentedCode first more after
-  leaf_raw (FencedCode fence) first more after = leaf_then text lookup (FencedCode fence) first more after
-  leaf_raw (HtmlBlock kind) first more after = leaf_then text lookup (HtmlBlock kind) first more after
+  leaf_raw ThematicBreak first more after = leaf_then text options lookup ThematicBreak first more after
+  leaf_raw (AtxHeading level) first more after = leaf_then text options lookup (AtxHeading level) first more after
+  leaf_raw IndentedCode first more after = leaf_then text options lookup IndentedCode first more after
+  leaf_raw (FencedCode fence) first more after = leaf_then text options lookup (FencedCode fence) first more after
+  leaf_raw (HtmlBlock kind) first more after = leaf_then text options lookup (HtmlBlock kind) first more after
   leaf_raw (LinkDefinition definition) first more after = after
-  leaf_raw (MetadataBlock kind) first more after = leaf_then text lookup (MetadataBlock kind) first more after
+  leaf_raw (MetadataBlock kind) first more after = leaf_then text options lookup (MetadataBlock kind) first more after
 
   abbrev pub split : Option ℕ → Blocks → Split
   split mark NoBlocks = lone Nil

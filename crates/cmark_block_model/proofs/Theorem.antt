@@ -46,16 +46,16 @@ module _ (text : List ℕ) (options : Options) (lookup : Lookup) where
   shown-first r rs e = ap (λ z. show_as z r (shown rs)) e
 
   one-fed : (r : Row) (rs : List Row) (o : OpenLines) (n : ℕ) → AreWhole options (r ∷ rs) → Fits false o (shown (r ∷ rs)) n
-      → line_fed text options lookup r rs (pass_at text lookup o (shown (r ∷ rs)) bottom [] false n) ≡ pass_at text lookup (lines_feed options o r (shown rs)) (shown rs) bottom [] false r.past
+      → line_fed text options lookup r rs (pass_at text options lookup o (shown (r ∷ rs)) bottom [] false n) ≡ pass_at text options lookup (lines_feed options o r (shown rs)) (shown rs) bottom [] false r.past
   one-fed r rs o n h f =
-      ap (λ x. line_fed text options lookup r rs (pass_at text lookup o x bottom [] false n)) (shown-first r rs h.0)
+      ap (λ x. line_fed text options lookup r rs (pass_at text options lookup o x bottom [] false n)) (shown-first r rs h.0)
       ∙ ap {A = Pass} {B = Pass} (λ q. record q { past = r.past }) (simulates text options lookup o false r rs (shown rs) bottom [] n h.0 (sym (shown-whole rs h.1)) (subst (λ x. Fits false o x n) (shown-first r rs h.0) f))
 
   next-fits : (r : Row) (rs : List Row) (o : OpenLines) (n : ℕ) → AreWhole options (r ∷ rs) → Fits false o (shown (r ∷ rs)) n → Fits false (lines_feed options o r (shown rs)) (shown rs) r.past
   next-fits r rs o n h f = feed-fits text options lookup o false r (shown rs) n h.0 (subst (λ x. Fits false o x n) (shown-first r rs h.0) f)
 
   all-fed : (rs : List Row) (o : OpenLines) (n : ℕ) → AreWhole options rs → Fits false o (shown rs) n
-      → lines_fed text options lookup rs (pass_at text lookup o (shown rs) bottom [] false n) ≡ pass_at text lookup (lines_feed_all options o rs) [] bottom [] false (end_behind n rs)
+      → lines_fed text options lookup rs (pass_at text options lookup o (shown rs) bottom [] false n) ≡ pass_at text options lookup (lines_feed_all options o rs) [] bottom [] false (end_behind n rs)
   all-fed [] o n h f = refl
   all-fed (r ∷ rs) o n h f =
       ap (lines_fed text options lookup rs) (one-fed r rs o n h f) ∙ all-fed rs (lines_feed options o r (shown rs)) r.past h.1 (next-fits r rs o n h f)
@@ -67,14 +67,14 @@ module _ (text : List ℕ) (options : Options) (lookup : Lookup) where
   abbrev pub done : Level → Bool → ℕ → Pass
   done l bare n = let q = pass_with l [] bare Closed n in record q { drawing = list_closed q.inner.list q.drawing }
 
-  all-closes : (o : OpenLines) (n : ℕ) → Fits false o [] n → all_closed text options lookup (pass_at text lookup o [] bottom [] false n) ≡ done (replay text lookup (close_lines o) bottom) (bare_at false o) n
+  all-closes : (o : OpenLines) (n : ℕ) → Fits false o [] n → all_closed text options lookup (pass_at text options lookup o [] bottom [] false n) ≡ done (replay text options lookup (close_lines o) bottom) (bare_at false o) n
   all-closes o n f =
-      ap (λ p. let q = containers_closed text options lookup [] (containers_at text lookup o bottom) p in record q { drawing = list_closed q.inner.list q.drawing })
-      (leaf-closes text options lookup o false n bottom (containers_at text lookup o bottom) (bare_at false o) f)
+      ap (λ p. let q = containers_closed text options lookup [] (containers_at text options lookup o bottom) p in record q { drawing = list_closed q.inner.list q.drawing })
+      (leaf-closes text options lookup o false n bottom (containers_at text options lookup o bottom) (bare_at false o) f)
       ∙ ap {A = Pass} {B = Pass} (λ q. record q { drawing = list_closed q.inner.list q.drawing }) (containers-close text options lookup o false n bottom [] (bare_at false o) f)
 
   -- the pass is what the blocks of the text leave
-  pass-done : (bare : Bool) × (n : ℕ) × (pass_over text options lookup ≡ done (replay text lookup (blocks options text) bottom) bare n)
+  pass-done : (bare : Bool) × (n : ℕ) × (pass_over text options lookup ≡ done (replay text options lookup (blocks options text) bottom) bare n)
   unfolding pass_over blocks_by_line
   pass-done =
       let o = lines_feed_all options (Between NoBlocks) (rows text) in
@@ -84,11 +84,11 @@ module _ (text : List ℕ) (options : Options) (lookup : Lookup) where
         n,
         ap (all_closed text options lookup) (all-fed (rows text) (Between NoBlocks) 0 h tt)
             ∙ all-closes o n (all-fit (rows text) (Between NoBlocks) 0 h tt)
-            ∙ ap (λ b. done (replay text lookup b bottom) (bare_at false o) n) (by_line-same options text),
+            ∙ ap (λ b. done (replay text options lookup b bottom) (bare_at false o) n) (by_line-same options text),
       )
 
-  drawn-all : finished (replay text lookup (blocks options text) bottom) ≡ record { here = (split text lookup None (blocks options text)).after; up = [] }
-  drawn-all = draws text lookup (blocks options text) (blocks-filled options text) First (record { left = document.Nil; node = node document.Paragraph 0 0 }) document.Nil [] false false []
+  drawn-all : finished (replay text options lookup (blocks options text) bottom) ≡ record { here = (split text options lookup None (blocks options text)).after; up = [] }
+  drawn-all = draws text options lookup (blocks options text) (blocks-filled options text) First (record { left = document.Nil; node = node document.Paragraph 0 0 }) document.Nil [] false false []
 
   pub pass-draws :
       (settled false (pass_over text options lookup).drawing.here ≡ without_definitions (document text options lookup))
@@ -96,7 +96,7 @@ module _ (text : List ℕ) (options : Options) (lookup : Lookup) where
       × ((pass_over text options lookup).references ≡ references (document text options lookup))
   pass-draws =
       let p = pass-done in (
-        ap (λ x. settled false x.drawing.here) p.2 ∙ ap (λ d. settled false d.here) drawn-all ∙ settles text lookup (blocks options text) false None,
+        ap (λ x. settled false x.drawing.here) p.2 ∙ ap (λ d. settled false d.here) drawn-all ∙ settles text options lookup (blocks options text) false None,
         ap (λ x. x.drawing.up) p.2 ∙ ap (λ d. d.up) drawn-all,
-        ap (λ x. x.references) p.2 ∙ defines text lookup (blocks options text) false None bottom,
+        ap (λ x. x.references) p.2 ∙ defines text options lookup (blocks options text) false None bottom,
       )

@@ -8,7 +8,7 @@ use Rattle.cmark_grammar.specs.Leaves.{Further, GoesOn, Closes, Waits, Stops, un
 use Rattle.cmark_grammar.specs.HtmlBlocks.{holds_end, html_further}
 use Rattle.cmark_grammar.specs.Containers.{Container, Quote, Item, enter, keeps, strips}
 use Rattle.cmark_grammar.specs.Openings.{Leaf, ThematicBreak, AtxHeading, IndentedCode, FencedCode, HtmlBlock, LinkDefinition, Opening, Blank, Nests, Takes, Plain, opens, texts, lazily, MetadataBlock}
-use Rattle.cmark_grammar.specs.Tokens.{Piece, resolved, words_end, stretch_then, heading_tokens, verbatim_line, html_then, code_columns}
+use Rattle.cmark_grammar.specs.Tokens.{Piece, resolved, words_end, stretch_then, heading_tokens, heading_attributes, verbatim_line, html_then, code_columns}
 use Rattle.cmark_grammar.specs.Derivation.{stop_of, reference_of}
 use Rattle.cmark_grammar.specs.BlockDocument as document
 use Rattle.cmark_grammar.specs.BlockDocument.{BlockDocument, BlockKind, Reference, Nil, Node, node}
@@ -167,7 +167,7 @@ module _ (text : List ℕ) (options : Options) (lookup : Lookup) where
   abbrev pub leaf_begun : Leaf → (more : ℕ) → Row → (ahead : List Row) → Pass → Pass
   leaf_begun ThematicBreak more r ahead p = with_drawn (Node (node document.ThematicBreak (start_of r) r.past) Nil Nil) (block_begun p)
   leaf_begun (AtxHeading level) more r ahead p =
-      with_drawn (Node (node (document.Heading level no_attributes) (start_of r) r.past) (heading_tokens text level r) Nil) (block_begun p)
+      with_drawn (Node (node (document.Heading level (heading_attributes options.heading_attributes level r)) (start_of r) r.past) (heading_tokens text options.heading_attributes level r) Nil) (block_begun p)
   leaf_begun IndentedCode more r ahead p = indented_line r None (node_opened (first_place r.stop (code_columns 4 r)) document.IndentedCode (block_begun p))
   leaf_begun (FencedCode fence) more r ahead p =
       let q = node_opened (start_of r) (document.FencedCode (resolved lookup fence.info)) (block_begun p) in record q { leaf = InFenced fence None }

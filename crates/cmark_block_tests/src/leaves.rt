@@ -53,7 +53,7 @@ fn a_line_stands_as_it_is_with_its_line_ending(rt: HostRuntime) -> Result<(), Fa
 #[test]
 fn a_closing_sequence_is_no_text(rt: HostRuntime) -> Result<(), Fail> {
     let mut builder = Builder::new(rt.alloc())?;
-    draw_heading(&mut builder, first_line("## foo \\# ##  \n"))?;
+    draw_heading(&mut builder, first_line("## foo \\# ##  \n"), false)?;
     assert_eq!(rt; last_item(builder), item(3, 9, TEXT));
     Ok(())
 }

@@ -6,6 +6,7 @@ pub mod CountSteps
 pub mod DefinitionSteps
 pub mod FeedSteps
 pub mod GatherSteps
+pub mod HeadingBodies
 pub mod HtmlSteps
 pub mod IndentedSteps
 pub mod InfoSteps

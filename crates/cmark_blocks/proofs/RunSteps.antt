@@ -1,7 +1,7 @@
 -- The pass in another state, where one part of it has changed.
 use Rattle.std.proofs.Common.{◌≡◌, ℕ, Bool, true, false, List, [], ◌∷◌, ◌++◌, Option, Some, None, option_map, refl, ap, subst, ◌∙◌, Vec, String, Global, ◌==◌}
-use Rattle.cmark_grammar.specs.Answers.{Lookup}
 use Rattle.cmark_grammar.specs.Options.{Options}
+use Rattle.cmark_grammar.specs.Answers.{Lookup}
 use Rattle.cmark_items.specs.Definitions.{definition, shown_definition}
 use Rattle.cmark_items.specs.Tables.{tables}
 use Rattle.cmark_block_model.specs.Drawing.{Drawing}

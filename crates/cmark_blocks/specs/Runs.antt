@@ -2,8 +2,8 @@
 use Rattle.std.specs.Prelude.{◌≡◌, ℕ, List, [], option_map, map, Option, None}
 use Rattle.std.specs.Str.{IsCharBoundary}
 use Rattle.cmark_tree.specs.Building.{IsPlaced}
-use Rattle.cmark_grammar.specs.Answers.{Lookup}
 use Rattle.cmark_grammar.specs.Options.{Options}
+use Rattle.cmark_grammar.specs.Answers.{Lookup}
 use Rattle.cmark_grammar.specs.Labels.{fold}
 use Rattle.cmark_grammar.specs.References.{first_with}
 use Rattle.cmark_grammar.specs.BlockDocument.{Reference}

@@ -1,7 +1,15 @@
 //! What a line begins (CommonMark 3 to 5).
 
-ghost use Rattle.std.specs.Prelude.{◌≡◌, List, ℕ, OnOk};
+ghost use Rattle.std.specs.Prelude.{◌≡◌, List, ℕ, Some, OnOk, IfOk};
 ghost use Rattle.cmark_grammar.specs.Answers.{Lookup};
+ghost use Rattle.cmark_grammar.specs.Attributes.{attributes_of};
+ghost use Rattle.cmark_grammar.specs.BlockDocument.{Heading};
+ghost use Rattle.cmark_grammar.specs.Columns.{bytes_of};
+ghost use Rattle.cmark_grammar.specs.Tokens.{attribute_columns, content_columns};
+ghost use Rattle.cmark_block_model.specs.Drawing.{Drawing};
+ghost use Rattle.cmark_builder.specs.Drawn.{Draws};
+ghost use Rattle.cmark_items.specs.ItemNodes.{shape, kind_of};
+ghost use Rattle.cmark_items.specs.Tables.{tables};
 ghost use Rattle.cmark_grammar.specs.Options.{Options};
 ghost use Rattle.cmark_block_model.specs.BlockPass.{paragraph_begun};
 ghost use Rattle.cmark_block_model.specs.OpenBlocks.{Closed};
@@ -11,18 +19,45 @@ ghost use Rattle.cmark_grammar.specs.Leaves.{run};
 ghost use Rattle.cmark_grammar.specs.Rows.{words_of};
 ghost use Rattle.cmark_grammar.specs.Openings.{ThematicBreak, AtxHeading, HtmlBlock};
 ghost use Rattle.cmark_scan.specs.HtmlLines.{kind_number};
-ghost use Rattle.cmark_text.specs.Shown.{level_number};
+ghost use Rattle.cmark_text.specs.Shown.{level_number, shown_options};
 
 use crate::state::{OpenLeaf, Pass};
+use bitflags::Flags;
+use cmark_builder::Builder;
 use cmark_items::ItemBody;
-use cmark_leaves::{draw_heading, draw_html_line};
+use cmark_leaves::{draw_heading, draw_html_line, find_attributes};
 use cmark_lines::{HtmlKind, LineRest, ends_at_once};
-use cmark_text::{EntityLookup, HeadingLevel};
+use cmark_text::{CowStr, EntityLookup, HeadingLevel, Options};
 use std::alloc::AllocError;
+
+/// Whether attributes of headings are read.
+fn reads_attributes(options: Options) -> bool
+    ensures { result ≡ (shown_options options).heading_attributes }
+{
+    options.contains(Options::ENABLE_HEADING_ATTRIBUTES)
+}
+
+/// The node of a heading with these words between the braces of its attributes, which are kept, if there are any.
+fn heading_body<'a>(
+    builder: &mut Builder<'a>,
+    level: HeadingLevel,
+    words: &'a str,
+) -> Result<ItemBody, AllocError>
+    ensures kind { IfOk result (λ body. kind_of (tables builder.new.allocations).texts (shape body) ≡ Some (Heading (level_number level) (attributes_of words.entry.now))) }
+    ensures drawn { OnOk result ((text : List ℕ) (d : Drawing) → Draws text builder.old d → Draws text builder.new d) }
+    ensures tree { builder.new.tree ≡ builder.old.tree }
+    ensures references { (tables builder.new.allocations).references ≡ (tables builder.old.allocations).references }
+{
+    if words.is_empty() {
+        return Ok(ItemBody::Heading(level, None));
+    }
+    let index = builder.allocations.allocate_cow(CowStr::Borrowed(words))?;
+    Ok(ItemBody::Heading(level, Some(index)))
+}
 
 impl<'a, E: EntityLookup> Pass<'a, E> {
     ghost use Rattle.cmark_blocks.specs.declared.state.OpenLeaf.TheVariants as leaf;
-    ghost use Rattle.cmark_blocks.specs.Runs.{Runs, IsGood};
+    ghost use Rattle.cmark_blocks.specs.Runs.{Runs, IsGood, IsRead};
     ghost use Rattle.cmark_blocks.specs.Steps.{BeginsParagraph, BeginsLeaf};
 
     /// A paragraph begins on a line, with no leaf open.
@@ -53,6 +88,20 @@ impl<'a, E: EntityLookup> Pass<'a, E> {
         Ok(())
     }
 
+    /// The words between the braces of a heading's attributes; none, where it has no attributes, or they are not read.
+    fn attribute_words(&self, attributes: bool, rest: LineRest<'a>) -> &'a str
+        requires { IsRead self.now.text.now rest }
+        ensures { result.now ≡ bytes_of (attribute_columns attributes (content_columns (run 35 (words_of (row_of rest.entry))) (row_of rest.entry))) }
+    {
+        if !attributes {
+            return "";
+        }
+        match find_attributes(rest) {
+            Some((from, to)) => &self.text[from..to],
+            None => "",
+        }
+    }
+
     /// An ATX heading is a line of its own (CommonMark 4.2).
     pub(crate) fn begin_heading(
         &mut self,
@@ -60,15 +109,18 @@ impl<'a, E: EntityLookup> Pass<'a, E> {
         rest: LineRest<'a>,
     ) -> Result<(), AllocError>
         requires good { IsGood self.old }
+        requires line { IsRead self.old.text.now rest }
         requires level { level_number level ≡ run 35 (words_of (row_of rest)) }
         ensures good { IsGood self.new }
         ensures runs { OnOk result (BeginsLeaf E.replacement (AtxHeading (level_number level)) 0 rest.entry self.old self.new) }
         ensures text { self.new.text ≡ self.old.text }
     {
+        let attributes = reads_attributes(self.options);
+        let words = self.attribute_words(attributes, rest);
         self.begin_block();
-        let body = ItemBody::Heading(level, None);
+        let body = heading_body(&mut self.builder, level, words)?;
         self.builder.open(rest.words_begin(), body)?;
-        draw_heading(&mut self.builder, rest)?;
+        draw_heading(&mut self.builder, rest, attributes)?;
         self.builder.close(rest.past());
         Ok(())
     }

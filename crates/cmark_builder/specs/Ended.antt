@@ -18,5 +18,4 @@ pub record IsEmpty (t : Tables) : Type 0 where
   pub texts : t.texts ≡ []
   pub links : t.links ≡ []
   pub alignments : t.alignments ≡ []
-  pub headings : t.headings ≡ []
   pub references : (folded : List ℕ) → definition t.references folded ≡ None

@@ -8,4 +8,4 @@ use Rattle.cmark_grammar.proofs.BlocksOne.{blocks-only}
 use Rattle.std.specs.Prelude.{None}
 
 pub document-only : (text : List ℕ) (options : Options) (lookup : Lookup) (d : BlockDocument) → Derives text options lookup d → d ≡ document text options lookup
-document-only text options lookup d derived = derived.2 ∙ ap (document_of text lookup false None) (blocks-only options text derived.0 derived.1)
+document-only text options lookup d derived = derived.2 ∙ ap (document_of text options lookup false None) (blocks-only options text derived.0 derived.1)

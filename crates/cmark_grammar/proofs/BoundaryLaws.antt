@@ -32,16 +32,16 @@ module _ (E : ℕ → Type 0) where
   item-edged true number tight item inside Nil s e i a = (s, e, (s, e, i, tt), tt)
   item-edged true number tight item inside (Node list items after) s e i a = (s, a.1, (s, e, i, a.2), a.3)
 
-  leaf-edged : (text : List ℕ) (lookup : Lookup) (leaf : Leaf) (first : Row) (more : List Row) (after : BlockDocument) → GoodRow E first → GoodRows E more → LeafFront E first leaf → AllAt E after → AllAt E (leaf_then text lookup leaf first more after)
-  leaf-edged text lookup ThematicBreakLeaf first more after g gs f a = (start-E E first g, past-edge first more g gs, tt, a)
-  leaf-edged text lookup (AtxHeadingLeaf level) first more after g gs f a = (start-E E first g, past-edge first more g gs, heading-edged E text level first g f, a)
-  leaf-edged text lookup IndentedCodeLeaf first more after g gs f a = (code_place-edge E 4 first g, past-edge first more g gs, code-edged E text 4 (first ∷ more) (g, gs), a)
-  leaf-edged text lookup (FencedCodeLeaf fence) first more after g gs f a = (start-E E first g, past-edge first more g gs, code-edged E text fence.indented (fenced_lines fence more) (before-good E (closes_fence fence) more gs), a)
-  leaf-edged text lookup (HtmlBlockLeaf kind) first more after g gs f a = (g.begin, past-edge first more g gs, html-edged E text (first ∷ more) (g, gs), a)
-  leaf-edged text lookup (LinkDefinitionLeaf definition) first more after g gs f a = (start-E E first g, past-edge first more g gs, tt, a)
-  leaf-edged text lookup (MetadataBlockLeaf kind) first more after g gs f a = (start-E E first g, past-edge first more g gs, code-edged E text 0 (lines_before (ends_metadata kind) more) (before-good E (ends_metadata kind) more gs), a)
+  leaf-edged : (text : List ℕ) (options : Options) (lookup : Lookup) (leaf : Leaf) (first : Row) (more : List Row) (after : BlockDocument) → GoodRow E first → GoodRows E more → LeafFront E first leaf → AllAt E after → AllAt E (leaf_then text options lookup leaf first more after)
+  leaf-edged text options lookup ThematicBreakLeaf first more after g gs f a = (start-E E first g, past-edge first more g gs, tt, a)
+  leaf-edged text options lookup (AtxHeadingLeaf level) first more after g gs f a = (start-E E first g, past-edge first more g gs, heading-edged E text options.heading_attributes level first g f, a)
+  leaf-edged text options lookup IndentedCodeLeaf first more after g gs f a = (code_place-edge E 4 first g, past-edge first more g gs, code-edged E text 4 (first ∷ more) (g, gs), a)
+  leaf-edged text options lookup (FencedCodeLeaf fence) first more after g gs f a = (start-E E first g, past-edge first more g gs, code-edged E text fence.indented (fenced_lines fence more) (before-good E (closes_fence fence) more gs), a)
+  leaf-edged text options lookup (HtmlBlockLeaf kind) first more after g gs f a = (g.begin, past-edge first more g gs, html-edged E text (first ∷ more) (g, gs), a)
+  leaf-edged text options lookup (LinkDefinitionLeaf definition) first more after g gs f a = (start-E E first g, past-edge first more g gs, tt, a)
+  leaf-edged text options lookup (MetadataBlockLeaf kind) first more after g gs f a = (start-E E first g, past-edge first more g gs, code-edged E text 0 (lines_before (ends_metadata kind) more) (before-good E (ends_metadata kind) more gs), a)
 
-  document-edged : (text : List ℕ) (options : Options) (lookup : Lookup) (direct : Bool) (before : Option ListBefore) (behind : Bool) (all : List Row) (b : Blocks) → Body options behind all b → GoodRows E all → AllAt E (document_of text lookup direct before b)
+  document-edged : (text : List ℕ) (options : Options) (lookup : Lookup) (direct : Bool) (before : Option ListBefore) (behind : Bool) (all : List Row) (b : Blocks) → Body options behind all b → GoodRows E all → AllAt E (document_of text options lookup direct before b)
   document-edged text options lookup direct before behind all NoBlocks body g = tt
   document-edged text options lookup direct before behind all (BlankLine line after) body g =
       let c : GoodRows E (line ∷ body.rest) = subst (GoodRows E) body.cut g in
@@ -57,7 +57,7 @@ module _ (E : ℕ → Type 0) where
   document-edged text options lookup direct before behind all (LeafBlock leaf first more after) body g =
       let c : GoodRows E (first ∷ (more ++ body.rest)) = subst (GoodRows E) body.cut g in
       let s = split-good E more body.rest c.1 in
-      leaf-edged text lookup leaf first more (document_of text lookup direct None after) c.0 s.0 (leaf-front E options first _ leaf (length more) body.opened c.0)
+      leaf-edged text options lookup leaf first more (document_of text options lookup direct None after) c.0 s.0 (leaf-front E options first _ leaf (length more) body.opened c.0)
       (document-edged text options lookup direct None (may_lazy leaf) body.rest after body.after s.1)
   document-edged text options lookup direct before behind all (ContainerBlock Quote first more inside after) body g =
       let c : GoodRows E (first ∷ (more ++ body.rest)) = subst (GoodRows E) body.cut g in
@@ -71,7 +71,7 @@ module _ (E : ℕ → Type 0) where
       let c : GoodRows E (first ∷ (more ++ body.rest)) = subst (GoodRows E) body.cut g in
       let s = split-good E more body.rest c.1 in
       let tight = tight_behind before mark inside after in
-      item-edged (goes_on mark after) number tight (node ListItem (begin_of first) (past_of first more)) (document_of text lookup tight None inside) (document_of text lookup direct (Some (record { mark = mark; tight = tight })) after)
+      item-edged (goes_on mark after) number tight (node ListItem (begin_of first) (past_of first more)) (document_of text options lookup tight None inside) (document_of text options lookup direct (Some (record { mark = mark; tight = tight })) after)
       c.0.begin (past-edge first more c.0 s.0)
       (document-edged text options lookup tight None false (insides (Item mark number width) first more) inside body.contents (enter-good E options (Item mark number width) first _ body.opened c.0, strips-good E (Item mark number width) (is_bare_start (Item mark number width) first) more s.0))
       (document-edged text options lookup direct (Some (record { mark = mark; tight = tight })) false body.rest after body.after s.1)

@@ -19,7 +19,7 @@ use Rattle.cmark_grammar.specs.Tokens.{Piece, texts_then, line_columns, words_en
 use Rattle.cmark_grammar.specs.Metadata.{ends_metadata}
 use Rattle.cmark_grammar.proofs.BlockLaws.{opens-whole, opens-words, texts-words, IsWide, wide_opens}
 use Rattle.cmark_grammar.proofs.RowPlaces.{Runs, Runs-le, first_place-Runs, drop-Runs, drop-mono, Lies, begin-start, start-Runs, start-stop, Lies-without, strip-Lies, kept-without, strip-past, Along, text-Along}
-use Rattle.cmark_grammar.proofs.TokenRanges.{UpTo, up-more, end_place-Runs, line-UpTo, drop_end-UpTo, without_closing-UpTo}
+use Rattle.cmark_grammar.proofs.TokenRanges.{UpTo, up-more, end_place-Runs, line-UpTo, drop_end-UpTo, heading-UpTo}
 
 -- a column in which no byte begins is of a tab
 abbrev AreTabs : List Column → Type 0
@@ -248,22 +248,21 @@ html-count text from (r ∷ rs) to f =
     let ih = html-count text r.past rs to f.2 in
     omega (arith, a, b, c, ih)
 
-heading-count : (text : List ℕ) (level from : ℕ) (r : Row) → Lies from r → start_of r + count_nodes (heading_tokens text level r) ≤ r.stop
-heading-count text level from r h =
+heading-count : (text : List ℕ) (attributes : Bool) (level from : ℕ) (r : Row) → Lies from r → start_of r + count_nodes (heading_tokens text attributes level r) ≤ r.stop
+heading-count text attributes level from r h =
     let d = drop-Runs level (start_of r) (without_indent r.columns) r.stop (start-Runs from r h) in
     let cs = drop level (without_indent r.columns) in
     let e = drop-Runs (indent cs) (first_place r.stop cs) cs r.stop d.0 in
     let f = first_place r.stop (without_indent cs) in
-    let u = drop_end-UpTo is_blank f (without_indent cs) r.stop e.0 in
-    let w = without_closing-UpTo f (without_trailing_blanks (without_indent cs)) u.mid u.runs in
+    let u = heading-UpTo attributes f (without_indent cs) r.stop e.0 in
     let a : start_of r ≤ first_place r.stop cs = d.1 in
     let b : first_place r.stop cs ≤ f = e.1 in
-    let p = words-count text f (heading_columns level r) r.stop Nil (up-more f (heading_columns level r) u.mid r.stop u.low w) in
+    let p = words-count text f (heading_columns attributes level r) r.stop Nil u in
     omega (arith, a, b, p)
 
 -- a leaf's nodes, where its first line is not blank
-leaf-count : (text : List ℕ) (lookup : Lookup) (from : ℕ) (leaf : Leaf) (first : Row) (more : List Row) (after : BlockDocument) → Sits from first → is_blank_line first ≡ false → Fed first.past more (past_of first more) → 4 * from + count_nodes (leaf_then text lookup leaf first more after) ≤ 4 * past_of first more + count_nodes after
-leaf-count text lookup from leaf first more after s e f = go leaf
+leaf-count : (text : List ℕ) (options : Options) (lookup : Lookup) (from : ℕ) (leaf : Leaf) (first : Row) (more : List Row) (after : BlockDocument) → Sits from first → is_blank_line first ≡ false → Fed first.past more (past_of first more) → 4 * from + count_nodes (leaf_then text options lookup leaf first more after) ≤ 4 * past_of first more + count_nodes after
+leaf-count text options lookup from leaf first more after s e f = go leaf
   where
     low : from ≤ start_of first
     low = from-start from first s.0
@@ -277,9 +276,9 @@ leaf-count text lookup from leaf first more after s e f = go leaf
     up : first.past ≤ past_of first more
     up = fed-le first.past more (past_of first more) f
 
-    go : (leaf : Leaf) → 4 * from + count_nodes (leaf_then text lookup leaf first more after) ≤ 4 * past_of first more + count_nodes after
+    go : (leaf : Leaf) → 4 * from + count_nodes (leaf_then text options lookup leaf first more after) ≤ 4 * past_of first more + count_nodes after
     go ThematicBreakLeaf = omega (arith, low, some, high, up)
-    go (AtxHeadingLeaf level) = let h = heading-count text level from first s.0 in omega (arith, low, some, high, up, h)
+    go (AtxHeadingLeaf level) = let h = heading-count text options.heading_attributes level from first s.0 in omega (arith, low, some, high, up, h)
     go IndentedCodeLeaf =
         let b = verbatim-count text (code_columns 4 first) first in
         let c = merge_all-count (verbatim_line text (code_columns 4 first) first) (code_pieces text 4 more) in
@@ -332,7 +331,7 @@ module _ (text : List ℕ) (options : Options) (lookup : Lookup) where
   insides-fed k from first more ahead to o s f =
       (enter-sits k from first ahead o s, subst (λ p. Fed p (strips k (is_bare_start k first) more) to) (sym (enter-past k first)) (strips-fed k (is_bare_start k first) first.past more to f))
 
-  pub document-count : (direct : Bool) (before : Option ListBefore) (behind : Bool) (from : ℕ) (all : List Row) (b : Blocks) (to : ℕ) → Body options behind all b → FedBehind from all to → 4 * from + count_nodes (document_of text lookup direct before b) ≤ 4 * to
+  pub document-count : (direct : Bool) (before : Option ListBefore) (behind : Bool) (from : ℕ) (all : List Row) (b : Blocks) (to : ℕ) → Body options behind all b → FedBehind from all to → 4 * from + count_nodes (document_of text options lookup direct before b) ≤ 4 * to
   document-count direct before behind from all NoBlocks to body f = let l : from ≤ to = subst (λ ls. FedBehind from ls to) body f in omega (arith, l)
   document-count direct before behind from all (BlankLine line after) to body f =
       let c : FedBehind from (line ∷ body.rest) to = subst (λ ls. FedBehind from ls to) body.cut f in
@@ -367,7 +366,7 @@ module _ (text : List ℕ) (options : Options) (lookup : Lookup) where
       let s = fed-split first more body.rest to c.1 in
       let w : first.lazy ≡ false = opens-whole options first _ (λ p. let q : Takes leaf (length more) ≡ Plain = sym body.opened ∙ p in cc) in
       let e : is_blank_line first ≡ false = opens-words options first _ w (λ p. let q : Takes leaf (length more) ≡ Blank = sym body.opened ∙ p in cc) in
-      let l = leaf-count text lookup from leaf first more (document_of text lookup direct None after) c.0 e s.0 in
+      let l = leaf-count text options lookup from leaf first more (document_of text options lookup direct None after) c.0 e s.0 in
       let ih = document-count direct None (may_lazy leaf) (past_of first more) body.rest after to body.after (fed-behind (past_of first more) body.rest to s.1) in
       omega (arith, l, ih)
   document-count direct before behind from all (ContainerBlock Quote first more inside after) to body f =
@@ -382,7 +381,7 @@ module _ (text : List ℕ) (options : Options) (lookup : Lookup) where
       let tight = tight_behind before mark inside after in
       let i = document-count tight None false (suc from) (insides (Item mark number width) first more) inside (past_of first more) body.contents (insides-fed (Item mark number width) from first more _ (past_of first more) body.opened c.0 s.0) in
       let ih = document-count direct (Some (record { mark = mark; tight = tight })) false (past_of first more) body.rest after to body.after (fed-behind (past_of first more) body.rest to s.1) in
-      let n = item-count (goes_on mark after) number tight (node ListItem (begin_of first) (past_of first more)) (document_of text lookup tight None inside) (document_of text lookup direct (Some (record { mark = mark; tight = tight })) after) in
+      let n = item-count (goes_on mark after) number tight (node ListItem (begin_of first) (past_of first more)) (document_of text options lookup tight None inside) (document_of text options lookup direct (Some (record { mark = mark; tight = tight })) after) in
       omega (arith, i, ih, n)
 
 -- each line of a text has a byte

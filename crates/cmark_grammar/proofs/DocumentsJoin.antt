@@ -2,6 +2,7 @@
 -- the other.
 use Rattle.std.proofs.Common.{◌≡◌, ℕ, Bool, true, false, ◌==◌, ◌&&◌, ◌||◌, not, List, refl, ap, ◌∙◌, subst, Option, Some, None, true≢false, arith}
 use Rattle.std.specs.Prelude.{if◌then◌else◌}
+use Rattle.cmark_grammar.specs.Options.{Options}
 use Rattle.cmark_grammar.specs.Answers.{Lookup}
 use Rattle.cmark_grammar.specs.Attributes.{no_attributes}
 use Rattle.cmark_grammar.specs.Rows.{Row, start_of, past_of, begin_of}
@@ -76,18 +77,18 @@ tight-join : (before : Option ListBefore) (mark : ℕ) (inside a b : Blocks) →
 tight-join None mark inside a b p = ap (λ l. not (is_parted_item inside || l)) (loose-join mark (ends_blank true false inside) a b p)
 tight-join (Some before) mark inside a b p = ap (λ l. if before.mark == mark then before.tight else not (is_parted_item inside || l)) (loose-join mark (ends_blank true false inside) a b p)
 
-leaf-join : (text : List ℕ) (lookup : Lookup) (leaf : Leaf) (first : Row) (more : List Row) (a b : BlockDocument) → leaf_then text lookup leaf first more (join a b) ≡ join (leaf_then text lookup leaf first more a) b
-leaf-join text lookup ThematicBreakLeaf first more a b = refl
-leaf-join text lookup (AtxHeadingLeaf level) first more a b = refl
-leaf-join text lookup IndentedCodeLeaf first more a b = refl
-leaf-join text lookup (FencedCodeLeaf fence) first more a b = refl
-leaf-join text lookup (HtmlBlockLeaf kind) first more a b = refl
-leaf-join text lookup (LinkDefinitionLeaf definition) first more a b = refl
-leaf-join text lookup (MetadataBlockLeaf kind) first more a b = refl
+leaf-join : (text : List ℕ) (options : Options) (lookup : Lookup) (leaf : Leaf) (first : Row) (more : List Row) (a b : BlockDocument) → leaf_then text options lookup leaf first more (join a b) ≡ join (leaf_then text options lookup leaf first more a) b
+leaf-join text options lookup ThematicBreakLeaf first more a b = refl
+leaf-join text options lookup (AtxHeadingLeaf level) first more a b = refl
+leaf-join text options lookup IndentedCodeLeaf first more a b = refl
+leaf-join text options lookup (FencedCodeLeaf fence) first more a b = refl
+leaf-join text options lookup (HtmlBlockLeaf kind) first more a b = refl
+leaf-join text options lookup (LinkDefinitionLeaf definition) first more a b = refl
+leaf-join text options lookup (MetadataBlockLeaf kind) first more a b = refl
 
-module _ (text : List ℕ) (lookup : Lookup) where
+module _ (text : List ℕ) (options : Options) (lookup : Lookup) where
   -- a list that does not go on is as good as none
-  list-off : (direct : Bool) (before : ListBefore) (b : Blocks) → goes_on before.mark b ≡ false → document_of text lookup direct (Some before) b ≡ document_of text lookup direct None b
+  list-off : (direct : Bool) (before : ListBefore) (b : Blocks) → goes_on before.mark b ≡ false → document_of text options lookup direct (Some before) b ≡ document_of text options lookup direct None b
   list-off direct before NoBlocks e = refl
   list-off direct before (BlankLine line after) e = list-off direct before after e
   list-off direct before (ParagraphBlock first more after) e = refl
@@ -95,29 +96,29 @@ module _ (text : List ℕ) (lookup : Lookup) where
   list-off direct before (LeafBlock leaf first more after) e = refl
   list-off direct before (ContainerBlock Quote first more inside after) e = refl
   list-off direct before (ContainerBlock (Item m number width) first more inside after) e =
-      ap (λ t. item_then (goes_on m after) number t (node ListItem (begin_of first) (past_of first more)) (document_of text lookup t None inside) (document_of text lookup direct (Some (record { mark = m; tight = t })) after))
+      ap (λ t. item_then (goes_on m after) number t (node ListItem (begin_of first) (past_of first more)) (document_of text options lookup t None inside) (document_of text options lookup direct (Some (record { mark = m; tight = t })) after))
       (ap (λ z. if z then before.tight else is_tight m inside after) (other m before.mark e))
     where
       other : (a b : ℕ) → (a == b) ≡ false → (b == a) ≡ false
       other a b f = grind (arith)
 
-  item-join : (joins : Bool) (number : Option ℕ) (tight : Bool) (item : BlockNode) (inside a b : BlockDocument) → (joins ≡ true → Rest text lookup tight a) → item_then joins number tight item inside (join a b) ≡ join (item_then joins number tight item inside a) b
+  item-join : (joins : Bool) (number : Option ℕ) (tight : Bool) (item : BlockNode) (inside a b : BlockDocument) → (joins ≡ true → Rest text options lookup tight a) → item_then joins number tight item inside (join a b) ≡ join (item_then joins number tight item inside a) b
   item-join false number tight item inside a b rest = refl
   item-join true number tight item inside Nil b rest = absurd (let r = rest refl in let q : Nil ≡ Node r.list r.items r.after = r.is in cc)
   item-join true number tight item inside (Node list items after) b rest = refl
 
-  pub document-join : (direct : Bool) (before : Option ListBefore) (a b : Blocks) → Parts (list_behind (mark_of before) a) b → document_of text lookup direct before (join_blocks a b) ≡ join (document_of text lookup direct before a) (document_of text lookup direct None b)
+  pub document-join : (direct : Bool) (before : Option ListBefore) (a b : Blocks) → Parts (list_behind (mark_of before) a) b → document_of text options lookup direct before (join_blocks a b) ≡ join (document_of text options lookup direct before a) (document_of text options lookup direct None b)
   document-join direct None NoBlocks b p = refl
   document-join direct (Some before) NoBlocks b p = list-off direct before b p
   document-join direct before (BlankLine line after) b p = document-join direct before after b p
   document-join direct before (ParagraphBlock first more after) b p = ap (Node (node (paragraph_kind direct) (start_of first) (past_of first more)) (paragraph_tokens text first more)) (document-join direct None after b p)
   document-join direct before (SetextHeading level first more underline after) b p = ap (Node (node (Heading level no_attributes) (start_of first) underline.past) (paragraph_tokens text first more)) (document-join direct None after b p)
-  document-join direct before (LeafBlock leaf first more after) b p = ap (leaf_then text lookup leaf first more) (document-join direct None after b p) ∙ leaf-join text lookup leaf first more (document_of text lookup direct None after) (document_of text lookup direct None b)
-  document-join direct before (ContainerBlock Quote first more inside after) b p = ap (Node (node (BlockQuote None) (start_of first) (past_of first more)) (document_of text lookup false None inside)) (document-join direct None after b p)
+  document-join direct before (LeafBlock leaf first more after) b p = ap (leaf_then text options lookup leaf first more) (document-join direct None after b p) ∙ leaf-join text options lookup leaf first more (document_of text options lookup direct None after) (document_of text options lookup direct None b)
+  document-join direct before (ContainerBlock Quote first more inside after) b p = ap (Node (node (BlockQuote None) (start_of first) (past_of first more)) (document_of text options lookup false None inside)) (document-join direct None after b p)
   document-join direct before (ContainerBlock (Item mark number width) first more inside after) b p =
       let t = tight_behind before mark inside after in
       let item = node ListItem (begin_of first) (past_of first more) in
-      ap (λ z. item_then (goes_on mark (join_blocks after b)) number z item (document_of text lookup z None inside) (document_of text lookup direct (Some (record { mark = mark; tight = z })) (join_blocks after b))) (tight-join before mark inside after b p)
-      ∙ ap (λ z. item_then z number t item (document_of text lookup t None inside) (document_of text lookup direct (Some (record { mark = mark; tight = t })) (join_blocks after b))) (goes-join mark after b p)
-      ∙ ap (item_then (goes_on mark after) number t item (document_of text lookup t None inside)) (document-join direct (Some (record { mark = mark; tight = t })) after b p)
-      ∙ item-join (goes_on mark after) number t item (document_of text lookup t None inside) (document_of text lookup direct (Some (record { mark = mark; tight = t })) after) (document_of text lookup direct None b) (rest_of text lookup direct t mark after)
+      ap (λ z. item_then (goes_on mark (join_blocks after b)) number z item (document_of text options lookup z None inside) (document_of text options lookup direct (Some (record { mark = mark; tight = z })) (join_blocks after b))) (tight-join before mark inside after b p)
+      ∙ ap (λ z. item_then z number t item (document_of text options lookup t None inside) (document_of text options lookup direct (Some (record { mark = mark; tight = t })) (join_blocks after b))) (goes-join mark after b p)
+      ∙ ap (item_then (goes_on mark after) number t item (document_of text options lookup t None inside)) (document-join direct (Some (record { mark = mark; tight = t })) after b p)
+      ∙ item-join (goes_on mark after) number t item (document_of text options lookup t None inside) (document_of text options lookup direct (Some (record { mark = mark; tight = t })) after) (document_of text options lookup direct None b) (rest_of text options lookup direct t mark after)

@@ -1,3 +1,4 @@
+pub mod AttributeSamples
 pub mod BalanceLaws
 pub mod BlockDocumentOne
 pub mod BlockEvents

@@ -27,29 +27,29 @@ start-past from r h = let a : start_of r ≤ r.stop = start-stop from r h in let
 from-start : (from : ℕ) (r : Row) → Lies from r → from ≤ start_of r
 from-start from r h = let a : from ≤ begin_of r = h.0 in let b : begin_of r ≤ start_of r = begin-start from r h in omega (arith, a, b)
 
-leaf-order : (text : List ℕ) (lookup : Lookup) (from : ℕ) (leaf : Leaf) (first : Row) (more : List Row) (after : BlockDocument) (to : ℕ) → Lies from first → Along first.past more (past_of first more) → InOrder (past_of first more) after to → InOrder from (leaf_then text lookup leaf first more after) to
-leaf-order text lookup from ThematicBreakLeaf first more after to h a o =
+leaf-order : (text : List ℕ) (options : Options) (lookup : Lookup) (from : ℕ) (leaf : Leaf) (first : Row) (more : List Row) (after : BlockDocument) (to : ℕ) → Lies from first → Along first.past more (past_of first more) → InOrder (past_of first more) after to → InOrder from (leaf_then text options lookup leaf first more after) to
+leaf-order text options lookup from ThematicBreakLeaf first more after to h a o =
     let p : start_of first ≤ first.past = start-past from first h in let q : first.past ≤ past_of first more = past-le first more a in
     (from-start from first h, omega (arith, p, q), o)
-leaf-order text lookup from (AtxHeadingLeaf level) first more after to h a o = (from-start from first h, heading-order text level from first (past_of first more) h (past-le first more a), o)
-leaf-order text lookup from IndentedCodeLeaf first more after to h a o =
+leaf-order text options lookup from (AtxHeadingLeaf level) first more after to h a o = (from-start from first h, heading-order text options.heading_attributes level from first (past_of first more) h (past-le first more a), o)
+leaf-order text options lookup from IndentedCodeLeaf first more after to h a o =
     let d = code_place 4 from first h in
     let b : from ≤ begin_of first = h.0 in
     let e : begin_of first ≤ first_place first.stop (code_columns 4 first) = d.1 in
     (omega (arith, b, e), indented-order text 4 from first more (past_of first more) h a, o)
-leaf-order text lookup from (FencedCodeLeaf fence) first more after to h a o = (
+leaf-order text options lookup from (FencedCodeLeaf fence) first more after to h a o = (
   from-start from first h,
   InOrder-lower (start_of first) first.past (code_tokens text fence.indented (fenced_lines fence more)) (past_of first more) (start-past from first h)
       (code-order text fence.indented first.past (fenced_lines fence more) (past_of first more) (before-Along (closes_fence fence) first.past more (past_of first more) a)),
   o,
 )
-leaf-order text lookup from (HtmlBlockLeaf kind) first more after to h a o =
+leaf-order text options lookup from (HtmlBlockLeaf kind) first more after to h a o =
     let l : Lies (begin_of first) first = (omega arith, h.1, h.2) in
     (h.0, html-order text (begin_of first) (first ∷ more) (past_of first more) (l, a), o)
-leaf-order text lookup from (LinkDefinitionLeaf definition) first more after to h a o =
+leaf-order text options lookup from (LinkDefinitionLeaf definition) first more after to h a o =
     let p : start_of first ≤ first.past = start-past from first h in let q : first.past ≤ past_of first more = past-le first more a in
     (from-start from first h, omega (arith, p, q), o)
-leaf-order text lookup from (MetadataBlockLeaf kind) first more after to h a o = (
+leaf-order text options lookup from (MetadataBlockLeaf kind) first more after to h a o = (
   from-start from first h,
   InOrder-lower (start_of first) first.past (code_tokens text 0 (lines_before (ends_metadata kind) more)) (past_of first more) (start-past from first h)
       (code-order text 0 first.past (lines_before (ends_metadata kind) more) (past_of first more) (before-Along (ends_metadata kind) first.past more (past_of first more) a)),
@@ -84,13 +84,13 @@ insides-Along k from first more to l a =
     (l, subst (λ p. Along p (strips k (is_bare_start k first) more) to) (sym (enter-past k first)) (strips-Along k (is_bare_start k first) first.past more to a))
 
 module _ (text : List ℕ) (options : Options) (lookup : Lookup) where
-  pub document-order : (direct : Bool) (before : Option ListBefore) (behind : Bool) (from : ℕ) (all : List Row) (b : Blocks) (to : ℕ) → Body options behind all b → Along from all to → InOrder from (document_of text lookup direct before b) to
+  pub document-order : (direct : Bool) (before : Option ListBefore) (behind : Bool) (from : ℕ) (all : List Row) (b : Blocks) (to : ℕ) → Body options behind all b → Along from all to → InOrder from (document_of text options lookup direct before b) to
   document-order direct before behind from all NoBlocks to body a = subst (λ ls. Along from ls to) body a
   document-order direct before behind from all (BlankLine line after) to body a =
       let c : Along from (line ∷ body.rest) to = subst (λ ls. Along from ls to) body.cut a in
       let p : from ≤ start_of line = from-start from line c.0 in
       let q : start_of line ≤ line.past = start-past from line c.0 in
-      InOrder-lower from line.past (document_of text lookup direct before after) to (omega (arith, p, q)) (document-order direct before false line.past body.rest after to body.after c.1)
+      InOrder-lower from line.past (document_of text options lookup direct before after) to (omega (arith, p, q)) (document-order direct before false line.past body.rest after to body.after c.1)
   document-order direct before behind from all (ParagraphBlock first more after) to body a =
       let c : Along from (first ∷ (more ++ body.rest)) to = subst (λ ls. Along from ls to) body.cut a in
       let s = Along-split first more body.rest to c.1 in
@@ -107,7 +107,7 @@ module _ (text : List ℕ) (options : Options) (lookup : Lookup) where
   document-order direct before behind from all (LeafBlock leaf first more after) to body a =
       let c : Along from (first ∷ (more ++ body.rest)) to = subst (λ ls. Along from ls to) body.cut a in
       let s = Along-split first more body.rest to c.1 in
-      leaf-order text lookup from leaf first more (document_of text lookup direct None after) to c.0 s.0
+      leaf-order text options lookup from leaf first more (document_of text options lookup direct None after) to c.0 s.0
       (document-order direct None (may_lazy leaf) (past_of first more) body.rest after to body.after s.1)
   document-order direct before behind from all (ContainerBlock Quote first more inside after) to body a =
       let c : Along from (first ∷ (more ++ body.rest)) to = subst (λ ls. Along from ls to) body.cut a in
@@ -120,7 +120,7 @@ module _ (text : List ℕ) (options : Options) (lookup : Lookup) where
       let c : Along from (first ∷ (more ++ body.rest)) to = subst (λ ls. Along from ls to) body.cut a in
       let s = Along-split first more body.rest to c.1 in
       let tight = tight_behind before mark inside after in
-      item-order from (goes_on mark after) number tight (node ListItem (begin_of first) (past_of first more)) (document_of text lookup tight None inside) (document_of text lookup direct (Some (record { mark = mark; tight = tight })) after) to
+      item-order from (goes_on mark after) number tight (node ListItem (begin_of first) (past_of first more)) (document_of text options lookup tight None inside) (document_of text options lookup direct (Some (record { mark = mark; tight = tight })) after) to
       c.0.0
       (document-order tight None false (begin_of first) (insides (Item mark number width) first more) inside (past_of first more) body.contents (insides-Along (Item mark number width) (begin_of first) first more (past_of first more) (enter-Lies (Item mark number width) from first c.0) s.0))
       (document-order direct (Some (record { mark = mark; tight = tight })) false (past_of first more) body.rest after to body.after s.1)

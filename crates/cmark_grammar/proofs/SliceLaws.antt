@@ -121,14 +121,14 @@ module _ (text : List ℕ) where
   html-sliced [] = tt
   html-sliced (r ∷ rs) = html_then-sliced (verbatim_line text r.columns r) (html_tokens text rs) (verbatim-sliced r.columns r) (html-sliced rs)
 
-  leaf-sliced : (lookup : Lookup) (leaf : Leaf) (first : Row) (more : List Row) (after : BlockDocument) → HasSlices text after → HasSlices text (leaf_then text lookup leaf first more after)
-  leaf-sliced lookup ThematicBreakLeaf first more after a = (tt, tt, a)
-  leaf-sliced lookup (AtxHeadingLeaf level) first more after a = (tt, stretch-sliced (first_place first.stop (behind_hashes level first)) (end_place (first_place first.stop (behind_hashes level first)) (heading_columns level first)) Nil tt, a)
-  leaf-sliced lookup IndentedCodeLeaf first more after a = (tt, texts-sliced (code_pieces text 4 (first ∷ more)) Nil (code-sliced 4 (first ∷ more)) tt, a)
-  leaf-sliced lookup (FencedCodeLeaf fence) first more after a = (tt, texts-sliced (code_pieces text fence.indented (fenced_lines fence more)) Nil (code-sliced fence.indented (fenced_lines fence more)) tt, a)
-  leaf-sliced lookup (HtmlBlockLeaf kind) first more after a = (tt, html-sliced (first ∷ more), a)
-  leaf-sliced lookup (LinkDefinitionLeaf definition) first more after a = (tt, tt, a)
-  leaf-sliced lookup (MetadataBlockLeaf kind) first more after a = (tt, texts-sliced (code_pieces text 0 (lines_before (ends_metadata kind) more)) Nil (code-sliced 0 (lines_before (ends_metadata kind) more)) tt, a)
+  leaf-sliced : (options : Options) (lookup : Lookup) (leaf : Leaf) (first : Row) (more : List Row) (after : BlockDocument) → HasSlices text after → HasSlices text (leaf_then text options lookup leaf first more after)
+  leaf-sliced options lookup ThematicBreakLeaf first more after a = (tt, tt, a)
+  leaf-sliced options lookup (AtxHeadingLeaf level) first more after a = (tt, stretch-sliced (first_place first.stop (behind_hashes level first)) (end_place (first_place first.stop (behind_hashes level first)) (heading_columns options.heading_attributes level first)) Nil tt, a)
+  leaf-sliced options lookup IndentedCodeLeaf first more after a = (tt, texts-sliced (code_pieces text 4 (first ∷ more)) Nil (code-sliced 4 (first ∷ more)) tt, a)
+  leaf-sliced options lookup (FencedCodeLeaf fence) first more after a = (tt, texts-sliced (code_pieces text fence.indented (fenced_lines fence more)) Nil (code-sliced fence.indented (fenced_lines fence more)) tt, a)
+  leaf-sliced options lookup (HtmlBlockLeaf kind) first more after a = (tt, html-sliced (first ∷ more), a)
+  leaf-sliced options lookup (LinkDefinitionLeaf definition) first more after a = (tt, tt, a)
+  leaf-sliced options lookup (MetadataBlockLeaf kind) first more after a = (tt, texts-sliced (code_pieces text 0 (lines_before (ends_metadata kind) more)) Nil (code-sliced 0 (lines_before (ends_metadata kind) more)) tt, a)
 
   item-sliced : (joins : Bool) (number : Option ℕ) (tight : Bool) (item : BlockNode) (inside after : BlockDocument) → IsSlice text item.kind item.start item.end → HasSlices text inside → HasSlices text after → HasSlices text (item_then joins number tight item inside after)
   item-sliced false number tight item inside after k i a = (tt, (k, i, tt), a)
@@ -139,19 +139,19 @@ module _ (text : List ℕ) where
   paragraph-slice true start end = tt
   paragraph-slice false start end = tt
 
-  document-sliced : (lookup : Lookup) (direct : Bool) (before : Option ListBefore) (b : Blocks) → HasSlices text (document_of text lookup direct before b)
-  document-sliced lookup direct before NoBlocks = tt
-  document-sliced lookup direct before (BlankLine line after) = document-sliced lookup direct before after
-  document-sliced lookup direct before (ParagraphBlock first more after) = (paragraph-slice direct _ _, paragraph-sliced first more, document-sliced lookup direct None after)
-  document-sliced lookup direct before (SetextHeading level first more underline after) = (tt, paragraph-sliced first more, document-sliced lookup direct None after)
-  document-sliced lookup direct before (LeafBlock leaf first more after) =
-      leaf-sliced lookup leaf first more (document_of text lookup direct None after) (document-sliced lookup direct None after)
-  document-sliced lookup direct before (ContainerBlock Quote first more inside after) =
-      (tt, document-sliced lookup false None inside, document-sliced lookup direct None after)
-  document-sliced lookup direct before (ContainerBlock (Item mark number width) first more inside after) =
+  document-sliced : (options : Options) (lookup : Lookup) (direct : Bool) (before : Option ListBefore) (b : Blocks) → HasSlices text (document_of text options lookup direct before b)
+  document-sliced options lookup direct before NoBlocks = tt
+  document-sliced options lookup direct before (BlankLine line after) = document-sliced options lookup direct before after
+  document-sliced options lookup direct before (ParagraphBlock first more after) = (paragraph-slice direct _ _, paragraph-sliced first more, document-sliced options lookup direct None after)
+  document-sliced options lookup direct before (SetextHeading level first more underline after) = (tt, paragraph-sliced first more, document-sliced options lookup direct None after)
+  document-sliced options lookup direct before (LeafBlock leaf first more after) =
+      leaf-sliced options lookup leaf first more (document_of text options lookup direct None after) (document-sliced options lookup direct None after)
+  document-sliced options lookup direct before (ContainerBlock Quote first more inside after) =
+      (tt, document-sliced options lookup false None inside, document-sliced options lookup direct None after)
+  document-sliced options lookup direct before (ContainerBlock (Item mark number width) first more inside after) =
       let tight = tight_behind before mark inside after in
-      item-sliced (goes_on mark after) number tight (node ListItem _ _) (document_of text lookup tight None inside) (document_of text lookup direct (Some (record { mark = mark; tight = tight })) after) tt
-      (document-sliced lookup tight None inside) (document-sliced lookup direct (Some (record { mark = mark; tight = tight })) after)
+      item-sliced (goes_on mark after) number tight (node ListItem _ _) (document_of text options lookup tight None inside) (document_of text options lookup direct (Some (record { mark = mark; tight = tight })) after) tt
+      (document-sliced options lookup tight None inside) (document-sliced options lookup direct (Some (record { mark = mark; tight = tight })) after)
 
 pub derived-slices : (text : List ℕ) (options : Options) (lookup : Lookup) (d : BlockDocument) → Derives text options lookup d → HasSlices text d
-derived-slices text options lookup d h = subst (HasSlices text) (sym h.2) (document-sliced text lookup false None h.0)
+derived-slices text options lookup d h = subst (HasSlices text) (sym h.2) (document-sliced text options lookup false None h.0)

@@ -52,16 +52,16 @@ html_tight : (text : List ℕ) (tight : Bool) (rs : List Row) → HasTightParagr
 html_tight text tight [] = tt
 html_tight text tight (r ∷ rs) = html_then_tight tight (verbatim_line text r.columns r) (html_tokens text rs) (html_tight text tight rs)
 
-leaf_tight : (text : List ℕ) (lookup : Lookup) (tight : Bool) (leaf : Leaf) (first : Row) (more : List Row) (after : BlockDocument) → HasTightParagraphs tight after → HasTightParagraphs tight (leaf_then text lookup leaf first more after)
-leaf_tight text lookup tight ThematicBreakLeaf first more after h = (tt, tt, h)
-leaf_tight text lookup tight (AtxHeadingLeaf level) first more after h = (tt, stretch_tight false text (first_place first.stop (behind_hashes level first)) (end_place (first_place first.stop (behind_hashes level first)) (heading_columns level first)) Nil tt, h)
-leaf_tight text lookup tight IndentedCodeLeaf first more after h = (tt, texts_tight false (code_pieces text 4 (first ∷ more)) Nil tt, h)
-leaf_tight text lookup tight (FencedCodeLeaf fence) first more after h = (tt, texts_tight false (code_pieces text fence.indented (fenced_lines fence more)) Nil tt, h)
-leaf_tight text lookup tight (HtmlBlockLeaf kind) first more after h = (tt, html_tight text false (first ∷ more), h)
-leaf_tight text lookup tight (LinkDefinitionLeaf definition) first more after h = (tt, tt, h)
-leaf_tight text lookup tight (MetadataBlockLeaf kind) first more after h = (tt, texts_tight false (code_pieces text 0 (lines_before (ends_metadata kind) more)) Nil tt, h)
+leaf_tight : (text : List ℕ) (options : Options) (lookup : Lookup) (tight : Bool) (leaf : Leaf) (first : Row) (more : List Row) (after : BlockDocument) → HasTightParagraphs tight after → HasTightParagraphs tight (leaf_then text options lookup leaf first more after)
+leaf_tight text options lookup tight ThematicBreakLeaf first more after h = (tt, tt, h)
+leaf_tight text options lookup tight (AtxHeadingLeaf level) first more after h = (tt, stretch_tight false text (first_place first.stop (behind_hashes level first)) (end_place (first_place first.stop (behind_hashes level first)) (heading_columns options.heading_attributes level first)) Nil tt, h)
+leaf_tight text options lookup tight IndentedCodeLeaf first more after h = (tt, texts_tight false (code_pieces text 4 (first ∷ more)) Nil tt, h)
+leaf_tight text options lookup tight (FencedCodeLeaf fence) first more after h = (tt, texts_tight false (code_pieces text fence.indented (fenced_lines fence more)) Nil tt, h)
+leaf_tight text options lookup tight (HtmlBlockLeaf kind) first more after h = (tt, html_tight text false (first ∷ more), h)
+leaf_tight text options lookup tight (LinkDefinitionLeaf definition) first more after h = (tt, tt, h)
+leaf_tight text options lookup tight (MetadataBlockLeaf kind) first more after h = (tt, texts_tight false (code_pieces text 0 (lines_before (ends_metadata kind) more)) Nil tt, h)
 
-module _ (text : List ℕ) (lookup : Lookup) where
+module _ (text : List ℕ) (options : Options) (lookup : Lookup) where
   -- where the list goes on, the next node is its rest
   pub record Rest (tight : Bool) (d : BlockDocument) : Type 0 where
     pub list : BlockNode
@@ -82,7 +82,7 @@ module _ (text : List ℕ) (lookup : Lookup) where
   rest_of_item true number tight item inside Nil = record { list = _; items = _; after = _; number = number; is = refl; kind = refl }
   rest_of_item true number tight item inside (Node list items after) = record { list = _; items = _; after = _; number = number; is = refl; kind = refl }
 
-  pub rest_of : (direct tight : Bool) (mark : ℕ) (b : Blocks) → goes_on mark b ≡ true → Rest tight (document_of text lookup direct (Some (record { mark = mark; tight = tight })) b)
+  pub rest_of : (direct tight : Bool) (mark : ℕ) (b : Blocks) → goes_on mark b ≡ true → Rest tight (document_of text options lookup direct (Some (record { mark = mark; tight = tight })) b)
   rest_of direct tight mark NoBlocks e = absurd (true≢false (sym e))
   rest_of direct tight mark (BlankLine line after) e = rest_of direct tight mark after e
   rest_of direct tight mark (ParagraphBlock first more after) e = absurd (true≢false (sym e))
@@ -91,7 +91,7 @@ module _ (text : List ℕ) (lookup : Lookup) where
   rest_of direct tight mark (ContainerBlock Quote first more inside after) e = absurd (true≢false (sym e))
   rest_of direct tight mark (ContainerBlock (Item m number width) first more inside after) e =
       let t : tight_behind (Some (record { mark = mark; tight = tight })) m inside after ≡ tight = if_true (mark == m) tight (is_tight m inside after) (eqb_sym m mark e) in
-      subst (λ z. Rest z (document_of text lookup direct (Some (record { mark = mark; tight = tight })) (ContainerBlock (Item m number width) first more inside after))) t
+      subst (λ z. Rest z (document_of text options lookup direct (Some (record { mark = mark; tight = tight })) (ContainerBlock (Item m number width) first more inside after))) t
       (rest_of_item (goes_on m after) number (tight_behind (Some (record { mark = mark; tight = tight })) m inside after) _ _ _)
 
   item_tight : (direct joins : Bool) (number : Option ℕ) (tight : Bool) (item : BlockNode) (inside after : BlockDocument) → item.kind ≡ ListItem → (joins ≡ true → Rest tight after) → HasTightParagraphs tight inside → HasTightParagraphs direct after → HasTightParagraphs direct (item_then joins number tight item inside after)
@@ -102,21 +102,21 @@ module _ (text : List ℕ) (lookup : Lookup) where
       let same : list ≡ r.list = let q = r.is in cc in
       (tt, (subst (IsElement tight) (sym k) tt, subst (λ z. HasTightParagraphs (tight_within tight z) inside) (sym k) i, subst (λ z. HasTightParagraphs (tight_within direct z) items) (ap (λ l. l.kind) same ∙ r.kind) a.1), a.2)
 
-  pub document-tight : (direct : Bool) (before : Option ListBefore) (b : Blocks) → HasTightParagraphs direct (document_of text lookup direct before b)
+  pub document-tight : (direct : Bool) (before : Option ListBefore) (b : Blocks) → HasTightParagraphs direct (document_of text options lookup direct before b)
   document-tight direct before NoBlocks = tt
   document-tight direct before (BlankLine line after) = document-tight direct before after
   document-tight direct before (ParagraphBlock first more after) = kind direct (document-tight direct None after)
     where
-      kind : (z : Bool) → HasTightParagraphs z (document_of text lookup z None after) → HasTightParagraphs z (Node (node (paragraph_kind z) (start_of first) (past_of first more)) (paragraph_tokens text first more) (document_of text lookup z None after))
+      kind : (z : Bool) → HasTightParagraphs z (document_of text options lookup z None after) → HasTightParagraphs z (Node (node (paragraph_kind z) (start_of first) (past_of first more)) (paragraph_tokens text first more) (document_of text options lookup z None after))
       kind true h = (refl, paragraph_tight false text first more, h)
       kind false h = (refl, paragraph_tight false text first more, h)
   document-tight direct before (SetextHeading level first more underline after) = (tt, paragraph_tight false text first more, document-tight direct None after)
-  document-tight direct before (LeafBlock leaf first more after) = leaf_tight text lookup direct leaf first more (document_of text lookup direct None after) (document-tight direct None after)
+  document-tight direct before (LeafBlock leaf first more after) = leaf_tight text options lookup direct leaf first more (document_of text options lookup direct None after) (document-tight direct None after)
   document-tight direct before (ContainerBlock Quote first more inside after) = (tt, document-tight false None inside, document-tight direct None after)
   document-tight direct before (ContainerBlock (Item mark number width) first more inside after) =
       let tight = tight_behind before mark inside after in
-      item_tight direct (goes_on mark after) number tight (node ListItem (begin_of first) (past_of first more)) (document_of text lookup tight None inside) (document_of text lookup direct (Some (record { mark = mark; tight = tight })) after) refl
+      item_tight direct (goes_on mark after) number tight (node ListItem (begin_of first) (past_of first more)) (document_of text options lookup tight None inside) (document_of text options lookup direct (Some (record { mark = mark; tight = tight })) after) refl
       (rest_of direct tight mark after) (document-tight tight None inside) (document-tight direct (Some (record { mark = mark; tight = tight })) after)
 
 pub derived-tight : (text : List ℕ) (options : Options) (lookup : Lookup) (d : BlockDocument) → Derives text options lookup d → HasTightParagraphs false d
-derived-tight text options lookup d h = subst (HasTightParagraphs false) (sym h.2) (document-tight text lookup false None h.0)
+derived-tight text options lookup d h = subst (HasTightParagraphs false) (sym h.2) (document-tight text options lookup false None h.0)

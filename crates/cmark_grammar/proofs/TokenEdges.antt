@@ -1,11 +1,12 @@
 -- Where tokens begin and end no character is cut.
-use Rattle.std.proofs.Common.{◌≡◌, ℕ, zero, suc, ◌-◌, ◌≤◌, ◌<◌, Bool, true, false, ◌==◌, List, [], ◌∷◌, ◌++◌, drop, refl, sym, subst, arith}
+use Rattle.std.proofs.Common.{◌≡◌, ℕ, zero, suc, ◌-◌, ◌≤◌, ◌<◌, Bool, true, false, ◌==◌, ◌&&◌, List, [], ◌∷◌, ◌++◌, drop, refl, sym, subst, arith}
 use Rattle.std.specs.Prelude.{if◌then◌else◌, nat_le, nat_lt}
+use Rattle.cmark_grammar.specs.Attributes.{is_braced, before_braces, closes}
 use Rattle.cmark_grammar.specs.Columns.{Column, indent, without_indent, drop_end, put_before, without_trailing_blanks, is_blank}
 use Rattle.cmark_grammar.specs.Rows.{Row, place, first_place, begin_of, start_of, indent_of}
 use Rattle.cmark_grammar.specs.BlockDocument.{BlockDocument, Nil}
 use Rattle.cmark_grammar.specs.Ranges.{AllAt}
-use Rattle.cmark_grammar.specs.Tokens.{slice, Piece, texts_then, line_columns, end_place, words_end, stretch_then, stretches, paragraph_tokens, is_hash, without_closing, heading_columns, heading_tokens, piece_if, plain_line, left_columns, spaces_if, verbatim_line, touches, merge, merge_all, code_columns, code_pieces, code_tokens, stop_at, html_then, html_tokens, lines_before}
+use Rattle.cmark_grammar.specs.Tokens.{slice, Piece, texts_then, line_columns, end_place, words_end, stretch_then, stretches, paragraph_tokens, is_hash, without_closing, without_attributes, heading_columns, heading_tokens, piece_if, plain_line, left_columns, spaces_if, verbatim_line, touches, merge, merge_all, code_columns, code_pieces, code_tokens, stop_at, lines_before, html_then, html_tokens}
 use Rattle.cmark_grammar.proofs.RowPlaces.{Runs, drop-Runs}
 use Rattle.cmark_grammar.proofs.RowEdges.{Front, front-less, IsAsciiColumn, is-ascii, blank-ascii, indent-front, Good, AreGood, drop-good, drop-E, GoodRow, start-E, GoodRows}
 
@@ -88,8 +89,25 @@ module _ (E : ℕ → Type 0) where
       go true = let u = drop_end-edge is_hash (λ c e. is-ascii c.byte 35 (omega arith) e) from cs to h g et in drop_end-edge is_blank (λ c e. blank-ascii c.byte e) from (drop_end is_hash cs) u.mid u.runs u.good u.edge
       go false = record { mid = to; runs = h; good = g; edge = et }
 
-  pub heading-edged : (text : List ℕ) (level : ℕ) (r : Row) → GoodRow E r → Front IsAsciiColumn level (without_indent r.columns) → AllAt E (heading_tokens text level r)
-  heading-edged text level r g f =
+  and-first : (a b : Bool) → (a && b) ≡ true → a ≡ true
+  and-first true b e = refl
+  and-first false b e = e
+
+  before_braces-edge : (from : ℕ) (cs : List Column) (to : ℕ) → Runs from cs to → AreGood E cs → E to → EdgeTo from (before_braces (λ c. c.byte) cs)
+  before_braces-edge from [] to h g et = record { mid = to; runs = h; good = tt; edge = et }
+  before_braces-edge from (c ∷ cs) to h g et = go (is_braced (λ x. x.byte) (c ∷ cs)) refl (before_braces-edge (suc c.at) cs to h.1 g.1 et)
+    where
+      go : (z : Bool) → is_braced (λ x. x.byte) (c ∷ cs) ≡ z → EdgeTo (suc c.at) (before_braces (λ x. x.byte) cs) → EdgeTo from (if z then [] else c ∷ before_braces (λ x. x.byte) cs)
+      go true e u = record { mid = from; runs = refl; good = tt; edge = subst E h.0 (place-edge c g.0 (is-ascii c.byte 123 (omega arith) (and-first (c.byte == 123) (closes (λ x. x.byte) cs) e))) }
+      go false e u = record { mid = u.mid; runs = (h.0, u.runs); good = (g.0, u.good); edge = u.edge }
+
+  attributes-edge : (attributes : Bool) (from : ℕ) (cs : List Column) (to : ℕ) → Runs from cs to → AreGood E cs → E to → EdgeTo from (without_attributes attributes cs)
+  attributes-edge false from cs to h g et = record { mid = to; runs = h; good = g; edge = et }
+  attributes-edge true from cs to h g et =
+      let u = before_braces-edge from cs to h g et in drop_end-edge is_blank (λ c e. blank-ascii c.byte e) from (before_braces (λ c. c.byte) cs) u.mid u.runs u.good u.edge
+
+  pub heading-edged : (text : List ℕ) (attributes : Bool) (level : ℕ) (r : Row) → GoodRow E r → Front IsAsciiColumn level (without_indent r.columns) → AllAt E (heading_tokens text attributes level r)
+  heading-edged text attributes level r g f =
       let cs = drop level (without_indent r.columns) in
       let gs : AreGood E (without_indent r.columns) = drop-good E (indent r.columns) r.columns g.good in
       let gc : AreGood E cs = drop-good E level (without_indent r.columns) gs in
@@ -98,8 +116,9 @@ module _ (E : ℕ → Type 0) where
       let e = drop-Runs (indent cs) (first_place r.stop cs) cs r.stop d.0 in
       let ee : E (first_place r.stop (without_indent cs)) = drop-E E (indent cs) (first_place r.stop cs) cs r.stop d.0 gc (indent-front cs) ed g.stop in
       let u = drop_end-edge is_blank (λ c q. blank-ascii c.byte q) (first_place r.stop (without_indent cs)) (without_indent cs) r.stop e.0 (drop-good E (indent cs) cs gc) g.stop in
-      let w = closing-edge (first_place r.stop (without_indent cs)) (without_trailing_blanks (without_indent cs)) u.mid u.runs u.good u.edge in
-      stretch-edged text (first_place r.stop (without_indent cs)) (end_place (first_place r.stop (without_indent cs)) (heading_columns level r)) Nil ee (end-edge (first_place r.stop (without_indent cs)) (heading_columns level r) w) tt
+      let a = attributes-edge attributes (first_place r.stop (without_indent cs)) (without_trailing_blanks (without_indent cs)) u.mid u.runs u.good u.edge in
+      let w = closing-edge (first_place r.stop (without_indent cs)) (without_attributes attributes (without_trailing_blanks (without_indent cs))) a.mid a.runs a.good a.edge in
+      stretch-edged text (first_place r.stop (without_indent cs)) (end_place (first_place r.stop (without_indent cs)) (heading_columns attributes level r)) Nil ee (end-edge (first_place r.stop (without_indent cs)) (heading_columns attributes level r) w) tt
 
   -- lines as they are
   two_of : (n : ℕ) → (n == 2) ≡ true → n ≡ 2

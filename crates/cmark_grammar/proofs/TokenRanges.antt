@@ -1,11 +1,12 @@
 -- The tokens of a leaf stand in order, where its lines stand.
 use Rattle.std.proofs.Common.{◌≡◌, ℕ, zero, suc, ◌-◌, ◌≤◌, Bool, true, false, ◌==◌, List, [], ◌∷◌, ◌++◌, drop, refl, subst, arith}
 use Rattle.std.specs.Prelude.{if◌then◌else◌, nat_lt}
+use Rattle.cmark_grammar.specs.Attributes.{is_braced, before_braces}
 use Rattle.cmark_grammar.specs.Columns.{Column, indent, without_indent, drop_end, put_before, without_trailing_blanks, is_blank}
 use Rattle.cmark_grammar.specs.Rows.{Row, first_place, begin_of, start_of, past_of}
 use Rattle.cmark_grammar.specs.BlockDocument.{BlockDocument, Nil, Node}
 use Rattle.cmark_grammar.specs.Ranges.{InOrder}
-use Rattle.cmark_grammar.specs.Tokens.{slice, Piece, texts_then, line_columns, end_place, words_end, stretch_then, stretches, paragraph_tokens, is_hash, without_closing, heading_columns, heading_tokens, piece_if, plain_line, left_columns, spaces_if, verbatim_line, touches, merge, merge_all, code_columns, code_pieces, code_tokens, stop_at, html_then, html_tokens, lines_before}
+use Rattle.cmark_grammar.specs.Tokens.{slice, Piece, texts_then, line_columns, end_place, words_end, stretch_then, stretches, paragraph_tokens, is_hash, without_closing, without_attributes, heading_columns, heading_tokens, piece_if, plain_line, left_columns, spaces_if, verbatim_line, touches, merge, merge_all, code_columns, code_pieces, code_tokens, stop_at, lines_before, html_then, html_tokens}
 use Rattle.cmark_grammar.proofs.RowPlaces.{Runs, Runs-le, first_place-Runs, drop-Runs, Lies, begin-start, start-Runs, Along, Along-le}
 
 pub InOrder-le : (from : ℕ) (d : BlockDocument) (to : ℕ) → InOrder from d to → from ≤ to
@@ -132,19 +133,42 @@ without_closing-UpTo from cs to h = go _
     go true = let u = drop_end-UpTo is_hash from cs to h in up-more from (without_trailing_blanks (drop_end is_hash cs)) u.mid to u.low (drop_end-UpTo is_blank from (drop_end is_hash cs) u.mid u.runs)
     go false = record { mid = to; runs = h; low = omega arith }
 
-pub heading-order : (text : List ℕ) (level from : ℕ) (r : Row) (to : ℕ) → Lies from r → r.past ≤ to → InOrder (start_of r) (heading_tokens text level r) to
-heading-order text level from r to h le =
+before_braces-UpTo : (from : ℕ) (cs : List Column) (to : ℕ) → Runs from cs to → UpTo from (before_braces (λ c. c.byte) cs) to
+before_braces-UpTo from [] to h = record { mid = to; runs = h; low = omega arith }
+before_braces-UpTo from (c ∷ cs) to h = go (is_braced (λ x. x.byte) (c ∷ cs)) (before_braces-UpTo (suc c.at) cs to h.1)
+  where
+    go : (z : Bool) → UpTo (suc c.at) (before_braces (λ x. x.byte) cs) to → UpTo from (if z then [] else c ∷ before_braces (λ x. x.byte) cs) to
+    go true u = record { mid = from; runs = refl; low = Runs-le from (c ∷ cs) to h }
+    go false u = record { mid = u.mid; runs = (h.0, u.runs); low = u.low }
+
+pub without_attributes-UpTo : (attributes : Bool) (from : ℕ) (cs : List Column) (to : ℕ) → Runs from cs to → UpTo from (without_attributes attributes cs) to
+without_attributes-UpTo false from cs to h = record { mid = to; runs = h; low = omega arith }
+without_attributes-UpTo true from cs to h =
+    let u = before_braces-UpTo from cs to h in
+    let before = before_braces (λ c. c.byte) cs in
+    up-more from (without_trailing_blanks before) u.mid to u.low (drop_end-UpTo is_blank from before u.mid u.runs)
+
+-- the columns of a heading's text, of those behind its opening sequence
+pub heading-UpTo : (attributes : Bool) (from : ℕ) (cs : List Column) (to : ℕ) → Runs from cs to → UpTo from (without_closing (without_attributes attributes (without_trailing_blanks cs))) to
+heading-UpTo attributes from cs to h =
+    let u = drop_end-UpTo is_blank from cs to h in
+    let a = without_attributes-UpTo attributes from (without_trailing_blanks cs) u.mid u.runs in
+    let left = without_attributes attributes (without_trailing_blanks cs) in
+    let w = without_closing-UpTo from left a.mid a.runs in
+    up-more from (without_closing left) u.mid to u.low (up-more from (without_closing left) a.mid u.mid a.low w)
+
+pub heading-order : (text : List ℕ) (attributes : Bool) (level from : ℕ) (r : Row) (to : ℕ) → Lies from r → r.past ≤ to → InOrder (start_of r) (heading_tokens text attributes level r) to
+heading-order text attributes level from r to h le =
     let d = drop-Runs level (start_of r) (without_indent r.columns) r.stop (start-Runs from r h) in
     let cs = drop level (without_indent r.columns) in
     let e = drop-Runs (indent cs) (first_place r.stop cs) cs r.stop d.0 in
     let f = first_place r.stop (without_indent cs) in
-    let u = drop_end-UpTo is_blank f (without_indent cs) r.stop e.0 in
-    let w = without_closing-UpTo f (without_trailing_blanks (without_indent cs)) u.mid u.runs in
+    let u = heading-UpTo attributes f (without_indent cs) r.stop e.0 in
     let a : start_of r ≤ first_place r.stop cs = d.1 in
     let b : first_place r.stop cs ≤ f = e.1 in
     let p : r.stop ≤ r.past = h.2 in
-    InOrder-lower (start_of r) f (heading_tokens text level r) to (omega (arith, a, b))
-    (words-order text f (heading_columns level r) r.stop Nil to (up-more f (heading_columns level r) u.mid r.stop u.low w) (omega (arith, p, le)))
+    InOrder-lower (start_of r) f (heading_tokens text attributes level r) to (omega (arith, a, b))
+    (words-order text f (heading_columns attributes level r) r.stop Nil to u (omega (arith, p, le)))
 
 -- lines as they are
 two_of : (n : ℕ) → (n == 2) ≡ true → n ≡ 2

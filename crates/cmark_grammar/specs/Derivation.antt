@@ -13,7 +13,7 @@ use Rattle.cmark_grammar.specs.Openings.{Leaf, ThematicBreak as ThematicBreakLea
 use Rattle.cmark_grammar.specs.Blocks.{Blocks, Nil as NoBlocks, BlankLine, Paragraph as ParagraphBlock, SetextHeading, LeafBlock, ContainerBlock, Body}
 use Rattle.cmark_grammar.specs.BlocksModel.{blocks}
 use Rattle.cmark_grammar.specs.Lists.{ListBefore, tight_behind, goes_on}
-use Rattle.cmark_grammar.specs.Tokens.{resolved, title_lines, paragraph_tokens, heading_tokens, code_tokens, lines_before, fenced_lines, html_tokens, code_columns}
+use Rattle.cmark_grammar.specs.Tokens.{resolved, title_lines, paragraph_tokens, heading_tokens, heading_attributes, code_tokens, lines_before, fenced_lines, html_tokens, code_columns}
 use Rattle.cmark_grammar.specs.BlockDocument.{Reference, BlockKind, Paragraph, TightParagraph, Heading, ThematicBreak, IndentedCode, FencedCode, HtmlBlock, LinkDefinition, MetadataBlock, BlockQuote, BlockList, ListItem, BlockNode, BlockDocument, Nil, Node, node}
 
 -- where the last of these lines ends, without its line ending
@@ -36,18 +36,18 @@ reference_of lookup definition start end = record {
 
 -- a leaf runs from its first byte behind the indent, which is four columns for indented code and none for HTML, to behind
 -- its last line ending (this profile's own)
-abbrev pub leaf_then : List ℕ → Lookup → Leaf → Row → List Row → BlockDocument → BlockDocument
-leaf_then text lookup ThematicBreakLeaf first more after = Node (node ThematicBreak (start_of first) (past_of first more)) Nil after
-leaf_then text lookup (AtxHeadingLeaf level) first more after =
-    Node (node (Heading level no_attributes) (start_of first) (past_of first more)) (heading_tokens text level first) after
-leaf_then text lookup IndentedCodeLeaf first more after =
+abbrev pub leaf_then : List ℕ → Options → Lookup → Leaf → Row → List Row → BlockDocument → BlockDocument
+leaf_then text options lookup ThematicBreakLeaf first more after = Node (node ThematicBreak (start_of first) (past_of first more)) Nil after
+leaf_then text options lookup (AtxHeadingLeaf level) first more after =
+    Node (node (Heading level (heading_attributes options.heading_attributes level first)) (start_of first) (past_of first more)) (heading_tokens text options.heading_attributes level first) after
+leaf_then text options lookup IndentedCodeLeaf first more after =
     Node (node IndentedCode (first_place first.stop (code_columns 4 first)) (past_of first more)) (code_tokens text 4 (first ∷ more)) after
-leaf_then text lookup (FencedCodeLeaf fence) first more after =
+leaf_then text options lookup (FencedCodeLeaf fence) first more after =
     Node (node (FencedCode (resolved lookup fence.info)) (start_of first) (past_of first more)) (code_tokens text fence.indented (fenced_lines fence more)) after
-leaf_then text lookup (HtmlBlockLeaf kind) first more after = Node (node HtmlBlock (begin_of first) (past_of first more)) (html_tokens text (first ∷ more)) after
-leaf_then text lookup (LinkDefinitionLeaf definition) first more after =
+leaf_then text options lookup (HtmlBlockLeaf kind) first more after = Node (node HtmlBlock (begin_of first) (past_of first more)) (html_tokens text (first ∷ more)) after
+leaf_then text options lookup (LinkDefinitionLeaf definition) first more after =
     Node (node (LinkDefinition (reference_of lookup definition (start_of first) (stop_of first more))) (start_of first) (past_of first more)) Nil after
-leaf_then text lookup (MetadataBlockLeaf kind) first more after =
+leaf_then text options lookup (MetadataBlockLeaf kind) first more after =
     Node (node (MetadataBlock kind) (start_of first) (past_of first more)) (code_tokens text 0 (lines_before (ends_metadata kind) more)) after
 
 -- an item before others of its list, or alone in its list
@@ -64,26 +64,26 @@ paragraph_kind direct = if direct then TightParagraph else Paragraph
 
 -- the document of blocks. Direct: they stand directly in an item of a tight list; list: that of the item before. A block
 -- quote runs from its marker, an item from the indent before it, to behind its last line
-abbrev pub document_of : List ℕ → Lookup → (direct : Bool) → (list : Option ListBefore) → Blocks → BlockDocument
-document_of text lookup direct list NoBlocks = Nil
-document_of text lookup direct list (BlankLine line after) = document_of text lookup direct list after
-document_of text lookup direct list (ParagraphBlock first more after) =
-    Node (node (paragraph_kind direct) (start_of first) (past_of first more)) (paragraph_tokens text first more) (document_of text lookup direct None after)
-document_of text lookup direct list (SetextHeading level first more underline after) =
-    Node (node (Heading level no_attributes) (start_of first) underline.past) (paragraph_tokens text first more) (document_of text lookup direct None after)
-document_of text lookup direct list (LeafBlock leaf first more after) = leaf_then text lookup leaf first more (document_of text lookup direct None after)
-document_of text lookup direct list (ContainerBlock Quote first more inside after) =
-    Node (node (BlockQuote None) (start_of first) (past_of first more)) (document_of text lookup false None inside) (document_of text lookup direct None after)
-document_of text lookup direct list (ContainerBlock (Item mark number width) first more inside after) =
+abbrev pub document_of : List ℕ → Options → Lookup → (direct : Bool) → (list : Option ListBefore) → Blocks → BlockDocument
+document_of text options lookup direct list NoBlocks = Nil
+document_of text options lookup direct list (BlankLine line after) = document_of text options lookup direct list after
+document_of text options lookup direct list (ParagraphBlock first more after) =
+    Node (node (paragraph_kind direct) (start_of first) (past_of first more)) (paragraph_tokens text first more) (document_of text options lookup direct None after)
+document_of text options lookup direct list (SetextHeading level first more underline after) =
+    Node (node (Heading level no_attributes) (start_of first) underline.past) (paragraph_tokens text first more) (document_of text options lookup direct None after)
+document_of text options lookup direct list (LeafBlock leaf first more after) = leaf_then text options lookup leaf first more (document_of text options lookup direct None after)
+document_of text options lookup direct list (ContainerBlock Quote first more inside after) =
+    Node (node (BlockQuote None) (start_of first) (past_of first more)) (document_of text options lookup false None inside) (document_of text options lookup direct None after)
+document_of text options lookup direct list (ContainerBlock (Item mark number width) first more inside after) =
     let tight = tight_behind list mark inside after in
-    item_then (goes_on mark after) number tight (node ListItem (begin_of first) (past_of first more)) (document_of text lookup tight None inside)
-    (document_of text lookup direct (Some (record { mark = mark; tight = tight })) after)
+    item_then (goes_on mark after) number tight (node ListItem (begin_of first) (past_of first more)) (document_of text options lookup tight None inside)
+    (document_of text options lookup direct (Some (record { mark = mark; tight = tight })) after)
 
--- the text derives the document. Of the options those for metadata blocks have a part in the grammar of today
+-- the text derives the document
 abbrev pub Derives : List ℕ → Options → Lookup → BlockDocument → Type 0
 Derives text options lookup document =
-    (structure : Blocks) × (Body options false (rows text) structure) × (document ≡ document_of text lookup false None structure)
+    (structure : Blocks) × (Body options false (rows text) structure) × (document ≡ document_of text options lookup false None structure)
 
 -- the model's document
 abbrev pub document : List ℕ → Options → Lookup → BlockDocument
-document text options lookup = document_of text lookup false None (blocks options text)
+document text options lookup = document_of text options lookup false None (blocks options text)

@@ -3,7 +3,8 @@
 use Rattle.std.specs.Char.{encode_utf8}
 use Rattle.std.specs.Prelude.{ℕ, zero, suc, ◌+◌, ◌-◌, ◌*◌, Bool, true, false, ◌==◌, ◌&&◌, ◌||◌, not, nat_lt, nat_le, if◌then◌else◌, List, [], ◌∷◌, ◌++◌, length, drop, take, take_while, replicate, fold, Option, Some, None}
 use Rattle.cmark_grammar.specs.Answers.{Lookup}
-use Rattle.cmark_grammar.specs.Columns.{Column, is_blank_byte, without_indent, drop_end, without_trailing_blanks}
+use Rattle.cmark_grammar.specs.Attributes.{Attributes, before_braces, inside_braces, attributes_of}
+use Rattle.cmark_grammar.specs.Columns.{Column, is_blank_byte, without_indent, drop_end, without_trailing_blanks, bytes_of}
 use Rattle.cmark_grammar.specs.Rows.{Row, is_bare, first_place, indent_of, begin_of, start_of}
 use Rattle.cmark_grammar.specs.Leaves.{Fence, closes_fence, is_empty}
 use Rattle.cmark_grammar.specs.HtmlBlocks.{is_alphanumeric, is_number, lower, first_is}
@@ -186,13 +187,31 @@ without_closing cs =
 abbrev pub behind_hashes : (level : ℕ) → Row → List Column
 behind_hashes level r = without_indent (drop level (without_indent r.columns))
 
--- the raw content of a heading: no opening or closing sequence, and no spaces or tabs at both ends (CommonMark 4.2)
-abbrev pub heading_columns : (level : ℕ) → Row → List Column
-heading_columns level r = without_closing (without_trailing_blanks (behind_hashes level r))
+-- the columns of a heading behind its opening sequence, without spaces and tabs at both ends
+abbrev pub content_columns : (level : ℕ) → Row → List Column
+content_columns level r = without_trailing_blanks (behind_hashes level r)
 
-abbrev pub heading_tokens : List ℕ → (level : ℕ) → Row → BlockDocument
-heading_tokens text level r =
-    let start = first_place r.stop (behind_hashes level r) in stretch_then text start (end_place start (heading_columns level r)) Nil
+-- attributes are taken off first, where they are read (this profile's own)
+abbrev pub without_attributes : (attributes : Bool) → List Column → List Column
+without_attributes false cs = cs
+without_attributes true cs = without_trailing_blanks (before_braces (λ c. c.byte) cs)
+
+-- what stands between the braces of attributes, where these are read
+abbrev pub attribute_columns : (attributes : Bool) → List Column → List Column
+attribute_columns false cs = []
+attribute_columns true cs = inside_braces (λ c. c.byte) cs
+
+-- the raw content of a heading: no opening or closing sequence, and no spaces or tabs at both ends (CommonMark 4.2)
+abbrev pub heading_columns : (attributes : Bool) → (level : ℕ) → Row → List Column
+heading_columns attributes level r = without_closing (without_attributes attributes (content_columns level r))
+
+abbrev pub heading_tokens : List ℕ → (attributes : Bool) → (level : ℕ) → Row → BlockDocument
+heading_tokens text attributes level r =
+    let start = first_place r.stop (behind_hashes level r) in stretch_then text start (end_place start (heading_columns attributes level r)) Nil
+
+-- the attributes of a heading
+abbrev pub heading_attributes : (attributes : Bool) → (level : ℕ) → Row → Attributes
+heading_attributes attributes level r = attributes_of (bytes_of (attribute_columns attributes (content_columns level r)))
 
 -- a line as it is, from there on: of CR LF, the line feed is a piece of its own and the CR is left out
 abbrev pub plain_line : List ℕ → ℕ → Row → List Piece

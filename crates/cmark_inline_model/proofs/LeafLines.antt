@@ -172,29 +172,31 @@ stretches_end text begin r (s ∷ more) h = go (begin_of s == r.past) (stretches
     go true p q = p
     go false p q = stretch_ends text begin r.past (stretches text (begin_of s) s more) (⊎_elim (λ n. absurd (let d : ⊥ = cc in d)) inr h.0) q
 
-heading_ends : (text : List ℕ) (level : ℕ) (r : Row) → HaveLineEnds text (stretches_of (heading_tokens text level r))
-heading_ends text level r =
-    stretch_ends text (first_place r.stop (behind_hashes level r)) (end_place (first_place r.stop (behind_hashes level r)) (heading_columns level r)) Nil (inl refl) tt
+heading_ends : (text : List ℕ) (attributes : Bool) (level : ℕ) (r : Row) → HaveLineEnds text (stretches_of (heading_tokens text attributes level r))
+heading_ends text attributes level r =
+    stretch_ends text (first_place r.stop (behind_hashes level r)) (end_place (first_place r.stop (behind_hashes level r)) (heading_columns attributes level r)) Nil (inl refl) tt
 
-heading_are_texts : (text : List ℕ) (level : ℕ) (r : Row) → AreTexts (heading_tokens text level r)
-heading_are_texts text level r =
-    let start = first_place r.stop (behind_hashes level r) in pieces_are_texts (piece_if text start (end_place start (heading_columns level r)) []) Nil tt
+heading_are_texts : (text : List ℕ) (attributes : Bool) (level : ℕ) (r : Row) → AreTexts (heading_tokens text attributes level r)
+heading_are_texts text attributes level r =
+    let start = first_place r.stop (behind_hashes level r) in pieces_are_texts (piece_if text start (end_place start (heading_columns attributes level r)) []) Nil tt
 
 html_tokens_are_texts : (text : List ℕ) (rows : List Row) → AreTexts (html_tokens text rows)
 html_tokens_are_texts text [] = tt
 html_tokens_are_texts text (r ∷ more) = html_are_texts _ (html_tokens text more) (html_tokens_are_texts text more)
 
-leaf_of_lines : (text : List ℕ) (lookup : Lookup) (leaf : Leaf) (first : Row) (more : List Row) (after : BlockDocument) → AreOfLines text after → AreOfLines text (leaf_then text lookup leaf first more after)
-leaf_of_lines text lookup ThematicBreakLeaf first more after a = (no_leaf text Nil, tt, a)
-leaf_of_lines text lookup (AtxHeadingLeaf level) first more after a = ((λ e. heading_ends text level first), texts_of_lines text (heading_tokens text level first) (heading_are_texts text level first), a)
-leaf_of_lines text lookup IndentedCodeLeaf first more after a =
+leaf_of_lines : (text : List ℕ) (options : Options) (lookup : Lookup) (leaf : Leaf) (first : Row) (more : List Row) (after : BlockDocument) → AreOfLines text after → AreOfLines text (leaf_then text options lookup leaf first more after)
+leaf_of_lines text options lookup ThematicBreakLeaf first more after a = (no_leaf text Nil, tt, a)
+leaf_of_lines text options lookup (AtxHeadingLeaf level) first more after a =
+    let attributes = options.heading_attributes in
+    ((λ e. heading_ends text attributes level first), texts_of_lines text (heading_tokens text attributes level first) (heading_are_texts text attributes level first), a)
+leaf_of_lines text options lookup IndentedCodeLeaf first more after a =
     let inside = code_tokens text 4 (first ∷ more) in (no_leaf text inside, texts_of_lines text inside (pieces_are_texts _ Nil tt), a)
-leaf_of_lines text lookup (FencedCodeLeaf fence) first more after a =
+leaf_of_lines text options lookup (FencedCodeLeaf fence) first more after a =
     let inside = code_tokens text fence.indented (fenced_lines fence more) in (no_leaf text inside, texts_of_lines text inside (pieces_are_texts _ Nil tt), a)
-leaf_of_lines text lookup (HtmlBlockLeaf kind) first more after a =
+leaf_of_lines text options lookup (HtmlBlockLeaf kind) first more after a =
     let inside = html_tokens text (first ∷ more) in (no_leaf text inside, texts_of_lines text inside (html_tokens_are_texts text (first ∷ more)), a)
-leaf_of_lines text lookup (LinkDefinitionLeaf definition) first more after a = (no_leaf text Nil, tt, a)
-leaf_of_lines text lookup (MetadataBlockLeaf kind) first more after a =
+leaf_of_lines text options lookup (LinkDefinitionLeaf definition) first more after a = (no_leaf text Nil, tt, a)
+leaf_of_lines text options lookup (MetadataBlockLeaf kind) first more after a =
     let inside = code_tokens text 0 (lines_before (ends_metadata kind) more) in (no_leaf text inside, texts_of_lines text inside (pieces_are_texts _ Nil tt), a)
 
 item_of_lines : (text : List ℕ) (joins : Bool) (number : Option ℕ) (tight : Bool) (item : BlockNode) (inside after : BlockDocument) → is_leaf item.kind ≡ false → AreOfLines text inside → AreOfLines text after
@@ -204,7 +206,7 @@ item_of_lines text true number tight item inside Nil e i a = (no_leaf text (Node
 item_of_lines text true number tight item inside (Node list items after) e i a = (no_leaf text (Node item inside items), ((λ f. absurd (true≢false (sym f ∙ e))), i, a.1), a.2)
 
 document_of_lines : (text : List ℕ) (options : Options) (lookup : Lookup) (direct : Bool) (before : Option ListBefore) (behind : Bool) (all : List Row) (b : Blocks) → Body options behind all b → RowsEnd text all
-    → AreOfLines text (document_of text lookup direct before b)
+    → AreOfLines text (document_of text options lookup direct before b)
 document_of_lines text options lookup direct before behind all NoBlocks body g = tt
 document_of_lines text options lookup direct before behind all (BlankLine line after) body g =
     let c : RowsEnd text (line ∷ body.rest) = subst (RowsEnd text) body.cut g in
@@ -226,11 +228,11 @@ document_of_lines text options lookup direct before behind all (SetextHeading le
 document_of_lines text options lookup direct before behind all (LeafBlock leaf first more after) body g =
     let c : RowsEnd text ((first ∷ more) ++ body.rest) = subst (RowsEnd text) body.cut g in
     let s = rows_split text (first ∷ more) body.rest c in
-    leaf_of_lines text lookup leaf first more (document_of text lookup direct None after) (document_of_lines text options lookup direct None (may_lazy leaf) body.rest after body.after s.1)
+    leaf_of_lines text options lookup leaf first more (document_of text options lookup direct None after) (document_of_lines text options lookup direct None (may_lazy leaf) body.rest after body.after s.1)
 document_of_lines text options lookup direct before behind all (ContainerBlock Quote first more inside after) body g =
     let c : RowsEnd text ((first ∷ more) ++ body.rest) = subst (RowsEnd text) body.cut g in
     let s = rows_split text (first ∷ more) body.rest c in (
-      no_leaf text (document_of text lookup false None inside),
+      no_leaf text (document_of text options lookup false None inside),
       document_of_lines text options lookup false None false (insides Quote first more) inside body.contents (rows_inside text Quote first more s.0),
       document_of_lines text options lookup direct None false body.rest after body.after s.1,
     )
@@ -238,8 +240,8 @@ document_of_lines text options lookup direct before behind all (ContainerBlock (
     let c : RowsEnd text ((first ∷ more) ++ body.rest) = subst (RowsEnd text) body.cut g in
     let s = rows_split text (first ∷ more) body.rest c in
     let tight = tight_behind before mark inside after in
-    item_of_lines text (goes_on mark after) number tight (node ListItem (begin_of first) (past_of first more)) (document_of text lookup tight None inside)
-    (document_of text lookup direct (Some (record { mark = mark; tight = tight })) after) refl
+    item_of_lines text (goes_on mark after) number tight (node ListItem (begin_of first) (past_of first more)) (document_of text options lookup tight None inside)
+    (document_of text options lookup direct (Some (record { mark = mark; tight = tight })) after) refl
     (document_of_lines text options lookup tight None false (insides (Item mark number width) first more) inside body.contents (rows_inside text (Item mark number width) first more s.0))
     (document_of_lines text options lookup direct (Some (record { mark = mark; tight = tight })) false body.rest after body.after s.1)
 

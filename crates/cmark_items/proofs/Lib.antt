@@ -1,1 +1,2 @@
 pub mod DefinitionSteps
+pub mod HeadingSteps

@@ -4,7 +4,7 @@ use Rattle.std.specs.Prelude.{ℕ, ◌%◌, Bool, ◌==◌, if◌then◌else◌,
 use Rattle.cmark_text.specs.Shown.{text_bytes, level_number, shown_block_quote_kind, shown_metadata_block_kind}
 use Rattle.cmark_tree.specs.Forest as forest
 use Rattle.cmark_tree.specs.Forest.{Forest}
-use Rattle.cmark_grammar.specs.Attributes.{no_attributes}
+use Rattle.cmark_grammar.specs.Attributes.{no_attributes, attributes_of}
 use Rattle.cmark_grammar.specs.Containers.{is_delimiter}
 use Rattle.cmark_grammar.specs.Tokens.{slice}
 use Rattle.cmark_grammar.specs.BlockDocument as document
@@ -40,6 +40,7 @@ abbrev pub shape : ItemBody → Shape
 shape body.Paragraph = Element document.Paragraph
 shape body.TightParagraph = Element document.TightParagraph
 shape (body.Heading level None) = Element (document.Heading (level_number level) no_attributes)
+shape (body.Heading level (Some index)) = Spelt (λ words. document.Heading (level_number level) (attributes_of words)) index.0
 shape body.Rule = Element document.ThematicBreak
 shape body.IndentCodeBlock = Element document.IndentedCode
 shape (body.FencedCodeBlock index) = Spelt document.FencedCode index.0

@@ -7,19 +7,17 @@ use Rattle.cmark_text.specs.declared.kind.LinkType.TheVariants.{ShortcutUnknown}
 use Rattle.cmark_items.specs.declared.allocations.Allocations.{Allocations}
 use Rattle.cmark_items.specs.declared.allocations.Link.{Link}
 use Rattle.cmark_items.specs.declared.definitions.RefDefs.{RefDefs}
-use Rattle.cmark_items.specs.declared.heading.HeadingAttributes.{HeadingAttributes}
 
--- the texts, the links and images, the alignments of tables and the attributes of headings, each at its index, and the
+-- the texts, the links and images and the alignments of tables, each at its index, and the
 -- link reference definitions
 pub record Tables : Type 0 where
   pub texts : List CowStr
   pub links : List Link
   pub alignments : List (List Alignment)
-  pub headings : List HeadingAttributes
   pub references : RefDefs
 
 abbrev pub tables : Allocations → Tables
-tables a = record { texts = a.texts.items; links = a.links.items; alignments = map (λ row. row.items) a.alignments.items; headings = a.headings.items; references = a.refdefs }
+tables a = record { texts = a.texts.items; links = a.links.items; alignments = map (λ row. row.items) a.alignments.items; references = a.refdefs }
 
 abbrev pub with_text : CowStr → Tables → Tables
 with_text text t = record t { texts = t.texts ++ text ∷ [] }
@@ -29,9 +27,6 @@ with_link link t = record t { links = t.links ++ link ∷ [] }
 
 abbrev pub with_alignments : List Alignment → Tables → Tables
 with_alignments row t = record t { alignments = t.alignments ++ row ∷ [] }
-
-abbrev pub with_heading : HeadingAttributes → Tables → Tables
-with_heading heading t = record t { headings = t.headings ++ heading ∷ [] }
 
 -- an empty text stands at the index instead
 abbrev pub LeavesNoText : ℕ → Tables → Tables → Type 0

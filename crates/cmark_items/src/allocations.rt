@@ -2,10 +2,9 @@
 
 ghost use Rattle.std.specs.Prelude.{◌≡◌, ◌<◌, ◌++◌, ◌∷◌, [], length, IfOk, OnOk, OnErr, slice_get, Some, None, List, ℕ};
 ghost use Rattle.cmark_items.specs.Definitions.{definition};
-ghost use Rattle.cmark_items.specs.Tables.{Tables, tables, with_text, with_link, with_alignments, with_heading, LeavesNoText, LeavesNoLink, without_alignments};
+ghost use Rattle.cmark_items.specs.Tables.{Tables, tables, with_text, with_link, with_alignments, LeavesNoText, LeavesNoLink, without_alignments};
 
 use crate::definitions::RefDefs;
-use crate::heading::HeadingAttributes;
 use cmark_text::{Alignment, CowStr, LinkType};
 use std::alloc::{AllocError, Global};
 use std::mem;
@@ -22,10 +21,6 @@ pub struct LinkIndex(usize);
 /// Where a table's alignments stand in theirs.
 #[derive(Clone, Copy, Debug, PartialEq, Eq)]
 pub struct AlignmentIndex(usize);
-
-/// Where a heading's attributes stand in theirs.
-#[derive(Clone, Copy, Debug, PartialEq, Eq)]
-pub struct HeadingIndex(u32);
 
 /// What a link or an image says of itself (CommonMark 6.3, 6.4).
 #[derive(Debug, Drop)]
@@ -51,7 +46,6 @@ pub struct Allocations<'a> {
     texts: Vec<CowStr<'a>>,
     links: Vec<Link<'a>>,
     alignments: Vec<Vec<Alignment>>,
-    headings: Vec<HeadingAttributes<'a>>,
     alloc: Global,
 }
 
@@ -61,7 +55,6 @@ impl<'a> Allocations<'a> {
         ensures texts { (tables result).texts ≡ [] }
         ensures links { (tables result).links ≡ [] }
         ensures alignments { (tables result).alignments ≡ [] }
-        ensures headings { (tables result).headings ≡ [] }
         ensures references { (folded : List ℕ) → definition (tables result).references folded ≡ None }
     {
         Allocations {
@@ -69,7 +62,6 @@ impl<'a> Allocations<'a> {
             texts: Vec::new(alloc),
             links: Vec::new(alloc),
             alignments: Vec::new(alloc),
-            headings: Vec::new(alloc),
             alloc,
         }
     }
@@ -120,23 +112,6 @@ impl<'a> Allocations<'a> {
         let index = self.alignments.len();
         self.alignments.push(alignments)?;
         Ok(AlignmentIndex(index))
-    }
-
-    /// Keeps a heading's attributes. Where memory is refused nothing changes, and they are dropped. The table has room for
-    /// 4,294,967,296 of them, which keeps an item small; one more is refused like memory.
-    pub fn allocate_heading(
-        &mut self,
-        attributes: HeadingAttributes<'a>,
-    ) -> Result<HeadingIndex, AllocError>
-        ensures index { IfOk result (λ index. index.0 ≡ length (tables self.old).headings) }
-        ensures kept { OnOk result (tables self.new ≡ with_heading attributes.entry (tables self.old)) }
-        ensures refused { OnErr result (tables self.new ≡ tables self.old) }
-    {
-        let Ok(index) = u32::try_from(self.headings.len()) else {
-            return Err(AllocError);
-        };
-        self.headings.push(attributes)?;
-        Ok(HeadingIndex(index))
     }
 
     /// Takes a text out. An empty one is left.
@@ -209,17 +184,5 @@ impl<'a> Index<AlignmentIndex> for Allocations<'a> {
 
     fn index(&self, index: AlignmentIndex) -> &Vec<Alignment> {
         &self.alignments[index.0]
-    }
-}
-
-impl<'a> Index<HeadingIndex> for Allocations<'a> {
-    type Output = HeadingAttributes<'a>;
-
-    ghost can_index = { λ a index. index.0 < length (tables a).headings };
-
-    ghost index_gives = { λ a index heading. slice_get (tables a).headings index.0 ≡ Some heading };
-
-    fn index(&self, index: HeadingIndex) -> &HeadingAttributes<'a> {
-        &self.headings[index.0 as usize]
     }
 }

@@ -1,6 +1,13 @@
 //! The attributes of a heading (this profile's own).
 
+ghost use Rattle.std.specs.Prelude.{◌≡◌, ◌<◌, ◌≤◌, ℕ, ◌∷◌, length, take, drop, IfOk, OnOk, IfSome, option_map, get_or};
+ghost use Rattle.std.specs.List.{take_while};
+ghost use Rattle.cmark_grammar.specs.Attributes.{is_white_space, is_no_equals, words, value_behind, attribute_of, attributes_of, with_word, no_attributes};
+ghost use Rattle.cmark_text.specs.Shown.{text_bytes, shown_attribute};
+ghost use Rattle.cmark_items.specs.Headings.{shown_heading, is_in_word, str_bytes, words_behind};
+
 use cmark_text::CowStr;
+use std::alloc::{AllocError, Global};
 
 /// The attributes of a heading, as its line has them in braces.
 #[derive(Debug, Drop)]
@@ -11,4 +18,118 @@ pub struct HeadingAttributes<'a> {
     pub classes: Vec<CowStr<'a>>,
     /// The other words in order, each with the value behind its `=`, if it has one.
     pub attrs: Vec<(CowStr<'a>, Option<CowStr<'a>>)>,
+}
+
+/// White space between words: tab, line feed, form feed, carriage return and space.
+fn is_white_space(byte: u8) -> bool
+    ensures { result ≡ is_white_space byte }
+{
+    matches!(byte, b'\t' | b'\n' | 12 | b'\r' | b' ')
+}
+
+/// How many bytes of a word stand in front.
+fn count_word(bytes: &[u8]) -> usize
+    ensures value { result ≡ length (take_while is_in_word bytes.now) }
+    ensures within { result ≤ length bytes.now }
+{
+    bytes
+        .iter()
+        .take_while(|byte| !is_white_space(**byte))
+        .count()
+}
+
+/// How many bytes of a name stand in front, which ends before a `=`.
+fn count_name(bytes: &[u8]) -> usize
+    ensures value { result ≡ length (take_while is_no_equals bytes.now) }
+    ensures within { result ≤ length bytes.now }
+{
+    bytes.iter().take_while(|byte| **byte != b'=').count()
+}
+
+/// What stands before an ASCII byte and behind it; all, where the text ends there.
+#[tactic(auto, using(std::proofs::lemmas::Str::lead_after_ascii))]
+fn cut(text: &str, at: usize) -> (&str, Option<&str>)
+    requires within { at ≤ length text.now }
+    requires ascii { at < length text.now → get_or text.now at 0 < 128 }
+    ensures before { result.0.now ≡ take at text.now }
+    ensures behind { option_map str_bytes result.1 ≡ value_behind (drop at text.now) }
+    ensures shorter { IfSome result.1 (λ behind. length behind.now < length text.now) }
+{
+    if at < text.len() {
+        (&text[..at], Some(&text[at + 1..]))
+    } else {
+        (text, None)
+    }
+}
+
+/// The first word, and what stands behind the white space that ends it.
+fn cut_word(text: &str) -> (&str, Option<&str>)
+    ensures words { words text.now ≡ result.0.now ∷ words_behind (option_map str_bytes result.1) }
+    ensures shorter { IfSome result.1 (λ behind. length behind.now < length text.now) }
+{
+    cut(text, count_word(text.as_bytes()))
+}
+
+fn owned<'a>(alloc: Global, text: &str) -> Result<CowStr<'a>, AllocError>
+    ensures { IfOk result (λ made. text_bytes made ≡ text.now) }
+{
+    CowStr::from_string(String::from_str(alloc, text)?)
+}
+
+/// A word as a name with the value behind its `=`, if it has one.
+fn attribute_of<'a>(
+    alloc: Global,
+    word: &str,
+) -> Result<(CowStr<'a>, Option<CowStr<'a>>), AllocError>
+    ensures { IfOk result (λ attribute. shown_attribute attribute ≡ attribute_of word.now) }
+{
+    let (name, value) = cut(word, count_name(word.as_bytes()));
+    let name = owned(alloc, name)?;
+    match value {
+        Some(value) => Ok((name, Some(owned(alloc, value)?))),
+        None => Ok((name, None)),
+    }
+}
+
+impl<'a> HeadingAttributes<'a> {
+    fn none(alloc: Global) -> HeadingAttributes<'a>
+        ensures { shown_heading result ≡ no_attributes }
+    {
+        HeadingAttributes {
+            id: None,
+            classes: Vec::new(alloc),
+            attrs: Vec::new(alloc),
+        }
+    }
+
+    /// One more word.
+    #[tactic(auto, using(std::proofs::lemmas::Str::lead_after_ascii))]
+    fn add(&mut self, alloc: Global, word: &str) -> Result<(), AllocError>
+        ensures { OnOk result (shown_heading self.new ≡ with_word (shown_heading self.old) word.now) }
+    {
+        if word.len() < 2 {
+            return Ok(());
+        }
+        match word.as_bytes()[0] {
+            b'#' => self.id = Some(owned(alloc, &word[1..])?),
+            b'.' => self.classes.push(owned(alloc, &word[1..])?)?,
+            _ => self.attrs.push(attribute_of(alloc, word)?)?,
+        }
+        Ok(())
+    }
+
+    /// What the words between braces say: `#id`, of which the last one counts, `.class`, and other words, each with the value
+    /// behind its `=`. White space parts words, and a word of one byte is passed over.
+    pub fn read(alloc: Global, words: &str) -> Result<HeadingAttributes<'a>, AllocError>
+        ensures { IfOk result (λ read. shown_heading read ≡ attributes_of words.now) }
+    {
+        let mut read = HeadingAttributes::none(alloc);
+        let mut rest = Some(words);
+        while let Some(left) = rest {
+            let (word, behind) = cut_word(left);
+            read.add(alloc, word)?;
+            rest = behind;
+        }
+        Ok(read)
+    }
 }

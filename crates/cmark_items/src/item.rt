@@ -2,7 +2,7 @@
 
 ghost use Rattle.cmark_items.specs.Spans.{spans};
 
-use crate::allocations::{AlignmentIndex, CowIndex, HeadingIndex, LinkIndex};
+use crate::allocations::{AlignmentIndex, CowIndex, LinkIndex};
 use crate::list_flags::ListFlags;
 use cmark_text::{BlockQuoteKind, HeadingLevel, MetadataBlockKind};
 use cmark_tree::TreeSpan;
@@ -115,8 +115,8 @@ pub enum ItemBody {
     TightParagraph,
     /// A thematic break (CommonMark 4.1).
     Rule,
-    /// A heading (CommonMark 4.2, 4.3), and its attributes.
-    Heading(HeadingLevel, Option<HeadingIndex>),
+    /// A heading (CommonMark 4.2, 4.3), and the words between the braces of its attributes.
+    Heading(HeadingLevel, Option<CowIndex>),
     /// A fenced code block (CommonMark 4.5), and its info string.
     FencedCodeBlock(CowIndex),
     /// An indented code block (CommonMark 4.4).

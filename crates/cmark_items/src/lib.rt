@@ -7,7 +7,7 @@ mod heading;
 mod item;
 mod list_flags;
 
-pub use allocations::{AlignmentIndex, Allocations, CowIndex, HeadingIndex, Link, LinkIndex};
+pub use allocations::{AlignmentIndex, Allocations, CowIndex, Link, LinkIndex};
 pub use definitions::{LinkDef, RefDefs, RefDefsIter};
 pub use heading::HeadingAttributes;
 pub use item::{Item, ItemBody};

@@ -5,13 +5,17 @@ use Rattle.std.proofs.lemmas.List.Sums.{take_while-cons}
 use Rattle.cmark_grammar.specs.Columns.{Column, is_blank, is_blank_byte, indent, without_indent, drop_end, put_before, without_trailing_blanks, bytes_of}
 use Rattle.cmark_grammar.specs.Leaves.{run, is_empty}
 use Rattle.cmark_grammar.specs.Rows.{Row, is_bare, first_place, start_of, words_of}
-use Rattle.cmark_grammar.specs.Tokens.{is_hash, without_closing, heading_columns, end_place}
+use Rattle.cmark_grammar.specs.Tokens.{slice, is_hash, without_closing, without_attributes, heading_columns, end_place}
 use Rattle.cmark_grammar.proofs.RowPlaces.{Runs, drop-Runs}
 use Rattle.cmark_grammar.proofs.RowEdges.{Front, IsAsciiColumn, is-ascii}
 use Rattle.cmark_lines.specs.Rests.{row_of}
 use Rattle.cmark_lines.specs.declared.line_rest.LineRest.{LineRest}
-use Rattle.cmark_leaves.specs.Closings.{behind_opening, without_closing_bytes}
-use Rattle.cmark_leaves.proofs.ColumnCuts.{goes_on, AreTabbed, Cut, drop-tabbed, front-tabbed, front-runs, end-runs, drop_end-cut, drop_end-bytes, blanks-cut, words-runs, rest-tabbed, bytes-end}
+use Rattle.std.specs.Str.{IsUtf8}
+use Rattle.cmark_grammar.specs.Attributes.{before_braces, inside_braces}
+use Rattle.cmark_leaves.specs.Told.{AreTold}
+use Rattle.cmark_leaves.specs.Closings.{behind_opening, without_closing_bytes, without_attributes_bytes, StandsAt, attribute_bytes}
+use Rattle.cmark_leaves.proofs.BraceSteps.{attributes-cut, attributes-bytes, inside-bytes, stands-in}
+use Rattle.cmark_leaves.proofs.ColumnCuts.{goes_on, AreTabbed, Cut, drop-tabbed, front-tabbed, front-runs, end-runs, drop_end-cut, drop_end-bytes, blanks-cut, words-runs, rest-tabbed, bytes-end, bytes-slice, drop-told}
 
 nine : (b : ℕ) → (b == 35) ≡ true → b ≢ 9
 nine b e z = absurd (true≢false (sym e ∙ ap (λ x. x == 35) z))
@@ -210,29 +214,67 @@ behind-bytes rest =
     let i = indent-bytes cs tc in
     (i.0 ∙ ap (λ bs. drop (length (take_while is_blank_byte bs)) bs) o.0, drop-tabbed (indent cs) cs tc, i.1)
 
+-- the content of a heading, behind the opening sequence
+content-cut : (rest : LineRest) → let cs = behind_columns (row_of rest) in Cut cs (without_trailing_blanks cs)
+content-cut rest = blanks-cut (behind_columns (row_of rest))
+
+content-tabbed : (rest : LineRest) → AreTabbed (without_trailing_blanks (behind_columns (row_of rest)))
+content-tabbed rest = let cut = content-cut rest in front-tabbed (without_trailing_blanks (behind_columns (row_of rest))) cut.behind (subst AreTabbed cut.is (behind-bytes rest).1)
+
+pub content-bytes : (rest : LineRest) → bytes_of (without_trailing_blanks (behind_columns (row_of rest))) ≡ drop_end is_blank_byte (behind_opening (words_of (row_of rest)))
+content-bytes rest = let b = behind-bytes rest in drop_end-bytes is_blank_byte (behind_columns (row_of rest)) b.1 ∙ ap (drop_end is_blank_byte) b.0
+
+first-whole : (cs xs : List Column) → goes_on cs ≡ false → Cut cs xs → goes_on xs ≡ false
+first-whole cs [] w cut = refl
+first-whole cs (x ∷ xs) w cut = sym (ap goes_on cut.is) ∙ w
+
+text-cut : (attributes : Bool) (rest : LineRest) → let cs = behind_columns (row_of rest) in Cut cs (without_attributes attributes (without_trailing_blanks cs))
+text-cut attributes rest = cut-cut (content-cut rest) (attributes-cut attributes (without_trailing_blanks (behind_columns (row_of rest))))
+
 -- the bytes of a heading's text
-pub heading-bytes : (rest : LineRest) → bytes_of (heading_columns (run 35 (words_of (row_of rest))) (row_of rest)) ≡ without_closing_bytes (drop_end is_blank_byte (behind_opening (words_of (row_of rest))))
-heading-bytes rest =
+pub heading-bytes : (attributes : Bool) (rest : LineRest) →
+    bytes_of (heading_columns attributes (run 35 (words_of (row_of rest))) (row_of rest))
+    ≡ without_closing_bytes (without_attributes_bytes attributes (drop_end is_blank_byte (behind_opening (words_of (row_of rest)))))
+heading-bytes attributes rest =
     let b = behind-bytes rest in
     let cs = behind_columns (row_of rest) in
-    let cut = blanks-cut cs in
-    let t : AreTabbed (without_trailing_blanks cs) = front-tabbed (without_trailing_blanks cs) cut.behind (subst AreTabbed cut.is b.1) in
-    closing-bytes (without_trailing_blanks cs) t (first cs b.2 (without_trailing_blanks cs) cut)
-    ∙ ap without_closing_bytes (drop_end-bytes is_blank_byte cs b.1 ∙ ap (drop_end is_blank_byte) b.0)
-  where
-    first : (cs : List Column) → goes_on cs ≡ false → (xs : List Column) → Cut cs xs → goes_on xs ≡ false
-    first cs w [] cut = refl
-    first cs w (x ∷ xs) cut = sym (ap goes_on cut.is) ∙ w
+    let cut = text-cut attributes rest in
+    let left = without_attributes attributes (without_trailing_blanks cs) in
+    closing-bytes left (front-tabbed left cut.behind (subst AreTabbed cut.is b.1)) (first-whole cs left b.2 cut)
+    ∙ ap without_closing_bytes (attributes-bytes attributes (without_trailing_blanks cs) (content-tabbed rest) ∙ ap (without_attributes_bytes attributes) (content-bytes rest))
 
-heading-runs : (rest : LineRest) →
-    let cs = heading_columns (run 35 (words_of (row_of rest))) (row_of rest) in Runs (heading_place (row_of rest)) cs (end_place (heading_place (row_of rest)) cs)
-heading-runs rest =
+-- the bytes between the braces of its attributes
+pub words-bytes : (rest : LineRest) → attribute_bytes (row_of rest) ≡ inside_braces (λ b. b) (drop_end is_blank_byte (behind_opening (words_of (row_of rest))))
+words-bytes rest = inside-bytes (without_trailing_blanks (behind_columns (row_of rest))) (content-tabbed rest) ∙ ap (inside_braces (λ b. b)) (content-bytes rest)
+
+behind-runs : (rest : LineRest) → Runs (heading_place (row_of rest)) (behind_columns (row_of rest)) (row_of rest).stop
+behind-runs rest =
     let r = row_of rest in
     let cs = drop (run 35 (words_of r)) (without_indent r.columns) in
     let d = drop-Runs (run 35 (words_of r)) (start_of r) (without_indent r.columns) r.stop (words-runs rest) in
-    let e = drop-Runs (indent cs) (first_place r.stop cs) cs r.stop d.0 in
-    let cut = cut-cut (blanks-cut (behind_columns r)) (closing-cut (without_trailing_blanks (behind_columns r))) in
-    front-runs (heading_place r) (heading_columns (run 35 (words_of r)) r) cut.behind r.stop (subst (λ x. Runs (heading_place r) x r.stop) cut.is e.0)
+    (drop-Runs (indent cs) (first_place r.stop cs) cs r.stop d.0).0
+
+heading-runs : (attributes : Bool) (rest : LineRest) →
+    let cs = heading_columns attributes (run 35 (words_of (row_of rest))) (row_of rest) in Runs (heading_place (row_of rest)) cs (end_place (heading_place (row_of rest)) cs)
+heading-runs attributes rest =
+    let r = row_of rest in
+    let cut = cut-cut (text-cut attributes rest) (closing-cut (without_attributes attributes (without_trailing_blanks (behind_columns r)))) in
+    front-runs (heading_place r) (heading_columns attributes (run 35 (words_of r)) r) cut.behind r.stop (subst (λ x. Runs (heading_place r) x r.stop) cut.is (behind-runs rest))
+
+-- the words between the braces stand in the text
+pub words-stand : (rest : LineRest) (from before size stop : ℕ) →
+    let content = drop_end is_blank_byte (behind_opening (words_of (row_of rest))) in
+    from ≡ heading_place (row_of rest) → before ≡ length (before_braces (λ b. b) content) → size ≡ length content → (before ≡ size → ⊥) →
+    (text : List ℕ) → IsUtf8 text → AreTold text (row_of rest).columns → StandsAt text (from + before + 1) (from + size - 1) (attribute_bytes (row_of rest))
+words-stand rest from before size stop f b s some text utf8 told =
+    let r = row_of rest in
+    let level = run 35 (words_of r) in
+    let bs = behind_opening (words_of r) in
+    let t = drop-told text (indent (drop level (without_indent r.columns))) (drop level (without_indent r.columns)) (drop-told text level (without_indent r.columns) (drop-told text (indent r.columns) r.columns told)) in
+    let slice_is : bs ≡ slice text (heading_place r) r.stop = sym (behind-bytes rest).0 ∙ bytes-slice text (heading_place r) (behind_columns r) r.stop (behind-runs rest) t in
+    subst (λ at. StandsAt text (at + before + 1) (at + size - 1) (attribute_bytes r)) (sym f)
+    (subst (λ ws. StandsAt text (heading_place r + before + 1) (heading_place r + size - 1) ws) (sym (words-bytes rest))
+    (stands-in text (heading_place r) r.stop bs before size utf8 slice_is b s some))
 
 -- where a heading's text begins and ends, by the lengths of bytes
 pub heading-from : (rest : LineRest) (stop size : ℕ) → stop ≡ (row_of rest).stop → size ≡ length (behind_opening (words_of (row_of rest))) → (size ≤ stop) × (stop - size ≡ heading_place (row_of rest))
@@ -241,10 +283,11 @@ heading-from rest stop size e f =
     let l : length (bytes_of (behind_columns (row_of rest))) ≡ length (behind_opening (words_of (row_of rest))) = ap length (behind-bytes rest).0 in
     (omega (arith, s, l, e, f), omega (arith, s, l, e, f))
 
-pub heading-to : (rest : LineRest) (from size : ℕ) → from ≡ heading_place (row_of rest) →
-    size ≡ length (without_closing_bytes (drop_end is_blank_byte (behind_opening (words_of (row_of rest))))) →
-    from + size ≡ end_place (heading_place (row_of rest)) (heading_columns (run 35 (words_of (row_of rest))) (row_of rest))
-heading-to rest from size e f =
-    let b = bytes-end (heading_place (row_of rest)) (heading_columns (run 35 (words_of (row_of rest))) (row_of rest)) (heading-runs rest) in
-    let l : length (bytes_of (heading_columns (run 35 (words_of (row_of rest))) (row_of rest))) ≡ length (without_closing_bytes (drop_end is_blank_byte (behind_opening (words_of (row_of rest))))) = ap length (heading-bytes rest) in
+pub heading-to : (attributes : Bool) (rest : LineRest) (from size : ℕ) → from ≡ heading_place (row_of rest) →
+    size ≡ length (without_closing_bytes (without_attributes_bytes attributes (drop_end is_blank_byte (behind_opening (words_of (row_of rest)))))) →
+    from + size ≡ end_place (heading_place (row_of rest)) (heading_columns attributes (run 35 (words_of (row_of rest))) (row_of rest))
+heading-to attributes rest from size e f =
+    let cs = heading_columns attributes (run 35 (words_of (row_of rest))) (row_of rest) in
+    let b = bytes-end (heading_place (row_of rest)) cs (heading-runs attributes rest) in
+    let l : length (bytes_of cs) ≡ length (without_closing_bytes (without_attributes_bytes attributes (drop_end is_blank_byte (behind_opening (words_of (row_of rest)))))) = ap length (heading-bytes attributes rest) in
     omega (arith, b, l, e, f)

@@ -1,3 +1,4 @@
+pub mod BraceSteps
 pub mod CodeSteps
 pub mod ColumnCuts
 pub mod DrawSteps

@@ -1,7 +1,14 @@
--- The bytes of an ATX heading's text.
-use Rattle.std.specs.Prelude.{ℕ, ◌==◌, ◌||◌, nat_lt, if◌then◌else◌, List, length, drop, take_while}
-use Rattle.cmark_grammar.specs.Columns.{is_blank_byte, drop_end}
+-- The bytes of an ATX heading's text, and of its attributes.
+use Rattle.std.specs.Prelude.{◌≡◌, ◌≤◌, ℕ, Bool, true, false, ◌==◌, ◌||◌, nat_lt, if◌then◌else◌, List, [], length, drop, take_while, slice_range, Option, Some, None}
+use Rattle.std.specs.Str.{IsUtf8, IsCharBoundary}
+use Rattle.cmark_grammar.specs.Attributes.{before_braces}
+use Rattle.cmark_grammar.specs.Columns.{is_blank_byte, drop_end, bytes_of}
 use Rattle.cmark_grammar.specs.Leaves.{run, is_empty}
+use Rattle.cmark_grammar.specs.Rows.{Row, words_of}
+use Rattle.cmark_grammar.specs.Tokens.{attribute_columns, content_columns}
+use Rattle.cmark_lines.specs.Rests.{row_of, IsIn}
+use Rattle.cmark_lines.specs.declared.line_rest.LineRest.{LineRest}
+use Rattle.cmark_leaves.specs.Told.{AreTold}
 
 -- what stands behind the `#` in front and the blanks there
 abbrev pub behind_opening : List ℕ → List ℕ
@@ -12,3 +19,25 @@ abbrev pub without_closing_bytes : List ℕ → List ℕ
 without_closing_bytes bs =
     if is_empty (drop_end (λ b. b == 35) bs) || nat_lt (length (drop_end is_blank_byte (drop_end (λ b. b == 35) bs))) (length (drop_end (λ b. b == 35) bs))
     then drop_end is_blank_byte (drop_end (λ b. b == 35) bs) else bs
+
+-- without attributes at the end, where they are read, and what stands between their braces
+abbrev pub without_attributes_bytes : (attributes : Bool) → List ℕ → List ℕ
+without_attributes_bytes false bs = bs
+without_attributes_bytes true bs = drop_end is_blank_byte (before_braces (λ b. b) bs)
+
+-- these bytes stand in the text between two of its places, where no character is cut
+pub record StandsAt (text : List ℕ) (from to : ℕ) (bs : List ℕ) : Type 0 where
+  pub within : from ≤ to
+  pub from_uncut : IsCharBoundary text from
+  pub to_uncut : IsCharBoundary text to
+  pub is : slice_range text from to ≡ bs
+
+-- what stands between the braces of a heading's attributes
+abbrev pub attribute_bytes : Row → List ℕ
+attribute_bytes r = bytes_of (attribute_columns true (content_columns (run 35 (words_of r)) r))
+
+-- the words between braces were found, or there are none
+abbrev pub Finds : LineRest → Option (ℕ × ℕ) → Type 0
+Finds rest None = attribute_bytes (row_of rest) ≡ []
+Finds rest (Some found) =
+    (text : List ℕ) → IsUtf8 text → IsIn text rest → AreTold text (row_of rest).columns → StandsAt text found.0 found.1 (attribute_bytes (row_of rest))

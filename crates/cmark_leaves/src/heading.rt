@@ -1,9 +1,10 @@
-//! The text of ATX headings (CommonMark 4.2).
+//! The text of ATX headings (CommonMark 4.2), and where their attributes stand.
 
 ghost use Rattle.std.specs.Prelude.{◌≡◌, ◌≤◌, ℕ, List, length, OnOk};
 ghost use Rattle.std.specs.List.{take_while};
 ghost use Rattle.cmark_tree.specs.Building.{IsPlaced};
 ghost use Rattle.cmark_items.specs.Tables.{tables};
+ghost use Rattle.cmark_grammar.specs.Attributes.{before_braces, is_brace};
 ghost use Rattle.cmark_grammar.specs.Columns.{is_blank_byte};
 ghost use Rattle.cmark_grammar.specs.Leaves.{run};
 ghost use Rattle.cmark_grammar.specs.Rows.{words_of};
@@ -11,7 +12,7 @@ ghost use Rattle.cmark_grammar.specs.Tokens.{heading_tokens};
 ghost use Rattle.cmark_block_model.specs.Drawing.{Drawing, drawn};
 ghost use Rattle.cmark_builder.specs.Drawn.{Draws};
 ghost use Rattle.cmark_lines.specs.Rests.{row_of};
-ghost use Rattle.cmark_leaves.specs.Closings.{behind_opening, without_closing_bytes};
+ghost use Rattle.cmark_leaves.specs.Closings.{behind_opening, without_closing_bytes, without_attributes_bytes, Finds};
 
 use crate::trailing::{is_blank, without_trailing, without_trailing_blanks};
 use crate::words::draw_words;
@@ -57,17 +58,75 @@ fn without_closing(bytes: &[u8]) -> &[u8]
     }
 }
 
-/// The text of an ATX heading as it is, without the opening sequence, the closing one and the blanks at both ends, as a node behind
-/// the last sibling, unless it is empty.
-pub fn draw_heading(builder: &mut Builder<'_>, rest: LineRest<'_>) -> Result<(), AllocError>
+/// How many bytes stand before braces at the end that hold no braces; all, where there are none.
+fn count_before_braces(bytes: &[u8]) -> usize
+    ensures value { result ≡ length (before_braces (λ b. b) bytes.now) }
+    ensures within { result ≤ length bytes.now }
+{
+    let mut at = bytes.len();
+    if at == 0 || bytes[at - 1] != b'}' {
+        return at;
+    }
+    at -= 1;
+    while at > 0 && !is_brace(bytes[at - 1]) {
+        at -= 1;
+    }
+    if at > 0 && bytes[at - 1] == b'{' {
+        at - 1
+    } else {
+        bytes.len()
+    }
+}
+
+fn is_brace(byte: u8) -> bool
+    ensures { result ≡ is_brace (λ b. b) byte }
+{
+    byte == b'{' || byte == b'}'
+}
+
+/// Without attributes and the blanks before them, where attributes are read.
+fn without_attributes(bytes: &[u8], attributes: bool) -> &[u8]
+    ensures value { result.now ≡ without_attributes_bytes attributes bytes.now }
+    ensures within { length result.now ≤ length bytes.now }
+{
+    if attributes {
+        without_trailing_blanks(&bytes[..count_before_braces(bytes)])
+    } else {
+        bytes
+    }
+}
+
+/// Where the words between the braces of a heading's attributes begin and end, as byte offsets of the text; none, where it has no
+/// attributes (this profile's own).
+pub fn find_attributes(rest: LineRest<'_>) -> Option<(usize, usize)>
+    ensures { Finds rest.entry result }
+{
+    let behind = behind_opening(rest.words());
+    let content = without_trailing_blanks(behind);
+    let before = count_before_braces(content);
+    if before == content.len() {
+        return None;
+    }
+    let from = rest.stop() - behind.len();
+    Some((from + before + 1, from + content.len() - 1))
+}
+
+/// The text of an ATX heading as it is, without the opening sequence, its attributes, where these are read, the closing sequence and
+/// the blanks at both ends, as a node behind the last sibling, unless it is empty.
+pub fn draw_heading(
+    builder: &mut Builder<'_>,
+    rest: LineRest<'_>,
+    attributes: bool,
+) -> Result<(), AllocError>
     requires { IsPlaced builder.old.tree }
     ensures placed { IsPlaced builder.new.tree }
     ensures drawn { OnOk result ((text : List ℕ) (d : Drawing) → Draws text builder.old d
-        → Draws text builder.new (drawn (heading_tokens text (run 35 (words_of (row_of rest.entry))) (row_of rest.entry)) d)) }
+        → Draws text builder.new (drawn (heading_tokens text attributes (run 35 (words_of (row_of rest.entry))) (row_of rest.entry)) d)) }
     ensures references { (tables builder.new.allocations).references ≡ (tables builder.old.allocations).references }
 {
     let behind = behind_opening(rest.words());
-    let content = without_closing(without_trailing_blanks(behind));
+    let text = without_attributes(without_trailing_blanks(behind), attributes);
+    let content = without_closing(text);
     let from = rest.stop() - behind.len();
     draw_words(builder, from, from + content.len())
 }

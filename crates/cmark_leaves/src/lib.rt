@@ -10,7 +10,7 @@ mod trailing;
 mod words;
 
 pub use code::{draw_code_line, draw_stretch};
-pub use heading::draw_heading;
+pub use heading::{draw_heading, find_attributes};
 pub use html::draw_html_line;
 pub use paragraph::{draw_last_lines, draw_lines};
 pub use stretch::Stretch;

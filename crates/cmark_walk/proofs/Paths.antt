@@ -12,7 +12,7 @@ use Rattle.std.proofs.lemmas.Option.{same_Some}
 use Rattle.std.specs.Char.{encode_utf8}
 use Rattle.cmark_text.specs.declared.text.CowStr.{CowStr}
 use Rattle.cmark_text.specs.Shown.{level_number, shown_block_quote_kind, shown_metadata_block_kind}
-use Rattle.cmark_grammar.specs.Attributes.{no_attributes}
+use Rattle.cmark_grammar.specs.Attributes.{no_attributes, attributes_of}
 use Rattle.cmark_grammar.specs.Tokens.{slice}
 use Rattle.cmark_grammar.specs.BlockDocument as document
 use Rattle.cmark_grammar.specs.BlockDocument.{BlockKind, BlockNode}
@@ -139,7 +139,7 @@ kind-within text texts start end tight body.Paragraph kind e = ap (tight_within 
 kind-within text texts start end tight body.TightParagraph kind e = ap (tight_within tight) (sym (same_Some document.TightParagraph kind e))
 kind-within text texts start end tight body.Rule kind e = ap (tight_within tight) (sym (same_Some document.ThematicBreak kind e))
 kind-within text texts start end tight (body.Heading x0 None) kind e = ap (tight_within tight) (sym (same_Some (document.Heading (level_number x0) no_attributes) kind e))
-kind-within text texts start end tight (body.Heading x0 (Some x1)) kind e = absurd (let q : None ≡ Some kind = e in cc)
+kind-within text texts start end tight (body.Heading x0 (Some x1)) kind e = ap (tight_within tight) (sym (spelt-kind (λ words. document.Heading (level_number x0) (attributes_of words)) (text_at texts x1.0) kind e).1)
 kind-within text texts start end tight (body.FencedCodeBlock x0) kind e = ap (tight_within tight) (sym (spelt-kind document.FencedCode (text_at texts x0.0) kind e).1)
 kind-within text texts start end tight body.IndentCodeBlock kind e = ap (tight_within tight) (sym (same_Some document.IndentedCode kind e))
 kind-within text texts start end tight body.HtmlBlock kind e = ap (tight_within tight) (sym (same_Some document.HtmlBlock kind e))

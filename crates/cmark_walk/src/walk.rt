@@ -14,7 +14,9 @@ ghost use Rattle.cmark_grammar.specs.Event as event;
 ghost use Rattle.cmark_grammar.specs.Tokens.{slice};
 ghost use Rattle.cmark_items.specs.ItemNodes.{shown_forest, nodes_of, list_number};
 ghost use Rattle.cmark_items.specs.Tables.{tables};
-ghost use Rattle.cmark_text.specs.Shown.{shown, shown_tag, shown_end, text_bytes};
+ghost use Rattle.cmark_grammar.specs.Attributes.{attributes_of};
+ghost use Rattle.cmark_grammar.specs.Tag.{Heading};
+ghost use Rattle.cmark_text.specs.Shown.{shown, shown_tag, shown_end, text_bytes, level_number};
 ghost use Rattle.cmark_text.specs.ZeroCopy.{IsLentBy, IsZeroCopy};
 ghost use Rattle.cmark_walk.specs.Reads.{event_in, tag_in, end_in, shown_reading};
 ghost use Rattle.cmark_leaf_text.specs.declared.stretch.LeafLine.{LeafLine};
@@ -25,9 +27,9 @@ ghost use Rattle.cmark_walk.specs.Walking.{Drawn, IsDrawn, Outer, StandsBelow, I
 
 use crate::reading::{Met, Ranged, Reading, Stage, Step};
 use bitflags::Flags;
-use cmark_items::{Allocations, Item, ItemBody, RefDefs};
+use cmark_items::{Allocations, HeadingAttributes, Item, ItemBody, RefDefs};
 use cmark_leaf_text::LeafLine;
-use cmark_text::{CodeBlockKind, CowStr, Event, Tag, TagEnd};
+use cmark_text::{CodeBlockKind, CowStr, Event, HeadingLevel, Tag, TagEnd};
 use cmark_tree::{Tree, TreeIndex};
 use std::alloc::{AllocError, Global};
 
@@ -324,12 +326,16 @@ impl<'a> Walk<'a> {
             } else {
                 Some(Tag::Paragraph)
             }),
-            ItemBody::Heading(level, _) => Ok(Some(Tag::Heading {
+            ItemBody::Heading(level, None) => Ok(Some(Tag::Heading {
                 level,
                 id: None,
                 classes: Vec::new(self.alloc),
                 attrs: Vec::new(self.alloc),
             })),
+            ItemBody::Heading(level, Some(index)) => {
+                let words = self.allocations[index].as_str();
+                Ok(Some(heading(self.alloc, level, words)?))
+            }
             ItemBody::IndentCodeBlock => Ok(Some(Tag::CodeBlock(CodeBlockKind::Indented))),
             ItemBody::FencedCodeBlock(index) => {
                 let info = self.allocations[index].clone(self.alloc)?;
@@ -402,6 +408,19 @@ fn is_leaf(item: Item) -> bool
         ItemBody::Heading(_, _) => true,
         _ => false,
     }
+}
+
+// The tag of a heading with these words between the braces of its attributes.
+fn heading<'a>(alloc: Global, level: HeadingLevel, words: &str) -> Result<Tag<'a>, AllocError>
+    ensures { IfOk result (λ tag. shown_tag tag ≡ Heading (level_number level) (attributes_of words.now)) }
+{
+    let HeadingAttributes { id, classes, attrs } = HeadingAttributes::read(alloc, words)?;
+    Ok(Tag::Heading {
+        level,
+        id,
+        classes,
+        attrs,
+    })
 }
 
 // The number of the first item of a list with this character, if it is ordered (CommonMark 5.2).

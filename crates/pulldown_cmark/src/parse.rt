@@ -55,7 +55,8 @@ impl<'input, E: EntityLookup> Parser<'input, E> {
     }
 
     /// A parser of `text` with these options. Those for strikethrough, superscript, subscript and smart punctuation have an
-    /// effect, on spans; the others are read from the day on which the grammar has their rules.
+    /// effect, on spans, those for metadata blocks on blocks, and that for heading attributes on ATX headings; the others are read
+    /// from the day on which the grammar has their rules.
     pub fn new_ext(
         alloc: Global,
         text: &'input str,

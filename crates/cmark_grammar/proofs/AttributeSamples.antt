@@ -1,0 +1,80 @@
+-- Attributes of headings, computed from the definitions.
+use Rattle.std.specs.Prelude.{◌≡◌, true, [], ◌∷◌, codes, List, ℕ, Some, None}
+use Rattle.std.proofs.Common.{refl}
+use Rattle.cmark_grammar.specs.Attributes.{Attributes, Attribute, no_attributes, attributes_of}
+use Rattle.cmark_grammar.specs.Entities.{basic_entity}
+use Rattle.cmark_grammar.specs.Leaves.{underlines}
+use Rattle.cmark_grammar.specs.Containers.{enter, keeps}
+use Rattle.cmark_grammar.specs.Openings.{opens, texts, lazily}
+use Rattle.cmark_grammar.specs.BlocksModel.{begin, blocks}
+use Rattle.cmark_grammar.specs.BlockDocument.{Heading, Text, Paragraph, BlockNode, node, outline}
+use Rattle.cmark_grammar.specs.Derivation.{document}
+use Rattle.cmark_grammar.specs.Options.{Options, no_options}
+
+abbrev with_attributes : Options
+with_attributes = record no_options { heading_attributes = true }
+
+abbrev read : List ℕ → List BlockNode
+read text = outline (document text with_attributes basic_entity)
+
+abbrev identified : List ℕ → Attributes
+identified name = record no_attributes { id = Some name }
+
+abbrev classed : List ℕ → Attributes
+classed name = record no_attributes { classes = name ∷ [] }
+
+-- the last identifier counts, classes and pairs stay in order, and a word of one byte is passed over
+words : attributes_of (codes "#a .b c=d e #f .g h= x=y=z =v") ≡ record {
+  id = Some (codes "f");
+  classes = codes "b" ∷ codes "g" ∷ [];
+  others = record { name = codes "c"; value = Some (codes "d") } ∷ record { name = codes "h"; value = Some [] } ∷ record { name = codes "x"; value = Some (codes "y=z") } ∷ record { name = []; value = Some (codes "v") } ∷ [];
+}
+words = refl
+
+white_space : attributes_of (codes "\t.a\n.b  .c") ≡ record no_attributes { classes = codes "a" ∷ codes "b" ∷ codes "c" ∷ [] }
+white_space = refl
+
+no_words : attributes_of [] ≡ no_attributes
+no_words = refl
+
+-- they are taken off, and the blanks before them too
+taken_off : read (codes "# a {#b}\n") ≡ node (Heading 1 (identified (codes "b"))) 0 9 ∷ node (Text (codes "a")) 2 3 ∷ []
+unfolding blocks begin opens texts lazily enter keeps underlines
+taken_off = refl
+
+-- without the option they are text
+no_option : outline (document (codes "# a {#b}\n") no_options basic_entity) ≡ node (Heading 1 no_attributes) 0 9 ∷ node (Text (codes "a {#b}")) 2 8 ∷ []
+unfolding blocks begin opens texts lazily enter keeps underlines
+no_option = refl
+
+-- first of all, and a closing sequence after them
+before_the_closing_sequence : read (codes "# a # {#b}") ≡ node (Heading 1 (identified (codes "b"))) 0 10 ∷ node (Text (codes "a")) 2 3 ∷ []
+unfolding blocks begin opens texts lazily enter keeps underlines
+before_the_closing_sequence = refl
+
+behind_no_closing_sequence : read (codes "# {#b} #") ≡ node (Heading 1 no_attributes) 0 8 ∷ node (Text (codes "{#b}")) 2 6 ∷ []
+unfolding blocks begin opens texts lazily enter keeps underlines
+behind_no_closing_sequence = refl
+
+-- the last braces, which hold no others
+last_braces : read (codes "# {.a{.b}") ≡ node (Heading 1 (classed (codes "b"))) 0 9 ∷ node (Text (codes "{.a")) 2 5 ∷ []
+unfolding blocks begin opens texts lazily enter keeps underlines
+last_braces = refl
+
+two_at_the_end : read (codes "# {.a}}") ≡ node (Heading 1 no_attributes) 0 7 ∷ node (Text (codes "{.a}}")) 2 7 ∷ []
+unfolding blocks begin opens texts lazily enter keeps underlines
+two_at_the_end = refl
+
+-- backslashes escape nothing there
+backslash : read (codes "# a \\{.b\\}") ≡ node (Heading 1 (classed (codes "b\\"))) 0 10 ∷ node (Text (codes "a \\")) 2 5 ∷ []
+unfolding blocks begin opens texts lazily enter keeps underlines
+backslash = refl
+
+nothing_left : read (codes "# {}") ≡ node (Heading 1 no_attributes) 0 4 ∷ []
+unfolding blocks begin opens texts lazily enter keeps underlines
+nothing_left = refl
+
+-- a paragraph has none
+paragraph : read (codes "a {#b}") ≡ node Paragraph 0 6 ∷ node (Text (codes "a {#b}")) 0 6 ∷ []
+unfolding blocks begin opens texts lazily enter keeps underlines
+paragraph = refl

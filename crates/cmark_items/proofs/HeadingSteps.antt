@@ -1,0 +1,78 @@
+-- The words between braces, one after the other.
+use Rattle.std.proofs.Common.{◌≡◌, ℕ, zero, suc, ◌<◌, Bool, true, false, ◌==◌, ◌||◌, not, ◌++◌, List, [], ◌∷◌, length, take, drop, Option, Some, None, refl, sym, ap, ◌∙◌, arith, cond, true≢false}
+use Rattle.std.specs.List.{take_while}
+use Rattle.std.specs.Prelude.{get_or, if◌then◌else◌}
+use Rattle.std.proofs.lemmas.List.Sums.{take_while-cons}
+use Rattle.cmark_grammar.specs.Attributes.{Attributes, is_white_space, is_no_equals, put_byte, words, value_behind, attribute_of, with_word}
+use Rattle.cmark_items.specs.Headings.{is_in_word, words_behind}
+
+-- how much is left
+abbrev pub left_size : Option (List ℕ) → ℕ
+left_size None = 0
+left_size (Some bs) = suc (length bs)
+
+-- the first word, and those behind the white space that ends it
+pub words-cut : (bs : List ℕ) → words bs ≡ take (length (take_while is_in_word bs)) bs ∷ words_behind (value_behind (drop (length (take_while is_in_word bs)) bs))
+words-cut [] = refl
+words-cut (b ∷ bs) = go (is_white_space b) refl (words-cut bs)
+  where
+    n : ℕ
+    n = length (take_while is_in_word bs)
+
+    at : (z : Bool) → is_white_space b ≡ z → length (take_while is_in_word (b ∷ bs)) ≡ length (cond (not z) (b ∷ take_while is_in_word bs) [])
+    at z e = ap length (take_while-cons is_in_word b bs) ∙ ap (λ y. length (cond (not y) (b ∷ take_while is_in_word bs) [])) e
+
+    go : (z : Bool) → is_white_space b ≡ z → words bs ≡ take n bs ∷ words_behind (value_behind (drop n bs)) →
+        put_byte (is_white_space b) b (words bs) ≡ take (length (take_while is_in_word (b ∷ bs))) (b ∷ bs) ∷ words_behind (value_behind (drop (length (take_while is_in_word (b ∷ bs))) (b ∷ bs)))
+    go true e ih = ap (λ y. put_byte y b (words bs)) e ∙ sym (ap (λ k. take k (b ∷ bs) ∷ words_behind (value_behind (drop k (b ∷ bs)))) (at true e))
+    go false e ih =
+        ap (λ y. put_byte y b (words bs)) e ∙ ap (put_byte false b) ih
+        ∙ sym (ap (λ k. take k (b ∷ bs) ∷ words_behind (value_behind (drop k (b ∷ bs)))) (at false e))
+
+-- where bytes that pass end, a byte stands that does not
+pub behind-fails : (p : ℕ → Bool) (bs : List ℕ) → length (take_while p bs) < length bs → p (get_or bs (length (take_while p bs)) 0) ≡ false
+behind-fails p [] l = absurd (omega (arith, l))
+behind-fails p (b ∷ bs) l = go (p b) refl (behind-fails p bs)
+  where
+    at : (z : Bool) → p b ≡ z → length (take_while p (b ∷ bs)) ≡ length (cond z (b ∷ take_while p bs) [])
+    at z e = ap length (take_while-cons p b bs) ∙ ap (λ y. length (cond y (b ∷ take_while p bs) [])) e
+
+    go : (z : Bool) → p b ≡ z → (length (take_while p bs) < length bs → p (get_or bs (length (take_while p bs)) 0) ≡ false) → p (get_or (b ∷ bs) (length (take_while p (b ∷ bs))) 0) ≡ false
+    go true e ih = ap (λ k. p (get_or (b ∷ bs) k 0)) (at true e) ∙ ih (let q = at true e in omega (arith, l, q))
+    go false e ih = ap (λ k. p (get_or (b ∷ bs) k 0)) (at false e) ∙ e
+
+is_byte : (b n : ℕ) → (b == n) ≡ true → n < 128 → b < 128
+is_byte b n e l = grind (arith, e, l)
+
+one-of : (b n : ℕ) (q : Bool) → n < 128 → ((b == n) || q) ≡ true → (q ≡ true → b < 128) → b < 128
+one-of b n q l e more = go (b == n) refl e
+  where
+    go : (z : Bool) → (b == n) ≡ z → (z || q) ≡ true → b < 128
+    go true f g = is_byte b n f l
+    go false f g = more g
+
+not-false : (z : Bool) → not z ≡ false → z ≡ true
+not-false true e = refl
+not-false false e = absurd (true≢false e)
+
+-- a byte that ends a word is ASCII, and so is one that ends a name
+pub white-ascii : (b : ℕ) → is_in_word b ≡ false → b < 128
+white-ascii b e =
+    one-of b 9 _ (omega arith) (not-false (is_white_space b) e)
+    (λ f. one-of b 10 _ (omega arith) f (λ g. one-of b 12 _ (omega arith) g (λ h. one-of b 13 _ (omega arith) h (λ i. is_byte b 32 i (omega arith)))))
+
+pub equals-ascii : (b : ℕ) → is_no_equals b ≡ false → b < 128
+equals-ascii b e = is_byte b 61 (not-false (b == 61) e) (omega arith)
+
+-- a word of two bytes or more that begins with neither `#` nor `.` is another attribute
+pub with-other : (a : Attributes) (bs : List ℕ) → (length bs < 2 → ⊥) → (get_or bs 0 0 ≡ 35 → ⊥) → (get_or bs 0 0 ≡ 46 → ⊥) → with_word a bs ≡ record a { others = a.others ++ attribute_of bs ∷ [] }
+with-other a [] l x y = absurd (l (omega arith))
+with-other a (b ∷ []) l x y = absurd (l (omega arith))
+with-other a (b ∷ (c ∷ bs)) l x y = go (b == 35) refl (b == 46) refl
+  where
+    go : (p : Bool) → (b == 35) ≡ p → (q : Bool) → (b == 46) ≡ q → with_word a (b ∷ (c ∷ bs)) ≡ record a { others = a.others ++ attribute_of (b ∷ (c ∷ bs)) ∷ [] }
+    go true e q f = absurd (x (let s : b ≡ 35 = grind (arith, e) in s))
+    go false e true f = absurd (y (let s : b ≡ 46 = grind (arith, f) in s))
+    go false e false f =
+        ap (λ z. if z then record a { id = Some (c ∷ bs) } else if b == 46 then record a { classes = a.classes ++ (c ∷ bs) ∷ [] } else record a { others = a.others ++ attribute_of (b ∷ (c ∷ bs)) ∷ [] }) e
+        ∙ ap (λ z. if z then record a { classes = a.classes ++ (c ∷ bs) ∷ [] } else record a { others = a.others ++ attribute_of (b ∷ (c ∷ bs)) ∷ [] }) f

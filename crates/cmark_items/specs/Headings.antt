@@ -1,0 +1,20 @@
+-- The attributes of a heading as those of the definitions.
+use Rattle.std.specs.Prelude.{ℕ, Bool, not, List, [], Option, Some, None}
+use Rattle.std.specs.Borrow.{Bor}
+use Rattle.cmark_grammar.specs.Attributes.{Attributes, is_white_space, words}
+use Rattle.cmark_text.specs.Shown.{shown_attributes}
+use Rattle.cmark_items.specs.declared.heading.HeadingAttributes.{HeadingAttributes}
+
+abbrev pub shown_heading : HeadingAttributes → Attributes
+shown_heading a = shown_attributes a.id a.classes.items a.attrs.items
+
+abbrev pub is_in_word : ℕ → Bool
+is_in_word b = not (is_white_space b)
+
+abbrev pub str_bytes : Bor (List ℕ) → List ℕ
+str_bytes text = text.now
+
+-- the words that are left behind one
+abbrev pub words_behind : Option (List ℕ) → List (List ℕ)
+words_behind None = []
+words_behind (Some bs) = words bs

@@ -1,0 +1,29 @@
+use Rattle.std.proofs.Common.{◌≡◌, length, sym, ap, ◌∙◌}
+use Rattle.cmark_grammar.specs.Attributes.{before_braces, inside_braces}
+use Rattle.cmark_grammar.specs.Columns.{is_blank_byte, drop_end}
+use Rattle.cmark_grammar.specs.Rows.{words_of}
+use Rattle.cmark_lines.specs.Rests.{row_of}
+use Rattle.cmark_leaves.specs.Closings.{behind_opening}
+use Rattle.cmark_leaves.proofs.BraceSteps.{no-inside}
+use Rattle.cmark_leaves.proofs.HeadingSteps.{heading-from, words-bytes, words-stand}
+use Rattle.cmark_leaves.proofs.heading.find_attributes.Goals as goal
+
+pub returns-then-before-content : goal.returns-then-before-content
+returns-then-before-content c =
+    let behind = c.behind_opening-behind.ensures ∙ ap behind_opening c.words.ensures in
+    let content = c.without_trailing_blanks-content.ensures.value ∙ ap (drop_end is_blank_byte) behind in
+    let found = c.without_trailing_blanks-content.result.now in
+    words-bytes c.args.rest ∙ ap (inside_braces (λ b. b)) (sym content) ∙ no-inside found (sym c.count_before_braces-before.ensures.value ∙ c.if-before-content.true)
+
+pub overflow_sub-from : goal.overflow_sub-from
+overflow_sub-from c =
+    (heading-from c.args.rest c.stop.result (length c.behind_opening-behind.result.now) c.stop.ensures.place (ap length (c.behind_opening-behind.ensures ∙ ap behind_opening c.words.ensures))).0
+
+pub returns : goal.returns
+returns c =
+    let rest = c.args.rest in
+    let behind = c.behind_opening-behind.ensures ∙ ap behind_opening c.words.ensures in
+    let content = c.without_trailing_blanks-content.ensures.value ∙ ap (drop_end is_blank_byte) behind in
+    let from = (heading-from rest c.stop.result (length c.behind_opening-behind.result.now) c.stop.ensures.place (ap length behind)).1 in
+    λ text utf8 placed told. words-stand rest _ c.count_before_braces-before.result (length c.without_trailing_blanks-content.result.now) (row_of rest).stop from
+    (c.count_before_braces-before.ensures.value ∙ ap (λ bs. length (before_braces (λ b. b) bs)) content) (ap length content) c.if-before-content.false text utf8 told
