@@ -54,7 +54,7 @@ IsVerbatim (leaf.Html kind) waits = waits ≡ None
 IsVerbatim (leaf.Metadata kind others) waits = waits ≡ others
 
 module _ {E : Type 0} where
-  -- what holds of the pass whatever happens, want of memory too: nodes can be added, and no character is cut where the next line
+  -- what holds of the pass whatever happens, out of memory too: nodes can be added, and no character is cut where the next line
   -- begins
   pub record IsGood (pass : Pass E) : Type 0 where
     pub placed : IsPlaced pass.builder.tree

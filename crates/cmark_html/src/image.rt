@@ -51,7 +51,7 @@ pub fn append_image_end(out: &mut String, title: &str) -> Result<(), AllocError>
 
 /// Appends what an event inside of an image adds to it, and answers the image if it is still open.
 ///
-/// Where more than `u64::MAX` elements are open in the image, that is want of memory.
+/// Where more than `u64::MAX` elements are open in the image, that is out of memory.
 pub fn write_inside<'a>(
     out: &mut String,
     image: OpenImage<'a>,

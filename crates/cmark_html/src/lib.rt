@@ -25,10 +25,10 @@ use std::alloc::AllocError;
 
 /// Appends the HTML of the events that the iterator gives, any iterator that ends. An image that they leave open is closed.
 ///
-/// An error item, or want of memory, ends it with that error; the string then holds its old text and a beginning of the
+/// An error item, or out of memory, ends it with that error; the string then holds its old text and a beginning of the
 /// HTML of the events that were given. The iterator is asked no more after its `None` and after an error item. A line feed
 /// that a block wants before it is judged by what this call wrote, not by the string's old text. More than `u64::MAX`
-/// elements open in an image, or cells in a row, count as want of memory.
+/// elements open in an image, or cells in a row, count as out of memory.
 ///
 /// ```text
 /// let mut html = String::new(alloc);

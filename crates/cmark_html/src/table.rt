@@ -58,7 +58,7 @@ impl TableState {
 
     /// Moves on behind an end.
     ///
-    /// Where more than `usize::MAX` cells of a row have ended, that is want of memory.
+    /// Where more than `usize::MAX` cells of a row have ended, that is out of memory.
     pub fn end(&mut self, tag: TagEnd) -> Result<(), AllocError>
         ensures { OnOk result (shown_table self.new ≡ table_after_end (shown_table self.old) (shown_end tag)) }
     {

@@ -12,7 +12,7 @@ status_of NotUtf8 = 4
 status_of Entities = 3
 status_of Write = 1
 
--- a reading ends for want of memory, or with Read: a read failed, too many in a row were interrupted, or more bytes came
+-- a reading ends out of memory, or with Read: a read failed, too many in a row were interrupted, or more bytes came
 -- than the limit allows
 abbrev pub ReadStops : ℕ → Notes → RunFault → Type 0
 ReadStops limit notes Memory = Unit {0}

@@ -29,7 +29,7 @@ may_fail kinds kind Bad (inl out) has = absurd (has.1 out)
 may_fail kinds kind Bad (inr among) has = (kind, among, has.0)
 may_fail kinds kind Memory among has = tt
 
--- and want of memory is Memory
+-- and out of memory is Memory
 pub is_memory : (kind : ErrorKind) (fault : LineFault) → kind ≡ OutOfMemory → HasLineFault kind fault → fault ≡ Memory
 is_memory kind (Help text) out asks = absurd (true≢false (sym asks ∙ ap asks_for_text out))
 is_memory kind Bad out has = absurd (has.1 out)
