@@ -21,18 +21,21 @@ impl<'a> Tag<'a> {
                 id,
                 classes,
                 attrs,
-            } => Ok(Tag::Heading {
-                level: *level,
-                id: clone_optional_text(alloc, id)?,
-                classes: clone_texts(alloc, classes)?,
-                attrs: clone_attributes(alloc, attrs)?,
-            }),
+            } => {
+                let (id, classes, attrs) = clone_heading_parts(alloc, id, classes, attrs)?;
+                Ok(Tag::Heading {
+                    level: *level,
+                    id,
+                    classes,
+                    attrs,
+                })
+            }
             Tag::BlockQuote(kind) => Ok(Tag::BlockQuote(*kind)),
-            Tag::CodeBlock(kind) => Ok(Tag::CodeBlock(kind.clone(alloc)?)),
+            Tag::CodeBlock(kind) => kind.clone(alloc).map(Tag::CodeBlock),
             Tag::HtmlBlock => Ok(Tag::HtmlBlock),
             Tag::List(first) => Ok(Tag::List(*first)),
             Tag::Item => Ok(Tag::Item),
-            Tag::FootnoteDefinition(label) => Ok(Tag::FootnoteDefinition(label.clone(alloc)?)),
+            Tag::FootnoteDefinition(label) => label.clone(alloc).map(Tag::FootnoteDefinition),
             Tag::DefinitionList => Ok(Tag::DefinitionList),
             Tag::DefinitionListTitle => Ok(Tag::DefinitionListTitle),
             Tag::DefinitionListDefinition => Ok(Tag::DefinitionListDefinition),
@@ -50,23 +53,29 @@ impl<'a> Tag<'a> {
                 dest_url,
                 title,
                 id,
-            } => Ok(Tag::Link {
-                link_type: *link_type,
-                dest_url: dest_url.clone(alloc)?,
-                title: title.clone(alloc)?,
-                id: id.clone(alloc)?,
-            }),
+            } => {
+                let (dest_url, title, id) = clone_link_texts(alloc, dest_url, title, id)?;
+                Ok(Tag::Link {
+                    link_type: *link_type,
+                    dest_url,
+                    title,
+                    id,
+                })
+            }
             Tag::Image {
                 link_type,
                 dest_url,
                 title,
                 id,
-            } => Ok(Tag::Image {
-                link_type: *link_type,
-                dest_url: dest_url.clone(alloc)?,
-                title: title.clone(alloc)?,
-                id: id.clone(alloc)?,
-            }),
+            } => {
+                let (dest_url, title, id) = clone_link_texts(alloc, dest_url, title, id)?;
+                Ok(Tag::Image {
+                    link_type: *link_type,
+                    dest_url,
+                    title,
+                    id,
+                })
+            }
             Tag::MetadataBlock(kind) => Ok(Tag::MetadataBlock(*kind)),
         }
     }
@@ -83,20 +92,21 @@ impl<'a> Tag<'a> {
                 id,
                 classes,
                 attrs,
-            } => Ok(Tag::Heading {
-                level,
-                id: static_optional_text(alloc, id)?,
-                classes: static_texts(alloc, classes)?,
-                attrs: static_attributes(alloc, attrs)?,
-            }),
+            } => {
+                let (id, classes, attrs) = static_heading_parts(alloc, id, classes, attrs)?;
+                Ok(Tag::Heading {
+                    level,
+                    id,
+                    classes,
+                    attrs,
+                })
+            }
             Tag::BlockQuote(kind) => Ok(Tag::BlockQuote(kind)),
-            Tag::CodeBlock(kind) => Ok(Tag::CodeBlock(kind.into_static(alloc)?)),
+            Tag::CodeBlock(kind) => kind.into_static(alloc).map(Tag::CodeBlock),
             Tag::HtmlBlock => Ok(Tag::HtmlBlock),
             Tag::List(first) => Ok(Tag::List(first)),
             Tag::Item => Ok(Tag::Item),
-            Tag::FootnoteDefinition(label) => Ok(Tag::FootnoteDefinition(label.into_static(
-                alloc,
-            )?)),
+            Tag::FootnoteDefinition(label) => label.into_static(alloc).map(Tag::FootnoteDefinition),
             Tag::DefinitionList => Ok(Tag::DefinitionList),
             Tag::DefinitionListTitle => Ok(Tag::DefinitionListTitle),
             Tag::DefinitionListDefinition => Ok(Tag::DefinitionListDefinition),
@@ -114,23 +124,29 @@ impl<'a> Tag<'a> {
                 dest_url,
                 title,
                 id,
-            } => Ok(Tag::Link {
-                link_type,
-                dest_url: dest_url.into_static(alloc)?,
-                title: title.into_static(alloc)?,
-                id: id.into_static(alloc)?,
-            }),
+            } => {
+                let (dest_url, title, id) = static_link_texts(alloc, dest_url, title, id)?;
+                Ok(Tag::Link {
+                    link_type,
+                    dest_url,
+                    title,
+                    id,
+                })
+            }
             Tag::Image {
                 link_type,
                 dest_url,
                 title,
                 id,
-            } => Ok(Tag::Image {
-                link_type,
-                dest_url: dest_url.into_static(alloc)?,
-                title: title.into_static(alloc)?,
-                id: id.into_static(alloc)?,
-            }),
+            } => {
+                let (dest_url, title, id) = static_link_texts(alloc, dest_url, title, id)?;
+                Ok(Tag::Image {
+                    link_type,
+                    dest_url,
+                    title,
+                    id,
+                })
+            }
             Tag::MetadataBlock(kind) => Ok(Tag::MetadataBlock(kind)),
         }
     }
@@ -143,15 +159,15 @@ impl<'a> Event<'a> {
         ensures succeeds { EventCopiesInPlace self.now → IsOk result }
     {
         match self {
-            Event::Start(tag) => Ok(Event::Start(tag.clone(alloc)?)),
+            Event::Start(tag) => tag.clone(alloc).map(Event::Start),
             Event::End(end) => Ok(Event::End(*end)),
-            Event::Text(text) => Ok(Event::Text(text.clone(alloc)?)),
-            Event::Code(text) => Ok(Event::Code(text.clone(alloc)?)),
-            Event::InlineMath(text) => Ok(Event::InlineMath(text.clone(alloc)?)),
-            Event::DisplayMath(text) => Ok(Event::DisplayMath(text.clone(alloc)?)),
-            Event::Html(text) => Ok(Event::Html(text.clone(alloc)?)),
-            Event::InlineHtml(text) => Ok(Event::InlineHtml(text.clone(alloc)?)),
-            Event::FootnoteReference(text) => Ok(Event::FootnoteReference(text.clone(alloc)?)),
+            Event::Text(text) => text.clone(alloc).map(Event::Text),
+            Event::Code(text) => text.clone(alloc).map(Event::Code),
+            Event::InlineMath(text) => text.clone(alloc).map(Event::InlineMath),
+            Event::DisplayMath(text) => text.clone(alloc).map(Event::DisplayMath),
+            Event::Html(text) => text.clone(alloc).map(Event::Html),
+            Event::InlineHtml(text) => text.clone(alloc).map(Event::InlineHtml),
+            Event::FootnoteReference(text) => text.clone(alloc).map(Event::FootnoteReference),
             Event::SoftBreak => Ok(Event::SoftBreak),
             Event::HardBreak => Ok(Event::HardBreak),
             Event::Rule => Ok(Event::Rule),
@@ -165,17 +181,15 @@ impl<'a> Event<'a> {
         ensures succeeds { EventStaysInPlace self.entry → IsOk result }
     {
         match self {
-            Event::Start(tag) => Ok(Event::Start(tag.into_static(alloc)?)),
+            Event::Start(tag) => tag.into_static(alloc).map(Event::Start),
             Event::End(end) => Ok(Event::End(end)),
-            Event::Text(text) => Ok(Event::Text(text.into_static(alloc)?)),
-            Event::Code(text) => Ok(Event::Code(text.into_static(alloc)?)),
-            Event::InlineMath(text) => Ok(Event::InlineMath(text.into_static(alloc)?)),
-            Event::DisplayMath(text) => Ok(Event::DisplayMath(text.into_static(alloc)?)),
-            Event::Html(text) => Ok(Event::Html(text.into_static(alloc)?)),
-            Event::InlineHtml(text) => Ok(Event::InlineHtml(text.into_static(alloc)?)),
-            Event::FootnoteReference(text) => Ok(Event::FootnoteReference(text.into_static(
-                alloc,
-            )?)),
+            Event::Text(text) => text.into_static(alloc).map(Event::Text),
+            Event::Code(text) => text.into_static(alloc).map(Event::Code),
+            Event::InlineMath(text) => text.into_static(alloc).map(Event::InlineMath),
+            Event::DisplayMath(text) => text.into_static(alloc).map(Event::DisplayMath),
+            Event::Html(text) => text.into_static(alloc).map(Event::Html),
+            Event::InlineHtml(text) => text.into_static(alloc).map(Event::InlineHtml),
+            Event::FootnoteReference(text) => text.into_static(alloc).map(Event::FootnoteReference),
             Event::SoftBreak => Ok(Event::SoftBreak),
             Event::HardBreak => Ok(Event::HardBreak),
             Event::Rule => Ok(Event::Rule),
@@ -186,6 +200,76 @@ impl<'a> Event<'a> {
 
 /// An attribute of a heading: its name, and its value if it has one.
 type Attribute<'a> = (CowStr<'a>, Option<CowStr<'a>>);
+
+/// The destination, the title and the label of a link or an image.
+type LinkTexts<'a> = (CowStr<'a>, CowStr<'a>, CowStr<'a>);
+
+fn clone_link_texts<'a>(
+    alloc: Global,
+    dest_url: &CowStr<'a>,
+    title: &CowStr<'a>,
+    id: &CowStr<'a>,
+) -> Result<LinkTexts<'a>, AllocError>
+    ensures dest_url { IfOk result (λ copies. text_bytes copies.0 ≡ text_bytes dest_url.now) }
+    ensures title { IfOk result (λ copies. text_bytes copies.1 ≡ text_bytes title.now) }
+    ensures id { IfOk result (λ copies. text_bytes copies.2 ≡ text_bytes id.now) }
+    ensures succeeds { CopiesInPlace dest_url.now → CopiesInPlace title.now → CopiesInPlace id.now → IsOk result }
+{
+    let dest_url = dest_url.clone(alloc)?;
+    let title = title.clone(alloc)?;
+    Ok((dest_url, title, id.clone(alloc)?))
+}
+
+fn static_link_texts(
+    alloc: Global,
+    dest_url: CowStr<'_>,
+    title: CowStr<'_>,
+    id: CowStr<'_>,
+) -> Result<LinkTexts<'static>, AllocError>
+    ensures dest_url { IfOk result (λ made. text_bytes made.0 ≡ text_bytes dest_url.entry) }
+    ensures title { IfOk result (λ made. text_bytes made.1 ≡ text_bytes title.entry) }
+    ensures id { IfOk result (λ made. text_bytes made.2 ≡ text_bytes id.entry) }
+    ensures succeeds { StaysInPlace dest_url.entry → StaysInPlace title.entry → StaysInPlace id.entry → IsOk result }
+{
+    let dest_url = dest_url.into_static(alloc)?;
+    let title = title.into_static(alloc)?;
+    Ok((dest_url, title, id.into_static(alloc)?))
+}
+
+/// What the braces of a heading say: its anchor, its classes and its other attributes.
+type HeadingParts<'a> = (Option<CowStr<'a>>, Vec<CowStr<'a>>, Vec<Attribute<'a>>);
+
+fn clone_heading_parts<'a>(
+    alloc: Global,
+    id: &Option<CowStr<'a>>,
+    classes: &[CowStr<'a>],
+    attrs: &[Attribute<'a>],
+) -> Result<HeadingParts<'a>, AllocError>
+    ensures id { IfOk result (λ copies. option_map text_bytes copies.0 ≡ option_map text_bytes id.now) }
+    ensures classes { IfOk result (λ copies. map text_bytes copies.1.items ≡ map text_bytes classes.now) }
+    ensures attrs { IfOk result (λ copies. map shown_attribute copies.2.items ≡ map shown_attribute attrs.now) }
+    ensures succeeds { IfSome id.now CopiesInPlace → length classes.now ≡ 0 → length attrs.now ≡ 0 → IsOk result }
+{
+    let id = clone_optional_text(alloc, id)?;
+    let classes = clone_texts(alloc, classes)?;
+    Ok((id, classes, clone_attributes(alloc, attrs)?))
+}
+
+fn static_heading_parts(
+    alloc: Global,
+    id: Option<CowStr<'_>>,
+    classes: Vec<CowStr<'_>>,
+    attrs: Vec<Attribute<'_>>,
+) -> Result<HeadingParts<'static>, AllocError>
+    ensures id { IfOk result (λ made. option_map text_bytes made.0 ≡ option_map text_bytes id.entry) }
+    ensures classes { IfOk result (λ made. map text_bytes made.1.items ≡ map text_bytes classes.entry.items) }
+    ensures attrs { IfOk result (λ made. map shown_attribute made.2.items ≡ map shown_attribute attrs.entry.items) }
+    ensures succeeds { IfSome id.entry StaysInPlace → length classes.entry.items ≡ 0 → length attrs.entry.items ≡ 0 → IsOk result }
+{
+    let id = static_optional_text(alloc, id)?;
+    let classes = static_texts(alloc, classes)?;
+    Ok((id, classes, static_attributes(alloc, attrs)?))
+}
 
 fn clone_optional_text<'a>(
     alloc: Global,
