@@ -8,6 +8,8 @@ use Rattle.cmark_text.specs.Shown.{shown, shown_end}
 use Rattle.cmark_text.specs.ZeroCopy.{IsZeroCopy}
 use Rattle.cmark_inline.specs.declared.event.Given.{Given}
 use Rattle.cmark_inline.specs.declared.event.Opened.{Opened}
+use Rattle.cmark_inline.specs.declared.slot.Element.{Element}
+use Rattle.cmark_inline.specs.declared.slot.Element.TheVariants as element
 use Rattle.cmark_inline.specs.declared.state.InlineState.{InlineState}
 
 abbrev pub shown_given : Given → Ranged
@@ -16,6 +18,17 @@ shown_given given = record { event = shown given.event; start = given.range.star
 -- the zero-copy law of an event with its range
 abbrev pub GivesZeroCopy : (source : List ℕ) → Given → Type 0
 GivesZeroCopy source given = IsZeroCopy source given.event given.range.start given.range.end
+
+-- the end of an element
+abbrev pub element_end : Element → end.TagEnd
+element_end element.Emphasis = end.Emphasis
+element_end element.Strong = end.Strong
+element_end element.Strikethrough = end.Strikethrough
+element_end element.Superscript = end.Superscript
+element_end element.Subscript = end.Subscript
+element_end (element.Link index) = end.Link
+element_end (element.Autolink index) = end.Link
+element_end (element.Image index) = end.Image
 
 -- an element ends like this, and has this range
 pub record EndsAs (tag : end.TagEnd) (start end : ℕ) (one : Opened) : Type 0 where

@@ -9,9 +9,10 @@ ghost use Rattle.cmark_grammar.specs.LeafSpans.{IsInline, IsSpan};
 ghost use Rattle.cmark_grammar.specs.Tokens.{slice};
 ghost use Rattle.cmark_leaf_text.specs.Reads.{IsRead, IsPart, place_of, text_of, source_of};
 ghost use Rattle.cmark_scan_parts.specs.Shown.{IsBorrowed};
-ghost use Rattle.cmark_text.specs.Shown.{shown, shown_tag, text_bytes, IsBoxed, IsInlined};
+ghost use Rattle.cmark_grammar.specs.TagEnd.{end_of, Image, Link};
+ghost use Rattle.cmark_text.specs.Shown.{shown, shown_end, shown_tag, text_bytes, IsBoxed, IsInlined};
 ghost use Rattle.cmark_text.specs.ZeroCopy.{IsLentBy, IsPartIfBorrowed, IsZeroCopy};
-ghost use Rattle.cmark_inline.specs.Opens.{Follows, Gives, GivesZeroCopy, Passes, events_left, shown_given};
+ghost use Rattle.cmark_inline.specs.Opens.{element_end, Follows, Gives, GivesZeroCopy, Passes, events_left, shown_given};
 ghost use Rattle.cmark_inline.specs.Stands.{AreOpened, AreSlots, IsSlot};
 
 use crate::link::LinkParts;
@@ -132,14 +133,14 @@ impl<'a> InlineState<'a> {
         ensures lent { IfOk result (GivesZeroCopy (source_of leaf.now)) }
     {
         let range = leaf.range(slot.start, slot.end);
-        let tag = self.tag(element);
+        // The push comes first: where memory is refused, nothing was taken that has to be dropped.
         self.walk.opened.push(Opened {
-            tag: tag.to_end(),
+            tag: element_end(element),
             start: range.start,
             end: range.end,
         })?;
         Ok(Given {
-            event: Event::Start(tag),
+            event: Event::Start(self.tag(element)),
             range,
         })
     }
@@ -163,6 +164,7 @@ impl<'a> InlineState<'a> {
 
     fn tag(&mut self, element: Element) -> Tag<'a>
         ensures span { IsSpan (shown_tag result) }
+        ensures end { end_of (shown_tag result) ≡ element_end element }
         ensures slots { self.new.slots ≡ self.old.slots }
         ensures walk { self.new.walk ≡ self.old.walk }
     {
@@ -229,8 +231,24 @@ impl<'a> InlineState<'a> {
     }
 }
 
+// The end of an element.
+fn element_end(element: Element) -> TagEnd
+    ensures { shown_end result ≡ element_end element }
+{
+    match element {
+        Element::Emphasis => TagEnd::Emphasis,
+        Element::Strong => TagEnd::Strong,
+        Element::Strikethrough => TagEnd::Strikethrough,
+        Element::Superscript => TagEnd::Superscript,
+        Element::Subscript => TagEnd::Subscript,
+        Element::Link(_) | Element::Autolink(_) => TagEnd::Link,
+        Element::Image(_) => TagEnd::Image,
+    }
+}
+
 fn link_tag<'a>(link: LinkParts<'a>) -> Tag<'a>
-    ensures { IsSpan (shown_tag result) }
+    ensures span { IsSpan (shown_tag result) }
+    ensures end { end_of (shown_tag result) ≡ Link }
 {
     let LinkParts {
         link_type,
@@ -247,7 +265,8 @@ fn link_tag<'a>(link: LinkParts<'a>) -> Tag<'a>
 }
 
 fn image_tag<'a>(link: LinkParts<'a>) -> Tag<'a>
-    ensures { IsSpan (shown_tag result) }
+    ensures span { IsSpan (shown_tag result) }
+    ensures end { end_of (shown_tag result) ≡ Image }
 {
     let LinkParts {
         link_type,
