@@ -83,7 +83,7 @@ module _ (options : Options) (r : Row) (ahead : List Row) where
     abbrev chosen : (blank deep : Bool) → Opening
     chosen blank deep =
         or_else (metadata_begun (metadata_kind options r) ahead)
-        (if blank then Blank else if deep then Takes IndentedCode (counted code_further ahead) else or_else (nests_if (container_of r)) (leaf_of options r ahead))
+        (if blank then Blank else if deep then Takes IndentedCode (counted code_further ahead) else or_else (nests_if (container_of options r)) (leaf_of options r ahead))
 
     pub opens-blank : is_blank_line r ≡ true → opens options r ahead ≡ or_else (metadata_begun (metadata_kind options r) ahead) Blank
     opens-blank blank = as_whole ∙ ap (λ z. chosen z (nat_le 4 (indent_of r))) blank
@@ -94,10 +94,10 @@ module _ (options : Options) (r : Row) (ahead : List Row) where
         at_least : (n : ℕ) → 4 ≤ n → nat_le 4 n ≡ true
         at_least n le = grind (arith)
 
-    pub opens-shallow : is_blank_line r ≡ false → indent_of r ≤ 3 → opens options r ahead ≡ or_else (metadata_begun (metadata_kind options r) ahead) (or_else (nests_if (begun_container r)) (leaf_of options r ahead))
+    pub opens-shallow : is_blank_line r ≡ false → indent_of r ≤ 3 → opens options r ahead ≡ or_else (metadata_begun (metadata_kind options r) ahead) (or_else (nests_if (begun_container options r)) (leaf_of options r ahead))
     opens-shallow blank le =
         as_whole ∙ ap (λ z. chosen z (nat_le 4 (indent_of r))) blank ∙ ap (chosen false) (below (indent_of r) le)
-        ∙ ap (λ o. or_else (metadata_begun (metadata_kind options r) ahead) (or_else (nests_if o) (leaf_of options r ahead))) (sym (ap (λ z. if z then container_of r else None) (at_most (indent_of r) le)))
+        ∙ ap (λ o. or_else (metadata_begun (metadata_kind options r) ahead) (or_else (nests_if o) (leaf_of options r ahead))) (sym (ap (λ z. if z then container_of options r else None) (at_most (indent_of r) le)))
       where
         below : (n : ℕ) → n ≤ 3 → nat_le 4 n ≡ false
         below n le = grind (arith)

@@ -6,5 +6,5 @@ use Rattle.cmark_lines.proofs.PlainRows.{no-container}
 use Rattle.cmark_lines.proofs.container.container_start.Goals as goal
 
 pub returns-then-not-may_begin_container-clause-container : goal.returns-then-not-may_begin_container-clause-container
-returns-then-not-may_begin_container-clause-container c =
-    sym (no-container (row_of c.args.rest) (ap (first_is begins_marker) (sym c.words.ensures) ∙ sym c.may_begin_container.ensures ∙ c.if-not-may_begin_container.true))
+returns-then-not-may_begin_container-clause-container c options =
+    sym (no-container options (row_of c.args.rest) (ap (first_is begins_marker) (sym c.words.ensures) ∙ sym c.may_begin_container.ensures ∙ c.if-not-may_begin_container.true))
