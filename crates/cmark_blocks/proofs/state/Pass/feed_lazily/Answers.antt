@@ -3,7 +3,7 @@ use Rattle.std.proofs.lemmas.Result.{on_ok_weaker}
 use Rattle.cmark_lines.specs.Rests.{row_of}
 use Rattle.cmark_blocks.specs.Ahead.{lines_at}
 use Rattle.cmark_blocks.specs.Runs.{Runs}
-use Rattle.cmark_blocks.proofs.FeedSteps.{in_paragraph, in_definition, lazy-paragraph, lazy-definition}
+use Rattle.cmark_blocks.proofs.FeedSteps.{in_paragraph, behind_tag, in_definition, lazy-paragraph, lazy-behind, lazy-definition}
 use Rattle.cmark_blocks.proofs.state.Pass.feed_lazily.Goals as goal
 
 pub returns-in-Paragraph-clause-runs : goal.returns-in-Paragraph-clause-runs
