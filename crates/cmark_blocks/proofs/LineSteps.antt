@@ -1,9 +1,11 @@
 -- What a line begins, one container after the other.
-use Rattle.std.specs.Prelude.{if◌then◌else◌, IfSome}
+use Rattle.std.specs.Prelude.{if◌then◌else◌, is_some, option_map, IfSome}
 use Rattle.std.proofs.Common.{◌≡◌, ℕ, zero, suc, ◌<◌, ◌≤◌, Bool, true, false, List, [], length, Option, Some, None, refl, sym, ap, subst, ◌∙◌, arith}
 use Rattle.cmark_grammar.specs.Options.{Options}
 use Rattle.cmark_grammar.specs.Answers.{Lookup}
-use Rattle.cmark_grammar.specs.Containers.{Container, is_alert, enter}
+use Rattle.cmark_grammar.specs.Alerts.{alert_in}
+use Rattle.cmark_grammar.specs.BlockQuoteKind.{BlockQuoteKind}
+use Rattle.cmark_grammar.specs.Containers.{Container, Quote, is_alert, enter}
 use Rattle.cmark_grammar.specs.Leaves.{run}
 use Rattle.cmark_grammar.specs.Metadata.{metadata_kind}
 use Rattle.cmark_grammar.specs.Openings.{Leaf, Blank, Takes, Plain, or_else, metadata_begun, whole_opens, opens}
@@ -19,8 +21,9 @@ use Rattle.cmark_lines.specs.declared.container.ContainerStart.TheVariants as be
 use Rattle.cmark_lines.specs.declared.line_rest.LineRest.{LineRest}
 use Rattle.cmark_lines.specs.declared.opening.Opening.{Opening}
 use Rattle.cmark_lines.specs.declared.opening.Opening.TheVariants as opening
+use Rattle.cmark_text.specs.declared.kind.BlockQuoteKind as found
 use Rattle.cmark_text.specs.declared.kind.HeadingLevel.{HeadingLevel}
-use Rattle.cmark_text.specs.Shown.{level_number}
+use Rattle.cmark_text.specs.Shown.{level_number, shown_block_quote_kind}
 use Rattle.cmark_leaves.specs.Told.{AreTold}
 use Rattle.cmark_leaves.proofs.ToldSteps.{enter-told}
 use Rattle.cmark_block_model.specs.BlockPass.{ahead_in, begin, begin_as, begin_in, leaf_begun, container_begun, inside_begun, is_item}
@@ -41,6 +44,14 @@ opened-fits r open_as is opens_as e =
 pub start-numbered : (r : Row) (open_as : Opening) (start : ContainerStart) → OpensAs open_as r → open_as ≡ opening.Nests start → HasNumber start
 start-numbered r open_as (begun.Quote inside) opens_as e = tt
 start-numbered r open_as (begun.Item item inside) opens_as e = opened-fits r open_as (opening.Nests (begun.Item item inside)) opens_as e
+
+-- the kind of a block quote that begins
+pub quote-told : (options : Options) (start : ContainerStart) (inside : LineRest) (alert : Option BlockQuoteKind) → start ≡ begun.Quote inside → alert ≡ alert_in options (row_of inside) → shown_start options start ≡ Quote alert
+quote-told options start inside alert is told = ap (shown_start options) is ∙ ap Quote (sym told)
+
+pub alert-told : (kind : Option found.BlockQuoteKind) (some : Bool) → is_some kind ≡ some → is_alert (Quote (option_map shown_block_quote_kind kind)) ≡ some
+alert-told None some e = e
+alert-told (Some kind) some e = e
 
 -- the level of a heading
 pub heading-level : (r : Row) (open_as : Opening) (level : HeadingLevel) → OpensAs open_as r → open_as ≡ opening.AtxHeading level → level_number level ≡ run 35 (words_of r)
@@ -110,6 +121,11 @@ module _ {E : Type 0} (replacement : E → Lookup) (rest : LineRest) (open_as : 
         inside-past (row_of rest) open_as start nests has inside.0 behind,
         inside-begins (row_of rest) open_as start nests has text options lookup bare columns m opens_as (none text options lookup m runs) inside.0 behind inside.1 b.0 b.1,
       )
+
+pub container-read : (r : Row) (open_as : Opening) (start : ContainerStart) → open_as ≡ opening.Nests start → HasInside open_as r → (entered : Option (LineRest × Bool)) (text : List ℕ) → IfSome entered (λ inside. inside.0 ≡ inside_of start) →
+    InsideIsIn text open_as → AreTold text r.columns → IfSome entered (λ inside. IsRead text inside.0)
+container-read r open_as start nests has None text behind placed told = tt
+container-read r open_as start nests has (Some inside) text behind placed told = inside-read r open_as start nests has inside.0 behind text placed told
 
 -- a line that begins no container, or metadata
 module _ (text : List ℕ) (options : Options) (lookup : Lookup) (r : Row) (next : List Row) (columns : ℕ) (bare : Bool) (m : model.Pass) where

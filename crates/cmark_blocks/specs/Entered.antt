@@ -12,6 +12,7 @@ use Rattle.cmark_grammar.specs.Rows.{Row}
 use Rattle.cmark_items.specs.ItemNodes.{list_number}
 use Rattle.cmark_lines.specs.Opened.{opened}
 use Rattle.cmark_lines.specs.Rests.{row_of}
+use Rattle.cmark_lines.specs.Starts.{shown_start}
 use Rattle.cmark_lines.specs.declared.container.ContainerStart.{ContainerStart}
 use Rattle.cmark_lines.specs.declared.container.ContainerStart.TheVariants as begun
 use Rattle.cmark_lines.specs.declared.line_rest.LineRest.{LineRest}

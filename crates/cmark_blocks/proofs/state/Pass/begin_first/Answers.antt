@@ -10,7 +10,7 @@ use Rattle.cmark_lines.specs.Starts.{shown_start}
 use Rattle.cmark_lines.proofs.RestSteps.{whole}
 use Rattle.cmark_blocks.specs.Ahead.{lines_at}
 use Rattle.cmark_blocks.specs.Runs.{Runs}
-use Rattle.cmark_blocks.proofs.LineSteps.{start-numbered, inside-read, container-begins, leaf-begins, metadata-begins}
+use Rattle.cmark_blocks.proofs.LineSteps.{start-numbered, container-begins, container-read, leaf-begins, metadata-begins}
 use Rattle.cmark_blocks.proofs.state.Pass.begin_first.Goals as goal
 
 pub begin_container-requires-clause-number : goal.begin_container-requires-clause-number
@@ -18,8 +18,14 @@ begin_container-requires-clause-number g c = start-numbered (row_of c.args.rest)
 
 pub returns-in-Nests-clause-runs : goal.returns-in-Nests-clause-runs
 returns-in-Nests-clause-runs g c =
-    container-begins g.E.EntityLookup.replacement c.args.rest c.what_opens-opening.result c.in-Nests.start c.in-Nests.is c.what_opens-opening.ensures.inside c.what_opens-opening.ensures.opens c.args.self.now c.begin_container-entered.new.self
+    container-begins g.E.EntityLookup.replacement c.args.rest c.what_opens-opening.result c.in-Nests.start c.in-Nests.is c.what_opens-opening.ensures.inside c.what_opens-opening.ensures.opens c.args.self.now c.begin_container.new.self
     c.args.bare c.in_ok-entered.entered c.in_default.ensures c.in_ok-entered.ensures.inside c.in_ok-entered.ensures.runs
+
+pub returns-in-Nests-clause-line : goal.returns-in-Nests-clause-line
+returns-in-Nests-clause-line g c =
+    let text = c.args.self.now.text.now in
+    container-read (row_of c.args.rest) c.what_opens-opening.result c.in-Nests.start c.in-Nests.is c.what_opens-opening.ensures.inside c.in_ok-entered.entered text c.in_ok-entered.ensures.inside
+    (c.what_opens-opening.ensures.placed text c.requires.line.placed) c.requires.line.told
 
 pub returns-in-Some-clause-runs : goal.returns-in-Some-clause-runs
 returns-in-Some-clause-runs g c text options lookup columns m runs =
