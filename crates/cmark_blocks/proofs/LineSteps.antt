@@ -85,7 +85,7 @@ module _ (r : Row) (open_as : Opening) (start : ContainerStart) (nests : open_as
     begins-nested : (is_tag : Bool) → is_alert (shown_start options start) ≡ is_tag →
         begin_in text options lookup (suc columns) r (lines_at text r.past) bare m
         ≡ inside_begun is_tag (container_begun (shown_start options start) r m)
-            (begin_in text options lookup columns (enter (shown_start options start) r) (lines_at text r.past) (is_item (shown_start options start)) (container_begun (shown_start options start) r m))
+        (begin_in text options lookup columns (enter (shown_start options start) r) (lines_at text r.past) (is_item (shown_start options start)) (container_begun (shown_start options start) r m))
     begins-nested is_tag alert =
         let ahead = ahead_in text options lookup m.outer (lines_at text r.past) in
         let k = shown_start options start in
