@@ -5,15 +5,15 @@ use Rattle.cmark_grammar.specs.Answers.{Lookup}
 use Rattle.cmark_grammar.specs.Options.{Options}
 use Rattle.cmark_grammar.specs.Rows.{Row, start_of, begin_of, words_of, is_blank_line, shown}
 use Rattle.cmark_grammar.specs.HtmlBlocks.{holds_end}
-use Rattle.cmark_grammar.specs.Containers.{Container, Quote, Item, enter, strips, is_bare_start}
+use Rattle.cmark_grammar.specs.Containers.{Container, Quote, Item, is_alert, enter, strips, is_bare_start}
 use Rattle.cmark_grammar.specs.Openings.{Leaf, ThematicBreak, AtxHeading, IndentedCode, FencedCode, HtmlBlock, LinkDefinition, Opening, Blank, Nests, Takes, Plain, opens, MetadataBlock}
 use Rattle.cmark_grammar.specs.Blocks.{Blocks, Nil as NoBlocks, BlankLine, join as join_blocks}
 use Rattle.cmark_grammar.specs.BlocksModel.{within}
-use Rattle.cmark_grammar.specs.BlocksByLine.{OpenLines, Between, html_begun as html_lines_begun, leaf_begun as leaf_lines_begun, lines_begin_as, lines_begin_in, lines_begin}
+use Rattle.cmark_grammar.specs.BlocksByLine.{OpenLines, Between, InContainer, html_begun as html_lines_begun, leaf_begun as leaf_lines_begun, lines_inside_begun, lines_begin_as, lines_begin_in, lines_begin}
 use Rattle.cmark_grammar.specs.BlockDocument as document
 use Rattle.cmark_grammar.proofs.BlockLaws.{no_metadata, enter_len, enter-lazy, opens-len}
-use Rattle.cmark_block_model.specs.OpenBlocks.{OpenList, OpenContainer, Closed, InParagraph as InParagraphLeaf, Pass}
-use Rattle.cmark_block_model.specs.BlockPass.{item_begun, list_begun, list_goes_on, container_begun, inside_of, node_opened, is_item, ahead_in, html_begun, leaf_begun, begin_as, begin_in, begin}
+use Rattle.cmark_block_model.specs.OpenBlocks.{OpenList, OpenContainer, Closed, BehindTag as BehindTagLeaf, InParagraph as InParagraphLeaf, Pass}
+use Rattle.cmark_block_model.specs.BlockPass.{inside_begun as inside_or_tag, item_begun, list_begun, list_goes_on, container_begun, inside_of, node_opened, is_item, ahead_in, html_begun, leaf_begun, begin_as, begin_in, begin}
 use Rattle.cmark_block_model.proofs.Replay.{Level, begun, item_if, item_level, level_opened, entered, leaf_level, replay, replay-join}
 use Rattle.cmark_block_model.proofs.Tells.{Tells, tells}
 use Rattle.cmark_block_model.proofs.Mirror.{whole, whole-same, pass_with, bare_at, Fits, inner_at, leaf_at, container_at, containers_at, pass_at, paragraph_open}
@@ -25,7 +25,7 @@ module _ (text : List ℕ) (options : Options) (lookup : Lookup) where
   ahead-inside (o ∷ outer) c next = ahead-inside outer c (shown (strips o.container false next))
 
   container-begins : (k : Container) (r : Row) (l : Level) (outer : List OpenContainer) (n : ℕ) → container_begun k r (pass_with l outer false Closed n) ≡ pass_with (entered k r l) (outer ++ container_at text options lookup k r l ∷ []) false Closed n
-  container-begins Quote r l outer n = refl
+  container-begins (Quote alert) r l outer n = refl
   container-begins (Item mark number width) r l outer n = go l.inner.list
     where
       same : (z : Bool) (o : OpenList) → inside_of (Item mark number width) (node_opened (begin_of r) document.ListItem (if z then list_goes_on o (pass_with l outer false Closed n) else list_begun mark number (begin_of r) (pass_with l outer false Closed n)))
@@ -44,15 +44,15 @@ module _ (text : List ℕ) (options : Options) (lookup : Lookup) where
   opens-blank r ahead l b = rw (l, no_metadata options r b, b) refl
 
   bare-start : (k : Container) (r : Row) → is_bare_start k r ≡ true → is_blank_line (enter k r) ≡ true
-  bare-start Quote r e = absurd (true≢false (sym e))
+  bare-start (Quote alert) r e = absurd (true≢false (sym e))
   bare-start (Item mark number width) r e = e
 
   bare-item : (k : Container) (r : Row) → is_bare_start k r ≡ true → is_item k ≡ true
-  bare-item Quote r e = absurd (true≢false (sym e))
+  bare-item (Quote alert) r e = absurd (true≢false (sym e))
   bare-item (Item mark number width) r e = refl
 
   bare-none : (k : Container) (r : Row) → is_bare_start k r ≡ false → is_blank_line (enter k r) ≡ true → is_item k ≡ false
-  bare-none Quote r e b = refl
+  bare-none (Quote alert) r e b = refl
   bare-none (Item mark number width) r e b = absurd (true≢false (sym b ∙ e))
 
   pub enter-past : (k : Container) (r : Row) → (enter k r).past ≡ r.past
@@ -114,6 +114,11 @@ module _ (text : List ℕ) (options : Options) (lookup : Lookup) where
       ap (λ o. lines_begin_as o (λ j. lines_begin_in options m NoBlocks (enter j (enter k r)) (within j (is_bare_start j (enter k r)) ahead)) NoBlocks (enter k r))
       (opens-blank (enter k r) ahead (enter-lazy options k r ∙ l) b)
 
+  -- an alert's first line is not blank behind the marker
+  alert-whole : (k : Container) (r : Row) → is_alert k ≡ true → is_bare_start k r ≡ false
+  alert-whole (Quote alert) r e = refl
+  alert-whole (Item mark number width) r e = absurd (true≢false (sym e))
+
   bare-begins : (m : ℕ) (k : Container) (r : Row) (ahead : List Row) → is_bare_start k r ≡ false → bare_at (is_item k) (inside_begun (suc m) k r ahead) ≡ bare_at false (inside_begun (suc m) k r ahead)
   bare-begins m k r ahead e = go (opens options (enter k r) ahead) (tells options (enter k r) ahead)
     where
@@ -147,7 +152,7 @@ module _ (text : List ℕ) (options : Options) (lookup : Lookup) where
       → begin_in text options lookup m r next b (pass_with (replay text options lookup closed l) outer false Closed n) ≡ pass_at text options lookup (lines_begin_in options m closed r ahead) ahead l outer b n
   begins zero closed r next ahead l outer b n e f a = absurd (omega (arith, f))
   begins (suc m) closed r next ahead l outer b n e f a =
-      ap (λ x. begin_as text options lookup (opens options r x) (λ k. begin_in text options lookup m (enter k r) next (is_item k) (container_begun k r p)) r x b p) a
+      ap (λ x. begin_as text options lookup (opens options r x) (λ k. inside_or_tag (is_alert k) (container_begun k r p) (begin_in text options lookup m (enter k r) next (is_item k) (container_begun k r p))) r x b p) a
       ∙ go (opens options r ahead) refl (tells options r ahead)
       (λ k o. let le : length (enter k r).columns < length r.columns = enter_len options k r ahead o in
       begins m NoBlocks (enter k r) next (within k false ahead) (entered k r c) (outer ++ container_at text options lookup k r c ∷ []) (is_item k) n (enter-lazy options k r ∙ e) (omega (arith, f, le))
@@ -166,8 +171,19 @@ module _ (text : List ℕ) (options : Options) (lookup : Lookup) where
       Inside k = begin_in text options lookup m (enter k r) next (is_item k) (pass_with (entered k r (replay text options lookup closed l)) (outer ++ container_at text options lookup k r (replay text options lookup closed l) ∷ []) false Closed n)
           ≡ pass_at text options lookup (inside_begun m k r (within k false ahead)) (within k false ahead) (entered k r (replay text options lookup closed l)) (outer ++ container_at text options lookup k r (replay text options lookup closed l) ∷ []) (is_item k) n
 
+      behind_tag : Pass → Pass
+      behind_tag q = record q { leaf = BehindTagLeaf }
+
+      -- behind an alert's tag nothing is begun
+      tagged : (k : Container) (is_tag : Bool)
+          → begin_in text options lookup m (enter k r) next (is_item k) (container_begun k r (pass_with (replay text options lookup closed l) outer false Closed n)) ≡ pass_at text options lookup (InContainer closed k r [] (lines_begin_in options m NoBlocks (enter k r) (within k (is_bare_start k r) ahead))) ahead l outer b n
+          → inside_or_tag is_tag (container_begun k r (pass_with (replay text options lookup closed l) outer false Closed n)) (begin_in text options lookup m (enter k r) next (is_item k) (container_begun k r (pass_with (replay text options lookup closed l) outer false Closed n)))
+          ≡ pass_at text options lookup (InContainer closed k r [] (lines_inside_begun is_tag (lines_begin_in options m NoBlocks (enter k r) (within k (is_bare_start k r) ahead)))) ahead l outer b n
+      tagged k true same = ap behind_tag (container-begins k r c outer n)
+      tagged k false same = same
+
       go : (o : Opening) → opens options r ahead ≡ o → Tells r o → ((k : Container) → opens options r ahead ≡ Nests k → Inside k)
-          → begin_as text options lookup o (λ k. begin_in text options lookup m (enter k r) next (is_item k) (container_begun k r (pass_with (replay text options lookup closed l) outer false Closed n))) r ahead b (pass_with (replay text options lookup closed l) outer false Closed n)
+          → begin_as text options lookup o (λ k. inside_or_tag (is_alert k) (container_begun k r (pass_with (replay text options lookup closed l) outer false Closed n)) (begin_in text options lookup m (enter k r) next (is_item k) (container_begun k r (pass_with (replay text options lookup closed l) outer false Closed n)))) r ahead b (pass_with (replay text options lookup closed l) outer false Closed n)
           ≡ pass_at text options lookup (lines_begin_as o (λ k. lines_begin_in options m NoBlocks (enter k r) (within k (is_bare_start k r) ahead)) closed r) ahead l outer b n
       go Blank q t ih =
           ap (λ x. pass_with x outer b Closed n) (sym (replay-join text options lookup closed (BlankLine r NoBlocks) l))
@@ -176,10 +192,12 @@ module _ (text : List ℕ) (options : Options) (lookup : Lookup) where
           let v = container_at text options lookup k r c in
           let i = inside_begun m k r (within k (is_bare_start k r) ahead) in
           let le : length (enter k r).columns < length r.columns = enter_len options k r ahead q in
+          tagged k (is_alert k) (
           ap (begin_in text options lookup m (enter k r) next (is_item k)) (container-begins k r c outer n)
           ∙ ih k q
           ∙ inside-same m k r ahead (entered k r c) (outer ++ v ∷ []) n e (omega (arith, f, le))
           ∙ ap (λ o. pass_with (inner_at text options lookup i (within k (is_bare_start k r) ahead) (entered k r c)) o (bare_at (is_bare_start k r) i) (leaf_at text options lookup i) n) (append_assoc outer (v ∷ []) (containers_at text options lookup i (entered k r c)))
+          )
       go (Takes leaf more) q t ih =
           let i = leaf_lines_begun leaf more closed r in
           leaf-begins leaf more closed r ahead l outer b n t
@@ -215,10 +233,15 @@ module _ (text : List ℕ) (options : Options) (lookup : Lookup) where
       leaf-fits (LinkDefinition definition) more nb le t = (nb, le, λ never. absurd (true≢false never))
       leaf-fits (MetadataBlock kind) more nb le t = (nb, (refl, q, tt))
 
+      tagged : (k : Container) (is_tag : Bool) → is_alert k ≡ is_tag → Fits (is_bare_start k r) (inside_begun m k r (within k (is_bare_start k r) ahead)) (within k (is_bare_start k r) ahead) n
+          → Fits (is_bare_start k r) (lines_inside_begun is_tag (inside_begun m k r (within k (is_bare_start k r) ahead))) (within k (is_bare_start k r) ahead) n
+      tagged k true y fits = alert-whole k r y
+      tagged k false y fits = fits
+
       go : (o : Opening) → opens options r ahead ≡ o → Tells r o → ((k : Container) → opens options r ahead ≡ Nests k → Fits (is_bare_start k r) (inside_begun m k r (within k (is_bare_start k r) ahead)) (within k (is_bare_start k r) ahead) n)
           → Fits b (lines_begin_as o (λ k. lines_begin_in options m NoBlocks (enter k r) (within k (is_bare_start k r) ahead)) closed r) ahead n
       go Blank o t ih = tt
-      go (Nests k) o t ih = (not-bare b r ahead e h (λ x. let y : Nests k ≡ Blank = sym o ∙ x in cc), q, ih k o)
+      go (Nests k) o t ih = (not-bare b r ahead e h (λ x. let y : Nests k ≡ Blank = sym o ∙ x in cc), q, tagged k (is_alert k) refl (ih k o))
       go (Takes leaf more) o t ih = leaf-fits leaf more (not-bare b r ahead e h (λ x. let y : Takes leaf more ≡ Blank = sym o ∙ x in cc)) (opens-len options r ahead leaf more o) t
       go Plain o t ih = (not-bare b r ahead e h (λ x. let y : Plain ≡ Blank = sym o ∙ x in cc), q)
 

@@ -58,9 +58,9 @@ module _ (text : List ℕ) (options : Options) (lookup : Lookup) where
       ∙ ap (λ r. l.references ++ (r ++ references (document_of text options lookup direct None after))) (sym (paragraph_plain text first more).defines)
   defines (LeafBlock leaf first more after) direct before l =
       defines after direct None (leaf_level text options lookup leaf first more l) ∙ leaf-references leaf first more l.references (document_of text options lookup direct None after)
-  defines (ContainerBlock Quote first more inside after) direct before l =
-      defines after direct None (left_by Quote (standing Quote first l).inner (past_of first more) (replay text options lookup inside (entered Quote first l)))
-      ∙ ap (λ r. r ++ references (document_of text options lookup direct None after)) (defines inside false None (entered Quote first l))
+  defines (ContainerBlock (Quote alert) first more inside after) direct before l =
+      defines after direct None (left_by (Quote alert) (standing (Quote alert) first l).inner (past_of first more) (replay text options lookup inside (entered (Quote alert) first l)))
+      ∙ ap (λ r. r ++ references (document_of text options lookup direct None after)) (defines inside false None (entered (Quote alert) first l))
       ∙ append_assoc l.references (references (document_of text options lookup false None inside)) (references (document_of text options lookup direct None after))
   defines (ContainerBlock (Item mark number width) first more inside after) direct before l =
       let k = Item mark number width in

@@ -164,11 +164,11 @@ module _ (text : List ℕ) (options : Options) (lookup : Lookup) where
       alone after (draws after h) s v here up (leaf_raw text options lookup leaf first more Nil) _ (p || blank) (leaf_references text options lookup leaf first more rs) (leaf-drawing leaf first more (list_closed (list_of s) (drawing_at s v here up)))
       (loose_at s blank (LeafBlock leaf first more after)) (loose-none s blank (LeafBlock leaf first more after) (λ mark. refl))
       ∙ ap (λ x. completed s v here up (loose_at s blank (LeafBlock leaf first more after)) (lone x)) (leaf-raw leaf first more (split text options lookup None after).after)
-  draws (ContainerBlock Quote first more inside after) h s v here up blank p rs =
+  draws (ContainerBlock (Quote alert) first more inside after) h s v here up blank p rs =
       let d = list_closed (list_of s) (drawing_at s v here up) in
-      alone after (draws after h.1) s v here up (Node (node (document.BlockQuote None) (start_of first) (past_of first more)) (split text options lookup None inside).after Nil) _ (p || blank) _
-      (ap (closed_at (past_of first more)) (inside-draws inside (draws inside h.0) (opened (start_of first) (document.BlockQuote None) d) rs))
-      (loose_at s blank (ContainerBlock Quote first more inside after)) (loose-none s blank (ContainerBlock Quote first more inside after) (λ mark. refl))
+      alone after (draws after h.1) s v here up (Node (node (document.BlockQuote alert) (start_of first) (past_of first more)) (split text options lookup None inside).after Nil) _ (p || blank) _
+      (ap (closed_at (past_of first more)) (inside-draws inside (draws inside h.0) (opened (start_of first) (document.BlockQuote alert) d) rs))
+      (loose_at s blank (ContainerBlock (Quote alert) first more inside after)) (loose-none s blank (ContainerBlock (Quote alert) first more inside after) (λ mark. refl))
   draws (ContainerBlock (Item mark number width) first more inside after) h s v here up blank p rs = go s (draws inside h.1) (draws after h.2)
     where
       same : Draws inside → Draws after → (z : Bool) (o : OpenList) → (o.mark == mark) ≡ z → finished (replay text options lookup after (left_by (Item mark number width) (item_if z mark number (begin_of first) o (level_of (InList o) (record { here = here; up = v ∷ up }) blank p rs)).inner (past_of first more)

@@ -5,7 +5,7 @@ use Rattle.std.proofs.lemmas.List.Sums.{take_while-cons}
 use Rattle.cmark_grammar.specs.Options.{Options}
 use Rattle.cmark_grammar.specs.Columns.{Column, is_blank, indent, without_indent}
 use Rattle.cmark_grammar.specs.Rows.{Row, rows, shown, is_bare, is_blank_line, indent_of, without}
-use Rattle.cmark_grammar.specs.Containers.{Container, Quote, Item, enter, keeps, strip, strip_as, strips, is_bare_start, insides}
+use Rattle.cmark_grammar.specs.Containers.{Container, Quote, Item, is_alert, enter, keeps, strip, strip_as, strips, is_bare_start, insides}
 use Rattle.cmark_grammar.specs.Openings.{opens, Blank}
 use Rattle.cmark_grammar.specs.Blocks.{Blocks, Nil, BlankLine, Paragraph, SetextHeading, LeafBlock, ContainerBlock, may_lazy, Body}
 use Rattle.cmark_grammar.specs.BlocksModel.{blocks}
@@ -76,7 +76,7 @@ module _ (options : Options) where
   filled (Paragraph first more after) behind all h = filled after false h.rest h.after
   filled (SetextHeading level first more underline after) behind all h = filled after false h.rest h.after
   filled (LeafBlock leaf first more after) behind all h = filled after (may_lazy leaf) h.rest h.after
-  filled (ContainerBlock Quote first more inside after) behind all h = (filled inside false (insides Quote first more) h.contents, filled after false h.rest h.after)
+  filled (ContainerBlock (Quote alert) first more inside after) behind all h = (filled inside (is_alert (Quote alert)) (insides (Quote alert) first more) h.contents, filled after false h.rest h.after)
   filled (ContainerBlock (Item mark number width) first more inside after) behind all h =
       (nearly mark number width first more inside h.contents, filled inside false (insides (Item mark number width) first more) h.contents, filled after false h.rest h.after)
 

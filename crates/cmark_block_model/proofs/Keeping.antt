@@ -10,7 +10,7 @@ use Rattle.cmark_grammar.specs.Containers.{Container, keeps, strip, is_bare_star
 use Rattle.cmark_grammar.specs.Openings.{texts, lazily}
 use Rattle.cmark_grammar.specs.Blocks.{Blocks, Nil as NoBlocks, Paragraph, SetextHeading, LeafBlock, ContainerBlock, join as join_blocks}
 use Rattle.cmark_grammar.specs.BlocksModel.{within}
-use Rattle.cmark_grammar.specs.BlocksByLine.{Verbatim, Indented, Fenced, HtmlLines, further_in, further_if, OpenLines, Between, InParagraph, InLeaf, InVerbatim, InContainer, close_lines, lines_take_lazy, lines_underline_or, lines_go_on_or, lines_kept_or, verbatim_line, lines_begin, lines_feed, Metadata}
+use Rattle.cmark_grammar.specs.BlocksByLine.{Verbatim, Indented, Fenced, HtmlLines, further_in, further_if, OpenLines, Between, BehindTag, InParagraph, InLeaf, InVerbatim, InContainer, close_lines, lines_take_lazy, lines_underline_or, lines_go_on_or, lines_kept_or, verbatim_line, lines_begin, lines_feed, Metadata}
 use Rattle.cmark_grammar.specs.Metadata.{ends_metadata}
 use Rattle.cmark_grammar.proofs.BlockLaws.{strip_lazy, strip_whole}
 use Rattle.cmark_grammar.proofs.BlocksSound.{bare_push, is_both}
@@ -38,6 +38,7 @@ module _ (text : List ℕ) (options : Options) (lookup : Lookup) where
 
   lazy-fits : (o : OpenLines) (b : Bool) (r : Row) (ahead x : List Row) (n : ℕ) → Fits b o [] n → lines_take_lazy o ≡ true → lazily options r x ≡ true → Fits false (lines_feed options o (lazy_row r) ahead) ahead r.past
   lazy-fits (Between closed) b r ahead x n f t z = absurd (true≢false (sym t))
+  lazy-fits BehindTag b r ahead x n f t z = subst (λ o. Fits false o ahead r.past) (sym (lazy-begins options NoBlocks r ahead)) (refl, refl)
   lazy-fits (InParagraph closed first more) b r ahead x n f t z =
       subst (λ o. Fits false o ahead r.past) (sym (lazy-paragraph options closed first more r ahead x z)) (refl, past_push first more (lazy_row r))
   lazy-fits (InLeaf closed leaf first had zero) b r ahead x n f t z =
@@ -77,6 +78,7 @@ module _ (text : List ℕ) (options : Options) (lookup : Lookup) where
 
   pub feed-fits : (o : OpenLines) (b : Bool) (r : Row) (ahead : List Row) (n : ℕ) → r.lazy ≡ false → Fits b o (r ∷ ahead) n → Fits false (lines_feed options o r ahead) ahead r.past
   feed-fits (Between closed) b r ahead n e f = starts-fit text options lookup closed r ahead e
+  feed-fits BehindTag b r ahead n e f = starts-fit text options lookup NoBlocks r ahead e
   feed-fits (InParagraph closed first more) b r ahead n e f = go (underlines r) (texts options r ahead)
     where
       go : (u : Option ℕ) (z : Bool) → Fits false (lines_underline_or u (λ level. Between (join_blocks closed (SetextHeading level first more r NoBlocks))) (lines_go_on_or z (InParagraph closed first (more ++ r ∷ [])) (lines_begin options (join_blocks closed (Paragraph first more NoBlocks)) r ahead))) ahead r.past

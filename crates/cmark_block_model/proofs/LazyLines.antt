@@ -7,7 +7,7 @@ use Rattle.cmark_grammar.specs.Containers.{Container, enter, strip, is_bare_star
 use Rattle.cmark_grammar.specs.Openings.{Leaf, ThematicBreak, AtxHeading, IndentedCode, FencedCode, HtmlBlock, LinkDefinition, texts, lazily, MetadataBlock}
 use Rattle.cmark_grammar.specs.Blocks.{Blocks, Nil as NoBlocks, Paragraph, SetextHeading, LeafBlock, ContainerBlock, join as join_blocks, may_lazy}
 use Rattle.cmark_grammar.specs.BlocksModel.{within}
-use Rattle.cmark_grammar.specs.BlocksByLine.{OpenLines, Between, InParagraph, InLeaf, InVerbatim, InContainer, close_lines, lines_take_lazy, lines_underline_or, lines_go_on_or, lines_kept_or, lines_begin_as, lines_begin_in, lines_begin, lines_feed}
+use Rattle.cmark_grammar.specs.BlocksByLine.{OpenLines, Between, BehindTag, InParagraph, InLeaf, InVerbatim, InContainer, close_lines, lines_take_lazy, lines_underline_or, lines_go_on_or, lines_kept_or, lines_begin_as, lines_begin_in, lines_begin, lines_feed}
 use Rattle.cmark_grammar.proofs.BlockLaws.{opens-lazy, underlines-lazy, keeps-lazy, strip_lazy, lazily-texts}
 use Rattle.cmark_grammar.proofs.BlocksSound.{bare_push}
 use Rattle.cmark_block_model.specs.OpenBlocks.{OpenContainer, InParagraph as InParagraphLeaf}
@@ -60,6 +60,9 @@ module _ (text : List ℕ) (options : Options) (lookup : Lookup) where
       → lazy_fed text options lookup (leaf_at text options lookup o) r (pass_with (inner_at text options lookup o [] l) (outer ++ containers_at text options lookup o l) false (leaf_at text options lookup o) n)
       ≡ pass_at text options lookup (lines_feed options o (lazy_row r) ahead) ahead l outer false n
   lazy-feeds (Between closed) b r ahead x l outer n e f t z = absurd (true≢false (sym t))
+  lazy-feeds BehindTag b r ahead x l outer n e f t z =
+      ap (λ q. pass_with (paragraph_open text options lookup r [] l) (outer ++ []) false (InParagraphLeaf (start_of q) q) n) (sym (whole-same r e))
+      ∙ ap (λ o. pass_at text options lookup o ahead l outer false n) (sym (lazy-begins options NoBlocks r ahead))
   lazy-feeds (InParagraph closed first more) b r ahead x l outer n e f t z =
       paragraph-goes text options lookup first more r (lazy_row r) (replay text options lookup closed l) (outer ++ []) (paragraph_leaf text options lookup first more) n (whole-same r e)
       ∙ ap (λ o. pass_at text options lookup o ahead l outer false n) (sym (lazy-paragraph options closed first more r ahead x z))

@@ -107,7 +107,7 @@ document-whole text options lookup direct before (ParagraphBlock first more afte
 document-whole text options lookup direct before (SetextHeading level first more underline after) =
     (λ e. stretches-free text (start_of first) first more, stretches-whole text (start_of first) first more, document-whole text options lookup direct None after)
 document-whole text options lookup direct before (LeafBlock leaf first more after) = leaf-whole text options lookup leaf first more (document_of text options lookup direct None after) (document-whole text options lookup direct None after)
-document-whole text options lookup direct before (ContainerBlock Quote first more inside after) = (λ e. no-leaf false refl _ e, document-whole text options lookup false None inside, document-whole text options lookup direct None after)
+document-whole text options lookup direct before (ContainerBlock (Quote alert) first more inside after) = (λ e. no-leaf false refl _ e, document-whole text options lookup false None inside, document-whole text options lookup direct None after)
 document-whole text options lookup direct before (ContainerBlock (Item mark number width) first more inside after) =
     let tight = tight_behind before mark inside after in
     item-whole (goes_on mark after) number tight (begin_of first) (past_of first more) (document_of text options lookup tight None inside) (document_of text options lookup direct (Some (record { mark = mark; tight = tight })) after)

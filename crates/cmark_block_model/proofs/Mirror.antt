@@ -9,13 +9,13 @@ use Rattle.cmark_grammar.specs.Containers.{Container, is_bare_start, bare_after}
 use Rattle.cmark_grammar.specs.Openings.{Leaf, ThematicBreak, AtxHeading, IndentedCode, FencedCode, HtmlBlock, LinkDefinition, MetadataBlock}
 use Rattle.cmark_grammar.specs.Blocks.{may_lazy}
 use Rattle.cmark_grammar.specs.BlocksModel.{within}
-use Rattle.cmark_grammar.specs.BlocksByLine.{Verbatim, Indented, Fenced, HtmlLines, OpenLines, Between, InParagraph, InLeaf, InVerbatim, InContainer, Metadata}
+use Rattle.cmark_grammar.specs.BlocksByLine.{Verbatim, Indented, Fenced, HtmlLines, OpenLines, Between, BehindTag, InParagraph, InLeaf, InVerbatim, InContainer, Metadata}
 use Rattle.cmark_grammar.specs.Tokens.{resolved, words_end, stretch_then, stretches, html_tokens, html_then, verbatim_line, code_columns}
 use Rattle.cmark_grammar.specs.BlockDocument as document
 use Rattle.cmark_grammar.specs.BlockDocument.{BlockDocument, Nil, Node, node, join}
 use Rattle.cmark_grammar.specs.Metadata.{ends_metadata}
 use Rattle.cmark_block_model.specs.CodeLines.{no_run, texts_of}
-use Rattle.cmark_block_model.specs.OpenBlocks.{OpenContainer, OpenLeaf, Closed, InParagraph as InParagraphLeaf, InDefinition, InIndented, InFenced, InHtml, Pass, InMetadata}
+use Rattle.cmark_block_model.specs.OpenBlocks.{OpenContainer, OpenLeaf, Closed, BehindTag as BehindTagLeaf, InParagraph as InParagraphLeaf, InDefinition, InIndented, InFenced, InHtml, Pass, InMetadata}
 use Rattle.cmark_block_model.proofs.PlainTokens.{stretch-join, html-join}
 use Rattle.cmark_block_model.proofs.CodeRuns.{code_run}
 use Rattle.cmark_block_model.proofs.Replay.{Level, begun, level_opened, level_drawn, standing, entered, leaf_level, replay}
@@ -74,6 +74,7 @@ leaf_left (LinkDefinition definition) left = InDefinition left
 -- the bare flag: of the container around, where nothing is open
 abbrev pub bare_at : Bool → OpenLines → Bool
 bare_at bare (Between closed) = bare
+bare_at bare BehindTag = false
 bare_at bare (InParagraph closed first more) = false
 bare_at bare (InLeaf closed leaf first had left) = false
 bare_at bare (InVerbatim closed verbatim first had waiting) = false
@@ -93,6 +94,7 @@ FitsVerbatim (Metadata kind) first had waiting n = (waiting ≡ []) × (past_of 
 
 abbrev pub Fits : Bool → OpenLines → List Row → ℕ → Type 0
 Fits bare (Between closed) ahead n = Unit {0}
+Fits bare BehindTag ahead n = bare ≡ false
 Fits bare (InParagraph closed first more) ahead n = (bare ≡ false) × (past_of first more ≡ n)
 Fits bare (InLeaf closed leaf first had left) ahead n = (bare ≡ false) × (left ≤ length ahead) × (may_lazy leaf ≡ false → left ≡ 0)
 Fits bare (InVerbatim closed verbatim first had waiting) ahead n = (bare ≡ false) × FitsVerbatim verbatim first had waiting n
@@ -175,6 +177,7 @@ module _ (text : List ℕ) (options : Options) (lookup : Lookup) where
   -- the innermost level
   abbrev pub inner_at : OpenLines → List Row → Level → Level
   inner_at (Between closed) ahead l = replay text options lookup closed l
+  inner_at BehindTag ahead l = l
   inner_at (InParagraph closed first more) ahead l = paragraph_open first more (replay text options lookup closed l)
   inner_at (InLeaf closed leaf first had left) ahead l = leaf_level text options lookup leaf first (had ++ take left ahead) (replay text options lookup closed l)
   inner_at (InVerbatim closed verbatim first had waiting) ahead l = verbatim_level verbatim first had (replay text options lookup closed l)
@@ -183,6 +186,7 @@ module _ (text : List ℕ) (options : Options) (lookup : Lookup) where
 
   abbrev pub leaf_at : OpenLines → OpenLeaf
   leaf_at (Between closed) = Closed
+  leaf_at BehindTag = BehindTagLeaf
   leaf_at (InParagraph closed first more) = paragraph_leaf first more
   leaf_at (InLeaf closed leaf first had left) = leaf_left leaf left
   leaf_at (InVerbatim closed verbatim first had waiting) = verbatim_leaf verbatim first had waiting
@@ -193,6 +197,7 @@ module _ (text : List ℕ) (options : Options) (lookup : Lookup) where
 
   abbrev pub containers_at : OpenLines → Level → List OpenContainer
   containers_at (Between closed) l = []
+  containers_at BehindTag l = []
   containers_at (InParagraph closed first more) l = []
   containers_at (InLeaf closed leaf first had left) l = []
   containers_at (InVerbatim closed verbatim first had waiting) l = []

@@ -54,7 +54,7 @@ level_drawn d l = record l { drawing = drawn d l.drawing }
 
 -- a container begins: its node is open, and these are the siblings that it stands behind
 abbrev pub standing : Container → Row → Level → Level
-standing Quote r l = level_opened (start_of r) (document.BlockQuote None) (begun l)
+standing (Quote alert) r l = level_opened (start_of r) (document.BlockQuote alert) (begun l)
 standing (Item mark number width) r l = level_opened (begin_of r) document.ListItem (item_level mark number (begin_of r) l l.inner.list)
 
 abbrev pub entered : Container → Row → Level → Level

@@ -107,8 +107,8 @@ module _ (text : List ℕ) (options : Options) (lookup : Lookup) where
       stands direct before _ _ (node-same (node (document.Heading level no_attributes) (start_of first) underline.past) (h.still false ∙ sym h.whole) (settles after direct None))
   settles (LeafBlock leaf first more after) direct before =
       stands direct before _ _ (leaf-settles leaf first more direct (split text options lookup None after).after (document_of text options lookup direct None after) (settles after direct None))
-  settles (ContainerBlock Quote first more inside after) direct before =
-      stands direct before _ _ (node-same (node (document.BlockQuote None) (start_of first) (past_of first more)) (settles inside false None) (settles after direct None))
+  settles (ContainerBlock (Quote alert) first more inside after) direct before =
+      stands direct before _ _ (node-same (node (document.BlockQuote alert) (start_of first) (past_of first more)) (settles inside false None) (settles after direct None))
   settles (ContainerBlock (Item mark number width) first more inside after) direct before =
       go before (λ t. settles inside t None) (λ t. settles after direct (Some (record { mark = mark; tight = t })))
     where

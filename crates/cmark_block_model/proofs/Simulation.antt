@@ -8,7 +8,7 @@ use Rattle.cmark_grammar.specs.Containers.{keeps, strip, strip_as, is_bare_start
 use Rattle.cmark_grammar.specs.Openings.{Leaf, ThematicBreak, AtxHeading, IndentedCode, FencedCode, HtmlBlock, LinkDefinition, lazily, MetadataBlock}
 use Rattle.cmark_grammar.specs.Blocks.{Nil as NoBlocks, ContainerBlock, join as join_blocks, may_lazy}
 use Rattle.cmark_grammar.specs.BlocksModel.{within}
-use Rattle.cmark_grammar.specs.BlocksByLine.{Verbatim, Indented, Fenced, HtmlLines, further_if, OpenLines, Between, InParagraph, InLeaf, InVerbatim, InContainer, close_lines, lines_take_lazy, lines_kept_or, verbatim_line, lines_begin, lines_feed, Metadata}
+use Rattle.cmark_grammar.specs.BlocksByLine.{Verbatim, Indented, Fenced, HtmlLines, further_if, OpenLines, Between, BehindTag, InParagraph, InLeaf, InVerbatim, InContainer, close_lines, lines_take_lazy, lines_kept_or, verbatim_line, lines_begin, lines_feed, Metadata}
 use Rattle.cmark_grammar.proofs.BlockLaws.{strip_lazy, strip_whole}
 use Rattle.cmark_grammar.proofs.BlocksSound.{is_both}
 use Rattle.cmark_block_model.specs.OpenBlocks.{OpenContainer, Closed, takes_lazy, Pass}
@@ -26,6 +26,7 @@ use Rattle.cmark_block_model.proofs.Keeping.{kept-ahead, off-ahead}
 module _ (text : List ℕ) (options : Options) (lookup : Lookup) where
   takes-lazy : (o : OpenLines) → takes_lazy (leaf_at text options lookup o) ≡ lines_take_lazy o
   takes-lazy (Between closed) = refl
+  takes-lazy BehindTag = refl
   takes-lazy (InParagraph closed first more) = refl
   takes-lazy (InLeaf closed leaf first had left) = go leaf
     where
@@ -49,6 +50,7 @@ module _ (text : List ℕ) (options : Options) (lookup : Lookup) where
   -- only the innermost container is bare
   bare-flag : (o : OpenLines) (b : Bool) (ahead : List Row) (n : ℕ) (l : Level) → Fits b o ahead n → (bare_at b o && is_last text options lookup (containers_at text options lookup o l)) ≡ b
   bare-flag (Between closed) b ahead n l f = and-true b
+  bare-flag BehindTag b ahead n l f = sym f
   bare-flag (InParagraph closed first more) b ahead n l f = sym f.0
   bare-flag (InLeaf closed leaf first had left) b ahead n l f = sym f.0
   bare-flag (InVerbatim closed verbatim first had waiting) b ahead n l f = sym f.0
@@ -62,6 +64,8 @@ module _ (text : List ℕ) (options : Options) (lookup : Lookup) where
       ≡ pass_at text options lookup (lines_feed options o r ahead) ahead l outer false n
   simulates (Between closed) b r next ahead l outer n e a f =
       ap (λ o. begin text options lookup r next (pass_with (replay text options lookup closed l) o false Closed n)) (append-nil outer) ∙ starts text options lookup closed r next ahead l outer n e a
+  simulates BehindTag b r next ahead l outer n e a f =
+      ap (λ o. begin text options lookup r next (pass_with l o false Closed n)) (append-nil outer) ∙ starts text options lookup NoBlocks r next ahead l outer n e a
   simulates (InParagraph closed first more) b r next ahead l outer n e a f =
       let i = InParagraph closed first more in
       ap (λ o. leaf_fed text options lookup (leaf_at text options lookup i) r next (pass_with (inner_at text options lookup i (r ∷ ahead) l) o false (leaf_at text options lookup i) n)) (append-nil outer)

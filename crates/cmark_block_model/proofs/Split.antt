@@ -55,7 +55,7 @@ module _ (text : List ℕ) (options : Options) (lookup : Lookup) where
   split mark (SetextHeading level first more underline after) =
       lone (Node (node (document.Heading level no_attributes) (start_of first) underline.past) (paragraph_tokens text first more) (split None after).after)
   split mark (LeafBlock leaf first more after) = lone (leaf_raw leaf first more (split None after).after)
-  split mark (ContainerBlock Quote first more inside after) =
-      lone (Node (node (document.BlockQuote None) (start_of first) (past_of first more)) (split None inside).after (split None after).after)
+  split mark (ContainerBlock (Quote alert) first more inside after) =
+      lone (Node (node (document.BlockQuote alert) (start_of first) (past_of first more)) (split None inside).after (split None after).after)
   split mark (ContainerBlock (Item m number width) first more inside after) =
       item_split (is_mark mark m) number (is_tight m inside after) (begin_of first) (past_of first more) (split None inside).after (split (Some m) after)

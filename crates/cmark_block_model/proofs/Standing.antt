@@ -82,5 +82,5 @@ HasFilledItems (BlankLine line after) = HasFilledItems after
 HasFilledItems (Paragraph first more after) = HasFilledItems after
 HasFilledItems (SetextHeading level first more underline after) = HasFilledItems after
 HasFilledItems (LeafBlock leaf first more after) = HasFilledItems after
-HasFilledItems (ContainerBlock Quote first more inside after) = HasFilledItems inside × HasFilledItems after
+HasFilledItems (ContainerBlock (Quote alert) first more inside after) = HasFilledItems inside × HasFilledItems after
 HasFilledItems (ContainerBlock (Item mark number width) first more inside after) = IsNearlyFilled inside × HasFilledItems inside × HasFilledItems after

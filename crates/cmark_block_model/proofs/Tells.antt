@@ -75,10 +75,10 @@ module _ (options : Options) where
   unfolding opens
   tells r ahead = go r.lazy refl
     where
-      opened : (b : Bool) → r.lazy ≡ false → is_blank_line r ≡ b → (c : Bool) → Tells r (if b then Blank else if c then Takes IndentedCode (counted code_further ahead) else or_else (nests_if (container_of r)) (leaf_of options r ahead))
+      opened : (b : Bool) → r.lazy ≡ false → is_blank_line r ≡ b → (c : Bool) → Tells r (if b then Blank else if c then Takes IndentedCode (counted code_further ahead) else or_else (nests_if (container_of options r)) (leaf_of options r ahead))
       opened true l e c = (l, e)
       opened false l e true = tt
-      opened false l e false = tells-or r (nests_if (container_of r)) (leaf_of options r ahead) (tells-nests r (container_of r)) (tells-leaf r ahead)
+      opened false l e false = tells-or r (nests_if (container_of options r)) (leaf_of options r ahead) (tells-nests r (container_of options r)) (tells-leaf r ahead)
 
       go : (a : Bool) → r.lazy ≡ a → Tells r (if a then Plain else or_else (metadata_begun (metadata_kind options r) ahead) (whole_opens options r ahead))
       go true l = tt

@@ -6,16 +6,17 @@ use Rattle.cmark_grammar.specs.Options.{Options}
 use Rattle.cmark_grammar.specs.Rows.{Row, rows, shown, first_place, begin_of, start_of, words_of}
 use Rattle.cmark_grammar.specs.Leaves.{Further, GoesOn, Closes, Waits, Stops, underlines, code_further, closes_fence}
 use Rattle.cmark_grammar.specs.HtmlBlocks.{holds_end, html_further}
-use Rattle.cmark_grammar.specs.Containers.{Container, Quote, Item, enter, keeps, strips}
+use Rattle.cmark_grammar.specs.Containers.{Container, Quote, Item, is_alert, enter, keeps, strips}
 use Rattle.cmark_grammar.specs.Openings.{Leaf, ThematicBreak, AtxHeading, IndentedCode, FencedCode, HtmlBlock, LinkDefinition, Opening, Blank, Nests, Takes, Plain, opens, texts, lazily, MetadataBlock}
 use Rattle.cmark_grammar.specs.Tokens.{Piece, resolved, words_end, stretch_then, heading_tokens, heading_attributes, verbatim_line, html_then, code_columns}
 use Rattle.cmark_grammar.specs.Derivation.{stop_of, reference_of}
 use Rattle.cmark_grammar.specs.BlockDocument as document
 use Rattle.cmark_grammar.specs.BlockDocument.{BlockDocument, BlockKind, Reference, Nil, Node, node}
+use Rattle.cmark_grammar.specs.BlockQuoteKind.{BlockQuoteKind}
 use Rattle.cmark_grammar.specs.Metadata.{ends_metadata}
 use Rattle.cmark_block_model.specs.Drawing.{Drawing, drawn, opened, closed_as, closed_at}
 use Rattle.cmark_block_model.specs.CodeLines.{code_line, rest_of, texts_of}
-use Rattle.cmark_block_model.specs.OpenBlocks.{OpenList, Siblings, no_siblings, OpenContainer, OpenLeaf, Closed, InParagraph, InDefinition, InIndented, InFenced, InHtml, takes_lazy, Pass, at_start, InMetadata}
+use Rattle.cmark_block_model.specs.OpenBlocks.{OpenList, Siblings, no_siblings, OpenContainer, OpenLeaf, Closed, BehindTag, InParagraph, InDefinition, InIndented, InFenced, InHtml, takes_lazy, Pass, at_start, InMetadata}
 
 -- the list closed, if one is open
 abbrev pub list_closed : Option OpenList → Drawing → Drawing
@@ -62,20 +63,20 @@ abbrev pub node_opened : (start : ℕ) → BlockKind → Pass → Pass
 node_opened start kind p = record p { drawing = opened start kind p.drawing }
 
 -- a container begins at a place
-abbrev pub quote_begun : (start : ℕ) → Pass → Pass
-quote_begun start p = inside_of Quote (node_opened start (document.BlockQuote None) (block_begun p))
+abbrev pub quote_begun : (alert : Option BlockQuoteKind) → (start : ℕ) → Pass → Pass
+quote_begun alert start p = inside_of (Quote alert) (node_opened start (document.BlockQuote alert) (block_begun p))
 
 abbrev pub item_begun_in : (mark : ℕ) → Option ℕ → (width start : ℕ) → Pass → Pass
 item_begun_in mark number width start p = inside_of (Item mark number width) (node_opened start document.ListItem (item_begun mark number start p p.inner.list))
 
 -- a container begins on a line
 abbrev pub container_begun : Container → Row → Pass → Pass
-container_begun Quote r p = quote_begun (start_of r) p
+container_begun (Quote alert) r p = quote_begun alert (start_of r) p
 container_begun (Item mark number width) r p = item_begun_in mark number width (begin_of r) p
 
 -- the siblings that a closed container stands behind
 abbrev pub behind_container : Container → (end : ℕ) → (inside around : Siblings) → Siblings
-behind_container Quote end inside around = around
+behind_container (Quote alert) end inside around = around
 behind_container (Item mark number width) end inside around = siblings_behind_item end inside around
 
 -- the innermost container closed
@@ -87,8 +88,13 @@ container_closed c outer p = record p {
 }
 
 abbrev pub is_item : Container → Bool
-is_item Quote = false
+is_item (Quote alert) = false
 is_item (Item mark number width) = true
+
+-- behind an alert's tag its line begins nothing more
+abbrev pub inside_begun : (is_alert : Bool) → (outside begun : Pass) → Pass
+inside_begun true outside begun = record outside { leaf = BehindTag }
+inside_begun false outside begun = begun
 
 abbrev pub is_some : List Row → Bool
 is_some [] = false
@@ -113,6 +119,7 @@ module _ (text : List ℕ) (options : Options) (lookup : Lookup) where
   -- the leaf closed, if one is open
   abbrev pub close_leaf : OpenLeaf → Pass → Pass
   close_leaf Closed p = p
+  close_leaf BehindTag p = record p { leaf = Closed }
   close_leaf (InParagraph from last) p = node_closed p.past (with_drawn (last_stretch from last) p)
   close_leaf (InDefinition left) p = record p { leaf = Closed }
   close_leaf (InIndented waits end blank) p =
@@ -190,7 +197,7 @@ module _ (text : List ℕ) (options : Options) (lookup : Lookup) where
   abbrev pub begin_in : (columns : ℕ) → Row → (next : List Row) → (bare : Bool) → Pass → Pass
   begin_in zero r next bare p = p
   begin_in (suc columns) r next bare p =
-      begin_as (opens options r (ahead_in p.outer next)) (λ k. begin_in columns (enter k r) next (is_item k) (container_begun k r p)) r (ahead_in p.outer next) bare p
+      begin_as (opens options r (ahead_in p.outer next)) (λ k. inside_begun (is_alert k) (container_begun k r p) (begin_in columns (enter k r) next (is_item k) (container_begun k r p))) r (ahead_in p.outer next) bare p
 
   abbrev pub begin : Row → (next : List Row) → Pass → Pass
   begin r next p = begin_in (suc (length r.columns)) r next false p
@@ -214,6 +221,7 @@ module _ (text : List ℕ) (options : Options) (lookup : Lookup) where
   -- a line that lacks no prefix, behind the open leaf
   abbrev pub leaf_fed : OpenLeaf → Row → (next : List Row) → Pass → Pass
   leaf_fed Closed r next p = begin r next p
+  leaf_fed BehindTag r next p = begin r next (leaf_closed p)
   leaf_fed (InParagraph from last) r next p =
       underlined_or (underlines r) (λ level. heading_made level from last r p)
       (if texts options r (ahead_in p.outer next) then paragraph_line from last r p else begin r next (leaf_closed p))
@@ -226,10 +234,11 @@ module _ (text : List ℕ) (options : Options) (lookup : Lookup) where
   leaf_fed (InMetadata kind waits) r next p =
       if ends_metadata kind r then node_closed r.past (with_drawn (texts_of (rest_of waits)) p) else code_drawn 0 r waits (InMetadata kind) p
 
-  -- a lazy line: it goes on with a paragraph, or begins one behind a definition
+  -- a lazy line: it goes on with a paragraph, or begins one behind a definition or an alert's tag
   abbrev pub lazy_fed : OpenLeaf → Row → Pass → Pass
   lazy_fed (InParagraph from last) r p = paragraph_line from last r p
   lazy_fed (InDefinition left) r p = paragraph_begun r p
+  lazy_fed BehindTag r p = paragraph_begun r p
   lazy_fed Closed r p = p
   lazy_fed (InIndented waits end blank) r p = p
   lazy_fed (InFenced fence waits) r p = p

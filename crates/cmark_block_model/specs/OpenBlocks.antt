@@ -35,8 +35,10 @@ pub record OpenContainer : Type 0 where
 -- The open leaf, if there is one. A paragraph has its last line, and the place where the stretch of the text begins that this
 -- line stands in, which is drawn when it is seen what follows; a link reference definition has lines to come; indented code has
 -- the stretch of the text that waits (so have fenced code and metadata), the place where its last line ends, and the blank lines behind that.
+-- Directly behind an alert's tag no leaf is open yet.
 pub data OpenLeaf : Type 0 where
   Closed : OpenLeaf
+  BehindTag : OpenLeaf
   InParagraph : (from : ℕ) → (last : Row) → OpenLeaf
   InDefinition : (left : ℕ) → OpenLeaf
   InIndented : (waits : Option Piece) → (end : ℕ) → (blank : List Row) → OpenLeaf
@@ -47,6 +49,7 @@ pub data OpenLeaf : Type 0 where
 -- a lazy line may stand behind the leaf
 abbrev pub takes_lazy : OpenLeaf → Bool
 takes_lazy Closed = false
+takes_lazy BehindTag = true
 takes_lazy (InParagraph from last) = true
 takes_lazy (InDefinition left) = true
 takes_lazy (InIndented waits end blank) = false

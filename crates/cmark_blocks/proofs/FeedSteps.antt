@@ -28,6 +28,9 @@ module _ {E : Type 0} (replacement : E → Lookup) (text : List ℕ) (options : 
   pub in_paragraph : (from : ℕ) (last : LineRest) → pass.leaf ≡ leaf.Paragraph from last → m.leaf ≡ model.InParagraph from (row_of last)
   in_paragraph from last is = (subst (λ l. ShowsLeaf text l pass.blank_lines.items m.leaf) is runs.leaf).0
 
+  pub behind_tag : pass.leaf ≡ leaf.BehindTag → m.leaf ≡ model.BehindTag
+  behind_tag is = (subst (λ l. ShowsLeaf text l pass.blank_lines.items m.leaf) is runs.leaf).0
+
   pub in_definition : (left : ℕ) → pass.leaf ≡ leaf.Definition left → m.leaf ≡ model.InDefinition left
   in_definition left is = (subst (λ l. ShowsLeaf text l pass.blank_lines.items m.leaf) is runs.leaf).0
 
@@ -71,12 +74,21 @@ module _ (text : List ℕ) (options : Options) (lookup : Lookup) (r : Row) (next
   pub feeds-left : (left : ℕ) → m.leaf ≡ model.InDefinition (suc left) → leaf_fed text options lookup m.leaf r next m ≡ record m { leaf = model.InDefinition left }
   feeds-left left is = ap (λ l. leaf_fed text options lookup l r next m) is
 
+  -- behind an alert's tag
+  pub feeds-behind : m.leaf ≡ model.BehindTag → leaf_fed text options lookup m.leaf r next m ≡ begin text options lookup r next (leaf_closed text options lookup m)
+  feeds-behind is = ap (λ l. leaf_fed text options lookup l r next m) is
+
   -- lazy lines
   pub lazy-paragraph : (from : ℕ) (last : Row) → m.leaf ≡ model.InParagraph from last → lazy_fed text options lookup m.leaf r m ≡ paragraph_line text options lookup from last r m
   lazy-paragraph from last is = ap (λ l. lazy_fed text options lookup l r m) is
 
   pub lazy-definition : (left : ℕ) → m.leaf ≡ model.InDefinition left → lazy_fed text options lookup m.leaf r m ≡ paragraph_begun text options lookup r (leaf_closed text options lookup m)
   lazy-definition left is =
+      ap (λ l. lazy_fed text options lookup l r m) is
+      ∙ ap (λ l. paragraph_begun text options lookup r (close_leaf text options lookup l m)) (sym is)
+
+  pub lazy-behind : m.leaf ≡ model.BehindTag → lazy_fed text options lookup m.leaf r m ≡ paragraph_begun text options lookup r (leaf_closed text options lookup m)
+  lazy-behind is =
       ap (λ l. lazy_fed text options lookup l r m) is
       ∙ ap (λ l. paragraph_begun text options lookup r (close_leaf text options lookup l m)) (sym is)
 
@@ -106,6 +118,7 @@ module _ (text : List ℕ) (options : Options) (lookup : Lookup) (m : model.Pass
   -- closing a leaf closes no container
   pub closed-outer : (l : model.OpenLeaf) → (close_leaf text options lookup l m).outer ≡ m.outer
   closed-outer model.Closed = refl
+  closed-outer model.BehindTag = refl
   closed-outer (model.InParagraph from last) = refl
   closed-outer (model.InDefinition left) = refl
   closed-outer (model.InIndented waits end blank) = refl

@@ -27,6 +27,7 @@ pub verbatim-closes : (text : List ℕ) (options : Options) (lookup : Lookup) (l
     IsVerbatim l waits → ShowsLeaf text l blanks o →
     (blanks ≡ []) × (close_leaf text options lookup o m ≡ record m { drawing = closed_at m.past (drawn (texts_of (rest_of (shown_waits text waits))) m.drawing); leaf = model.Closed })
 verbatim-closes text options lookup leaf.Closed waits blanks o m v s = absurd v
+verbatim-closes text options lookup leaf.BehindTag waits blanks o m v s = absurd v
 verbatim-closes text options lookup (leaf.Paragraph from last) waits blanks o m v s = absurd v
 verbatim-closes text options lookup (leaf.Definition left) waits blanks o m v s = absurd v
 verbatim-closes text options lookup (leaf.Indented others end) waits blanks o m v s = absurd v

@@ -1,9 +1,11 @@
 -- What a line begins, one container after the other.
-use Rattle.std.specs.Prelude.{if◌then◌else◌}
-use Rattle.std.proofs.Common.{◌≡◌, ℕ, zero, suc, ◌<◌, ◌≤◌, Bool, true, false, List, [], length, Some, None, refl, sym, ap, subst, ◌∙◌, arith}
+use Rattle.std.specs.Prelude.{if◌then◌else◌, is_some, option_map, IfSome}
+use Rattle.std.proofs.Common.{◌≡◌, ℕ, zero, suc, ◌<◌, ◌≤◌, Bool, true, false, List, [], length, Option, Some, None, refl, sym, ap, subst, ◌∙◌, arith}
 use Rattle.cmark_grammar.specs.Options.{Options}
 use Rattle.cmark_grammar.specs.Answers.{Lookup}
-use Rattle.cmark_grammar.specs.Containers.{Container, enter}
+use Rattle.cmark_grammar.specs.Alerts.{alert_in}
+use Rattle.cmark_grammar.specs.BlockQuoteKind.{BlockQuoteKind}
+use Rattle.cmark_grammar.specs.Containers.{Container, Quote, is_alert, enter}
 use Rattle.cmark_grammar.specs.Leaves.{run}
 use Rattle.cmark_grammar.specs.Metadata.{metadata_kind}
 use Rattle.cmark_grammar.specs.Openings.{Leaf, Blank, Takes, Plain, or_else, metadata_begun, whole_opens, opens}
@@ -13,21 +15,22 @@ use Rattle.cmark_grammar.proofs.BlockLaws.{no_metadata}
 use Rattle.cmark_lines.proofs.OpeningRows.{opens-blank, none_ahead}
 use Rattle.cmark_lines.specs.Opened.{opened, HasInside, InsideIsIn}
 use Rattle.cmark_lines.specs.Rests.{row_of, IsIn}
-use Rattle.cmark_lines.specs.Starts.{shown_start, inside_of}
+use Rattle.cmark_lines.specs.Starts.{shown_start, inside_of, Enters}
 use Rattle.cmark_lines.specs.declared.container.ContainerStart.{ContainerStart}
 use Rattle.cmark_lines.specs.declared.container.ContainerStart.TheVariants as begun
 use Rattle.cmark_lines.specs.declared.line_rest.LineRest.{LineRest}
 use Rattle.cmark_lines.specs.declared.opening.Opening.{Opening}
 use Rattle.cmark_lines.specs.declared.opening.Opening.TheVariants as opening
+use Rattle.cmark_text.specs.declared.kind.BlockQuoteKind as found
 use Rattle.cmark_text.specs.declared.kind.HeadingLevel.{HeadingLevel}
-use Rattle.cmark_text.specs.Shown.{level_number}
+use Rattle.cmark_text.specs.Shown.{level_number, shown_block_quote_kind}
 use Rattle.cmark_leaves.specs.Told.{AreTold}
 use Rattle.cmark_leaves.proofs.ToldSteps.{enter-told}
-use Rattle.cmark_block_model.specs.BlockPass.{ahead_in, begin, begin_as, begin_in, leaf_begun, container_begun, is_item}
+use Rattle.cmark_block_model.specs.BlockPass.{ahead_in, begin, begin_as, begin_in, leaf_begun, container_begun, inside_begun, is_item}
 use Rattle.cmark_block_model.specs.OpenBlocks as model
 use Rattle.cmark_blocks.specs.Ahead.{lines_at}
 use Rattle.cmark_blocks.specs.declared.state.Pass.{Pass}
-use Rattle.cmark_blocks.specs.Entered.{OpensAs, HasNumber, BeginsFirst, BeginsSoFar}
+use Rattle.cmark_blocks.specs.Entered.{OpensAs, HasNumber, TellsMetadata, BeginsContainer, BeginsFirst, BeginsSoFar}
 use Rattle.cmark_blocks.specs.Runs.{Runs, IsRead}
 use Rattle.cmark_blocks.specs.Steps.{Begins}
 use Rattle.cmark_blocks.proofs.OpeningSteps.{Fits, opens-fits}
@@ -42,6 +45,14 @@ pub start-numbered : (r : Row) (open_as : Opening) (start : ContainerStart) → 
 start-numbered r open_as (begun.Quote inside) opens_as e = tt
 start-numbered r open_as (begun.Item item inside) opens_as e = opened-fits r open_as (opening.Nests (begun.Item item inside)) opens_as e
 
+-- the kind of a block quote that begins
+pub quote-told : (options : Options) (start : ContainerStart) (inside : LineRest) (alert : Option BlockQuoteKind) → start ≡ begun.Quote inside → alert ≡ alert_in options (row_of inside) → shown_start options start ≡ Quote alert
+quote-told options start inside alert is told = ap (shown_start options) is ∙ ap Quote (sym told)
+
+pub alert-told : (kind : Option found.BlockQuoteKind) (some : Bool) → is_some kind ≡ some → is_alert (Quote (option_map shown_block_quote_kind kind)) ≡ some
+alert-told None some e = e
+alert-told (Some kind) some e = e
+
 -- the level of a heading
 pub heading-level : (r : Row) (open_as : Opening) (level : HeadingLevel) → OpensAs open_as r → open_as ≡ opening.AtxHeading level → level_number level ≡ run 35 (words_of r)
 heading-level r open_as level opens_as e = opened-fits r open_as (opening.AtxHeading level) opens_as e
@@ -51,40 +62,79 @@ enter-past : (k : Container) (r : Row) → (enter k r).past ≡ r.past
 unfolding enter
 enter-past k r = refl
 
-module _ (r : Row) (open_as : Opening) (start : ContainerStart) (inside : LineRest) (nests : open_as ≡ opening.Nests start) (behind : inside ≡ inside_of start) (has : HasInside open_as r) where
-  inside-row : row_of inside ≡ enter (shown_start start) r
-  inside-row = ap row_of behind ∙ subst (λ (x : Opening). HasInside x r) nests has
+module _ (r : Row) (open_as : Opening) (start : ContainerStart) (nests : open_as ≡ opening.Nests start) (has : HasInside open_as r) where
+  enters : Enters r start
+  enters = subst (λ (x : Opening). HasInside x r) nests has
 
-  pub inside-past : (row_of inside).past ≡ r.past
-  inside-past = ap (λ (s : Row). s.past) inside-row ∙ enter-past (shown_start start) r
+  module _ (inside : LineRest) (behind : inside ≡ inside_of start) where
+    pub inside-row : (options : Options) → row_of inside ≡ enter (shown_start options start) r
+    inside-row options = ap row_of behind ∙ enters options
 
-  pub inside-read : (text : List ℕ) → InsideIsIn text open_as → AreTold text r.columns → IsRead text inside
-  inside-read text placed told = record {
-    placed = subst (IsIn text) (sym behind) (subst (InsideIsIn text) nests placed);
-    told = subst (λ (s : Row). AreTold text s.columns) (sym inside-row) (enter-told text (shown_start start) r told);
-  }
+    pub inside-past : (row_of inside).past ≡ r.past
+    inside-past = ap (λ (s : Row). s.past) (inside-row no_options) ∙ enter-past (shown_start no_options start) r
 
-  pub inside-begins : (text : List ℕ) (options : Options) (lookup : Lookup) (item bare : Bool) (columns : ℕ) (m : model.Pass) → OpensAs open_as r →
-      metadata_begun (metadata_kind options r) (ahead_in text options lookup m.outer (lines_at text r.past)) ≡ Plain → item ≡ is_item (shown_start start) →
-      begin_in text options lookup (suc columns) r (lines_at text r.past) bare m
-      ≡ begin_in text options lookup columns (row_of inside) (lines_at text (row_of inside).past) item (container_begun (shown_start start) r m)
-  inside-begins text options lookup item bare columns m opens_as none is =
-      let ahead = ahead_in text options lookup m.outer (lines_at text r.past) in
-      let k = shown_start start in
-      ap (λ o. begin_as text options lookup o (λ k. begin_in text options lookup columns (enter k r) (lines_at text r.past) (is_item k) (container_begun k r m)) r ahead bare m)
-      (opens_as options ahead ∙ ap (λ o. or_else o (opened options open_as r ahead)) none ∙ ap (λ (x : Opening). opened options x r ahead) nests)
-      ∙ ap (λ (s : Row). begin_in text options lookup columns s (lines_at text r.past) (is_item k) (container_begun k r m)) (sym inside-row)
-      ∙ ap (λ (p : ℕ). begin_in text options lookup columns (row_of inside) (lines_at text p) (is_item k) (container_begun k r m)) (sym inside-past)
-      ∙ ap (λ (b : Bool). begin_in text options lookup columns (row_of inside) (lines_at text (row_of inside).past) b (container_begun k r m)) (sym is)
+    pub inside-read : (text : List ℕ) → InsideIsIn text open_as → AreTold text r.columns → IsRead text inside
+    inside-read text placed told = record {
+      placed = subst (IsIn text) (sym behind) (subst (InsideIsIn text) nests placed);
+      told = subst (λ (s : Row). AreTold text s.columns) (sym (inside-row no_options)) (enter-told text (shown_start no_options start) r told);
+    }
+
+  module _ (text : List ℕ) (options : Options) (lookup : Lookup) (bare : Bool) (columns : ℕ) (m : model.Pass) (opens_as : OpensAs open_as r)
+      (none : metadata_begun (metadata_kind options r) (ahead_in text options lookup m.outer (lines_at text r.past)) ≡ Plain) where
+    -- what the container begins, which is an alert or none
+    begins-nested : (is_tag : Bool) → is_alert (shown_start options start) ≡ is_tag →
+        begin_in text options lookup (suc columns) r (lines_at text r.past) bare m
+        ≡ inside_begun is_tag (container_begun (shown_start options start) r m)
+        (begin_in text options lookup columns (enter (shown_start options start) r) (lines_at text r.past) (is_item (shown_start options start)) (container_begun (shown_start options start) r m))
+    begins-nested is_tag alert =
+        let ahead = ahead_in text options lookup m.outer (lines_at text r.past) in
+        let k = shown_start options start in
+        let p = container_begun k r m in
+        ap (λ o. begin_as text options lookup o (λ k. inside_begun (is_alert k) (container_begun k r m) (begin_in text options lookup columns (enter k r) (lines_at text r.past) (is_item k) (container_begun k r m))) r ahead bare m)
+        (opens_as options ahead ∙ ap (λ o. or_else o (opened options open_as r ahead)) none ∙ ap (λ (x : Opening). opened options x r ahead) nests)
+        ∙ ap (λ z. inside_begun z p (begin_in text options lookup columns (enter k r) (lines_at text r.past) (is_item k) p)) alert
+
+    pub tag-begins : is_alert (shown_start options start) ≡ true → begin_in text options lookup (suc columns) r (lines_at text r.past) bare m ≡ record (container_begun (shown_start options start) r m) { leaf = model.BehindTag }
+    tag-begins alert = begins-nested true alert
+
+    pub inside-begins : (inside : LineRest) → inside ≡ inside_of start → (item : Bool) → is_alert (shown_start options start) ≡ false → item ≡ is_item (shown_start options start) →
+        begin_in text options lookup (suc columns) r (lines_at text r.past) bare m
+        ≡ begin_in text options lookup columns (row_of inside) (lines_at text (row_of inside).past) item (container_begun (shown_start options start) r m)
+    inside-begins inside behind item alert is =
+        let k = shown_start options start in
+        begins-nested false alert
+        ∙ ap (λ (s : Row). begin_in text options lookup columns s (lines_at text r.past) (is_item k) (container_begun k r m)) (sym (inside-row inside behind options))
+        ∙ ap (λ (p : ℕ). begin_in text options lookup columns (row_of inside) (lines_at text p) (is_item k) (container_begun k r m)) (sym (inside-past inside behind))
+        ∙ ap (λ (b : Bool). begin_in text options lookup columns (row_of inside) (lines_at text (row_of inside).past) b (container_begun k r m)) (sym is)
+
+-- a container was begun, and what it left of its line
+module _ {E : Type 0} (replacement : E → Lookup) (rest : LineRest) (open_as : Opening) (start : ContainerStart) (nests : open_as ≡ opening.Nests start) (has : HasInside open_as (row_of rest)) (opens_as : OpensAs open_as (row_of rest)) (old new : Pass E) where
+  pub container-begins : (bare : Bool) (entered : Option (LineRest × Bool)) → TellsMetadata replacement old rest None → IfSome entered (λ inside. inside.0 ≡ inside_of start) →
+      BeginsContainer replacement start rest entered old new → BeginsFirst replacement bare rest entered old new
+  container-begins bare None none behind begins text options lookup columns m runs =
+      let b = begins text options lookup m runs in
+      subst (λ p. Runs replacement text options lookup p new) (sym (tag-begins (row_of rest) open_as start nests has text options lookup bare columns m opens_as (none text options lookup m runs) b.0)) b.1
+  container-begins bare (Some inside) none behind begins text options lookup columns m runs =
+      let b = begins text options lookup m runs in (
+        container_begun (shown_start options start) (row_of rest) m,
+        b.2,
+        inside-past (row_of rest) open_as start nests has inside.0 behind,
+        inside-begins (row_of rest) open_as start nests has text options lookup bare columns m opens_as (none text options lookup m runs) inside.0 behind inside.1 b.0 b.1,
+      )
+
+pub container-read : (r : Row) (open_as : Opening) (start : ContainerStart) → open_as ≡ opening.Nests start → HasInside open_as r → (entered : Option (LineRest × Bool)) (text : List ℕ) → IfSome entered (λ inside. inside.0 ≡ inside_of start) →
+    InsideIsIn text open_as → AreTold text r.columns → IfSome entered (λ inside. IsRead text inside.0)
+container-read r open_as start nests has None text behind placed told = tt
+container-read r open_as start nests has (Some inside) text behind placed told = inside-read r open_as start nests has inside.0 behind text placed told
 
 -- a line that begins no container, or metadata
 module _ (text : List ℕ) (options : Options) (lookup : Lookup) (r : Row) (next : List Row) (columns : ℕ) (bare : Bool) (m : model.Pass) where
   pub leaf-begins : (open_as : Opening) → OpensAs open_as r → metadata_begun (metadata_kind options r) (ahead_in text options lookup m.outer next) ≡ Plain →
-      begin_as text options lookup (opened options open_as r (ahead_in text options lookup m.outer next)) (λ k. begin_in text options lookup columns (enter k r) next (is_item k) (container_begun k r m)) r (ahead_in text options lookup m.outer next) bare m
+      begin_as text options lookup (opened options open_as r (ahead_in text options lookup m.outer next)) (λ k. inside_begun (is_alert k) (container_begun k r m) (begin_in text options lookup columns (enter k r) next (is_item k) (container_begun k r m))) r (ahead_in text options lookup m.outer next) bare m
       ≡ begin_in text options lookup (suc columns) r next bare m
   leaf-begins open_as opens_as none =
       let ahead = ahead_in text options lookup m.outer next in
-      ap (λ o. begin_as text options lookup o (λ k. begin_in text options lookup columns (enter k r) next (is_item k) (container_begun k r m)) r ahead bare m)
+      ap (λ o. begin_as text options lookup o (λ k. inside_begun (is_alert k) (container_begun k r m) (begin_in text options lookup columns (enter k r) next (is_item k) (container_begun k r m))) r ahead bare m)
       (sym (opens_as options ahead ∙ ap (λ o. or_else o (opened options open_as r ahead)) none))
 
   pub metadata-begins : (leaf : Leaf) (more : ℕ) → r.lazy ≡ false → metadata_begun (metadata_kind options r) (ahead_in text options lookup m.outer next) ≡ Takes leaf more →
@@ -92,7 +142,7 @@ module _ (text : List ℕ) (options : Options) (lookup : Lookup) (r : Row) (next
   unfolding opens
   metadata-begins leaf more whole is =
       let ahead = ahead_in text options lookup m.outer next in
-      ap (λ o. begin_as text options lookup o (λ k. begin_in text options lookup columns (enter k r) next (is_item k) (container_begun k r m)) r ahead bare m)
+      ap (λ o. begin_as text options lookup o (λ k. inside_begun (is_alert k) (container_begun k r m) (begin_in text options lookup columns (enter k r) next (is_item k) (container_begun k r m))) r ahead bare m)
       (sym (ap (λ z. if z then Plain else or_else (metadata_begun (metadata_kind options r) ahead) (whole_opens options r ahead)) whole ∙ ap (λ o. or_else o (whole_opens options r ahead)) is))
 
 module _ {E : Type 0} (replacement : E → Lookup) (line : LineRest) (old : Pass E) where
@@ -124,5 +174,5 @@ module _ {E : Type 0} (replacement : E → Lookup) (line : LineRest) (old : Pass
 pub begins-blank : (text : List ℕ) (options : Options) (lookup : Lookup) (r : Row) (next : List Row) (m : model.Pass) → r.lazy ≡ false → is_blank_line r ≡ true →
     begin text options lookup r next m ≡ record m { inner = record m.inner { blank = m.inner.has_block }; bare = false }
 begins-blank text options lookup r next m whole blank =
-    ap (λ o. begin_as text options lookup o (λ k. begin_in text options lookup (length r.columns) (enter k r) next (is_item k) (container_begun k r m)) r (ahead_in text options lookup m.outer next) false m)
+    ap (λ o. begin_as text options lookup o (λ k. inside_begun (is_alert k) (container_begun k r m) (begin_in text options lookup (length r.columns) (enter k r) next (is_item k) (container_begun k r m))) r (ahead_in text options lookup m.outer next) false m)
     (opens-blank options r (ahead_in text options lookup m.outer next) whole blank ∙ ap (λ kind. or_else (metadata_begun kind (ahead_in text options lookup m.outer next)) Blank) (no_metadata options r blank))

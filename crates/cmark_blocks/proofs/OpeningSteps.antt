@@ -2,6 +2,7 @@
 use Rattle.std.proofs.Common.{◌≡◌, ℕ, Bool, true, false, ◌&&◌, nat_le, not, if◌then◌else◌, List, length, drop, Option, Some, None, refl, sym}
 use Rattle.std.specs.Prelude.{unwrap_or}
 use Rattle.cmark_grammar.specs.Rows.{Row, words_of, is_blank_line, indent_of}
+use Rattle.cmark_grammar.specs.BlockQuoteKind.{BlockQuoteKind}
 use Rattle.cmark_grammar.specs.Containers.{Container, Quote, Item, Marker, marker_of, item_with, item_of, container_with, container_of, is_quote, width_with}
 use Rattle.cmark_grammar.specs.HtmlBlocks.{html_kind}
 use Rattle.cmark_grammar.specs.Leaves.{Fence, is_parted, run, is_thematic_break, is_atx_heading, fence_of, counted, code_further}
@@ -23,13 +24,13 @@ MarkerNumbered (Some m) = Numbered m.mark m.number
 
 abbrev pub ContainerNumbered : Option Container → Type 0
 ContainerNumbered None = Unit {0}
-ContainerNumbered (Some Quote) = Unit {0}
+ContainerNumbered (Some (Quote alert)) = Unit {0}
 ContainerNumbered (Some (Item mark number width)) = Numbered mark number
 
 -- an item has a number that its character tells, a heading this level
 abbrev pub Fits : (level : ℕ) → Opening → Type 0
 Fits level Blank = Unit {0}
-Fits level (Nests Quote) = Unit {0}
+Fits level (Nests (Quote alert)) = Unit {0}
 Fits level (Nests (Item mark number width)) = Numbered mark number
 Fits level (Takes ThematicBreak more) = Unit {0}
 Fits level (Takes (AtxHeading n) more) = n ≡ level
@@ -52,10 +53,10 @@ item-numbered r (Some m) n = by (is_parted (drop m.size (words_of r)) && not (is
     by true = n
     by false = tt
 
-container-numbered : (k : Option Container) (quoted : Bool) → ContainerNumbered k → ContainerNumbered (container_with k quoted)
-container-numbered (Some k) quoted n = n
-container-numbered None true n = tt
-container-numbered None false n = tt
+container-numbered : (k : Option Container) (quoted : Bool) (alert : Option BlockQuoteKind) → ContainerNumbered k → ContainerNumbered (container_with k quoted alert)
+container-numbered (Some k) quoted alert n = n
+container-numbered None true alert n = tt
+container-numbered None false alert n = tt
 
 module _ (level : ℕ) where
   else-fits : (first second : Opening) → Fits level first → Fits level second → Fits level (or_else first second)
@@ -65,7 +66,7 @@ module _ (level : ℕ) where
   else-fits (Takes leaf more) second f g = f
 
   nests-fits : (k : Option Container) → ContainerNumbered k → Fits level (nests_if k)
-  nests-fits (Some Quote) n = tt
+  nests-fits (Some (Quote alert)) n = tt
   nests-fits (Some (Item mark number width)) n = n
   nests-fits None n = tt
 
@@ -117,12 +118,12 @@ opens-fits options r ahead = by r.lazy
     level : ℕ
     level = run 35 (words_of r)
 
-    whole : (blank indented : Bool) → Fits level (if blank then Blank else if indented then Takes IndentedCode (counted code_further ahead) else or_else (nests_if (container_of r)) (leaf_of options r ahead))
+    whole : (blank indented : Bool) → Fits level (if blank then Blank else if indented then Takes IndentedCode (counted code_further ahead) else or_else (nests_if (container_of options r)) (leaf_of options r ahead))
     whole true indented = tt
     whole false true = tt
     whole false false =
-        else-fits level (nests_if (container_of r)) (leaf_of options r ahead)
-        (nests-fits level (container_of r) (container-numbered (item_of r) (is_quote r) (item-numbered r (marker_of (words_of r)) (marker-numbered (marker_of (words_of r)) (marker-short (words_of r))))))
+        else-fits level (nests_if (container_of options r)) (leaf_of options r ahead)
+        (nests-fits level (container_of options r) (container-numbered (item_of r) (is_quote r) _ (item-numbered r (marker_of (words_of r)) (marker-numbered (marker_of (words_of r)) (marker-short (words_of r))))))
         (leaf-fits options r ahead)
 
     by : (lazy : Bool) → Fits level (if lazy then Plain else or_else (metadata_begun (metadata_kind options r) ahead) (whole_opens options r ahead))

@@ -1,7 +1,7 @@
 -- What a line begins, one container or leaf after the other.
-use Rattle.std.specs.Prelude.{◌≡◌, ◌≤◌, ℕ, suc, Bool, List, length, unwrap_or, Option, Some, None, MatchOption}
+use Rattle.std.specs.Prelude.{◌≡◌, ◌≤◌, ℕ, suc, Bool, true, false, List, length, unwrap_or, Option, Some, None, MatchOption}
 use Rattle.cmark_grammar.specs.Answers.{Lookup}
-use Rattle.cmark_grammar.specs.Containers.{Container}
+use Rattle.cmark_grammar.specs.Containers.{Container, is_alert}
 use Rattle.cmark_grammar.specs.Leaves.{counted}
 use Rattle.cmark_grammar.specs.Metadata.{metadata_kind, metadata_further, holds_metadata}
 use Rattle.cmark_grammar.specs.MetadataBlockKind.{MetadataBlockKind}
@@ -12,12 +12,13 @@ use Rattle.cmark_grammar.specs.Rows.{Row}
 use Rattle.cmark_items.specs.ItemNodes.{list_number}
 use Rattle.cmark_lines.specs.Opened.{opened}
 use Rattle.cmark_lines.specs.Rests.{row_of}
+use Rattle.cmark_lines.specs.Starts.{shown_start}
 use Rattle.cmark_lines.specs.declared.container.ContainerStart.{ContainerStart}
 use Rattle.cmark_lines.specs.declared.container.ContainerStart.TheVariants as begun
 use Rattle.cmark_lines.specs.declared.line_rest.LineRest.{LineRest}
 use Rattle.cmark_lines.specs.declared.opening.Opening.{Opening}
 use Rattle.cmark_lines.specs.declared.opening.Opening.TheVariants as opening
-use Rattle.cmark_block_model.specs.BlockPass.{ahead_in, begin, begin_as, begin_in}
+use Rattle.cmark_block_model.specs.BlockPass.{ahead_in, begin, begin_as, begin_in, container_begun, is_item}
 use Rattle.cmark_block_model.specs.OpenBlocks as model
 use Rattle.cmark_blocks.specs.Ahead.{lines_at}
 use Rattle.cmark_blocks.specs.declared.state.Pass.{Pass}
@@ -60,6 +61,15 @@ module _ {E : Type 0} (replacement : E → Lookup) where
       (text : List ℕ) (options : Options) (lookup : Lookup) (m : model.Pass) (inside : Container → model.Pass) → Runs replacement text options lookup m old →
       let ahead = ahead_in text options lookup m.outer (lines_at text (row_of rest).past) in
       Runs replacement text options lookup (begin_as text options lookup (opened options open_as (row_of rest) ahead) inside (row_of rest) ahead bare m) new
+
+  -- a container was begun on a line: an alert with its tag, behind which nothing of the line is left, or another one
+  abbrev pub BeginsContainer : ContainerStart → LineRest → Option (LineRest × Bool) → Pass E → Pass E → Type 0
+  BeginsContainer start rest entered old new =
+      (text : List ℕ) (options : Options) (lookup : Lookup) (m : model.Pass) → Runs replacement text options lookup m old →
+      let k = shown_start options start in
+      let p = container_begun k (row_of rest) m in
+      MatchOption entered ((is_alert k ≡ true) × Runs replacement text options lookup (record p { leaf = model.BehindTag }) new)
+      (λ inside. (is_alert k ≡ false) × (inside.1 ≡ is_item k) × Runs replacement text options lookup p new)
 
   -- behind the marker of a container that was begun, the rest of the line begins what is left
   abbrev pub Enters : List ℕ → Options → Lookup → (columns : ℕ) → (bare : Bool) → LineRest → model.Pass → LineRest × Bool → Pass E → Type 0

@@ -10,17 +10,18 @@ use Rattle.cmark_items.specs.declared.item.ItemBody.TheVariants as body
 use Rattle.cmark_lines.specs.declared.container.Container.{Container}
 use Rattle.cmark_lines.specs.declared.container.Container.TheVariants as container
 
--- an item with a prefix of this width: its character and number do not matter to what it keeps, so it is shown as a bullet
+-- an item with a prefix of this width: its character and number do not matter to what it keeps, so it is shown as a bullet; nor
+-- does it matter whether a block quote is an alert, so it is shown as none
 abbrev pub item_of_width : ℕ → grammar.Container
 item_of_width width = grammar.Item 45 None width
 
 abbrev pub shown_container : Container → grammar.Container
-shown_container container.Quote = grammar.Quote
+shown_container container.Quote = grammar.Quote None
 shown_container (container.Item width) = item_of_width width
 
 -- the container that a node is: a block quote or a list item, and else none
 abbrev pub container_in : ItemBody → Option grammar.Container
-container_in (body.BlockQuote kind) = Some grammar.Quote
+container_in (body.BlockQuote kind) = Some (grammar.Quote None)
 container_in (body.ListItem width) = Some (item_of_width width)
 container_in _ = None
 

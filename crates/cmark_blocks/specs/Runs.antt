@@ -35,6 +35,7 @@ IsFence fence mark size indent = (fence.mark ≡ mark) × (fence.size ≡ size) 
 -- the open leaf, with the blank lines behind indented code
 abbrev pub ShowsLeaf : List ℕ → OpenLeaf → List LineRest → model.OpenLeaf → Type 0
 ShowsLeaf text leaf.Closed blanks m = (m ≡ model.Closed) × (blanks ≡ [])
+ShowsLeaf text leaf.BehindTag blanks m = (m ≡ model.BehindTag) × (blanks ≡ [])
 ShowsLeaf text (leaf.Paragraph from last) blanks m = (m ≡ model.InParagraph from (row_of last)) × (blanks ≡ [])
 ShowsLeaf text (leaf.Definition left) blanks m = (m ≡ model.InDefinition left) × (blanks ≡ [])
 ShowsLeaf text (leaf.Indented waits end) blanks m = m ≡ model.InIndented (shown_waits text waits) end (map row_of blanks)
@@ -46,6 +47,7 @@ ShowsLeaf text (leaf.Metadata kind waits) blanks m = (m ≡ model.InMetadata (sh
 -- fenced code or metadata with this stretch that waits, or HTML, where none does
 abbrev pub IsVerbatim : OpenLeaf → Option Stretch → Type 0
 IsVerbatim leaf.Closed waits = ⊥
+IsVerbatim leaf.BehindTag waits = ⊥
 IsVerbatim (leaf.Paragraph from last) waits = ⊥
 IsVerbatim (leaf.Definition left) waits = ⊥
 IsVerbatim (leaf.Indented others end) waits = ⊥

@@ -1,9 +1,10 @@
 //! Containers and lists that begin and end (CommonMark 5).
 
-ghost use Rattle.std.specs.Prelude.{◌≡◌, List, ℕ, OnOk, not, unwrap_or, length, ◌-◌};
+ghost use Rattle.std.specs.Prelude.{◌≡◌, List, ℕ, OnOk, not, unwrap_or, option_map, length, ◌-◌};
 ghost use Rattle.cmark_grammar.specs.Answers.{Lookup};
 ghost use Rattle.cmark_grammar.specs.Containers as grammar;
 ghost use Rattle.cmark_items.specs.ItemNodes.{is_tight, list_number};
+ghost use Rattle.cmark_text.specs.Shown.{shown_block_quote_kind};
 ghost use Rattle.cmark_lines.specs.Starts.{Shows};
 ghost use Rattle.cmark_blocks.specs.Shown.{shown_siblings, ShowsContainer};
 ghost use Rattle.cmark_block_model.specs.BlockPass.{list_closed, block_begun, list_begun, item_begun, inside_of, quote_begun, item_begun_in, behind_container};
@@ -14,7 +15,7 @@ use crate::state::{OpenContainer, Pass};
 use bitflags::Flags;
 use cmark_items::{ItemBody, ListFlags};
 use cmark_lines::{Container, ItemStart};
-use cmark_text::EntityLookup;
+use cmark_text::{BlockQuoteKind, EntityLookup};
 use std::alloc::AllocError;
 
 /// What is said of a list whose end is seen.
@@ -125,17 +126,21 @@ impl<'a, E: EntityLookup> Pass<'a, E> {
         Ok(())
     }
 
-    /// A block quote begins at this byte offset.
-    pub(crate) fn begin_quote(&mut self, start: usize) -> Result<(), AllocError>
+    /// A block quote begins at this byte offset; where it is an alert, one of this kind.
+    pub(crate) fn begin_quote(
+        &mut self,
+        alert: Option<BlockQuoteKind>,
+        start: usize,
+    ) -> Result<(), AllocError>
         requires { IsGood self.old }
         ensures good { IsGood self.new }
-        ensures runs { OnOk result (Steps E.replacement self.old self.new (quote_begun start)) }
+        ensures runs { OnOk result (Steps E.replacement self.old self.new (quote_begun (option_map shown_block_quote_kind alert) start)) }
         ensures text { self.new.text ≡ self.old.text }
         ensures leaf { self.new.leaf ≡ self.old.leaf }
         ensures bare { self.new.bare ≡ self.old.bare }
     {
         self.begin_block();
-        self.builder.open(start, ItemBody::BlockQuote(None))?;
+        self.builder.open(start, ItemBody::BlockQuote(alert))?;
         self.enter(Container::Quote)?;
         Ok(())
     }

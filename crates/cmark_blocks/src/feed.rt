@@ -10,12 +10,12 @@ use cmark_text::EntityLookup;
 use std::alloc::AllocError;
 
 /// Whether a lazy line may stand behind the leaf: behind a paragraph, or where one may begin behind a link reference definition
-/// (CommonMark 4.7 and 4.8).
+/// (CommonMark 4.7 and 4.8) or an alert's tag (this profile's own).
 fn takes_lazy(leaf: OpenLeaf<'_>) -> bool
     ensures { TakesLazy leaf.entry result }
 {
     match leaf {
-        OpenLeaf::Paragraph(_, _) | OpenLeaf::Definition(_) => true,
+        OpenLeaf::Paragraph(_, _) | OpenLeaf::Definition(_) | OpenLeaf::BehindTag => true,
         OpenLeaf::Closed
         | OpenLeaf::Indented(_, _)
         | OpenLeaf::Fenced(_, _, _, _)
@@ -93,6 +93,7 @@ impl<'a, E: EntityLookup> Pass<'a, E> {
     {
         match self.leaf {
             OpenLeaf::Closed => self.begin(rest),
+            OpenLeaf::BehindTag => self.begin_anew(rest),
             OpenLeaf::Paragraph(from, last) => self.feed_paragraph(from, last, rest),
             OpenLeaf::Definition(left) => self.feed_definition(left, rest),
             OpenLeaf::Indented(waits, end) => self.feed_indented(waits, end, rest),
@@ -104,7 +105,8 @@ impl<'a, E: EntityLookup> Pass<'a, E> {
         }
     }
 
-    /// A lazy line: it goes on with a paragraph, or begins one behind a link reference definition (CommonMark 4.7 and 4.8).
+    /// A lazy line: it goes on with a paragraph, or begins one behind a link reference definition (CommonMark 4.7 and 4.8) or an
+    /// alert's tag (this profile's own).
     fn feed_lazily(&mut self, rest: LineRest<'a>) -> Result<(), AllocError>
         requires good { IsGood self.old }
         ensures good { IsGood self.new }
@@ -113,7 +115,7 @@ impl<'a, E: EntityLookup> Pass<'a, E> {
     {
         match self.leaf {
             OpenLeaf::Paragraph(from, last) => self.add_to_paragraph(from, last, rest),
-            OpenLeaf::Definition(_) => {
+            OpenLeaf::Definition(_) | OpenLeaf::BehindTag => {
                 self.close_leaf()?;
                 self.begin_paragraph(rest)?;
                 Ok(())

@@ -1,56 +1,61 @@
 //! All that a line begins: containers, and then a leaf (CommonMark 3 to 5).
 
 ghost use Rattle.std.specs.Prelude.{◌≡◌, ◌<◌, Bool, ℕ, List, false, length, OnOk, IfOk, IfSome};
-ghost use Rattle.cmark_block_model.specs.BlockPass.{container_begun, is_item};
+ghost use Rattle.cmark_text.specs.Shown.{shown_options};
 ghost use Rattle.cmark_lines.specs.Opened.{InfoIsIn};
 ghost use Rattle.cmark_lines.specs.Rests.{row_of};
-ghost use Rattle.cmark_lines.specs.Starts.{shown_start, inside_of};
+ghost use Rattle.cmark_lines.specs.Starts.{inside_of};
 ghost use Rattle.cmark_blocks.specs.Entered.{OpensAs, IsNoContainer, HasNumber};
 
-use crate::state::Pass;
+use crate::state::{OpenLeaf, Pass};
+use bitflags::Flags;
 use cmark_lines::{ContainerStart, LineRest, Opening, what_opens};
-use cmark_text::EntityLookup;
+use cmark_text::{EntityLookup, Options};
 use std::alloc::AllocError;
 
-/// The line behind the marker of a container that it begins.
-fn behind_marker<'a>(start: ContainerStart<'a>) -> LineRest<'a>
-    ensures { result ≡ inside_of start.entry }
+/// Whether alerts are read.
+fn reads_alerts(options: Options) -> bool
+    ensures { result ≡ (shown_options options).gfm }
 {
-    match start {
-        ContainerStart::Quote(inside) => inside,
-        ContainerStart::Item(_, inside) => inside,
-    }
+    options.contains(Options::ENABLE_GFM)
 }
 
 impl<'a, E: EntityLookup> Pass<'a, E> {
     ghost use Rattle.cmark_blocks.specs.declared.state.OpenLeaf.TheVariants as leaf;
     ghost use Rattle.cmark_blocks.specs.Runs.{IsGood, IsRead};
     ghost use Rattle.cmark_blocks.specs.Steps.{Steps, Begins, BeginsAnew};
-    ghost use Rattle.cmark_blocks.specs.Entered.{BeginsAs, BeginsFirst};
+    ghost use Rattle.cmark_blocks.specs.Entered.{BeginsAs, BeginsContainer, BeginsFirst};
 
-    /// A container begins on a line. Answers whether it is an item.
+    /// A container begins on a line, with no leaf open. Answers the line behind its marker, and whether the container is an item;
+    /// none, where that line is an alert's tag.
     fn begin_container(
         &mut self,
         start: ContainerStart<'a>,
         rest: LineRest<'a>,
-    ) -> Result<bool, AllocError>
+    ) -> Result<Option<(LineRest<'a>, bool)>, AllocError>
         requires good { IsGood self.old }
+        requires closed { self.old.leaf ≡ leaf.Closed }
         requires number { HasNumber start }
         ensures good { IsGood self.new }
-        ensures runs { OnOk result (Steps E.replacement self.old self.new (container_begun (shown_start start.entry) (row_of rest.entry))) }
-        ensures item { IfOk result (λ item. item ≡ is_item (shown_start start.entry)) }
+        ensures runs { IfOk result (λ entered. BeginsContainer E.replacement start.entry rest.entry entered self.old self.new) }
+        ensures inside { IfOk result (λ entered. IfSome entered (λ inside. inside.0 ≡ inside_of start.entry)) }
         ensures text { self.new.text ≡ self.old.text }
-        ensures leaf { self.new.leaf ≡ self.old.leaf }
+        ensures leaf { IfOk result (λ entered. IfSome entered (λ inside. self.new.leaf ≡ leaf.Closed)) }
         ensures bare { self.new.bare ≡ self.old.bare }
     {
         match start {
-            ContainerStart::Quote(_) => {
-                self.begin_quote(rest.words_begin())?;
-                Ok(false)
+            ContainerStart::Quote(inside) => {
+                let alert = inside.alert_kind(reads_alerts(self.options));
+                self.begin_quote(alert, rest.words_begin())?;
+                if alert.is_some() {
+                    self.leaf = OpenLeaf::BehindTag;
+                    return Ok(None);
+                }
+                Ok(Some((inside, false)))
             }
-            ContainerStart::Item(item, _) => {
+            ContainerStart::Item(item, inside) => {
                 self.begin_item(item, rest.begin())?;
-                Ok(true)
+                Ok(Some((inside, true)))
             }
         }
     }
@@ -101,7 +106,7 @@ impl<'a, E: EntityLookup> Pass<'a, E> {
     }
 
     /// The first thing that a line begins, with no leaf open: where it is a container, the line behind the container's marker is
-    /// answered, and whether the container is an item. `bare` says that this is a line behind the marker of an item.
+    /// answered, and whether the container is an item; none, where that line is an alert's tag. `bare` says that this is a line behind the marker of an item.
     #[inline(always)]
     fn begin_first(
         &mut self,
@@ -126,8 +131,8 @@ impl<'a, E: EntityLookup> Pass<'a, E> {
         }
         let opening = what_opens(rest);
         if let Opening::Nests(start) = opening {
-            let item = self.begin_container(start, rest)?;
-            return Ok(Some((behind_marker(start), item)));
+            let entered = self.begin_container(start, rest)?;
+            return Ok(entered);
         }
         self.begin_leaf(opening, rest, bare)?;
         Ok(None)

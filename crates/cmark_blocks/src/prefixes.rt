@@ -1,6 +1,6 @@
 //! The prefixes of the open containers in front of a line (CommonMark 5).
 
-ghost use Rattle.std.specs.Prelude.{◌≡◌, ◌+◌, ℕ, Option, false, option_map};
+ghost use Rattle.std.specs.Prelude.{◌≡◌, ◌+◌, ℕ, Option, None, false, option_map};
 ghost use Rattle.cmark_grammar.specs.Containers.{Quote, Item as ListItem, keeps};
 ghost use Rattle.cmark_grammar.specs.Rows.{begin_of};
 ghost use Rattle.cmark_tree.specs.Zip.{Zip};
@@ -27,7 +27,7 @@ fn container_of(body: ItemBody) -> Option<Container>
 
 /// The line behind a block quote's prefix, if it has one (CommonMark 5.1).
 fn behind_quote<'a>(line: LineStart<'a>) -> Option<LineStart<'a>>
-    ensures { (at past : ℕ) → option_map (row_from at past) result ≡ keeps Quote false (row_from at past line.entry) }
+    ensures { (at past : ℕ) → option_map (row_from at past) result ≡ keeps (Quote None) false (row_from at past line.entry) }
 {
     let mut behind = line;
     behind.scan_space_upto(3);

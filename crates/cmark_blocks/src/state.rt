@@ -15,6 +15,8 @@ use std::alloc::{AllocError, Global};
 pub(crate) enum OpenLeaf<'a> {
     /// None.
     Closed,
+    /// None yet, directly behind an alert's tag.
+    BehindTag,
     /// A paragraph: the byte offset where the lines begin that touch the last one, and that line. They become a node when it is
     /// seen what follows.
     Paragraph(usize, LineRest<'a>),

@@ -8,6 +8,7 @@ use Rattle.cmark_grammar.specs.Metadata.{metadata_of, metadata_if, metadata_kind
 use Rattle.cmark_grammar.specs.MetadataBlockKind.{MetadataBlockKind}
 use Rattle.cmark_grammar.specs.Rows.{Row, without, lazy_row, is_bare, is_blank_line, is_whole_line, indent_of, words_of}
 use Rattle.cmark_grammar.specs.Leaves.{Fence, Further, GoesOn, Closes, Waits, Stops, count_more, counted, underlines, is_thematic_break, is_atx_heading, run, fence_of, fence_further, code_further}
+use Rattle.cmark_grammar.specs.BlockQuoteKind.{BlockQuoteKind}
 use Rattle.cmark_grammar.specs.Containers.{Container, Quote, Item, Marker, marker_of, delimited, digits, is_bullet, is_delimiter, number_of, item_with, width_with, container_with, container_of, item_of, is_quote, quote_width, width_of, enter, keep_as, keeps, strip_as, strip}
 use Rattle.cmark_grammar.specs.HtmlBlocks.{html_kind, holds_end, html_further}
 use Rattle.cmark_grammar.specs.LinkDefinitions.{Defined, definition_in, bytes_over}
@@ -152,7 +153,7 @@ module _ (options : Options) where
       (fits_or (metadata_begun (metadata_kind options r) ahead) (whole_opens options r ahead) ahead (fits_metadata (metadata_kind options r) ahead)
       (fits_if (is_blank_line r) Blank _ ahead tt
       (fits_if (nat_le 4 (indent_of r)) (Takes IndentedCode (counted code_further ahead)) _ ahead (counted-len code_further ahead)
-      (fits_or (nests_if (container_of r)) (leaf_of options r ahead) ahead (fits_nests (container_of r) ahead) (fits_leaf r ahead)))))
+      (fits_or (nests_if (container_of options r)) (leaf_of options r ahead) ahead (fits_nests (container_of options r) ahead) (fits_leaf r ahead)))))
 
   pub opens-len : (r : Row) (ahead : List Row) (leaf : Leaf) (n : ℕ) → opens options r ahead ≡ Takes leaf n → n ≤ length ahead
   opens-len r ahead leaf n e = subst (λ o. Fits o ahead) e (fits_opens r ahead)
@@ -207,10 +208,10 @@ module _ (options : Options) where
       go true = let p : 0 < m.size = some in omega (arith, p)
       go false = tt
 
-  container-wide : (o : Option Container) (quoted : Bool) (r : Row) → SomeWide r o → SomeWide r (container_with o quoted)
-  container-wide (Some k) quoted r some = some
-  container-wide None true r some = omega arith
-  container-wide None false r some = tt
+  container-wide : (o : Option Container) (quoted : Bool) (alert : Option BlockQuoteKind) (r : Row) → SomeWide r o → SomeWide r (container_with o quoted alert)
+  container-wide (Some k) quoted alert r some = some
+  container-wide None true alert r some = omega arith
+  container-wide None false alert r some = tt
 
   wide_nests : (r : Row) (o : Option Container) → SomeWide r o → IsWide r (nests_if o)
   wide_nests r (Some k) some = some
@@ -259,7 +260,7 @@ module _ (options : Options) where
       (wide_or r (metadata_begun (metadata_kind options r) ahead) (whole_opens options r ahead) (wide_metadata r (metadata_kind options r) ahead)
       (wide_if r (is_blank_line r) Blank _ tt
       (wide_if r (nat_le 4 (indent_of r)) (Takes IndentedCode (counted code_further ahead)) _ tt
-      (wide_or r (nests_if (container_of r)) (leaf_of options r ahead) (wide_nests r (container_of r) (container-wide (item_of r) (is_quote r) r (item-wide (marker_of (words_of r)) r (marker-size (words_of r))))) (wide_leaf r ahead)))))
+      (wide_or r (nests_if (container_of options r)) (leaf_of options r ahead) (wide_nests r (container_of options r) (container-wide (item_of r) (is_quote r) _ r (item-wide (marker_of (words_of r)) r (marker-size (words_of r))))) (wide_leaf r ahead)))))
 
   opens-some : (r : Row) (ahead : List Row) (k : Container) → opens options r ahead ≡ Nests k → 0 < length r.columns
   unfolding opens
@@ -274,7 +275,7 @@ module _ (options : Options) where
       go [] false ec ez =
           let none : metadata_kind options r ≡ None = no_metadata options r (ap (λ cs. is_bare (without_indent cs)) ec) in
           let p : whole_opens options r ahead ≡ Nests k = sym (ap (λ b. if b then Plain else whole) ez ∙ ap (λ o. or_else (metadata_begun o ahead) (whole_opens options r ahead)) none) ∙ e in
-          let q : Blank ≡ Nests k = sym (ap (λ cs. if is_bare (without_indent cs) then Blank else if nat_le 4 (indent_of r) then Takes IndentedCode (counted code_further ahead) else or_else (nests_if (container_of r)) (leaf_of options r ahead)) ec) ∙ p in cc
+          let q : Blank ≡ Nests k = sym (ap (λ cs. if is_bare (without_indent cs) then Blank else if nat_le 4 (indent_of r) then Takes IndentedCode (counted code_further ahead) else or_else (nests_if (container_of options r)) (leaf_of options r ahead)) ec) ∙ p in cc
 
   -- inside a container a first line has fewer columns
   pub enter_len : (k : Container) (r : Row) (ahead : List Row) → opens options r ahead ≡ Nests k → length (enter k r).columns < length r.columns
@@ -288,7 +289,7 @@ module _ (options : Options) where
   enter-lazy k r = refl
 
   keep_as-lazy : (k : Container) (r s : Row) → keep_as k r ≡ Some s → s.lazy ≡ r.lazy
-  keep_as-lazy Quote r s e = go (is_quote r) e
+  keep_as-lazy (Quote alert) r s e = go (is_quote r) e
     where
       go : (z : Bool) → (if z then Some (without (quote_width r) r) else None) ≡ Some s → s.lazy ≡ r.lazy
       go true q = let p : without (quote_width r) r ≡ s = cc in sym (ap (λ x. x.lazy) p)

@@ -8,11 +8,11 @@ use Rattle.cmark_grammar.specs.HtmlBlocks.{html_kind, holds_end, html_further}
 use Rattle.cmark_grammar.specs.LinkDefinitions.{Defined, definition_in, bytes_over}
 use Rattle.cmark_grammar.specs.Metadata.{metadata_kind, metadata_further, holds_metadata, ends_metadata}
 use Rattle.cmark_grammar.specs.MetadataBlockKind.{MetadataBlockKind}
-use Rattle.cmark_grammar.specs.Containers.{Container, enter, keeps, strip, is_bare_start, bare_after, container_of}
+use Rattle.cmark_grammar.specs.Containers.{Container, is_alert, enter, keeps, strip, is_bare_start, bare_after, container_of}
 use Rattle.cmark_grammar.specs.Openings.{Leaf, ThematicBreak, AtxHeading, IndentedCode, FencedCode, HtmlBlock, LinkDefinition, MetadataBlock, Opening, Blank, Nests, Takes, Plain, or_else, nests_if, fenced_if, metadata_begun, html_if, break_if, heading_if, text_lines, defined_if, definition_of, leaf_of, whole_opens, opens, texts, lazily}
 use Rattle.cmark_grammar.specs.Blocks.{Blocks, Nil, BlankLine, Paragraph, SetextHeading, LeafBlock, ContainerBlock, join, may_lazy}
-use Rattle.cmark_grammar.specs.BlocksModel.{Open, Between as IsBetween, InParagraph as IsInParagraph, InLeaf as IsInLeaf, InContainer as IsInContainer, close, takes_lazy, within, begin_as, begin_in, begin, underline_or, goes_on_or, kept_or, feed, feed_all, blocks}
-use Rattle.cmark_grammar.specs.BlocksByLine.{Verbatim, Indented, Fenced, HtmlLines, Metadata, leaf_in, further_in, further_if, OpenLines, Between, InParagraph, InLeaf, InVerbatim, InContainer, blank_lines, close_lines, lines_take_lazy, html_begun, leaf_begun, lines_begin_as, lines_underline_or, lines_go_on_or, lines_kept_or, verbatim_line, lines_begin_in, lines_begin, lines_feed, lines_feed_all, blocks_by_line}
+use Rattle.cmark_grammar.specs.BlocksModel.{Open, Between as IsBetween, BehindTag as IsBehindTag, InParagraph as IsInParagraph, InLeaf as IsInLeaf, InContainer as IsInContainer, close, takes_lazy, within, inside_begun, begin_as, begin_in, begin, underline_or, goes_on_or, kept_or, feed, feed_all, blocks}
+use Rattle.cmark_grammar.specs.BlocksByLine.{Verbatim, Indented, Fenced, HtmlLines, Metadata, leaf_in, further_in, further_if, OpenLines, Between, BehindTag, InParagraph, InLeaf, InVerbatim, InContainer, blank_lines, close_lines, lines_take_lazy, html_begun, leaf_begun, lines_inside_begun, lines_begin_as, lines_underline_or, lines_go_on_or, lines_kept_or, verbatim_line, lines_begin_in, lines_begin, lines_feed, lines_feed_all, blocks_by_line}
 use Rattle.cmark_grammar.proofs.BlocksSound.{join_assoc, join-Nil, within_row, bare_push}
 use Rattle.cmark_grammar.proofs.BlockLaws.{no_metadata, strip_lazy}
 
@@ -25,6 +25,7 @@ waited closed leaf first had (r ∷ waiting) (suc n) = IsInLeaf closed leaf firs
 -- what is open, with these lines ahead
 abbrev pub seen : OpenLines → List Row → Open
 seen (Between closed) ahead = IsBetween closed
+seen BehindTag ahead = IsBehindTag
 seen (InParagraph closed first more) ahead = IsInParagraph closed first more
 seen (InLeaf closed leaf first had left) ahead = IsInLeaf closed leaf first had left
 seen (InVerbatim closed verbatim first had waiting) ahead = waited closed (leaf_in verbatim) first had waiting (counted (further_in verbatim) ahead)
@@ -38,6 +39,7 @@ never_lazy (Metadata kind) = refl
 
 seen_lazy : (o : OpenLines) (ahead : List Row) → takes_lazy (seen o ahead) ≡ lines_take_lazy o
 seen_lazy (Between closed) ahead = refl
+seen_lazy BehindTag ahead = refl
 seen_lazy (InParagraph closed first more) ahead = refl
 seen_lazy (InLeaf closed leaf first had left) ahead = refl
 seen_lazy (InVerbatim closed verbatim first had waiting) ahead = go waiting (counted (further_in verbatim) ahead)
@@ -50,6 +52,7 @@ seen_lazy (InContainer closed k first more inside) ahead = seen_lazy inside (wit
 
 close_seen : (options : Options) (o : OpenLines) → close (seen o []) ≡ close_lines o
 close_seen options (Between closed) = refl
+close_seen options BehindTag = refl
 close_seen options (InParagraph closed first more) = refl
 close_seen options (InLeaf closed leaf first had left) = refl
 close_seen options (InVerbatim closed verbatim first had []) = sym (join-Nil options (join closed (LeafBlock (leaf_in verbatim) first had Nil)))
@@ -141,7 +144,7 @@ module _ (options : Options) where
       (counts_or r ahead (metadata_begun (metadata_kind options r) ahead) (whole_opens options r ahead) (counts_metadata r ahead (metadata_kind options r))
       (counts_if r ahead (is_blank_line r) Blank _ tt
       (counts_if r ahead (nat_le 4 (indent_of r)) (Takes IndentedCode (counted code_further ahead)) _ refl
-      (counts_or r ahead (nests_if (container_of r)) (leaf_of options r ahead) (counts_nests r ahead (container_of r)) (counts_leaf r ahead)))))
+      (counts_or r ahead (nests_if (container_of options r)) (leaf_of options r ahead) (counts_nests r ahead (container_of options r)) (counts_leaf r ahead)))))
 
   -- a line that waits is blank
   waits_blank : (verbatim : Verbatim) (r : Row) (ahead : List Row) → further_if r.lazy verbatim r ≡ Waits → opens options r ahead ≡ Blank
@@ -180,6 +183,10 @@ module _ (options : Options) where
   unfolding begin
   begin_blank closed r ahead e = rw e refl
 
+  inside_seen : (is_tag : Bool) (o : OpenLines) (same : Open) (ahead : List Row) → seen o ahead ≡ same → seen (lines_inside_begun is_tag o) ahead ≡ inside_begun is_tag same
+  inside_seen true o same ahead e = refl
+  inside_seen false o same ahead e = e
+
   begin_in_seen : (n : ℕ) (closed : Blocks) (r : Row) (ahead : List Row) → seen (lines_begin_in options n closed r ahead) ahead ≡ begin_in options n closed r ahead
   begin_in_seen zero closed r ahead = refl
   begin_in_seen (suc n) closed r ahead = go (opens options r ahead) (counts_opens r ahead) (λ k. begin_in_seen n Nil (enter k r) (within k (is_bare_start k r) ahead))
@@ -199,7 +206,7 @@ module _ (options : Options) where
 
       go : (o : Opening) → Counts r ahead o → ((k : Container) → seen (lines_begin_in options n Nil (enter k r) (within k (is_bare_start k r) ahead)) (within k (is_bare_start k r) ahead) ≡ begin_in options n Nil (enter k r) (within k (is_bare_start k r) ahead)) → seen (lines_begin_as o (λ k. lines_begin_in options n Nil (enter k r) (within k (is_bare_start k r) ahead)) closed r) ahead ≡ begin_as o (λ k. begin_in options n Nil (enter k r) (within k (is_bare_start k r) ahead)) closed r
       go Blank c ih = refl
-      go (Nests k) c ih = ap (IsInContainer closed k r []) (ih k)
+      go (Nests k) c ih = ap (IsInContainer closed k r []) (inside_seen (is_alert k) _ _ _ (ih k))
       go (Takes l m) c ih = leaf l m c
       go Plain c ih = refl
 
@@ -210,6 +217,7 @@ module _ (options : Options) where
   -- one more line leads to the same
   feed_seen : (o : OpenLines) (r : Row) (ahead : List Row) → seen (lines_feed options o r ahead) ahead ≡ feed options (seen o (show_as r.lazy r ahead)) r ahead
   feed_seen (Between closed) r ahead = begin_seen closed r ahead
+  feed_seen BehindTag r ahead = begin_seen Nil r ahead
   feed_seen (InParagraph closed first more) r ahead = under (underlines r)
     where
       text : (z : Bool) → seen (lines_go_on_or z (InParagraph closed first (more ++ r ∷ [])) (lines_begin options (join closed (Paragraph first more Nil)) r ahead)) ahead ≡ goes_on_or z (IsInParagraph closed first (more ++ r ∷ [])) (begin options (join closed (Paragraph first more Nil)) r ahead)

@@ -2,10 +2,10 @@
 use Rattle.std.proofs.Common.{◌≡◌, ◌⊎◌, inl, inr, ⊎_elim, ℕ, zero, suc, ◌<◌, ◌≤◌, Bool, true, false, ◌&&◌, List, [], ◌∷◌, ◌++◌, length, refl, sym, ap, ◌∙◌, subst, arith, append_assoc, append-nil, Option, Some, None, true≢false}
 use Rattle.cmark_grammar.specs.Rows.{Row, rows, lazy_row, show_as, shown}
 use Rattle.cmark_grammar.specs.Leaves.{underlines}
-use Rattle.cmark_grammar.specs.Containers.{Container, enter, keeps, strip, strips, is_bare_start, bare_after, insides}
+use Rattle.cmark_grammar.specs.Containers.{Container, is_alert, unless_tag, enter, keeps, strip, strips, is_bare_start, bare_after, insides}
 use Rattle.cmark_grammar.specs.Openings.{Leaf, Opening, Blank, Nests, Takes, Plain, opens, texts, lazily}
 use Rattle.cmark_grammar.specs.Blocks.{Blocks, Nil, BlankLine, Paragraph, SetextHeading, LeafBlock, ContainerBlock, join, may_lazy, ends_lazily, AreText, Next, IsNoText, AreLazy, Ends, MayBegin, Body}
-use Rattle.cmark_grammar.specs.BlocksModel.{Open, Between, InParagraph, InLeaf, InContainer, close, takes_lazy, within, begin_as, begin_in, begin, kept_or, feed, feed_all, blocks}
+use Rattle.cmark_grammar.specs.BlocksModel.{Open, Between, BehindTag, InParagraph, InLeaf, InContainer, close, takes_lazy, within, inside_begun, begin_as, begin_in, begin, kept_or, feed, feed_all, blocks}
 use Rattle.cmark_grammar.proofs.BlockLaws.{opens-lazy, opens-len, underlines-lazy, enter_len, keeps-lazy, strip_lazy, lazy-same, texts-lazy}
 use Rattle.cmark_grammar.proofs.BlocksSound.{join_assoc, join-Nil, shown-shown, bare_false, bare_push, is_both, within_row, Holds, close_ends, feed_holds, AreWhole, rows-whole}
 use Rattle.cmark_grammar.specs.Options.{Options}
@@ -63,6 +63,7 @@ module _ (options : Options) where
 
   abbrev pub Extends : Open → List Row → Blocks → Type 0
   Extends (Between closed) more all = GoesOnBetween closed more all
+  Extends BehindTag more all = Body options true more all
   Extends (InParagraph closed first had) more all = GoesOnParagraph closed first had more all ⊎ GoesOnHeading closed first had more all
   Extends (InLeaf closed leaf first had left) more all = GoesOnLeaf closed leaf first had left more all
   Extends (InContainer closed k first had inside) more all = GoesOnContainer (λ ls bs. Extends inside ls bs) closed k first had more all
@@ -141,6 +142,7 @@ module _ (options : Options) where
 
   -- where no line is left, the blocks are the model's
   extends_close : (o : Open) (all : Blocks) → Extends o [] all → all ≡ close o
+  extends_close BehindTag all h = body_none true all h
   extends_close (Between closed) all h = h.is ∙ ap (join closed) (body_none false h.after h.body) ∙ join-Nil options closed
   extends_close (InParagraph closed first had) all (inl h) =
       let s = nothing_of h.tail h.rest h.split in
@@ -163,6 +165,10 @@ module _ (options : Options) where
       ∙ ap (λ t. join closed (ContainerBlock k first t h.inside h.after)) (append-nil had)
       ∙ ap (λ i. join closed (ContainerBlock k first had i h.after)) (extends_close inside h.inside (subst (λ t. Extends inside (strips k (bare_after (is_bare_start k first) had) t) h.inside) s.0 h.contents))
       ∙ ap (λ a. join closed (ContainerBlock k first had (close inside) a)) (body_none false h.after (subst (λ l. Body options false l h.after) s.1 h.body))
+
+  inside_extends : (is_tag : Bool) (o : Open) (first : Row) (more : List Row) (inside : Blocks) → (Body options false (first ∷ more) inside → Extends o more inside) → Body options is_tag (unless_tag is_tag first more) inside → Extends (inside_begun is_tag o) more inside
+  inside_extends true o first more inside h body = body
+  inside_extends false o first more inside h body = h body
 
   -- what a line begins, the blocks go on from
   begin_extends : (n : ℕ) (closed : Blocks) (behind : Bool) (r : Row) (more : List Row) (all : Blocks) → length r.columns < n → Body options behind (r ∷ more) all → Extends (begin_in options n closed r (shown more)) more (join closed all)
@@ -201,7 +207,7 @@ module _ (options : Options) where
           let o : opens options r (shown more) ≡ Nests k = subst (λ s. opens options s (shown more) ≡ Nests k) e (ap (λ l. opens options first (shown l)) m ∙ b.opened) in
           let stops : Ends options k (bare_after (is_bare_start k r) took) inside b.rest = subst (λ s. Ends options k (bare_after (is_bare_start k s) took) inside b.rest) e b.stops in
           let same : within k (is_bare_start k r) (shown more) ≡ shown (strips k (is_bare_start k r) took) = ap (λ l. within k (is_bare_start k r) (shown l)) m ∙ within_tail k inside (is_bare_start k r) took b.rest stops in
-          let contents : Body options false (insides k r took) inside = subst (λ s. Body options false (insides k s took) inside) e b.contents in
+          let contents : Body options (is_alert k) (insides k r took) inside = subst (λ s. Body options (is_alert k) (insides k s took) inside) e b.contents in
           rw o (record {
             tail = took;
             rest = b.rest;
@@ -209,7 +215,7 @@ module _ (options : Options) where
             after = after;
             split = m;
             is = ap (λ s. join closed (ContainerBlock k s took inside after)) e;
-            contents = subst (λ a. Extends (begin_in options n Nil (enter k r) a) (strips k (is_bare_start k r) took) inside) (sym same) (ih k (strips k (is_bare_start k r) took) inside contents o);
+            contents = subst (λ a. Extends (inside_begun (is_alert k) (begin_in options n Nil (enter k r) a)) (strips k (is_bare_start k r) took) inside) (sym same) (inside_extends (is_alert k) _ (enter k r) _ inside (λ c. ih k (strips k (is_bare_start k r) took) inside c o) contents);
             others = subst (λ s. AreLazy options k (is_bare_start k s) took b.rest) e b.others;
             stops = stops;
             body = b.after;
@@ -222,6 +228,7 @@ module _ (options : Options) where
   -- a lazy line stands where what is open takes one
   lazy_suits : (o : Open) (r : Row) (more : List Row) (all : Blocks) → r.lazy ≡ true → Extends o (r ∷ more) all → (texts options r [] ≡ true) × (takes_lazy o ≡ true)
   lazy_suits (Between closed) r more all lazy h = absurd (true≢false (sym lazy ∙ body_whole r more h.after h.body))
+  lazy_suits BehindTag r more all lazy h = ((body_lazy true r more all h lazy).1, refl)
   lazy_suits (InParagraph closed first had) r more all lazy (inl h) =
       ⊎_elim
       (λ e. absurd (true≢false (sym lazy ∙ body_whole r more h.after (subst (λ l. Body options false l h.after) e.1 h.body))))
@@ -246,10 +253,11 @@ module _ (options : Options) where
       (next_of r more h.tail h.rest h.split)
 
   -- one more line
-  step : (before : List Row) (o : Open) (r : Row) (more : List Row) (all : Blocks) (ahead : List Row) → Holds options before o ahead → Extends o (r ∷ more) all → Extends (feed options o r (shown more)) more all
-  step before (Between closed) r more all ahead holds h =
+  step : (so : Bool) (before : List Row) (o : Open) (r : Row) (more : List Row) (all : Blocks) (ahead : List Row) → Holds options so before o ahead → Extends o (r ∷ more) all → Extends (feed options o r (shown more)) more all
+  step so before (Between closed) r more all ahead holds h =
       subst (Extends (begin options closed r (shown more)) more) (sym h.is) (begin_all closed false r more h.after h.body)
-  step before (InParagraph closed first had) r more all ahead holds (inl h) = ⊎_elim off on (next_of r more h.tail h.rest h.split)
+  step so before BehindTag r more all ahead holds h = begin_all Nil true r more all h
+  step so before (InParagraph closed first had) r more all ahead holds (inl h) = ⊎_elim off on (next_of r more h.tail h.rest h.split)
     where
       fed : Open
       fed = feed options (InParagraph closed first had) r (shown more)
@@ -279,7 +287,7 @@ module _ (options : Options) where
             stops = h.stops;
             body = h.body;
           }))
-  step before (InParagraph closed first had) r more all ahead holds (inr h) = ⊎_elim under on (next_of r more h.tail (h.underline ∷ h.rest) h.split)
+  step so before (InParagraph closed first had) r more all ahead holds (inr h) = ⊎_elim under on (next_of r more h.tail (h.underline ∷ h.rest) h.split)
     where
       under : (h.tail ≡ []) × (h.underline ∷ h.rest ≡ r ∷ more) → Extends (feed options (InParagraph closed first had) r (shown more)) more all
       under e =
@@ -310,7 +318,7 @@ module _ (options : Options) where
             underlined = h.underlined;
             body = h.body;
           }))
-  step before (InLeaf closed leaf first had zero) r more all ahead holds h =
+  step so before (InLeaf closed leaf first had zero) r more all ahead holds h =
       let e = none_left h.tail h.count in
       subst (Extends (begin options (join closed (LeafBlock leaf first had Nil)) r (shown more)) more) (sym (is e))
       (begin_all (join closed (LeafBlock leaf first had Nil)) (may_lazy leaf) r more h.after (subst (λ l. Body options (may_lazy leaf) l h.after) (sym (h.split ∙ ap (λ t. t ++ h.rest) e)) h.body))
@@ -325,7 +333,7 @@ module _ (options : Options) where
           ∙ ap (λ t. join closed (LeafBlock leaf first (had ++ t) h.after)) e
           ∙ ap (λ t. join closed (LeafBlock leaf first t h.after)) (append-nil had)
           ∙ sym (join_assoc options closed (LeafBlock leaf first had Nil) h.after)
-  step before (InLeaf closed leaf first had (suc left)) r more all ahead holds h =
+  step so before (InLeaf closed leaf first had (suc left)) r more all ahead holds h =
       ⊎_elim
       (λ e. absurd (let z : length h.tail ≡ 0 = ap length e.0 in let y : length h.tail ≡ suc left = h.count in omega arith))
       (λ e. record {
@@ -339,9 +347,9 @@ module _ (options : Options) where
         body = h.body;
       })
       (next_of r more h.tail h.rest h.split)
-  step before (InContainer closed k first had inside) r more all ahead holds h =
+  step so before (InContainer closed k first had inside) r more all ahead holds h =
       ⊎_elim off
-      (λ e. on e (step (insides k first had) inside (strip k bare r) (strips k false e.0) h.inside (within k bare ahead) holds.1 (subst (λ l. Extends inside (strips k bare l) h.inside) e.1 h.contents)))
+      (λ e. on e (step (is_alert k) (insides k first had) inside (strip k bare r) (strips k false e.0) h.inside (within k bare ahead) holds.1 (subst (λ l. Extends inside (strips k bare l) h.inside) e.1 h.contents)))
       (next_of r more h.tail h.rest h.split)
     where
       bare : Bool
@@ -351,7 +359,7 @@ module _ (options : Options) where
       block = ContainerBlock k first had (close inside) Nil
 
       off : (h.tail ≡ []) × (h.rest ≡ r ∷ more) → Extends (feed options (InContainer closed k first had inside) r (shown more)) more all
-      off e = go (keeps k bare r) stops.0 (lazily options r (shown more) && takes_lazy inside) refl (λ z. stops.1 (ap (ends_lazily false) same ∙ close_ends options (insides k first had) inside (within k bare ahead) holds.1 ∙ z))
+      off e = go (keeps k bare r) stops.0 (lazily options r (shown more) && takes_lazy inside) refl (λ z. stops.1 (ap (ends_lazily (is_alert k)) same ∙ close_ends options (is_alert k) (insides k first had) inside (within k bare ahead) holds.1 ∙ z))
         where
           stops : Ends options k bare h.inside (r ∷ more)
           stops = subst (λ l. Ends options k bare h.inside l) e.1 (subst (λ t. Ends options k (bare_after bare t) h.inside h.rest) e.0 h.stops)
@@ -414,10 +422,10 @@ module _ (options : Options) where
           go None e true el = goes_on
           go None e false el = let p = suits e in absurd (true≢false (sym (ap (λ w. w && takes_lazy inside) p.0 ∙ p.1) ∙ el))
 
-  all_steps : (before more : List Row) (o : Open) (all : Blocks) → (AreWhole options) more → Holds options before o (shown more) → Extends o more all → Extends (feed_all options o more) [] all
+  all_steps : (before more : List Row) (o : Open) (all : Blocks) → (AreWhole options) more → Holds options false before o (shown more) → Extends o more all → Extends (feed_all options o more) [] all
   all_steps before [] o all whole holds h = h
   all_steps before (r ∷ more) o all whole holds h =
-      all_steps (before ++ r ∷ []) more (feed options o r (shown more)) all whole.1 (feed_holds options before o r (shown more) (inl whole.0) (shown-shown options [] more) holds) (step before o r more all (shown (r ∷ more)) holds h)
+      all_steps (before ++ r ∷ []) more (feed options o r (shown more)) all whole.1 (feed_holds options false before o r (shown more) (inl whole.0) (shown-shown options [] more) holds) (step false before o r more all (shown (r ∷ more)) holds h)
 
   -- the one structure of a text's blocks
   pub blocks-only : (text : List ℕ) (all : Blocks) → Body options false (rows text) all → all ≡ blocks options text

@@ -3,10 +3,10 @@ use Rattle.std.proofs.Common.{◌≡◌, ◌⊎◌, inl, inr, ⊎_elim, ℕ, zer
 use Rattle.cmark_grammar.specs.Rows.{Row, rows, rows_from, lazy_row, show_as, shown}
 use Rattle.cmark_grammar.specs.Lines.{lines}
 use Rattle.cmark_grammar.specs.Leaves.{underlines}
-use Rattle.cmark_grammar.specs.Containers.{Container, enter, keeps, strip, strips, is_bare_start, bare_after, insides}
+use Rattle.cmark_grammar.specs.Containers.{Container, is_alert, unless_tag, enter, keeps, strip, strips, is_bare_start, bare_after, insides}
 use Rattle.cmark_grammar.specs.Openings.{Opening, Blank, Nests, Takes, Plain, opens, texts, lazily}
 use Rattle.cmark_grammar.specs.Blocks.{Blocks, Nil, BlankLine, Paragraph, SetextHeading, LeafBlock, ContainerBlock, join, may_lazy, ends_lazily, IsText, AreText, AreLazy, MayBegin, Body}
-use Rattle.cmark_grammar.specs.BlocksModel.{Open, Between, InParagraph, InLeaf, InContainer, close, takes_lazy, within, begin_as, begin_in, begin, underline_or, goes_on_or, kept_or, feed, feed_all, blocks}
+use Rattle.cmark_grammar.specs.BlocksModel.{Open, Between, BehindTag, InParagraph, InLeaf, InContainer, close, takes_lazy, within, inside_begun, begin_as, begin_in, begin, underline_or, goes_on_or, kept_or, feed, feed_all, blocks}
 use Rattle.cmark_grammar.proofs.BlockLaws.{opens-whole, opens-len, enter_len, enter-lazy, strip_lazy, strip_whole, strip-still, lazily-texts, texts-lazily, texts_or}
 use Rattle.cmark_grammar.specs.Options.{Options}
 
@@ -33,7 +33,7 @@ module _ (options : Options) where
   ends_lazily-join so (Paragraph first more after) b = ends_lazily-join true after b
   ends_lazily-join so (SetextHeading level first more underline after) b = ends_lazily-join false after b
   ends_lazily-join so (LeafBlock leaf first more after) b = ends_lazily-join (may_lazy leaf) after b
-  ends_lazily-join so (ContainerBlock k first more inside after) b = ends_lazily-join (ends_lazily false inside) after b
+  ends_lazily-join so (ContainerBlock k first more inside after) b = ends_lazily-join (ends_lazily (is_alert k) inside) after b
 
   -- what is shown ahead of lines
   pub shown-shown : (a b : List Row) → shown (a ++ shown b) ≡ shown (a ++ b)
@@ -83,65 +83,68 @@ module _ (options : Options) where
       ((λ lacks. ap (lazily options m) (sym (shown_push more r ahead still)) ∙ t.0 lacks), AreLazy-push k false more r ahead still t.1 (λ lacks. is (subst (λ z. keeps k z r ≡ None) (bare_false more) lacks)))
 
   -- these lines are known, and whatever goes on behind them with these ahead may stand behind these blocks
-  abbrev pub Follows : List Row → Blocks → Bool → List Row → List Row → Type 0
-  Follows before closed behind known ahead =
-      (rest : List Row) (after : Blocks) → shown rest ≡ ahead → Body options behind (known ++ rest) after → Body options false (before ++ (known ++ rest)) (join closed after)
+  abbrev pub Follows : (so : Bool) → List Row → Blocks → Bool → List Row → List Row → Type 0
+  Follows so before closed behind known ahead =
+      (rest : List Row) (after : Blocks) → shown rest ≡ ahead → Body options behind (known ++ rest) after → Body options so (before ++ (known ++ rest)) (join closed after)
 
-  pub record IsBetween (all : List Row) (closed : Blocks) (ahead : List Row) : Type 0 where
-    pub follows : Follows all closed false [] ahead
-    pub ended : ends_lazily false closed ≡ false
+  pub record IsBetween (so : Bool) (all : List Row) (closed : Blocks) (ahead : List Row) : Type 0 where
+    pub follows : Follows so all closed false [] ahead
+    pub ended : ends_lazily so closed ≡ false
 
   -- a block that is open: its lines so far end all lines so far
-  pub record Began (all : List Row) (closed : Blocks) (first : Row) (more ahead : List Row) (opening : Opening) : Type 0 where
+  pub record Began (so : Bool) (all : List Row) (closed : Blocks) (first : Row) (more ahead : List Row) (opening : Opening) : Type 0 where
     pub before : List Row
     pub behind : Bool
     pub cut : all ≡ before ++ (first ∷ more)
-    pub follows : Follows before closed behind (first ∷ more) ahead
+    pub follows : Follows so before closed behind (first ∷ more) ahead
     pub begun : MayBegin options behind first
     pub opened : opens options first (shown (more ++ ahead)) ≡ opening
 
   -- these lines have led to what is open, with these ahead
-  abbrev pub Holds : List Row → Open → List Row → Type 0
-  Holds all (Between closed) ahead = IsBetween all closed ahead
-  Holds all (InParagraph closed first more) ahead = Began all closed first more ahead Plain × AreText options more ahead
-  Holds all (InLeaf closed leaf first had left) ahead = Began all closed first had ahead (Takes leaf (length had + left)) × (left ≤ length ahead)
-  Holds all (InContainer closed k first more inside) ahead =
-      Began all closed first more ahead (Nests k) × Holds (insides k first more) inside (within k (bare_after (is_bare_start k first) more) ahead)
+  abbrev pub Holds : (so : Bool) → List Row → Open → List Row → Type 0
+  Holds so all (Between closed) ahead = IsBetween so all closed ahead
+  Holds so all BehindTag ahead = (so ≡ true) × (all ≡ [])
+  Holds so all (InParagraph closed first more) ahead = Began so all closed first more ahead Plain × AreText options more ahead
+  Holds so all (InLeaf closed leaf first had left) ahead = Began so all closed first had ahead (Takes leaf (length had + left)) × (left ≤ length ahead)
+  Holds so all (InContainer closed k first more inside) ahead =
+      Began so all closed first more ahead (Nests k) × Holds (is_alert k) (insides k first more) inside (within k (bare_after (is_bare_start k first) more) ahead)
       × AreLazy options k (is_bare_start k first) more ahead
 
   -- where the lines end behind a block
-  ends_with : (all : List Row) (closed : Blocks) (first : Row) (more : List Row) (opening : Opening) (block : Blocks) → (b : Began all closed first more [] opening) → Body options b.behind (first ∷ (more ++ [])) block → Body options false all (join closed block)
-  ends_with all closed first more opening block b body =
-      subst (λ ls. Body options false ls (join closed block)) (ap (λ ls. b.before ++ (first ∷ ls)) (append-nil more) ∙ sym b.cut) (b.follows [] block refl body)
+  ends_with : (so : Bool) (all : List Row) (closed : Blocks) (first : Row) (more : List Row) (opening : Opening) (block : Blocks) → (b : Began so all closed first more [] opening) → Body options b.behind (first ∷ (more ++ [])) block → Body options so all (join closed block)
+  ends_with so all closed first more opening block b body =
+      subst (λ ls. Body options so ls (join closed block)) (ap (λ ls. b.before ++ (first ∷ ls)) (append-nil more) ∙ sym b.cut) (b.follows [] block refl body)
 
   all_left : (n left : ℕ) → left ≤ 0 → n + left ≡ n
   all_left n left le = omega arith
 
   -- where the lines end, what is open is a body
-  pub close_body : (all : List Row) (o : Open) → Holds all o [] → Body options false all (close o)
-  close_body all (Between closed) h =
-      subst (λ ls. Body options false ls closed) (append-nil all) (subst (Body options false (all ++ [])) (join-Nil closed) (h.follows [] Nil refl refl))
-  close_body all (InParagraph closed first more) h =
-      ends_with all closed first more Plain (Paragraph first more Nil) h.0
+  pub close_body : (so : Bool) (all : List Row) (o : Open) → Holds so all o [] → Body options so all (close o)
+  close_body so all (Between closed) h =
+      subst (λ ls. Body options so ls closed) (append-nil all) (subst (Body options so (all ++ [])) (join-Nil closed) (h.follows [] Nil refl refl))
+  close_body so all BehindTag h = h.1
+  close_body so all (InParagraph closed first more) h =
+      ends_with so all closed first more Plain (Paragraph first more Nil) h.0
       (record { rest = []; cut = refl; begun = h.0.begun; opened = h.0.opened; others = h.1; stops = tt; after = refl })
-  close_body all (InLeaf closed leaf first had left) h =
-      ends_with all closed first had (Takes leaf (length had + left)) (LeafBlock leaf first had Nil) h.0
+  close_body so all (InLeaf closed leaf first had left) h =
+      ends_with so all closed first had (Takes leaf (length had + left)) (LeafBlock leaf first had Nil) h.0
       (record { rest = []; cut = refl; opened = h.0.opened ∙ ap (Takes leaf) (all_left (length had) left h.1); after = refl })
-  close_body all (InContainer closed k first more inside) h =
-      ends_with all closed first more (Nests k) (ContainerBlock k first more (close inside) Nil) h.0
-      (record { rest = []; cut = refl; opened = h.0.opened; contents = close_body (insides k first more) inside h.1; others = h.2; stops = tt; after = refl })
+  close_body so all (InContainer closed k first more inside) h =
+      ends_with so all closed first more (Nests k) (ContainerBlock k first more (close inside) Nil) h.0
+      (record { rest = []; cut = refl; opened = h.0.opened; contents = close_body (is_alert k) (insides k first more) inside h.1; others = h.2; stops = tt; after = refl })
 
   -- whether a lazy line may stand behind them is seen on what is open
-  pub close_ends : (all : List Row) (o : Open) (ahead : List Row) → Holds all o ahead → ends_lazily false (close o) ≡ takes_lazy o
-  close_ends all (Between closed) ahead h = h.ended
-  close_ends all (InParagraph closed first more) ahead h = ends_lazily-join false closed (Paragraph first more Nil)
-  close_ends all (InLeaf closed leaf first had left) ahead h = ends_lazily-join false closed (LeafBlock leaf first had Nil)
-  close_ends all (InContainer closed k first more inside) ahead h =
-      ends_lazily-join false closed (ContainerBlock k first more (close inside) Nil) ∙ close_ends (insides k first more) inside (within k (bare_after (is_bare_start k first) more) ahead) h.1
+  pub close_ends : (so : Bool) (all : List Row) (o : Open) (ahead : List Row) → Holds so all o ahead → ends_lazily so (close o) ≡ takes_lazy o
+  close_ends so all (Between closed) ahead h = h.ended
+  close_ends so all BehindTag ahead h = h.0
+  close_ends so all (InParagraph closed first more) ahead h = ends_lazily-join so closed (Paragraph first more Nil)
+  close_ends so all (InLeaf closed leaf first had left) ahead h = ends_lazily-join so closed (LeafBlock leaf first had Nil)
+  close_ends so all (InContainer closed k first more inside) ahead h =
+      ends_lazily-join so closed (ContainerBlock k first more (close inside) Nil) ∙ close_ends (is_alert k) (insides k first more) inside (within k (bare_after (is_bare_start k first) more) ahead) h.1
 
   -- one more line belongs to the block
-  grows : (all : List Row) (closed : Blocks) (first : Row) (more : List Row) (r : Row) (ahead : List Row) (opening : Opening) → shown ahead ≡ ahead → Began all closed first more (show_as r.lazy r ahead) opening → Began (all ++ r ∷ []) closed first (more ++ r ∷ []) ahead opening
-  grows all closed first more r ahead opening still b = record {
+  grows : (so : Bool) (all : List Row) (closed : Blocks) (first : Row) (more : List Row) (r : Row) (ahead : List Row) (opening : Opening) → shown ahead ≡ ahead → Began so all closed first more (show_as r.lazy r ahead) opening → Began so (all ++ r ∷ []) closed first (more ++ r ∷ []) ahead opening
+  grows so all closed first more r ahead opening still b = record {
     before = b.before;
     behind = b.behind;
     cut = ap (λ ls. ls ++ r ∷ []) b.cut ∙ append_assoc b.before (first ∷ more) (r ∷ []);
@@ -150,41 +153,46 @@ module _ (options : Options) where
     opened = ap (opens options first) (sym (shown_push more r ahead still)) ∙ b.opened;
   }
     where
-      follows : Follows b.before closed b.behind (first ∷ (more ++ r ∷ [])) ahead
+      follows : Follows so b.before closed b.behind (first ∷ (more ++ r ∷ [])) ahead
       follows rest after e body =
           let q : (more ++ r ∷ []) ++ rest ≡ more ++ (r ∷ rest) = append_assoc more (r ∷ []) rest in
-          subst (λ ls. Body options false (b.before ++ (first ∷ ls)) (join closed after)) (sym q)
+          subst (λ ls. Body options so (b.before ++ (first ∷ ls)) (join closed after)) (sym q)
           (b.follows (r ∷ rest) after (ap (show_as r.lazy r) e) (subst (λ ls. Body options b.behind (first ∷ ls) after) q body))
 
   -- a line goes on behind a block that ends before it
-  past_block : (all : List Row) (closed : Blocks) (first : Row) (more : List Row) (r : Row) (ahead : List Row) (opening : Opening) (block : Blocks) (behind : Bool) → (b : Began all closed first more (show_as r.lazy r ahead) opening) → ((rest : List Row) (after : Blocks) → shown rest ≡ ahead → Body options behind (r ∷ rest) after → Body options b.behind (first ∷ (more ++ (r ∷ rest))) (join block after)) → Follows all (join closed block) behind (r ∷ []) ahead
-  past_block all closed first more r ahead opening block behind b body_of rest after e body =
+  past_block : (so : Bool) (all : List Row) (closed : Blocks) (first : Row) (more : List Row) (r : Row) (ahead : List Row) (opening : Opening) (block : Blocks) (behind : Bool) → (b : Began so all closed first more (show_as r.lazy r ahead) opening) → ((rest : List Row) (after : Blocks) → shown rest ≡ ahead → Body options behind (r ∷ rest) after → Body options b.behind (first ∷ (more ++ (r ∷ rest))) (join block after)) → Follows so all (join closed block) behind (r ∷ []) ahead
+  past_block so all closed first more r ahead opening block behind b body_of rest after e body =
       rw (b.cut, append_assoc b.before (first ∷ more) (r ∷ rest), join_assoc closed block after)
       (b.follows (r ∷ rest) (join block after) (ap (show_as r.lazy r) e) (body_of rest after e body))
 
+  -- directly behind an alert's tag
+  behind_tag : (is_tag : Bool) (r : Row) (o : Open) (ahead : List Row) → Holds false (r ∷ []) o ahead → Holds is_tag (unless_tag is_tag r []) (inside_begun is_tag o) ahead
+  behind_tag true r o ahead h = (refl, refl)
+  behind_tag false r o ahead h = h
+
   -- what a line begins
-  begin_in_holds : (n : ℕ) (before : List Row) (closed : Blocks) (behind : Bool) (r : Row) (ahead : List Row) → length r.columns < n → MayBegin options behind r → shown ahead ≡ ahead → Follows before closed behind (r ∷ []) ahead → Holds (before ++ r ∷ []) (begin_in options n closed r ahead) ahead
-  begin_in_holds zero before closed behind r ahead lt begun still follows = absurd (omega arith)
-  begin_in_holds (suc n) before closed behind r ahead lt begun still follows =
-      go (opens options r ahead) refl (λ k e w. begin_in_holds n [] Nil false (enter k r) (within k (is_bare_start k r) ahead) (let q : length (enter k r).columns < length r.columns = enter_len options k r ahead e in omega arith) (inl (enter-lazy options k r ∙ w)) (shown-shown [] (strips k (is_bare_start k r) ahead)) (λ rest after e body. body))
+  begin_in_holds : (so : Bool) (n : ℕ) (before : List Row) (closed : Blocks) (behind : Bool) (r : Row) (ahead : List Row) → length r.columns < n → MayBegin options behind r → shown ahead ≡ ahead → Follows so before closed behind (r ∷ []) ahead → Holds so (before ++ r ∷ []) (begin_in options n closed r ahead) ahead
+  begin_in_holds so zero before closed behind r ahead lt begun still follows = absurd (omega arith)
+  begin_in_holds so (suc n) before closed behind r ahead lt begun still follows =
+      go (opens options r ahead) refl (λ k e w. begin_in_holds false n [] Nil false (enter k r) (within k (is_bare_start k r) ahead) (let q : length (enter k r).columns < length r.columns = enter_len options k r ahead e in omega arith) (inl (enter-lazy options k r ∙ w)) (shown-shown [] (strips k (is_bare_start k r) ahead)) (λ rest after e body. body))
     where
-      began : (o : Opening) → opens options r ahead ≡ o → Began (before ++ r ∷ []) closed r [] ahead o
+      began : (o : Opening) → opens options r ahead ≡ o → Began so (before ++ r ∷ []) closed r [] ahead o
       began o e = record { before = before; behind = behind; cut = refl; follows = follows; begun = begun; opened = ap (opens options r) still ∙ e }
 
-      go : (o : Opening) → opens options r ahead ≡ o → ((k : Container) → opens options r ahead ≡ Nests k → r.lazy ≡ false → Holds (enter k r ∷ []) (begin_in options n Nil (enter k r) (within k (is_bare_start k r) ahead)) (within k (is_bare_start k r) ahead)) → Holds (before ++ r ∷ []) (begin_as o (λ k. begin_in options n Nil (enter k r) (within k (is_bare_start k r) ahead)) closed r) ahead
+      go : (o : Opening) → opens options r ahead ≡ o → ((k : Container) → opens options r ahead ≡ Nests k → r.lazy ≡ false → Holds false (enter k r ∷ []) (begin_in options n Nil (enter k r) (within k (is_bare_start k r) ahead)) (within k (is_bare_start k r) ahead)) → Holds so (before ++ r ∷ []) (begin_as o (λ k. begin_in options n Nil (enter k r) (within k (is_bare_start k r) ahead)) closed r) ahead
       go Blank e ih = record {
         follows = λ rest after s body. rw (append_assoc before (r ∷ []) rest, join_assoc closed (BlankLine r Nil) after) (follows rest (BlankLine r after) s (record { rest = rest; cut = refl; opened = ap (opens options r) s ∙ e; after = body }));
-        ended = ends_lazily-join false closed (BlankLine r Nil);
+        ended = ends_lazily-join so closed (BlankLine r Nil);
       }
       go (Nests k) e ih =
           let w : r.lazy ≡ false = opens-whole options r ahead (λ p. let q : Nests k ≡ Plain = sym e ∙ p in cc) in
-          (began (Nests k) e, ih k e w, tt)
+          (began (Nests k) e, behind_tag (is_alert k) (enter k r) _ _ (ih k e w), tt)
       go (Takes leaf m) e ih = (began (Takes leaf (length {A = Row} [] + m)) (e ∙ ap (Takes leaf) (let z : m ≡ 0 + m = omega arith in z)), opens-len options r ahead leaf m e)
       go Plain e ih = (began Plain e, tt)
 
-  begin_holds : (before : List Row) (closed : Blocks) (behind : Bool) (r : Row) (ahead : List Row) → MayBegin options behind r → shown ahead ≡ ahead → Follows before closed behind (r ∷ []) ahead → Holds (before ++ r ∷ []) (begin options closed r ahead) ahead
+  begin_holds : (so : Bool) (before : List Row) (closed : Blocks) (behind : Bool) (r : Row) (ahead : List Row) → MayBegin options behind r → shown ahead ≡ ahead → Follows so before closed behind (r ∷ []) ahead → Holds so (before ++ r ∷ []) (begin options closed r ahead) ahead
   unfolding begin
-  begin_holds before closed behind r ahead = begin_in_holds (suc (length r.columns)) before closed behind r ahead (omega arith)
+  begin_holds so before closed behind r ahead = begin_in_holds so (suc (length r.columns)) before closed behind r ahead (omega arith)
 
   -- a line is whole, or goes on with the paragraph that is open
   abbrev pub Suits : Open → Row → Type 0
@@ -206,6 +214,15 @@ module _ (options : Options) where
   strips_push k b [] r = refl
   strips_push k b (m ∷ more) r = ap (λ ls. strip k b m ∷ ls) (strips_push k false more r ∙ ap (λ z. strips k false more ++ strip k z r ∷ []) (bare_false more))
 
+  unless_push : (is_tag : Bool) (r s : Row) (rs : List Row) → unless_tag is_tag r (rs ++ s ∷ []) ≡ unless_tag is_tag r rs ++ s ∷ []
+  unless_push true r s rs = refl
+  unless_push false r s rs = refl
+
+  pub insides_push : (k : Container) (first : Row) (more : List Row) (r : Row) → insides k first (more ++ r ∷ []) ≡ insides k first more ++ strip k (bare_after (is_bare_start k first) more) r ∷ []
+  insides_push k first more r =
+      ap (unless_tag (is_alert k) (enter k first)) (strips_push k (is_bare_start k first) more r)
+      ∙ unless_push (is_alert k) (enter k first) (strip k (bare_after (is_bare_start k first) more) r) (strips k (is_bare_start k first) more)
+
   pub is_both : (t b : Bool) → (t && b) ≡ true → (t ≡ true) × (b ≡ true)
   is_both true b e = (refl, e)
   is_both false b e = absurd (true≢false (sym e))
@@ -214,16 +231,23 @@ module _ (options : Options) where
   not_both true b e i = absurd (true≢false (sym i ∙ e))
   not_both false b e i = refl
 
-  pub feed_holds : (all : List Row) (o : Open) (r : Row) (ahead : List Row) → Suits o r → shown ahead ≡ ahead → Holds all o (show_as r.lazy r ahead) → Holds (all ++ r ∷ []) (feed options o r ahead) ahead
-  feed_holds all (Between closed) r ahead suits still h = begin_holds all closed false r ahead (inl (whole suits)) still follows
+  pub feed_holds : (so : Bool) (all : List Row) (o : Open) (r : Row) (ahead : List Row) → Suits o r → shown ahead ≡ ahead → Holds so all o (show_as r.lazy r ahead) → Holds so (all ++ r ∷ []) (feed options o r ahead) ahead
+  feed_holds so all (Between closed) r ahead suits still h = begin_holds so all closed false r ahead (inl (whole suits)) still follows
     where
       whole : Suits (Between closed) r → r.lazy ≡ false
       whole (inl w) = w
       whole (inr p) = absurd (true≢false (sym p.1))
 
-      follows : Follows all closed false (r ∷ []) ahead
+      follows : Follows so all closed false (r ∷ []) ahead
       follows rest after e body = h.follows (r ∷ rest) after (ap (show_as r.lazy r) e) body
-  feed_holds all (InParagraph closed first more) r ahead suits still h = under (underlines r) refl
+  feed_holds so all BehindTag r ahead suits still h =
+      subst (λ ls. Holds so (ls ++ r ∷ []) (begin options Nil r ahead) ahead) (sym h.1)
+      (begin_holds so [] Nil true r ahead (begun suits) still (λ rest after e body. subst (λ z. Body options z (r ∷ rest) after) (sym h.0) body))
+    where
+      begun : Suits BehindTag r → MayBegin options true r
+      begun (inl w) = inl w
+      begun (inr p) = ⊎_elim inl (λ t. inr (refl, t)) (texts_or options r [] p.0)
+  feed_holds so all (InParagraph closed first more) r ahead suits still h = under (underlines r) refl
     where
       whole : texts options r ahead ≡ false → Suits (InParagraph closed first more) r → r.lazy ≡ false
       whole ne (inl w) = w
@@ -235,11 +259,11 @@ module _ (options : Options) where
       others : (rest : List Row) → shown rest ≡ ahead → AreText options more (r ∷ rest)
       others rest e = AreText-same more (show_as r.lazy r ahead) (r ∷ rest) (shown_row r rest ahead e) h.1
 
-      text : underlines r ≡ None → (o : Bool) → texts options r ahead ≡ o → Holds (all ++ r ∷ []) (goes_on_or o (InParagraph closed first (more ++ r ∷ [])) (begin options (join closed (Paragraph first more Nil)) r ahead)) ahead
-      text eu true e = (grows all closed first more r ahead Plain still h.0, AreText-push more r ahead still h.1 (e, eu))
+      text : underlines r ≡ None → (o : Bool) → texts options r ahead ≡ o → Holds so (all ++ r ∷ []) (goes_on_or o (InParagraph closed first (more ++ r ∷ [])) (begin options (join closed (Paragraph first more Nil)) r ahead)) ahead
+      text eu true e = (grows so all closed first more r ahead Plain still h.0, AreText-push more r ahead still h.1 (e, eu))
       text eu false e =
-          begin_holds all (join closed (Paragraph first more Nil)) false r ahead (inl (whole e suits)) still
-          (past_block all closed first more r ahead Plain (Paragraph first more Nil) false h.0 (λ rest after s body. record {
+          begin_holds so all (join closed (Paragraph first more Nil)) false r ahead (inl (whole e suits)) still
+          (past_block so all closed first more r ahead Plain (Paragraph first more Nil) false h.0 (λ rest after s body. record {
             rest = r ∷ rest;
             cut = refl;
             begun = h.0.begun;
@@ -249,18 +273,18 @@ module _ (options : Options) where
             after = body;
           }))
 
-      under : (u : Option ℕ) → underlines r ≡ u → Holds (all ++ r ∷ []) (underline_or u (λ level. Between (join closed (SetextHeading level first more r Nil))) (goes_on_or (texts options r ahead) (InParagraph closed first (more ++ r ∷ [])) (begin options (join closed (Paragraph first more Nil)) r ahead))) ahead
+      under : (u : Option ℕ) → underlines r ≡ u → Holds so (all ++ r ∷ []) (underline_or u (λ level. Between (join closed (SetextHeading level first more r Nil))) (goes_on_or (texts options r ahead) (InParagraph closed first (more ++ r ∷ [])) (begin options (join closed (Paragraph first more Nil)) r ahead))) ahead
       under None e = text e (texts options r ahead) refl
-      under (Some level) e = record { follows = follows; ended = ends_lazily-join false closed (SetextHeading level first more r Nil) }
+      under (Some level) e = record { follows = follows; ended = ends_lazily-join so closed (SetextHeading level first more r Nil) }
         where
-          follows : Follows (all ++ r ∷ []) (join closed (SetextHeading level first more r Nil)) false [] ahead
+          follows : Follows so (all ++ r ∷ []) (join closed (SetextHeading level first more r Nil)) false [] ahead
           follows rest after s body =
               rw (h.0.cut, append_assoc (h.0.before ++ (first ∷ more)) (r ∷ []) rest, append_assoc h.0.before (first ∷ more) (r ∷ rest), join_assoc closed (SetextHeading level first more r Nil) after)
               (h.0.follows (r ∷ rest) (SetextHeading level first more r after) (ap (show_as r.lazy r) s)
               (record { rest = rest; cut = refl; begun = h.0.begun; opened = opened rest s; others = others rest s; underlined = e; after = body }))
-  feed_holds all (InLeaf closed leaf first had zero) r ahead suits still h =
-      begin_holds all (join closed (LeafBlock leaf first had Nil)) (may_lazy leaf) r ahead (begun suits) still
-      (past_block all closed first had r ahead (Takes leaf (length had + 0)) (LeafBlock leaf first had Nil) (may_lazy leaf) h.0 (λ rest after s body. record {
+  feed_holds so all (InLeaf closed leaf first had zero) r ahead suits still h =
+      begin_holds so all (join closed (LeafBlock leaf first had Nil)) (may_lazy leaf) r ahead (begun suits) still
+      (past_block so all closed first had r ahead (Takes leaf (length had + 0)) (LeafBlock leaf first had Nil) (may_lazy leaf) h.0 (λ rest after s body. record {
         rest = r ∷ rest;
         cut = refl;
         opened = ap (opens options first) (sym (shown_rest had r rest ahead s)) ∙ h.0.opened ∙ ap (Takes leaf) (all_left (length had) 0 (omega arith));
@@ -270,8 +294,8 @@ module _ (options : Options) where
       begun : Suits (InLeaf closed leaf first had zero) r → MayBegin options (may_lazy leaf) r
       begun (inl w) = inl w
       begun (inr p) = ⊎_elim inl (λ t. inr (p.1, t)) (texts_or options r [] p.0)
-  feed_holds all (InLeaf closed leaf first had (suc left)) r ahead suits still h =
-      (subst (λ n. Began (all ++ r ∷ []) closed first (had ++ r ∷ []) ahead (Takes leaf n)) (count had) (grows all closed first had r ahead (Takes leaf (length had + suc left)) still h.0), come r.lazy h.1)
+  feed_holds so all (InLeaf closed leaf first had (suc left)) r ahead suits still h =
+      (subst (λ n. Began so (all ++ r ∷ []) closed first (had ++ r ∷ []) ahead (Takes leaf n)) (count had) (grows so all closed first had r ahead (Takes leaf (length had + suc left)) still h.0), come r.lazy h.1)
     where
       count : (ls : List Row) → length ls + suc left ≡ length (ls ++ r ∷ []) + left
       count [] = omega arith
@@ -280,9 +304,9 @@ module _ (options : Options) where
       come : (z : Bool) → suc left ≤ length (show_as z r ahead) → left ≤ length ahead
       come true le = omega arith
       come false le = omega arith
-  feed_holds all (InContainer closed k first more inside) r ahead suits still h =
+  feed_holds so all (InContainer closed k first more inside) r ahead suits still h =
       go (keeps k bare r) refl (lazily options r ahead && takes_lazy inside) refl
-      (λ s. feed_holds (insides k first more) inside (strip k bare r) (within k false ahead) s (shown-shown [] (strips k false ahead)) (subst (λ a. Holds (insides k first more) inside a) (within_row k bare r ahead) h.1))
+      (λ s. feed_holds (is_alert k) (insides k first more) inside (strip k bare r) (within k false ahead) s (shown-shown [] (strips k false ahead)) (subst (λ a. Holds (is_alert k) (insides k first more) inside a) (within_row k bare r ahead) h.1))
     where
       bare : Bool
       bare = bare_after (is_bare_start k first) more
@@ -298,29 +322,29 @@ module _ (options : Options) where
           by false e = e
           by true e = absurd (true≢false (sym (texts-lazily options r ahead e p.0) ∙ np p.1))
 
-      off : keeps k bare r ≡ None → (takes_lazy inside ≡ true → lazily options r ahead ≡ false) → Holds (all ++ r ∷ []) (begin options (join closed block) r ahead) ahead
+      off : keeps k bare r ≡ None → (takes_lazy inside ≡ true → lazily options r ahead ≡ false) → Holds so (all ++ r ∷ []) (begin options (join closed block) r ahead) ahead
       off nq np =
-          begin_holds all (join closed block) false r ahead (inl (whole nq np suits)) still
-          (past_block all closed first more r ahead (Nests k) block false h.0 (λ rest after s body. record {
+          begin_holds so all (join closed block) false r ahead (inl (whole nq np suits)) still
+          (past_block so all closed first more r ahead (Nests k) block false h.0 (λ rest after s body. record {
             rest = r ∷ rest;
             cut = refl;
             opened = ap (opens options first) (sym (shown_rest more r rest ahead s)) ∙ h.0.opened;
-            contents = close_body (insides k first more) inside (subst (λ a. Holds (insides k first more) inside a) (within_off k bare r ahead nq) h.1);
+            contents = close_body (is_alert k) (insides k first more) inside (subst (λ a. Holds (is_alert k) (insides k first more) inside a) (within_off k bare r ahead nq) h.1);
             others = AreLazy-same k (is_bare_start k first) more (show_as r.lazy r ahead) (r ∷ rest) (shown_row r rest ahead s) h.2;
-            stops = (nq, λ ends. ap (lazily options r) s ∙ np (sym (close_ends (insides k first more) inside (within k bare (show_as r.lazy r ahead)) h.1) ∙ ends));
+            stops = (nq, λ ends. ap (lazily options r) s ∙ np (sym (close_ends (is_alert k) (insides k first more) inside (within k bare (show_as r.lazy r ahead)) h.1) ∙ ends));
             after = body;
           }))
 
-      on : (keeps k bare r ≡ None → lazily options r ahead ≡ true) → Holds (insides k first more ++ strip k bare r ∷ []) (feed options inside (strip k bare r) (within k false ahead)) (within k false ahead) → Holds (all ++ r ∷ []) (InContainer closed k first (more ++ r ∷ []) (feed options inside (strip k bare r) (within k false ahead))) ahead
+      on : (keeps k bare r ≡ None → lazily options r ahead ≡ true) → Holds (is_alert k) (insides k first more ++ strip k bare r ∷ []) (feed options inside (strip k bare r) (within k false ahead)) (within k false ahead) → Holds so (all ++ r ∷ []) (InContainer closed k first (more ++ r ∷ []) (feed options inside (strip k bare r) (within k false ahead))) ahead
       on may i = (
-        grows all closed first more r ahead (Nests k) still h.0,
-        subst (λ z. Holds (insides k first (more ++ r ∷ [])) (feed options inside (strip k bare r) (within k false ahead)) (within k z ahead)) (sym (bare_push (is_bare_start k first) more r))
-            (subst (λ ls. Holds ls (feed options inside (strip k bare r) (within k false ahead)) (within k false ahead)) (sym (ap (λ ls. enter k first ∷ ls) (strips_push k (is_bare_start k first) more r))) i),
+        grows so all closed first more r ahead (Nests k) still h.0,
+        subst (λ z. Holds (is_alert k) (insides k first (more ++ r ∷ [])) (feed options inside (strip k bare r) (within k false ahead)) (within k z ahead)) (sym (bare_push (is_bare_start k first) more r))
+            (subst (λ ls. Holds (is_alert k) ls (feed options inside (strip k bare r) (within k false ahead)) (within k false ahead)) (sym (insides_push k first more r)) i),
         AreLazy-push k (is_bare_start k first) more r ahead still h.2 may,
       )
 
       -- inside the container the line is whole, or goes on with the paragraph
-      go : (o : Option Row) → keeps k bare r ≡ o → (l : Bool) → (lazily options r ahead && takes_lazy inside) ≡ l → (Suits inside (strip k bare r) → Holds (insides k first more ++ strip k bare r ∷ []) (feed options inside (strip k bare r) (within k false ahead)) (within k false ahead)) → Holds (all ++ r ∷ []) (kept_or o l (InContainer closed k first (more ++ r ∷ []) (feed options inside (strip k bare r) (within k false ahead))) (begin options (join closed block) r ahead)) ahead
+      go : (o : Option Row) → keeps k bare r ≡ o → (l : Bool) → (lazily options r ahead && takes_lazy inside) ≡ l → (Suits inside (strip k bare r) → Holds (is_alert k) (insides k first more ++ strip k bare r ∷ []) (feed options inside (strip k bare r) (within k false ahead)) (within k false ahead)) → Holds so (all ++ r ∷ []) (kept_or o l (InContainer closed k first (more ++ r ∷ []) (feed options inside (strip k bare r) (within k false ahead))) (begin options (join closed block) r ahead)) ahead
       go (Some s) e l el ih = on (λ lacks. absurd (let q : Some s ≡ None = sym e ∙ lacks in cc)) (ih (inl (strip_whole options k bare r s e)))
       go None e true el ih = let p = is_both (lazily options r ahead) (takes_lazy inside) el in on (λ lacks. p.0) (ih (inr (ap (λ s. texts options (lazy_row s) []) (strip_lazy options k bare r e) ∙ lazily-texts options r ahead [] p.0, p.1)))
       go None e false el ih = off e (not_both (lazily options r ahead) (takes_lazy inside) el)
@@ -337,14 +361,14 @@ module _ (options : Options) where
   pub rows-whole : (text : List ℕ) → AreWhole (rows text)
   rows-whole text = rows_from-whole 0 (lines text)
 
-  feed_all_holds : (all more : List Row) (o : Open) → AreWhole more → Holds all o (shown more) → Holds (all ++ more) (feed_all options o more) []
+  feed_all_holds : (all more : List Row) (o : Open) → AreWhole more → Holds false all o (shown more) → Holds false (all ++ more) (feed_all options o more) []
   feed_all_holds all [] o whole h = rw append-nil h
   feed_all_holds all (r ∷ more) o whole h =
-      subst (λ ls. Holds ls (feed_all options (feed options o r (shown more)) more) []) (append_assoc all (r ∷ []) more)
-      (feed_all_holds (all ++ r ∷ []) more (feed options o r (shown more)) whole.1 (feed_holds all o r (shown more) (inl whole.0) (shown-shown [] more) h))
+      subst (λ ls. Holds false ls (feed_all options (feed options o r (shown more)) more) []) (append_assoc all (r ∷ []) more)
+      (feed_all_holds (all ++ r ∷ []) more (feed options o r (shown more)) whole.1 (feed_holds false all o r (shown more) (inl whole.0) (shown-shown [] more) h))
 
   pub blocks-body : (text : List ℕ) → Body options false (rows text) (blocks options text)
   unfolding blocks
   blocks-body text =
-      close_body (rows text) (feed_all options (Between Nil) (rows text))
+      close_body false (rows text) (feed_all options (Between Nil) (rows text))
       (feed_all_holds [] (rows text) (Between Nil) (rows-whole text) (record { follows = λ rest after e body. body; ended = refl }))

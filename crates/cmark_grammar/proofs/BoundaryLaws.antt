@@ -8,7 +8,7 @@ use Rattle.cmark_grammar.specs.Options.{Options}
 use Rattle.cmark_grammar.specs.Lines.{lines, ends_line, onto, content, is_content, line_feed, carriage_return}
 use Rattle.cmark_grammar.specs.Columns.{Column, tab, expand, tab_columns, to_tab_stop}
 use Rattle.cmark_grammar.specs.Rows.{Row, rows, rows_from, row_at, begin_of, past_of}
-use Rattle.cmark_grammar.specs.Containers.{Quote, Item, is_bare_start, insides}
+use Rattle.cmark_grammar.specs.Containers.{Container, Quote, Item, is_alert, unless_tag, enter, strips, is_bare_start, insides}
 use Rattle.cmark_grammar.specs.Openings.{Leaf, ThematicBreak as ThematicBreakLeaf, AtxHeading as AtxHeadingLeaf, IndentedCode as IndentedCodeLeaf, FencedCode as FencedCodeLeaf, HtmlBlock as HtmlBlockLeaf, LinkDefinition as LinkDefinitionLeaf, MetadataBlock as MetadataBlockLeaf}
 use Rattle.cmark_grammar.specs.Blocks.{Blocks, Nil as NoBlocks, BlankLine, Paragraph as ParagraphBlock, SetextHeading, LeafBlock, ContainerBlock, may_lazy, Body}
 use Rattle.cmark_grammar.specs.Lists.{ListBefore, tight_behind, goes_on}
@@ -41,6 +41,13 @@ module _ (E : ℕ → Type 0) where
   leaf-edged text options lookup (LinkDefinitionLeaf definition) first more after g gs f a = (start-E E first g, past-edge first more g gs, tt, a)
   leaf-edged text options lookup (MetadataBlockLeaf kind) first more after g gs f a = (start-E E first g, past-edge first more g gs, code-edged E text 0 (lines_before (ends_metadata kind) more) (before-good E (ends_metadata kind) more gs), a)
 
+  insides-good : (k : Container) (first : Row) (more : List Row) → GoodRow E (enter k first) → GoodRows E more → GoodRows E (insides k first more)
+  insides-good k first more g gs = go (is_alert k)
+    where
+      go : (is_tag : Bool) → GoodRows E (unless_tag is_tag (enter k first) (strips k (is_bare_start k first) more))
+      go true = strips-good E k (is_bare_start k first) more gs
+      go false = (g, strips-good E k (is_bare_start k first) more gs)
+
   document-edged : (text : List ℕ) (options : Options) (lookup : Lookup) (direct : Bool) (before : Option ListBefore) (behind : Bool) (all : List Row) (b : Blocks) → Body options behind all b → GoodRows E all → AllAt E (document_of text options lookup direct before b)
   document-edged text options lookup direct before behind all NoBlocks body g = tt
   document-edged text options lookup direct before behind all (BlankLine line after) body g =
@@ -59,12 +66,12 @@ module _ (E : ℕ → Type 0) where
       let s = split-good E more body.rest c.1 in
       leaf-edged text options lookup leaf first more (document_of text options lookup direct None after) c.0 s.0 (leaf-front E options first _ leaf (length more) body.opened c.0)
       (document-edged text options lookup direct None (may_lazy leaf) body.rest after body.after s.1)
-  document-edged text options lookup direct before behind all (ContainerBlock Quote first more inside after) body g =
+  document-edged text options lookup direct before behind all (ContainerBlock (Quote alert) first more inside after) body g =
       let c : GoodRows E (first ∷ (more ++ body.rest)) = subst (GoodRows E) body.cut g in
       let s = split-good E more body.rest c.1 in (
         start-E E first c.0,
         past-edge first more c.0 s.0,
-        document-edged text options lookup false None false (insides Quote first more) inside body.contents (enter-good E options Quote first _ body.opened c.0, strips-good E Quote (is_bare_start Quote first) more s.0),
+        document-edged text options lookup false None (is_alert (Quote alert)) (insides (Quote alert) first more) inside body.contents (insides-good (Quote alert) first more (enter-good E options (Quote alert) first _ body.opened c.0) s.0),
         document-edged text options lookup direct None false body.rest after body.after s.1,
       )
   document-edged text options lookup direct before behind all (ContainerBlock (Item mark number width) first more inside after) body g =
@@ -73,7 +80,7 @@ module _ (E : ℕ → Type 0) where
       let tight = tight_behind before mark inside after in
       item-edged (goes_on mark after) number tight (node ListItem (begin_of first) (past_of first more)) (document_of text options lookup tight None inside) (document_of text options lookup direct (Some (record { mark = mark; tight = tight })) after)
       c.0.begin (past-edge first more c.0 s.0)
-      (document-edged text options lookup tight None false (insides (Item mark number width) first more) inside body.contents (enter-good E options (Item mark number width) first _ body.opened c.0, strips-good E (Item mark number width) (is_bare_start (Item mark number width) first) more s.0))
+      (document-edged text options lookup tight None false (insides (Item mark number width) first more) inside body.contents (insides-good (Item mark number width) first more (enter-good E options (Item mark number width) first _ body.opened c.0) s.0))
       (document-edged text options lookup direct (Some (record { mark = mark; tight = tight })) false body.rest after body.after s.1)
 
 -- the lines of a text

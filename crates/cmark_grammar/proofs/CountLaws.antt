@@ -8,7 +8,7 @@ use Rattle.cmark_grammar.specs.Lines.{lines, ends_line, onto, content}
 use Rattle.cmark_grammar.specs.Columns.{Column, tab, expand, tab_columns, to_tab_stop, indent, without_indent, is_blank, without_trailing_blanks}
 use Rattle.cmark_grammar.specs.Rows.{Row, rows, rows_from, without, place, first_place, begin_of, start_of, past_of, is_bare, is_blank_line}
 use Rattle.cmark_grammar.specs.Leaves.{closes_fence}
-use Rattle.cmark_grammar.specs.Containers.{Container, Quote, Item, keeps, strip_as, strip, strips, enter, width_of, is_bare_start, insides}
+use Rattle.cmark_grammar.specs.Containers.{Container, Quote, Item, is_alert, unless_tag, keeps, strip_as, strip, strips, enter, width_of, is_bare_start, insides}
 use Rattle.cmark_grammar.specs.Openings.{Leaf, ThematicBreak as ThematicBreakLeaf, AtxHeading as AtxHeadingLeaf, IndentedCode as IndentedCodeLeaf, FencedCode as FencedCodeLeaf, HtmlBlock as HtmlBlockLeaf, LinkDefinition as LinkDefinitionLeaf, MetadataBlock as MetadataBlockLeaf, Blank, Nests, Takes, Plain, opens}
 use Rattle.cmark_grammar.specs.Blocks.{Blocks, Nil as NoBlocks, BlankLine, Paragraph as ParagraphBlock, SetextHeading, LeafBlock, ContainerBlock, MayBegin, Body, may_lazy}
 use Rattle.cmark_grammar.specs.Lists.{ListBefore, tight_behind, goes_on}
@@ -18,7 +18,7 @@ use Rattle.cmark_grammar.specs.Ranges.{count_nodes}
 use Rattle.cmark_grammar.specs.Tokens.{Piece, texts_then, line_columns, words_end, stretch_then, stretches, paragraph_tokens, heading_columns, heading_tokens, piece_if, plain_line, left_columns, spaces_if, verbatim_line, touches, merge, merge_all, code_columns, code_pieces, stop_at, fenced_lines, html_then, html_tokens, slice, end_place, lines_before}
 use Rattle.cmark_grammar.specs.Metadata.{ends_metadata}
 use Rattle.cmark_grammar.proofs.BlockLaws.{opens-whole, opens-words, texts-words, IsWide, wide_opens}
-use Rattle.cmark_grammar.proofs.RowPlaces.{Runs, Runs-le, first_place-Runs, drop-Runs, drop-mono, Lies, begin-start, start-Runs, start-stop, Lies-without, strip-Lies, kept-without, strip-past, Along, text-Along}
+use Rattle.cmark_grammar.proofs.RowPlaces.{Runs, Runs-le, first_place-Runs, drop-Runs, drop-mono, Lies, begin-start, start-Runs, start-stop, Lies-without, strip-Lies, kept-without, strip-past, Along, text-Along, Along-le}
 use Rattle.cmark_grammar.proofs.TokenRanges.{UpTo, up-more, end_place-Runs, line-UpTo, drop_end-UpTo, heading-UpTo}
 
 -- a column in which no byte begins is of a tab
@@ -58,6 +58,10 @@ FedBehind from (r ∷ rs) to = Sits from r × Fed r.past rs to
 fed-behind : (from : ℕ) (rs : List Row) (to : ℕ) → Fed from rs to → FedBehind from rs to
 fed-behind from [] to f = f
 fed-behind from (r ∷ rs) to f = (f.1, f.2)
+
+fed-lower : (from mid : ℕ) (rs : List Row) (to : ℕ) → from ≤ mid → Fed mid rs to → FedBehind from rs to
+fed-lower from mid [] to le f = omega (arith, le, f)
+fed-lower from mid (r ∷ rs) to le f = let l = f.1.0 in (((let a = l.0 in omega (arith, le, a), l.1, l.2), f.1.1), f.2)
 
 fed-le : (from : ℕ) (rs : List Row) (to : ℕ) → Fed from rs to → from ≤ to
 fed-le from [] to f = f
@@ -328,8 +332,20 @@ module _ (text : List ℕ) (options : Options) (lookup : Lookup) where
   enter-past k r = refl
 
   insides-fed : (k : Container) (from : ℕ) (first : Row) (more : List Row) (ahead : List Row) (to : ℕ) → opens options first ahead ≡ Nests k → Sits from first → Fed first.past more to → FedBehind (suc from) (insides k first more) to
-  insides-fed k from first more ahead to o s f =
-      (enter-sits k from first ahead o s, subst (λ p. Fed p (strips k (is_bare_start k first) more) to) (sym (enter-past k first)) (strips-fed k (is_bare_start k first) first.past more to f))
+  insides-fed k from first more ahead to o s f = go (is_alert k)
+    where
+      others : Fed first.past (strips k (is_bare_start k first) more) to
+      others = strips-fed k (is_bare_start k first) first.past more to f
+
+      begins : Sits (suc from) (enter k first)
+      begins = enter-sits k from first ahead o s
+
+      past : suc from ≤ first.past
+      past = subst (λ p. suc from ≤ p) (enter-past k first) (Along-le (suc from) (enter k first ∷ []) (enter k first).past (begins.0, omega arith))
+
+      go : (is_tag : Bool) → FedBehind (suc from) (unless_tag is_tag (enter k first) (strips k (is_bare_start k first) more)) to
+      go true = fed-lower (suc from) first.past (strips k (is_bare_start k first) more) to past others
+      go false = (begins, subst (λ p. Fed p (strips k (is_bare_start k first) more) to) (sym (enter-past k first)) others)
 
   pub document-count : (direct : Bool) (before : Option ListBefore) (behind : Bool) (from : ℕ) (all : List Row) (b : Blocks) (to : ℕ) → Body options behind all b → FedBehind from all to → 4 * from + count_nodes (document_of text options lookup direct before b) ≤ 4 * to
   document-count direct before behind from all NoBlocks to body f = let l : from ≤ to = subst (λ ls. FedBehind from ls to) body f in omega (arith, l)
@@ -369,10 +385,10 @@ module _ (text : List ℕ) (options : Options) (lookup : Lookup) where
       let l = leaf-count text options lookup from leaf first more (document_of text options lookup direct None after) c.0 e s.0 in
       let ih = document-count direct None (may_lazy leaf) (past_of first more) body.rest after to body.after (fed-behind (past_of first more) body.rest to s.1) in
       omega (arith, l, ih)
-  document-count direct before behind from all (ContainerBlock Quote first more inside after) to body f =
+  document-count direct before behind from all (ContainerBlock (Quote alert) first more inside after) to body f =
       let c : FedBehind from (first ∷ (more ++ body.rest)) to = subst (λ ls. FedBehind from ls to) body.cut f in
       let s = fed-split first more body.rest to c.1 in
-      let i = document-count false None false (suc from) (insides Quote first more) inside (past_of first more) body.contents (insides-fed Quote from first more _ (past_of first more) body.opened c.0 s.0) in
+      let i = document-count false None (is_alert (Quote alert)) (suc from) (insides (Quote alert) first more) inside (past_of first more) body.contents (insides-fed (Quote alert) from first more _ (past_of first more) body.opened c.0 s.0) in
       let ih = document-count direct None false (past_of first more) body.rest after to body.after (fed-behind (past_of first more) body.rest to s.1) in
       omega (arith, i, ih)
   document-count direct before behind from all (ContainerBlock (Item mark number width) first more inside after) to body f =

@@ -1,3 +1,4 @@
+mod AlertSamples
 pub mod AttributeSamples
 pub mod BalanceLaws
 pub mod BlockDocumentOne

@@ -1,10 +1,11 @@
 -- The nodes of a derived document stand in order in the text, each around what is inside it.
-use Rattle.std.proofs.Common.{◌≡◌, ℕ, suc, ◌+◌, ◌≤◌, Bool, true, false, List, ◌∷◌, ◌++◌, length, drop, refl, sym, subst, arith, Option, Some, None}
+use Rattle.std.proofs.Common.{◌≡◌, ℕ, suc, ◌+◌, ◌≤◌, Bool, true, false, List, [], ◌∷◌, ◌++◌, length, drop, refl, sym, subst, arith, Option, Some, None}
 use Rattle.cmark_grammar.specs.Answers.{Lookup}
 use Rattle.cmark_grammar.specs.Options.{Options}
 use Rattle.cmark_grammar.specs.Columns.{indent}
 use Rattle.cmark_grammar.specs.Rows.{Row, rows, first_place, begin_of, start_of, past_of}
-use Rattle.cmark_grammar.specs.Containers.{Container, Quote, Item, enter, quote_width, one_blank, strips, is_bare_start, insides}
+use Rattle.cmark_grammar.specs.BlockQuoteKind.{BlockQuoteKind}
+use Rattle.cmark_grammar.specs.Containers.{Container, Quote, Item, is_alert, unless_tag, enter, quote_width, one_blank, strips, is_bare_start, insides}
 use Rattle.cmark_grammar.specs.Openings.{Leaf, ThematicBreak as ThematicBreakLeaf, AtxHeading as AtxHeadingLeaf, IndentedCode as IndentedCodeLeaf, FencedCode as FencedCodeLeaf, HtmlBlock as HtmlBlockLeaf, LinkDefinition as LinkDefinitionLeaf, MetadataBlock as MetadataBlockLeaf}
 use Rattle.cmark_grammar.specs.Blocks.{Blocks, Nil as NoBlocks, BlankLine, Paragraph as ParagraphBlock, SetextHeading, LeafBlock, ContainerBlock, may_lazy, Body}
 use Rattle.cmark_grammar.specs.Lists.{ListBefore, tight_behind, goes_on}
@@ -70,18 +71,28 @@ enter-past : (k : Container) (r : Row) → (enter k r).past ≡ r.past
 unfolding enter
 enter-past k r = refl
 
-quote-Lies : (from : ℕ) (r : Row) → Lies from r → Lies (start_of r) (enter Quote r)
+quote-Lies : (alert : Option BlockQuoteKind) (from : ℕ) (r : Row) → Lies from r → Lies (start_of r) (enter (Quote alert) r)
 unfolding enter
-quote-Lies from r h =
+quote-Lies alert from r h =
     let l = Lies-without (quote_width r) from r h in
     (drop-mono (indent r.columns) (quote_width r) (begin_of r) r.columns r.stop (wide (one_blank (drop (suc (indent r.columns)) r.columns))) h.1, l.1, l.2)
   where
     wide : (n : ℕ) → indent r.columns ≤ suc (indent r.columns + n)
     wide n = omega arith
 
+Along-lower : (from mid : ℕ) (rs : List Row) (to : ℕ) → from ≤ mid → Along mid rs to → Along from rs to
+Along-lower from mid [] to le a = omega (arith, le, a)
+Along-lower from mid (r ∷ rs) to le a = let l = a.0 in ((let b = l.0 in omega (arith, le, b), l.1, l.2), a.1)
+
 insides-Along : (k : Container) (from : ℕ) (first : Row) (more : List Row) (to : ℕ) → Lies from (enter k first) → Along first.past more to → Along from (insides k first more) to
-insides-Along k from first more to l a =
-    (l, subst (λ p. Along p (strips k (is_bare_start k first) more) to) (sym (enter-past k first)) (strips-Along k (is_bare_start k first) first.past more to a))
+insides-Along k from first more to l a = go (is_alert k)
+  where
+    others : Along (enter k first).past (strips k (is_bare_start k first) more) to
+    others = subst (λ p. Along p (strips k (is_bare_start k first) more) to) (sym (enter-past k first)) (strips-Along k (is_bare_start k first) first.past more to a)
+
+    go : (is_tag : Bool) → Along from (unless_tag is_tag (enter k first) (strips k (is_bare_start k first) more)) to
+    go true = Along-lower from (enter k first).past (strips k (is_bare_start k first) more) to (Along-le from (enter k first ∷ []) (enter k first).past (l, omega arith)) others
+    go false = (l, others)
 
 module _ (text : List ℕ) (options : Options) (lookup : Lookup) where
   pub document-order : (direct : Bool) (before : Option ListBefore) (behind : Bool) (from : ℕ) (all : List Row) (b : Blocks) (to : ℕ) → Body options behind all b → Along from all to → InOrder from (document_of text options lookup direct before b) to
@@ -109,11 +120,11 @@ module _ (text : List ℕ) (options : Options) (lookup : Lookup) where
       let s = Along-split first more body.rest to c.1 in
       leaf-order text options lookup from leaf first more (document_of text options lookup direct None after) to c.0 s.0
       (document-order direct None (may_lazy leaf) (past_of first more) body.rest after to body.after s.1)
-  document-order direct before behind from all (ContainerBlock Quote first more inside after) to body a =
+  document-order direct before behind from all (ContainerBlock (Quote alert) first more inside after) to body a =
       let c : Along from (first ∷ (more ++ body.rest)) to = subst (λ ls. Along from ls to) body.cut a in
       let s = Along-split first more body.rest to c.1 in (
         from-start from first c.0,
-        document-order false None false (start_of first) (insides Quote first more) inside (past_of first more) body.contents (insides-Along Quote (start_of first) first more (past_of first more) (quote-Lies from first c.0) s.0),
+        document-order false None (is_alert (Quote alert)) (start_of first) (insides (Quote alert) first more) inside (past_of first more) body.contents (insides-Along (Quote alert) (start_of first) first more (past_of first more) (quote-Lies alert from first c.0) s.0),
         document-order direct None false (past_of first more) body.rest after to body.after s.1,
       )
   document-order direct before behind from all (ContainerBlock (Item mark number width) first more inside after) to body a =

@@ -10,6 +10,7 @@ use Rattle.cmark_grammar.specs.HtmlBlocks.{html_kind}
 use Rattle.cmark_grammar.specs.LinkDefinitions.{Defined, definition_in, bytes_over}
 use Rattle.cmark_grammar.specs.Metadata.{metadata_kind, metadata_further, holds_metadata}
 use Rattle.cmark_grammar.specs.MetadataBlockKind.{MetadataBlockKind}
+use Rattle.cmark_grammar.specs.BlockQuoteKind.{BlockQuoteKind}
 use Rattle.cmark_grammar.specs.Containers.{Container, Quote, Item, Marker, is_bullet, is_digit, is_delimiter, digits, number_of, delimited, marker_of, behind_marker, padding, width_with, item_with, item_of, begins_with, is_quote, one_blank, quote_width, container_with, container_of, width_of, enter, keep_as, keeps, strip_as, strip, strips}
 use Rattle.cmark_grammar.specs.Openings.{Leaf, ThematicBreak, AtxHeading, IndentedCode, FencedCode, HtmlBlock, LinkDefinition, MetadataBlock, Opening, Blank, Nests, Takes, Plain, or_else, nests_if, fenced_if, metadata_begun, html_if, break_if, heading_if, text_lines, defined_if, definition_of, leaf_of, whole_opens, opens}
 use Rattle.cmark_grammar.proofs.RowPlaces.{Runs, first_place-Runs, drop-Runs}
@@ -225,10 +226,10 @@ module _ (E : ℕ → Type 0) where
       go true = width-front m.size r g f
       go false = tt
 
-  container-front : (o : Option Container) (q : Bool) (r : Row) → GoodRow r → is_quote r ≡ q → SomeFront r o → SomeFront r (container_with o q)
-  container-front (Some k) q r g e f = f
-  container-front None true r g e f = quote-front r g e
-  container-front None false r g e f = tt
+  container-front : (o : Option Container) (q : Bool) (alert : Option BlockQuoteKind) (r : Row) → GoodRow r → is_quote r ≡ q → SomeFront r o → SomeFront r (container_with o q alert)
+  container-front (Some k) q alert r g e f = f
+  container-front None true alert r g e f = quote-front r g e
+  container-front None false alert r g e f = tt
 
   -- a heading's opening sequence is ASCII too
   abbrev pub LeafFront : Row → Leaf → Type 0
@@ -303,7 +304,7 @@ module _ (E : ℕ → Type 0) where
       (front_or r (metadata_begun (metadata_kind options r) ahead) (whole_opens options r ahead) (front_metadata r (metadata_kind options r) ahead)
       (front_if r (is_blank_line r) Blank _ tt
       (front_if r (nat_le 4 (indent_of r)) (Takes IndentedCode (counted code_further ahead)) _ tt
-      (front_or r (nests_if (container_of r)) (leaf_of options r ahead) (front_nests r (container_of r) (container-front (item_of r) (is_quote r) r g refl (item-front r (marker_of (words_of r)) g (marker-front (words_of r))))) (front_leaf options r ahead g)))))
+      (front_or r (nests_if (container_of options r)) (leaf_of options r ahead) (front_nests r (container_of options r) (container-front (item_of r) (is_quote r) _ r g refl (item-front r (marker_of (words_of r)) g (marker-front (words_of r))))) (front_leaf options r ahead g)))))
 
   pub enter-good : (options : Options) (k : Container) (r : Row) (ahead : List Row) → opens options r ahead ≡ Nests k → GoodRow r → GoodRow (enter k r)
   unfolding enter
@@ -314,7 +315,7 @@ module _ (E : ℕ → Type 0) where
 
   -- nor what its later lines have in front
   keep_as-good : (k : Container) (r s : Row) → GoodRow r → keep_as k r ≡ Some s → GoodRow s
-  keep_as-good Quote r s g e = go (is_quote r) refl e
+  keep_as-good (Quote alert) r s g e = go (is_quote r) refl e
     where
       go : (z : Bool) → is_quote r ≡ z → (if z then Some (without (quote_width r) r) else None) ≡ Some s → GoodRow s
       go true q f = let p : without (quote_width r) r ≡ s = cc in subst GoodRow p (without-good (quote_width r) r g (quote-front r g q))

@@ -94,7 +94,7 @@ Along-le from (r ∷ rs) to h =
 
 -- prefixes taken off leave lines one behind the other
 kept_as-without : (k : Container) (r s : Row) → keep_as k r ≡ Some s → (n : ℕ) × (without n r ≡ s)
-kept_as-without Quote r s e = (quote_width r, go (is_quote r) e)
+kept_as-without (Quote alert) r s e = (quote_width r, go (is_quote r) e)
   where
     go : (z : Bool) → (if z then Some (without (quote_width r) r) else None) ≡ Some s → without (quote_width r) r ≡ s
     go true q = cc

@@ -146,7 +146,7 @@ module _ (text : List ℕ) where
   document-sliced options lookup direct before (SetextHeading level first more underline after) = (tt, paragraph-sliced first more, document-sliced options lookup direct None after)
   document-sliced options lookup direct before (LeafBlock leaf first more after) =
       leaf-sliced options lookup leaf first more (document_of text options lookup direct None after) (document-sliced options lookup direct None after)
-  document-sliced options lookup direct before (ContainerBlock Quote first more inside after) =
+  document-sliced options lookup direct before (ContainerBlock (Quote alert) first more inside after) =
       (tt, document-sliced options lookup false None inside, document-sliced options lookup direct None after)
   document-sliced options lookup direct before (ContainerBlock (Item mark number width) first more inside after) =
       let tight = tight_behind before mark inside after in

@@ -88,7 +88,7 @@ module _ (text : List ℕ) (options : Options) (lookup : Lookup) where
   rest_of direct tight mark (ParagraphBlock first more after) e = absurd (true≢false (sym e))
   rest_of direct tight mark (SetextHeading level first more underline after) e = absurd (true≢false (sym e))
   rest_of direct tight mark (LeafBlock leaf first more after) e = absurd (true≢false (sym e))
-  rest_of direct tight mark (ContainerBlock Quote first more inside after) e = absurd (true≢false (sym e))
+  rest_of direct tight mark (ContainerBlock (Quote alert) first more inside after) e = absurd (true≢false (sym e))
   rest_of direct tight mark (ContainerBlock (Item m number width) first more inside after) e =
       let t : tight_behind (Some (record { mark = mark; tight = tight })) m inside after ≡ tight = if_true (mark == m) tight (is_tight m inside after) (eqb_sym m mark e) in
       subst (λ z. Rest z (document_of text options lookup direct (Some (record { mark = mark; tight = tight })) (ContainerBlock (Item m number width) first more inside after))) t
@@ -112,7 +112,7 @@ module _ (text : List ℕ) (options : Options) (lookup : Lookup) where
       kind false h = (refl, paragraph_tight false text first more, h)
   document-tight direct before (SetextHeading level first more underline after) = (tt, paragraph_tight false text first more, document-tight direct None after)
   document-tight direct before (LeafBlock leaf first more after) = leaf_tight text options lookup direct leaf first more (document_of text options lookup direct None after) (document-tight direct None after)
-  document-tight direct before (ContainerBlock Quote first more inside after) = (tt, document-tight false None inside, document-tight direct None after)
+  document-tight direct before (ContainerBlock (Quote alert) first more inside after) = (tt, document-tight false None inside, document-tight direct None after)
   document-tight direct before (ContainerBlock (Item mark number width) first more inside after) =
       let tight = tight_behind before mark inside after in
       item_tight direct (goes_on mark after) number tight (node ListItem (begin_of first) (past_of first more)) (document_of text options lookup tight None inside) (document_of text options lookup direct (Some (record { mark = mark; tight = tight })) after) refl

@@ -1,8 +1,10 @@
 -- Alerts: block quotes whose first line is a tag such as `[!NOTE]` (this profile's own).
-use Rattle.std.specs.Prelude.{ℕ, Bool, ◌&&◌, if◌then◌else◌, List, length, drop, map, codes, Option, Some, None}
+use Rattle.std.specs.Prelude.{ℕ, Bool, ◌==◌, ◌&&◌, if◌then◌else◌, List, length, drop, map, codes, Option, Some, None}
+use Rattle.cmark_grammar.specs.Rows.{Row, indent_of, words_of}
 use Rattle.cmark_grammar.specs.Leaves.{are_blank}
 use Rattle.cmark_grammar.specs.HtmlBlocks.{lower, starts}
 use Rattle.cmark_grammar.specs.BlockQuoteKind.{BlockQuoteKind, Note, Tip, Important, Warning, Caution}
+use Rattle.cmark_grammar.specs.Options.{Options}
 
 -- this tag with its letters in any case, and blanks behind it
 abbrev pub is_tag : (tag bs : List ℕ) → Bool
@@ -17,3 +19,8 @@ alert_of bs =
     else if is_tag (codes "[!warning]") bs then Some Warning
     else if is_tag (codes "[!caution]") bs then Some Caution
     else None
+
+-- the kind of alert that a block quote is which begins with this line behind its marker, if the option asks for alerts: no
+-- blank stands in front of the tag
+abbrev pub alert_in : Options → Row → Option BlockQuoteKind
+alert_in options r = if options.gfm && (indent_of r == 0) then alert_of (words_of r) else None

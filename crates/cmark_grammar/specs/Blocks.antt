@@ -2,7 +2,7 @@
 use Rattle.std.specs.Prelude.{◌≡◌, ◌⊎◌, ℕ, Bool, true, false, List, [], ◌∷◌, ◌++◌, length, Some, None}
 use Rattle.cmark_grammar.specs.Rows.{Row, shown}
 use Rattle.cmark_grammar.specs.Leaves.{underlines}
-use Rattle.cmark_grammar.specs.Containers.{Container, keeps, is_bare_start, bare_after, insides}
+use Rattle.cmark_grammar.specs.Containers.{Container, is_alert, keeps, is_bare_start, bare_after, insides}
 use Rattle.cmark_grammar.specs.Openings.{Leaf, ThematicBreak, AtxHeading, IndentedCode, FencedCode, HtmlBlock, LinkDefinition, MetadataBlock, Blank, Nests, Takes, Plain, opens, texts, lazily}
 use Rattle.cmark_grammar.specs.Options.{Options}
 
@@ -36,14 +36,14 @@ may_lazy (LinkDefinition definition) = true
 may_lazy (MetadataBlock kind) = false
 
 -- whether a lazy line may stand behind these blocks: whether their last line lies in a paragraph, or in a leaf behind
--- which a lazy line may begin one. So: what holds where there is no block
+-- which a lazy line may begin one, or is an alert's tag. So: what holds where there is no block
 abbrev pub ends_lazily : (so : Bool) → Blocks → Bool
 ends_lazily so Nil = so
 ends_lazily so (BlankLine line after) = ends_lazily false after
 ends_lazily so (Paragraph first more after) = ends_lazily true after
 ends_lazily so (SetextHeading level first more underline after) = ends_lazily false after
 ends_lazily so (LeafBlock leaf first more after) = ends_lazily (may_lazy leaf) after
-ends_lazily so (ContainerBlock container first more inside after) = ends_lazily (ends_lazily false inside) after
+ends_lazily so (ContainerBlock container first more inside after) = ends_lazily (ends_lazily (is_alert container) inside) after
 
 -- what holds of the next line, if there is one
 abbrev pub Next : (Row → List Row → Type 0) → List Row → Type 0
@@ -70,9 +70,9 @@ module _ (options : Options) where
 
   -- a container ends before a line that lacks the prefix and is not lazy
   abbrev pub Ends : Container → (bare : Bool) → Blocks → List Row → Type 0
-  Ends k bare inside rest = Next (λ r ahead. (keeps k bare r ≡ None) × (ends_lazily false inside ≡ true → lazily options r ahead ≡ false)) rest
+  Ends k bare inside rest = Next (λ r ahead. (keeps k bare r ≡ None) × (ends_lazily (is_alert k) inside ≡ true → lazily options r ahead ≡ false)) rest
 
-  -- a paragraph begins on a line with all prefixes, or directly behind a leaf that allows it on a lazy one that is text
+  -- a paragraph begins on a line with all prefixes, or directly behind a leaf that allows it, or an alert's tag, on a lazy one that is text
   abbrev pub MayBegin : (behind : Bool) → Row → Type 0
   MayBegin behind first = (first.lazy ≡ false) ⊎ ((behind ≡ true) × (texts options first [] ≡ true))
 
@@ -116,7 +116,7 @@ module _ (options : Options) where
     pub stops : Ends k (bare_after (is_bare_start k first) more) inside rest
     pub after : After rest
 
-  -- these lines are these blocks. Behind: a leaf stands directly before that allows a lazy line behind it
+  -- these lines are these blocks. Behind: a leaf stands directly before that allows a lazy line behind it, or an alert's tag
   abbrev pub Body : (behind : Bool) → List Row → Blocks → Type 0
   Body behind all Nil = all ≡ []
   Body behind all (BlankLine line after) = HasBlankLine (λ rest. Body false rest after) all line
@@ -124,4 +124,4 @@ module _ (options : Options) where
   Body behind all (SetextHeading level first more underline after) = HasSetextHeading (λ rest. Body false rest after) behind all level first more underline
   Body behind all (LeafBlock leaf first more after) = HasLeaf (λ rest. Body (may_lazy leaf) rest after) all leaf first more
   Body behind all (ContainerBlock k first more inside after) =
-      HasContainer (λ lines. Body false lines inside) (λ rest. Body false rest after) all k first more inside
+      HasContainer (λ lines. Body (is_alert k) lines inside) (λ rest. Body false rest after) all k first more inside

@@ -7,7 +7,7 @@ use Rattle.cmark_grammar.specs.Leaves.{Fence, Further, GoesOn, Closes, Waits, St
 use Rattle.cmark_grammar.specs.HtmlBlocks.{holds_end, html_further}
 use Rattle.cmark_grammar.specs.Metadata.{metadata_further}
 use Rattle.cmark_grammar.specs.MetadataBlockKind.{MetadataBlockKind}
-use Rattle.cmark_grammar.specs.Containers.{Container, enter, keeps, strip, is_bare_start, bare_after}
+use Rattle.cmark_grammar.specs.Containers.{Container, is_alert, enter, keeps, strip, is_bare_start, bare_after}
 use Rattle.cmark_grammar.specs.Openings.{Leaf, ThematicBreak, AtxHeading, IndentedCode, FencedCode, HtmlBlock, LinkDefinition, MetadataBlock, Opening, Blank, Nests, Takes, Plain, opens, texts, lazily}
 use Rattle.cmark_grammar.specs.Blocks.{Blocks, Nil, BlankLine, Paragraph, SetextHeading, LeafBlock, ContainerBlock, join, may_lazy}
 use Rattle.cmark_grammar.specs.BlocksModel.{within}
@@ -36,9 +36,10 @@ further_if true verbatim r = Stops
 further_if false verbatim r = further_in verbatim r
 
 -- what is open: nothing, a paragraph, a leaf of so many lines more, a leaf whose lines are judged one by one, with blank
--- lines that belong to it only if a later line does, or a container
+-- lines that belong to it only if a later line does, or a container; or the place directly behind an alert's tag
 pub data OpenLines : Type 0 where
   Between : (closed : Blocks) → OpenLines
+  BehindTag : OpenLines
   InParagraph : (closed : Blocks) → (first : Row) → (more : List Row) → OpenLines
   InLeaf : (closed : Blocks) → (leaf : Leaf) → (first : Row) → (had : List Row) → (left : ℕ) → OpenLines
   InVerbatim : (closed : Blocks) → (verbatim : Verbatim) → (first : Row) → (had waiting : List Row) → OpenLines
@@ -51,6 +52,7 @@ blank_lines (r ∷ rs) = BlankLine r (blank_lines rs)
 -- all blocks, where the lines end
 abbrev pub close_lines : OpenLines → Blocks
 close_lines (Between closed) = closed
+close_lines BehindTag = Nil
 close_lines (InParagraph closed first more) = join closed (Paragraph first more Nil)
 close_lines (InLeaf closed leaf first had left) = join closed (LeafBlock leaf first had Nil)
 close_lines (InVerbatim closed verbatim first had waiting) = join (join closed (LeafBlock (leaf_in verbatim) first had Nil)) (blank_lines waiting)
@@ -58,6 +60,7 @@ close_lines (InContainer closed k first more inside) = join closed (ContainerBlo
 
 abbrev pub lines_take_lazy : OpenLines → Bool
 lines_take_lazy (Between closed) = false
+lines_take_lazy BehindTag = true
 lines_take_lazy (InParagraph closed first more) = true
 lines_take_lazy (InLeaf closed leaf first had left) = may_lazy leaf
 lines_take_lazy (InVerbatim closed verbatim first had waiting) = false
@@ -77,9 +80,14 @@ leaf_begun (HtmlBlock kind) n closed r = html_begun (nat_le kind 5 && holds_end 
 leaf_begun (LinkDefinition definition) n closed r = InLeaf closed (LinkDefinition definition) r [] n
 leaf_begun (MetadataBlock kind) n closed r = InVerbatim closed (Metadata kind) r [] []
 
+-- directly behind an alert's tag nothing is begun yet
+abbrev pub lines_inside_begun : (is_alert : Bool) → OpenLines → OpenLines
+lines_inside_begun true begun = BehindTag
+lines_inside_begun false begun = begun
+
 abbrev pub lines_begin_as : Opening → (Container → OpenLines) → Blocks → Row → OpenLines
 lines_begin_as Blank inside closed r = Between (join closed (BlankLine r Nil))
-lines_begin_as (Nests k) inside closed r = InContainer closed k r [] (inside k)
+lines_begin_as (Nests k) inside closed r = InContainer closed k r [] (lines_inside_begun (is_alert k) (inside k))
 lines_begin_as (Takes leaf more) inside closed r = leaf_begun leaf more closed r
 lines_begin_as Plain inside closed r = InParagraph closed r []
 
@@ -115,6 +123,7 @@ module _ (options : Options) where
   -- one more line, with these lines ahead
   abbrev pub lines_feed : OpenLines → Row → List Row → OpenLines
   lines_feed (Between closed) r ahead = lines_begin closed r ahead
+  lines_feed BehindTag r ahead = lines_begin Nil r ahead
   lines_feed (InParagraph closed first more) r ahead =
       lines_underline_or (underlines r) (λ level. Between (join closed (SetextHeading level first more r Nil)))
       (lines_go_on_or (texts options r ahead) (InParagraph closed first (more ++ r ∷ [])) (lines_begin (join closed (Paragraph first more Nil)) r ahead))

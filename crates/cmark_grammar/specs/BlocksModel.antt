@@ -2,14 +2,16 @@
 use Rattle.std.specs.Prelude.{ℕ, zero, suc, Bool, true, false, ◌&&◌, List, [], ◌∷◌, ◌++◌, length, Option, Some, None}
 use Rattle.cmark_grammar.specs.Rows.{Row, rows, shown}
 use Rattle.cmark_grammar.specs.Leaves.{underlines}
-use Rattle.cmark_grammar.specs.Containers.{Container, enter, keeps, strip, strips, is_bare_start, bare_after}
+use Rattle.cmark_grammar.specs.Containers.{Container, is_alert, enter, keeps, strip, strips, is_bare_start, bare_after}
 use Rattle.cmark_grammar.specs.Openings.{Leaf, Opening, Blank, Nests, Takes, Plain, opens, texts, lazily}
 use Rattle.cmark_grammar.specs.Blocks.{Blocks, Nil, BlankLine, Paragraph, SetextHeading, LeafBlock, ContainerBlock, join, may_lazy}
 use Rattle.cmark_grammar.specs.Options.{Options}
 
--- blocks that have ended, and behind them what is open: nothing, a paragraph, a leaf with lines to come, or a container
+-- blocks that have ended, and behind them what is open: nothing, a paragraph, a leaf with lines to come, or a container;
+-- or the place directly behind an alert's tag
 pub data Open : Type 0 where
   Between : (closed : Blocks) → Open
+  BehindTag : Open
   InParagraph : (closed : Blocks) → (first : Row) → (more : List Row) → Open
   InLeaf : (closed : Blocks) → (leaf : Leaf) → (first : Row) → (had : List Row) → (left : ℕ) → Open
   InContainer : (closed : Blocks) → (container : Container) → (first : Row) → (more : List Row) → (inside : Open) → Open
@@ -17,6 +19,7 @@ pub data Open : Type 0 where
 -- all blocks, where the lines end
 abbrev pub close : Open → Blocks
 close (Between closed) = closed
+close BehindTag = Nil
 close (InParagraph closed first more) = join closed (Paragraph first more Nil)
 close (InLeaf closed leaf first had left) = join closed (LeafBlock leaf first had Nil)
 close (InContainer closed k first more inside) = join closed (ContainerBlock k first more (close inside) Nil)
@@ -24,6 +27,7 @@ close (InContainer closed k first more inside) = join closed (ContainerBlock k f
 -- a lazy line may stand behind what is open
 abbrev pub takes_lazy : Open → Bool
 takes_lazy (Between closed) = false
+takes_lazy BehindTag = true
 takes_lazy (InParagraph closed first more) = true
 takes_lazy (InLeaf closed leaf first had left) = may_lazy leaf
 takes_lazy (InContainer closed k first more inside) = takes_lazy inside
@@ -32,9 +36,14 @@ takes_lazy (InContainer closed k first more inside) = takes_lazy inside
 abbrev pub within : Container → Bool → List Row → List Row
 within k bare ahead = shown (strips k bare ahead)
 
+-- directly behind an alert's tag nothing is begun yet
+abbrev pub inside_begun : (is_alert : Bool) → Open → Open
+inside_begun true begun = BehindTag
+inside_begun false begun = begun
+
 abbrev pub begin_as : Opening → (Container → Open) → Blocks → Row → Open
 begin_as Blank inside closed r = Between (join closed (BlankLine r Nil))
-begin_as (Nests k) inside closed r = InContainer closed k r [] (inside k)
+begin_as (Nests k) inside closed r = InContainer closed k r [] (inside_begun (is_alert k) (inside k))
 begin_as (Takes leaf more) inside closed r = InLeaf closed leaf r [] more
 begin_as Plain inside closed r = InParagraph closed r []
 
@@ -64,6 +73,7 @@ module _ (options : Options) where
   -- one more line, with these lines ahead
   abbrev pub feed : Open → Row → List Row → Open
   feed (Between closed) r ahead = begin closed r ahead
+  feed BehindTag r ahead = begin Nil r ahead
   feed (InParagraph closed first more) r ahead =
       underline_or (underlines r) (λ level. Between (join closed (SetextHeading level first more r Nil)))
       (goes_on_or (texts options r ahead) (InParagraph closed first (more ++ r ∷ [])) (begin (join closed (Paragraph first more Nil)) r ahead))

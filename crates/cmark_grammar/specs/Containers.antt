@@ -1,13 +1,16 @@
 -- Container blocks, and the prefixes that their lines have (CommonMark 5).
-use Rattle.std.specs.Prelude.{ℕ, suc, ◌+◌, ◌-◌, ◌*◌, Bool, false, ◌==◌, ◌&&◌, ◌||◌, not, nat_lt, nat_le, if◌then◌else◌, List, [], ◌∷◌, length, drop, take_while, fold, Option, Some, None}
+use Rattle.std.specs.Prelude.{ℕ, suc, ◌+◌, ◌-◌, ◌*◌, Bool, true, false, ◌==◌, ◌&&◌, ◌||◌, not, nat_lt, nat_le, if◌then◌else◌, List, [], ◌∷◌, length, drop, take_while, fold, Option, Some, None}
 use Rattle.cmark_grammar.specs.Columns.{Column, is_blank, indent, without_indent}
 use Rattle.cmark_grammar.specs.Rows.{Row, without, lazy_row, is_bare, is_blank_line, indent_of, words_of}
 use Rattle.cmark_grammar.specs.Leaves.{is_parted, is_thematic_break}
+use Rattle.cmark_grammar.specs.BlockQuoteKind.{BlockQuoteKind}
+use Rattle.cmark_grammar.specs.Alerts.{alert_in}
+use Rattle.cmark_grammar.specs.Options.{Options}
 
--- a block quote, or a list item: its character (the bullet, or what stands behind the number), its number if it is
+-- a block quote, with its kind if it is an alert, or a list item: its character (the bullet, or what stands behind the number), its number if it is
 -- ordered, and the width of the prefix that its later lines have
 pub data Container : Type 0 where
-  Quote : Container
+  Quote : (alert : Option BlockQuoteKind) → Container
   Item : (mark : ℕ) → (number : Option ℕ) → (width : ℕ) → Container
 
 abbrev pub is_bullet : ℕ → Bool
@@ -79,15 +82,20 @@ abbrev pub quote_width : Row → ℕ
 quote_width r = suc (indent_of r + one_blank (drop (suc (indent_of r)) r.columns))
 
 -- the container that a line begins, indented by at most three columns
-abbrev pub container_with : Option Container → Bool → Option Container
-container_with (Some k) quoted = Some k
-container_with None quoted = if quoted then Some Quote else None
+abbrev pub container_with : Option Container → (quoted : Bool) → (alert : Option BlockQuoteKind) → Option Container
+container_with (Some k) quoted alert = Some k
+container_with None quoted alert = if quoted then Some (Quote alert) else None
 
-abbrev pub container_of : Row → Option Container
-container_of r = container_with (item_of r) (is_quote r)
+abbrev pub container_of : Options → Row → Option Container
+container_of options r = container_with (item_of r) (is_quote r) (alert_in options (without (quote_width r) r))
+
+abbrev pub is_alert : Container → Bool
+is_alert (Quote None) = false
+is_alert (Quote (Some kind)) = true
+is_alert (Item mark number width) = false
 
 abbrev pub width_of : Container → Row → ℕ
-width_of Quote r = quote_width r
+width_of (Quote alert) r = quote_width r
 width_of (Item mark number width) r = width
 
 -- a container's first line, behind the marker
@@ -95,12 +103,12 @@ unfoldable pub enter : Container → Row → Row
 enter k r = without (width_of k r) r
 
 abbrev pub keep_as : Container → Row → Option Row
-keep_as Quote r = if is_quote r then Some (without (quote_width r) r) else None
+keep_as (Quote alert) r = if is_quote r then Some (without (quote_width r) r) else None
 keep_as (Item mark number width) r = if is_blank_line r || nat_le width (indent_of r) then Some (without width r) else None
 
 -- an item whose first line is blank behind the marker
 abbrev pub is_bare_start : Container → Row → Bool
-is_bare_start Quote first = false
+is_bare_start (Quote alert) first = false
 is_bare_start (Item mark number width) first = is_blank_line (enter (Item mark number width) first)
 
 -- a later line behind the container's prefix, if it has the prefix. Bare: the line before was the blank first line of an
@@ -124,6 +132,11 @@ abbrev pub bare_after : Bool → List Row → Bool
 bare_after bare [] = bare
 bare_after bare (r ∷ rs) = false
 
+-- the line of an alert's tag holds nothing else (this profile's own)
+abbrev pub unless_tag : (is_tag : Bool) → Row → List Row → List Row
+unless_tag true r rs = rs
+unless_tag false r rs = r ∷ rs
+
 -- a container's lines seen from inside
 abbrev pub insides : Container → Row → List Row → List Row
-insides k first more = enter k first ∷ strips k (is_bare_start k first) more
+insides k first more = unless_tag (is_alert k) (enter k first) (strips k (is_bare_start k first) more)

@@ -72,8 +72,8 @@ document_of text options lookup direct list (ParagraphBlock first more after) =
 document_of text options lookup direct list (SetextHeading level first more underline after) =
     Node (node (Heading level no_attributes) (start_of first) underline.past) (paragraph_tokens text first more) (document_of text options lookup direct None after)
 document_of text options lookup direct list (LeafBlock leaf first more after) = leaf_then text options lookup leaf first more (document_of text options lookup direct None after)
-document_of text options lookup direct list (ContainerBlock Quote first more inside after) =
-    Node (node (BlockQuote None) (start_of first) (past_of first more)) (document_of text options lookup false None inside) (document_of text options lookup direct None after)
+document_of text options lookup direct list (ContainerBlock (Quote alert) first more inside after) =
+    Node (node (BlockQuote alert) (start_of first) (past_of first more)) (document_of text options lookup false None inside) (document_of text options lookup direct None after)
 document_of text options lookup direct list (ContainerBlock (Item mark number width) first more inside after) =
     let tight = tight_behind list mark inside after in
     item_then (goes_on mark after) number tight (node ListItem (begin_of first) (past_of first more)) (document_of text options lookup tight None inside)

@@ -11,7 +11,7 @@ ends_blank front so (BlankLine line after) = ends_blank false (not front) after
 ends_blank front so (Paragraph first more after) = ends_blank false false after
 ends_blank front so (SetextHeading level first more underline after) = ends_blank false false after
 ends_blank front so (LeafBlock leaf first more after) = ends_blank false false after
-ends_blank front so (ContainerBlock Quote first more inside after) = ends_blank false false after
+ends_blank front so (ContainerBlock (Quote alert) first more inside after) = ends_blank false false after
 ends_blank front so (ContainerBlock (Item mark number width) first more inside after) = ends_blank false (ends_blank true false inside) after
 
 -- what stands before a block in its container
@@ -38,7 +38,7 @@ parted before blank (BlankLine line after) = parted before (is_block before) aft
 parted before blank (Paragraph first more after) = blank || parted Other false after
 parted before blank (SetextHeading level first more underline after) = blank || parted Other false after
 parted before blank (LeafBlock leaf first more after) = blank || parted Other false after
-parted before blank (ContainerBlock Quote first more inside after) = blank || parted Other false after
+parted before blank (ContainerBlock (Quote alert) first more inside after) = blank || parted Other false after
 parted before blank (ContainerBlock (Item mark number width) first more inside after) =
     (blank && not (is_list_of mark before)) || parted (ItemWith mark) (ends_blank true false inside) after
 
@@ -53,7 +53,7 @@ loose_from mark blank (BlankLine line after) = loose_from mark true after
 loose_from mark blank (Paragraph first more after) = false
 loose_from mark blank (SetextHeading level first more underline after) = false
 loose_from mark blank (LeafBlock leaf first more after) = false
-loose_from mark blank (ContainerBlock Quote first more inside after) = false
+loose_from mark blank (ContainerBlock (Quote alert) first more inside after) = false
 loose_from mark blank (ContainerBlock (Item m number width) first more inside after) =
     (m == mark) && (blank || (is_parted_item inside || loose_from mark (ends_blank true false inside) after))
 
@@ -69,7 +69,7 @@ goes_on mark (BlankLine line after) = goes_on mark after
 goes_on mark (Paragraph first more after) = false
 goes_on mark (SetextHeading level first more underline after) = false
 goes_on mark (LeafBlock leaf first more after) = false
-goes_on mark (ContainerBlock Quote first more inside after) = false
+goes_on mark (ContainerBlock (Quote alert) first more inside after) = false
 goes_on mark (ContainerBlock (Item m number width) first more inside after) = m == mark
 
 -- the list to which the item before belongs

@@ -44,7 +44,7 @@ is_one (Some n) = n == 1
 -- an item that begins with a blank line, or is numbered other than 1, interrupts no paragraph of its own container (CommonMark 5.2)
 abbrev pub item_interrupts : (same : Bool) → Row → Option Container → Bool
 item_interrupts same r None = false
-item_interrupts same r (Some Quote) = false
+item_interrupts same r (Some (Quote alert)) = false
 item_interrupts same r (Some (Item mark number width)) = not same || (is_one number && not (is_blank_line (without width r)))
 
 abbrev pub is_some_fence : Option Fence → Bool
@@ -126,7 +126,7 @@ module _ (options : Options) where
   whole_opens r ahead =
       if is_blank_line r then Blank
       else if nat_le 4 (indent_of r) then Takes IndentedCode (counted code_further ahead)
-      else or_else (nests_if (container_of r)) (leaf_of r ahead)
+      else or_else (nests_if (container_of options r)) (leaf_of r ahead)
 
   -- what a line begins, with these lines ahead; a lazy line can begin a paragraph alone. Metadata comes first: its first line is
   -- neither blank nor indented, and begins no container

@@ -3,6 +3,7 @@ use Rattle.std.proofs.Common.{◌≡◌, ℕ, Bool, true, false, ◌&&◌, ◌||
 use Rattle.std.specs.Prelude.{if◌then◌else◌, option_map, IfSome}
 use Rattle.std.specs.Str.{IsCharBoundary}
 use Rattle.cmark_grammar.specs.Rows.{Row, without, is_blank_line}
+use Rattle.cmark_grammar.specs.BlockQuoteKind.{BlockQuoteKind}
 use Rattle.cmark_grammar.specs.Containers as grammar
 use Rattle.cmark_grammar.specs.Containers.{is_quote, quote_width, keep_as, keeps, enter, strip_as, strip}
 use Rattle.cmark_grammar.proofs.RowPlaces.{strip-past}
@@ -25,23 +26,23 @@ pub bare-kept : (k : grammar.Container) (bare : Bool) (r : Row) → (bare && is_
 unfolding keeps
 bare-kept k bare r e = ap (λ z. if r.lazy || z then None else keep_as k r) (sym e)
 
-pub quote-keeps : (r : Row) → r.lazy ≡ false → quote_entered r ≡ keeps grammar.Quote false r
-unfolding keeps enter
-quote-keeps r whole = ap (λ z. if z || (false && is_blank_line r) then None else (if is_quote r then Some (without (quote_width r) r) else None)) (sym whole)
+pub quote-keeps : (alert : Option BlockQuoteKind) (r : Row) → r.lazy ≡ false → quote_entered r ≡ keeps (grammar.Quote alert) false r
+unfolding keeps
+quote-keeps alert r whole = ap (λ z. if z || (false && is_blank_line r) then None else (if is_quote r then Some (without (quote_width r) r) else None)) (sym whole)
 
 -- the containers that are shown
-pub shows-quote : (s : Container) (k : grammar.Container) → s ≡ kept.Quote → Shows s k → k ≡ grammar.Quote
+pub shows-quote : (s : Container) (k : grammar.Container) → s ≡ kept.Quote → Shows s k → (alert : Option BlockQuoteKind) × (k ≡ grammar.Quote alert)
 shows-quote s k is h = by k (subst (λ x. Shows x k) is h)
   where
-    by : (k : grammar.Container) → Shows kept.Quote k → k ≡ grammar.Quote
-    by grammar.Quote p = refl
+    by : (k : grammar.Container) → Shows kept.Quote k → (alert : Option BlockQuoteKind) × (k ≡ grammar.Quote alert)
+    by (grammar.Quote alert) p = (alert, refl)
     by (grammar.Item mark number width) p = absurd p
 
 pub shows-item : (s : Container) (w : ℕ) (k : grammar.Container) → s ≡ kept.Item w → Shows s k → (mark : ℕ) × ((number : Option ℕ) × (k ≡ grammar.Item mark number w))
 shows-item s w k is h = by k (subst (λ x. Shows x k) is h)
   where
     by : (k : grammar.Container) → Shows (kept.Item w) k → (mark : ℕ) × ((number : Option ℕ) × (k ≡ grammar.Item mark number w))
-    by grammar.Quote p = absurd p
+    by (grammar.Quote alert) p = absurd p
     by (grammar.Item mark number width) p = (mark, (number, ap (grammar.Item mark number) (sym p)))
 
 -- what a container leaves of a line of a text stands in the text

@@ -24,7 +24,7 @@ lazy-item r (Some m) = refl
 
 lazy-item-interrupts : (same : Bool) (r : Row) (o : Option Container) → item_interrupts same (lazy_row r) o ≡ item_interrupts same r o
 lazy-item-interrupts same r None = refl
-lazy-item-interrupts same r (Some Quote) = refl
+lazy-item-interrupts same r (Some (Quote alert)) = refl
 lazy-item-interrupts same r (Some (Item mark number width)) = refl
 
 module _ (options : Options) (r : Row) (ahead : List Row) where

@@ -8,7 +8,9 @@ use Rattle.cmark_grammar.specs.Rows.{Row, without, is_blank_line, indent_of, wor
 use Rattle.cmark_grammar.specs.Leaves.{Fence, run, is_thematic_break, is_atx_heading, fence_of, counted, code_further}
 use Rattle.cmark_grammar.specs.HtmlBlocks.{html_kind}
 use Rattle.cmark_grammar.specs.LinkDefinitions.{label_in, with_label, definition_in, further_bytes, bytes_over}
-use Rattle.cmark_grammar.specs.Containers.{Container, Item, begins_with, container_of, enter}
+use Rattle.cmark_grammar.specs.BlockQuoteKind.{BlockQuoteKind}
+use Rattle.cmark_grammar.specs.Alerts.{alert_in}
+use Rattle.cmark_grammar.specs.Containers.{Container, Quote, Item, begins_with, is_quote, quote_width, item_of, container_with, container_of, enter}
 use Rattle.cmark_grammar.specs.Openings.{Opening, Blank, Nests, Takes, Plain, AtxHeading, IndentedCode, or_else, nests_if, is_one, item_interrupts, fenced_if, html_if, break_if, heading_if, defined_if, metadata_begun, text_lines, definition_of, leaf_of, whole_opens, opens}
 use Rattle.cmark_grammar.specs.Metadata.{metadata_kind}
 use Rattle.cmark_grammar.specs.MetadataBlockKind.{MetadataBlockKind}
@@ -16,7 +18,7 @@ use Rattle.cmark_grammar.proofs.BlockLaws.{enter_len}
 use Rattle.cmark_grammar.proofs.RowEdges.{enter-good}
 use Rattle.cmark_scan.specs.LeafLines.{atx_level}
 use Rattle.cmark_lines.specs.Rests.{row_of, IsIn}
-use Rattle.cmark_lines.specs.Starts.{begun_container}
+use Rattle.cmark_lines.specs.Starts.{begun_item, begun_container, quote_entered}
 use Rattle.cmark_lines.specs.declared.line_rest.LineRest.{LineRest}
 use Rattle.cmark_lines.proofs.RestSteps.{in-moved}
 
@@ -83,7 +85,7 @@ module _ (options : Options) (r : Row) (ahead : List Row) where
     abbrev chosen : (blank deep : Bool) → Opening
     chosen blank deep =
         or_else (metadata_begun (metadata_kind options r) ahead)
-        (if blank then Blank else if deep then Takes IndentedCode (counted code_further ahead) else or_else (nests_if (container_of r)) (leaf_of options r ahead))
+        (if blank then Blank else if deep then Takes IndentedCode (counted code_further ahead) else or_else (nests_if (container_of options r)) (leaf_of options r ahead))
 
     pub opens-blank : is_blank_line r ≡ true → opens options r ahead ≡ or_else (metadata_begun (metadata_kind options r) ahead) Blank
     opens-blank blank = as_whole ∙ ap (λ z. chosen z (nat_le 4 (indent_of r))) blank
@@ -94,10 +96,10 @@ module _ (options : Options) (r : Row) (ahead : List Row) where
         at_least : (n : ℕ) → 4 ≤ n → nat_le 4 n ≡ true
         at_least n le = grind (arith)
 
-    pub opens-shallow : is_blank_line r ≡ false → indent_of r ≤ 3 → opens options r ahead ≡ or_else (metadata_begun (metadata_kind options r) ahead) (or_else (nests_if (begun_container r)) (leaf_of options r ahead))
+    pub opens-shallow : is_blank_line r ≡ false → indent_of r ≤ 3 → opens options r ahead ≡ or_else (metadata_begun (metadata_kind options r) ahead) (or_else (nests_if (begun_container options r)) (leaf_of options r ahead))
     opens-shallow blank le =
         as_whole ∙ ap (λ z. chosen z (nat_le 4 (indent_of r))) blank ∙ ap (chosen false) (below (indent_of r) le)
-        ∙ ap (λ o. or_else (metadata_begun (metadata_kind options r) ahead) (or_else (nests_if o) (leaf_of options r ahead))) (sym (ap (λ z. if z then container_of r else None) (at_most (indent_of r) le)))
+        ∙ ap (λ o. or_else (metadata_begun (metadata_kind options r) ahead) (or_else (nests_if o) (leaf_of options r ahead))) (sym (ap (λ z. if z then container_of options r else None) (at_most (indent_of r) le)))
       where
         below : (n : ℕ) → n ≤ 3 → nat_le 4 n ≡ false
         below n le = grind (arith)
@@ -122,6 +124,29 @@ begun-in text rest inside k opened is h =
 -- and it has fewer columns
 pub begun-shorter : (rest inside : LineRest) (k : Container) → opens no_options (row_of rest) [] ≡ Nests k → row_of inside ≡ enter k (row_of rest) → length (row_of inside).columns < length (row_of rest).columns
 begun-shorter rest inside k opened is = subst (λ x. length x.columns < length (row_of rest).columns) (sym is) (enter_len no_options k (row_of rest) [] opened)
+
+-- a line that begins no item, and shows a block quote's marker, begins a block quote: the line behind the marker tells whether it is an alert
+pub quote-begun : (options : Options) (r s : Row) → None ≡ begun_item r → Some s ≡ quote_entered r → Some (Quote (alert_in options s)) ≡ begun_container options r
+quote-begun options r s none is = go (nat_le (indent_of r) 3) (begins_with 62 (words_of r)) none is
+  where
+    behind : Row
+    behind = without (quote_width r) r
+
+    go : (shallow marked : Bool) → None ≡ (if shallow then item_of r else None) → Some s ≡ (if shallow && marked then Some (without (quote_width r) r) else None)
+        → Some (Quote (alert_in options s)) ≡ (if shallow then container_with (item_of r) (shallow && marked) (alert_in options (without (quote_width r) r)) else None)
+    go true true n e =
+        let same : s ≡ behind = cc in
+        ap (λ x. Some (Quote (alert_in options x))) same ∙ ap (λ o. container_with o true (alert_in options behind)) n
+    go true false n e = absurd (let q : Some s ≡ None = e in cc)
+    go false marked n e = absurd (let q : Some s ≡ None = e in cc)
+
+pub quote-inside : (r s : Row) (alert : Option BlockQuoteKind) → Some s ≡ quote_entered r → s ≡ enter (Quote alert) r
+unfolding enter
+quote-inside r s alert is = go (is_quote r) is
+  where
+    go : (z : Bool) → Some s ≡ (if z then Some (without (quote_width r) r) else None) → s ≡ without (quote_width r) r
+    go true e = cc
+    go false e = absurd (let q : Some s ≡ None = e in cc)
 
 -- an item of number 1, or a bullet, interrupts a paragraph of its own container where it is not blank behind its marker
 pub item-goes : (r s : Row) (same : Bool) (mark : ℕ) (number : Option ℕ) (width : ℕ) → same ≡ true → is_one number ≡ true → s ≡ enter (Item mark number width) r → not (is_blank_line s) ≡ item_interrupts same r (Some (Item mark number width))

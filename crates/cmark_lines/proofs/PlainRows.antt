@@ -5,11 +5,13 @@ use Rattle.std.specs.Prelude.{if◌then◌else◌, nat_lt, nat_le, count_by}
 use Rattle.std.proofs.lemmas.List.Sums.{take_while-cons}
 use Rattle.cmark_grammar.specs.Options.{Options}
 use Rattle.cmark_grammar.specs.Columns.{Column, is_blank_byte, without_indent, bytes_of}
-use Rattle.cmark_grammar.specs.Rows.{Row, is_bare, indent_of, words_of}
+use Rattle.cmark_grammar.specs.Rows.{Row, without, is_bare, indent_of, words_of}
 use Rattle.cmark_grammar.specs.Leaves.{all_pass, are_blank, is_parted, run, is_break_of, is_thematic_break, is_atx_heading, fence_of, fence_with, is_run_of, underline_of, underlines}
 use Rattle.cmark_grammar.specs.Letters.{is_letter, first_is}
 use Rattle.cmark_grammar.specs.HtmlBlocks.{html_kind, kind_behind}
-use Rattle.cmark_grammar.specs.Containers.{is_bullet, is_digit, digits, delimited, marker_of, item_with, begins_with, container_with}
+use Rattle.cmark_grammar.specs.Containers.{is_bullet, is_digit, digits, delimited, marker_of, item_with, begins_with, quote_width, container_with}
+use Rattle.cmark_grammar.specs.BlockQuoteKind.{BlockQuoteKind}
+use Rattle.cmark_grammar.specs.Alerts.{alert_in}
 use Rattle.cmark_grammar.specs.Openings.{Plain, item_interrupts, is_some_fence, html_interrupts, interrupts, leaf_of}
 use Rattle.cmark_scan.specs.LeafLines.{atx_level}
 use Rattle.cmark_lines.specs.Starts.{begun_container, begins_marker}
@@ -56,14 +58,17 @@ neither (b ∷ bs) e = go (is_bullet b) (is_digit b) (b == 62) refl refl refl e
     go false false true bullet digit quote q = absurd (true≢false q)
     go false false false bullet digit quote q = (unmarked b bs bullet digit, quote)
 
-pub no-container : (r : Row) → first_is begins_marker (words_of r) ≡ false → begun_container r ≡ None
-no-container r e =
+pub no-container : (options : Options) (r : Row) → first_is begins_marker (words_of r) ≡ false → begun_container options r ≡ None
+no-container options r e =
     let nothing = neither (words_of r) e in
-    ap (λ m. if nat_le (indent_of r) 3 then container_with (item_with r m) (nat_le (indent_of r) 3 && begins_with 62 (words_of r)) else None) nothing.0
-    ∙ ap (λ z. if nat_le (indent_of r) 3 then container_with None (nat_le (indent_of r) 3 && z) else None) nothing.1
+    ap (λ m. if nat_le (indent_of r) 3 then container_with (item_with r m) (nat_le (indent_of r) 3 && begins_with 62 (words_of r)) alert else None) nothing.0
+    ∙ ap (λ z. if nat_le (indent_of r) 3 then container_with None (nat_le (indent_of r) 3 && z) alert else None) nothing.1
     ∙ go (nat_le (indent_of r) 3)
   where
-    go : (z : Bool) → (if z then container_with None (z && false) else None) ≡ None
+    alert : Option BlockQuoteKind
+    alert = alert_in options (without (quote_width r) r)
+
+    go : (z : Bool) → (if z then container_with None (z && false) alert else None) ≡ None
     go true = refl
     go false = refl
 

@@ -5,7 +5,7 @@ use Rattle.std.proofs.lemmas.Bool.{leb-true, leb-false}
 use Rattle.cmark_grammar.specs.Columns.{Column, indent, without_indent}
 use Rattle.cmark_grammar.specs.Rows.{Row, without, indent_of, words_of, is_bare}
 use Rattle.cmark_grammar.specs.Leaves.{is_parted, is_thematic_break}
-use Rattle.cmark_grammar.specs.Containers.{Container, Quote, Item, Marker, is_bullet, is_delimiter, digits, number_of, delimited, marker_of, behind_marker, padding, width_with, item_with, item_of, enter, keeps}
+use Rattle.cmark_grammar.specs.Containers.{Container, Quote, Item, Marker, is_bullet, is_delimiter, digits, number_of, delimited, marker_of, behind_marker, padding, width_with, item_with, item_of, quote_width, enter, keeps}
 use Rattle.cmark_scan.specs.LineMarkers.{begins_quote, behind_quote, item_in, item_numbers, entered}
 use Rattle.cmark_scan.proofs.PrefixSteps.{shallow, quote-seen, quote-entered, item-seen, item-entered, item-unseen, item-kept}
 use Rattle.cmark_lines.specs.Starts.{quote_entered, number_by, begun_item}
@@ -15,11 +15,11 @@ pub shallow-is : (r s : Row) (n : ℕ) → n ≡ min 3 (indent_of r) → s ≡ w
 shallow-is r s n count is = is ∙ ap (λ m. without m r) count
 
 pub quote-none : (r : Row) → false ≡ begins_quote (shallow r) → None ≡ quote_entered r
-quote-none r e = ap (λ z. if z then Some (enter Quote r) else None) (e ∙ quote-seen r)
+quote-none r e = ap (λ z. if z then Some (without (quote_width r) r) else None) (e ∙ quote-seen r)
 
 pub quote-some : (r s : Row) → true ≡ begins_quote (shallow r) → s ≡ behind_quote (shallow r) → Some s ≡ quote_entered r
 quote-some r s e is =
-    ap Some (is ∙ quote-entered r (sym (e ∙ quote-seen r))) ∙ ap (λ z. if z then Some (enter Quote r) else None) (e ∙ quote-seen r)
+    ap Some (is ∙ quote-entered r (sym (e ∙ quote-seen r))) ∙ ap (λ z. if z then Some (without (quote_width r) r) else None) (e ∙ quote-seen r)
 
 -- a marker's character tells whether it has a number, and it is short
 abbrev pub IsShort : Option Marker → Type 0
@@ -118,16 +118,16 @@ item-none r is = go (nat_le (indent_of r) 3) refl
   where
     by : (o : Option Container) → o ≡ item_of r → None ≡ item_numbers 0 o → None ≡ item_of r
     by None q e = q
-    by (Some Quote) q e = absurd (never q)
+    by (Some (Quote alert)) q e = absurd (never q)
       where
-        never : Some Quote ≡ item_of r → ⊥
+        never : Some (Quote alert) ≡ item_of r → ⊥
         never p = quote_item (marker_of (words_of r)) p
           where
-            quote_item : (m : Option Marker) → Some Quote ≡ item_with r m → ⊥
+            quote_item : (m : Option Marker) → Some (Quote alert) ≡ item_with r m → ⊥
             quote_item None x = cc
             quote_item (Some m) x = test (is_parted (drop m.size (words_of r)) && not (is_thematic_break (words_of r))) x
               where
-                test : (z : Bool) → Some Quote ≡ (if z then Some (Item m.mark m.number (width_with m.size r)) else None) → ⊥
+                test : (z : Bool) → Some (Quote alert) ≡ (if z then Some (Item m.mark m.number (width_with m.size r)) else None) → ⊥
                 test true y = cc
                 test false y = cc
     by (Some (Item mark number width)) q e = absurd (let p : None ≡ Some (mark, unwrap_or number 0, min (0 + width) (2 ^ 64 - 1)) = e in cc)

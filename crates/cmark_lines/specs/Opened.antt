@@ -20,7 +20,7 @@ use Rattle.cmark_lines.specs.declared.opening.Opening.TheVariants.{Blank, Nests,
 -- what the line begins, with these lines ahead
 abbrev pub opened : Options → Opening → Row → List Row → grammar.Opening
 opened options Blank r ahead = grammar.Blank
-opened options (Nests start) r ahead = grammar.Nests (shown_start start)
+opened options (Nests start) r ahead = grammar.Nests (shown_start options start)
 opened options IndentedCode r ahead = grammar.Takes grammar.IndentedCode (counted code_further ahead)
 opened options (Html kind) r ahead = grammar.Takes (grammar.HtmlBlock (kind_number kind)) (html_lines (kind_number kind) r ahead)
 opened options ThematicBreak r ahead = grammar.Takes grammar.ThematicBreak 0

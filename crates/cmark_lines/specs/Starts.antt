@@ -1,8 +1,10 @@
 -- Containers as this crate knows them, seen as those of the grammar.
 use Rattle.std.specs.Prelude.{◌≡◌, ℕ, Bool, ◌==◌, ◌||◌, nat_le, if◌then◌else◌, Option, Some, None}
 use Rattle.cmark_grammar.specs.Containers as grammar
-use Rattle.cmark_grammar.specs.Containers.{item_of, container_of, is_quote, enter}
-use Rattle.cmark_grammar.specs.Rows.{Row, indent_of}
+use Rattle.cmark_grammar.specs.Containers.{item_of, container_of, is_quote, quote_width, enter}
+use Rattle.cmark_grammar.specs.Alerts.{alert_in}
+use Rattle.cmark_grammar.specs.Options.{Options}
+use Rattle.cmark_grammar.specs.Rows.{Row, without, indent_of}
 use Rattle.cmark_lines.specs.Rests.{row_of}
 use Rattle.cmark_lines.specs.declared.line_rest.LineRest.{LineRest}
 use Rattle.cmark_lines.specs.declared.container.Container.{Container}
@@ -13,25 +15,25 @@ use Rattle.cmark_lines.specs.declared.container.ContainerStart.TheVariants as be
 
 -- a container of the grammar keeps the lines that this one keeps: what else an item is does not matter to its later lines
 abbrev pub Shows : Container → grammar.Container → Type 0
-Shows kept.Quote grammar.Quote = Unit {0}
+Shows kept.Quote (grammar.Quote alert) = Unit {0}
 Shows kept.Quote (grammar.Item mark number width) = ⊥
-Shows (kept.Item w) grammar.Quote = ⊥
+Shows (kept.Item w) (grammar.Quote alert) = ⊥
 Shows (kept.Item w) (grammar.Item mark number width) = w ≡ width
 
 abbrev pub shown_item : ItemStart → grammar.Container
 shown_item item = grammar.Item item.mark item.number item.width
 
--- the container that begins, and the line behind its marker
-abbrev pub shown_start : ContainerStart → grammar.Container
-shown_start (begun.Quote inside) = grammar.Quote
-shown_start (begun.Item item inside) = shown_item item
+-- the container that begins, and the line behind its marker: that line tells whether a block quote is an alert
+abbrev pub shown_start : Options → ContainerStart → grammar.Container
+shown_start options (begun.Quote inside) = grammar.Quote (alert_in options (row_of inside))
+shown_start options (begun.Item item inside) = shown_item item
 
 abbrev pub inside_of : ContainerStart → LineRest
 inside_of (begun.Quote inside) = inside
 inside_of (begun.Item item inside) = inside
 
 abbrev pub Enters : Row → ContainerStart → Type 0
-Enters r start = row_of (inside_of start) ≡ enter (shown_start start) r
+Enters r start = (options : Options) → row_of (inside_of start) ≡ enter (shown_start options start) r
 
 -- the number of an item of this character: what stands behind a number tells an ordered item
 abbrev pub number_by : (mark number : ℕ) → Option ℕ
@@ -41,8 +43,8 @@ number_by mark number = if grammar.is_delimiter mark then Some number else None
 abbrev pub begun_item : Row → Option grammar.Container
 begun_item r = if nat_le (indent_of r) 3 then item_of r else None
 
-abbrev pub begun_container : Row → Option grammar.Container
-begun_container r = if nat_le (indent_of r) 3 then container_of r else None
+abbrev pub begun_container : Options → Row → Option grammar.Container
+begun_container options r = if nat_le (indent_of r) 3 then container_of options r else None
 
 -- a bullet, a digit of an ordered item's number, or `>`
 abbrev pub begins_marker : ℕ → Bool
@@ -56,4 +58,4 @@ EntersItem r begun = row_of begun.1 ≡ enter (shown_item begun.0) r
 
 -- the first line of a block quote behind its marker
 abbrev pub quote_entered : Row → Option Row
-quote_entered r = if is_quote r then Some (enter grammar.Quote r) else None
+quote_entered r = if is_quote r then Some (without (quote_width r) r) else None

@@ -4,6 +4,7 @@ ghost use Rattle.std.specs.Prelude.{◌≡◌, ℕ, List, option_map, IfSome};
 ghost use Rattle.cmark_grammar.specs.Containers as grammar;
 ghost use Rattle.cmark_grammar.specs.Containers.{keeps};
 ghost use Rattle.cmark_grammar.specs.Letters.{first_is};
+ghost use Rattle.cmark_grammar.specs.Options.{Options};
 ghost use Rattle.cmark_lines.specs.Rests.{row_of, IsIn};
 ghost use Rattle.cmark_lines.specs.Starts.{Shows, shown_start, begun_container, begins_marker, Enters};
 
@@ -35,7 +36,7 @@ pub struct ItemStart {
 /// A container that a line begins, and the line behind the container's marker.
 #[derive(Clone, Copy, Debug)]
 pub enum ContainerStart<'a> {
-    /// A block quote.
+    /// A block quote; [`LineRest::alert_kind`] tells whether it is an alert.
     Quote(LineRest<'a>),
     /// A list item.
     Item(ItemStart, LineRest<'a>),
@@ -63,7 +64,7 @@ impl Container {
 /// The container that the line begins, indented by at most three columns, and the line behind its marker.
 #[inline]
 pub(crate) fn container_start<'a>(rest: LineRest<'a>) -> Option<ContainerStart<'a>>
-    ensures container { option_map shown_start result ≡ begun_container (row_of rest.entry) }
+    ensures container { (options : Options) → option_map (shown_start options) result ≡ begun_container options (row_of rest.entry) }
     ensures inside { IfSome result (Enters (row_of rest.entry)) }
 {
     if !may_begin_container(rest.words()) {

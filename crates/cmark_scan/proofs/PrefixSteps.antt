@@ -7,6 +7,7 @@ use Rattle.std.proofs.lemmas.List.{drop-drop}
 use Rattle.cmark_grammar.specs.Columns.{Column, without_indent, bytes_of}
 use Rattle.cmark_grammar.specs.Rows.{Row, without, indent_of, words_of, is_bare, is_blank_line}
 use Rattle.cmark_grammar.specs.Leaves.{is_parted, is_thematic_break}
+use Rattle.cmark_grammar.specs.BlockQuoteKind.{BlockQuoteKind}
 use Rattle.cmark_grammar.specs.Containers.{Container, Quote, Item, Marker, marker_of, padding, width_with, item_with, item_of, begins_with, is_quote, one_blank, quote_width, enter, keep_as, keeps}
 use Rattle.cmark_scan.specs.LineMarkers.{is_flush, begins_quote, behind_quote, item_in, item_numbers, entered}
 use Rattle.cmark_scan.proofs.PlaceSteps.{indent-drop}
@@ -59,10 +60,10 @@ quote-left r e =
     ∙ ap (λ n. without n r) (let s : k + suc (0 + one_blank (drop (suc k) r.columns)) ≡ suc (k + one_blank (drop (suc k) r.columns)) = omega arith in s)
 
 -- a later line of a quote: behind up to three columns and the marker stands what the grammar keeps of it
-pub quote-kept : (r : Row) → r.lazy ≡ false → keeps Quote false r ≡ (if begins_quote (shallow r) then Some (behind_quote (shallow r)) else None)
+pub quote-kept : (alert : Option BlockQuoteKind) (r : Row) → r.lazy ≡ false → keeps (Quote alert) false r ≡ (if begins_quote (shallow r) then Some (behind_quote (shallow r)) else None)
 unfolding keeps
-quote-kept r whole =
-    ap (λ t. if t || (false && is_blank_line r) then None else keep_as Quote r) whole
+quote-kept alert r whole =
+    ap (λ t. if t || (false && is_blank_line r) then None else keep_as (Quote alert) r) whole
     ∙ go (is_quote r) refl ∙ ap (λ t. if t then Some (behind_quote (shallow r)) else None) (sym (quote-seen r))
   where
     go : (z : Bool) → is_quote r ≡ z → (if z then Some (without (quote_width r) r) else None) ≡ (if z then Some (behind_quote (shallow r)) else None)
@@ -70,14 +71,13 @@ quote-kept r whole =
     go false e = refl
 
 -- the first line of a quote
-pub quote-entered : (r : Row) → is_quote r ≡ true → behind_quote (shallow r) ≡ enter Quote r
-unfolding enter
+pub quote-entered : (r : Row) → is_quote r ≡ true → behind_quote (shallow r) ≡ without (quote_width r) r
 quote-entered r e = quote-left r e
 
 -- a list item, with its width from the row's beginning on
 abbrev pub widened : ℕ → Option Container → Option Container
 widened k None = None
-widened k (Some Quote) = Some Quote
+widened k (Some (Quote alert)) = Some (Quote alert)
 widened k (Some (Item mark number width)) = Some (Item mark number (k + width))
 
 module _ (r : Row) (le : indent_of r ≤ 3) where
@@ -111,17 +111,17 @@ module _ (r : Row) (le : indent_of r ≤ 3) where
     where
       by : (o : Option Container) → item_numbers (indent_of r) o ≡ item_numbers 0 (widened (indent_of r) o)
       by None = refl
-      by (Some Quote) = refl
+      by (Some (Quote alert)) = refl
       by (Some (Item mark number width)) = ap (λ n. Some (mark, unwrap_or number 0, min n (2 ^ 64 - 1))) (let s : indent_of r + width ≡ 0 + (indent_of r + width) = omega arith in s)
 
-  no_quote_item : item_in (shallow r) ≡ Some Quote → ⊥
-  no_quote_item e = go (is_flush (shallow r)) (marker_of (words_of (shallow r))) e
+  no_quote_item : (alert : Option BlockQuoteKind) → item_in (shallow r) ≡ Some (Quote alert) → ⊥
+  no_quote_item alert e = go (is_flush (shallow r)) (marker_of (words_of (shallow r))) e
     where
-      test : (z : Bool) (mark : ℕ) (number : Option ℕ) (width : ℕ) → (if z then Some (Item mark number width) else None) ≡ Some Quote → ⊥
+      test : (z : Bool) (mark : ℕ) (number : Option ℕ) (width : ℕ) → (if z then Some (Item mark number width) else None) ≡ Some (Quote alert) → ⊥
       test true mark number width q = cc
       test false mark number width q = cc
 
-      go : (z : Bool) (o : Option Marker) → (if z then item_with (shallow r) o else None) ≡ Some Quote → ⊥
+      go : (z : Bool) (o : Option Marker) → (if z then item_with (shallow r) o else None) ≡ Some (Quote alert) → ⊥
       go true None q = cc
       go true (Some m) q = test (is_parted (drop m.size (words_of (shallow r))) && not (is_thematic_break (words_of (shallow r)))) m.mark m.number (width_with m.size (shallow r)) q
       go false o q = cc
@@ -133,7 +133,7 @@ module _ (r : Row) (le : indent_of r ≤ 3) where
     where
       by : (o : Option Container) → item_in (shallow r) ≡ o → widened (indent_of r) o ≡ Some k → entered o (shallow r) ≡ enter k r
       by None e q = let z : None ≡ Some k = q in absurd (cc)
-      by (Some Quote) e q = absurd (no_quote_item e)
+      by (Some (Quote alert)) e q = absurd (no_quote_item alert e)
       by (Some (Item mark number width)) e q =
           let z : Item mark number (indent_of r + width) ≡ k = cc in
           ap (λ cs. record r { columns = cs }) (drop-drop width (min 3 (indent_of r)) r.columns) ∙ ap (λ n. without (n + width) r) (taken-all r le) ∙ ap (λ c. enter c r) z

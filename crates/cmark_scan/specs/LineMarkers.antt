@@ -43,7 +43,7 @@ sum_up_to_most m n = min (m + n) (2 ^ 64 - 1)
 -- a list item's character, its number, 0 for a bullet, and its width with the indent that was taken before
 abbrev pub item_numbers : (indent : ℕ) → Option Container → Option (ℕ × ℕ × ℕ)
 item_numbers indent None = None
-item_numbers indent (Some Quote) = None
+item_numbers indent (Some (Quote alert)) = None
 item_numbers indent (Some (Item mark number width)) = Some (mark, unwrap_or number 0, sum_up_to_most indent width)
 
 -- the width of a definition's prefix, and its first line behind the marker

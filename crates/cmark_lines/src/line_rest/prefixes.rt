@@ -2,11 +2,15 @@
 
 ghost use Rattle.std.specs.Prelude.{◌≡◌, ℕ, Option, false, option_map, IfSome};
 ghost use Rattle.cmark_grammar.specs.Containers.{keeps, Item};
+ghost use Rattle.cmark_grammar.specs.Alerts.{alert_in};
+ghost use Rattle.cmark_grammar.specs.Options.{Options};
+ghost use Rattle.cmark_text.specs.Shown.{shown_block_quote_kind};
 ghost use Rattle.cmark_lines.specs.Rests.{row_of};
 ghost use Rattle.cmark_lines.specs.Starts.{quote_entered, number_by, shown_begun, begun_item, EntersItem};
 
 use crate::container::ItemStart;
 use crate::line_rest::LineRest;
+use cmark_text::BlockQuoteKind;
 
 impl<'a> LineRest<'a> {
     /// The line behind a block quote's prefix, if it has one.
@@ -20,6 +24,19 @@ impl<'a> LineRest<'a> {
             return None;
         }
         Some(self.with_front(front))
+    }
+
+    /// The kind of alert that a block quote is which begins with this line behind its marker, if it is one (this profile's
+    /// own). With `gfm` false there are no alerts.
+    #[inline]
+    pub fn alert_kind(&self, gfm: bool) -> Option<BlockQuoteKind>
+        ensures { (options : Options) → options.gfm ≡ gfm → option_map shown_block_quote_kind result ≡ alert_in options (row_of self.now) }
+    {
+        if !gfm {
+            return None;
+        }
+        let mut ahead = self.front;
+        ahead.scan_blockquote_tag()
     }
 
     /// The line behind so many columns of spaces and tabs, or behind fewer if nothing follows them.

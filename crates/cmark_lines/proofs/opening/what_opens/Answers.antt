@@ -24,22 +24,22 @@ returns-in-Some-clause-opens c options ahead =
     let other = c.if-indent-eq4.false in
     let row = row_of c.args.rest in
     opens-shallow options row ahead (whole c.args.rest) (sym c.if-is_blank.ensures) (omega (arith, count, other))
-    ∙ ap (λ o. or_else (metadata_begun (metadata_kind options row) ahead) (or_else (nests_if o) (leaf_of options row ahead))) (sym c.in-Some.ensures.container)
+    ∙ ap (λ o. or_else (metadata_begun (metadata_kind options row) ahead) (or_else (nests_if o) (leaf_of options row ahead))) (sym (c.in-Some.ensures.container options))
 
-begun : (c : goal.In-Some) → opens no_options (row_of c.args.rest) [] ≡ Nests (shown_start c.in-Some.start)
+begun : (c : goal.In-Some) → opens no_options (row_of c.args.rest) [] ≡ Nests (shown_start no_options c.in-Some.start)
 begun c =
     let count = c.indent_upto-indent.ensures in
     let other = c.if-indent-eq4.false in
     let row = row_of c.args.rest in
     opens-shallow no_options row [] (whole c.args.rest) (sym c.if-is_blank.ensures) (omega (arith, count, other))
     ∙ none_ahead (metadata_kind no_options row) _
-    ∙ ap (λ o. or_else (nests_if o) (leaf_of no_options row [])) (sym c.in-Some.ensures.container)
+    ∙ ap (λ o. or_else (nests_if o) (leaf_of no_options row [])) (sym (c.in-Some.ensures.container no_options))
 
 pub returns-in-Some-clause-placed : goal.returns-in-Some-clause-placed
-returns-in-Some-clause-placed c text = begun-in text c.args.rest (inside_of c.in-Some.start) (shown_start c.in-Some.start) (begun c) c.in-Some.ensures.inside
+returns-in-Some-clause-placed c text = begun-in text c.args.rest (inside_of c.in-Some.start) (shown_start no_options c.in-Some.start) (begun c) (c.in-Some.ensures.inside no_options)
 
 pub returns-in-Some-clause-shorter : goal.returns-in-Some-clause-shorter
-returns-in-Some-clause-shorter c = begun-shorter c.args.rest (inside_of c.in-Some.start) (shown_start c.in-Some.start) (begun c) c.in-Some.ensures.inside
+returns-in-Some-clause-shorter c = begun-shorter c.args.rest (inside_of c.in-Some.start) (shown_start no_options c.in-Some.start) (begun c) (c.in-Some.ensures.inside no_options)
 
 pub returns-clause-opens : goal.returns-clause-opens
 returns-clause-opens c options ahead =
@@ -48,7 +48,7 @@ returns-clause-opens c options ahead =
     let row = row_of c.args.rest in
     let le : indent_of row ≤ 3 = omega (arith, count, other) in
     opens-shallow options row ahead (whole c.args.rest) (sym c.if-is_blank.ensures) le
-    ∙ ap (λ o. or_else (metadata_begun (metadata_kind options row) ahead) (or_else (nests_if o) (leaf_of options row ahead))) (sym c.in_default.ensures.container)
+    ∙ ap (λ o. or_else (metadata_begun (metadata_kind options row) ahead) (or_else (nests_if o) (leaf_of options row ahead))) (sym (c.in_default.ensures.container options))
     ∙ ap (or_else (metadata_begun (metadata_kind options row) ahead)) (c.leaf_opening.ensures.opens options row ahead (sym c.words.ensures) (omega (arith, count, le)))
 
 pub returns-clause-placed : goal.returns-clause-placed

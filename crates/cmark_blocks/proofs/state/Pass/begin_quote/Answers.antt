@@ -1,4 +1,5 @@
-use Rattle.std.proofs.Common.{None, refl, ap}
+use Rattle.std.proofs.Common.{option_map, refl, ap}
+use Rattle.cmark_text.specs.Shown.{shown_block_quote_kind}
 use Rattle.cmark_grammar.specs.BlockDocument.{BlockQuote}
 use Rattle.cmark_grammar.specs.Containers.{Quote}
 use Rattle.cmark_block_model.specs.BlockPass.{block_begun}
@@ -11,6 +12,6 @@ pub returns-clause-runs : goal.returns-clause-runs
 returns-clause-runs g c text options lookup m runs =
     let before = c.begin_block.new.self in
     let r = c.begin_block.ensures.runs text options lookup m runs in
-    let draws = draws-open text before.builder c.open.new.self c.args.start _ (BlockQuote None) (block_begun m).drawing c.in_ok-open.ensures.ok c.in_ok-open.ensures.tables refl r.drawing in
-    c.in_ok-enter.ensures.runs Quote tt text options lookup _
-    (runs-builder g.E.EntityLookup.replacement text options lookup (block_begun m) before c.open.new.self (opened c.args.start (BlockQuote None) (block_begun m).drawing) r draws (ap (λ a. a.refdefs) c.in_ok-open.ensures.tables))
+    let draws = draws-open text before.builder c.open.new.self c.args.start _ (BlockQuote (option_map shown_block_quote_kind c.args.alert)) (block_begun m).drawing c.in_ok-open.ensures.ok c.in_ok-open.ensures.tables refl r.drawing in
+    c.in_ok-enter.ensures.runs (Quote (option_map shown_block_quote_kind c.args.alert)) tt text options lookup _
+    (runs-builder g.E.EntityLookup.replacement text options lookup (block_begun m) before c.open.new.self (opened c.args.start (BlockQuote (option_map shown_block_quote_kind c.args.alert)) (block_begun m).drawing) r draws (ap (λ a. a.refdefs) c.in_ok-open.ensures.tables))

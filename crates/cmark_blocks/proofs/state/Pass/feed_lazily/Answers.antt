@@ -1,9 +1,9 @@
-use Rattle.std.proofs.Common.{sym, subst}
+use Rattle.std.proofs.Common.{⊎_elim, sym, subst}
 use Rattle.std.proofs.lemmas.Result.{on_ok_weaker}
 use Rattle.cmark_lines.specs.Rests.{row_of}
 use Rattle.cmark_blocks.specs.Ahead.{lines_at}
 use Rattle.cmark_blocks.specs.Runs.{Runs}
-use Rattle.cmark_blocks.proofs.FeedSteps.{in_paragraph, in_definition, lazy-paragraph, lazy-definition}
+use Rattle.cmark_blocks.proofs.FeedSteps.{in_paragraph, behind_tag, in_definition, lazy-paragraph, lazy-behind, lazy-definition}
 use Rattle.cmark_blocks.proofs.state.Pass.feed_lazily.Goals as goal
 
 pub returns-in-Paragraph-clause-runs : goal.returns-in-Paragraph-clause-runs
@@ -21,5 +21,8 @@ returns-in_ok-begin_paragraph-in-Definition-clause-runs g c text options lookup 
     let replacement = g.E.EntityLookup.replacement in
     let row = row_of c.args.rest in
     subst (λ p. Runs replacement text options lookup p c.begin_paragraph.new.self)
-    (sym (lazy-definition text options lookup row (lines_at text row.past) m _ (in_definition replacement text options lookup m c.args.self.now runs _ c.in-Definition.is)))
+    (sym (⊎_elim
+    (λ d. lazy-definition text options lookup row (lines_at text row.past) m d.0 (in_definition replacement text options lookup m c.args.self.now runs d.0 d.1))
+    (λ tag. lazy-behind text options lookup row (lines_at text row.past) m (behind_tag replacement text options lookup m c.args.self.now runs tag))
+    c.in-Definition.is))
     (c.in_ok-begin_paragraph-in-Definition.ensures.runs text options lookup _ (c.in_ok-close_leaf-in-Definition.ensures.runs text options lookup m runs))

@@ -22,10 +22,11 @@ returns-in-Quote-clause-row c k shows =
       | else-bare-via-else-bare w ↦ ap (λ z. z && is_blank_line r) w.if-bare.false
     ]
     in
-    c.behind_quote.ensures ∙ quote-keeps r (whole c.args.rest) ∙ bare-kept grammar.Quote c.args.bare r test ∙ ap (λ x. keeps x c.args.bare r) (sym (shows-quote c.args.self k c.in-Quote.is shows))
+    let quote = shows-quote c.args.self k c.in-Quote.is shows in
+    c.behind_quote.ensures ∙ quote-keeps quote.0 r (whole c.args.rest) ∙ bare-kept (grammar.Quote quote.0) c.args.bare r test ∙ ap (λ x. keeps x c.args.bare r) (sym quote.1)
 
 pub returns-in-Quote-clause-placed : goal.returns-in-Quote-clause-placed
-returns-in-Quote-clause-placed c text = kept-in text c.args.rest grammar.Quote c.behind_quote.result (c.behind_quote.ensures ∙ quote-keeps (row_of c.args.rest) (whole c.args.rest))
+returns-in-Quote-clause-placed c text = kept-in text c.args.rest (grammar.Quote None) c.behind_quote.result (c.behind_quote.ensures ∙ quote-keeps None (row_of c.args.rest) (whole c.args.rest))
 
 pub returns-in-Item-clause-row : goal.returns-in-Item-clause-row
 returns-in-Item-clause-row c k shows =
