@@ -1,6 +1,6 @@
 //! The contexts into which braces part a text (this profile's own).
 
-ghost use Rattle.std.specs.Prelude.{◌≡◌, ◌≤◌, ◌<◌, ◌+◌, OnOk};
+ghost use Rattle.std.specs.Prelude.{◌≡◌, ◌≤◌, ◌<◌, ◌+◌, false, OnOk};
 ghost use Rattle.cmark_grammar.specs.Formulas.{no_braces, context_of, behind_byte};
 ghost use Rattle.cmark_finds.specs.Dollars.{shown_braces};
 

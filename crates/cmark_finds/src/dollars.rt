@@ -1,6 +1,6 @@
 //! Formulas between dollar signs (this profile's own).
 
-ghost use Rattle.std.specs.Prelude.{◌≡◌, ◌<◌, ◌≤◌, ◌+◌, ◌-◌, ◌++◌, true, ℕ, List, length, drop, slice_index, get_or, nat_lt, IfOk, IfSome, OnOk, Some, None, if◌then◌else◌, option_map};
+ghost use Rattle.std.specs.Prelude.{◌≡◌, ◌<◌, ◌≤◌, ◌+◌, ◌-◌, ◌++◌, ◌||◌, true, ℕ, List, length, drop, slice_index, get_or, nat_lt, IfOk, IfSome, OnOk, Some, None, if◌then◌else◌, option_map};
 ghost use Rattle.std.specs.List.{prefix_len};
 ghost use Rattle.std.specs.Str.{IsCharBoundary};
 ghost use Rattle.cmark_grammar.specs.Formulas.{is_dollar, is_ink, context_of, closes_formula};
@@ -73,7 +73,7 @@ impl Dollars {
     {
         let bytes = text.as_bytes();
         let is_display = is_dollar_at(bytes, at + 1);
-        if !is_display && !is_ink_at(bytes, at + 1) {
+        if !opens(bytes, at, is_display) {
             return Ok(None);
         }
         self.list(text)?;
@@ -120,14 +120,23 @@ impl Dollars {
         ensures value { result ≡ prefix_len (λ d. nat_lt d.place at) self.now.listed.items }
         ensures within { result < length self.now.listed.items }
     {
-        let mut index = 0;
-        if self.reached < self.listed.len() && self.listed[self.reached].place <= at {
-            index = self.reached;
-        }
+        let mut index = self.first_index(text, at);
         while index < self.listed.len() && self.listed[index].place < at {
             index += 1;
         }
         index
+    }
+
+    /// An index in front of which no dollar sign stands behind this place.
+    fn first_index(&self, text: &str, at: usize) -> usize
+        requires { self.now.listed.items ≡ dollars_in text.now }
+        ensures value { prefix_len (λ d. nat_lt d.place at) self.now.listed.items ≡ result + prefix_len (λ d. nat_lt d.place at) (drop result self.now.listed.items) }
+        ensures within { result ≤ length self.now.listed.items }
+    {
+        if self.reached < self.listed.len() && self.listed[self.reached].place <= at {
+            return self.reached;
+        }
+        0
     }
 
     /// The place of the first dollar sign from an index on that stands from a place on in this context, unescaped. Those of a context
@@ -192,6 +201,14 @@ fn escapes_next(is_escaped: bool, byte: u8) -> bool
     ensures { result ≡ escapes_next is_escaped byte }
 {
     !is_escaped && byte == b'\\'
+}
+
+/// Whether the dollar sign at a place may open a formula: a display, or one in front of a byte that is no white space.
+fn opens(bytes: &[u8], at: usize, is_display: bool) -> bool
+    requires { at < length bytes.now }
+    ensures { result ≡ is_display || first_is is_ink (drop (at + 1) bytes.now) }
+{
+    is_display || is_ink_at(bytes, at + 1)
 }
 
 /// Whether a dollar sign stands at a place.
