@@ -223,8 +223,9 @@ def siblings_of(options, parts):
 def event_of(source, x):
     if x.kind in ("SoftBreak", "HardBreak"):
         return [x.kind]
-    name = {"Code": "Code", "Html": "InlineHtml", "OwnedHtml": "InlineHtml"}.get(x.kind, "Text")
-    owned = x.kind in ("Code", "OwnedHtml", "Written")
+    names = {"Html": "InlineHtml", "OwnedHtml": "InlineHtml", "Code": "Code", "InlineMath": "InlineMath", "DisplayMath": "DisplayMath"}
+    owned = x.kind in ("Code", "InlineMath", "DisplayMath", "OwnedHtml", "Written")
+    name = names.get(x.kind, "Text")
     return [name, (x.data if owned else source[x.start:x.end]).decode()]
 
 

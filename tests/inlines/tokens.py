@@ -2,7 +2,7 @@
 import unicodedata
 from typing import Callable, NamedTuple
 
-from inlines import letters
+from inlines import formulas, letters
 from inlines.letters import first_is
 
 
@@ -13,6 +13,7 @@ class Options(NamedTuple):
     superscript: bool
     subscript: bool
     smart_punctuation: bool
+    math: bool
 
 
 class Reader(NamedTuple):
@@ -304,6 +305,14 @@ class Leaf:
             return item_at("Delimiters", at, at + size, Run(mark, size, 0, size, opens, closes))
         return item_at("Plain", at, at + size)
 
+    def formula_or(self, kind, at, found):
+        return item_at("Own", at, at + 1) if found is None else item_at(kind, at, self.place_of(found.behind), found.bytes)
+
+    def dollar(self, at, bs, braces):
+        if first_is(formulas.is_dollar, bs):
+            return self.formula_or("DisplayMath", at, formulas.display_in(braces, bs[1:]))
+        return self.formula_or("InlineMath", at, formulas.inline_in(braces, bs))
+
     def dots(self, at):
         if self.from_(at).startswith(b"..."):
             return item_at("Written", at, at + 3, "\u2026".encode())
@@ -347,6 +356,8 @@ class Leaf:
             return Closes(Bracket(False, at, at + 1))
         if b in b"*_~^":
             return self.run_at(at, b, letters.prefix_len(lambda c: c == b, all_bytes))
+        if self.reader.options.math and formulas.is_dollar(b):
+            return self.dollar(at, bs, formulas.braces_behind(self.before(at), formulas.NO_BRACES))
         return self.smart_or(at, b) if self.reader.options.smart_punctuation else item_at("Plain", at, at + 1)
 
     def begins_at(self, at):

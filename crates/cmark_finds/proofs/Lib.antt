@@ -7,3 +7,4 @@ pub mod LinkSteps
 pub mod PaddingSteps
 pub mod SpecialSteps
 pub mod Listed
+pub mod DollarSteps

@@ -7,8 +7,10 @@
 #![tactic(auto)]
 
 mod backtick_runs;
+mod braces;
 mod breaks;
 mod code;
+mod dollars;
 mod html;
 mod label;
 mod line_end;
@@ -19,6 +21,7 @@ mod special;
 pub use backtick_runs::BacktickRuns;
 pub use breaks::{LineBreak, line_break};
 pub use code::{CodeSpan, code_span, code_text};
+pub use dollars::{Dollars, Formula};
 pub use html::inline_html;
 pub use label::{Label, collapsed_end, is_bracketed_label, reference_label};
 pub use link::{LinkTail, link_tail, title_text};

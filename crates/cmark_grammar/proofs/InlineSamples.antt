@@ -1,5 +1,5 @@
 -- Tokens of texts, and what closing brackets come to, computed.
-use Rattle.std.specs.Prelude.{◌≡◌, ℕ, suc, Bool, true, false, List, [], ◌∷◌, codes, bytes_eq, if◌then◌else◌, length, map, Option, Some, None}
+use Rattle.std.specs.Prelude.{◌≡◌, ℕ, zero, suc, Bool, true, false, List, [], ◌∷◌, ◌++◌, codes, bytes_eq, if◌then◌else◌, length, map, Option, Some, None}
 use Rattle.std.specs.Str.{chars}
 use Rattle.std.proofs.Common.{refl}
 use lib.Utf8.{encode}
@@ -10,6 +10,7 @@ use Rattle.cmark_grammar.specs.BracketDecisions.{decide}
 use Rattle.cmark_grammar.specs.BracketStates.{Opener, State, Result, StaysText, Forms, Decision, Settled, Asks}
 use Rattle.cmark_grammar.specs.Entities.{basic_entity}
 use Rattle.cmark_grammar.specs.Flanking.{is_unicode_white_space, is_unicode_punctuation}
+use Rattle.cmark_grammar.specs.Formulas.{no_braces, context_of, braces_behind, inline_in}
 use Rattle.cmark_grammar.specs.InlineTokens.{token}
 use Rattle.cmark_grammar.specs.Items.{ItemKind, Plain, Own, Code, InlineMath, DisplayMath, Autolink, Html, OwnedHtml, SoftBreak, HardBreak, Bracket, Token, Stands}
 use Rattle.cmark_grammar.specs.LeafText.{Stretch, Leaf}
@@ -124,6 +125,55 @@ display = refl
 no_empty_formula : token (reading math (codes "$$a")) (whole (codes "$$a")) 0 ≡ stands Own 0 1 1
 unfolding encode chars token ucd_category is_unicode_white_space is_unicode_punctuation
 no_empty_formula = refl
+
+-- 256 opening braces come back to the number of the outermost context, which is 255, and 255 do not; escaped ones do not count
+copies : ℕ → ℕ → List ℕ
+copies zero b = []
+copies (suc n) b = b ∷ copies n b
+
+context_behind : List ℕ → ℕ
+context_behind bs = context_of (braces_behind false bs no_braces)
+
+contexts_of_256_braces : context_behind (copies 256 123) ≡ 255
+unfolding copies context_behind
+contexts_of_256_braces = refl
+
+contexts_of_255_braces : context_behind (copies 255 123) ≡ 254
+unfolding copies context_behind
+contexts_of_255_braces = refl
+
+-- so the dollar sign behind 256 braces closes, and that behind 255 does not
+formula_of_256_braces : inline_in no_braces (97 ∷ (copies 256 123 ++ codes "b$c")) ≡ Some (record { bytes = 97 ∷ (copies 256 123 ++ codes "b"); behind = codes "c" })
+unfolding copies
+formula_of_256_braces = refl
+
+no_formula_of_255_braces : inline_in no_braces (97 ∷ (copies 255 123 ++ codes "b$c")) ≡ None
+unfolding copies
+no_formula_of_255_braces = refl
+
+-- a closing brace outside of all begins a context
+outside_brace : context_behind (codes "}") ≡ 0
+unfolding context_behind
+outside_brace = refl
+
+escaped_braces : context_behind (codes "\\{\\\\{") ≡ 0
+unfolding context_behind
+escaped_braces = refl
+
+-- a display may be empty
+empty_display : token (reading math (codes "$$$$")) (whole (codes "$$$$")) 0 ≡ stands (DisplayMath []) 0 4 4
+unfolding encode chars token ucd_category is_unicode_white_space is_unicode_punctuation
+empty_display = refl
+
+-- one dollar sign closes none
+display_closed_by_two : token (reading math (codes "$$a$b$$")) (whole (codes "$$a$b$$")) 0 ≡ stands Own 0 1 1
+unfolding encode chars token ucd_category is_unicode_white_space is_unicode_punctuation
+display_closed_by_two = refl
+
+-- without the option a dollar sign is a byte as any other
+no_math : token (reading no_options (codes "$a$")) (whole (codes "$a$")) 0 ≡ stands Plain 0 3 3
+unfolding encode chars token ucd_category is_unicode_white_space is_unicode_punctuation
+no_math = refl
 
 -- in a cell the backslash of a pipe is left out of code
 pipe_in_cell : token (reading no_options (codes "`a\\|b`")) (cell 0 6) 0 ≡ stands (Code (codes "a|b")) 0 6 6

@@ -84,3 +84,13 @@ code-part (Ok made) content leaf from to read part is p =
     let some = there-part.some in
     borrowed-in made content (source_of leaf) (place_of leaf from) (place_of leaf (to - 1) + 1) (omega (arith, some)) there-part.within is p
 code-part (Err e) content leaf from to read part is p = tt
+
+-- what is lent by these bytes of the source is a part of it
+lent-made : (made : CowStr) (source : List ℕ) (first last : ℕ) → IsPart source first last → IsLentBy (slice source first last) made → IsPartIfBorrowed source made
+lent-made (Boxed text) source first last part lent = tt
+lent-made (Borrowed text) source first last part lent = let some = part.some in record { start = first; end = last; ordered = omega (arith, some); within = part.within; are = lent }
+lent-made (Inlined text) source first last part lent = tt
+
+pub lent-part : {E : Type 0} (made : Result CowStr E) (leaf : LeafText) (from to : ℕ) → IsRead leaf → IsPart (text_of leaf) from to → IfOk made (IsLentBy (bytes_over leaf from to)) → IfOk made (IsPartIfBorrowed (source_of leaf))
+lent-part (Ok made) leaf from to read part lent = lent-made made (source_of leaf) (place_of leaf from) (place_of leaf (to - 1) + 1) (there leaf from to read part) lent
+lent-part (Err e) leaf from to read part lent = tt

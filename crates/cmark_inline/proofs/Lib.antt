@@ -18,3 +18,4 @@ pub mod SourcePlaces
 pub mod AngleMakes
 pub mod SpecialSteps
 pub mod SpanReads
+pub mod FormulaSteps

@@ -1,6 +1,6 @@
 -- What begins at runs of delimiters, at hyphens, dots and quotes.
 use Rattle.std.specs.Prelude.{Option, reverse, chars, encode_utf8, codes, if◌then◌else◌, not}
-use Rattle.std.proofs.Common.{◌≡◌, ◌⊎◌, inl, inr, ℕ, suc, ◌+◌, ◌-◌, ◌<◌, ◌≤◌, ◌==◌, ◌||◌, Bool, true, false, List, [], ◌∷◌, ◌++◌, length, take, drop, get_or, refl, sym, ap, ◌∙◌, arith, eqb-true}
+use Rattle.std.proofs.Common.{◌≡◌, ◌⊎◌, inl, inr, ℕ, suc, ◌+◌, ◌-◌, ◌<◌, ◌≤◌, ◌==◌, ◌&&◌, ◌||◌, Bool, true, false, List, [], ◌∷◌, ◌++◌, length, take, drop, get_or, refl, sym, ap, ◌∙◌, arith, eqb-true}
 use Rattle.std.specs.List.{prefix_len}
 use Rattle.std.proofs.lemmas.Bool.{or_cases, not-true, lt-ltb, le-ltb, false_from_ne_true}
 use Rattle.std.proofs.lemmas.List.{take-append-drop}
@@ -9,13 +9,14 @@ use lib.Utf8.{encode}
 use Rattle.cmark_grammar.specs.Answers.{Lookup}
 use Rattle.cmark_grammar.specs.Dashes.{dashes_of, dash_text}
 use Rattle.cmark_grammar.specs.Flanking.{Flanking, flanking}
-use Rattle.cmark_grammar.specs.InlineTokens.{first_of, item_at, run_at, run_or, hyphens, quote_at, smart_or, character_before, character_at}
-use Rattle.cmark_grammar.specs.Items.{Plain, Written, Quoted, Delimiters}
+use Rattle.cmark_grammar.specs.InlineTokens.{first_of, item_at, run_at, run_or, hyphens, quote_at, smart_or, character_before, character_at, before, dollar}
+use Rattle.cmark_grammar.specs.Formulas.{no_braces, braces_behind}
+use Rattle.cmark_grammar.specs.Items.{Plain, Written, Quoted, Delimiters, Token}
 use Rattle.cmark_grammar.specs.Letters.{starts}
 use Rattle.cmark_grammar.specs.Options.{Options}
 use Rattle.cmark_grammar.specs.Quotes.{quote_beside}
 use Rattle.cmark_inline.specs.Tokens.{whole, reading, begins_at, is_mark}
-use Rattle.cmark_inline.proofs.TokenSteps.{from-is, front, begins-with}
+use Rattle.cmark_inline.proofs.TokenSteps.{from-is, front, begins-with, unsigned}
 use Rattle.cmark_inline.proofs.ReadingOn.{before-is}
 
 module _ (o : Options) (l : Lookup) (text : List ℕ) (at : ℕ) (lt : at < length text) where
@@ -83,8 +84,11 @@ module _ (o : Options) (l : Lookup) (text : List ℕ) (at : ℕ) (lt : at < leng
 
   -- ## Typographic punctuation
   module _ (smart : o.smart_punctuation ≡ true) where
-    smart-begins : (b : ℕ) → begins_at o l text at ≡ (if o.smart_punctuation then smart_or (reading o l text) (whole text) at b else item_at Plain at (suc at)) → begins_at o l text at ≡ smart_or (reading o l text) (whole text) at b
-    smart-begins b is = is ∙ ap (λ z. if z then smart_or (reading o l text) (whole text) at b else item_at Plain at (suc at)) smart
+    abbrev signed : Token
+    signed = dollar (reading o l text) (whole text) at (drop (suc at) text) (braces_behind false (before (reading o l text) (whole text) at) no_braces)
+
+    smart-begins : (b : ℕ) → begins_at o l text at ≡ (if o.math && false then signed else if o.smart_punctuation then smart_or (reading o l text) (whole text) at b else item_at Plain at (suc at)) → begins_at o l text at ≡ smart_or (reading o l text) (whole text) at b
+    smart-begins b is = is ∙ unsigned o.math signed (if o.smart_punctuation then smart_or (reading o l text) (whole text) at b else item_at Plain at (suc at)) ∙ ap (λ z. if z then smart_or (reading o l text) (whole text) at b else item_at Plain at (suc at)) smart
 
     pub hyphens-begin : get_or text at 0 ≡ 45 → begins_at o l text at ≡ hyphens (reading o l text) (whole text) at (prefix_len (λ c. c == 45) (drop at text))
     hyphens-begin is = smart-begins 45 (begins-with o l text at 45 lt is) ∙ ap (λ x. hyphens (reading o l text) (whole text) at (prefix_len (λ c. c == 45) x)) (from-is o l text at)

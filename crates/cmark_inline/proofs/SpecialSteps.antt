@@ -7,13 +7,14 @@ use Rattle.std.proofs.lemmas.List.{get_or-drop}
 use Rattle.std.proofs.lemmas.List.Sums.{prefix_len_passes, prefix_len-le-length}
 use Rattle.cmark_grammar.specs.Answers.{Lookup}
 use Rattle.cmark_grammar.specs.Flanking.{Flanking, flanking}
-use Rattle.cmark_grammar.specs.InlineTokens.{item_at, bracket}
+use Rattle.cmark_grammar.specs.Formulas.{no_braces, braces_behind}
+use Rattle.cmark_grammar.specs.InlineTokens.{item_at, bracket, before, dollar}
 use Rattle.cmark_grammar.specs.Items.{Plain, Token, Opens, Closes}
 use Rattle.cmark_grammar.specs.Letters.{first_is}
 use Rattle.cmark_grammar.specs.Options.{Options}
 use Rattle.cmark_grammar.specs.SpecialBytes.{is_one_of, is_always_special, is_special}
-use Rattle.cmark_inline.specs.Tokens.{begins_at, is_mark, is_other}
-use Rattle.cmark_inline.proofs.TokenSteps.{begins-with}
+use Rattle.cmark_inline.specs.Tokens.{whole, reading, begins_at, is_mark, is_other}
+use Rattle.cmark_inline.proofs.TokenSteps.{begins-with, unsigned}
 
 -- ## Special bytes
 abbrev pub Kinds : Options → ℕ → Type 0
@@ -22,7 +23,7 @@ Kinds o b =
     ⊎ (((b == 124) ≡ true)
     ⊎ (((b == 126) ≡ true)
     ⊎ (((b == 94) ≡ true)
-    ⊎ ((is_one_of (codes "${}") b ≡ true)
+    ⊎ (((o.math ≡ true) × (is_one_of (codes "${}") b ≡ true))
     ⊎ ((o.smart_punctuation ≡ true) × (is_one_of (codes ".-\"'") b ≡ true))))))
 
 special-kinds : (o : Options) (b : ℕ) → is_special o b ≡ true → Kinds o b
@@ -32,7 +33,7 @@ special-kinds o b e = first (or_cases (is_always_special b) _ e)
     last x e f = inr (inr (inr (inr (inr (and_parts o.smart_punctuation (is_one_of (codes ".-\"'") b) (f ∙ e))))))
 
     fifth : ((o.math && is_one_of (codes "${}") b) ≡ true) ⊎ ((o.smart_punctuation && is_one_of (codes ".-\"'") b) ≡ true) → Kinds o b
-    fifth (inl h) = inr (inr (inr (inr (inl (and_parts o.math (is_one_of (codes "${}") b) h).1))))
+    fifth (inl h) = inr (inr (inr (inr (inl (and_parts o.math (is_one_of (codes "${}") b) h)))))
     fifth (inr h) = last true refl h
 
     fourth : ((o.superscript && (b == 94)) ≡ true) ⊎ (((o.math && is_one_of (codes "${}") b) || (o.smart_punctuation && is_one_of (codes ".-\"'") b)) ≡ true) → Kinds o b
@@ -63,7 +64,7 @@ smart-special o b is e = go is
     by n p q r s t (inr (inl h)) = no (sym q ∙ h)
     by n p q r s t (inr (inr (inl h))) = no (sym r ∙ h)
     by n p q r s t (inr (inr (inr (inl h)))) = no (sym s ∙ h)
-    by n p q r s t (inr (inr (inr (inr (inl h))))) = no (sym t ∙ h)
+    by n p q r s t (inr (inr (inr (inr (inl h))))) = no (sym t ∙ h.1)
     by n p q r s t (inr (inr (inr (inr (inr h))))) = h.0
 
     go : (b ≡ 46) ⊎ ((b ≡ 45) ⊎ ((b ≡ 34) ⊎ (b ≡ 39))) → o.smart_punctuation ≡ true
@@ -72,9 +73,24 @@ smart-special o b is e = go is
     go (inr (inr (inl h))) = by 34 refl refl refl refl refl (special-kinds o 34 (sym (ap (is_special o) h) ∙ e))
     go (inr (inr (inr h))) = by 39 refl refl refl refl refl (special-kinds o 39 (sym (ap (is_special o) h) ∙ e))
 
+-- a dollar sign is special with formulas alone
+pub math-special : (o : Options) (b : ℕ) → b ≡ 36 → is_special o b ≡ true → o.math ≡ true
+math-special o b is e = by (special-kinds o 36 (sym (ap (is_special o) is) ∙ e))
+  where
+    no : {A : Type 0} → false ≡ true → A
+    no h = absurd (true≢false (sym h))
+
+    by : Kinds o 36 → o.math ≡ true
+    by (inl h) = no h
+    by (inr (inl h)) = no h
+    by (inr (inr (inl h))) = no h
+    by (inr (inr (inr (inl h)))) = no h
+    by (inr (inr (inr (inr (inl h))))) = h.0
+    by (inr (inr (inr (inr (inr h))))) = no h.1
+
 -- the bytes at which a call of its own begins
 abbrev pub has_call : ℕ → Bool
-has_call b = is_one_of (codes "\n\r\\&`<![].-\"'") b
+has_call b = is_one_of (codes "\n\r\\&`<![].-\"'$") b
 
 -- a test that all signs pass
 abbrev AllPass : (ℕ → Bool) → List ℕ → Type 0
@@ -92,7 +108,7 @@ sign-passes f b (x ∷ xs) all e = go (sign-passes f b xs all.1) (or_cases (x ==
 abbrev is_known : ℕ → Bool
 is_known n = has_call n || (is_mark n || is_other n)
 
--- all others are marks, pipes, or signs of formulas
+-- all others are marks, pipes or braces
 pub other-special : (o : Options) (b : ℕ) → has_call b ≡ false → is_special o b ≡ true → (is_mark b ≡ true) ⊎ (is_other b ≡ true)
 other-special o b uncalled e = or_cases (is_mark b) (is_other b) (others (or_cases (has_call b) (is_mark b || is_other b) (known (special-kinds o b e))))
   where
@@ -104,7 +120,7 @@ other-special o b uncalled e = or_cases (is_mark b) (is_other b) (others (or_cas
     known (inr (inl h)) = here 124 h refl
     known (inr (inr (inl h))) = here 126 h refl
     known (inr (inr (inr (inl h)))) = here 94 h refl
-    known (inr (inr (inr (inr (inl h))))) = sign-passes is_known b (codes "${}") (refl, (refl, (refl, tt))) h
+    known (inr (inr (inr (inr (inl h))))) = sign-passes is_known b (codes "${}") (refl, (refl, (refl, tt))) h.1
     known (inr (inr (inr (inr (inr h))))) = sign-passes is_known b (codes ".-\"'") (refl, (refl, (refl, (refl, tt)))) h.1
 
     others : (has_call b ≡ true) ⊎ ((is_mark b || is_other b) ≡ true) → (is_mark b || is_other b) ≡ true
@@ -141,20 +157,22 @@ module _ (o : Options) (l : Lookup) (text : List ℕ) (at : ℕ) (lt : at < leng
   either-way true = ap (item_at Plain at) one-more
   either-way false = ap (item_at Plain at) one-more
 
+  abbrev signed : Token
+  signed = dollar (reading o l text) (whole text) at (drop (suc at) text) (braces_behind false (before (reading o l text) (whole text) at) no_braces)
+
+  no-sign : ◌≡◌ {A = Token} (if o.math && false then signed else if o.smart_punctuation then item_at Plain at (suc at) else item_at Plain at (suc at)) (item_at Plain at (at + 1))
+  no-sign = unsigned o.math signed (if o.smart_punctuation then item_at Plain at (suc at) else item_at Plain at (suc at)) ∙ either-way o.smart_punctuation
+
   other-stands : (b : ℕ) → get_or text at 0 ≡ b → is_other b ≡ true → begins_at o l text at ≡ item_at Plain at (at + 1)
-  other-stands b is e = go (or_cases (b == 124) ((b == 36) || ((b == 123) || (b == 125))) e)
+  other-stands b is e = go (or_cases (b == 124) ((b == 123) || (b == 125)) e)
     where
-      last : ((b == 123) ≡ true) ⊎ ((b == 125) ≡ true) → begins_at o l text at ≡ item_at Plain at (at + 1)
-      last (inl h) = begins-with o l text at 123 lt (is ∙ eqb-true b 123 h) ∙ either-way o.smart_punctuation
-      last (inr h) = begins-with o l text at 125 lt (is ∙ eqb-true b 125 h) ∙ either-way o.smart_punctuation
+      more : ((b == 123) ≡ true) ⊎ ((b == 125) ≡ true) → begins_at o l text at ≡ item_at Plain at (at + 1)
+      more (inl h) = begins-with o l text at 123 lt (is ∙ eqb-true b 123 h) ∙ no-sign
+      more (inr h) = begins-with o l text at 125 lt (is ∙ eqb-true b 125 h) ∙ no-sign
 
-      more : ((b == 36) ≡ true) ⊎ (((b == 123) || (b == 125)) ≡ true) → begins_at o l text at ≡ item_at Plain at (at + 1)
-      more (inl h) = begins-with o l text at 36 lt (is ∙ eqb-true b 36 h) ∙ either-way o.smart_punctuation
-      more (inr h) = last (or_cases (b == 123) (b == 125) h)
-
-      go : ((b == 124) ≡ true) ⊎ (((b == 36) || ((b == 123) || (b == 125))) ≡ true) → begins_at o l text at ≡ item_at Plain at (at + 1)
-      go (inl h) = begins-with o l text at 124 lt (is ∙ eqb-true b 124 h) ∙ either-way o.smart_punctuation
-      go (inr h) = more (or_cases (b == 36) ((b == 123) || (b == 125)) h)
+      go : ((b == 124) ≡ true) ⊎ (((b == 123) || (b == 125)) ≡ true) → begins_at o l text at ≡ item_at Plain at (at + 1)
+      go (inl h) = begins-with o l text at 124 lt (is ∙ eqb-true b 124 h) ∙ no-sign
+      go (inr h) = more (or_cases (b == 123) (b == 125) h)
 
 -- each byte of a run of them
 pub others-stand : (o : Options) (l : Lookup) (text : List ℕ) (at b end : ℕ) → get_or text at 0 ≡ b → is_other b ≡ true → end ≡ at + prefix_len (λ c. c == get_or text at 0) (drop at text)
@@ -174,19 +192,15 @@ none = record { opens = false; closes = false }
 
 -- such a run is no delimiter run
 pub others-flank : (o : Options) (b size : ℕ) (before after : Option ℕ) → is_other b ≡ true → flanking o b size before after ≡ record { opens = false; closes = false }
-others-flank o b size before after e = go (or_cases (b == 124) ((b == 36) || ((b == 123) || (b == 125))) e)
+others-flank o b size before after e = go (or_cases (b == 124) ((b == 123) || (b == 125)) e)
   where
     at-byte : (n : ℕ) → (b == n) ≡ true → flanking o n size before after ≡ none → flanking o b size before after ≡ none
     at-byte n h q = ap (λ m. flanking o m size before after) (eqb-true b n h) ∙ q
 
-    last : ((b == 123) ≡ true) ⊎ ((b == 125) ≡ true) → flanking o b size before after ≡ none
-    last (inl h) = at-byte 123 h refl
-    last (inr h) = at-byte 125 h refl
+    more : ((b == 123) ≡ true) ⊎ ((b == 125) ≡ true) → flanking o b size before after ≡ none
+    more (inl h) = at-byte 123 h refl
+    more (inr h) = at-byte 125 h refl
 
-    more : ((b == 36) ≡ true) ⊎ (((b == 123) || (b == 125)) ≡ true) → flanking o b size before after ≡ none
-    more (inl h) = at-byte 36 h refl
-    more (inr h) = last (or_cases (b == 123) (b == 125) h)
-
-    go : ((b == 124) ≡ true) ⊎ (((b == 36) || ((b == 123) || (b == 125))) ≡ true) → flanking o b size before after ≡ none
+    go : ((b == 124) ≡ true) ⊎ (((b == 123) || (b == 125)) ≡ true) → flanking o b size before after ≡ none
     go (inl h) = at-byte 124 h refl
-    go (inr h) = more (or_cases (b == 36) ((b == 123) || (b == 125)) h)
+    go (inr h) = more (or_cases (b == 123) (b == 125) h)

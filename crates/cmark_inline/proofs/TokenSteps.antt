@@ -1,7 +1,7 @@
 -- What begins at a place of a text that is read as a leaf of one stretch.
 use Rattle.std.specs.Prelude.{Option, Some, None, option_map, max, if◌then◌else◌}
 use Rattle.std.specs.Option.{option_or}
-use Rattle.std.proofs.Common.{◌≡◌, ◌⊎◌, inl, inr, ℕ, zero, suc, ◌+◌, ◌-◌, ◌<◌, ◌≤◌, ◌==◌, Bool, true, false, List, [], ◌∷◌, length, take, drop, get_or, refl, sym, ap, subst, ◌∙◌, arith, cond, eqb-true, length-drop, drop-drop, true≢false}
+use Rattle.std.proofs.Common.{◌≡◌, ◌⊎◌, inl, inr, ℕ, zero, suc, ◌+◌, ◌-◌, ◌<◌, ◌≤◌, ◌==◌, ◌&&◌, Bool, true, false, List, [], ◌∷◌, length, take, drop, get_or, refl, sym, ap, subst, ◌∙◌, arith, cond, eqb-true, length-drop, drop-drop, true≢false}
 use Rattle.std.specs.List.{take_while}
 use Rattle.std.proofs.Math.Seq.{drop-cons}
 use Rattle.std.proofs.lemmas.Bool.{or_cases}
@@ -34,6 +34,11 @@ blank-breaks b e = go (or_cases (b == 32) (b == 9) e)
     go : ((b == 32) ≡ true) ⊎ ((b == 9) ≡ true) → IsBreakByte b
     go (inl h) = inl (eqb-true b 32 h)
     go (inr h) = inr (inl (eqb-true b 9 h))
+
+-- where no dollar sign stands, none is read
+pub unsigned : {A : Type 0} (z : Bool) (x y : A) → (if z && false then x else y) ≡ y
+unsigned true x y = refl
+unsigned false x y = refl
 
 module _ (o : Options) (l : Lookup) (text : List ℕ) where
   abbrev r : Reader

@@ -16,7 +16,7 @@ use Rattle.cmark_inline.specs.declared.slot.SlotKind.TheVariants as kind
 use Rattle.cmark_inline.specs.declared.state.InlineState.{InlineState}
 use Rattle.cmark_inline.specs.declared.step.Cursor.{Cursor}
 
--- what a code span holds is a part of the text
+-- what a code span or a formula holds is a part of the text
 abbrev pub IsContent : List ℕ → SlotKind → Type 0
 IsContent text kind.Text = Unit {0}
 IsContent text (kind.OwnedText index) = Unit {0}
@@ -25,6 +25,8 @@ IsContent text (kind.Whole last) = Unit {0}
 IsContent text kind.SoftBreak = Unit {0}
 IsContent text kind.HardBreak = Unit {0}
 IsContent text (kind.Code from to) = IsCharBoundary text from × IsCharBoundary text to
+IsContent text (kind.InlineMath from to) = IsCharBoundary text from × IsCharBoundary text to
+IsContent text (kind.DisplayMath from to) = IsCharBoundary text from × IsCharBoundary text to
 IsContent text kind.InlineHtml = Unit {0}
 IsContent text (kind.SourceHtml end) = Unit {0}
 IsContent text (kind.Begin element) = Unit {0}
@@ -67,6 +69,8 @@ begins_link (kind.Whole last) = false
 begins_link kind.SoftBreak = false
 begins_link kind.HardBreak = false
 begins_link (kind.Code from to) = false
+begins_link (kind.InlineMath from to) = false
+begins_link (kind.DisplayMath from to) = false
 begins_link kind.InlineHtml = false
 begins_link (kind.SourceHtml end) = false
 begins_link (kind.Begin element) = is_link element

@@ -6,7 +6,7 @@ use Rattle.cmark_grammar.specs.CodeSpans.{is_backtick, backticks, code_in, code_
 use Rattle.cmark_grammar.specs.Columns.{is_blank_byte}
 use Rattle.cmark_grammar.specs.InlineTokens as tokens
 use Rattle.cmark_grammar.specs.InlineTokens.{item_at}
-use Rattle.cmark_grammar.specs.Items.{ItemKind, Plain, Own, Written, Quoted, Delimiters, Code, Autolink, Html, OwnedHtml, SoftBreak, HardBreak, Item, Token, Stands, Opens}
+use Rattle.cmark_grammar.specs.Items.{ItemKind, Plain, Own, Written, Quoted, Delimiters, Code, InlineMath, DisplayMath, Autolink, Html, OwnedHtml, SoftBreak, HardBreak, Item, Token, Stands, Opens}
 use Rattle.cmark_grammar.specs.LeafText.{Leaf}
 use Rattle.cmark_grammar.specs.Letters.{first_is}
 use Rattle.cmark_grammar.specs.LinkDefinitions.{Found}
@@ -31,11 +31,11 @@ use Rattle.cmark_inline.specs.declared.step.Cursor.{Cursor}
 abbrev pub whole : (text : List ℕ) → Leaf
 whole text = record { stretches = record { start = 0; end = length text } ∷ []; is_cell = false }
 
--- what it is read with; no formulas are read yet
+-- what it is read with
 abbrev pub reading : Options → Lookup → (text : List ℕ) → Reader
 reading options lookup text = record {
   source = text;
-  options = record options { math = false };
+  options = options;
   lookup = lookup;
   definition = λ folded. None;
   has_footnote = λ folded. false;
@@ -65,6 +65,8 @@ Says text texts start end Own kind.Text = Unit {0}
 Says text texts start end (Written bytes) (kind.OwnedText index) = (owned : CowStr) × (slice_get texts index ≡ Some owned) × (text_bytes owned ≡ bytes)
 Says text texts start end (Written bytes) (kind.Character character) = encode_utf8 character ≡ bytes
 Says text texts start end (Code bytes) (kind.Code from to) = code_text (slice text from to) ≡ bytes
+Says text texts start end (InlineMath bytes) (kind.InlineMath from to) = slice text from to ≡ bytes
+Says text texts start end (DisplayMath bytes) (kind.DisplayMath from to) = slice text from to ≡ bytes
 Says text texts start end Html kind.InlineHtml = Unit {0}
 Says text texts start end (OwnedHtml bytes) kind.InlineHtml = slice text start end ≡ bytes
 Says text texts start end SoftBreak kind.SoftBreak = Unit {0}
@@ -97,9 +99,9 @@ pub record Passes (options : Options) (lookup : Lookup) (text : List ℕ) (here 
   pub pending : next.pending ≡ here.pending
   pub same : new ≡ old
 
--- pipes, and the signs of formulas, which no call reads yet
+-- pipes, and the braces of the contexts of formulas, which stand for themselves
 abbrev pub is_other : ℕ → Bool
-is_other b = (b == 124) || ((b == 36) || ((b == 123) || (b == 125)))
+is_other b = (b == 124) || ((b == 123) || (b == 125))
 
 -- nothing was appended: from the place that was reached to the next one each byte is an item that stands for itself
 pub record PassesOver (options : Options) (lookup : Lookup) (text : List ℕ) (here : Cursor) (old new : InlineState) (next : Cursor) : Type 0 where

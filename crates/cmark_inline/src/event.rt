@@ -223,6 +223,12 @@ impl<'a> InlineState<'a> {
             SlotKind::SoftBreak => Ok(Event::SoftBreak),
             SlotKind::HardBreak => Ok(Event::HardBreak),
             SlotKind::Code(from, to) => Ok(Event::Code(code_of(self.alloc, leaf, from, to)?)),
+            SlotKind::InlineMath(from, to) => {
+                Ok(Event::InlineMath(formula_of(self.alloc, leaf, from, to)?))
+            }
+            SlotKind::DisplayMath(from, to) => {
+                Ok(Event::DisplayMath(formula_of(self.alloc, leaf, from, to)?))
+            }
             SlotKind::InlineHtml => Ok(Event::InlineHtml(text_between(
                 self.alloc, leaf, slot.start, slot.end,
             )?)),
@@ -367,4 +373,24 @@ fn code_of<'a>(
         Some(content) => code_text(alloc, content),
         None => code_text(alloc, &leaf.as_str()[from..to])?.into_static(alloc),
     }
+}
+
+// What a formula holds, with its line endings and blanks: borrowed where it stands in the source without a gap.
+fn formula_of<'a>(
+    alloc: Global,
+    leaf: &LeafText<'a>,
+    from: usize,
+    to: usize,
+) -> Result<CowStr<'a>, AllocError>
+    requires read { IsRead leaf.now }
+    requires starts { IsCharBoundary (text_of leaf.now) from }
+    requires ends { IsCharBoundary (text_of leaf.now) to }
+    ensures value { IfOk result (λ text. text_bytes text ≡ slice (text_of leaf.now) from to) }
+    ensures lent { place_of leaf.now (to - 1) + 1 ≡ place_of leaf.now from + (to - from) → IfOk result IsBorrowed }
+    ensures part { IfOk result (IsPartIfBorrowed (source_of leaf.now)) }
+{
+    if from >= to {
+        return Ok(CowStr::Borrowed(""));
+    }
+    text_between(alloc, leaf, from, to)
 }

@@ -38,6 +38,10 @@ pub enum SlotKind {
     HardBreak,
     /// A code span, with the range of what it holds.
     Code(usize, usize),
+    /// A formula in the line, with the range of what it holds.
+    InlineMath(usize, usize),
+    /// A display, with the range of what it holds.
+    DisplayMath(usize, usize),
     /// A tag: the bytes of its range.
     InlineHtml,
     /// Inline HTML that is a part of the source, up to before this place there.

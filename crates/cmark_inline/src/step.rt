@@ -3,6 +3,7 @@
 ghost use Rattle.std.specs.Prelude.{◌≡◌, ◌==◌, ◌⊎◌, true, false, ◌<◌, ◌≤◌, ◌+◌, ◌-◌, ◌++◌, ◌∷◌, ℕ, List, [], drop, length, slice_index, IfOk, OnOk, IfSome};
 ghost use Rattle.std.specs.Str.{IsCharBoundary};
 ghost use Rattle.cmark_finds.specs.Backticks.{AreRunsOf};
+ghost use Rattle.cmark_finds.specs.Dollars.{AreDollarsOf};
 ghost use Rattle.cmark_leaf_text.specs.Reads.{IsRead, IsPart, text_of};
 ghost use Rattle.cmark_inline.specs.Asking.{AsksBetween, AsksUpTo, closing_brackets};
 ghost use Rattle.cmark_inline.specs.Stands.{AreSlots, AreBrackets, IsBracket, IsCursor, IsSlot, IsTarget, Moves, SameSpans, Stands, PushesText, begins_link, bytes_of};
@@ -20,7 +21,7 @@ use crate::place::behind;
 use crate::read::Reader;
 use crate::slot::{Slot, push_slot, push_text};
 use crate::state::InlineState;
-use cmark_finds::BacktickRuns;
+use cmark_finds::{BacktickRuns, Dollars};
 use cmark_leaf_text::LeafText;
 use cmark_text::EntityLookup;
 use std::alloc::AllocError;
@@ -34,10 +35,11 @@ pub struct Cursor {
     pub at: usize,
 }
 
-/// What the searches in one leaf remember: its runs of backticks, and the markup that was sought in vain.
+/// What the searches in one leaf remember: its runs of backticks, its dollar signs, and the markup that was sought in vain.
 #[derive(Drop)]
 pub struct Sought {
     pub runs: BacktickRuns,
+    pub dollars: Dollars,
     pub unclosed: Unclosed,
 }
 
@@ -60,6 +62,7 @@ impl<'a> InlineState<'a> {
         let text = leaf.as_str();
         let mut sought = Sought {
             runs: BacktickRuns::new(self.alloc),
+            dollars: Dollars::new(self.alloc),
             unclosed: Unclosed::none(),
         };
         let mut cursor = Cursor { pending: 0, at: 0 };
@@ -84,6 +87,7 @@ impl<'a> InlineState<'a> {
         cursor: Cursor,
     ) -> Result<Cursor, AllocError>
         requires runs { AreRunsOf text.now sought.old.runs }
+        requires dollars { AreDollarsOf text.now sought.old.dollars }
         requires stands { Stands text.now cursor.pending self.old }
         requires cursor { IsCursor text.now cursor }
         requires more { cursor.at < length text.now }
@@ -91,6 +95,7 @@ impl<'a> InlineState<'a> {
         requires same { text.now ≡ text_of leaf.now }
         requires kept { AreUnclosed leaf.now cursor.at sought.old.unclosed }
         ensures runs { AreRunsOf text.now sought.new.runs }
+        ensures dollars { AreDollarsOf text.now sought.new.dollars }
         ensures kept { IfOk result (λ next. AreUnclosed leaf.now next.at sought.new.unclosed) }
         ensures asks { AsksBetween F.answers text.now cursor.at (length text.now) callback.old callback.new }
         ensures asks_here { IfOk result (λ next. AsksBetween F.answers text.now cursor.at next.at callback.old callback.new) }
@@ -126,6 +131,7 @@ impl<'a> InlineState<'a> {
         here: Cursor,
     ) -> Result<Cursor, AllocError>
         requires runs { AreRunsOf text.now sought.old.runs }
+        requires dollars { AreDollarsOf text.now sought.old.dollars }
         requires stands { Stands text.now here.pending self.old }
         requires cursor { IsCursor text.now here }
         requires here { here.at < length text.now }
@@ -134,6 +140,7 @@ impl<'a> InlineState<'a> {
         requires same { text.now ≡ text_of leaf.now }
         requires kept { AreUnclosed leaf.now here.at sought.old.unclosed }
         ensures runs { AreRunsOf text.now sought.new.runs }
+        ensures dollars { AreDollarsOf text.now sought.new.dollars }
         ensures kept { AreUnclosed leaf.now here.at sought.new.unclosed }
         ensures expansion { self.new.expansion ≡ self.old.expansion }
         ensures moves { IfOk result (Moves text.now here.at self.new) }
@@ -146,6 +153,7 @@ impl<'a> InlineState<'a> {
             b'`' => self.backticks(&mut sought.runs, text, here),
             b'<' => self.less_than(&mut sought.unclosed, leaf, text, here),
             b'!' => self.exclamation(text, here),
+            b'$' => self.dollar(&mut sought.dollars, text, here),
             b'[' => {
                 let next = self.open_bracket(text, here, behind(text, here.at), false)?;
                 Ok(next)

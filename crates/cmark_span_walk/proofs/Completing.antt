@@ -79,8 +79,8 @@ module _ (source : List ℕ) where
       by (End tag) is h = end-part ones open_ones next r rs tag h.0 is e h.1 h.2 go
       by (Text text) is h = alone (Text text) is h.0 h.1
       by (Code text) is h = alone (Code text) is h.0 h.1
-      by (InlineMath text) is h = absurd h.0
-      by (DisplayMath text) is h = absurd h.0
+      by (InlineMath text) is h = alone (InlineMath text) is h.0 h.1
+      by (DisplayMath text) is h = alone (DisplayMath text) is h.0 h.1
       by (Html text) is h = absurd h.0
       by (InlineHtml text) is h = alone (InlineHtml text) is h.0 h.1
       by (FootnoteReference label) is h = absurd h.0

@@ -30,10 +30,13 @@ IsPartIfBorrowed source (Boxed text) = Unit {0}
 IsPartIfBorrowed source (Inlined text) = Unit {0}
 
 -- Texts and HTML are borrowed exactly where they are the bytes of their range, so that none is copied without need, and what is
--- borrowed is nothing else. Code is borrowed only where it is a part of the source: its range has the backticks too
+-- borrowed is nothing else. Code and formulas are borrowed only where they are a part of the source: their range has the backticks and
+-- the dollar signs too
 abbrev pub IsZeroCopy : (source : List ℕ) → Event → (start end : ℕ) → Type 0
 IsZeroCopy source (event.Text text) start end = IsLentBy (slice source start end) text
 IsZeroCopy source (event.Html text) start end = IsLentBy (slice source start end) text
 IsZeroCopy source (event.InlineHtml text) start end = IsLentBy (slice source start end) text
 IsZeroCopy source (event.Code text) start end = IsPartIfBorrowed source text
+IsZeroCopy source (event.InlineMath text) start end = IsPartIfBorrowed source text
+IsZeroCopy source (event.DisplayMath text) start end = IsPartIfBorrowed source text
 IsZeroCopy source _ start end = Unit {0}

@@ -67,7 +67,7 @@ pub static FLAGS: [LineFlag; 15] = [
     LineFlag {
         name: "math",
         option: Options::ENABLE_MATH,
-        help: "Formulas: $a$ and $$a$$ (no effect yet)",
+        help: "Formulas: $a$ and $$a$$",
     },
     LineFlag {
         name: "gfm",

@@ -1,5 +1,6 @@
 use Rattle.std.proofs.Common.{◌≡◌, ◌-◌, length, take}
 use Rattle.cmark_finds.specs.Backticks.{AreRunsOf}
+use Rattle.cmark_finds.specs.Dollars.{AreDollarsOf}
 use Rattle.cmark_inline.specs.Asking.{AsksUpTo, closing_brackets}
 use Rattle.cmark_inline.specs.FoundInSource.{AreUnclosed}
 use Rattle.cmark_inline.specs.Stands.{Stands, IsCursor}
@@ -13,6 +14,7 @@ invariant-loop-cursor g l =
     × (l.initial.self.expansion ≡ 0 → (l.callback ≡ l.initial.callback) × (l.self.expansion ≡ 0))
     × AreRunsOf l.text l.sought.runs
     × AreUnclosed l.leaf l.cursor.at l.sought.unclosed
+    × AreDollarsOf l.text l.sought.dollars
 
 abbrev pub decreases-loop-cursor : goal.decreases-loop-cursor
 decreases-loop-cursor g l = length l.text - l.cursor.at

@@ -5,7 +5,7 @@ use Rattle.cmark_grammar.specs.Options.{Options}
 use Rattle.cmark_grammar.specs.SpecialBytes.{is_special}
 use Rattle.cmark_text.specs.Shown.{shown_options}
 use Rattle.cmark_inline.proofs.SpanReads.{appends, appends-quote, backslash-reads, backticks-read, passes-or-appends, passes-or-opens, passes-over, run-reads}
-use Rattle.cmark_inline.proofs.SpecialSteps.{has_call, other-special, smart-special}
+use Rattle.cmark_inline.proofs.SpecialSteps.{has_call, other-special, smart-special, math-special}
 use Rattle.cmark_inline.proofs.state.InlineState.span.Goals as goal
 
 pub returns-in-10-clause-token : goal.returns-in-10-clause-token
@@ -49,6 +49,14 @@ returns-in-33-clause-token g c = λ special other.
     let l : Lookup = g.E.EntityLookup.replacement c.args.reader.now.entities.now in
     IfOk-weaker c.exclamation.result _ _ (passes-or-opens o l c.args.leaf.now c.args.text.now c.requires.same c.args.here c.args.self.now c.exclamation.new.self)
     (c.exclamation.ensures.token o l (subst (λ (bs : List ℕ). get_or bs c.args.here.at 0 ≡ 33) c.as_bytes.ensures.value c.in-33.is))
+
+pub returns-in-36-clause-token : goal.returns-in-36-clause-token
+returns-in-36-clause-token g c = λ special other.
+    let o : Options = shown_options c.args.reader.now.options in
+    let l : Lookup = g.E.EntityLookup.replacement c.args.reader.now.entities.now in
+    let is = subst (λ (bs : List ℕ). get_or bs c.args.here.at 0 ≡ 36) c.as_bytes.ensures.value c.in-36.is in
+    IfOk-weaker c.dollar.result _ _ (appends o l c.args.leaf.now c.args.text.now c.requires.same c.args.here c.args.self.now c.dollar.new.self)
+    (c.dollar.ensures.token o l (math-special o (get_or c.args.text.now c.args.here.at 0) is special))
 
 pub returns-in-46-clause-token : goal.returns-in-46-clause-token
 returns-in-46-clause-token g c = λ special other.

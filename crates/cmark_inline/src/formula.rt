@@ -1,0 +1,66 @@
+//! Formulas between dollar signs (this profile's own).
+
+ghost use Rattle.std.specs.Prelude.{◌≡◌, ◌<◌, ◌≤◌, ◌+◌, ◌++◌, ◌∷◌, true, false, if◌then◌else◌, ℕ, List, [], length, slice_index, IfOk, OnOk, IfSome};
+ghost use Rattle.std.specs.Str.{IsCharBoundary};
+ghost use Rattle.cmark_grammar.specs.Answers.{Lookup};
+ghost use Rattle.cmark_grammar.specs.Options.{Options};
+ghost use Rattle.cmark_finds.specs.Dollars.{AreDollarsOf};
+ghost use Rattle.cmark_inline.specs.Stands.{IsCursor, IsSlot, Moves, Stands, begins_link};
+ghost use Rattle.cmark_inline.specs.Tokens.{Appends};
+ghost use Rattle.cmark_inline.specs.declared.slot.SlotKind.TheVariants as slot_kind;
+
+use crate::place::behind;
+use crate::slot::{Slot, SlotKind};
+use crate::state::InlineState;
+use crate::step::Cursor;
+use cmark_finds::{Dollars, Formula};
+use std::alloc::AllocError;
+
+impl<'a> InlineState<'a> {
+    // A dollar sign: it opens a formula, or it is a text. `dollars` are those of this text.
+    pub(crate) fn dollar(
+        &mut self,
+        dollars: &mut Dollars,
+        text: &str,
+        here: Cursor,
+    ) -> Result<Cursor, AllocError>
+        requires dollars { AreDollarsOf text.now dollars.old }
+        requires stands { Stands text.now here.pending self.old }
+        requires cursor { IsCursor text.now here }
+        requires here { here.at < length text.now }
+        requires dollar { slice_index text.now here.at ≡ 36 }
+        ensures dollars { AreDollarsOf text.now dollars.new }
+        ensures expansion { self.new.expansion ≡ self.old.expansion }
+        ensures moves { IfOk result (Moves text.now here.at self.new) }
+        ensures token { (options : Options) (lookup : Lookup) → options.math ≡ true → IfOk result (Appends options lookup text.now here self.old self.new) }
+    {
+        if let Some(formula) = dollars.formula(text, here.at)? {
+            let slot = Slot {
+                kind: kind_of(formula),
+                start: here.at,
+                end: formula.end,
+            };
+            let next = self.put(text, here, here.at, slot)?;
+            return Ok(next);
+        }
+        let slot = Slot {
+            kind: SlotKind::Text,
+            start: here.at,
+            end: behind(text, here.at),
+        };
+        let next = self.put(text, here, here.at, slot)?;
+        Ok(next)
+    }
+}
+
+/// What the slot of a formula stands for.
+fn kind_of(formula: Formula) -> SlotKind
+    ensures value { result ≡ (if formula.is_display then slot_kind.DisplayMath formula.content_start formula.content_end else slot_kind.InlineMath formula.content_start formula.content_end) }
+    ensures link { begins_link result ≡ false }
+{
+    if formula.is_display {
+        SlotKind::DisplayMath(formula.content_start, formula.content_end)
+    } else {
+        SlotKind::InlineMath(formula.content_start, formula.content_end)
+    }
+}
