@@ -4,7 +4,7 @@ use cmark_lines::{
     Container, ContainerStart, Further, HtmlKind, ItemStart, LineRest, Opening, Verbatim,
     ends_at_once, interrupts, underlines, what_opens,
 };
-use cmark_text::HeadingLevel;
+use cmark_text::{BlockQuoteKind, HeadingLevel};
 use std::test::Fail;
 
 /// The line behind the marker of the container that it begins; the line itself, where it begins none.
@@ -132,6 +132,16 @@ fn a_quote_keeps_lines_with_its_marker(rt: HostRuntime) -> Result<(), Fail> {
             .is_none(),
         true
     );
+    Ok(())
+}
+
+#[test]
+fn a_tag_directly_behind_a_marker_makes_an_alert(rt: HostRuntime) -> Result<(), Fail> {
+    let tag = LineRest::new(b"[!Tip] ", 0);
+    assert_eq!(rt; tag.alert_kind(true), Some(BlockQuoteKind::Tip));
+    assert_eq!(rt; tag.alert_kind(false), None);
+    let indented = LineRest::new(b" [!Tip]", 0);
+    assert_eq!(rt; indented.alert_kind(true), None);
     Ok(())
 }
 

@@ -5,7 +5,7 @@ use Rattle.cmark_grammar.specs.Answers.{Lookup}
 use Rattle.cmark_grammar.specs.BlockDocument.{BlockKind, ListItem, Text, OwnedText, Html, BlockNode, BlockDocument, Nil, Node, node}
 use Rattle.cmark_grammar.specs.BlockReading.{Reads, Around, Inside, Alone, Silent, read_as}
 use Rattle.cmark_grammar.specs.Blocks.{Blocks, Nil as NoBlocks, BlankLine, Paragraph as ParagraphBlock, SetextHeading, LeafBlock, ContainerBlock, may_lazy, Body}
-use Rattle.cmark_grammar.specs.Containers.{Container, Quote, Item, enter, strips, is_bare_start, insides}
+use Rattle.cmark_grammar.specs.Containers.{Container, Quote, Item, is_alert, unless_tag, enter, strips, is_bare_start, insides}
 use Rattle.cmark_grammar.specs.Derivation.{leaf_then, item_then, document_of, Derives}
 use Rattle.cmark_grammar.specs.Lines.{lines, ends_line, onto, is_content, line_feed, carriage_return, begins_with_line_feed}
 use Rattle.cmark_grammar.specs.Lists.{ListBefore, tight_behind, goes_on}
@@ -79,8 +79,18 @@ rows_strip text k bare (r ∷ (s ∷ rs)) h =
 
 rows_inside : (text : List ℕ) (k : Container) (first : Row) (more : List Row) → RowsEnd text (first ∷ more) → RowsEnd text (insides k first more)
 unfolding enter
-rows_inside text k first [] h = (inl refl, tt)
-rows_inside text k first (r ∷ more) h = (⊎_elim (λ e. absurd (let d : ⊥ = cc in d)) inr h.0, rows_strip text k (is_bare_start k first) (r ∷ more) h.1)
+rows_inside text k first more h = go (is_alert k) (begins more h)
+  where
+    others : RowsEnd text (strips k (is_bare_start k first) more)
+    others = rows_strip text k (is_bare_start k first) more h.1
+
+    begins : (more : List Row) → RowsEnd text (first ∷ more) → (strips k (is_bare_start k first) more ≡ []) ⊎ EndsLine text (enter k first).past
+    begins [] h = inl refl
+    begins (r ∷ more) h = ⊎_elim (λ e. absurd (let d : ⊥ = cc in d)) inr h.0
+
+    go : (is_tag : Bool) → (strips k (is_bare_start k first) more ≡ []) ⊎ EndsLine text (enter k first).past → RowsEnd text (unless_tag is_tag (enter k first) (strips k (is_bare_start k first) more))
+    go true e = others
+    go false e = (e, others)
 
 last_ends : (text before line after : List ℕ) → text ≡ before ++ (line ++ after) → LastEnds line → EndsLine text (length before + length line)
 last_ends text before [] after e a = absurd (let z : ⊥ = a in z)
@@ -229,11 +239,11 @@ document_of_lines text options lookup direct before behind all (LeafBlock leaf f
     let c : RowsEnd text ((first ∷ more) ++ body.rest) = subst (RowsEnd text) body.cut g in
     let s = rows_split text (first ∷ more) body.rest c in
     leaf_of_lines text options lookup leaf first more (document_of text options lookup direct None after) (document_of_lines text options lookup direct None (may_lazy leaf) body.rest after body.after s.1)
-document_of_lines text options lookup direct before behind all (ContainerBlock Quote first more inside after) body g =
+document_of_lines text options lookup direct before behind all (ContainerBlock (Quote alert) first more inside after) body g =
     let c : RowsEnd text ((first ∷ more) ++ body.rest) = subst (RowsEnd text) body.cut g in
     let s = rows_split text (first ∷ more) body.rest c in (
       no_leaf text (document_of text options lookup false None inside),
-      document_of_lines text options lookup false None false (insides Quote first more) inside body.contents (rows_inside text Quote first more s.0),
+      document_of_lines text options lookup false None (is_alert (Quote alert)) (insides (Quote alert) first more) inside body.contents (rows_inside text (Quote alert) first more s.0),
       document_of_lines text options lookup direct None false body.rest after body.after s.1,
     )
 document_of_lines text options lookup direct before behind all (ContainerBlock (Item mark number width) first more inside after) body g =
