@@ -1,8 +1,10 @@
 //! Tests of the items' tables, with ample memory.
 
 use bitflags::Flags;
-use cmark_items::{Allocations, Item, ItemBody, LinkDef, ListFlags, RefDefs};
-use cmark_text::{Alignment, CowStr, LinkLabel, LinkType};
+use cmark_items::{
+    Allocations, FootnoteDef, FootnoteDefs, Item, ItemBody, LinkDef, ListFlags, RefDefs,
+};
+use cmark_text::{Alignment, CowStr, FootnoteLabel, LinkLabel, LinkType};
 use cmark_tree::TreeSpan;
 use std::alloc::{AllocError, Global};
 use std::test::Fail;
@@ -84,6 +86,21 @@ fn each_label_comes_once(rt: HostRuntime) -> Result<(), Fail> {
 fn copies_of_a_definition_are_equal(rt: HostRuntime) -> Result<(), Fail> {
     let copy = definition("/1").clone(rt.alloc())?;
     assert_eq!(rt; copy.into_static(rt.alloc())?.dest.as_str(), "/1");
+    Ok(())
+}
+
+#[test]
+fn the_first_footnote_of_a_label_stays(rt: HostRuntime) -> Result<(), Fail> {
+    let mut defs = FootnoteDefs::new(rt.alloc());
+    let first = FootnoteLabel::new(rt.alloc(), "A  b")?;
+    defs.insert(first, FootnoteDef { use_count: 4 })?;
+    let second = FootnoteLabel::new(rt.alloc(), "a B")?;
+    defs.insert(second, FootnoteDef { use_count: 0 })?;
+    assert_eq!(rt; defs.count_use("a b")?, true);
+    assert_eq!(rt; defs.count_use("c")?, false);
+    assert_eq!(rt; defs.contains("c")?, false);
+    assert_eq!(rt; defs.contains(" A b")?, true);
+    assert_eq!(rt; defs.get_mut("a b")?.map(|def| def.use_count), Some(5));
     Ok(())
 }
 

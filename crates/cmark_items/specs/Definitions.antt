@@ -1,4 +1,4 @@
--- What a table of link reference definitions contains (CommonMark 4.7).
+-- What a table of link reference definitions contains (CommonMark 4.7), and one of footnote definitions.
 use Rattle.std.specs.Prelude.{ℕ, List, map, bytes_eq, if◌then◌else◌, Option, Some, None, option_map}
 use Rattle.std.specs.Borrow.{Bor}
 use Rattle.std.specs.BTreeMap.{get_by}
@@ -24,12 +24,12 @@ abbrev pub definitions : RefDefs → List (List ℕ × LinkDef)
 definitions table = map entry table.defs.entries
 
 -- what there is, or else this one
-abbrev pub first_of : Option LinkDef → Option LinkDef → Option LinkDef
+abbrev pub first_of : {D : Type 0} → Option D → Option D → Option D
 first_of (Some def) other = Some def
 first_of None other = other
 
 -- the definition, if the folded labels are the same
-abbrev pub at_label : (label : List ℕ) → LinkDef → (folded : List ℕ) → Option LinkDef
+abbrev pub at_label : {D : Type 0} → (label : List ℕ) → D → (folded : List ℕ) → Option D
 at_label label def folded = if bytes_eq folded label then Some def else None
 
 -- what is left of an iterator over them

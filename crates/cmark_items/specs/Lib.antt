@@ -1,4 +1,5 @@
 pub mod Definitions
+pub mod Footnotes
 pub mod Headings
 pub mod ItemNodes
 pub mod Spans

@@ -7,17 +7,19 @@ use Rattle.cmark_text.specs.declared.kind.LinkType.TheVariants.{ShortcutUnknown}
 use Rattle.cmark_items.specs.declared.allocations.Allocations.{Allocations}
 use Rattle.cmark_items.specs.declared.allocations.Link.{Link}
 use Rattle.cmark_items.specs.declared.definitions.RefDefs.{RefDefs}
+use Rattle.cmark_items.specs.declared.footnotes.FootnoteDefs.{FootnoteDefs}
 
 -- the texts, the links and images and the alignments of tables, each at its index, and the
--- link reference definitions
+-- link reference definitions, and those of footnotes
 pub record Tables : Type 0 where
   pub texts : List CowStr
   pub links : List Link
   pub alignments : List (List Alignment)
   pub references : RefDefs
+  pub footnotes : FootnoteDefs
 
 abbrev pub tables : Allocations → Tables
-tables a = record { texts = a.texts.items; links = a.links.items; alignments = map (λ row. row.items) a.alignments.items; references = a.refdefs }
+tables a = record { texts = a.texts.items; links = a.links.items; alignments = map (λ row. row.items) a.alignments.items; references = a.refdefs; footnotes = a.footdefs }
 
 abbrev pub with_text : CowStr → Tables → Tables
 with_text text t = record t { texts = t.texts ++ text ∷ [] }

@@ -2,9 +2,11 @@
 
 ghost use Rattle.std.specs.Prelude.{◌≡◌, ◌<◌, ◌++◌, ◌∷◌, [], length, IfOk, OnOk, OnErr, slice_get, Some, None, List, ℕ};
 ghost use Rattle.cmark_items.specs.Definitions.{definition};
+ghost use Rattle.cmark_items.specs.Footnotes.{footnote};
 ghost use Rattle.cmark_items.specs.Tables.{Tables, tables, with_text, with_link, with_alignments, LeavesNoText, LeavesNoLink, without_alignments};
 
 use crate::definitions::RefDefs;
+use crate::footnotes::FootnoteDefs;
 use cmark_text::{Alignment, CowStr, LinkType};
 use std::alloc::{AllocError, Global};
 use std::mem;
@@ -35,7 +37,7 @@ pub struct Link<'a> {
     pub id: CowStr<'a>,
 }
 
-/// The tables that the items of a tree point into, and the definitions of links.
+/// The tables that the items of a tree point into, and the definitions of links and footnotes.
 ///
 /// An index is good for the table that gave it. What is allocated stays at its index; what is taken leaves an empty value
 /// there.
@@ -43,6 +45,8 @@ pub struct Link<'a> {
 pub struct Allocations<'a> {
     /// The link reference definitions of the text.
     pub refdefs: RefDefs<'a>,
+    /// The footnotes that the text defines.
+    pub footdefs: FootnoteDefs,
     texts: Vec<CowStr<'a>>,
     links: Vec<Link<'a>>,
     alignments: Vec<Vec<Alignment>>,
@@ -56,9 +60,11 @@ impl<'a> Allocations<'a> {
         ensures links { (tables result).links ≡ [] }
         ensures alignments { (tables result).alignments ≡ [] }
         ensures references { (folded : List ℕ) → definition (tables result).references folded ≡ None }
+        ensures footnotes { (folded : List ℕ) → footnote (tables result).footnotes folded ≡ None }
     {
         Allocations {
             refdefs: RefDefs::new(alloc),
+            footdefs: FootnoteDefs::new(alloc),
             texts: Vec::new(alloc),
             links: Vec::new(alloc),
             alignments: Vec::new(alloc),

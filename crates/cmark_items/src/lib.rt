@@ -3,12 +3,14 @@
 
 mod allocations;
 mod definitions;
+mod footnotes;
 mod heading;
 mod item;
 mod list_flags;
 
 pub use allocations::{AlignmentIndex, Allocations, CowIndex, Link, LinkIndex};
 pub use definitions::{LinkDef, RefDefs, RefDefsIter};
+pub use footnotes::{FootnoteDef, FootnoteDefs};
 pub use heading::HeadingAttributes;
 pub use item::{Item, ItemBody};
 pub use list_flags::ListFlags;

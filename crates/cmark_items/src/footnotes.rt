@@ -1,0 +1,96 @@
+//! Definitions of footnotes (this profile's own).
+
+ghost use Rattle.std.specs.Prelude.{◌≡◌, IfOk, OnOk, OnErr, List, ℕ, None, is_some};
+ghost use Rattle.std.specs.Option.{option_copied_mut};
+ghost use Rattle.cmark_grammar.specs.Labels.{fold};
+ghost use Rattle.cmark_text.specs.Labelled.{footnote_key};
+ghost use Rattle.cmark_items.specs.Definitions.{first_of, at_label};
+ghost use Rattle.cmark_items.specs.Footnotes.{footnote, with_use, Counts, Keeps};
+
+use cmark_text::FootnoteLabel;
+use std::alloc::{AllocError, Global};
+use std::collections::BTreeMap;
+
+/// What is known of a footnote that is defined.
+#[derive(Clone, Copy, Debug, PartialEq, Eq)]
+pub struct FootnoteDef {
+    /// How many references to it were read; 0 before the text is read for spans.
+    pub use_count: usize,
+}
+
+impl FootnoteDef {
+    /// The definition with one use more.
+    fn used(&self) -> FootnoteDef
+        ensures { result ≡ with_use self.now }
+    {
+        FootnoteDef {
+            use_count: self.use_count.saturating_add(1),
+        }
+    }
+}
+
+/// The footnotes that a text defines: for each label the first definition. Two labels are the same where they are equal as
+/// a `FootnoteLabel`.
+#[derive(Drop)]
+pub struct FootnoteDefs {
+    defs: BTreeMap<FootnoteLabel, FootnoteDef>,
+    alloc: Global,
+}
+
+impl FootnoteDefs {
+    /// No definitions.
+    pub fn new(alloc: Global) -> FootnoteDefs
+        ensures { (folded : List ℕ) → footnote result folded ≡ None }
+    {
+        FootnoteDefs {
+            defs: BTreeMap::new(alloc),
+            alloc,
+        }
+    }
+
+    /// Whether the label that this text spells is defined. Refused where there is no memory for the label's normal form.
+    pub fn contains(&self, label: &str) -> Result<bool, AllocError>
+        ensures { IfOk result (λ found. found ≡ is_some (footnote self.now (fold label.now))) }
+    {
+        let label = FootnoteLabel::new(self.alloc, label)?;
+        Ok(self.defs.contains_key(&label))
+    }
+
+    /// The definition of the label that this text spells, to be written to; no clause says what a write through it leaves
+    /// (`count_use` has one). Refused, with nothing changed, where there is no memory for the label's normal form.
+    pub fn get_mut(&mut self, label: &str) -> Result<Option<&mut FootnoteDef>, AllocError>
+        ensures { IfOk result (λ found. option_copied_mut found ≡ footnote self.old (fold label.now)) }
+    {
+        let label = FootnoteLabel::new(self.alloc, label)?;
+        Ok(self.defs.get_mut(&label))
+    }
+
+    /// Counts a reference to the footnote of the label that this text spells, up to the greatest `usize`, and says whether
+    /// it is defined. Refused, with nothing changed, where there is no memory for the label's normal form.
+    pub fn count_use(&mut self, label: &str) -> Result<bool, AllocError>
+        ensures found { IfOk result (λ found. found ≡ is_some (footnote self.old (fold label.now))) }
+        ensures counted { OnOk result (Counts (fold label.now) self.old self.new) }
+        ensures refused { OnErr result (Keeps self.old self.new) }
+    {
+        let label = FootnoteLabel::new(self.alloc, label)?;
+        match self.defs.get_mut(&label) {
+            Some(def) => {
+                *def = def.used();
+                Ok(true)
+            }
+            None => Ok(false),
+        }
+    }
+
+    /// Keeps a definition, unless there is one of its label.
+    pub fn insert(&mut self, label: FootnoteLabel, def: FootnoteDef) -> Result<(), AllocError>
+        ensures first_stays { OnOk result ((folded : List ℕ) → footnote self.new folded
+            ≡ first_of (footnote self.old folded) (at_label (footnote_key label) def folded)) }
+        ensures refused { OnErr result (Keeps self.old self.new) }
+    {
+        if !self.defs.contains_key(&label) {
+            self.defs.insert(label, def)?;
+        }
+        Ok(())
+    }
+}
