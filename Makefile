@@ -70,5 +70,6 @@ outside:
 	tests/rows
 	tests/program
 	tests/inline_definitions 2000 1
+	tests/block_definitions 1000 1 gfm yaml-metadata plus-metadata
 	tests/vectors
 	tests/bindings
