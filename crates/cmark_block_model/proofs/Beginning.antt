@@ -6,16 +6,17 @@ use Rattle.cmark_grammar.specs.Options.{Options}
 use Rattle.cmark_grammar.specs.Rows.{Row, start_of, begin_of, words_of, is_blank_line, shown}
 use Rattle.cmark_grammar.specs.HtmlBlocks.{holds_end}
 use Rattle.cmark_grammar.specs.Containers.{Container, Quote, Item, is_alert, enter, strips, is_bare_start}
-use Rattle.cmark_grammar.specs.Openings.{Leaf, ThematicBreak, AtxHeading, IndentedCode, FencedCode, HtmlBlock, LinkDefinition, Opening, Blank, Nests, Takes, Plain, opens, MetadataBlock}
-use Rattle.cmark_grammar.specs.Blocks.{Blocks, Nil as NoBlocks, BlankLine, join as join_blocks}
-use Rattle.cmark_grammar.specs.BlocksModel.{within}
-use Rattle.cmark_grammar.specs.BlocksByLine.{OpenLines, Between, InContainer, html_begun as html_lines_begun, leaf_begun as leaf_lines_begun, lines_inside_begun, lines_begin_as, lines_begin_in, lines_begin}
+use Rattle.cmark_grammar.specs.Openings.{Leaf, ThematicBreak, AtxHeading, IndentedCode, FencedCode, HtmlBlock, LinkDefinition, Opening, Blank, Nests, Takes, Plain, opens, opens_at, MetadataBlock}
+use Rattle.cmark_grammar.specs.Blocks.{Blocks, Nil as NoBlocks, BlankLine, Paragraph, SetextHeading, LeafBlock, ContainerBlock, join as join_blocks, behind_leaf, behind_container, place_in}
+use Rattle.cmark_grammar.specs.Places.{Place, Apart, BehindLazy, BehindTask, BehindTitle, is_behind_task, over_blank}
+use Rattle.cmark_grammar.specs.BlocksModel.{within, place_behind}
+use Rattle.cmark_grammar.specs.BlocksByLine.{OpenLines, Between, InContainer, html_begun as html_lines_begun, leaf_begun as leaf_lines_begun, lines_inside_begun, lines_begin_as, lines_begin_in, lines_begin_at, lines_begin}
 use Rattle.cmark_grammar.specs.BlockDocument as document
-use Rattle.cmark_grammar.proofs.BlockLaws.{no_metadata, enter_len, enter-lazy, opens-len}
+use Rattle.cmark_grammar.proofs.BlockLaws.{no_metadata, enter-lazy, at-enter, at-len, at-plain, blank-at}
 use Rattle.cmark_block_model.specs.OpenBlocks.{OpenList, OpenContainer, Closed, BehindTag as BehindTagLeaf, InParagraph as InParagraphLeaf, Pass}
 use Rattle.cmark_block_model.specs.BlockPass.{inside_begun as inside_or_tag, item_begun, list_begun, list_goes_on, container_begun, inside_of, node_opened, is_item, ahead_in, html_begun, leaf_begun, begin_as, begin_in, begin}
 use Rattle.cmark_block_model.proofs.Replay.{Level, begun, item_if, item_level, level_opened, entered, leaf_level, replay, replay-join}
-use Rattle.cmark_block_model.proofs.Tells.{Tells, tells}
+use Rattle.cmark_block_model.proofs.Tells.{Tells, tells-at}
 use Rattle.cmark_block_model.proofs.Mirror.{whole, whole-same, pass_with, bare_at, Fits, inner_at, leaf_at, container_at, containers_at, pass_at, paragraph_open}
 
 module _ (text : List ℕ) (options : Options) (lookup : Lookup) where
@@ -42,6 +43,9 @@ module _ (text : List ℕ) (options : Options) (lookup : Lookup) where
   opens-blank : (r : Row) (ahead : List Row) → r.lazy ≡ false → is_blank_line r ≡ true → opens options r ahead ≡ Blank
   unfolding opens
   opens-blank r ahead l b = rw (l, no_metadata options r b, b) refl
+
+  at-blank : (place : Place) (r : Row) (ahead : List Row) → r.lazy ≡ false → is_blank_line r ≡ true → opens_at options place r ahead ≡ Blank
+  at-blank place r ahead l b = blank-at options place r ahead (opens-blank r ahead l b) b
 
   bare-start : (k : Container) (r : Row) → is_bare_start k r ≡ true → is_blank_line (enter k r) ≡ true
   bare-start (Quote alert) r e = absurd (true≢false (sym e))
@@ -107,12 +111,12 @@ module _ (text : List ℕ) (options : Options) (lookup : Lookup) where
 
   -- what the first line begins inside a container
   abbrev pub inside_begun : ℕ → Container → Row → List Row → OpenLines
-  inside_begun m k r ahead = lines_begin_in options m NoBlocks (enter k r) ahead
+  inside_begun m k r ahead = lines_begin_in options m (place_in k) NoBlocks (enter k r) ahead
 
   blank-begins : (m : ℕ) (k : Container) (r : Row) (ahead : List Row) → r.lazy ≡ false → is_blank_line (enter k r) ≡ true → inside_begun (suc m) k r ahead ≡ Between (BlankLine (enter k r) NoBlocks)
   blank-begins m k r ahead l b =
-      ap (λ o. lines_begin_as o (λ j. lines_begin_in options m NoBlocks (enter j (enter k r)) (within j (is_bare_start j (enter k r)) ahead)) NoBlocks (enter k r))
-      (opens-blank (enter k r) ahead (enter-lazy options k r ∙ l) b)
+      ap (λ o. lines_begin_as o (λ j. lines_begin_in options m (place_in j) NoBlocks (enter j (enter k r)) (within j (is_bare_start j (enter k r)) ahead)) NoBlocks (enter k r))
+      (at-blank (place_in k) (enter k r) ahead (enter-lazy options k r ∙ l) b)
 
   -- an alert's first line is not blank behind the marker
   alert-whole : (k : Container) (r : Row) → is_alert k ≡ true → is_bare_start k r ≡ false
@@ -120,10 +124,10 @@ module _ (text : List ℕ) (options : Options) (lookup : Lookup) where
   alert-whole (Item mark number width) r e = absurd (true≢false (sym e))
 
   bare-begins : (m : ℕ) (k : Container) (r : Row) (ahead : List Row) → is_bare_start k r ≡ false → bare_at (is_item k) (inside_begun (suc m) k r ahead) ≡ bare_at false (inside_begun (suc m) k r ahead)
-  bare-begins m k r ahead e = go (opens options (enter k r) ahead) (tells options (enter k r) ahead)
+  bare-begins m k r ahead e = go (opens_at options (place_in k) (enter k r) ahead) (tells-at options (place_in k) (enter k r) ahead)
     where
       inside : Container → OpenLines
-      inside j = lines_begin_in options m NoBlocks (enter j (enter k r)) (within j (is_bare_start j (enter k r)) ahead)
+      inside j = lines_begin_in options m (place_in j) NoBlocks (enter j (enter k r)) (within j (is_bare_start j (enter k r)) ahead)
 
       go : (o : Opening) → Tells (enter k r) o → bare_at (is_item k) (lines_begin_as o inside NoBlocks (enter k r)) ≡ bare_at false (lines_begin_as o inside NoBlocks (enter k r))
       go Blank t = bare-none k r e t.1
@@ -148,14 +152,21 @@ module _ (text : List ℕ) (options : Options) (lookup : Lookup) where
           ap (λ z. pass_with (inner_at text options lookup o (within k false ahead) l) (outer ++ containers_at text options lookup o l) z (leaf_at text options lookup o) n) (bare-begins m k r (within k false ahead) b)
           ∙ ap (λ z. pass_at text options lookup (inside_begun (suc m) k r (within k z ahead)) (within k z ahead) l outer z n) (sym b)
 
-  pub begins : (m : ℕ) (closed : Blocks) (r : Row) (next ahead : List Row) (l : Level) (outer : List OpenContainer) (b : Bool) (n : ℕ) → r.lazy ≡ false → length r.columns < m → ahead_in text options lookup outer next ≡ ahead
-      → begin_in text options lookup m r next b (pass_with (replay text options lookup closed l) outer false Closed n) ≡ pass_at text options lookup (lines_begin_in options m closed r ahead) ahead l outer b n
-  begins zero closed r next ahead l outer b n e f a = absurd (omega (arith, f))
-  begins (suc m) closed r next ahead l outer b n e f a =
+  -- no container's first line stands behind a task marker
+  in-plain : (k : Container) → is_behind_task (place_in k) ≡ false
+  in-plain (Quote None) = refl
+  in-plain (Quote (Some alert)) = refl
+  in-plain (Item mark number width) = refl
+
+  pub begins : (m : ℕ) (place : Place) (closed : Blocks) (r : Row) (next ahead : List Row) (l : Level) (outer : List OpenContainer) (b : Bool) (n : ℕ) → is_behind_task place ≡ false → r.lazy ≡ false → length r.columns < m → ahead_in text options lookup outer next ≡ ahead
+      → begin_in text options lookup m r next b (pass_with (replay text options lookup closed l) outer false Closed n) ≡ pass_at text options lookup (lines_begin_in options m place closed r ahead) ahead l outer b n
+  begins zero place closed r next ahead l outer b n s e f a = absurd (omega (arith, f))
+  begins (suc m) place closed r next ahead l outer b n s e f a =
       ap (λ x. begin_as text options lookup (opens options r x) (λ k. inside_or_tag (is_alert k) (container_begun k r p) (begin_in text options lookup m (enter k r) next (is_item k) (container_begun k r p))) r x b p) a
-      ∙ go (opens options r ahead) refl (tells options r ahead)
-      (λ k o. let le : length (enter k r).columns < length r.columns = enter_len options k r ahead o in
-      begins m NoBlocks (enter k r) next (within k false ahead) (entered k r c) (outer ++ container_at text options lookup k r c ∷ []) (is_item k) n (enter-lazy options k r ∙ e) (omega (arith, f, le))
+      ∙ ap (λ o. begin_as text options lookup o (λ k. inside_or_tag (is_alert k) (container_begun k r p) (begin_in text options lookup m (enter k r) next (is_item k) (container_begun k r p))) r ahead b p) (sym (at-plain options place r ahead s))
+      ∙ go (opens_at options place r ahead) refl (tells-at options place r ahead)
+      (λ k o. let le : length (enter k r).columns < length r.columns = at-enter options place k r ahead o in
+      begins m (place_in k) NoBlocks (enter k r) next (within k false ahead) (entered k r c) (outer ++ container_at text options lookup k r c ∷ []) (is_item k) n (in-plain k) (enter-lazy options k r ∙ e) (omega (arith, f, le))
       (ahead-inside outer (container_at text options lookup k r c) next ∙ ap (within k false) a))
     where
       c : Level
@@ -165,7 +176,7 @@ module _ (text : List ℕ) (options : Options) (lookup : Lookup) where
       p = pass_with (replay text options lookup closed l) outer false Closed n
 
       inside : Container → OpenLines
-      inside k = lines_begin_in options m NoBlocks (enter k r) (within k (is_bare_start k r) ahead)
+      inside k = lines_begin_in options m (place_in k) NoBlocks (enter k r) (within k (is_bare_start k r) ahead)
 
       Inside : Container → Type 0
       Inside k = begin_in text options lookup m (enter k r) next (is_item k) (pass_with (entered k r (replay text options lookup closed l)) (outer ++ container_at text options lookup k r (replay text options lookup closed l) ∷ []) false Closed n)
@@ -176,22 +187,22 @@ module _ (text : List ℕ) (options : Options) (lookup : Lookup) where
 
       -- behind an alert's tag nothing is begun
       tagged : (k : Container) (is_tag : Bool)
-          → begin_in text options lookup m (enter k r) next (is_item k) (container_begun k r (pass_with (replay text options lookup closed l) outer false Closed n)) ≡ pass_at text options lookup (InContainer closed k r [] (lines_begin_in options m NoBlocks (enter k r) (within k (is_bare_start k r) ahead))) ahead l outer b n
+          → begin_in text options lookup m (enter k r) next (is_item k) (container_begun k r (pass_with (replay text options lookup closed l) outer false Closed n)) ≡ pass_at text options lookup (InContainer closed k r [] (lines_begin_in options m (place_in k) NoBlocks (enter k r) (within k (is_bare_start k r) ahead))) ahead l outer b n
           → inside_or_tag is_tag (container_begun k r (pass_with (replay text options lookup closed l) outer false Closed n)) (begin_in text options lookup m (enter k r) next (is_item k) (container_begun k r (pass_with (replay text options lookup closed l) outer false Closed n)))
-          ≡ pass_at text options lookup (InContainer closed k r [] (lines_inside_begun is_tag (lines_begin_in options m NoBlocks (enter k r) (within k (is_bare_start k r) ahead)))) ahead l outer b n
+          ≡ pass_at text options lookup (InContainer closed k r [] (lines_inside_begun is_tag (lines_begin_in options m (place_in k) NoBlocks (enter k r) (within k (is_bare_start k r) ahead)))) ahead l outer b n
       tagged k true same = ap behind_tag (container-begins k r c outer n)
       tagged k false same = same
 
-      go : (o : Opening) → opens options r ahead ≡ o → Tells r o → ((k : Container) → opens options r ahead ≡ Nests k → Inside k)
+      go : (o : Opening) → opens_at options place r ahead ≡ o → Tells r o → ((k : Container) → opens_at options place r ahead ≡ Nests k → Inside k)
           → begin_as text options lookup o (λ k. inside_or_tag (is_alert k) (container_begun k r (pass_with (replay text options lookup closed l) outer false Closed n)) (begin_in text options lookup m (enter k r) next (is_item k) (container_begun k r (pass_with (replay text options lookup closed l) outer false Closed n)))) r ahead b (pass_with (replay text options lookup closed l) outer false Closed n)
-          ≡ pass_at text options lookup (lines_begin_as o (λ k. lines_begin_in options m NoBlocks (enter k r) (within k (is_bare_start k r) ahead)) closed r) ahead l outer b n
+          ≡ pass_at text options lookup (lines_begin_as o (λ k. lines_begin_in options m (place_in k) NoBlocks (enter k r) (within k (is_bare_start k r) ahead)) closed r) ahead l outer b n
       go Blank q t ih =
           ap (λ x. pass_with x outer b Closed n) (sym (replay-join text options lookup closed (BlankLine r NoBlocks) l))
           ∙ ap (λ o. pass_with (replay text options lookup (join_blocks closed (BlankLine r NoBlocks)) l) o b Closed n) (sym (append-nil outer))
       go (Nests k) q t ih =
           let v = container_at text options lookup k r c in
           let i = inside_begun m k r (within k (is_bare_start k r) ahead) in
-          let le : length (enter k r).columns < length r.columns = enter_len options k r ahead q in
+          let le : length (enter k r).columns < length r.columns = at-enter options place k r ahead q in
           tagged k (is_alert k) (
           ap (begin_in text options lookup m (enter k r) next (is_item k)) (container-begins k r c outer n)
           ∙ ih k q
@@ -207,18 +218,18 @@ module _ (text : List ℕ) (options : Options) (lookup : Lookup) where
           ∙ ap (λ o. pass_with (paragraph_open text options lookup r [] (replay text options lookup closed l)) o false (InParagraphLeaf (start_of r) (whole r)) n) (sym (append-nil outer))
 
   -- where nothing but a blank line may begin, no line that is bare begins something
-  not-bare : (b : Bool) (r : Row) (ahead : List Row) → r.lazy ≡ false → (b ≡ true → is_blank_line r ≡ true) → (opens options r ahead ≡ Blank → ⊥) → b ≡ false
-  not-bare false r ahead e h ne = refl
-  not-bare true r ahead e h ne = absurd (ne (opens-blank r ahead e (h refl)))
+  not-bare : (place : Place) (b : Bool) (r : Row) (ahead : List Row) → r.lazy ≡ false → (b ≡ true → is_blank_line r ≡ true) → (opens_at options place r ahead ≡ Blank → ⊥) → b ≡ false
+  not-bare place false r ahead e h ne = refl
+  not-bare place true r ahead e h ne = absurd (ne (at-blank place r ahead e (h refl)))
 
   -- what has begun fits
-  pub begins-fit : (m : ℕ) (closed : Blocks) (r : Row) (ahead : List Row) (b : Bool) (n : ℕ) → r.lazy ≡ false → length r.columns < m → (b ≡ true → is_blank_line r ≡ true) → r.past ≡ n
-      → Fits b (lines_begin_in options m closed r ahead) ahead n
-  begins-fit zero closed r ahead b n e f h q = absurd (omega (arith, f))
-  begins-fit (suc m) closed r ahead b n e f h q =
-      go (opens options r ahead) refl (tells options r ahead)
-      (λ k o. let le : length (enter k r).columns < length r.columns = enter_len options k r ahead o in
-      begins-fit m NoBlocks (enter k r) (within k (is_bare_start k r) ahead) (is_bare_start k r) n (enter-lazy options k r ∙ e) (omega (arith, f, le)) (bare-start k r) (enter-past k r ∙ q))
+  pub begins-fit : (m : ℕ) (place : Place) (closed : Blocks) (r : Row) (ahead : List Row) (b : Bool) (n : ℕ) → r.lazy ≡ false → length r.columns < m → (b ≡ true → is_blank_line r ≡ true) → r.past ≡ n
+      → Fits b (lines_begin_in options m place closed r ahead) ahead n
+  begins-fit zero place closed r ahead b n e f h q = absurd (omega (arith, f))
+  begins-fit (suc m) place closed r ahead b n e f h q =
+      go (opens_at options place r ahead) refl (tells-at options place r ahead)
+      (λ k o. let le : length (enter k r).columns < length r.columns = at-enter options place k r ahead o in
+      begins-fit m (place_in k) NoBlocks (enter k r) (within k (is_bare_start k r) ahead) (is_bare_start k r) n (enter-lazy options k r ∙ e) (omega (arith, f, le)) (bare-start k r) (enter-past k r ∙ q))
     where
       html : (z : Bool) (kind : ℕ) → b ≡ false → Fits b (html_lines_begun z closed kind r) ahead n
       html true kind nb = (nb, omega arith, λ never. refl)
@@ -238,19 +249,55 @@ module _ (text : List ℕ) (options : Options) (lookup : Lookup) where
       tagged k true y fits = alert-whole k r y
       tagged k false y fits = fits
 
-      go : (o : Opening) → opens options r ahead ≡ o → Tells r o → ((k : Container) → opens options r ahead ≡ Nests k → Fits (is_bare_start k r) (inside_begun m k r (within k (is_bare_start k r) ahead)) (within k (is_bare_start k r) ahead) n)
-          → Fits b (lines_begin_as o (λ k. lines_begin_in options m NoBlocks (enter k r) (within k (is_bare_start k r) ahead)) closed r) ahead n
+      go : (o : Opening) → opens_at options place r ahead ≡ o → Tells r o → ((k : Container) → opens_at options place r ahead ≡ Nests k → Fits (is_bare_start k r) (inside_begun m k r (within k (is_bare_start k r) ahead)) (within k (is_bare_start k r) ahead) n)
+          → Fits b (lines_begin_as o (λ k. lines_begin_in options m (place_in k) NoBlocks (enter k r) (within k (is_bare_start k r) ahead)) closed r) ahead n
       go Blank o t ih = tt
-      go (Nests k) o t ih = (not-bare b r ahead e h (λ x. let y : Nests k ≡ Blank = sym o ∙ x in cc), q, tagged k (is_alert k) refl (ih k o))
-      go (Takes leaf more) o t ih = leaf-fits leaf more (not-bare b r ahead e h (λ x. let y : Takes leaf more ≡ Blank = sym o ∙ x in cc)) (opens-len options r ahead leaf more o) t
-      go Plain o t ih = (not-bare b r ahead e h (λ x. let y : Plain ≡ Blank = sym o ∙ x in cc), q)
+      go (Nests k) o t ih = (not-bare place b r ahead e h (λ x. let y : Nests k ≡ Blank = sym o ∙ x in cc), q, tagged k (is_alert k) refl (ih k o))
+      go (Takes leaf more) o t ih = leaf-fits leaf more (not-bare place b r ahead e h (λ x. let y : Takes leaf more ≡ Blank = sym o ∙ x in cc)) (at-len options place r ahead leaf more o) t
+      go Plain o t ih = (not-bare place b r ahead e h (λ x. let y : Plain ≡ Blank = sym o ∙ x in cc), q)
 
-  -- behind closed blocks
+  -- behind blocks that have ended a line begins what it begins at any place that is not behind a task marker
+  not-task : (place : Place) (closed : Blocks) → is_behind_task place ≡ false → is_behind_task (place_behind place closed) ≡ false
+  not-task place NoBlocks e = e
+  not-task place (BlankLine line after) e = not-task (over_blank place) after (over place)
+    where
+      over : (place : Place) → is_behind_task (over_blank place) ≡ false
+      over Apart = refl
+      over BehindLazy = refl
+      over BehindTask = refl
+      over BehindTitle = refl
+  not-task place (Paragraph first more after) e = not-task BehindTitle after refl
+  not-task place (SetextHeading level first more underline after) e = not-task Apart after refl
+  not-task place (LeafBlock leaf first more after) e = not-task (behind_leaf leaf) after (behind leaf)
+    where
+      behind : (leaf : Leaf) → is_behind_task (behind_leaf leaf) ≡ false
+      behind ThematicBreak = refl
+      behind (AtxHeading level) = refl
+      behind IndentedCode = refl
+      behind (FencedCode fence) = refl
+      behind (HtmlBlock kind) = refl
+      behind (LinkDefinition definition) = refl
+      behind (MetadataBlock kind) = refl
+  not-task place (ContainerBlock k first more inside after) e = not-task (behind_container k) after refl
+
+  -- at a place behind closed blocks
+  starts-at : (place : Place) (closed : Blocks) (r : Row) (next ahead : List Row) (l : Level) (outer : List OpenContainer) (n : ℕ) → is_behind_task place ≡ false → r.lazy ≡ false → ahead_in text options lookup outer next ≡ ahead
+      → begin text options lookup r next (pass_with (replay text options lookup closed l) outer false Closed n) ≡ pass_at text options lookup (lines_begin_at options place closed r ahead) ahead l outer false n
+  starts-at place closed r next ahead l outer n s e a = begins (suc (length r.columns)) place closed r next ahead l outer false n s e (omega arith) a
+
   pub starts : (closed : Blocks) (r : Row) (next ahead : List Row) (l : Level) (outer : List OpenContainer) (n : ℕ) → r.lazy ≡ false → ahead_in text options lookup outer next ≡ ahead
       → begin text options lookup r next (pass_with (replay text options lookup closed l) outer false Closed n) ≡ pass_at text options lookup (lines_begin options closed r ahead) ahead l outer false n
   unfolding lines_begin
-  starts closed r next ahead l outer n e a = begins (suc (length r.columns)) closed r next ahead l outer false n e (omega arith) a
+  starts closed r next ahead l outer n e a = starts-at (place_behind Apart closed) closed r next ahead l outer n (not-task Apart closed refl) e a
+
+  -- directly behind an alert's tag
+  pub starts-behind-tag : (r : Row) (next ahead : List Row) (l : Level) (outer : List OpenContainer) (n : ℕ) → r.lazy ≡ false → ahead_in text options lookup outer next ≡ ahead
+      → begin text options lookup r next (pass_with l outer false Closed n) ≡ pass_at text options lookup (lines_begin_at options BehindLazy NoBlocks r ahead) ahead l outer false n
+  starts-behind-tag r next ahead l outer n e a = starts-at BehindLazy NoBlocks r next ahead l outer n refl e a
+
+  pub starts-fit-at : (place : Place) (closed : Blocks) (r : Row) (ahead : List Row) → r.lazy ≡ false → Fits false (lines_begin_at options place closed r ahead) ahead r.past
+  starts-fit-at place closed r ahead e = begins-fit (suc (length r.columns)) place closed r ahead false r.past e (omega arith) (λ never. absurd (true≢false (sym never))) refl
 
   pub starts-fit : (closed : Blocks) (r : Row) (ahead : List Row) → r.lazy ≡ false → Fits false (lines_begin options closed r ahead) ahead r.past
   unfolding lines_begin
-  starts-fit closed r ahead e = begins-fit (suc (length r.columns)) closed r ahead false r.past e (omega arith) (λ never. absurd (true≢false (sym never))) refl
+  starts-fit closed r ahead e = starts-fit-at (place_behind Apart closed) closed r ahead e

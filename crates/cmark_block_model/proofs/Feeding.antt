@@ -7,7 +7,8 @@ use Rattle.cmark_grammar.specs.Options.{Options}
 use Rattle.cmark_grammar.specs.Rows.{Row, begin_of, start_of}
 use Rattle.cmark_grammar.specs.Leaves.{underlines}
 use Rattle.cmark_grammar.specs.Openings.{Leaf, ThematicBreak, AtxHeading, IndentedCode, FencedCode, HtmlBlock, LinkDefinition, texts, MetadataBlock}
-use Rattle.cmark_grammar.specs.Blocks.{Blocks, Nil as NoBlocks, Paragraph, SetextHeading, LeafBlock, join as join_blocks, may_lazy}
+use Rattle.cmark_grammar.specs.Blocks.{Blocks, Nil as NoBlocks, Paragraph, SetextHeading, LeafBlock, join as join_blocks, behind_leaf}
+use Rattle.cmark_grammar.specs.Places.{allows_lazy}
 use Rattle.cmark_grammar.specs.BlocksByLine.{Between, InParagraph, InLeaf, lines_underline_or, lines_go_on_or, lines_begin, lines_feed}
 use Rattle.cmark_grammar.specs.Tokens.{stretch_then}
 use Rattle.cmark_grammar.specs.BlockDocument as document
@@ -105,7 +106,7 @@ module _ (text : List ℕ) (options : Options) (lookup : Lookup) where
       none : {A : Type 0} → suc left ≡ 0 → A
       none q = absurd (omega (arith, q))
 
-      go : (leaf : Leaf) → (may_lazy leaf ≡ false → suc left ≡ 0) → leaf_fed text options lookup (leaf_left leaf (suc left)) r next (pass_with (leaf_level text options lookup leaf first (had ++ take (suc left) (r ∷ ahead)) (replay text options lookup closed l)) outer false (leaf_left leaf (suc left)) n)
+      go : (leaf : Leaf) → (allows_lazy (behind_leaf leaf) ≡ false → suc left ≡ 0) → leaf_fed text options lookup (leaf_left leaf (suc left)) r next (pass_with (leaf_level text options lookup leaf first (had ++ take (suc left) (r ∷ ahead)) (replay text options lookup closed l)) outer false (leaf_left leaf (suc left)) n)
           ≡ pass_with (leaf_level text options lookup leaf first ((had ++ r ∷ []) ++ take left ahead) (replay text options lookup closed l)) (outer ++ []) false (leaf_left leaf left) n
       go ThematicBreak h = none (h refl)
       go (AtxHeading level) h = none (h refl)

@@ -5,13 +5,14 @@ use Rattle.std.proofs.lemmas.List.Sums.{take_while-cons}
 use Rattle.cmark_grammar.specs.Options.{Options}
 use Rattle.cmark_grammar.specs.Columns.{Column, is_blank, indent, without_indent}
 use Rattle.cmark_grammar.specs.Rows.{Row, rows, shown, is_bare, is_blank_line, indent_of, without}
-use Rattle.cmark_grammar.specs.Containers.{Container, Quote, Item, is_alert, enter, keeps, strip, strip_as, strips, is_bare_start, insides}
-use Rattle.cmark_grammar.specs.Openings.{opens, Blank}
-use Rattle.cmark_grammar.specs.Blocks.{Blocks, Nil, BlankLine, Paragraph, SetextHeading, LeafBlock, ContainerBlock, may_lazy, Body}
+use Rattle.cmark_grammar.specs.Containers.{Container, Quote, Item, enter, keeps, strip, strip_as, strips, is_bare_start, insides}
+use Rattle.cmark_grammar.specs.Openings.{opens_at, Blank}
+use Rattle.cmark_grammar.specs.Blocks.{Blocks, Nil, BlankLine, Paragraph, SetextHeading, LeafBlock, ContainerBlock, behind_leaf, place_in, Body}
+use Rattle.cmark_grammar.specs.Places.{Place, Apart, BehindTitle, over_blank}
 use Rattle.cmark_grammar.specs.BlocksModel.{blocks}
 use Rattle.cmark_grammar.proofs.BlocksSound.{blocks-body}
 use Rattle.cmark_block_model.proofs.Standing.{IsNearlyFilled, HasFilledItems}
-use Rattle.cmark_block_model.proofs.Tells.{Tells, tells}
+use Rattle.cmark_block_model.proofs.Tells.{Tells, tells-at}
 
 -- columns are blank, where they are without some of their indent
 still-blank : (n : ℕ) (cs : List Column) → n ≤ indent cs → is_bare (without_indent (drop n cs)) ≡ true → is_bare (without_indent cs) ≡ true
@@ -37,10 +38,10 @@ two-blanks mark number width r = go r.lazy (is_blank_line r) refl (nat_le width 
     go false false e true f l h = let le : width ≤ indent_of r = grind (arith) in true≢false (sym (still-blank width r.columns le h) ∙ e)
 
 module _ (options : Options) where
-  blank-tells : (r : Row) (ahead : List Row) → opens options r ahead ≡ Blank → (r.lazy ≡ false) × (is_blank_line r ≡ true)
-  blank-tells r ahead e = subst (Tells r) e (tells options r ahead)
+  blank-tells : (place : Place) (r : Row) (ahead : List Row) → opens_at options place r ahead ≡ Blank → (r.lazy ≡ false) × (is_blank_line r ≡ true)
+  blank-tells place r ahead e = subst (Tells r) e (tells-at options place r ahead)
 
-  nearly : (mark : ℕ) (number : Option ℕ) (width : ℕ) (first : Row) (more : List Row) (inside : Blocks) → Body options false (insides (Item mark number width) first more) inside → IsNearlyFilled inside
+  nearly : (mark : ℕ) (number : Option ℕ) (width : ℕ) (first : Row) (more : List Row) (inside : Blocks) → Body options Apart (insides (Item mark number width) first more) inside → IsNearlyFilled inside
   nearly mark number width first more Nil h = tt
   nearly mark number width first more (Paragraph a b c) h = tt
   nearly mark number width first more (SetextHeading l a b u c) h = tt
@@ -62,23 +63,23 @@ module _ (options : Options) where
       line-is : insides k first more ≡ line ∷ h.rest → enter k first ≡ line
       line-is e = cc
 
-      go : (more : List Row) (rest : List Row) → strips k (is_bare_start k first) more ≡ rest → enter k first ≡ line → Body options false rest (BlankLine other after) → ⊥
+      go : (more : List Row) (rest : List Row) → strips k (is_bare_start k first) more ≡ rest → enter k first ≡ line → Body options Apart rest (BlankLine other after) → ⊥
       go [] rest e f b = absurd (let q : [] ≡ other ∷ b.rest = e ∙ b.cut in cc)
       go (r ∷ more) rest e f b =
-          let bare : is_bare_start k first ≡ true = ap is_blank_line f ∙ (blank-tells line (shown h.rest) h.opened).1 in
+          let bare : is_bare_start k first ≡ true = ap is_blank_line f ∙ (blank-tells Apart line (shown h.rest) h.opened).1 in
           let same : strip k true r ≡ other = let q : strip k (is_bare_start k first) r ∷ strips k false more ≡ other ∷ b.rest = e ∙ b.cut in ap (λ z. strip k z r) (sym bare) ∙ cc in
-          let t = blank-tells other (shown b.rest) b.opened in
+          let t = blank-tells Apart other (shown b.rest) b.opened in
           two-blanks mark number width r (ap (λ s. s.lazy) same ∙ t.0) (ap is_blank_line same ∙ t.1)
 
-  filled : (b : Blocks) (behind : Bool) (all : List Row) → Body options behind all b → HasFilledItems b
+  filled : (b : Blocks) (behind : Place) (all : List Row) → Body options behind all b → HasFilledItems b
   filled Nil behind all h = tt
-  filled (BlankLine line after) behind all h = filled after false h.rest h.after
-  filled (Paragraph first more after) behind all h = filled after false h.rest h.after
-  filled (SetextHeading level first more underline after) behind all h = filled after false h.rest h.after
-  filled (LeafBlock leaf first more after) behind all h = filled after (may_lazy leaf) h.rest h.after
-  filled (ContainerBlock (Quote alert) first more inside after) behind all h = (filled inside (is_alert (Quote alert)) (insides (Quote alert) first more) h.contents, filled after false h.rest h.after)
+  filled (BlankLine line after) behind all h = filled after (over_blank behind) h.rest h.after
+  filled (Paragraph first more after) behind all h = filled after BehindTitle h.rest h.after
+  filled (SetextHeading level first more underline after) behind all h = filled after Apart h.rest h.after
+  filled (LeafBlock leaf first more after) behind all h = filled after (behind_leaf leaf) h.rest h.after
+  filled (ContainerBlock (Quote alert) first more inside after) behind all h = (filled inside (place_in (Quote alert)) (insides (Quote alert) first more) h.contents, filled after Apart h.rest h.after)
   filled (ContainerBlock (Item mark number width) first more inside after) behind all h =
-      (nearly mark number width first more inside h.contents, filled inside false (insides (Item mark number width) first more) h.contents, filled after false h.rest h.after)
+      (nearly mark number width first more inside h.contents, filled inside Apart (insides (Item mark number width) first more) h.contents, filled after Apart h.rest h.after)
 
   pub blocks-filled : (text : List ℕ) → HasFilledItems (blocks options text)
-  blocks-filled text = filled (blocks options text) false (rows text) (blocks-body options text)
+  blocks-filled text = filled (blocks options text) Apart (rows text) (blocks-body options text)

@@ -3,6 +3,7 @@ use Rattle.std.proofs.Common.{◌≡◌, ℕ, zero, suc, ◌≤◌, ◌&&◌, Bo
 use Rattle.std.specs.Prelude.{if◌then◌else◌}
 use Rattle.cmark_grammar.specs.Answers.{Lookup}
 use Rattle.cmark_grammar.specs.Options.{Options}
+use Rattle.cmark_grammar.specs.Places.{BehindLazy}
 use Rattle.cmark_grammar.specs.Rows.{Row, lazy_row, show_as}
 use Rattle.cmark_grammar.specs.Leaves.{Further, GoesOn, Closes, Waits, Stops, underlines, code_further, closes_fence}
 use Rattle.cmark_grammar.specs.HtmlBlocks.{html_further}
@@ -16,8 +17,8 @@ use Rattle.cmark_grammar.proofs.BlockLaws.{strip_lazy, strip_whole}
 use Rattle.cmark_grammar.proofs.BlocksSound.{bare_push, is_both}
 use Rattle.cmark_grammar.proofs.RowPlaces.{strip-past}
 use Rattle.cmark_block_model.proofs.Mirror.{past_push, AreBefore, FitsVerbatim, Fits}
-use Rattle.cmark_block_model.proofs.Beginning.{starts-fit}
-use Rattle.cmark_block_model.proofs.LazyLines.{lazy-begins, lazy-paragraph, lazy-container}
+use Rattle.cmark_block_model.proofs.Beginning.{starts-fit, starts-fit-at}
+use Rattle.cmark_block_model.proofs.LazyLines.{lazy-begins-at, lazy-begins, lazy-paragraph, lazy-container}
 use Rattle.cmark_block_model.proofs.VerbatimLines.{had-more, never-waits}
 
 before-push : (closes : Row → Bool) (rs : List Row) (r : Row) → AreBefore closes rs → closes r ≡ false → AreBefore closes (rs ++ r ∷ [])
@@ -36,18 +37,18 @@ module _ (text : List ℕ) (options : Options) (lookup : Lookup) where
   container-fits closed k first more s i ahead n e f =
       (refl, past_push first more s ∙ e, subst (λ z. Fits z i (within k z ahead) n) (sym (bare_push options (is_bare_start k first) more s)) f)
 
-  lazy-fits : (o : OpenLines) (b : Bool) (r : Row) (ahead x : List Row) (n : ℕ) → Fits b o [] n → lines_take_lazy o ≡ true → lazily options r x ≡ true → Fits false (lines_feed options o (lazy_row r) ahead) ahead r.past
-  lazy-fits (Between closed) b r ahead x n f t z = absurd (true≢false (sym t))
-  lazy-fits BehindTag b r ahead x n f t z = subst (λ o. Fits false o ahead r.past) (sym (lazy-begins options NoBlocks r ahead)) (refl, refl)
-  lazy-fits (InParagraph closed first more) b r ahead x n f t z =
-      subst (λ o. Fits false o ahead r.past) (sym (lazy-paragraph options closed first more r ahead x z)) (refl, past_push first more (lazy_row r))
-  lazy-fits (InLeaf closed leaf first had zero) b r ahead x n f t z =
+  lazy-fits : (o : OpenLines) (b : Bool) (r : Row) (ahead x : List Row) (j : Container) (n : ℕ) → Fits b o [] n → lines_take_lazy o ≡ true → lazily options j r x ≡ true → Fits false (lines_feed options o (lazy_row r) ahead) ahead r.past
+  lazy-fits (Between closed) b r ahead x j n f t z = absurd (true≢false (sym t))
+  lazy-fits BehindTag b r ahead x j n f t z = subst (λ o. Fits false o ahead r.past) (sym (lazy-begins-at options BehindLazy NoBlocks r ahead)) (refl, refl)
+  lazy-fits (InParagraph closed first more) b r ahead x j n f t z =
+      subst (λ o. Fits false o ahead r.past) (sym (lazy-paragraph options closed first more r ahead x j z)) (refl, past_push first more (lazy_row r))
+  lazy-fits (InLeaf closed leaf first had zero) b r ahead x j n f t z =
       subst (λ o. Fits false o ahead r.past) (sym (lazy-begins options (join_blocks closed (LeafBlock leaf first had NoBlocks)) r ahead)) (refl, refl)
-  lazy-fits (InLeaf closed leaf first had (suc left)) b r ahead x n f t z = absurd (let le : suc left ≤ 0 = f.1 in omega (arith, le))
-  lazy-fits (InVerbatim closed verbatim first had waiting) b r ahead x n f t z = absurd (true≢false (sym t))
-  lazy-fits (InContainer closed k first more inside) b r ahead x n f t z =
-      subst (λ o. Fits false o ahead r.past) (sym (lazy-container options closed k first more inside r ahead x z t))
-      (container-fits closed k first more (lazy_row r) (lines_feed options inside (lazy_row r) (within k false ahead)) ahead r.past refl (lazy-fits inside (bare_after (is_bare_start k first) more) r (within k false ahead) x n f.2 t z))
+  lazy-fits (InLeaf closed leaf first had (suc left)) b r ahead x j n f t z = absurd (let le : suc left ≤ 0 = f.1 in omega (arith, le))
+  lazy-fits (InVerbatim closed verbatim first had waiting) b r ahead x j n f t z = absurd (true≢false (sym t))
+  lazy-fits (InContainer closed k first more inside) b r ahead x j n f t z =
+      subst (λ o. Fits false o ahead r.past) (sym (lazy-container options closed k first more inside r ahead x j z t))
+      (container-fits closed k first more (lazy_row r) (lines_feed options inside (lazy_row r) (within k false ahead)) ahead r.past refl (lazy-fits inside (bare_after (is_bare_start k first) more) r (within k false ahead) x j n f.2 t z))
 
   verbatim-fits : (v : Verbatim) (closed : Blocks) (first : Row) (had waiting : List Row) (r : Row) (ahead : List Row) (b : Bool) (n : ℕ) → r.lazy ≡ false → FitsVerbatim v first had waiting n
       → Fits false (verbatim_line (further_in v r) closed v first had waiting r (lines_begin options (close_lines (InVerbatim closed v first had waiting)) r ahead)) ahead r.past
@@ -78,7 +79,7 @@ module _ (text : List ℕ) (options : Options) (lookup : Lookup) where
 
   pub feed-fits : (o : OpenLines) (b : Bool) (r : Row) (ahead : List Row) (n : ℕ) → r.lazy ≡ false → Fits b o (r ∷ ahead) n → Fits false (lines_feed options o r ahead) ahead r.past
   feed-fits (Between closed) b r ahead n e f = starts-fit text options lookup closed r ahead e
-  feed-fits BehindTag b r ahead n e f = starts-fit text options lookup NoBlocks r ahead e
+  feed-fits BehindTag b r ahead n e f = starts-fit-at text options lookup BehindLazy NoBlocks r ahead e
   feed-fits (InParagraph closed first more) b r ahead n e f = go (underlines r) (texts options r ahead)
     where
       go : (u : Option ℕ) (z : Bool) → Fits false (lines_underline_or u (λ level. Between (join_blocks closed (SetextHeading level first more r NoBlocks))) (lines_go_on_or z (InParagraph closed first (more ++ r ∷ [])) (lines_begin options (join_blocks closed (Paragraph first more NoBlocks)) r ahead))) ahead r.past
@@ -90,7 +91,7 @@ module _ (text : List ℕ) (options : Options) (lookup : Lookup) where
   feed-fits (InVerbatim closed v first had waiting) b r ahead n e f =
       subst (λ z. Fits false (verbatim_line (further_if z v r) closed v first had waiting r (lines_begin options (close_lines (InVerbatim closed v first had waiting)) r ahead)) ahead r.past) (sym e) (verbatim-fits v closed first had waiting r ahead b n e f.1)
   feed-fits (InContainer closed k first more inside) b r ahead n e f =
-      go (keeps k bare r) refl (lazily options r ahead && lines_take_lazy inside) refl (λ s q. feed-fits inside bare (strip k bare r) (within k false ahead) n (strip_whole options k bare r s q) (subst (λ a. Fits bare inside a n) (kept-ahead options k bare r s ahead e q) inner))
+      go (keeps k bare r) refl (lazily options k r ahead && lines_take_lazy inside) refl (λ s q. feed-fits inside bare (strip k bare r) (within k false ahead) n (strip_whole options k bare r s q) (subst (λ a. Fits bare inside a n) (kept-ahead options k bare r s ahead e q) inner))
     where
       bare : Bool
       bare = bare_after (is_bare_start k first) more
@@ -101,12 +102,12 @@ module _ (text : List ℕ) (options : Options) (lookup : Lookup) where
       on : Fits false (lines_feed options inside (strip k bare r) (within k false ahead)) (within k false ahead) r.past → Fits false (InContainer closed k first (more ++ r ∷ []) (lines_feed options inside (strip k bare r) (within k false ahead))) ahead r.past
       on i = container-fits closed k first more r (lines_feed options inside (strip k bare r) (within k false ahead)) ahead r.past refl i
 
-      go : (o : Option Row) → keeps k bare r ≡ o → (z : Bool) → (lazily options r ahead && lines_take_lazy inside) ≡ z
+      go : (o : Option Row) → keeps k bare r ≡ o → (z : Bool) → (lazily options k r ahead && lines_take_lazy inside) ≡ z
           → ((s : Row) → keeps k bare r ≡ Some s → Fits false (lines_feed options inside (strip k bare r) (within k false ahead)) (within k false ahead) (strip k bare r).past)
           → Fits false (lines_kept_or o z (InContainer closed k first (more ++ r ∷ []) (lines_feed options inside (strip k bare r) (within k false ahead))) (lines_begin options (join_blocks closed (ContainerBlock k first more (close_lines inside) NoBlocks)) r ahead)) ahead r.past
       go (Some s) q z t ih = on (subst (λ m. Fits false (lines_feed options inside (strip k bare r) (within k false ahead)) (within k false ahead) m) (strip-past k bare r) (ih s q))
       go None q true t ih =
-          let p = is_both options (lazily options r ahead) (lines_take_lazy inside) t in
+          let p = is_both options (lazily options k r ahead) (lines_take_lazy inside) t in
           on (subst (λ s. Fits false (lines_feed options inside s (within k false ahead)) (within k false ahead) r.past) (sym (strip_lazy options k bare r q))
-          (lazy-fits inside bare r (within k false ahead) ahead n (subst (λ a. Fits bare inside a n) (off-ahead options k bare r ahead q) inner) p.1 p.0))
+          (lazy-fits inside bare r (within k false ahead) ahead k n (subst (λ a. Fits bare inside a n) (off-ahead options k bare r ahead q) inner) p.1 p.0))
       go None q false t ih = starts-fit text options lookup (join_blocks closed (ContainerBlock k first more (close_lines inside) NoBlocks)) r ahead e

@@ -5,10 +5,11 @@ use Rattle.cmark_grammar.specs.Options.{Options}
 use Rattle.cmark_grammar.specs.Rows.{Row, start_of, lazy_row}
 use Rattle.cmark_grammar.specs.Containers.{Container, enter, strip, is_bare_start, bare_after}
 use Rattle.cmark_grammar.specs.Openings.{Leaf, ThematicBreak, AtxHeading, IndentedCode, FencedCode, HtmlBlock, LinkDefinition, texts, lazily, MetadataBlock}
-use Rattle.cmark_grammar.specs.Blocks.{Blocks, Nil as NoBlocks, Paragraph, SetextHeading, LeafBlock, ContainerBlock, join as join_blocks, may_lazy}
-use Rattle.cmark_grammar.specs.BlocksModel.{within}
-use Rattle.cmark_grammar.specs.BlocksByLine.{OpenLines, Between, BehindTag, InParagraph, InLeaf, InVerbatim, InContainer, close_lines, lines_take_lazy, lines_underline_or, lines_go_on_or, lines_kept_or, lines_begin_as, lines_begin_in, lines_begin, lines_feed}
-use Rattle.cmark_grammar.proofs.BlockLaws.{opens-lazy, underlines-lazy, keeps-lazy, strip_lazy, lazily-texts}
+use Rattle.cmark_grammar.specs.Blocks.{Blocks, Nil as NoBlocks, Paragraph, SetextHeading, LeafBlock, ContainerBlock, join as join_blocks, behind_leaf, place_in}
+use Rattle.cmark_grammar.specs.Places.{Place, Apart, BehindLazy, allows_lazy}
+use Rattle.cmark_grammar.specs.BlocksModel.{within, place_behind}
+use Rattle.cmark_grammar.specs.BlocksByLine.{OpenLines, Between, BehindTag, InParagraph, InLeaf, InVerbatim, InContainer, close_lines, lines_take_lazy, lines_underline_or, lines_go_on_or, lines_kept_or, lines_begin_as, lines_begin_in, lines_begin_at, lines_begin, lines_feed}
+use Rattle.cmark_grammar.proofs.BlockLaws.{at-lazy, underlines-lazy, keeps-lazy, strip_lazy, lazily-texts}
 use Rattle.cmark_grammar.proofs.BlocksSound.{bare_push}
 use Rattle.cmark_block_model.specs.OpenBlocks.{OpenContainer, InParagraph as InParagraphLeaf}
 use Rattle.cmark_block_model.specs.BlockPass.{lazy_fed}
@@ -17,30 +18,33 @@ use Rattle.cmark_block_model.proofs.Mirror.{whole-same, pass_with, Fits, paragra
 use Rattle.cmark_block_model.proofs.Feeding.{paragraph-goes}
 
 module _ (options : Options) where
-  lazily-same : (r : Row) (x y : List Row) → lazily options r x ≡ lazily options (lazy_row r) y
+  lazily-same : (k j : Container) (r : Row) (x y : List Row) → lazily options k r x ≡ lazily options j (lazy_row r) y
   unfolding lazily
-  lazily-same r x y = refl
+  lazily-same k j r x y = refl
+
+  pub lazy-begins-at : (place : Place) (b : Blocks) (r : Row) (ahead : List Row) → lines_begin_at options place b (lazy_row r) ahead ≡ InParagraph b (lazy_row r) []
+  lazy-begins-at place b r ahead =
+      ap (λ o. lines_begin_as o (λ k. lines_begin_in options (length r.columns) (place_in k) NoBlocks (enter k (lazy_row r)) (within k (is_bare_start k (lazy_row r)) ahead)) b (lazy_row r)) (at-lazy options place (lazy_row r) ahead refl)
 
   pub lazy-begins : (b : Blocks) (r : Row) (ahead : List Row) → lines_begin options b (lazy_row r) ahead ≡ InParagraph b (lazy_row r) []
   unfolding lines_begin
-  lazy-begins b r ahead =
-      ap (λ o. lines_begin_as o (λ k. lines_begin_in options (length r.columns) NoBlocks (enter k (lazy_row r)) (within k (is_bare_start k (lazy_row r)) ahead)) b (lazy_row r)) (opens-lazy options (lazy_row r) ahead refl)
+  lazy-begins b r ahead = lazy-begins-at (place_behind Apart b) b r ahead
 
-  pub lazy-paragraph : (closed : Blocks) (first : Row) (more : List Row) (r : Row) (ahead x : List Row) → lazily options r x ≡ true → lines_feed options (InParagraph closed first more) (lazy_row r) ahead ≡ InParagraph closed first (more ++ lazy_row r ∷ [])
-  lazy-paragraph closed first more r ahead x e =
+  pub lazy-paragraph : (closed : Blocks) (first : Row) (more : List Row) (r : Row) (ahead x : List Row) (j : Container) → lazily options j r x ≡ true → lines_feed options (InParagraph closed first more) (lazy_row r) ahead ≡ InParagraph closed first (more ++ lazy_row r ∷ [])
+  lazy-paragraph closed first more r ahead x j e =
       let other = lines_begin options (join_blocks closed (Paragraph first more NoBlocks)) (lazy_row r) ahead in
       ap (λ u. lines_underline_or u (λ level. Between (join_blocks closed (SetextHeading level first more (lazy_row r) NoBlocks))) (lines_go_on_or (texts options (lazy_row r) ahead) (InParagraph closed first (more ++ lazy_row r ∷ [])) other)) (underlines-lazy options (lazy_row r) refl)
-      ∙ ap (λ z. lines_go_on_or z (InParagraph closed first (more ++ lazy_row r ∷ [])) other) (lazily-texts options r x ahead e)
+      ∙ ap (λ z. lines_go_on_or z (InParagraph closed first (more ++ lazy_row r ∷ [])) other) (lazily-texts options j r x ahead e)
 
-  pub lazy-container : (closed : Blocks) (k : Container) (first : Row) (more : List Row) (inside : OpenLines) (r : Row) (ahead x : List Row) → lazily options r x ≡ true → lines_take_lazy inside ≡ true
+  pub lazy-container : (closed : Blocks) (k : Container) (first : Row) (more : List Row) (inside : OpenLines) (r : Row) (ahead x : List Row) (j : Container) → lazily options j r x ≡ true → lines_take_lazy inside ≡ true
       → lines_feed options (InContainer closed k first more inside) (lazy_row r) ahead ≡ InContainer closed k first (more ++ lazy_row r ∷ []) (lines_feed options inside (lazy_row r) (within k false ahead))
-  lazy-container closed k first more inside r ahead x e t =
+  lazy-container closed k first more inside r ahead x j e t =
       let bare = bare_after (is_bare_start k first) more in
       let on = InContainer closed k first (more ++ lazy_row r ∷ []) (lines_feed options inside (strip k bare (lazy_row r)) (within k false ahead)) in
       let off = lines_begin options (join_blocks closed (ContainerBlock k first more (close_lines inside) NoBlocks)) (lazy_row r) ahead in
       let none = keeps-lazy options k bare (lazy_row r) refl in
-      ap (λ o. lines_kept_or o (lazily options (lazy_row r) ahead && lines_take_lazy inside) on off) none
-      ∙ ap (λ z. lines_kept_or None (z && lines_take_lazy inside) on off) (sym (lazily-same r x ahead) ∙ e)
+      ap (λ o. lines_kept_or o (lazily options k (lazy_row r) ahead && lines_take_lazy inside) on off) none
+      ∙ ap (λ z. lines_kept_or None (z && lines_take_lazy inside) on off) (sym (lazily-same j k r x ahead) ∙ e)
       ∙ ap (λ z. lines_kept_or None z on off) t
       ∙ ap (λ s. InContainer closed k first (more ++ lazy_row r ∷ []) (lines_feed options inside s (within k false ahead))) (strip_lazy options k bare (lazy_row r) none)
 
@@ -56,19 +60,19 @@ module _ (text : List ℕ) (options : Options) (lookup : Lookup) where
       ap (λ o. pass_with (inner_at text options lookup i (within k false ahead) (entered k first c)) o (bare_at false i) (leaf_at text options lookup i) n) (append_assoc outer (v ∷ []) cs)
       ∙ ap (λ z. pass_with (inner_at text options lookup i (within k z ahead) (entered k first c)) (outer ++ v ∷ cs) (bare_at z i) (leaf_at text options lookup i) n) (sym (bare_push options (is_bare_start k first) more s))
 
-  pub lazy-feeds : (o : OpenLines) (b : Bool) (r : Row) (ahead x : List Row) (l : Level) (outer : List OpenContainer) (n : ℕ) → r.lazy ≡ false → Fits b o [] n → lines_take_lazy o ≡ true → lazily options r x ≡ true
+  pub lazy-feeds : (o : OpenLines) (b : Bool) (r : Row) (ahead x : List Row) (j : Container) (l : Level) (outer : List OpenContainer) (n : ℕ) → r.lazy ≡ false → Fits b o [] n → lines_take_lazy o ≡ true → lazily options j r x ≡ true
       → lazy_fed text options lookup (leaf_at text options lookup o) r (pass_with (inner_at text options lookup o [] l) (outer ++ containers_at text options lookup o l) false (leaf_at text options lookup o) n)
       ≡ pass_at text options lookup (lines_feed options o (lazy_row r) ahead) ahead l outer false n
-  lazy-feeds (Between closed) b r ahead x l outer n e f t z = absurd (true≢false (sym t))
-  lazy-feeds BehindTag b r ahead x l outer n e f t z =
+  lazy-feeds (Between closed) b r ahead x j l outer n e f t z = absurd (true≢false (sym t))
+  lazy-feeds BehindTag b r ahead x j l outer n e f t z =
       ap (λ q. pass_with (paragraph_open text options lookup r [] l) (outer ++ []) false (InParagraphLeaf (start_of q) q) n) (sym (whole-same r e))
-      ∙ ap (λ o. pass_at text options lookup o ahead l outer false n) (sym (lazy-begins options NoBlocks r ahead))
-  lazy-feeds (InParagraph closed first more) b r ahead x l outer n e f t z =
+      ∙ ap (λ o. pass_at text options lookup o ahead l outer false n) (sym (lazy-begins-at options BehindLazy NoBlocks r ahead))
+  lazy-feeds (InParagraph closed first more) b r ahead x j l outer n e f t z =
       paragraph-goes text options lookup first more r (lazy_row r) (replay text options lookup closed l) (outer ++ []) (paragraph_leaf text options lookup first more) n (whole-same r e)
-      ∙ ap (λ o. pass_at text options lookup o ahead l outer false n) (sym (lazy-paragraph options closed first more r ahead x z))
-  lazy-feeds (InLeaf closed leaf first had zero) b r ahead x l outer n e f t z = go leaf t
+      ∙ ap (λ o. pass_at text options lookup o ahead l outer false n) (sym (lazy-paragraph options closed first more r ahead x j z))
+  lazy-feeds (InLeaf closed leaf first had zero) b r ahead x j l outer n e f t z = go leaf t
     where
-      go : (leaf : Leaf) → may_lazy leaf ≡ true → lazy_fed text options lookup (leaf_at text options lookup (InLeaf closed leaf first had zero)) r (pass_with (inner_at text options lookup (InLeaf closed leaf first had zero) [] l) (outer ++ []) false (leaf_at text options lookup (InLeaf closed leaf first had zero)) n)
+      go : (leaf : Leaf) → allows_lazy (behind_leaf leaf) ≡ true → lazy_fed text options lookup (leaf_at text options lookup (InLeaf closed leaf first had zero)) r (pass_with (inner_at text options lookup (InLeaf closed leaf first had zero) [] l) (outer ++ []) false (leaf_at text options lookup (InLeaf closed leaf first had zero)) n)
           ≡ pass_at text options lookup (lines_begin options (join_blocks closed (LeafBlock leaf first had NoBlocks)) (lazy_row r) ahead) ahead l outer false n
       go ThematicBreak y = absurd (true≢false (sym y))
       go (AtxHeading level) y = absurd (true≢false (sym y))
@@ -82,13 +86,13 @@ module _ (text : List ℕ) (options : Options) (lookup : Lookup) where
           ∙ ap (λ q. pass_with (paragraph_open text options lookup r [] q) (outer ++ []) false (InParagraphLeaf (start_of r) r) n) (sym (replay-join text options lookup closed (LeafBlock d first had NoBlocks) l))
           ∙ ap (λ q. pass_with (paragraph_open text options lookup r [] (replay text options lookup (join_blocks closed (LeafBlock d first had NoBlocks)) l)) (outer ++ []) false (InParagraphLeaf (start_of q) q) n) (sym (whole-same r e))
           ∙ ap (λ o. pass_at text options lookup o ahead l outer false n) (sym (lazy-begins options (join_blocks closed (LeafBlock d first had NoBlocks)) r ahead))
-  lazy-feeds (InLeaf closed leaf first had (suc left)) b r ahead x l outer n e f t z = absurd (let le : suc left ≤ 0 = f.1 in omega (arith, le))
-  lazy-feeds (InVerbatim closed verbatim first had waiting) b r ahead x l outer n e f t z = absurd (true≢false (sym t))
-  lazy-feeds (InContainer closed k first more inside) b r ahead x l outer n e f t z =
+  lazy-feeds (InLeaf closed leaf first had (suc left)) b r ahead x j l outer n e f t z = absurd (let le : suc left ≤ 0 = f.1 in omega (arith, le))
+  lazy-feeds (InVerbatim closed verbatim first had waiting) b r ahead x j l outer n e f t z = absurd (true≢false (sym t))
+  lazy-feeds (InContainer closed k first more inside) b r ahead x j l outer n e f t z =
       let c = replay text options lookup closed l in
       let v = container_at text options lookup k first c in
       let cs = containers_at text options lookup inside (entered k first c) in
       ap (λ o. lazy_fed text options lookup (leaf_at text options lookup inside) r (pass_with (inner_at text options lookup inside [] (entered k first c)) o false (leaf_at text options lookup inside) n)) (sym (append_assoc outer (v ∷ []) cs))
-      ∙ lazy-feeds inside (bare_after (is_bare_start k first) more) r (within k false ahead) x (entered k first c) (outer ++ v ∷ []) n e f.2 t z
+      ∙ lazy-feeds inside (bare_after (is_bare_start k first) more) r (within k false ahead) x j (entered k first c) (outer ++ v ∷ []) n e f.2 t z
       ∙ container-goes closed k first more (lazy_row r) (lines_feed options inside (lazy_row r) (within k false ahead)) ahead l outer false n
-      ∙ ap (λ o. pass_at text options lookup o ahead l outer false n) (sym (lazy-container options closed k first more inside r ahead x z t))
+      ∙ ap (λ o. pass_at text options lookup o ahead l outer false n) (sym (lazy-container options closed k first more inside r ahead x j z t))

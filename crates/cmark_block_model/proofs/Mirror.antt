@@ -7,7 +7,8 @@ use Rattle.cmark_grammar.specs.Rows.{Row, start_of, begin_of, past_of, first_pla
 use Rattle.cmark_grammar.specs.Leaves.{closes_fence}
 use Rattle.cmark_grammar.specs.Containers.{Container, is_bare_start, bare_after}
 use Rattle.cmark_grammar.specs.Openings.{Leaf, ThematicBreak, AtxHeading, IndentedCode, FencedCode, HtmlBlock, LinkDefinition, MetadataBlock}
-use Rattle.cmark_grammar.specs.Blocks.{may_lazy}
+use Rattle.cmark_grammar.specs.Blocks.{behind_leaf}
+use Rattle.cmark_grammar.specs.Places.{allows_lazy}
 use Rattle.cmark_grammar.specs.BlocksModel.{within}
 use Rattle.cmark_grammar.specs.BlocksByLine.{Verbatim, Indented, Fenced, HtmlLines, OpenLines, Between, BehindTag, InParagraph, InLeaf, InVerbatim, InContainer, Metadata}
 use Rattle.cmark_grammar.specs.Tokens.{resolved, words_end, stretch_then, stretches, html_tokens, html_then, verbatim_line, code_columns}
@@ -96,7 +97,7 @@ abbrev pub Fits : Bool → OpenLines → List Row → ℕ → Type 0
 Fits bare (Between closed) ahead n = Unit {0}
 Fits bare BehindTag ahead n = bare ≡ false
 Fits bare (InParagraph closed first more) ahead n = (bare ≡ false) × (past_of first more ≡ n)
-Fits bare (InLeaf closed leaf first had left) ahead n = (bare ≡ false) × (left ≤ length ahead) × (may_lazy leaf ≡ false → left ≡ 0)
+Fits bare (InLeaf closed leaf first had left) ahead n = (bare ≡ false) × (left ≤ length ahead) × (allows_lazy (behind_leaf leaf) ≡ false → left ≡ 0)
 Fits bare (InVerbatim closed verbatim first had waiting) ahead n = (bare ≡ false) × FitsVerbatim verbatim first had waiting n
 Fits bare (InContainer closed k first more inside) ahead n =
     (bare ≡ false) × (past_of first more ≡ n) × Fits (bare_after (is_bare_start k first) more) inside (within k (bare_after (is_bare_start k first) more) ahead) n

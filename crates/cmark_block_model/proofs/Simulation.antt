@@ -6,7 +6,8 @@ use Rattle.cmark_grammar.specs.Options.{Options}
 use Rattle.cmark_grammar.specs.Rows.{Row}
 use Rattle.cmark_grammar.specs.Containers.{keeps, strip, strip_as, is_bare_start, bare_after}
 use Rattle.cmark_grammar.specs.Openings.{Leaf, ThematicBreak, AtxHeading, IndentedCode, FencedCode, HtmlBlock, LinkDefinition, lazily, MetadataBlock}
-use Rattle.cmark_grammar.specs.Blocks.{Nil as NoBlocks, ContainerBlock, join as join_blocks, may_lazy}
+use Rattle.cmark_grammar.specs.Blocks.{Nil as NoBlocks, ContainerBlock, join as join_blocks, behind_leaf}
+use Rattle.cmark_grammar.specs.Places.{allows_lazy}
 use Rattle.cmark_grammar.specs.BlocksModel.{within}
 use Rattle.cmark_grammar.specs.BlocksByLine.{Verbatim, Indented, Fenced, HtmlLines, further_if, OpenLines, Between, BehindTag, InParagraph, InLeaf, InVerbatim, InContainer, close_lines, lines_take_lazy, lines_kept_or, verbatim_line, lines_begin, lines_feed, Metadata}
 use Rattle.cmark_grammar.proofs.BlockLaws.{strip_lazy, strip_whole}
@@ -17,7 +18,7 @@ use Rattle.cmark_block_model.proofs.Replay.{Level, entered, replay}
 use Rattle.cmark_block_model.proofs.Mirror.{pass_with, leaf_left, verbatim_leaf, Fits, inner_at, leaf_at, container_at, containers_at, pass_at, bare_at}
 use Rattle.cmark_block_model.proofs.Flags.{and-true, and-false}
 use Rattle.cmark_block_model.proofs.Closing.{leaf-closes, containers-close}
-use Rattle.cmark_block_model.proofs.Beginning.{ahead-inside, starts}
+use Rattle.cmark_block_model.proofs.Beginning.{ahead-inside, starts, starts-behind-tag}
 use Rattle.cmark_block_model.proofs.Feeding.{paragraph-feeds, leaf-feeds}
 use Rattle.cmark_block_model.proofs.VerbatimLines.{verbatim-feeds}
 use Rattle.cmark_block_model.proofs.LazyLines.{container-goes, lazy-feeds}
@@ -30,7 +31,7 @@ module _ (text : List ℕ) (options : Options) (lookup : Lookup) where
   takes-lazy (InParagraph closed first more) = refl
   takes-lazy (InLeaf closed leaf first had left) = go leaf
     where
-      go : (leaf : Leaf) → takes_lazy (leaf_left leaf left) ≡ may_lazy leaf
+      go : (leaf : Leaf) → takes_lazy (leaf_left leaf left) ≡ allows_lazy (behind_leaf leaf)
       go ThematicBreak = refl
       go (AtxHeading level) = refl
       go IndentedCode = refl
@@ -65,7 +66,7 @@ module _ (text : List ℕ) (options : Options) (lookup : Lookup) where
   simulates (Between closed) b r next ahead l outer n e a f =
       ap (λ o. begin text options lookup r next (pass_with (replay text options lookup closed l) o false Closed n)) (append-nil outer) ∙ starts text options lookup closed r next ahead l outer n e a
   simulates BehindTag b r next ahead l outer n e a f =
-      ap (λ o. begin text options lookup r next (pass_with l o false Closed n)) (append-nil outer) ∙ starts text options lookup NoBlocks r next ahead l outer n e a
+      ap (λ o. begin text options lookup r next (pass_with l o false Closed n)) (append-nil outer) ∙ starts-behind-tag text options lookup r next ahead l outer n e a
   simulates (InParagraph closed first more) b r next ahead l outer n e a f =
       let i = InParagraph closed first more in
       ap (λ o. leaf_fed text options lookup (leaf_at text options lookup i) r next (pass_with (inner_at text options lookup i (r ∷ ahead) l) o false (leaf_at text options lookup i) n)) (append-nil outer)
@@ -113,15 +114,15 @@ module _ (text : List ℕ) (options : Options) (lookup : Lookup) where
       off : OpenLines
       off = lines_begin options (join_blocks closed (ContainerBlock k first more (close_lines inside) NoBlocks)) r ahead
 
-      missed : keeps k bare r ≡ None → (z : Bool) → (lazily options r ahead && lines_take_lazy inside) ≡ z
+      missed : keeps k bare r ≡ None → (z : Bool) → (lazily options k r ahead && lines_take_lazy inside) ≡ z
           → (if z then lazy_fed text options lookup (leaf_at text options lookup inside) r p else begin text options lookup r next (containers_closed text options lookup outer (v ∷ cs) (leaf_closed text options lookup p)))
           ≡ pass_at text options lookup (lines_kept_or None z on off) ahead l outer false n
       missed q true t =
-          let y = is_both options (lazily options r ahead) (lines_take_lazy inside) t in
+          let y = is_both options (lazily options k r ahead) (lines_take_lazy inside) t in
           let g : Fits bare inside [] n = subst (λ x. Fits bare inside x n) (off-ahead options k bare r ahead q) inner in
           ap (λ x. lazy_fed text options lookup (leaf_at text options lookup inside) r (seen x)) (off-ahead options k bare r ahead q)
           ∙ ap (λ o. lazy_fed text options lookup (leaf_at text options lookup inside) r (pass_with (inner_at text options lookup inside [] (entered k first c)) o false (leaf_at text options lookup inside) n)) (sym (append_assoc outer (v ∷ []) cs))
-          ∙ lazy-feeds text options lookup inside bare r (within k false ahead) ahead (entered k first c) (outer ++ v ∷ []) n e g y.1 y.0
+          ∙ lazy-feeds text options lookup inside bare r (within k false ahead) ahead k (entered k first c) (outer ++ v ∷ []) n e g y.1 y.0
           ∙ ap (λ s. pass_at text options lookup (lines_feed options inside s (within k false ahead)) (within k false ahead) (entered k first c) (outer ++ v ∷ []) false n) (sym (strip_lazy options k bare r q))
           ∙ container-goes text options lookup closed k first more r (lines_feed options inside (strip k bare r) (within k false ahead)) ahead l outer false n
       missed q false t =
@@ -135,7 +136,7 @@ module _ (text : List ℕ) (options : Options) (lookup : Lookup) where
           → ((s : Row) → keeps k bare r ≡ Some s → fed (kept_by text options lookup (outer ++ v ∷ []) cs (bare_at bare inside) (strip k bare r)) next (pass_with (inner_at text options lookup inside (strip k bare r ∷ within k false ahead) (entered k first (replay text options lookup closed l))) ((outer ++ v ∷ []) ++ cs) false (leaf_at text options lookup inside) n)
           ≡ pass_at text options lookup (lines_feed options inside (strip k bare r) (within k false ahead)) (within k false ahead) (entered k first (replay text options lookup closed l)) (outer ++ v ∷ []) false n)
           → fed (kept_if text options lookup o (λ s. kept_by text options lookup (outer ++ v ∷ []) cs (bare_at bare inside) s) (record { kept = outer; missed = v ∷ cs; left = r })) next p
-          ≡ pass_at text options lookup (lines_kept_or o (lazily options r ahead && lines_take_lazy inside) on off) ahead l outer false n
+          ≡ pass_at text options lookup (lines_kept_or o (lazily options k r ahead && lines_take_lazy inside) on off) ahead l outer false n
       go (Some s) q ih =
           ap (λ x. fed (kept_by text options lookup (outer ++ v ∷ []) cs (bare_at bare inside) x) next p) (sym (ap (λ o. strip_as o r) q))
           ∙ ap (λ x. fed (kept_by text options lookup (outer ++ v ∷ []) cs (bare_at bare inside) (strip k bare r)) next (seen x)) (kept-ahead options k bare r s ahead e q)
@@ -143,6 +144,6 @@ module _ (text : List ℕ) (options : Options) (lookup : Lookup) where
           ∙ ih s q
           ∙ container-goes text options lookup closed k first more r (lines_feed options inside (strip k bare r) (within k false ahead)) ahead l outer false n
       go None q ih =
-          ap (λ x. if lazily options r x && takes_lazy (leaf_at text options lookup inside) then lazy_fed text options lookup (leaf_at text options lookup inside) r p else begin text options lookup r next (containers_closed text options lookup outer (v ∷ cs) (leaf_closed text options lookup p))) a
-          ∙ ap (λ x. if lazily options r ahead && x then lazy_fed text options lookup (leaf_at text options lookup inside) r p else begin text options lookup r next (containers_closed text options lookup outer (v ∷ cs) (leaf_closed text options lookup p))) (takes-lazy inside)
-          ∙ missed q (lazily options r ahead && lines_take_lazy inside) refl
+          ap (λ x. if lazily options k r x && takes_lazy (leaf_at text options lookup inside) then lazy_fed text options lookup (leaf_at text options lookup inside) r p else begin text options lookup r next (containers_closed text options lookup outer (v ∷ cs) (leaf_closed text options lookup p))) a
+          ∙ ap (λ x. if lazily options k r ahead && x then lazy_fed text options lookup (leaf_at text options lookup inside) r p else begin text options lookup r next (containers_closed text options lookup outer (v ∷ cs) (leaf_closed text options lookup p))) (takes-lazy inside)
+          ∙ missed q (lazily options k r ahead && lines_take_lazy inside) refl

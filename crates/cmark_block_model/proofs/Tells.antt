@@ -1,5 +1,5 @@
 -- What is known of a line by what it begins.
-use Rattle.std.proofs.Common.{◌≡◌, ℕ, Bool, true, false, List, length, refl, Option, Some, None}
+use Rattle.std.proofs.Common.{◌≡◌, ℕ, Bool, true, false, List, length, refl, sym, subst, ⊎_elim, Option, Some, None}
 use Rattle.std.specs.Prelude.{if◌then◌else◌, nat_le}
 use Rattle.cmark_grammar.specs.Options.{Options}
 use Rattle.cmark_grammar.specs.Rows.{Row, words_of, is_blank_line, indent_of}
@@ -7,9 +7,11 @@ use Rattle.cmark_grammar.specs.Leaves.{Fence, counted, is_thematic_break, is_atx
 use Rattle.cmark_grammar.specs.HtmlBlocks.{html_kind}
 use Rattle.cmark_grammar.specs.LinkDefinitions.{Defined, definition_in, bytes_over}
 use Rattle.cmark_grammar.specs.Containers.{Container, container_of}
-use Rattle.cmark_grammar.specs.Openings.{ThematicBreak, AtxHeading, IndentedCode, FencedCode, HtmlBlock, LinkDefinition, Opening, Blank, Nests, Takes, Plain, or_else, nests_if, fenced_if, html_if, break_if, heading_if, text_lines, defined_if, definition_of, leaf_of, opens, MetadataBlock, metadata_begun, whole_opens}
+use Rattle.cmark_grammar.specs.Openings.{ThematicBreak, AtxHeading, IndentedCode, FencedCode, HtmlBlock, LinkDefinition, Opening, Blank, Nests, Takes, Plain, or_else, nests_if, fenced_if, html_if, break_if, heading_if, text_lines, defined_if, definition_of, leaf_of, opens, opens_at, MetadataBlock, metadata_begun, whole_opens}
 use Rattle.cmark_grammar.specs.Metadata.{metadata_kind, metadata_further, holds_metadata}
 use Rattle.cmark_grammar.specs.MetadataBlockKind.{MetadataBlockKind}
+use Rattle.cmark_grammar.specs.Places.{Place}
+use Rattle.cmark_grammar.proofs.BlockLaws.{at-or}
 
 -- one that begins nothing is blank, and a break or heading takes no further line
 abbrev pub Tells : Row → Opening → Type 0
@@ -83,3 +85,11 @@ module _ (options : Options) where
       go : (a : Bool) → r.lazy ≡ a → Tells r (if a then Plain else or_else (metadata_begun (metadata_kind options r) ahead) (whole_opens options r ahead))
       go true l = tt
       go false l = tells-or r (metadata_begun (metadata_kind options r) ahead) (whole_opens options r ahead) (tells-metadata r (metadata_kind options r) ahead) (opened (is_blank_line r) l refl (nat_le 4 (indent_of r)))
+
+  -- so at each place
+  pub tells-at : (place : Place) (r : Row) (ahead : List Row) → Tells r (opens_at options place r ahead)
+  tells-at place r ahead = ⊎_elim (λ p. subst (Tells r) (sym p.1) (text p.0 (is_blank_line r) refl)) (λ q. subst (Tells r) (sym q) (tells r ahead)) (at-or options place r ahead)
+    where
+      text : r.lazy ≡ false → (b : Bool) → is_blank_line r ≡ b → Tells r (if b then Blank else Plain)
+      text l true e = (l, e)
+      text l false e = tt

@@ -268,7 +268,7 @@ module _ (text : List ℕ) (options : Options) (lookup : Lookup) where
   abbrev pub line_with : (missed kept : List OpenContainer) → Row → (next : List Row) → Pass → Pass
   line_with [] kept r next p = leaf_fed p.leaf r next p
   line_with (c ∷ cs) kept r next p =
-      if lazily options r (ahead_in kept next) && takes_lazy p.leaf then lazy_fed p.leaf r p
+      if lazily options c.container r (ahead_in kept next) && takes_lazy p.leaf then lazy_fed p.leaf r p
       else begin r next (containers_closed kept (c ∷ cs) (leaf_closed p))
 
   -- one more line, with the whole lines behind it

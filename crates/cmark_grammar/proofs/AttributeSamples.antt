@@ -1,7 +1,7 @@
 -- Attributes of headings, computed from the definitions.
-use Rattle.std.specs.Prelude.{◌≡◌, true, [], ◌∷◌, codes, List, ℕ, Some, None}
+use Rattle.std.specs.Prelude.{◌≡◌, true, [], ◌∷◌, codes, List, ℕ, Some}
 use Rattle.std.proofs.Common.{refl}
-use Rattle.cmark_grammar.specs.Attributes.{Attributes, Attribute, no_attributes, attributes_of}
+use Rattle.cmark_grammar.specs.Attributes.{Attributes, no_attributes, attributes_of}
 use Rattle.cmark_grammar.specs.Entities.{basic_entity}
 use Rattle.cmark_grammar.specs.Leaves.{underlines}
 use Rattle.cmark_grammar.specs.Containers.{enter, keeps}

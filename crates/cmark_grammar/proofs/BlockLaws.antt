@@ -1,5 +1,5 @@
 -- The laws of openings and prefixes that the theorems on blocks use.
-use Rattle.std.proofs.Common.{◌≡◌, ◌≢◌, ◌⊎◌, inl, inr, ℕ, zero, suc, ◌≤◌, ◌<◌, Bool, true, false, ◌||◌, ◌&&◌, List, [], ◌∷◌, length, drop, take_while, refl, sym, ap, ◌∙◌, subst, arith, Option, Some, None, length-drop, true≢false, not, ◌==◌}
+use Rattle.std.proofs.Common.{◌≡◌, ◌≢◌, ◌⊎◌, inl, inr, ⊎_elim, ℕ, zero, suc, ◌≤◌, ◌<◌, Bool, true, false, ◌||◌, ◌&&◌, List, [], ◌∷◌, length, drop, take_while, refl, sym, ap, ◌∙◌, subst, arith, Option, Some, None, length-drop, true≢false, not, ◌==◌}
 use Rattle.std.specs.Prelude.{if◌then◌else◌, cond, nat_le, nat_lt}
 use Rattle.std.proofs.lemmas.List.Sums.{take_while-cons}
 use Rattle.cmark_grammar.specs.Columns.{Column, is_blank_byte, is_blank, without_indent, bytes_of}
@@ -12,8 +12,9 @@ use Rattle.cmark_grammar.specs.BlockQuoteKind.{BlockQuoteKind}
 use Rattle.cmark_grammar.specs.Containers.{Container, Quote, Item, Marker, marker_of, delimited, digits, is_bullet, is_delimiter, number_of, item_with, width_with, container_with, container_of, item_of, is_quote, quote_width, width_of, enter, keep_as, keeps, strip_as, strip}
 use Rattle.cmark_grammar.specs.HtmlBlocks.{html_kind, holds_end, html_further}
 use Rattle.cmark_grammar.specs.LinkDefinitions.{Defined, definition_in, bytes_over}
-use Rattle.cmark_grammar.specs.Openings.{Leaf, IndentedCode, MetadataBlock, Opening, Blank, Nests, Takes, Plain, or_else, nests_if, fenced_if, metadata_begun, leaf_of, whole_opens, opens, texts, lazily, html_if, break_if, heading_if, text_lines, defined_if, put_if, definition_of, is_none}
+use Rattle.cmark_grammar.specs.Openings.{Leaf, IndentedCode, MetadataBlock, Opening, Blank, Nests, Takes, Plain, or_else, nests_if, fenced_if, metadata_begun, leaf_of, whole_opens, opens, opens_at, text_begun, texts, lazily, html_if, break_if, heading_if, text_lines, defined_if, put_if, definition_of, is_none}
 use Rattle.cmark_grammar.specs.Options.{Options}
+use Rattle.cmark_grammar.specs.Places.{Place, is_behind_task}
 
 -- blanks begin with no other byte
 blank-starts : (cs : List Column) (b : ℕ) (mark : List ℕ) → is_blank_byte b ≡ false → is_bare (without_indent cs) ≡ true → starts (b ∷ mark) (bytes_of cs) ≡ false
@@ -334,13 +335,13 @@ module _ (options : Options) where
   unfolding texts
   texts-lazy r x y e = rw e refl
 
-  pub lazily-texts : (r : Row) (x y : List Row) → lazily options r x ≡ true → texts options (lazy_row r) y ≡ true
+  pub lazily-texts : (k : Container) (r : Row) (x y : List Row) → lazily options k r x ≡ true → texts options (lazy_row r) y ≡ true
   unfolding texts lazily
-  lazily-texts r x y e = e
+  lazily-texts k r x y e = e
 
-  pub texts-lazily : (r : Row) (x : List Row) → r.lazy ≡ true → texts options (lazy_row r) [] ≡ true → lazily options r x ≡ true
+  pub texts-lazily : (k : Container) (r : Row) (x : List Row) → r.lazy ≡ true → texts options (lazy_row r) [] ≡ true → lazily options k r x ≡ true
   unfolding texts lazily
-  texts-lazily r x e t = t
+  texts-lazily k r x e t = t
 
   -- a line is whole, or text that lacks a prefix
   pub texts_or : (r : Row) (ahead : List Row) → texts options (lazy_row r) [] ≡ true → (r.lazy ≡ false) ⊎ (texts options r ahead ≡ true)
@@ -366,3 +367,62 @@ module _ (options : Options) where
   pub texts-words : (r : Row) (ahead : List Row) → texts options r ahead ≡ true → is_blank_line r ≡ false
   unfolding texts
   texts-words r ahead t = not_or (is_blank_line r) _ t
+
+  -- behind a task marker text begins a paragraph; elsewhere a line begins what it begins at any other place
+  pub at-or : (place : Place) (r : Row) (ahead : List Row) → ((r.lazy ≡ false) × (opens_at options place r ahead ≡ text_begun r)) ⊎ (opens_at options place r ahead ≡ opens options r ahead)
+  at-or place r ahead = go (is_behind_task place) r.lazy refl refl
+    where
+      go : (t z : Bool) → is_behind_task place ≡ t → r.lazy ≡ z → ((r.lazy ≡ false) × ((if is_behind_task place && not r.lazy then text_begun r else opens options r ahead) ≡ text_begun r)) ⊎ ((if is_behind_task place && not r.lazy then text_begun r else opens options r ahead) ≡ opens options r ahead)
+      go false z et ez = inr (rw et refl)
+      go true true et ez = inr (rw (et, ez) refl)
+      go true false et ez = inl (ez, rw (et, ez) refl)
+
+  text-nests : (k : Container) (r : Row) → text_begun r ≡ Nests k → ⊥
+  text-nests k r e = go (is_blank_line r) e
+    where
+      go : (z : Bool) → (if z then Blank else Plain) ≡ Nests k → ⊥
+      go true q = cc
+      go false q = cc
+
+  text-takes : (leaf : Leaf) (n : ℕ) (r : Row) → text_begun r ≡ Takes leaf n → ⊥
+  text-takes leaf n r e = go (is_blank_line r) e
+    where
+      go : (z : Bool) → (if z then Blank else Plain) ≡ Takes leaf n → ⊥
+      go true q = cc
+      go false q = cc
+
+  pub at-lazy : (place : Place) (r : Row) (ahead : List Row) → r.lazy ≡ true → opens_at options place r ahead ≡ Plain
+  at-lazy place r ahead e = ⊎_elim (λ p. absurd (true≢false (sym e ∙ p.0))) (λ q. q ∙ opens-lazy r ahead e) (at-or place r ahead)
+
+  pub at-whole : (place : Place) (r : Row) (ahead : List Row) → opens_at options place r ahead ≢ Plain → r.lazy ≡ false
+  at-whole place r ahead ne = go r.lazy refl
+    where
+      go : (z : Bool) → r.lazy ≡ z → r.lazy ≡ false
+      go true e = absurd (ne (at-lazy place r ahead e))
+      go false e = e
+
+  pub at-nests : (place : Place) (r : Row) (ahead : List Row) (k : Container) → opens_at options place r ahead ≡ Nests k → opens options r ahead ≡ Nests k
+  at-nests place r ahead k e = ⊎_elim (λ p. absurd (text-nests k r (sym p.1 ∙ e))) (λ q. sym q ∙ e) (at-or place r ahead)
+
+  pub at-takes : (place : Place) (r : Row) (ahead : List Row) (leaf : Leaf) (n : ℕ) → opens_at options place r ahead ≡ Takes leaf n → opens options r ahead ≡ Takes leaf n
+  at-takes place r ahead leaf n e = ⊎_elim (λ p. absurd (text-takes leaf n r (sym p.1 ∙ e))) (λ q. sym q ∙ e) (at-or place r ahead)
+
+  pub at-len : (place : Place) (r : Row) (ahead : List Row) (leaf : Leaf) (n : ℕ) → opens_at options place r ahead ≡ Takes leaf n → n ≤ length ahead
+  at-len place r ahead leaf n e = opens-len r ahead leaf n (at-takes place r ahead leaf n e)
+
+  pub at-enter : (place : Place) (k : Container) (r : Row) (ahead : List Row) → opens_at options place r ahead ≡ Nests k → length (enter k r).columns < length r.columns
+  at-enter place k r ahead e = enter_len k r ahead (at-nests place r ahead k e)
+
+  pub at-words : (place : Place) (r : Row) (ahead : List Row) → r.lazy ≡ false → opens_at options place r ahead ≢ Blank → is_blank_line r ≡ false
+  at-words place r ahead w ne = ⊎_elim (λ p. go (is_blank_line r) refl p.1) (λ q. opens-words r ahead w (λ b. ne (q ∙ b))) (at-or place r ahead)
+    where
+      go : (z : Bool) → is_blank_line r ≡ z → opens_at options place r ahead ≡ text_begun r → is_blank_line r ≡ false
+      go false e q = e
+      go true e q = absurd (ne (q ∙ ap (λ z. if z then Blank else Plain) e))
+
+  -- a line that begins nothing is blank, whatever its place
+  pub blank-at : (place : Place) (r : Row) (ahead : List Row) → opens options r ahead ≡ Blank → is_blank_line r ≡ true → opens_at options place r ahead ≡ Blank
+  blank-at place r ahead e b = ⊎_elim (λ p. p.1 ∙ ap (λ z. if z then Blank else Plain) b) (λ q. q ∙ e) (at-or place r ahead)
+
+  pub at-plain : (place : Place) (r : Row) (ahead : List Row) → is_behind_task place ≡ false → opens_at options place r ahead ≡ opens options r ahead
+  at-plain place r ahead e = ap (λ z. if z && not r.lazy then text_begun r else opens options r ahead) e

@@ -1,7 +1,8 @@
 -- Line by line come the same blocks.
-use Rattle.std.proofs.Common.{◌≡◌, ℕ, zero, suc, Bool, true, false, ◌&&◌, List, [], ◌∷◌, ◌++◌, length, refl, sym, ap, ◌∙◌, append_assoc, append-nil, Option, Some, None, true≢false}
+use Rattle.std.proofs.Common.{◌≡◌, ⊎_elim, ℕ, zero, suc, Bool, true, false, ◌&&◌, List, [], ◌∷◌, ◌++◌, length, refl, sym, ap, subst, ◌∙◌, append_assoc, append-nil, Option, Some, None, true≢false}
 use Rattle.std.specs.Prelude.{if◌then◌else◌, nat_le}
 use Rattle.cmark_grammar.specs.Options.{Options}
+use Rattle.cmark_grammar.specs.Places.{Place, Apart, BehindLazy, allows_lazy}
 use Rattle.cmark_grammar.specs.Rows.{Row, rows, shown, show_as, words_of, is_blank_line, indent_of}
 use Rattle.cmark_grammar.specs.Leaves.{Fence, Further, GoesOn, Closes, Waits, Stops, count_more, counted, underlines, is_thematic_break, is_atx_heading, run, fence_of, code_further, fence_further, closes_fence}
 use Rattle.cmark_grammar.specs.HtmlBlocks.{html_kind, holds_end, html_further}
@@ -9,12 +10,12 @@ use Rattle.cmark_grammar.specs.LinkDefinitions.{Defined, definition_in, bytes_ov
 use Rattle.cmark_grammar.specs.Metadata.{metadata_kind, metadata_further, holds_metadata, ends_metadata}
 use Rattle.cmark_grammar.specs.MetadataBlockKind.{MetadataBlockKind}
 use Rattle.cmark_grammar.specs.Containers.{Container, is_alert, enter, keeps, strip, is_bare_start, bare_after, container_of}
-use Rattle.cmark_grammar.specs.Openings.{Leaf, ThematicBreak, AtxHeading, IndentedCode, FencedCode, HtmlBlock, LinkDefinition, MetadataBlock, Opening, Blank, Nests, Takes, Plain, or_else, nests_if, fenced_if, metadata_begun, html_if, break_if, heading_if, text_lines, defined_if, definition_of, leaf_of, whole_opens, opens, texts, lazily}
-use Rattle.cmark_grammar.specs.Blocks.{Blocks, Nil, BlankLine, Paragraph, SetextHeading, LeafBlock, ContainerBlock, join, may_lazy}
-use Rattle.cmark_grammar.specs.BlocksModel.{Open, Between as IsBetween, BehindTag as IsBehindTag, InParagraph as IsInParagraph, InLeaf as IsInLeaf, InContainer as IsInContainer, close, takes_lazy, within, inside_begun, begin_as, begin_in, begin, underline_or, goes_on_or, kept_or, feed, feed_all, blocks}
-use Rattle.cmark_grammar.specs.BlocksByLine.{Verbatim, Indented, Fenced, HtmlLines, Metadata, leaf_in, further_in, further_if, OpenLines, Between, BehindTag, InParagraph, InLeaf, InVerbatim, InContainer, blank_lines, close_lines, lines_take_lazy, html_begun, leaf_begun, lines_inside_begun, lines_begin_as, lines_underline_or, lines_go_on_or, lines_kept_or, verbatim_line, lines_begin_in, lines_begin, lines_feed, lines_feed_all, blocks_by_line}
+use Rattle.cmark_grammar.specs.Openings.{Leaf, ThematicBreak, AtxHeading, IndentedCode, FencedCode, HtmlBlock, LinkDefinition, MetadataBlock, Opening, Blank, Nests, Takes, Plain, or_else, nests_if, fenced_if, metadata_begun, html_if, break_if, heading_if, text_lines, defined_if, definition_of, leaf_of, whole_opens, opens, opens_at, texts, lazily}
+use Rattle.cmark_grammar.specs.Blocks.{Blocks, Nil, BlankLine, Paragraph, SetextHeading, LeafBlock, ContainerBlock, join, place_in, behind_leaf}
+use Rattle.cmark_grammar.specs.BlocksModel.{Open, Between as IsBetween, BehindTag as IsBehindTag, InParagraph as IsInParagraph, InLeaf as IsInLeaf, InContainer as IsInContainer, close, takes_lazy, within, inside_begun, begin_as, begin_in, begin_at, begin, place_behind, underline_or, goes_on_or, kept_or, feed, feed_all, blocks}
+use Rattle.cmark_grammar.specs.BlocksByLine.{Verbatim, Indented, Fenced, HtmlLines, Metadata, leaf_in, further_in, further_if, OpenLines, Between, BehindTag, InParagraph, InLeaf, InVerbatim, InContainer, blank_lines, close_lines, lines_take_lazy, html_begun, leaf_begun, lines_inside_begun, lines_begin_as, lines_underline_or, lines_go_on_or, lines_kept_or, verbatim_line, lines_begin_in, lines_begin_at, lines_begin, lines_feed, lines_feed_all, blocks_by_line}
 use Rattle.cmark_grammar.proofs.BlocksSound.{join_assoc, join-Nil, within_row, bare_push}
-use Rattle.cmark_grammar.proofs.BlockLaws.{no_metadata, strip_lazy}
+use Rattle.cmark_grammar.proofs.BlockLaws.{no_metadata, strip_lazy, at-or, blank-at}
 
 -- what a leaf's lines that have waited are, when so many of the lines ahead belong to it
 abbrev pub waited : Blocks → Leaf → Row → (had waiting : List Row) → ℕ → Open
@@ -31,7 +32,7 @@ seen (InLeaf closed leaf first had left) ahead = IsInLeaf closed leaf first had 
 seen (InVerbatim closed verbatim first had waiting) ahead = waited closed (leaf_in verbatim) first had waiting (counted (further_in verbatim) ahead)
 seen (InContainer closed k first more inside) ahead = IsInContainer closed k first more (seen inside (within k (bare_after (is_bare_start k first) more) ahead))
 
-never_lazy : (verbatim : Verbatim) → may_lazy (leaf_in verbatim) ≡ false
+never_lazy : (verbatim : Verbatim) → allows_lazy (behind_leaf (leaf_in verbatim)) ≡ false
 never_lazy Indented = refl
 never_lazy (Fenced fence) = refl
 never_lazy (HtmlLines kind) = refl
@@ -146,11 +147,22 @@ module _ (options : Options) where
       (counts_if r ahead (nat_le 4 (indent_of r)) (Takes IndentedCode (counted code_further ahead)) _ refl
       (counts_or r ahead (nests_if (container_of options r)) (leaf_of options r ahead) (counts_nests r ahead (container_of options r)) (counts_leaf r ahead)))))
 
-  -- a line that waits is blank
-  waits_blank : (verbatim : Verbatim) (r : Row) (ahead : List Row) → further_if r.lazy verbatim r ≡ Waits → opens options r ahead ≡ Blank
-  unfolding opens
-  waits_blank verbatim r ahead e = go r.lazy refl e
+  counts_at : (place : Place) (r : Row) (ahead : List Row) → Counts r ahead (opens_at options place r ahead)
+  counts_at place r ahead = ⊎_elim (λ p. subst (Counts r ahead) (sym p.1) (text (is_blank_line r))) (λ q. subst (Counts r ahead) (sym q) (counts_opens r ahead)) (at-or options place r ahead)
     where
+      text : (z : Bool) → Counts r ahead (if z then Blank else Plain)
+      text true = tt
+      text false = tt
+
+  -- a line that waits is blank
+  waits_blank : (place : Place) (verbatim : Verbatim) (r : Row) (ahead : List Row) → further_if r.lazy verbatim r ≡ Waits → opens_at options place r ahead ≡ Blank
+  unfolding opens
+  waits_blank place verbatim r ahead e = let w = whole r.lazy e in blank-at options place r ahead (go r.lazy refl e) (blank verbatim w)
+    where
+      whole : (z : Bool) → further_if z verbatim r ≡ Waits → further_in verbatim r ≡ Waits
+      whole true f = cc
+      whole false f = f
+
       indented : (z : Bool) → is_blank_line r ≡ z → (if z then Waits else if nat_le 4 (indent_of r) then GoesOn else Stops) ≡ Waits → is_blank_line r ≡ true
       indented true b f = b
       indented false b f = is (nat_le 4 (indent_of r)) f
@@ -179,7 +191,7 @@ module _ (options : Options) where
       go true l f = cc
       go false l f = rw (l, no_metadata options r (blank verbatim f), blank verbatim f) refl
 
-  begin_blank : (closed : Blocks) (r : Row) (ahead : List Row) → opens options r ahead ≡ Blank → begin options closed r ahead ≡ IsBetween (join closed (BlankLine r Nil))
+  begin_blank : (closed : Blocks) (r : Row) (ahead : List Row) → opens_at options (place_behind Apart closed) r ahead ≡ Blank → begin options closed r ahead ≡ IsBetween (join closed (BlankLine r Nil))
   unfolding begin
   begin_blank closed r ahead e = rw e refl
 
@@ -187,9 +199,9 @@ module _ (options : Options) where
   inside_seen true o same ahead e = refl
   inside_seen false o same ahead e = e
 
-  begin_in_seen : (n : ℕ) (closed : Blocks) (r : Row) (ahead : List Row) → seen (lines_begin_in options n closed r ahead) ahead ≡ begin_in options n closed r ahead
-  begin_in_seen zero closed r ahead = refl
-  begin_in_seen (suc n) closed r ahead = go (opens options r ahead) (counts_opens r ahead) (λ k. begin_in_seen n Nil (enter k r) (within k (is_bare_start k r) ahead))
+  begin_in_seen : (n : ℕ) (place : Place) (closed : Blocks) (r : Row) (ahead : List Row) → seen (lines_begin_in options n place closed r ahead) ahead ≡ begin_in options n place closed r ahead
+  begin_in_seen zero place closed r ahead = refl
+  begin_in_seen (suc n) place closed r ahead = go (opens_at options place r ahead) (counts_at place r ahead) (λ k. begin_in_seen n (place_in k) Nil (enter k r) (within k (is_bare_start k r) ahead))
     where
       html : (kind : ℕ) (z : Bool) → seen (html_begun z closed kind r) ahead ≡ IsInLeaf closed (HtmlBlock kind) r [] (if z then 0 else counted (html_further kind) ahead)
       html kind true = refl
@@ -204,20 +216,23 @@ module _ (options : Options) where
       leaf (LinkDefinition definition) m c = refl
       leaf (MetadataBlock kind) m c = ap (IsInLeaf closed (MetadataBlock kind) r []) (sym c)
 
-      go : (o : Opening) → Counts r ahead o → ((k : Container) → seen (lines_begin_in options n Nil (enter k r) (within k (is_bare_start k r) ahead)) (within k (is_bare_start k r) ahead) ≡ begin_in options n Nil (enter k r) (within k (is_bare_start k r) ahead)) → seen (lines_begin_as o (λ k. lines_begin_in options n Nil (enter k r) (within k (is_bare_start k r) ahead)) closed r) ahead ≡ begin_as o (λ k. begin_in options n Nil (enter k r) (within k (is_bare_start k r) ahead)) closed r
+      go : (o : Opening) → Counts r ahead o → ((k : Container) → seen (lines_begin_in options n (place_in k) Nil (enter k r) (within k (is_bare_start k r) ahead)) (within k (is_bare_start k r) ahead) ≡ begin_in options n (place_in k) Nil (enter k r) (within k (is_bare_start k r) ahead)) → seen (lines_begin_as o (λ k. lines_begin_in options n (place_in k) Nil (enter k r) (within k (is_bare_start k r) ahead)) closed r) ahead ≡ begin_as o (λ k. begin_in options n (place_in k) Nil (enter k r) (within k (is_bare_start k r) ahead)) closed r
       go Blank c ih = refl
       go (Nests k) c ih = ap (IsInContainer closed k r []) (inside_seen (is_alert k) _ _ _ (ih k))
       go (Takes l m) c ih = leaf l m c
       go Plain c ih = refl
 
+  begin_at_seen : (place : Place) (closed : Blocks) (r : Row) (ahead : List Row) → seen (lines_begin_at options place closed r ahead) ahead ≡ begin_at options place closed r ahead
+  begin_at_seen place closed r ahead = begin_in_seen (suc (length r.columns)) place closed r ahead
+
   begin_seen : (closed : Blocks) (r : Row) (ahead : List Row) → seen (lines_begin options closed r ahead) ahead ≡ begin options closed r ahead
   unfolding lines_begin begin
-  begin_seen closed r ahead = begin_in_seen (suc (length r.columns)) closed r ahead
+  begin_seen closed r ahead = begin_at_seen (place_behind Apart closed) closed r ahead
 
   -- one more line leads to the same
   feed_seen : (o : OpenLines) (r : Row) (ahead : List Row) → seen (lines_feed options o r ahead) ahead ≡ feed options (seen o (show_as r.lazy r ahead)) r ahead
   feed_seen (Between closed) r ahead = begin_seen closed r ahead
-  feed_seen BehindTag r ahead = begin_seen Nil r ahead
+  feed_seen BehindTag r ahead = begin_at_seen BehindLazy Nil r ahead
   feed_seen (InParagraph closed first more) r ahead = under (underlines r)
     where
       text : (z : Bool) → seen (lines_go_on_or z (InParagraph closed first (more ++ r ∷ [])) (lines_begin options (join closed (Paragraph first more Nil)) r ahead)) ahead ≡ goes_on_or z (IsInParagraph closed first (more ++ r ∷ [])) (begin options (join closed (Paragraph first more Nil)) r ahead)
@@ -243,14 +258,14 @@ module _ (options : Options) where
       go Closes e (s ∷ w) n c = refl
       go Stops e [] n c = begin_seen (join block Nil) r ahead ∙ ap (λ b. begin options b r ahead) (join-Nil options block)
       go Stops e (s ∷ w) n c = begin_seen (join block (blank_lines (s ∷ w))) r ahead
-      go Waits e [] zero c = rw c (sym (begin_blank block r ahead (waits_blank verbatim r ahead e)))
+      go Waits e [] zero c = rw c (sym (begin_blank block r ahead (waits_blank _ verbatim r ahead e)))
       go Waits e (s ∷ w) zero c =
           rw c (ap IsBetween (ap (λ b. join block (BlankLine s b)) (blank_lines_push w r) ∙ sym (join_assoc options block (blank_lines (s ∷ w)) (BlankLine r Nil)))
-          ∙ sym (begin_blank (join block (blank_lines (s ∷ w))) r ahead (waits_blank verbatim r ahead e)))
+          ∙ sym (begin_blank (join block (blank_lines (s ∷ w))) r ahead (waits_blank _ verbatim r ahead e)))
       go Waits e [] (suc n) c = rw c refl
       go Waits e (s ∷ w) (suc n) c = rw c (ap (λ h. IsInLeaf closed (leaf_in verbatim) first h (suc n)) (sym (append_assoc had (s ∷ w) (r ∷ []))))
   feed_seen (InContainer closed k first more inside) r ahead =
-      go (keeps k bare r) refl (lazily options r ahead && lines_take_lazy inside) (feed_seen inside (strip k bare r) (within k false ahead)) ∙ ap (λ z. kept_or (keeps k bare r) (lazily options r ahead && z) (IsInContainer closed k first (more ++ r ∷ []) (feed options (seen inside (within k bare (show_as r.lazy r ahead))) (strip k bare r) (within k false ahead))) (begin options (join closed (ContainerBlock k first more (close (seen inside (within k bare (show_as r.lazy r ahead)))) Nil)) r ahead)) (sym (seen_lazy inside (within k bare (show_as r.lazy r ahead))))
+      go (keeps k bare r) refl (lazily options k r ahead && lines_take_lazy inside) (feed_seen inside (strip k bare r) (within k false ahead)) ∙ ap (λ z. kept_or (keeps k bare r) (lazily options k r ahead && z) (IsInContainer closed k first (more ++ r ∷ []) (feed options (seen inside (within k bare (show_as r.lazy r ahead))) (strip k bare r) (within k false ahead))) (begin options (join closed (ContainerBlock k first more (close (seen inside (within k bare (show_as r.lazy r ahead)))) Nil)) r ahead)) (sym (seen_lazy inside (within k bare (show_as r.lazy r ahead))))
     where
       bare : Bool
       bare = bare_after (is_bare_start k first) more

@@ -2,13 +2,14 @@
 use Rattle.std.proofs.Common.{◌≡◌, ◌⊎◌, inl, inr, ⊎_elim, ℕ, zero, suc, ◌<◌, ◌≤◌, Bool, true, false, ◌&&◌, List, [], ◌∷◌, ◌++◌, length, refl, sym, ap, ◌∙◌, subst, arith, append_assoc, append-nil, Option, Some, None, true≢false}
 use Rattle.cmark_grammar.specs.Rows.{Row, rows, lazy_row, show_as, shown}
 use Rattle.cmark_grammar.specs.Leaves.{underlines}
-use Rattle.cmark_grammar.specs.Containers.{Container, is_alert, unless_tag, enter, keeps, strip, strips, is_bare_start, bare_after, insides}
-use Rattle.cmark_grammar.specs.Openings.{Leaf, Opening, Blank, Nests, Takes, Plain, opens, texts, lazily}
-use Rattle.cmark_grammar.specs.Blocks.{Blocks, Nil, BlankLine, Paragraph, SetextHeading, LeafBlock, ContainerBlock, join, may_lazy, ends_lazily, AreText, Next, IsNoText, AreLazy, Ends, MayBegin, Body}
-use Rattle.cmark_grammar.specs.BlocksModel.{Open, Between, BehindTag, InParagraph, InLeaf, InContainer, close, takes_lazy, within, inside_begun, begin_as, begin_in, begin, kept_or, feed, feed_all, blocks}
-use Rattle.cmark_grammar.proofs.BlockLaws.{opens-lazy, opens-len, underlines-lazy, enter_len, keeps-lazy, strip_lazy, lazy-same, texts-lazy}
-use Rattle.cmark_grammar.proofs.BlocksSound.{join_assoc, join-Nil, shown-shown, bare_false, bare_push, is_both, within_row, Holds, close_ends, feed_holds, AreWhole, rows-whole}
+use Rattle.cmark_grammar.specs.Containers.{Container, Quote, Item, is_alert, unless_tag, enter, keeps, strip, strips, is_bare_start, bare_after, insides}
+use Rattle.cmark_grammar.specs.Openings.{Leaf, Opening, Blank, Nests, Takes, Plain, opens_at, texts, lazily}
+use Rattle.cmark_grammar.specs.Blocks.{Blocks, Nil, BlankLine, Paragraph, SetextHeading, LeafBlock, ContainerBlock, join, behind_leaf, behind_container, place_in, ends_lazily, AreText, Next, IsNoText, AreLazy, Ends, MayBegin, Body}
+use Rattle.cmark_grammar.specs.BlocksModel.{Open, Between, BehindTag, InParagraph, InLeaf, InContainer, close, takes_lazy, within, inside_begun, begin_as, begin_in, begin_at, begin, place_behind, kept_or, feed, feed_all, blocks}
+use Rattle.cmark_grammar.proofs.BlockLaws.{at-lazy, at-len, underlines-lazy, at-enter, keeps-lazy, strip_lazy, lazy-same, texts-lazy}
+use Rattle.cmark_grammar.proofs.BlocksSound.{join_assoc, join-Nil, place_behind-join, shown-shown, bare_false, bare_push, is_both, within_row, Holds, close_ends, feed_holds, AreWhole, rows-whole}
 use Rattle.cmark_grammar.specs.Options.{Options}
+use Rattle.cmark_grammar.specs.Places.{Place, Apart, BehindLazy, BehindTask, BehindTitle, allows_lazy, over_blank}
 
 module _ (options : Options) where
   -- with more lines to come, the blocks go on from what is open
@@ -20,7 +21,7 @@ module _ (options : Options) where
     pub is : all ≡ join closed (Paragraph first (had ++ tail) after)
     pub others : AreText options tail rest
     pub stops : Next (IsNoText options) rest
-    pub body : Body options false rest after
+    pub body : Body options BehindTitle rest after
 
   pub record GoesOnHeading (closed : Blocks) (first : Row) (had more : List Row) (all : Blocks) : Type 0 where
     pub tail : List Row
@@ -32,7 +33,7 @@ module _ (options : Options) where
     pub is : all ≡ join closed (SetextHeading level first (had ++ tail) underline after)
     pub others : AreText options tail (underline ∷ rest)
     pub underlined : underlines underline ≡ Some level
-    pub body : Body options false rest after
+    pub body : Body options Apart rest after
 
   pub record GoesOnLeaf (closed : Blocks) (leaf : Leaf) (first : Row) (had : List Row) (left : ℕ) (more : List Row) (all : Blocks) : Type 0 where
     pub tail : List Row
@@ -42,7 +43,7 @@ module _ (options : Options) where
     pub count : length tail ≡ left
     pub is : all ≡ join closed (LeafBlock leaf first (had ++ tail) after)
     pub whole : (AreWhole options) tail
-    pub body : Body options (may_lazy leaf) rest after
+    pub body : Body options (behind_leaf leaf) rest after
 
   pub record GoesOnContainer (Inside : List Row → Blocks → Type 0) (closed : Blocks) (k : Container) (first : Row) (had more : List Row) (all : Blocks) : Type 0 where
     pub tail : List Row
@@ -54,16 +55,17 @@ module _ (options : Options) where
     pub contents : Inside (strips k (bare_after (is_bare_start k first) had) tail) inside
     pub others : AreLazy options k (bare_after (is_bare_start k first) had) tail rest
     pub stops : Ends options k (bare_after (bare_after (is_bare_start k first) had) tail) inside rest
-    pub body : Body options false rest after
+    pub body : Body options (behind_container k) rest after
 
   pub record GoesOnBetween (closed : Blocks) (more : List Row) (all : Blocks) : Type 0 where
     pub after : Blocks
     pub is : all ≡ join closed after
-    pub body : Body options false more after
+    pub past : allows_lazy (place_behind Apart closed) ≡ false
+    pub body : Body options (place_behind Apart closed) more after
 
   abbrev pub Extends : Open → List Row → Blocks → Type 0
   Extends (Between closed) more all = GoesOnBetween closed more all
-  Extends BehindTag more all = Body options true more all
+  Extends BehindTag more all = Body options BehindLazy more all
   Extends (InParagraph closed first had) more all = GoesOnParagraph closed first had more all ⊎ GoesOnHeading closed first had more all
   Extends (InLeaf closed leaf first had left) more all = GoesOnLeaf closed leaf first had left more all
   Extends (InContainer closed k first had inside) more all = GoesOnContainer (λ ls bs. Extends inside ls bs) closed k first had more all
@@ -92,39 +94,39 @@ module _ (options : Options) where
       go false e le ih = (e, ih (omega arith))
 
   -- a body's first line lacks a prefix only where it begins a paragraph directly behind a leaf that allows it
-  body_lazy : (behind : Bool) (r : Row) (more : List Row) (all : Blocks) → Body options behind (r ∷ more) all → r.lazy ≡ true → (behind ≡ true) × (texts options r [] ≡ true)
+  body_lazy : (behind : Place) (r : Row) (more : List Row) (all : Blocks) → Body options behind (r ∷ more) all → r.lazy ≡ true → (allows_lazy behind ≡ true) × (texts options r [] ≡ true)
   body_lazy behind r more Nil b lazy = cc
   body_lazy behind r more (BlankLine line after) b lazy =
       let e : line ≡ r = let c = b.cut in cc in
-      absurd (let q : Plain ≡ Blank = sym (opens-lazy options line (shown b.rest) (ap (λ s. s.lazy) e ∙ lazy)) ∙ b.opened in cc)
+      absurd (let q : Plain ≡ Blank = sym (at-lazy options behind line (shown b.rest) (ap (λ s. s.lazy) e ∙ lazy)) ∙ b.opened in cc)
   body_lazy behind r more (Paragraph first took after) b lazy =
       let e : first ≡ r = let c = b.cut in cc in may e b.begun
     where
-      may : first ≡ r → MayBegin options behind first → (behind ≡ true) × (texts options r [] ≡ true)
+      may : first ≡ r → MayBegin options behind first → (allows_lazy behind ≡ true) × (texts options r [] ≡ true)
       may e (inl w) = absurd (true≢false (sym lazy ∙ sym (ap (λ s. s.lazy) e) ∙ w))
       may e (inr p) = (p.0, subst (λ s. texts options s [] ≡ true) e p.1)
   body_lazy behind r more (SetextHeading level first took underline after) b lazy =
       let e : first ≡ r = let c = b.cut in cc in may e b.begun
     where
-      may : first ≡ r → MayBegin options behind first → (behind ≡ true) × (texts options r [] ≡ true)
+      may : first ≡ r → MayBegin options behind first → (allows_lazy behind ≡ true) × (texts options r [] ≡ true)
       may e (inl w) = absurd (true≢false (sym lazy ∙ sym (ap (λ s. s.lazy) e) ∙ w))
       may e (inr p) = (p.0, subst (λ s. texts options s [] ≡ true) e p.1)
   body_lazy behind r more (LeafBlock leaf first took after) b lazy =
       let e : first ≡ r = let c = b.cut in cc in
-      absurd (let q : Plain ≡ Takes leaf (length took) = sym (opens-lazy options first (shown (took ++ b.rest)) (ap (λ s. s.lazy) e ∙ lazy)) ∙ b.opened in cc)
+      absurd (let q : Plain ≡ Takes leaf (length took) = sym (at-lazy options behind first (shown (took ++ b.rest)) (ap (λ s. s.lazy) e ∙ lazy)) ∙ b.opened in cc)
   body_lazy behind r more (ContainerBlock k first took inside after) b lazy =
       let e : first ≡ r = let c = b.cut in cc in
-      absurd (let q : Plain ≡ Nests k = sym (opens-lazy options first (shown (took ++ b.rest)) (ap (λ s. s.lazy) e ∙ lazy)) ∙ b.opened in cc)
+      absurd (let q : Plain ≡ Nests k = sym (at-lazy options behind first (shown (took ++ b.rest)) (ap (λ s. s.lazy) e ∙ lazy)) ∙ b.opened in cc)
 
-  body_whole : (r : Row) (more : List Row) (all : Blocks) → Body options false (r ∷ more) all → r.lazy ≡ false
-  body_whole r more all b = go r.lazy refl
+  body_whole : (behind : Place) (r : Row) (more : List Row) (all : Blocks) → allows_lazy behind ≡ false → Body options behind (r ∷ more) all → r.lazy ≡ false
+  body_whole behind r more all none b = go r.lazy refl
     where
       go : (z : Bool) → r.lazy ≡ z → r.lazy ≡ false
-      go true e = absurd (true≢false (sym (body_lazy false r more all b e).0))
+      go true e = absurd (true≢false (sym (body_lazy behind r more all b e).0 ∙ none))
       go false e = e
 
   -- a body without lines has no blocks
-  body_none : (behind : Bool) (all : Blocks) → Body options behind [] all → all ≡ Nil
+  body_none : (behind : Place) (all : Blocks) → Body options behind [] all → all ≡ Nil
   body_none behind Nil b = refl
   body_none behind (BlankLine line after) b = absurd (let c = b.cut in cc)
   body_none behind (Paragraph first more after) b = absurd (let c : [] ≡ first ∷ (more ++ b.rest) = b.cut in cc)
@@ -142,14 +144,14 @@ module _ (options : Options) where
 
   -- where no line is left, the blocks are the model's
   extends_close : (o : Open) (all : Blocks) → Extends o [] all → all ≡ close o
-  extends_close BehindTag all h = body_none true all h
-  extends_close (Between closed) all h = h.is ∙ ap (join closed) (body_none false h.after h.body) ∙ join-Nil options closed
+  extends_close BehindTag all h = body_none BehindLazy all h
+  extends_close (Between closed) all h = h.is ∙ ap (join closed) (body_none (place_behind Apart closed) h.after h.body) ∙ join-Nil options closed
   extends_close (InParagraph closed first had) all (inl h) =
       let s = nothing_of h.tail h.rest h.split in
       h.is
       ∙ ap (λ t. join closed (Paragraph first (had ++ t) h.after)) s.0
       ∙ ap (λ t. join closed (Paragraph first t h.after)) (append-nil had)
-      ∙ ap (λ a. join closed (Paragraph first had a)) (body_none false h.after (subst (λ l. Body options false l h.after) s.1 h.body))
+      ∙ ap (λ a. join closed (Paragraph first had a)) (body_none BehindTitle h.after (subst (λ l. Body options BehindTitle l h.after) s.1 h.body))
   extends_close (InParagraph closed first had) all (inr h) =
       absurd (let s = nothing_of h.tail (h.underline ∷ h.rest) h.split in let q : h.underline ∷ h.rest ≡ [] = s.1 in cc)
   extends_close (InLeaf closed leaf first had left) all h =
@@ -157,57 +159,69 @@ module _ (options : Options) where
       h.is
       ∙ ap (λ t. join closed (LeafBlock leaf first (had ++ t) h.after)) s.0
       ∙ ap (λ t. join closed (LeafBlock leaf first t h.after)) (append-nil had)
-      ∙ ap (λ a. join closed (LeafBlock leaf first had a)) (body_none (may_lazy leaf) h.after (subst (λ l. Body options (may_lazy leaf) l h.after) s.1 h.body))
+      ∙ ap (λ a. join closed (LeafBlock leaf first had a)) (body_none (behind_leaf leaf) h.after (subst (λ l. Body options (behind_leaf leaf) l h.after) s.1 h.body))
   extends_close (InContainer closed k first had inside) all h =
       let s = nothing_of h.tail h.rest h.split in
       h.is
       ∙ ap (λ t. join closed (ContainerBlock k first (had ++ t) h.inside h.after)) s.0
       ∙ ap (λ t. join closed (ContainerBlock k first t h.inside h.after)) (append-nil had)
       ∙ ap (λ i. join closed (ContainerBlock k first had i h.after)) (extends_close inside h.inside (subst (λ t. Extends inside (strips k (bare_after (is_bare_start k first) had) t) h.inside) s.0 h.contents))
-      ∙ ap (λ a. join closed (ContainerBlock k first had (close inside) a)) (body_none false h.after (subst (λ l. Body options false l h.after) s.1 h.body))
+      ∙ ap (λ a. join closed (ContainerBlock k first had (close inside) a)) (body_none (behind_container k) h.after (subst (λ l. Body options (behind_container k) l h.after) s.1 h.body))
 
-  inside_extends : (is_tag : Bool) (o : Open) (first : Row) (more : List Row) (inside : Blocks) → (Body options false (first ∷ more) inside → Extends o more inside) → Body options is_tag (unless_tag is_tag first more) inside → Extends (inside_begun is_tag o) more inside
-  inside_extends true o first more inside h body = body
-  inside_extends false o first more inside h body = h body
+  over_blank-lazy : (place : Place) → allows_lazy (over_blank place) ≡ false
+  over_blank-lazy Apart = refl
+  over_blank-lazy BehindLazy = refl
+  over_blank-lazy BehindTask = refl
+  over_blank-lazy BehindTitle = refl
+
+  inside_extends : (k : Container) (o : Open) (first : Row) (more : List Row) (inside : Blocks) → (Body options (place_in k) (first ∷ more) inside → Extends o more inside) → Body options (place_in k) (unless_tag (is_alert k) first more) inside → Extends (inside_begun (is_alert k) o) more inside
+  inside_extends (Quote None) o first more inside h body = h body
+  inside_extends (Quote (Some kind)) o first more inside h body = body
+  inside_extends (Item mark number width) o first more inside h body = h body
 
   -- what a line begins, the blocks go on from
-  begin_extends : (n : ℕ) (closed : Blocks) (behind : Bool) (r : Row) (more : List Row) (all : Blocks) → length r.columns < n → Body options behind (r ∷ more) all → Extends (begin_in options n closed r (shown more)) more (join closed all)
-  begin_extends zero closed behind r more all lt b = absurd (omega arith)
-  begin_extends (suc n) closed behind r more all lt b =
-      goes all b (λ k took inside body opened. begin_extends n Nil false (enter k r) took inside (let l : length (enter k r).columns < length r.columns = enter_len options k r (shown more) opened in omega arith) body)
+  begin_extends : (n : ℕ) (closed : Blocks) (behind : Place) (r : Row) (more : List Row) (all : Blocks) → length r.columns < n → over_blank behind ≡ over_blank (place_behind Apart closed) → Body options behind (r ∷ more) all → Extends (begin_in options n behind closed r (shown more)) more (join closed all)
+  begin_extends zero closed behind r more all lt stands b = absurd (omega arith)
+  begin_extends (suc n) closed behind r more all lt stands b =
+      goes all b (λ k took inside body opened. begin_extends n Nil (place_in k) (enter k r) took inside (let l : length (enter k r).columns < length r.columns = at-enter options behind k r (shown more) opened in omega arith) (starts k) body)
     where
-      begun : Opening → Open
-      begun o = begin_as o (λ k. begin_in options n Nil (enter k r) (within k (is_bare_start k r) (shown more))) closed r
+      starts : (k : Container) → over_blank (place_in k) ≡ Apart
+      starts (Quote None) = refl
+      starts (Quote (Some kind)) = refl
+      starts (Item mark number width) = refl
 
-      goes : (all : Blocks) → Body options behind (r ∷ more) all → ((k : Container) (took : List Row) (inside : Blocks) → Body options false (enter k r ∷ took) inside → opens options r (shown more) ≡ Nests k → Extends (begin_in options n Nil (enter k r) (shown took)) took inside) → Extends (begin_as (opens options r (shown more)) (λ k. begin_in options n Nil (enter k r) (within k (is_bare_start k r) (shown more))) closed r) more (join closed all)
+      begun : Opening → Open
+      begun o = begin_as o (λ k. begin_in options n (place_in k) Nil (enter k r) (within k (is_bare_start k r) (shown more))) closed r
+
+      goes : (all : Blocks) → Body options behind (r ∷ more) all → ((k : Container) (took : List Row) (inside : Blocks) → Body options (place_in k) (enter k r ∷ took) inside → opens_at options behind r (shown more) ≡ Nests k → Extends (begin_in options n (place_in k) Nil (enter k r) (shown took)) took inside) → Extends (begin_as (opens_at options behind r (shown more)) (λ k. begin_in options n (place_in k) Nil (enter k r) (within k (is_bare_start k r) (shown more))) closed r) more (join closed all)
       goes Nil b ih = absurd (let c : r ∷ more ≡ [] = b in cc)
       goes (BlankLine line after) b ih =
           let e : line ≡ r = let c = b.cut in cc in
           let m : more ≡ b.rest = let c = b.cut in cc in
-          let o : opens options r (shown more) ≡ Blank = subst (λ s. opens options s (shown more) ≡ Blank) e (ap (λ l. opens options line (shown l)) m ∙ b.opened) in
-          rw o (record { after = after; is = ap (λ s. join closed (BlankLine s after)) e ∙ sym (join_assoc options closed (BlankLine r Nil) after); body = subst (λ l. Body options false l after) (sym m) b.after })
+          let o : opens_at options behind r (shown more) ≡ Blank = subst (λ s. opens_at options behind s (shown more) ≡ Blank) e (ap (λ l. opens_at options behind line (shown l)) m ∙ b.opened) in
+          rw o (record { after = after; is = ap (λ s. join closed (BlankLine s after)) e ∙ sym (join_assoc options closed (BlankLine r Nil) after); past = ap allows_lazy (place_behind-join options Apart closed (BlankLine r Nil)) ∙ over_blank-lazy (place_behind Apart closed); body = subst (λ z. Body options z more after) (stands ∙ sym (place_behind-join options Apart closed (BlankLine r Nil))) (subst (λ l. Body options (over_blank behind) l after) (sym m) b.after) })
       goes (Paragraph first took after) b ih =
           let e : first ≡ r = let c = b.cut in cc in
           let m : more ≡ took ++ b.rest = let c = b.cut in cc in
-          let o : opens options r (shown more) ≡ Plain = subst (λ s. opens options s (shown more) ≡ Plain) e (ap (λ l. opens options first (shown l)) m ∙ b.opened) in
+          let o : opens_at options behind r (shown more) ≡ Plain = subst (λ s. opens_at options behind s (shown more) ≡ Plain) e (ap (λ l. opens_at options behind first (shown l)) m ∙ b.opened) in
           rw o (inl (record { tail = took; rest = b.rest; after = after; split = m; is = ap (λ s. join closed (Paragraph s took after)) e; others = b.others; stops = b.stops; body = b.after }))
       goes (SetextHeading level first took underline after) b ih =
           let e : first ≡ r = let c = b.cut in cc in
           let m : more ≡ took ++ (underline ∷ b.rest) = let c = b.cut in cc in
-          let o : opens options r (shown more) ≡ Plain = subst (λ s. opens options s (shown more) ≡ Plain) e (ap (λ l. opens options first (shown l)) m ∙ b.opened) in
+          let o : opens_at options behind r (shown more) ≡ Plain = subst (λ s. opens_at options behind s (shown more) ≡ Plain) e (ap (λ l. opens_at options behind first (shown l)) m ∙ b.opened) in
           rw o (inr (record { tail = took; underline = underline; rest = b.rest; level = level; after = after; split = m; is = ap (λ s. join closed (SetextHeading level s took underline after)) e; others = b.others; underlined = b.underlined; body = b.after }))
       goes (LeafBlock leaf first took after) b ih =
           let e : first ≡ r = let c = b.cut in cc in
           let m : more ≡ took ++ b.rest = let c = b.cut in cc in
-          let o : opens options r (shown more) ≡ Takes leaf (length took) = subst (λ s. opens options s (shown more) ≡ Takes leaf (length took)) e (ap (λ l. opens options first (shown l)) m ∙ b.opened) in
-          rw o (record { tail = took; rest = b.rest; after = after; split = m; count = refl; is = ap (λ s. join closed (LeafBlock leaf s took after)) e; whole = all_whole took b.rest (opens-len options first (shown (took ++ b.rest)) leaf (length took) b.opened); body = b.after })
+          let o : opens_at options behind r (shown more) ≡ Takes leaf (length took) = subst (λ s. opens_at options behind s (shown more) ≡ Takes leaf (length took)) e (ap (λ l. opens_at options behind first (shown l)) m ∙ b.opened) in
+          rw o (record { tail = took; rest = b.rest; after = after; split = m; count = refl; is = ap (λ s. join closed (LeafBlock leaf s took after)) e; whole = all_whole took b.rest (at-len options behind first (shown (took ++ b.rest)) leaf (length took) b.opened); body = b.after })
       goes (ContainerBlock k first took inside after) b ih =
           let e : first ≡ r = let c = b.cut in cc in
           let m : more ≡ took ++ b.rest = let c = b.cut in cc in
-          let o : opens options r (shown more) ≡ Nests k = subst (λ s. opens options s (shown more) ≡ Nests k) e (ap (λ l. opens options first (shown l)) m ∙ b.opened) in
+          let o : opens_at options behind r (shown more) ≡ Nests k = subst (λ s. opens_at options behind s (shown more) ≡ Nests k) e (ap (λ l. opens_at options behind first (shown l)) m ∙ b.opened) in
           let stops : Ends options k (bare_after (is_bare_start k r) took) inside b.rest = subst (λ s. Ends options k (bare_after (is_bare_start k s) took) inside b.rest) e b.stops in
           let same : within k (is_bare_start k r) (shown more) ≡ shown (strips k (is_bare_start k r) took) = ap (λ l. within k (is_bare_start k r) (shown l)) m ∙ within_tail k inside (is_bare_start k r) took b.rest stops in
-          let contents : Body options (is_alert k) (insides k r took) inside = subst (λ s. Body options (is_alert k) (insides k s took) inside) e b.contents in
+          let contents : Body options (place_in k) (insides k r took) inside = subst (λ s. Body options (place_in k) (insides k s took) inside) e b.contents in
           rw o (record {
             tail = took;
             rest = b.rest;
@@ -215,23 +229,27 @@ module _ (options : Options) where
             after = after;
             split = m;
             is = ap (λ s. join closed (ContainerBlock k s took inside after)) e;
-            contents = subst (λ a. Extends (inside_begun (is_alert k) (begin_in options n Nil (enter k r) a)) (strips k (is_bare_start k r) took) inside) (sym same) (inside_extends (is_alert k) _ (enter k r) _ inside (λ c. ih k (strips k (is_bare_start k r) took) inside c o) contents);
+            contents = subst (λ a. Extends (inside_begun (is_alert k) (begin_in options n (place_in k) Nil (enter k r) a)) (strips k (is_bare_start k r) took) inside) (sym same) (inside_extends k _ (enter k r) _ inside (λ c. ih k (strips k (is_bare_start k r) took) inside c o) contents);
             others = subst (λ s. AreLazy options k (is_bare_start k s) took b.rest) e b.others;
             stops = stops;
             body = b.after;
           })
 
-  begin_all : (closed : Blocks) (behind : Bool) (r : Row) (more : List Row) (after : Blocks) → Body options behind (r ∷ more) after → Extends (begin options closed r (shown more)) more (join closed after)
+  begin_at_all : (closed : Blocks) (behind : Place) (r : Row) (more : List Row) (after : Blocks) → over_blank behind ≡ over_blank (place_behind Apart closed) → Body options behind (r ∷ more) after → Extends (begin_at options behind closed r (shown more)) more (join closed after)
+  begin_at_all closed behind r more after stands b = begin_extends (suc (length r.columns)) closed behind r more after (omega arith) stands b
+
+  begin_all : (closed : Blocks) (behind : Place) (r : Row) (more : List Row) (after : Blocks) → place_behind Apart closed ≡ behind → Body options behind (r ∷ more) after → Extends (begin options closed r (shown more)) more (join closed after)
   unfolding begin
-  begin_all closed behind r more after b = begin_extends (suc (length r.columns)) closed behind r more after (omega arith) b
+  begin_all closed behind r more after is b =
+      subst (λ z. Extends (begin_at options z closed r (shown more)) more (join closed after)) (sym is) (begin_at_all closed behind r more after (ap over_blank (sym is)) b)
 
   -- a lazy line stands where what is open takes one
   lazy_suits : (o : Open) (r : Row) (more : List Row) (all : Blocks) → r.lazy ≡ true → Extends o (r ∷ more) all → (texts options r [] ≡ true) × (takes_lazy o ≡ true)
-  lazy_suits (Between closed) r more all lazy h = absurd (true≢false (sym lazy ∙ body_whole r more h.after h.body))
-  lazy_suits BehindTag r more all lazy h = ((body_lazy true r more all h lazy).1, refl)
+  lazy_suits (Between closed) r more all lazy h = absurd (true≢false (sym lazy ∙ body_whole (place_behind Apart closed) r more h.after h.past h.body))
+  lazy_suits BehindTag r more all lazy h = ((body_lazy BehindLazy r more all h lazy).1, refl)
   lazy_suits (InParagraph closed first had) r more all lazy (inl h) =
       ⊎_elim
-      (λ e. absurd (true≢false (sym lazy ∙ body_whole r more h.after (subst (λ l. Body options false l h.after) e.1 h.body))))
+      (λ e. absurd (true≢false (sym lazy ∙ body_whole BehindTitle r more h.after refl (subst (λ l. Body options BehindTitle l h.after) e.1 h.body))))
       (λ e. let p : AreText options (r ∷ e.0) h.rest = subst (λ l. AreText options l h.rest) e.1 h.others in (texts-lazy options r [] _ lazy ∙ p.0.0, refl))
       (next_of r more h.tail h.rest h.split)
   lazy_suits (InParagraph closed first had) r more all lazy (inr h) =
@@ -241,22 +259,22 @@ module _ (options : Options) where
       (next_of r more h.tail (h.underline ∷ h.rest) h.split)
   lazy_suits (InLeaf closed leaf first had left) r more all lazy h =
       ⊎_elim
-      (λ e. let p = body_lazy (may_lazy leaf) r more h.after (subst (λ l. Body options (may_lazy leaf) l h.after) e.1 h.body) lazy in (p.1, p.0))
+      (λ e. let p = body_lazy (behind_leaf leaf) r more h.after (subst (λ l. Body options (behind_leaf leaf) l h.after) e.1 h.body) lazy in (p.1, p.0))
       (λ e. let w : (AreWhole options) (r ∷ e.0) = subst (AreWhole options) e.1 h.whole in absurd (true≢false (sym lazy ∙ w.0)))
       (next_of r more h.tail h.rest h.split)
   lazy_suits (InContainer closed k first had inside) r more all lazy h =
       ⊎_elim
-      (λ e. absurd (true≢false (sym lazy ∙ body_whole r more h.after (subst (λ l. Body options false l h.after) e.1 h.body))))
+      (λ e. absurd (true≢false (sym lazy ∙ body_whole (behind_container k) r more h.after refl (subst (λ l. Body options (behind_container k) l h.after) e.1 h.body))))
       (λ e.
       let p = lazy_suits inside (lazy_row r) (strips k false e.0) h.inside refl (subst (λ q. Extends inside (q ∷ strips k false e.0) h.inside) (strip_lazy options k (bare_after (is_bare_start k first) had) r (keeps-lazy options k (bare_after (is_bare_start k first) had) r lazy)) (subst (λ l. Extends inside (strips k (bare_after (is_bare_start k first) had) l) h.inside) e.1 h.contents)) in
       (subst (λ q. texts options q [] ≡ true) (lazy-same options r lazy) p.0, p.1))
       (next_of r more h.tail h.rest h.split)
 
   -- one more line
-  step : (so : Bool) (before : List Row) (o : Open) (r : Row) (more : List Row) (all : Blocks) (ahead : List Row) → Holds options so before o ahead → Extends o (r ∷ more) all → Extends (feed options o r (shown more)) more all
+  step : (so : Place) (before : List Row) (o : Open) (r : Row) (more : List Row) (all : Blocks) (ahead : List Row) → Holds options so before o ahead → Extends o (r ∷ more) all → Extends (feed options o r (shown more)) more all
   step so before (Between closed) r more all ahead holds h =
-      subst (Extends (begin options closed r (shown more)) more) (sym h.is) (begin_all closed false r more h.after h.body)
-  step so before BehindTag r more all ahead holds h = begin_all Nil true r more all h
+      subst (Extends (begin options closed r (shown more)) more) (sym h.is) (begin_all closed (place_behind Apart closed) r more h.after refl h.body)
+  step so before BehindTag r more all ahead holds h = begin_at_all Nil BehindLazy r more all refl h
   step so before (InParagraph closed first had) r more all ahead holds (inl h) = ⊎_elim off on (next_of r more h.tail h.rest h.split)
     where
       fed : Open
@@ -265,7 +283,7 @@ module _ (options : Options) where
       off : (h.tail ≡ []) × (h.rest ≡ r ∷ more) → Extends (feed options (InParagraph closed first had) r (shown more)) more all
       off e =
           let stops : Next (IsNoText options) (r ∷ more) = subst (Next (IsNoText options)) e.1 h.stops in
-          rw (stops.1, stops.0) (subst (Extends (begin options (join closed (Paragraph first had Nil)) r (shown more)) more) (sym is) (begin_all (join closed (Paragraph first had Nil)) false r more h.after (subst (λ l. Body options false l h.after) e.1 h.body)))
+          rw (stops.1, stops.0) (subst (Extends (begin options (join closed (Paragraph first had Nil)) r (shown more)) more) (sym is) (begin_all (join closed (Paragraph first had Nil)) BehindTitle r more h.after (place_behind-join options Apart closed (Paragraph first had Nil)) (subst (λ l. Body options BehindTitle l h.after) e.1 h.body)))
         where
           is : all ≡ join (join closed (Paragraph first had Nil)) h.after
           is =
@@ -293,8 +311,11 @@ module _ (options : Options) where
       under e =
           let q : h.underline ≡ r = let s = e.1 in cc in
           let m : h.rest ≡ more = let s = e.1 in cc in
-          rw (ap underlines (sym q) ∙ h.underlined) (record { after = h.after; is = is q; body = subst (λ l. Body options false l h.after) m h.body })
+          rw (ap underlines (sym q) ∙ h.underlined) (record { after = h.after; is = is q; past = ap allows_lazy heading; body = subst (λ z. Body options z more h.after) (sym heading) (subst (λ l. Body options Apart l h.after) m h.body) })
         where
+          heading : place_behind Apart (join closed (SetextHeading h.level first had r Nil)) ≡ Apart
+          heading = place_behind-join options Apart closed (SetextHeading h.level first had r Nil)
+
           is : h.underline ≡ r → all ≡ join (join closed (SetextHeading h.level first had r Nil)) h.after
           is q =
               h.is
@@ -321,7 +342,7 @@ module _ (options : Options) where
   step so before (InLeaf closed leaf first had zero) r more all ahead holds h =
       let e = none_left h.tail h.count in
       subst (Extends (begin options (join closed (LeafBlock leaf first had Nil)) r (shown more)) more) (sym (is e))
-      (begin_all (join closed (LeafBlock leaf first had Nil)) (may_lazy leaf) r more h.after (subst (λ l. Body options (may_lazy leaf) l h.after) (sym (h.split ∙ ap (λ t. t ++ h.rest) e)) h.body))
+      (begin_all (join closed (LeafBlock leaf first had Nil)) (behind_leaf leaf) r more h.after (place_behind-join options Apart closed (LeafBlock leaf first had Nil)) (subst (λ l. Body options (behind_leaf leaf) l h.after) (sym (h.split ∙ ap (λ t. t ++ h.rest) e)) h.body))
     where
       none_left : (t : List Row) → length t ≡ 0 → t ≡ []
       none_left [] e = refl
@@ -349,7 +370,7 @@ module _ (options : Options) where
       (next_of r more h.tail h.rest h.split)
   step so before (InContainer closed k first had inside) r more all ahead holds h =
       ⊎_elim off
-      (λ e. on e (step (is_alert k) (insides k first had) inside (strip k bare r) (strips k false e.0) h.inside (within k bare ahead) holds.1 (subst (λ l. Extends inside (strips k bare l) h.inside) e.1 h.contents)))
+      (λ e. on e (step (place_in k) (insides k first had) inside (strip k bare r) (strips k false e.0) h.inside (within k bare ahead) holds.1 (subst (λ l. Extends inside (strips k bare l) h.inside) e.1 h.contents)))
       (next_of r more h.tail h.rest h.split)
     where
       bare : Bool
@@ -359,7 +380,7 @@ module _ (options : Options) where
       block = ContainerBlock k first had (close inside) Nil
 
       off : (h.tail ≡ []) × (h.rest ≡ r ∷ more) → Extends (feed options (InContainer closed k first had inside) r (shown more)) more all
-      off e = go (keeps k bare r) stops.0 (lazily options r (shown more) && takes_lazy inside) refl (λ z. stops.1 (ap (ends_lazily (is_alert k)) same ∙ close_ends options (is_alert k) (insides k first had) inside (within k bare ahead) holds.1 ∙ z))
+      off e = go (keeps k bare r) stops.0 (lazily options k r (shown more) && takes_lazy inside) refl (λ z. stops.1 (ap (ends_lazily (allows_lazy (place_in k))) same ∙ close_ends options (place_in k) (insides k first had) inside (within k bare ahead) holds.1 ∙ z))
         where
           stops : Ends options k bare h.inside (r ∷ more)
           stops = subst (λ l. Ends options k bare h.inside l) e.1 (subst (λ t. Ends options k (bare_after bare t) h.inside h.rest) e.0 h.stops)
@@ -376,15 +397,15 @@ module _ (options : Options) where
               ∙ sym (join_assoc options closed block h.after)
 
           begun : Extends (begin options (join closed block) r (shown more)) more all
-          begun = subst (Extends (begin options (join closed block) r (shown more)) more) (sym is) (begin_all (join closed block) false r more h.after (subst (λ l. Body options false l h.after) e.1 h.body))
+          begun = subst (Extends (begin options (join closed block) r (shown more)) more) (sym is) (begin_all (join closed block) (behind_container k) r more h.after (place_behind-join options Apart closed block) (subst (λ l. Body options (behind_container k) l h.after) e.1 h.body))
 
-          go : (o : Option Row) → o ≡ None → (l : Bool) → (lazily options r (shown more) && takes_lazy inside) ≡ l → (takes_lazy inside ≡ true → lazily options r (shown more) ≡ false) → Extends (kept_or o l (InContainer closed k first (had ++ r ∷ []) (feed options inside (strip k bare r) (within k false (shown more)))) (begin options (join closed block) r (shown more))) more all
+          go : (o : Option Row) → o ≡ None → (l : Bool) → (lazily options k r (shown more) && takes_lazy inside) ≡ l → (takes_lazy inside ≡ true → lazily options k r (shown more) ≡ false) → Extends (kept_or o l (InContainer closed k first (had ++ r ∷ []) (feed options inside (strip k bare r) (within k false (shown more)))) (begin options (join closed block) r (shown more))) more all
           go (Some s) e l el np = cc
-          go None e true el np = let p = is_both options (lazily options r (shown more)) (takes_lazy inside) el in absurd (true≢false (sym p.0 ∙ np p.1))
+          go None e true el np = let p = is_both options (lazily options k r (shown more)) (takes_lazy inside) el in absurd (true≢false (sym p.0 ∙ np p.1))
           go None e false el np = begun
 
       on : (e : (t : List Row) × (h.tail ≡ r ∷ t) × (more ≡ t ++ h.rest)) → Extends (feed options inside (strip k bare r) (shown (strips k false e.0))) (strips k false e.0) h.inside → Extends (feed options (InContainer closed k first had inside) r (shown more)) more all
-      on e ih = go (keeps k bare r) refl (lazily options r (shown more) && takes_lazy inside) refl
+      on e ih = go (keeps k bare r) refl (lazily options k r (shown more) && takes_lazy inside) refl
         where
           stops : Ends options k (bare_after false e.0) h.inside h.rest
           stops = subst (λ z. Ends options k z h.inside h.rest) (sym (bare_false options e.0)) (subst (λ t. Ends options k (bare_after bare t) h.inside h.rest) e.1 h.stops)
@@ -412,24 +433,24 @@ module _ (options : Options) where
               pushed : bare_after (is_bare_start k first) (had ++ r ∷ []) ≡ false
               pushed = bare_push options (is_bare_start k first) had r
 
-          suits : keeps k bare r ≡ None → (lazily options r (shown more) ≡ true) × (takes_lazy inside ≡ true)
+          suits : keeps k bare r ≡ None → (lazily options k r (shown more) ≡ true) × (takes_lazy inside ≡ true)
           suits lacks =
               let p = lazy_suits inside (lazy_row r) (strips k false e.0) h.inside refl (subst (λ q. Extends inside (q ∷ strips k false e.0) h.inside) (strip_lazy options k bare r lacks) (subst (λ l. Extends inside (strips k bare l) h.inside) e.1 h.contents)) in
-              (ap (λ l. lazily options r (shown l)) e.2 ∙ others.0 lacks, p.1)
+              (ap (λ l. lazily options k r (shown l)) e.2 ∙ others.0 lacks, p.1)
 
-          go : (o : Option Row) → keeps k bare r ≡ o → (l : Bool) → (lazily options r (shown more) && takes_lazy inside) ≡ l → Extends (kept_or o l (InContainer closed k first (had ++ r ∷ []) (feed options inside (strip k bare r) (within k false (shown more)))) (begin options (join closed block) r (shown more))) more all
+          go : (o : Option Row) → keeps k bare r ≡ o → (l : Bool) → (lazily options k r (shown more) && takes_lazy inside) ≡ l → Extends (kept_or o l (InContainer closed k first (had ++ r ∷ []) (feed options inside (strip k bare r) (within k false (shown more)))) (begin options (join closed block) r (shown more))) more all
           go (Some s) e l el = goes_on
           go None e true el = goes_on
           go None e false el = let p = suits e in absurd (true≢false (sym (ap (λ w. w && takes_lazy inside) p.0 ∙ p.1) ∙ el))
 
-  all_steps : (before more : List Row) (o : Open) (all : Blocks) → (AreWhole options) more → Holds options false before o (shown more) → Extends o more all → Extends (feed_all options o more) [] all
+  all_steps : (before more : List Row) (o : Open) (all : Blocks) → (AreWhole options) more → Holds options Apart before o (shown more) → Extends o more all → Extends (feed_all options o more) [] all
   all_steps before [] o all whole holds h = h
   all_steps before (r ∷ more) o all whole holds h =
-      all_steps (before ++ r ∷ []) more (feed options o r (shown more)) all whole.1 (feed_holds options false before o r (shown more) (inl whole.0) (shown-shown options [] more) holds) (step false before o r more all (shown (r ∷ more)) holds h)
+      all_steps (before ++ r ∷ []) more (feed options o r (shown more)) all whole.1 (feed_holds options Apart before o r (shown more) (inl whole.0) (shown-shown options [] more) holds) (step Apart before o r more all (shown (r ∷ more)) holds h)
 
   -- the one structure of a text's blocks
-  pub blocks-only : (text : List ℕ) (all : Blocks) → Body options false (rows text) all → all ≡ blocks options text
+  pub blocks-only : (text : List ℕ) (all : Blocks) → Body options Apart (rows text) all → all ≡ blocks options text
   unfolding blocks
   blocks-only text all body =
       extends_close (feed_all options (Between Nil) (rows text)) all
-      (all_steps [] (rows text) (Between Nil) all (rows-whole options text) (record { follows = λ rest after e body. body; ended = refl }) (record { after = all; is = refl; body = body }))
+      (all_steps [] (rows text) (Between Nil) all (rows-whole options text) (record { follows = λ rest after e body. body; ended = refl }) (record { after = all; is = refl; past = refl; body = body }))

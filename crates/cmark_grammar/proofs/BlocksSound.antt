@@ -3,12 +3,13 @@ use Rattle.std.proofs.Common.{◌≡◌, ◌⊎◌, inl, inr, ⊎_elim, ℕ, zer
 use Rattle.cmark_grammar.specs.Rows.{Row, rows, rows_from, lazy_row, show_as, shown}
 use Rattle.cmark_grammar.specs.Lines.{lines}
 use Rattle.cmark_grammar.specs.Leaves.{underlines}
-use Rattle.cmark_grammar.specs.Containers.{Container, is_alert, unless_tag, enter, keeps, strip, strips, is_bare_start, bare_after, insides}
-use Rattle.cmark_grammar.specs.Openings.{Opening, Blank, Nests, Takes, Plain, opens, texts, lazily}
-use Rattle.cmark_grammar.specs.Blocks.{Blocks, Nil, BlankLine, Paragraph, SetextHeading, LeafBlock, ContainerBlock, join, may_lazy, ends_lazily, IsText, AreText, AreLazy, MayBegin, Body}
-use Rattle.cmark_grammar.specs.BlocksModel.{Open, Between, BehindTag, InParagraph, InLeaf, InContainer, close, takes_lazy, within, inside_begun, begin_as, begin_in, begin, underline_or, goes_on_or, kept_or, feed, feed_all, blocks}
-use Rattle.cmark_grammar.proofs.BlockLaws.{opens-whole, opens-len, enter_len, enter-lazy, strip_lazy, strip_whole, strip-still, lazily-texts, texts-lazily, texts_or}
+use Rattle.cmark_grammar.specs.Containers.{Container, Quote, Item, is_alert, unless_tag, enter, keeps, strip, strips, is_bare_start, bare_after, insides}
+use Rattle.cmark_grammar.specs.Openings.{Opening, Blank, Nests, Takes, Plain, opens_at, texts, lazily}
+use Rattle.cmark_grammar.specs.Blocks.{Blocks, Nil, BlankLine, Paragraph, SetextHeading, LeafBlock, ContainerBlock, join, behind_leaf, behind_container, place_in, ends_lazily, IsText, AreText, AreLazy, MayBegin, Body}
+use Rattle.cmark_grammar.specs.BlocksModel.{Open, Between, BehindTag, InParagraph, InLeaf, InContainer, close, takes_lazy, within, inside_begun, begin_as, begin_in, begin_at, begin, place_behind, underline_or, goes_on_or, kept_or, feed, feed_all, blocks}
+use Rattle.cmark_grammar.proofs.BlockLaws.{at-whole, at-len, at-enter, enter-lazy, strip_lazy, strip_whole, strip-still, lazily-texts, texts-lazily, texts_or}
 use Rattle.cmark_grammar.specs.Options.{Options}
+use Rattle.cmark_grammar.specs.Places.{Place, Apart, BehindLazy, BehindTitle, allows_lazy, over_blank}
 
 module _ (options : Options) where
   pub join_assoc : (a b c : Blocks) → join (join a b) c ≡ join a (join b c)
@@ -32,8 +33,16 @@ module _ (options : Options) where
   ends_lazily-join so (BlankLine line after) b = ends_lazily-join false after b
   ends_lazily-join so (Paragraph first more after) b = ends_lazily-join true after b
   ends_lazily-join so (SetextHeading level first more underline after) b = ends_lazily-join false after b
-  ends_lazily-join so (LeafBlock leaf first more after) b = ends_lazily-join (may_lazy leaf) after b
-  ends_lazily-join so (ContainerBlock k first more inside after) b = ends_lazily-join (ends_lazily (is_alert k) inside) after b
+  ends_lazily-join so (LeafBlock leaf first more after) b = ends_lazily-join (allows_lazy (behind_leaf leaf)) after b
+  ends_lazily-join so (ContainerBlock k first more inside after) b = ends_lazily-join (ends_lazily (allows_lazy (place_in k)) inside) after b
+
+  pub place_behind-join : (place : Place) (a b : Blocks) → place_behind place (join a b) ≡ place_behind (place_behind place a) b
+  place_behind-join place Nil b = refl
+  place_behind-join place (BlankLine line after) b = place_behind-join (over_blank place) after b
+  place_behind-join place (Paragraph first more after) b = place_behind-join BehindTitle after b
+  place_behind-join place (SetextHeading level first more underline after) b = place_behind-join Apart after b
+  place_behind-join place (LeafBlock leaf first more after) b = place_behind-join (behind_leaf leaf) after b
+  place_behind-join place (ContainerBlock k first more inside after) b = place_behind-join (behind_container k) after b
 
   -- what is shown ahead of lines
   pub shown-shown : (a b : List Row) → shown (a ++ shown b) ≡ shown (a ++ b)
@@ -75,43 +84,43 @@ module _ (options : Options) where
 
   AreLazy-same : (k : Container) (b : Bool) (more x y : List Row) → shown x ≡ shown y → AreLazy options k b more x → AreLazy options k b more y
   AreLazy-same k b [] x y e t = tt
-  AreLazy-same k b (m ∷ more) x y e t = ((λ lacks. ap (lazily options m) (sym (same_shown more x y e)) ∙ t.0 lacks), AreLazy-same k false more x y e t.1)
+  AreLazy-same k b (m ∷ more) x y e t = ((λ lacks. ap (lazily options k m) (sym (same_shown more x y e)) ∙ t.0 lacks), AreLazy-same k false more x y e t.1)
 
-  AreLazy-push : (k : Container) (b : Bool) (more : List Row) (r : Row) (ahead : List Row) → shown ahead ≡ ahead → AreLazy options k b more (show_as r.lazy r ahead) → (keeps k (bare_after b more) r ≡ None → lazily options r ahead ≡ true) → AreLazy options k b (more ++ r ∷ []) ahead
-  AreLazy-push k b [] r ahead still t is = ((λ lacks. ap (lazily options r) still ∙ is lacks), tt)
+  AreLazy-push : (k : Container) (b : Bool) (more : List Row) (r : Row) (ahead : List Row) → shown ahead ≡ ahead → AreLazy options k b more (show_as r.lazy r ahead) → (keeps k (bare_after b more) r ≡ None → lazily options k r ahead ≡ true) → AreLazy options k b (more ++ r ∷ []) ahead
+  AreLazy-push k b [] r ahead still t is = ((λ lacks. ap (lazily options k r) still ∙ is lacks), tt)
   AreLazy-push k b (m ∷ more) r ahead still t is =
-      ((λ lacks. ap (lazily options m) (sym (shown_push more r ahead still)) ∙ t.0 lacks), AreLazy-push k false more r ahead still t.1 (λ lacks. is (subst (λ z. keeps k z r ≡ None) (bare_false more) lacks)))
+      ((λ lacks. ap (lazily options k m) (sym (shown_push more r ahead still)) ∙ t.0 lacks), AreLazy-push k false more r ahead still t.1 (λ lacks. is (subst (λ z. keeps k z r ≡ None) (bare_false more) lacks)))
 
   -- these lines are known, and whatever goes on behind them with these ahead may stand behind these blocks
-  abbrev pub Follows : (so : Bool) → List Row → Blocks → Bool → List Row → List Row → Type 0
+  abbrev pub Follows : (so : Place) → List Row → Blocks → Place → List Row → List Row → Type 0
   Follows so before closed behind known ahead =
       (rest : List Row) (after : Blocks) → shown rest ≡ ahead → Body options behind (known ++ rest) after → Body options so (before ++ (known ++ rest)) (join closed after)
 
-  pub record IsBetween (so : Bool) (all : List Row) (closed : Blocks) (ahead : List Row) : Type 0 where
-    pub follows : Follows so all closed false [] ahead
-    pub ended : ends_lazily so closed ≡ false
+  pub record IsBetween (so : Place) (all : List Row) (closed : Blocks) (ahead : List Row) : Type 0 where
+    pub follows : Follows so all closed (place_behind Apart closed) [] ahead
+    pub ended : ends_lazily (allows_lazy so) closed ≡ false
 
   -- a block that is open: its lines so far end all lines so far
-  pub record Began (so : Bool) (all : List Row) (closed : Blocks) (first : Row) (more ahead : List Row) (opening : Opening) : Type 0 where
+  pub record Began (so : Place) (all : List Row) (closed : Blocks) (first : Row) (more ahead : List Row) (opening : Opening) : Type 0 where
     pub before : List Row
-    pub behind : Bool
+    pub behind : Place
     pub cut : all ≡ before ++ (first ∷ more)
     pub follows : Follows so before closed behind (first ∷ more) ahead
     pub begun : MayBegin options behind first
-    pub opened : opens options first (shown (more ++ ahead)) ≡ opening
+    pub opened : opens_at options behind first (shown (more ++ ahead)) ≡ opening
 
   -- these lines have led to what is open, with these ahead
-  abbrev pub Holds : (so : Bool) → List Row → Open → List Row → Type 0
+  abbrev pub Holds : (so : Place) → List Row → Open → List Row → Type 0
   Holds so all (Between closed) ahead = IsBetween so all closed ahead
-  Holds so all BehindTag ahead = (so ≡ true) × (all ≡ [])
+  Holds so all BehindTag ahead = (so ≡ BehindLazy) × (all ≡ [])
   Holds so all (InParagraph closed first more) ahead = Began so all closed first more ahead Plain × AreText options more ahead
   Holds so all (InLeaf closed leaf first had left) ahead = Began so all closed first had ahead (Takes leaf (length had + left)) × (left ≤ length ahead)
   Holds so all (InContainer closed k first more inside) ahead =
-      Began so all closed first more ahead (Nests k) × Holds (is_alert k) (insides k first more) inside (within k (bare_after (is_bare_start k first) more) ahead)
+      Began so all closed first more ahead (Nests k) × Holds (place_in k) (insides k first more) inside (within k (bare_after (is_bare_start k first) more) ahead)
       × AreLazy options k (is_bare_start k first) more ahead
 
   -- where the lines end behind a block
-  ends_with : (so : Bool) (all : List Row) (closed : Blocks) (first : Row) (more : List Row) (opening : Opening) (block : Blocks) → (b : Began so all closed first more [] opening) → Body options b.behind (first ∷ (more ++ [])) block → Body options so all (join closed block)
+  ends_with : (so : Place) (all : List Row) (closed : Blocks) (first : Row) (more : List Row) (opening : Opening) (block : Blocks) → (b : Began so all closed first more [] opening) → Body options b.behind (first ∷ (more ++ [])) block → Body options so all (join closed block)
   ends_with so all closed first more opening block b body =
       subst (λ ls. Body options so ls (join closed block)) (ap (λ ls. b.before ++ (first ∷ ls)) (append-nil more) ∙ sym b.cut) (b.follows [] block refl body)
 
@@ -119,7 +128,7 @@ module _ (options : Options) where
   all_left n left le = omega arith
 
   -- where the lines end, what is open is a body
-  pub close_body : (so : Bool) (all : List Row) (o : Open) → Holds so all o [] → Body options so all (close o)
+  pub close_body : (so : Place) (all : List Row) (o : Open) → Holds so all o [] → Body options so all (close o)
   close_body so all (Between closed) h =
       subst (λ ls. Body options so ls closed) (append-nil all) (subst (Body options so (all ++ [])) (join-Nil closed) (h.follows [] Nil refl refl))
   close_body so all BehindTag h = h.1
@@ -131,26 +140,26 @@ module _ (options : Options) where
       (record { rest = []; cut = refl; opened = h.0.opened ∙ ap (Takes leaf) (all_left (length had) left h.1); after = refl })
   close_body so all (InContainer closed k first more inside) h =
       ends_with so all closed first more (Nests k) (ContainerBlock k first more (close inside) Nil) h.0
-      (record { rest = []; cut = refl; opened = h.0.opened; contents = close_body (is_alert k) (insides k first more) inside h.1; others = h.2; stops = tt; after = refl })
+      (record { rest = []; cut = refl; opened = h.0.opened; contents = close_body (place_in k) (insides k first more) inside h.1; others = h.2; stops = tt; after = refl })
 
   -- whether a lazy line may stand behind them is seen on what is open
-  pub close_ends : (so : Bool) (all : List Row) (o : Open) (ahead : List Row) → Holds so all o ahead → ends_lazily so (close o) ≡ takes_lazy o
+  pub close_ends : (so : Place) (all : List Row) (o : Open) (ahead : List Row) → Holds so all o ahead → ends_lazily (allows_lazy so) (close o) ≡ takes_lazy o
   close_ends so all (Between closed) ahead h = h.ended
-  close_ends so all BehindTag ahead h = h.0
-  close_ends so all (InParagraph closed first more) ahead h = ends_lazily-join so closed (Paragraph first more Nil)
-  close_ends so all (InLeaf closed leaf first had left) ahead h = ends_lazily-join so closed (LeafBlock leaf first had Nil)
+  close_ends so all BehindTag ahead h = ap allows_lazy h.0
+  close_ends so all (InParagraph closed first more) ahead h = ends_lazily-join (allows_lazy so) closed (Paragraph first more Nil)
+  close_ends so all (InLeaf closed leaf first had left) ahead h = ends_lazily-join (allows_lazy so) closed (LeafBlock leaf first had Nil)
   close_ends so all (InContainer closed k first more inside) ahead h =
-      ends_lazily-join so closed (ContainerBlock k first more (close inside) Nil) ∙ close_ends (is_alert k) (insides k first more) inside (within k (bare_after (is_bare_start k first) more) ahead) h.1
+      ends_lazily-join (allows_lazy so) closed (ContainerBlock k first more (close inside) Nil) ∙ close_ends (place_in k) (insides k first more) inside (within k (bare_after (is_bare_start k first) more) ahead) h.1
 
   -- one more line belongs to the block
-  grows : (so : Bool) (all : List Row) (closed : Blocks) (first : Row) (more : List Row) (r : Row) (ahead : List Row) (opening : Opening) → shown ahead ≡ ahead → Began so all closed first more (show_as r.lazy r ahead) opening → Began so (all ++ r ∷ []) closed first (more ++ r ∷ []) ahead opening
+  grows : (so : Place) (all : List Row) (closed : Blocks) (first : Row) (more : List Row) (r : Row) (ahead : List Row) (opening : Opening) → shown ahead ≡ ahead → Began so all closed first more (show_as r.lazy r ahead) opening → Began so (all ++ r ∷ []) closed first (more ++ r ∷ []) ahead opening
   grows so all closed first more r ahead opening still b = record {
     before = b.before;
     behind = b.behind;
     cut = ap (λ ls. ls ++ r ∷ []) b.cut ∙ append_assoc b.before (first ∷ more) (r ∷ []);
     follows = follows;
     begun = b.begun;
-    opened = ap (opens options first) (sym (shown_push more r ahead still)) ∙ b.opened;
+    opened = ap (opens_at options b.behind first) (sym (shown_push more r ahead still)) ∙ b.opened;
   }
     where
       follows : Follows so b.before closed b.behind (first ∷ (more ++ r ∷ [])) ahead
@@ -160,39 +169,53 @@ module _ (options : Options) where
           (b.follows (r ∷ rest) after (ap (show_as r.lazy r) e) (subst (λ ls. Body options b.behind (first ∷ ls) after) q body))
 
   -- a line goes on behind a block that ends before it
-  past_block : (so : Bool) (all : List Row) (closed : Blocks) (first : Row) (more : List Row) (r : Row) (ahead : List Row) (opening : Opening) (block : Blocks) (behind : Bool) → (b : Began so all closed first more (show_as r.lazy r ahead) opening) → ((rest : List Row) (after : Blocks) → shown rest ≡ ahead → Body options behind (r ∷ rest) after → Body options b.behind (first ∷ (more ++ (r ∷ rest))) (join block after)) → Follows so all (join closed block) behind (r ∷ []) ahead
+  past_block : (so : Place) (all : List Row) (closed : Blocks) (first : Row) (more : List Row) (r : Row) (ahead : List Row) (opening : Opening) (block : Blocks) (behind : Place) → (b : Began so all closed first more (show_as r.lazy r ahead) opening) → ((rest : List Row) (after : Blocks) → shown rest ≡ ahead → Body options behind (r ∷ rest) after → Body options b.behind (first ∷ (more ++ (r ∷ rest))) (join block after)) → Follows so all (join closed block) behind (r ∷ []) ahead
   past_block so all closed first more r ahead opening block behind b body_of rest after e body =
       rw (b.cut, append_assoc b.before (first ∷ more) (r ∷ rest), join_assoc closed block after)
       (b.follows (r ∷ rest) (join block after) (ap (show_as r.lazy r) e) (body_of rest after e body))
 
   -- directly behind an alert's tag
-  behind_tag : (is_tag : Bool) (r : Row) (o : Open) (ahead : List Row) → Holds false (r ∷ []) o ahead → Holds is_tag (unless_tag is_tag r []) (inside_begun is_tag o) ahead
-  behind_tag true r o ahead h = (refl, refl)
-  behind_tag false r o ahead h = h
+  behind_tag : (k : Container) (r : Row) (o : Open) (ahead : List Row) → Holds (place_in k) (r ∷ []) o ahead → Holds (place_in k) (unless_tag (is_alert k) r []) (inside_begun (is_alert k) o) ahead
+  behind_tag (Quote None) r o ahead h = h
+  behind_tag (Quote (Some kind)) r o ahead h = (refl, refl)
+  behind_tag (Item mark number width) r o ahead h = h
 
   -- what a line begins
-  begin_in_holds : (so : Bool) (n : ℕ) (before : List Row) (closed : Blocks) (behind : Bool) (r : Row) (ahead : List Row) → length r.columns < n → MayBegin options behind r → shown ahead ≡ ahead → Follows so before closed behind (r ∷ []) ahead → Holds so (before ++ r ∷ []) (begin_in options n closed r ahead) ahead
-  begin_in_holds so zero before closed behind r ahead lt begun still follows = absurd (omega arith)
-  begin_in_holds so (suc n) before closed behind r ahead lt begun still follows =
-      go (opens options r ahead) refl (λ k e w. begin_in_holds false n [] Nil false (enter k r) (within k (is_bare_start k r) ahead) (let q : length (enter k r).columns < length r.columns = enter_len options k r ahead e in omega arith) (inl (enter-lazy options k r ∙ w)) (shown-shown [] (strips k (is_bare_start k r) ahead)) (λ rest after e body. body))
+  begin_in_holds : (so : Place) (n : ℕ) (before : List Row) (closed : Blocks) (behind : Place) (r : Row) (ahead : List Row) → length r.columns < n → MayBegin options behind r → shown ahead ≡ ahead → over_blank behind ≡ over_blank (place_behind Apart closed) → Follows so before closed behind (r ∷ []) ahead → Holds so (before ++ r ∷ []) (begin_in options n behind closed r ahead) ahead
+  begin_in_holds so zero before closed behind r ahead lt begun still stands follows = absurd (omega arith)
+  begin_in_holds so (suc n) before closed behind r ahead lt begun still stands follows =
+      go (opens_at options behind r ahead) refl (λ k e w. begin_in_holds (place_in k) n [] Nil (place_in k) (enter k r) (within k (is_bare_start k r) ahead) (let q : length (enter k r).columns < length r.columns = at-enter options behind k r ahead e in omega arith) (inl (enter-lazy options k r ∙ w)) (shown-shown [] (strips k (is_bare_start k r) ahead)) (starts k) (λ rest after e body. body))
     where
-      began : (o : Opening) → opens options r ahead ≡ o → Began so (before ++ r ∷ []) closed r [] ahead o
-      began o e = record { before = before; behind = behind; cut = refl; follows = follows; begun = begun; opened = ap (opens options r) still ∙ e }
+      starts : (k : Container) → over_blank (place_in k) ≡ Apart
+      starts (Quote None) = refl
+      starts (Quote (Some kind)) = refl
+      starts (Item mark number width) = refl
 
-      go : (o : Opening) → opens options r ahead ≡ o → ((k : Container) → opens options r ahead ≡ Nests k → r.lazy ≡ false → Holds false (enter k r ∷ []) (begin_in options n Nil (enter k r) (within k (is_bare_start k r) ahead)) (within k (is_bare_start k r) ahead)) → Holds so (before ++ r ∷ []) (begin_as o (λ k. begin_in options n Nil (enter k r) (within k (is_bare_start k r) ahead)) closed r) ahead
+      began : (o : Opening) → opens_at options behind r ahead ≡ o → Began so (before ++ r ∷ []) closed r [] ahead o
+      began o e = record { before = before; behind = behind; cut = refl; follows = follows; begun = begun; opened = ap (opens_at options behind r) still ∙ e }
+
+      blank : over_blank behind ≡ place_behind Apart (join closed (BlankLine r Nil))
+      blank = stands ∙ sym (place_behind-join Apart closed (BlankLine r Nil))
+
+      go : (o : Opening) → opens_at options behind r ahead ≡ o → ((k : Container) → opens_at options behind r ahead ≡ Nests k → r.lazy ≡ false → Holds (place_in k) (enter k r ∷ []) (begin_in options n (place_in k) Nil (enter k r) (within k (is_bare_start k r) ahead)) (within k (is_bare_start k r) ahead)) → Holds so (before ++ r ∷ []) (begin_as o (λ k. begin_in options n (place_in k) Nil (enter k r) (within k (is_bare_start k r) ahead)) closed r) ahead
       go Blank e ih = record {
-        follows = λ rest after s body. rw (append_assoc before (r ∷ []) rest, join_assoc closed (BlankLine r Nil) after) (follows rest (BlankLine r after) s (record { rest = rest; cut = refl; opened = ap (opens options r) s ∙ e; after = body }));
-        ended = ends_lazily-join so closed (BlankLine r Nil);
+        follows = λ rest after s body. rw (append_assoc before (r ∷ []) rest, join_assoc closed (BlankLine r Nil) after) (follows rest (BlankLine r after) s (record { rest = rest; cut = refl; opened = ap (opens_at options behind r) s ∙ e; after = subst (λ z. Body options z rest after) (sym blank) body }));
+        ended = ends_lazily-join (allows_lazy so) closed (BlankLine r Nil);
       }
       go (Nests k) e ih =
-          let w : r.lazy ≡ false = opens-whole options r ahead (λ p. let q : Nests k ≡ Plain = sym e ∙ p in cc) in
-          (began (Nests k) e, behind_tag (is_alert k) (enter k r) _ _ (ih k e w), tt)
-      go (Takes leaf m) e ih = (began (Takes leaf (length {A = Row} [] + m)) (e ∙ ap (Takes leaf) (let z : m ≡ 0 + m = omega arith in z)), opens-len options r ahead leaf m e)
+          let w : r.lazy ≡ false = at-whole options behind r ahead (λ p. let q : Nests k ≡ Plain = sym e ∙ p in cc) in
+          (began (Nests k) e, behind_tag k (enter k r) _ _ (ih k e w), tt)
+      go (Takes leaf m) e ih = (began (Takes leaf (length {A = Row} [] + m)) (e ∙ ap (Takes leaf) (let z : m ≡ 0 + m = omega arith in z)), at-len options behind r ahead leaf m e)
       go Plain e ih = (began Plain e, tt)
 
-  begin_holds : (so : Bool) (before : List Row) (closed : Blocks) (behind : Bool) (r : Row) (ahead : List Row) → MayBegin options behind r → shown ahead ≡ ahead → Follows so before closed behind (r ∷ []) ahead → Holds so (before ++ r ∷ []) (begin options closed r ahead) ahead
+  begin_at_holds : (so : Place) (before : List Row) (closed : Blocks) (behind : Place) (r : Row) (ahead : List Row) → MayBegin options behind r → shown ahead ≡ ahead → over_blank behind ≡ over_blank (place_behind Apart closed) → Follows so before closed behind (r ∷ []) ahead → Holds so (before ++ r ∷ []) (begin_at options behind closed r ahead) ahead
+  begin_at_holds so before closed behind r ahead = begin_in_holds so (suc (length r.columns)) before closed behind r ahead (omega arith)
+
+  -- behind a block that has ended
+  begin_holds : (so : Place) (before : List Row) (closed : Blocks) (behind : Place) (r : Row) (ahead : List Row) → MayBegin options behind r → shown ahead ≡ ahead → place_behind Apart closed ≡ behind → Follows so before closed behind (r ∷ []) ahead → Holds so (before ++ r ∷ []) (begin options closed r ahead) ahead
   unfolding begin
-  begin_holds so before closed behind r ahead = begin_in_holds so (suc (length r.columns)) before closed behind r ahead (omega arith)
+  begin_holds so before closed behind r ahead begun still is follows =
+      subst (λ z. Holds so (before ++ r ∷ []) (begin_at options z closed r ahead) ahead) (sym is) (begin_at_holds so before closed behind r ahead begun still (ap over_blank (sym is)) follows)
 
   -- a line is whole, or goes on with the paragraph that is open
   abbrev pub Suits : Open → Row → Type 0
@@ -231,20 +254,20 @@ module _ (options : Options) where
   not_both true b e i = absurd (true≢false (sym i ∙ e))
   not_both false b e i = refl
 
-  pub feed_holds : (so : Bool) (all : List Row) (o : Open) (r : Row) (ahead : List Row) → Suits o r → shown ahead ≡ ahead → Holds so all o (show_as r.lazy r ahead) → Holds so (all ++ r ∷ []) (feed options o r ahead) ahead
-  feed_holds so all (Between closed) r ahead suits still h = begin_holds so all closed false r ahead (inl (whole suits)) still follows
+  pub feed_holds : (so : Place) (all : List Row) (o : Open) (r : Row) (ahead : List Row) → Suits o r → shown ahead ≡ ahead → Holds so all o (show_as r.lazy r ahead) → Holds so (all ++ r ∷ []) (feed options o r ahead) ahead
+  feed_holds so all (Between closed) r ahead suits still h = begin_holds so all closed (place_behind Apart closed) r ahead (inl (whole suits)) still refl follows
     where
       whole : Suits (Between closed) r → r.lazy ≡ false
       whole (inl w) = w
       whole (inr p) = absurd (true≢false (sym p.1))
 
-      follows : Follows so all closed false (r ∷ []) ahead
+      follows : Follows so all closed (place_behind Apart closed) (r ∷ []) ahead
       follows rest after e body = h.follows (r ∷ rest) after (ap (show_as r.lazy r) e) body
   feed_holds so all BehindTag r ahead suits still h =
-      subst (λ ls. Holds so (ls ++ r ∷ []) (begin options Nil r ahead) ahead) (sym h.1)
-      (begin_holds so [] Nil true r ahead (begun suits) still (λ rest after e body. subst (λ z. Body options z (r ∷ rest) after) (sym h.0) body))
+      subst (λ ls. Holds so (ls ++ r ∷ []) (begin_at options BehindLazy Nil r ahead) ahead) (sym h.1)
+      (begin_at_holds so [] Nil BehindLazy r ahead (begun suits) still refl (λ rest after e body. subst (λ z. Body options z (r ∷ rest) after) (sym h.0) body))
     where
-      begun : Suits BehindTag r → MayBegin options true r
+      begun : Suits BehindTag r → MayBegin options BehindLazy r
       begun (inl w) = inl w
       begun (inr p) = ⊎_elim inl (λ t. inr (refl, t)) (texts_or options r [] p.0)
   feed_holds so all (InParagraph closed first more) r ahead suits still h = under (underlines r) refl
@@ -253,8 +276,8 @@ module _ (options : Options) where
       whole ne (inl w) = w
       whole ne (inr p) = ⊎_elim (λ w. w) (λ t. absurd (true≢false (sym t ∙ ne))) (texts_or options r ahead p.0)
 
-      opened : (rest : List Row) → shown rest ≡ ahead → opens options first (shown (more ++ (r ∷ rest))) ≡ Plain
-      opened rest e = ap (opens options first) (sym (shown_rest more r rest ahead e)) ∙ h.0.opened
+      opened : (rest : List Row) → shown rest ≡ ahead → opens_at options h.0.behind first (shown (more ++ (r ∷ rest))) ≡ Plain
+      opened rest e = ap (opens_at options h.0.behind first) (sym (shown_rest more r rest ahead e)) ∙ h.0.opened
 
       others : (rest : List Row) → shown rest ≡ ahead → AreText options more (r ∷ rest)
       others rest e = AreText-same more (show_as r.lazy r ahead) (r ∷ rest) (shown_row r rest ahead e) h.1
@@ -262,8 +285,8 @@ module _ (options : Options) where
       text : underlines r ≡ None → (o : Bool) → texts options r ahead ≡ o → Holds so (all ++ r ∷ []) (goes_on_or o (InParagraph closed first (more ++ r ∷ [])) (begin options (join closed (Paragraph first more Nil)) r ahead)) ahead
       text eu true e = (grows so all closed first more r ahead Plain still h.0, AreText-push more r ahead still h.1 (e, eu))
       text eu false e =
-          begin_holds so all (join closed (Paragraph first more Nil)) false r ahead (inl (whole e suits)) still
-          (past_block so all closed first more r ahead Plain (Paragraph first more Nil) false h.0 (λ rest after s body. record {
+          begin_holds so all (join closed (Paragraph first more Nil)) BehindTitle r ahead (inl (whole e suits)) still (place_behind-join Apart closed (Paragraph first more Nil))
+          (past_block so all closed first more r ahead Plain (Paragraph first more Nil) BehindTitle h.0 (λ rest after s body. record {
             rest = r ∷ rest;
             cut = refl;
             begun = h.0.begun;
@@ -275,23 +298,23 @@ module _ (options : Options) where
 
       under : (u : Option ℕ) → underlines r ≡ u → Holds so (all ++ r ∷ []) (underline_or u (λ level. Between (join closed (SetextHeading level first more r Nil))) (goes_on_or (texts options r ahead) (InParagraph closed first (more ++ r ∷ [])) (begin options (join closed (Paragraph first more Nil)) r ahead))) ahead
       under None e = text e (texts options r ahead) refl
-      under (Some level) e = record { follows = follows; ended = ends_lazily-join so closed (SetextHeading level first more r Nil) }
+      under (Some level) e = record { follows = follows; ended = ends_lazily-join (allows_lazy so) closed (SetextHeading level first more r Nil) }
         where
-          follows : Follows so (all ++ r ∷ []) (join closed (SetextHeading level first more r Nil)) false [] ahead
+          follows : Follows so (all ++ r ∷ []) (join closed (SetextHeading level first more r Nil)) (place_behind Apart (join closed (SetextHeading level first more r Nil))) [] ahead
           follows rest after s body =
               rw (h.0.cut, append_assoc (h.0.before ++ (first ∷ more)) (r ∷ []) rest, append_assoc h.0.before (first ∷ more) (r ∷ rest), join_assoc closed (SetextHeading level first more r Nil) after)
               (h.0.follows (r ∷ rest) (SetextHeading level first more r after) (ap (show_as r.lazy r) s)
-              (record { rest = rest; cut = refl; begun = h.0.begun; opened = opened rest s; others = others rest s; underlined = e; after = body }))
+              (record { rest = rest; cut = refl; begun = h.0.begun; opened = opened rest s; others = others rest s; underlined = e; after = subst (λ z. Body options z rest after) (place_behind-join Apart closed (SetextHeading level first more r Nil)) body }))
   feed_holds so all (InLeaf closed leaf first had zero) r ahead suits still h =
-      begin_holds so all (join closed (LeafBlock leaf first had Nil)) (may_lazy leaf) r ahead (begun suits) still
-      (past_block so all closed first had r ahead (Takes leaf (length had + 0)) (LeafBlock leaf first had Nil) (may_lazy leaf) h.0 (λ rest after s body. record {
+      begin_holds so all (join closed (LeafBlock leaf first had Nil)) (behind_leaf leaf) r ahead (begun suits) still (place_behind-join Apart closed (LeafBlock leaf first had Nil))
+      (past_block so all closed first had r ahead (Takes leaf (length had + 0)) (LeafBlock leaf first had Nil) (behind_leaf leaf) h.0 (λ rest after s body. record {
         rest = r ∷ rest;
         cut = refl;
-        opened = ap (opens options first) (sym (shown_rest had r rest ahead s)) ∙ h.0.opened ∙ ap (Takes leaf) (all_left (length had) 0 (omega arith));
+        opened = ap (opens_at options h.0.behind first) (sym (shown_rest had r rest ahead s)) ∙ h.0.opened ∙ ap (Takes leaf) (all_left (length had) 0 (omega arith));
         after = body;
       }))
     where
-      begun : Suits (InLeaf closed leaf first had zero) r → MayBegin options (may_lazy leaf) r
+      begun : Suits (InLeaf closed leaf first had zero) r → MayBegin options (behind_leaf leaf) r
       begun (inl w) = inl w
       begun (inr p) = ⊎_elim inl (λ t. inr (p.1, t)) (texts_or options r [] p.0)
   feed_holds so all (InLeaf closed leaf first had (suc left)) r ahead suits still h =
@@ -305,8 +328,8 @@ module _ (options : Options) where
       come true le = omega arith
       come false le = omega arith
   feed_holds so all (InContainer closed k first more inside) r ahead suits still h =
-      go (keeps k bare r) refl (lazily options r ahead && takes_lazy inside) refl
-      (λ s. feed_holds (is_alert k) (insides k first more) inside (strip k bare r) (within k false ahead) s (shown-shown [] (strips k false ahead)) (subst (λ a. Holds (is_alert k) (insides k first more) inside a) (within_row k bare r ahead) h.1))
+      go (keeps k bare r) refl (lazily options k r ahead && takes_lazy inside) refl
+      (λ s. feed_holds (place_in k) (insides k first more) inside (strip k bare r) (within k false ahead) s (shown-shown [] (strips k false ahead)) (subst (λ a. Holds (place_in k) (insides k first more) inside a) (within_row k bare r ahead) h.1))
     where
       bare : Bool
       bare = bare_after (is_bare_start k first) more
@@ -314,40 +337,40 @@ module _ (options : Options) where
       block : Blocks
       block = ContainerBlock k first more (close inside) Nil
 
-      whole : keeps k bare r ≡ None → (takes_lazy inside ≡ true → lazily options r ahead ≡ false) → Suits (InContainer closed k first more inside) r → r.lazy ≡ false
+      whole : keeps k bare r ≡ None → (takes_lazy inside ≡ true → lazily options k r ahead ≡ false) → Suits (InContainer closed k first more inside) r → r.lazy ≡ false
       whole nq np (inl w) = w
       whole nq np (inr p) = by r.lazy refl
         where
           by : (z : Bool) → r.lazy ≡ z → r.lazy ≡ false
           by false e = e
-          by true e = absurd (true≢false (sym (texts-lazily options r ahead e p.0) ∙ np p.1))
+          by true e = absurd (true≢false (sym (texts-lazily options k r ahead e p.0) ∙ np p.1))
 
-      off : keeps k bare r ≡ None → (takes_lazy inside ≡ true → lazily options r ahead ≡ false) → Holds so (all ++ r ∷ []) (begin options (join closed block) r ahead) ahead
+      off : keeps k bare r ≡ None → (takes_lazy inside ≡ true → lazily options k r ahead ≡ false) → Holds so (all ++ r ∷ []) (begin options (join closed block) r ahead) ahead
       off nq np =
-          begin_holds so all (join closed block) false r ahead (inl (whole nq np suits)) still
-          (past_block so all closed first more r ahead (Nests k) block false h.0 (λ rest after s body. record {
+          begin_holds so all (join closed block) (behind_container k) r ahead (inl (whole nq np suits)) still (place_behind-join Apart closed block)
+          (past_block so all closed first more r ahead (Nests k) block (behind_container k) h.0 (λ rest after s body. record {
             rest = r ∷ rest;
             cut = refl;
-            opened = ap (opens options first) (sym (shown_rest more r rest ahead s)) ∙ h.0.opened;
-            contents = close_body (is_alert k) (insides k first more) inside (subst (λ a. Holds (is_alert k) (insides k first more) inside a) (within_off k bare r ahead nq) h.1);
+            opened = ap (opens_at options h.0.behind first) (sym (shown_rest more r rest ahead s)) ∙ h.0.opened;
+            contents = close_body (place_in k) (insides k first more) inside (subst (λ a. Holds (place_in k) (insides k first more) inside a) (within_off k bare r ahead nq) h.1);
             others = AreLazy-same k (is_bare_start k first) more (show_as r.lazy r ahead) (r ∷ rest) (shown_row r rest ahead s) h.2;
-            stops = (nq, λ ends. ap (lazily options r) s ∙ np (sym (close_ends (is_alert k) (insides k first more) inside (within k bare (show_as r.lazy r ahead)) h.1) ∙ ends));
+            stops = (nq, λ ends. ap (lazily options k r) s ∙ np (sym (close_ends (place_in k) (insides k first more) inside (within k bare (show_as r.lazy r ahead)) h.1) ∙ ends));
             after = body;
           }))
 
-      on : (keeps k bare r ≡ None → lazily options r ahead ≡ true) → Holds (is_alert k) (insides k first more ++ strip k bare r ∷ []) (feed options inside (strip k bare r) (within k false ahead)) (within k false ahead) → Holds so (all ++ r ∷ []) (InContainer closed k first (more ++ r ∷ []) (feed options inside (strip k bare r) (within k false ahead))) ahead
+      on : (keeps k bare r ≡ None → lazily options k r ahead ≡ true) → Holds (place_in k) (insides k first more ++ strip k bare r ∷ []) (feed options inside (strip k bare r) (within k false ahead)) (within k false ahead) → Holds so (all ++ r ∷ []) (InContainer closed k first (more ++ r ∷ []) (feed options inside (strip k bare r) (within k false ahead))) ahead
       on may i = (
         grows so all closed first more r ahead (Nests k) still h.0,
-        subst (λ z. Holds (is_alert k) (insides k first (more ++ r ∷ [])) (feed options inside (strip k bare r) (within k false ahead)) (within k z ahead)) (sym (bare_push (is_bare_start k first) more r))
-            (subst (λ ls. Holds (is_alert k) ls (feed options inside (strip k bare r) (within k false ahead)) (within k false ahead)) (sym (insides_push k first more r)) i),
+        subst (λ z. Holds (place_in k) (insides k first (more ++ r ∷ [])) (feed options inside (strip k bare r) (within k false ahead)) (within k z ahead)) (sym (bare_push (is_bare_start k first) more r))
+            (subst (λ ls. Holds (place_in k) ls (feed options inside (strip k bare r) (within k false ahead)) (within k false ahead)) (sym (insides_push k first more r)) i),
         AreLazy-push k (is_bare_start k first) more r ahead still h.2 may,
       )
 
       -- inside the container the line is whole, or goes on with the paragraph
-      go : (o : Option Row) → keeps k bare r ≡ o → (l : Bool) → (lazily options r ahead && takes_lazy inside) ≡ l → (Suits inside (strip k bare r) → Holds (is_alert k) (insides k first more ++ strip k bare r ∷ []) (feed options inside (strip k bare r) (within k false ahead)) (within k false ahead)) → Holds so (all ++ r ∷ []) (kept_or o l (InContainer closed k first (more ++ r ∷ []) (feed options inside (strip k bare r) (within k false ahead))) (begin options (join closed block) r ahead)) ahead
+      go : (o : Option Row) → keeps k bare r ≡ o → (l : Bool) → (lazily options k r ahead && takes_lazy inside) ≡ l → (Suits inside (strip k bare r) → Holds (place_in k) (insides k first more ++ strip k bare r ∷ []) (feed options inside (strip k bare r) (within k false ahead)) (within k false ahead)) → Holds so (all ++ r ∷ []) (kept_or o l (InContainer closed k first (more ++ r ∷ []) (feed options inside (strip k bare r) (within k false ahead))) (begin options (join closed block) r ahead)) ahead
       go (Some s) e l el ih = on (λ lacks. absurd (let q : Some s ≡ None = sym e ∙ lacks in cc)) (ih (inl (strip_whole options k bare r s e)))
-      go None e true el ih = let p = is_both (lazily options r ahead) (takes_lazy inside) el in on (λ lacks. p.0) (ih (inr (ap (λ s. texts options (lazy_row s) []) (strip_lazy options k bare r e) ∙ lazily-texts options r ahead [] p.0, p.1)))
-      go None e false el ih = off e (not_both (lazily options r ahead) (takes_lazy inside) el)
+      go None e true el ih = let p = is_both (lazily options k r ahead) (takes_lazy inside) el in on (λ lacks. p.0) (ih (inr (ap (λ s. texts options (lazy_row s) []) (strip_lazy options k bare r e) ∙ lazily-texts options k r ahead [] p.0, p.1)))
+      go None e false el ih = off e (not_both (lazily options k r ahead) (takes_lazy inside) el)
 
   -- all lines of a text are whole
   abbrev pub AreWhole : List Row → Type 0
@@ -361,14 +384,14 @@ module _ (options : Options) where
   pub rows-whole : (text : List ℕ) → AreWhole (rows text)
   rows-whole text = rows_from-whole 0 (lines text)
 
-  feed_all_holds : (all more : List Row) (o : Open) → AreWhole more → Holds false all o (shown more) → Holds false (all ++ more) (feed_all options o more) []
+  feed_all_holds : (all more : List Row) (o : Open) → AreWhole more → Holds Apart all o (shown more) → Holds Apart (all ++ more) (feed_all options o more) []
   feed_all_holds all [] o whole h = rw append-nil h
   feed_all_holds all (r ∷ more) o whole h =
-      subst (λ ls. Holds false ls (feed_all options (feed options o r (shown more)) more) []) (append_assoc all (r ∷ []) more)
-      (feed_all_holds (all ++ r ∷ []) more (feed options o r (shown more)) whole.1 (feed_holds false all o r (shown more) (inl whole.0) (shown-shown [] more) h))
+      subst (λ ls. Holds Apart ls (feed_all options (feed options o r (shown more)) more) []) (append_assoc all (r ∷ []) more)
+      (feed_all_holds (all ++ r ∷ []) more (feed options o r (shown more)) whole.1 (feed_holds Apart all o r (shown more) (inl whole.0) (shown-shown [] more) h))
 
-  pub blocks-body : (text : List ℕ) → Body options false (rows text) (blocks options text)
+  pub blocks-body : (text : List ℕ) → Body options Apart (rows text) (blocks options text)
   unfolding blocks
   blocks-body text =
-      close_body false (rows text) (feed_all options (Between Nil) (rows text))
+      close_body Apart (rows text) (feed_all options (Between Nil) (rows text))
       (feed_all_holds [] (rows text) (Between Nil) (rows-whole text) (record { follows = λ rest after e body. body; ended = refl }))

@@ -5,12 +5,13 @@ use Rattle.std.specs.Prelude.{cond, if◌then◌else◌, IsUtf8, IsCharBoundary}
 use Rattle.std.proofs.lemmas.Str.{IsCharBoundary-start, IsCharBoundary-end, IsCharBoundary-before_ascii, IsCharBoundary-after_ascii}
 use Rattle.cmark_grammar.specs.Answers.{Lookup}
 use Rattle.cmark_grammar.specs.Options.{Options}
+use Rattle.cmark_grammar.specs.Places.{Place, Apart, BehindTitle, over_blank}
 use Rattle.cmark_grammar.specs.Lines.{lines, ends_line, onto, content, is_content, line_feed, carriage_return}
 use Rattle.cmark_grammar.specs.Columns.{Column, tab, expand, tab_columns, to_tab_stop}
 use Rattle.cmark_grammar.specs.Rows.{Row, rows, rows_from, row_at, begin_of, past_of}
 use Rattle.cmark_grammar.specs.Containers.{Container, Quote, Item, is_alert, unless_tag, enter, strips, is_bare_start, insides}
 use Rattle.cmark_grammar.specs.Openings.{Leaf, ThematicBreak as ThematicBreakLeaf, AtxHeading as AtxHeadingLeaf, IndentedCode as IndentedCodeLeaf, FencedCode as FencedCodeLeaf, HtmlBlock as HtmlBlockLeaf, LinkDefinition as LinkDefinitionLeaf, MetadataBlock as MetadataBlockLeaf}
-use Rattle.cmark_grammar.specs.Blocks.{Blocks, Nil as NoBlocks, BlankLine, Paragraph as ParagraphBlock, SetextHeading, LeafBlock, ContainerBlock, may_lazy, Body}
+use Rattle.cmark_grammar.specs.Blocks.{Blocks, Nil as NoBlocks, BlankLine, Paragraph as ParagraphBlock, SetextHeading, LeafBlock, ContainerBlock, behind_leaf, place_in, Body}
 use Rattle.cmark_grammar.specs.Lists.{ListBefore, tight_behind, goes_on}
 use Rattle.cmark_grammar.specs.Tokens.{fenced_lines, lines_before}
 use Rattle.cmark_grammar.specs.BlockDocument.{ListItem, BlockNode, BlockDocument, Nil, Node, node}
@@ -18,6 +19,7 @@ use Rattle.cmark_grammar.specs.Derivation.{leaf_then, item_then, document_of, De
 use Rattle.cmark_grammar.specs.Ranges.{AllAt}
 use Rattle.cmark_grammar.specs.Metadata.{ends_metadata}
 use Rattle.cmark_grammar.specs.Leaves.{closes_fence}
+use Rattle.cmark_grammar.proofs.BlockLaws.{at-nests, at-takes}
 use Rattle.cmark_grammar.proofs.RowPlaces.{Runs, expand-Runs, first_place-Runs}
 use Rattle.cmark_grammar.proofs.RowEdges.{is-ascii, AreGood, GoodRow, GoodRows, LeafFront, leaf-front, start-E, enter-good, strips-good, split-good}
 use Rattle.cmark_grammar.proofs.TokenEdges.{paragraph-edged, heading-edged, code-edged, code_place-edge, before-good, html-edged}
@@ -48,31 +50,31 @@ module _ (E : ℕ → Type 0) where
       go true = strips-good E k (is_bare_start k first) more gs
       go false = (g, strips-good E k (is_bare_start k first) more gs)
 
-  document-edged : (text : List ℕ) (options : Options) (lookup : Lookup) (direct : Bool) (before : Option ListBefore) (behind : Bool) (all : List Row) (b : Blocks) → Body options behind all b → GoodRows E all → AllAt E (document_of text options lookup direct before b)
+  document-edged : (text : List ℕ) (options : Options) (lookup : Lookup) (direct : Bool) (before : Option ListBefore) (behind : Place) (all : List Row) (b : Blocks) → Body options behind all b → GoodRows E all → AllAt E (document_of text options lookup direct before b)
   document-edged text options lookup direct before behind all NoBlocks body g = tt
   document-edged text options lookup direct before behind all (BlankLine line after) body g =
       let c : GoodRows E (line ∷ body.rest) = subst (GoodRows E) body.cut g in
-      document-edged text options lookup direct before false body.rest after body.after c.1
+      document-edged text options lookup direct before (over_blank behind) body.rest after body.after c.1
   document-edged text options lookup direct before behind all (ParagraphBlock first more after) body g =
       let c : GoodRows E (first ∷ (more ++ body.rest)) = subst (GoodRows E) body.cut g in
       let s = split-good E more body.rest c.1 in
-      (start-E E first c.0, past-edge first more c.0 s.0, paragraph-edged E text first more c.0 s.0, document-edged text options lookup direct None false body.rest after body.after s.1)
+      (start-E E first c.0, past-edge first more c.0 s.0, paragraph-edged E text first more c.0 s.0, document-edged text options lookup direct None BehindTitle body.rest after body.after s.1)
   document-edged text options lookup direct before behind all (SetextHeading level first more underline after) body g =
       let c : GoodRows E (first ∷ (more ++ (underline ∷ body.rest))) = subst (GoodRows E) body.cut g in
       let s = split-good E more (underline ∷ body.rest) c.1 in
-      (start-E E first c.0, s.1.0.past, paragraph-edged E text first more c.0 s.0, document-edged text options lookup direct None false body.rest after body.after s.1.1)
+      (start-E E first c.0, s.1.0.past, paragraph-edged E text first more c.0 s.0, document-edged text options lookup direct None Apart body.rest after body.after s.1.1)
   document-edged text options lookup direct before behind all (LeafBlock leaf first more after) body g =
       let c : GoodRows E (first ∷ (more ++ body.rest)) = subst (GoodRows E) body.cut g in
       let s = split-good E more body.rest c.1 in
-      leaf-edged text options lookup leaf first more (document_of text options lookup direct None after) c.0 s.0 (leaf-front E options first _ leaf (length more) body.opened c.0)
-      (document-edged text options lookup direct None (may_lazy leaf) body.rest after body.after s.1)
+      leaf-edged text options lookup leaf first more (document_of text options lookup direct None after) c.0 s.0 (leaf-front E options first _ leaf (length more) (at-takes options behind first _ leaf (length more) body.opened) c.0)
+      (document-edged text options lookup direct None (behind_leaf leaf) body.rest after body.after s.1)
   document-edged text options lookup direct before behind all (ContainerBlock (Quote alert) first more inside after) body g =
       let c : GoodRows E (first ∷ (more ++ body.rest)) = subst (GoodRows E) body.cut g in
       let s = split-good E more body.rest c.1 in (
         start-E E first c.0,
         past-edge first more c.0 s.0,
-        document-edged text options lookup false None (is_alert (Quote alert)) (insides (Quote alert) first more) inside body.contents (insides-good (Quote alert) first more (enter-good E options (Quote alert) first _ body.opened c.0) s.0),
-        document-edged text options lookup direct None false body.rest after body.after s.1,
+        document-edged text options lookup false None (place_in (Quote alert)) (insides (Quote alert) first more) inside body.contents (insides-good (Quote alert) first more (enter-good E options (Quote alert) first _ (at-nests options behind first _ _ body.opened) c.0) s.0),
+        document-edged text options lookup direct None Apart body.rest after body.after s.1,
       )
   document-edged text options lookup direct before behind all (ContainerBlock (Item mark number width) first more inside after) body g =
       let c : GoodRows E (first ∷ (more ++ body.rest)) = subst (GoodRows E) body.cut g in
@@ -80,8 +82,8 @@ module _ (E : ℕ → Type 0) where
       let tight = tight_behind before mark inside after in
       item-edged (goes_on mark after) number tight (node ListItem (begin_of first) (past_of first more)) (document_of text options lookup tight None inside) (document_of text options lookup direct (Some (record { mark = mark; tight = tight })) after)
       c.0.begin (past-edge first more c.0 s.0)
-      (document-edged text options lookup tight None false (insides (Item mark number width) first more) inside body.contents (insides-good (Item mark number width) first more (enter-good E options (Item mark number width) first _ body.opened c.0) s.0))
-      (document-edged text options lookup direct (Some (record { mark = mark; tight = tight })) false body.rest after body.after s.1)
+      (document-edged text options lookup tight None Apart (insides (Item mark number width) first more) inside body.contents (insides-good (Item mark number width) first more (enter-good E options (Item mark number width) first _ (at-nests options behind first _ _ body.opened) c.0) s.0))
+      (document-edged text options lookup direct (Some (record { mark = mark; tight = tight })) Apart body.rest after body.after s.1)
 
 -- the lines of a text
 abbrev pub joined : List (List ℕ) → List ℕ
@@ -277,4 +279,4 @@ module _ (text : List ℕ) (utf8 : IsUtf8 text) where
 
 pub derived-boundaries : (text : List ℕ) (options : Options) (lookup : Lookup) (d : BlockDocument) → IsUtf8 text → Derives text options lookup d → AllAt (IsCharBoundary text) d
 derived-boundaries text options lookup d utf8 h =
-    subst (AllAt (IsCharBoundary text)) (sym h.2) (document-edged (IsCharBoundary text) text options lookup false None false (rows text) h.0 h.1 (text-good text utf8))
+    subst (AllAt (IsCharBoundary text)) (sym h.2) (document-edged (IsCharBoundary text) text options lookup false None Apart (rows text) h.0 h.1 (text-good text utf8))

@@ -4,22 +4,23 @@ use Rattle.std.proofs.lemmas.List.Sums.{take_while-cons}
 use Rattle.std.specs.Prelude.{if◌then◌else◌, cond, nat_lt}
 use Rattle.cmark_grammar.specs.Answers.{Lookup}
 use Rattle.cmark_grammar.specs.Options.{Options}
+use Rattle.cmark_grammar.specs.Places.{Place, Apart, BehindTitle, over_blank}
 use Rattle.cmark_grammar.specs.Lines.{lines, ends_line, onto, content}
-use Rattle.cmark_grammar.specs.Columns.{Column, tab, expand, tab_columns, to_tab_stop, indent, without_indent, is_blank, without_trailing_blanks}
+use Rattle.cmark_grammar.specs.Columns.{Column, tab, expand, tab_columns, to_tab_stop, indent, without_indent, is_blank}
 use Rattle.cmark_grammar.specs.Rows.{Row, rows, rows_from, without, place, first_place, begin_of, start_of, past_of, is_bare, is_blank_line}
 use Rattle.cmark_grammar.specs.Leaves.{closes_fence}
 use Rattle.cmark_grammar.specs.Containers.{Container, Quote, Item, is_alert, unless_tag, keeps, strip_as, strip, strips, enter, width_of, is_bare_start, insides}
-use Rattle.cmark_grammar.specs.Openings.{Leaf, ThematicBreak as ThematicBreakLeaf, AtxHeading as AtxHeadingLeaf, IndentedCode as IndentedCodeLeaf, FencedCode as FencedCodeLeaf, HtmlBlock as HtmlBlockLeaf, LinkDefinition as LinkDefinitionLeaf, MetadataBlock as MetadataBlockLeaf, Blank, Nests, Takes, Plain, opens}
-use Rattle.cmark_grammar.specs.Blocks.{Blocks, Nil as NoBlocks, BlankLine, Paragraph as ParagraphBlock, SetextHeading, LeafBlock, ContainerBlock, MayBegin, Body, may_lazy}
+use Rattle.cmark_grammar.specs.Openings.{Leaf, ThematicBreak as ThematicBreakLeaf, AtxHeading as AtxHeadingLeaf, IndentedCode as IndentedCodeLeaf, FencedCode as FencedCodeLeaf, HtmlBlock as HtmlBlockLeaf, LinkDefinition as LinkDefinitionLeaf, MetadataBlock as MetadataBlockLeaf, Blank, Nests, Takes, Plain, opens, opens_at}
+use Rattle.cmark_grammar.specs.Blocks.{Blocks, Nil as NoBlocks, BlankLine, Paragraph as ParagraphBlock, SetextHeading, LeafBlock, ContainerBlock, MayBegin, Body, behind_leaf, place_in}
 use Rattle.cmark_grammar.specs.Lists.{ListBefore, tight_behind, goes_on}
 use Rattle.cmark_grammar.specs.BlockDocument.{ListItem, BlockNode, BlockDocument, Nil, Node, node}
 use Rattle.cmark_grammar.specs.Derivation.{leaf_then, item_then, document_of, Derives}
 use Rattle.cmark_grammar.specs.Ranges.{count_nodes}
 use Rattle.cmark_grammar.specs.Tokens.{Piece, texts_then, line_columns, words_end, stretch_then, stretches, paragraph_tokens, heading_columns, heading_tokens, piece_if, plain_line, left_columns, spaces_if, verbatim_line, touches, merge, merge_all, code_columns, code_pieces, stop_at, fenced_lines, html_then, html_tokens, slice, end_place, lines_before}
 use Rattle.cmark_grammar.specs.Metadata.{ends_metadata}
-use Rattle.cmark_grammar.proofs.BlockLaws.{opens-whole, opens-words, texts-words, IsWide, wide_opens}
+use Rattle.cmark_grammar.proofs.BlockLaws.{opens-whole, opens-words, at-whole, at-words, at-nests, texts-words, IsWide, wide_opens}
 use Rattle.cmark_grammar.proofs.RowPlaces.{Runs, Runs-le, first_place-Runs, drop-Runs, drop-mono, Lies, begin-start, start-Runs, start-stop, Lies-without, strip-Lies, kept-without, strip-past, Along, text-Along, Along-le}
-use Rattle.cmark_grammar.proofs.TokenRanges.{UpTo, up-more, end_place-Runs, line-UpTo, drop_end-UpTo, heading-UpTo}
+use Rattle.cmark_grammar.proofs.TokenRanges.{UpTo, end_place-Runs, line-UpTo, heading-UpTo}
 
 -- a column in which no byte begins is of a tab
 abbrev AreTabs : List Column → Type 0
@@ -310,8 +311,8 @@ item-count true number tight item inside Nil = omega arith
 item-count true number tight item inside (Node list items after) = omega arith
 
 module _ (text : List ℕ) (options : Options) (lookup : Lookup) where
-  begun-words : (behind : Bool) (r : Row) (ahead : List Row) → MayBegin options behind r → opens options r ahead ≡ Plain → is_blank_line r ≡ false
-  begun-words behind r ahead (inl w) o = opens-words options r ahead w (λ b. let q : Plain ≡ Blank = sym o ∙ b in cc)
+  begun-words : (behind : Place) (r : Row) (ahead : List Row) → MayBegin options behind r → opens_at options behind r ahead ≡ Plain → is_blank_line r ≡ false
+  begun-words behind r ahead (inl w) o = at-words options behind r ahead w (λ b. let q : Plain ≡ Blank = sym o ∙ b in cc)
   begun-words behind r ahead (inr p) o = texts-words options r [] p.1
 
   -- inside a container the first line has lost a byte
@@ -347,14 +348,14 @@ module _ (text : List ℕ) (options : Options) (lookup : Lookup) where
       go true = fed-lower (suc from) first.past (strips k (is_bare_start k first) more) to past others
       go false = (begins, subst (λ p. Fed p (strips k (is_bare_start k first) more) to) (sym (enter-past k first)) others)
 
-  pub document-count : (direct : Bool) (before : Option ListBefore) (behind : Bool) (from : ℕ) (all : List Row) (b : Blocks) (to : ℕ) → Body options behind all b → FedBehind from all to → 4 * from + count_nodes (document_of text options lookup direct before b) ≤ 4 * to
+  pub document-count : (direct : Bool) (before : Option ListBefore) (behind : Place) (from : ℕ) (all : List Row) (b : Blocks) (to : ℕ) → Body options behind all b → FedBehind from all to → 4 * from + count_nodes (document_of text options lookup direct before b) ≤ 4 * to
   document-count direct before behind from all NoBlocks to body f = let l : from ≤ to = subst (λ ls. FedBehind from ls to) body f in omega (arith, l)
   document-count direct before behind from all (BlankLine line after) to body f =
       let c : FedBehind from (line ∷ body.rest) to = subst (λ ls. FedBehind from ls to) body.cut f in
       let a = from-start from line c.0.0 in
       let b = start-stop from line c.0.0 in
       let d : line.stop ≤ line.past = c.0.0.2 in
-      let ih = document-count direct before false line.past body.rest after to body.after (fed-behind line.past body.rest to c.1) in
+      let ih = document-count direct before (over_blank behind) line.past body.rest after to body.after (fed-behind line.past body.rest to c.1) in
       omega (arith, a, b, d, ih)
   document-count direct before behind from all (ParagraphBlock first more after) to body f =
       let c : FedBehind from (first ∷ (more ++ body.rest)) to = subst (λ ls. FedBehind from ls to) body.cut f in
@@ -364,7 +365,7 @@ module _ (text : List ℕ) (options : Options) (lookup : Lookup) where
       let d : first.stop ≤ first.past = c.0.0.2 in
       let p = paragraph-count text from first more c.0.0 s.0 in
       let u = fed-le first.past more (past_of first more) s.0 in
-      let ih = document-count direct None false (past_of first more) body.rest after to body.after (fed-behind (past_of first more) body.rest to s.1) in
+      let ih = document-count direct None BehindTitle (past_of first more) body.rest after to body.after (fed-behind (past_of first more) body.rest to s.1) in
       omega (arith, a, b, d, p, u, ih)
   document-count direct before behind from all (SetextHeading level first more underline after) to body f =
       let c : FedBehind from (first ∷ (more ++ (underline ∷ body.rest))) to = subst (λ ls. FedBehind from ls to) body.cut f in
@@ -375,28 +376,28 @@ module _ (text : List ℕ) (options : Options) (lookup : Lookup) where
       let p = paragraph-count text from first more c.0.0 s.0 in
       let u = fed-le first.past more (past_of first more) s.0 in
       let g : past_of first more < underline.past = s.1.0 in
-      let ih = document-count direct None false underline.past body.rest after to body.after (fed-behind underline.past body.rest to s.1.2) in
+      let ih = document-count direct None Apart underline.past body.rest after to body.after (fed-behind underline.past body.rest to s.1.2) in
       omega (arith, a, b, d, p, u, g, ih)
   document-count direct before behind from all (LeafBlock leaf first more after) to body f =
       let c : FedBehind from (first ∷ (more ++ body.rest)) to = subst (λ ls. FedBehind from ls to) body.cut f in
       let s = fed-split first more body.rest to c.1 in
-      let w : first.lazy ≡ false = opens-whole options first _ (λ p. let q : Takes leaf (length more) ≡ Plain = sym body.opened ∙ p in cc) in
-      let e : is_blank_line first ≡ false = opens-words options first _ w (λ p. let q : Takes leaf (length more) ≡ Blank = sym body.opened ∙ p in cc) in
+      let w : first.lazy ≡ false = at-whole options behind first _ (λ p. let q : Takes leaf (length more) ≡ Plain = sym body.opened ∙ p in cc) in
+      let e : is_blank_line first ≡ false = at-words options behind first _ w (λ p. let q : Takes leaf (length more) ≡ Blank = sym body.opened ∙ p in cc) in
       let l = leaf-count text options lookup from leaf first more (document_of text options lookup direct None after) c.0 e s.0 in
-      let ih = document-count direct None (may_lazy leaf) (past_of first more) body.rest after to body.after (fed-behind (past_of first more) body.rest to s.1) in
+      let ih = document-count direct None (behind_leaf leaf) (past_of first more) body.rest after to body.after (fed-behind (past_of first more) body.rest to s.1) in
       omega (arith, l, ih)
   document-count direct before behind from all (ContainerBlock (Quote alert) first more inside after) to body f =
       let c : FedBehind from (first ∷ (more ++ body.rest)) to = subst (λ ls. FedBehind from ls to) body.cut f in
       let s = fed-split first more body.rest to c.1 in
-      let i = document-count false None (is_alert (Quote alert)) (suc from) (insides (Quote alert) first more) inside (past_of first more) body.contents (insides-fed (Quote alert) from first more _ (past_of first more) body.opened c.0 s.0) in
-      let ih = document-count direct None false (past_of first more) body.rest after to body.after (fed-behind (past_of first more) body.rest to s.1) in
+      let i = document-count false None (place_in (Quote alert)) (suc from) (insides (Quote alert) first more) inside (past_of first more) body.contents (insides-fed (Quote alert) from first more _ (past_of first more) (at-nests options behind first _ _ body.opened) c.0 s.0) in
+      let ih = document-count direct None Apart (past_of first more) body.rest after to body.after (fed-behind (past_of first more) body.rest to s.1) in
       omega (arith, i, ih)
   document-count direct before behind from all (ContainerBlock (Item mark number width) first more inside after) to body f =
       let c : FedBehind from (first ∷ (more ++ body.rest)) to = subst (λ ls. FedBehind from ls to) body.cut f in
       let s = fed-split first more body.rest to c.1 in
       let tight = tight_behind before mark inside after in
-      let i = document-count tight None false (suc from) (insides (Item mark number width) first more) inside (past_of first more) body.contents (insides-fed (Item mark number width) from first more _ (past_of first more) body.opened c.0 s.0) in
-      let ih = document-count direct (Some (record { mark = mark; tight = tight })) false (past_of first more) body.rest after to body.after (fed-behind (past_of first more) body.rest to s.1) in
+      let i = document-count tight None Apart (suc from) (insides (Item mark number width) first more) inside (past_of first more) body.contents (insides-fed (Item mark number width) from first more _ (past_of first more) (at-nests options behind first _ _ body.opened) c.0 s.0) in
+      let ih = document-count direct (Some (record { mark = mark; tight = tight })) Apart (past_of first more) body.rest after to body.after (fed-behind (past_of first more) body.rest to s.1) in
       let n = item-count (goes_on mark after) number tight (node ListItem (begin_of first) (past_of first more)) (document_of text options lookup tight None inside) (document_of text options lookup direct (Some (record { mark = mark; tight = tight })) after) in
       omega (arith, i, ih, n)
 
@@ -423,6 +424,6 @@ rows-fed at (l ∷ ls) to f a = (let n : 0 < length l = f.0 in omega (arith, n),
 
 pub derived-count : (text : List ℕ) (options : Options) (lookup : Lookup) (d : BlockDocument) → Derives text options lookup d → count_nodes d ≤ 4 * length text
 derived-count text options lookup d h =
-    let c = document-count text options lookup false None false 0 (rows text) h.0 (length text) h.1 (fed-behind 0 (rows text) (length text) (rows-fed 0 (lines text) (length text) (lines-full text) (text-Along text))) in
+    let c = document-count text options lookup false None Apart 0 (rows text) h.0 (length text) h.1 (fed-behind 0 (rows text) (length text) (rows-fed 0 (lines text) (length text) (lines-full text) (text-Along text))) in
     let e = ap count_nodes h.2 in
     omega (arith, c, e)

@@ -2,12 +2,13 @@
 use Rattle.std.proofs.Common.{◌≡◌, ℕ, suc, ◌+◌, ◌≤◌, Bool, true, false, List, [], ◌∷◌, ◌++◌, length, drop, refl, sym, subst, arith, Option, Some, None}
 use Rattle.cmark_grammar.specs.Answers.{Lookup}
 use Rattle.cmark_grammar.specs.Options.{Options}
+use Rattle.cmark_grammar.specs.Places.{Place, Apart, BehindTitle, over_blank}
 use Rattle.cmark_grammar.specs.Columns.{indent}
 use Rattle.cmark_grammar.specs.Rows.{Row, rows, first_place, begin_of, start_of, past_of}
 use Rattle.cmark_grammar.specs.BlockQuoteKind.{BlockQuoteKind}
 use Rattle.cmark_grammar.specs.Containers.{Container, Quote, Item, is_alert, unless_tag, enter, quote_width, one_blank, strips, is_bare_start, insides}
 use Rattle.cmark_grammar.specs.Openings.{Leaf, ThematicBreak as ThematicBreakLeaf, AtxHeading as AtxHeadingLeaf, IndentedCode as IndentedCodeLeaf, FencedCode as FencedCodeLeaf, HtmlBlock as HtmlBlockLeaf, LinkDefinition as LinkDefinitionLeaf, MetadataBlock as MetadataBlockLeaf}
-use Rattle.cmark_grammar.specs.Blocks.{Blocks, Nil as NoBlocks, BlankLine, Paragraph as ParagraphBlock, SetextHeading, LeafBlock, ContainerBlock, may_lazy, Body}
+use Rattle.cmark_grammar.specs.Blocks.{Blocks, Nil as NoBlocks, BlankLine, Paragraph as ParagraphBlock, SetextHeading, LeafBlock, ContainerBlock, behind_leaf, place_in, Body}
 use Rattle.cmark_grammar.specs.Lists.{ListBefore, tight_behind, goes_on}
 use Rattle.cmark_grammar.specs.Tokens.{fenced_lines, paragraph_tokens, code_tokens, code_columns, lines_before}
 use Rattle.cmark_grammar.specs.BlockDocument.{ListItem, BlockNode, BlockDocument, Nil, Node, node}
@@ -95,17 +96,17 @@ insides-Along k from first more to l a = go (is_alert k)
     go false = (l, others)
 
 module _ (text : List ℕ) (options : Options) (lookup : Lookup) where
-  pub document-order : (direct : Bool) (before : Option ListBefore) (behind : Bool) (from : ℕ) (all : List Row) (b : Blocks) (to : ℕ) → Body options behind all b → Along from all to → InOrder from (document_of text options lookup direct before b) to
+  pub document-order : (direct : Bool) (before : Option ListBefore) (behind : Place) (from : ℕ) (all : List Row) (b : Blocks) (to : ℕ) → Body options behind all b → Along from all to → InOrder from (document_of text options lookup direct before b) to
   document-order direct before behind from all NoBlocks to body a = subst (λ ls. Along from ls to) body a
   document-order direct before behind from all (BlankLine line after) to body a =
       let c : Along from (line ∷ body.rest) to = subst (λ ls. Along from ls to) body.cut a in
       let p : from ≤ start_of line = from-start from line c.0 in
       let q : start_of line ≤ line.past = start-past from line c.0 in
-      InOrder-lower from line.past (document_of text options lookup direct before after) to (omega (arith, p, q)) (document-order direct before false line.past body.rest after to body.after c.1)
+      InOrder-lower from line.past (document_of text options lookup direct before after) to (omega (arith, p, q)) (document-order direct before (over_blank behind) line.past body.rest after to body.after c.1)
   document-order direct before behind from all (ParagraphBlock first more after) to body a =
       let c : Along from (first ∷ (more ++ body.rest)) to = subst (λ ls. Along from ls to) body.cut a in
       let s = Along-split first more body.rest to c.1 in
-      (from-start from first c.0, paragraph-order text from first more c.0 s.0, document-order direct None false (past_of first more) body.rest after to body.after s.1)
+      (from-start from first c.0, paragraph-order text from first more c.0 s.0, document-order direct None BehindTitle (past_of first more) body.rest after to body.after s.1)
   document-order direct before behind from all (SetextHeading level first more underline after) to body a =
       let c : Along from (first ∷ (more ++ (underline ∷ body.rest))) to = subst (λ ls. Along from ls to) body.cut a in
       let s = Along-split first more (underline ∷ body.rest) to c.1 in
@@ -113,19 +114,19 @@ module _ (text : List ℕ) (options : Options) (lookup : Lookup) where
       let q : start_of underline ≤ underline.past = start-past (past_of first more) underline s.1.0 in (
         from-start from first c.0,
         InOrder-upper (start_of first) (paragraph_tokens text first more) (past_of first more) underline.past (omega (arith, p, q)) (paragraph-order text from first more c.0 s.0),
-        document-order direct None false underline.past body.rest after to body.after s.1.1,
+        document-order direct None Apart underline.past body.rest after to body.after s.1.1,
       )
   document-order direct before behind from all (LeafBlock leaf first more after) to body a =
       let c : Along from (first ∷ (more ++ body.rest)) to = subst (λ ls. Along from ls to) body.cut a in
       let s = Along-split first more body.rest to c.1 in
       leaf-order text options lookup from leaf first more (document_of text options lookup direct None after) to c.0 s.0
-      (document-order direct None (may_lazy leaf) (past_of first more) body.rest after to body.after s.1)
+      (document-order direct None (behind_leaf leaf) (past_of first more) body.rest after to body.after s.1)
   document-order direct before behind from all (ContainerBlock (Quote alert) first more inside after) to body a =
       let c : Along from (first ∷ (more ++ body.rest)) to = subst (λ ls. Along from ls to) body.cut a in
       let s = Along-split first more body.rest to c.1 in (
         from-start from first c.0,
-        document-order false None (is_alert (Quote alert)) (start_of first) (insides (Quote alert) first more) inside (past_of first more) body.contents (insides-Along (Quote alert) (start_of first) first more (past_of first more) (quote-Lies alert from first c.0) s.0),
-        document-order direct None false (past_of first more) body.rest after to body.after s.1,
+        document-order false None (place_in (Quote alert)) (start_of first) (insides (Quote alert) first more) inside (past_of first more) body.contents (insides-Along (Quote alert) (start_of first) first more (past_of first more) (quote-Lies alert from first c.0) s.0),
+        document-order direct None Apart (past_of first more) body.rest after to body.after s.1,
       )
   document-order direct before behind from all (ContainerBlock (Item mark number width) first more inside after) to body a =
       let c : Along from (first ∷ (more ++ body.rest)) to = subst (λ ls. Along from ls to) body.cut a in
@@ -133,9 +134,9 @@ module _ (text : List ℕ) (options : Options) (lookup : Lookup) where
       let tight = tight_behind before mark inside after in
       item-order from (goes_on mark after) number tight (node ListItem (begin_of first) (past_of first more)) (document_of text options lookup tight None inside) (document_of text options lookup direct (Some (record { mark = mark; tight = tight })) after) to
       c.0.0
-      (document-order tight None false (begin_of first) (insides (Item mark number width) first more) inside (past_of first more) body.contents (insides-Along (Item mark number width) (begin_of first) first more (past_of first more) (enter-Lies (Item mark number width) from first c.0) s.0))
-      (document-order direct (Some (record { mark = mark; tight = tight })) false (past_of first more) body.rest after to body.after s.1)
+      (document-order tight None Apart (begin_of first) (insides (Item mark number width) first more) inside (past_of first more) body.contents (insides-Along (Item mark number width) (begin_of first) first more (past_of first more) (enter-Lies (Item mark number width) from first c.0) s.0))
+      (document-order direct (Some (record { mark = mark; tight = tight })) Apart (past_of first more) body.rest after to body.after s.1)
 
 pub derived-order : (text : List ℕ) (options : Options) (lookup : Lookup) (d : BlockDocument) → Derives text options lookup d → InOrder 0 d (length text)
 derived-order text options lookup d h =
-    subst (λ x. InOrder 0 x (length text)) (sym h.2) (document-order text options lookup false None false 0 (rows text) h.0 (length text) h.1 (text-Along text))
+    subst (λ x. InOrder 0 x (length text)) (sym h.2) (document-order text options lookup false None Apart 0 (rows text) h.0 (length text) h.1 (text-Along text))

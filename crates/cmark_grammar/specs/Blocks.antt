@@ -2,9 +2,10 @@
 use Rattle.std.specs.Prelude.{◌≡◌, ◌⊎◌, ℕ, Bool, true, false, List, [], ◌∷◌, ◌++◌, length, Some, None}
 use Rattle.cmark_grammar.specs.Rows.{Row, shown}
 use Rattle.cmark_grammar.specs.Leaves.{underlines}
-use Rattle.cmark_grammar.specs.Containers.{Container, is_alert, keeps, is_bare_start, bare_after, insides}
-use Rattle.cmark_grammar.specs.Openings.{Leaf, ThematicBreak, AtxHeading, IndentedCode, FencedCode, HtmlBlock, LinkDefinition, MetadataBlock, Blank, Nests, Takes, Plain, opens, texts, lazily}
+use Rattle.cmark_grammar.specs.Containers.{Container, Quote, Item, keeps, is_bare_start, bare_after, insides}
+use Rattle.cmark_grammar.specs.Openings.{Leaf, ThematicBreak, AtxHeading, IndentedCode, FencedCode, HtmlBlock, LinkDefinition, MetadataBlock, Blank, Nests, Takes, Plain, opens_at, texts, lazily}
 use Rattle.cmark_grammar.specs.Options.{Options}
+use Rattle.cmark_grammar.specs.Places.{Place, Apart, BehindLazy, BehindTitle, allows_lazy, over_blank}
 
 -- the blocks of some lines, in their order: each with its lines, behind the prefixes of the containers around it, and a
 -- container with what is inside it. List items stand side by side
@@ -25,15 +26,25 @@ join (SetextHeading level first more underline after) other = SetextHeading leve
 join (LeafBlock leaf first more after) other = LeafBlock leaf first more (join after other)
 join (ContainerBlock container first more inside after) other = ContainerBlock container first more inside (join after other)
 
--- a lazy line may begin a paragraph directly behind such a leaf
-abbrev pub may_lazy : Leaf → Bool
-may_lazy ThematicBreak = false
-may_lazy (AtxHeading level) = false
-may_lazy IndentedCode = false
-may_lazy (FencedCode fence) = false
-may_lazy (HtmlBlock kind) = false
-may_lazy (LinkDefinition definition) = true
-may_lazy (MetadataBlock kind) = false
+-- where a line stands directly behind such a leaf: a lazy one may begin a paragraph behind a link reference definition
+abbrev pub behind_leaf : Leaf → Place
+behind_leaf ThematicBreak = Apart
+behind_leaf (AtxHeading level) = Apart
+behind_leaf IndentedCode = Apart
+behind_leaf (FencedCode fence) = Apart
+behind_leaf (HtmlBlock kind) = Apart
+behind_leaf (LinkDefinition definition) = BehindLazy
+behind_leaf (MetadataBlock kind) = Apart
+
+-- where the first line inside such a container stands, or the one behind an alert's tag
+abbrev pub place_in : Container → Place
+place_in (Quote None) = Apart
+place_in (Quote (Some kind)) = BehindLazy
+place_in (Item mark number width) = Apart
+
+-- where a line stands behind such a container
+abbrev pub behind_container : Container → Place
+behind_container k = Apart
 
 -- whether a lazy line may stand behind these blocks: whether their last line lies in a paragraph, or in a leaf behind
 -- which a lazy line may begin one, or is an alert's tag. So: what holds where there is no block
@@ -42,8 +53,8 @@ ends_lazily so Nil = so
 ends_lazily so (BlankLine line after) = ends_lazily false after
 ends_lazily so (Paragraph first more after) = ends_lazily true after
 ends_lazily so (SetextHeading level first more underline after) = ends_lazily false after
-ends_lazily so (LeafBlock leaf first more after) = ends_lazily (may_lazy leaf) after
-ends_lazily so (ContainerBlock container first more inside after) = ends_lazily (ends_lazily (is_alert container) inside) after
+ends_lazily so (LeafBlock leaf first more after) = ends_lazily (allows_lazy (behind_leaf leaf)) after
+ends_lazily so (ContainerBlock container first more inside after) = ends_lazily (ends_lazily (allows_lazy (place_in container)) inside) after
 
 -- what holds of the next line, if there is one
 abbrev pub Next : (Row → List Row → Type 0) → List Row → Type 0
@@ -66,62 +77,62 @@ module _ (options : Options) where
   -- a container's line that lacks the prefix is lazy: where it lacks it, it interrupts nothing
   abbrev pub AreLazy : Container → (bare : Bool) → List Row → List Row → Type 0
   AreLazy k bare [] rest = Unit {0}
-  AreLazy k bare (r ∷ more) rest = (keeps k bare r ≡ None → lazily options r (shown (more ++ rest)) ≡ true) × AreLazy k false more rest
+  AreLazy k bare (r ∷ more) rest = (keeps k bare r ≡ None → lazily options k r (shown (more ++ rest)) ≡ true) × AreLazy k false more rest
 
   -- a container ends before a line that lacks the prefix and is not lazy
   abbrev pub Ends : Container → (bare : Bool) → Blocks → List Row → Type 0
-  Ends k bare inside rest = Next (λ r ahead. (keeps k bare r ≡ None) × (ends_lazily (is_alert k) inside ≡ true → lazily options r ahead ≡ false)) rest
+  Ends k bare inside rest = Next (λ r ahead. (keeps k bare r ≡ None) × (ends_lazily (allows_lazy (place_in k)) inside ≡ true → lazily options k r ahead ≡ false)) rest
 
   -- a paragraph begins on a line with all prefixes, or directly behind a leaf that allows it, or an alert's tag, on a lazy one that is text
-  abbrev pub MayBegin : (behind : Bool) → Row → Type 0
-  MayBegin behind first = (first.lazy ≡ false) ⊎ ((behind ≡ true) × (texts options first [] ≡ true))
+  abbrev pub MayBegin : Place → Row → Type 0
+  MayBegin place first = (first.lazy ≡ false) ⊎ ((allows_lazy place ≡ true) × (texts options first [] ≡ true))
 
   -- all lines: a blank one, and those of the blocks after it
-  pub record HasBlankLine (After : List Row → Type 0) (all : List Row) (line : Row) : Type 0 where
+  pub record HasBlankLine (After : List Row → Type 0) (place : Place) (all : List Row) (line : Row) : Type 0 where
     pub rest : List Row
     pub cut : all ≡ line ∷ rest
-    pub opened : opens options line (shown rest) ≡ Blank
+    pub opened : opens_at options place line (shown rest) ≡ Blank
     pub after : After rest
 
-  pub record HasParagraph (After : List Row → Type 0) (behind : Bool) (all : List Row) (first : Row) (more : List Row) : Type 0 where
+  pub record HasParagraph (After : List Row → Type 0) (place : Place) (all : List Row) (first : Row) (more : List Row) : Type 0 where
     pub rest : List Row
     pub cut : all ≡ first ∷ (more ++ rest)
-    pub begun : MayBegin behind first
-    pub opened : opens options first (shown (more ++ rest)) ≡ Plain
+    pub begun : MayBegin place first
+    pub opened : opens_at options place first (shown (more ++ rest)) ≡ Plain
     pub others : AreText more rest
     pub stops : Next IsNoText rest
     pub after : After rest
 
-  pub record HasSetextHeading (After : List Row → Type 0) (behind : Bool) (all : List Row) (level : ℕ) (first : Row) (more : List Row) (underline : Row) : Type 0 where
+  pub record HasSetextHeading (After : List Row → Type 0) (place : Place) (all : List Row) (level : ℕ) (first : Row) (more : List Row) (underline : Row) : Type 0 where
     pub rest : List Row
     pub cut : all ≡ first ∷ (more ++ (underline ∷ rest))
-    pub begun : MayBegin behind first
-    pub opened : opens options first (shown (more ++ (underline ∷ rest))) ≡ Plain
+    pub begun : MayBegin place first
+    pub opened : opens_at options place first (shown (more ++ (underline ∷ rest))) ≡ Plain
     pub others : AreText more (underline ∷ rest)
     pub underlined : underlines underline ≡ Some level
     pub after : After rest
 
-  pub record HasLeaf (After : List Row → Type 0) (all : List Row) (leaf : Leaf) (first : Row) (more : List Row) : Type 0 where
+  pub record HasLeaf (After : List Row → Type 0) (place : Place) (all : List Row) (leaf : Leaf) (first : Row) (more : List Row) : Type 0 where
     pub rest : List Row
     pub cut : all ≡ first ∷ (more ++ rest)
-    pub opened : opens options first (shown (more ++ rest)) ≡ Takes leaf (length more)
+    pub opened : opens_at options place first (shown (more ++ rest)) ≡ Takes leaf (length more)
     pub after : After rest
 
-  pub record HasContainer (Inside After : List Row → Type 0) (all : List Row) (k : Container) (first : Row) (more : List Row) (inside : Blocks) : Type 0 where
+  pub record HasContainer (Inside After : List Row → Type 0) (place : Place) (all : List Row) (k : Container) (first : Row) (more : List Row) (inside : Blocks) : Type 0 where
     pub rest : List Row
     pub cut : all ≡ first ∷ (more ++ rest)
-    pub opened : opens options first (shown (more ++ rest)) ≡ Nests k
+    pub opened : opens_at options place first (shown (more ++ rest)) ≡ Nests k
     pub contents : Inside (insides k first more)
     pub others : AreLazy k (is_bare_start k first) more rest
     pub stops : Ends k (bare_after (is_bare_start k first) more) inside rest
     pub after : After rest
 
-  -- these lines are these blocks. Behind: a leaf stands directly before that allows a lazy line behind it, or an alert's tag
-  abbrev pub Body : (behind : Bool) → List Row → Blocks → Type 0
-  Body behind all Nil = all ≡ []
-  Body behind all (BlankLine line after) = HasBlankLine (λ rest. Body false rest after) all line
-  Body behind all (Paragraph first more after) = HasParagraph (λ rest. Body false rest after) behind all first more
-  Body behind all (SetextHeading level first more underline after) = HasSetextHeading (λ rest. Body false rest after) behind all level first more underline
-  Body behind all (LeafBlock leaf first more after) = HasLeaf (λ rest. Body (may_lazy leaf) rest after) all leaf first more
-  Body behind all (ContainerBlock k first more inside after) =
-      HasContainer (λ lines. Body (is_alert k) lines inside) (λ rest. Body false rest after) all k first more inside
+  -- these lines, of which the first stands at that place, are these blocks
+  abbrev pub Body : Place → List Row → Blocks → Type 0
+  Body place all Nil = all ≡ []
+  Body place all (BlankLine line after) = HasBlankLine (λ rest. Body (over_blank place) rest after) place all line
+  Body place all (Paragraph first more after) = HasParagraph (λ rest. Body BehindTitle rest after) place all first more
+  Body place all (SetextHeading level first more underline after) = HasSetextHeading (λ rest. Body Apart rest after) place all level first more underline
+  Body place all (LeafBlock leaf first more after) = HasLeaf (λ rest. Body (behind_leaf leaf) rest after) place all leaf first more
+  Body place all (ContainerBlock k first more inside after) =
+      HasContainer (λ lines. Body (place_in k) lines inside) (λ rest. Body (behind_container k) rest after) place all k first more inside

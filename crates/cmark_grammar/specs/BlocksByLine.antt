@@ -2,15 +2,16 @@
 -- looked up, and whether metadata is ended. Code, HTML and metadata go on as their lines come, and blank lines wait until it is seen whether they belong to code.
 use Rattle.std.specs.Prelude.{ℕ, zero, suc, Bool, true, false, ◌&&◌, nat_le, List, [], ◌∷◌, ◌++◌, length, Option, Some, None}
 use Rattle.cmark_grammar.specs.Options.{Options}
+use Rattle.cmark_grammar.specs.Places.{Place, Apart, BehindLazy, allows_lazy}
 use Rattle.cmark_grammar.specs.Rows.{Row, rows, shown, words_of}
 use Rattle.cmark_grammar.specs.Leaves.{Fence, Further, GoesOn, Closes, Waits, Stops, underlines, code_further, fence_further}
 use Rattle.cmark_grammar.specs.HtmlBlocks.{holds_end, html_further}
 use Rattle.cmark_grammar.specs.Metadata.{metadata_further}
 use Rattle.cmark_grammar.specs.MetadataBlockKind.{MetadataBlockKind}
 use Rattle.cmark_grammar.specs.Containers.{Container, is_alert, enter, keeps, strip, is_bare_start, bare_after}
-use Rattle.cmark_grammar.specs.Openings.{Leaf, ThematicBreak, AtxHeading, IndentedCode, FencedCode, HtmlBlock, LinkDefinition, MetadataBlock, Opening, Blank, Nests, Takes, Plain, opens, texts, lazily}
-use Rattle.cmark_grammar.specs.Blocks.{Blocks, Nil, BlankLine, Paragraph, SetextHeading, LeafBlock, ContainerBlock, join, may_lazy}
-use Rattle.cmark_grammar.specs.BlocksModel.{within}
+use Rattle.cmark_grammar.specs.Openings.{Leaf, ThematicBreak, AtxHeading, IndentedCode, FencedCode, HtmlBlock, LinkDefinition, MetadataBlock, Opening, Blank, Nests, Takes, Plain, opens_at, texts, lazily}
+use Rattle.cmark_grammar.specs.Blocks.{Blocks, Nil, BlankLine, Paragraph, SetextHeading, LeafBlock, ContainerBlock, join, behind_leaf, place_in}
+use Rattle.cmark_grammar.specs.BlocksModel.{within, place_behind}
 
 -- a leaf whose lines are judged one by one
 pub data Verbatim : Type 0 where
@@ -62,7 +63,7 @@ abbrev pub lines_take_lazy : OpenLines → Bool
 lines_take_lazy (Between closed) = false
 lines_take_lazy BehindTag = true
 lines_take_lazy (InParagraph closed first more) = true
-lines_take_lazy (InLeaf closed leaf first had left) = may_lazy leaf
+lines_take_lazy (InLeaf closed leaf first had left) = allows_lazy (behind_leaf leaf)
 lines_take_lazy (InVerbatim closed verbatim first had waiting) = false
 lines_take_lazy (InContainer closed k first more inside) = lines_take_lazy inside
 
@@ -112,18 +113,21 @@ verbatim_line Waits closed verbatim first had waiting r off = InVerbatim closed 
 verbatim_line Stops closed verbatim first had waiting r off = off
 
 module _ (options : Options) where
-  abbrev pub lines_begin_in : (columns : ℕ) → Blocks → Row → List Row → OpenLines
-  lines_begin_in zero closed r ahead = Between closed
-  lines_begin_in (suc columns) closed r ahead =
-      lines_begin_as (opens options r ahead) (λ k. lines_begin_in columns Nil (enter k r) (within k (is_bare_start k r) ahead)) closed r
+  abbrev pub lines_begin_in : (columns : ℕ) → Place → Blocks → Row → List Row → OpenLines
+  lines_begin_in zero place closed r ahead = Between closed
+  lines_begin_in (suc columns) place closed r ahead =
+      lines_begin_as (opens_at options place r ahead) (λ k. lines_begin_in columns (place_in k) Nil (enter k r) (within k (is_bare_start k r) ahead)) closed r
+
+  abbrev pub lines_begin_at : Place → Blocks → Row → List Row → OpenLines
+  lines_begin_at place closed r ahead = lines_begin_in (suc (length r.columns)) place closed r ahead
 
   unfoldable pub lines_begin : Blocks → Row → List Row → OpenLines
-  lines_begin closed r ahead = lines_begin_in (suc (length r.columns)) closed r ahead
+  lines_begin closed r ahead = lines_begin_at (place_behind Apart closed) closed r ahead
 
   -- one more line, with these lines ahead
   abbrev pub lines_feed : OpenLines → Row → List Row → OpenLines
   lines_feed (Between closed) r ahead = lines_begin closed r ahead
-  lines_feed BehindTag r ahead = lines_begin Nil r ahead
+  lines_feed BehindTag r ahead = lines_begin_at BehindLazy Nil r ahead
   lines_feed (InParagraph closed first more) r ahead =
       lines_underline_or (underlines r) (λ level. Between (join closed (SetextHeading level first more r Nil)))
       (lines_go_on_or (texts options r ahead) (InParagraph closed first (more ++ r ∷ [])) (lines_begin (join closed (Paragraph first more Nil)) r ahead))
@@ -133,7 +137,7 @@ module _ (options : Options) where
       verbatim_line (further_if r.lazy verbatim r) closed verbatim first had waiting r
       (lines_begin (join (join closed (LeafBlock (leaf_in verbatim) first had Nil)) (blank_lines waiting)) r ahead)
   lines_feed (InContainer closed k first more inside) r ahead =
-      lines_kept_or (keeps k (bare_after (is_bare_start k first) more) r) (lazily options r ahead && lines_take_lazy inside)
+      lines_kept_or (keeps k (bare_after (is_bare_start k first) more) r) (lazily options k r ahead && lines_take_lazy inside)
       (InContainer closed k first (more ++ r ∷ []) (lines_feed inside (strip k (bare_after (is_bare_start k first) more) r) (within k false ahead)))
       (lines_begin (join closed (ContainerBlock k first more (close_lines inside) Nil)) r ahead)
 

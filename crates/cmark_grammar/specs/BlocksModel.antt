@@ -3,9 +3,10 @@ use Rattle.std.specs.Prelude.{ℕ, zero, suc, Bool, true, false, ◌&&◌, List,
 use Rattle.cmark_grammar.specs.Rows.{Row, rows, shown}
 use Rattle.cmark_grammar.specs.Leaves.{underlines}
 use Rattle.cmark_grammar.specs.Containers.{Container, is_alert, enter, keeps, strip, strips, is_bare_start, bare_after}
-use Rattle.cmark_grammar.specs.Openings.{Leaf, Opening, Blank, Nests, Takes, Plain, opens, texts, lazily}
-use Rattle.cmark_grammar.specs.Blocks.{Blocks, Nil, BlankLine, Paragraph, SetextHeading, LeafBlock, ContainerBlock, join, may_lazy}
+use Rattle.cmark_grammar.specs.Openings.{Leaf, Opening, Blank, Nests, Takes, Plain, opens_at, texts, lazily}
+use Rattle.cmark_grammar.specs.Blocks.{Blocks, Nil, BlankLine, Paragraph, SetextHeading, LeafBlock, ContainerBlock, join, behind_leaf, behind_container, place_in}
 use Rattle.cmark_grammar.specs.Options.{Options}
+use Rattle.cmark_grammar.specs.Places.{Place, Apart, BehindLazy, BehindTitle, allows_lazy, over_blank}
 
 -- blocks that have ended, and behind them what is open: nothing, a paragraph, a leaf with lines to come, or a container;
 -- or the place directly behind an alert's tag
@@ -29,8 +30,17 @@ abbrev pub takes_lazy : Open → Bool
 takes_lazy (Between closed) = false
 takes_lazy BehindTag = true
 takes_lazy (InParagraph closed first more) = true
-takes_lazy (InLeaf closed leaf first had left) = may_lazy leaf
+takes_lazy (InLeaf closed leaf first had left) = allows_lazy (behind_leaf leaf)
 takes_lazy (InContainer closed k first more inside) = takes_lazy inside
+
+-- where a line stands behind these blocks, if it stands at that place where there are none
+abbrev pub place_behind : Place → Blocks → Place
+place_behind place Nil = place
+place_behind place (BlankLine line after) = place_behind (over_blank place) after
+place_behind place (Paragraph first more after) = place_behind BehindTitle after
+place_behind place (SetextHeading level first more underline after) = place_behind Apart after
+place_behind place (LeafBlock leaf first more after) = place_behind (behind_leaf leaf) after
+place_behind place (ContainerBlock k first more inside after) = place_behind (behind_container k) after
 
 -- what is ahead inside a container
 abbrev pub within : Container → Bool → List Row → List Row
@@ -62,25 +72,29 @@ kept_or None true on off = on
 kept_or None false on off = off
 
 module _ (options : Options) where
-  -- what a line begins behind these blocks, with these lines ahead; each container takes at least a column
-  abbrev pub begin_in : (columns : ℕ) → Blocks → Row → List Row → Open
-  begin_in zero closed r ahead = Between closed
-  begin_in (suc columns) closed r ahead = begin_as (opens options r ahead) (λ k. begin_in columns Nil (enter k r) (within k (is_bare_start k r) ahead)) closed r
+  -- what a line at that place begins behind these blocks, with these lines ahead; each container takes at least a column
+  abbrev pub begin_in : (columns : ℕ) → Place → Blocks → Row → List Row → Open
+  begin_in zero place closed r ahead = Between closed
+  begin_in (suc columns) place closed r ahead =
+      begin_as (opens_at options place r ahead) (λ k. begin_in columns (place_in k) Nil (enter k r) (within k (is_bare_start k r) ahead)) closed r
+
+  abbrev pub begin_at : Place → Blocks → Row → List Row → Open
+  begin_at place closed r ahead = begin_in (suc (length r.columns)) place closed r ahead
 
   unfoldable pub begin : Blocks → Row → List Row → Open
-  begin closed r ahead = begin_in (suc (length r.columns)) closed r ahead
+  begin closed r ahead = begin_at (place_behind Apart closed) closed r ahead
 
   -- one more line, with these lines ahead
   abbrev pub feed : Open → Row → List Row → Open
   feed (Between closed) r ahead = begin closed r ahead
-  feed BehindTag r ahead = begin Nil r ahead
+  feed BehindTag r ahead = begin_at BehindLazy Nil r ahead
   feed (InParagraph closed first more) r ahead =
       underline_or (underlines r) (λ level. Between (join closed (SetextHeading level first more r Nil)))
       (goes_on_or (texts options r ahead) (InParagraph closed first (more ++ r ∷ [])) (begin (join closed (Paragraph first more Nil)) r ahead))
   feed (InLeaf closed leaf first had zero) r ahead = begin (join closed (LeafBlock leaf first had Nil)) r ahead
   feed (InLeaf closed leaf first had (suc left)) r ahead = InLeaf closed leaf first (had ++ r ∷ []) left
   feed (InContainer closed k first more inside) r ahead =
-      kept_or (keeps k (bare_after (is_bare_start k first) more) r) (lazily options r ahead && takes_lazy inside)
+      kept_or (keeps k (bare_after (is_bare_start k first) more) r) (lazily options k r ahead && takes_lazy inside)
       (InContainer closed k first (more ++ r ∷ []) (feed inside (strip k (bare_after (is_bare_start k first) more) r) (within k false ahead)))
       (begin (join closed (ContainerBlock k first more (close inside) Nil)) r ahead)
 

@@ -4,6 +4,7 @@ use Rattle.std.specs.Prelude.{◌≡◌, ℕ, Bool, true, false, if◌then◌els
 use Rattle.cmark_grammar.specs.Answers.{Lookup}
 use Rattle.cmark_grammar.specs.Attributes.{no_attributes}
 use Rattle.cmark_grammar.specs.Options.{Options}
+use Rattle.cmark_grammar.specs.Places.{Apart}
 use Rattle.cmark_grammar.specs.Rows.{Row, rows, first_place, begin_of, start_of, past_of}
 use Rattle.cmark_grammar.specs.Labels.{normal_form}
 use Rattle.cmark_grammar.specs.LinkDefinitions.{Definition}
@@ -82,7 +83,7 @@ document_of text options lookup direct list (ContainerBlock (Item mark number wi
 -- the text derives the document
 abbrev pub Derives : List ℕ → Options → Lookup → BlockDocument → Type 0
 Derives text options lookup document =
-    (structure : Blocks) × (Body options false (rows text) structure) × (document ≡ document_of text options lookup false None structure)
+    (structure : Blocks) × (Body options Apart (rows text) structure) × (document ≡ document_of text options lookup false None structure)
 
 -- the model's document
 abbrev pub document : List ℕ → Options → Lookup → BlockDocument

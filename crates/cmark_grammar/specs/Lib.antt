@@ -55,6 +55,7 @@ pub mod OpenBrackets
 pub mod Openings
 pub mod Options
 pub mod Parts
+pub mod Places
 pub mod Questions
 pub mod Quotes
 pub mod Ranges

@@ -8,6 +8,7 @@ use Rattle.cmark_grammar.specs.Containers.{Container, Quote, Item, item_of, is_q
 use Rattle.cmark_grammar.specs.Metadata.{metadata_kind, holds_metadata, metadata_further}
 use Rattle.cmark_grammar.specs.MetadataBlockKind.{MetadataBlockKind}
 use Rattle.cmark_grammar.specs.Options.{Options}
+use Rattle.cmark_grammar.specs.Places.{Place, is_behind_task}
 
 -- a leaf that is no paragraph
 pub data Leaf : Type 0 where
@@ -99,9 +100,9 @@ module _ (options : Options) where
   unfoldable pub texts : Row → List Row → Bool
   texts r ahead = not (interrupts (not r.lazy) r ahead)
 
-  -- the line, which lacks a prefix from here on, goes on with a paragraph further in
-  unfoldable pub lazily : Row → List Row → Bool
-  lazily r ahead = not (interrupts false r ahead)
+  -- the line, which lacks the prefix of this container and of those further in, goes on with a paragraph there
+  unfoldable pub lazily : Container → Row → List Row → Bool
+  lazily k r ahead = not (interrupts false r ahead)
 
   -- the lines ahead up to the first that does not go on with a paragraph
   abbrev pub text_lines : List Row → List Row
@@ -132,3 +133,12 @@ module _ (options : Options) where
   -- neither blank nor indented, and begins no container
   unfoldable pub opens : Row → List Row → Opening
   opens r ahead = if r.lazy then Plain else or_else (metadata_begun (metadata_kind options r) ahead) (whole_opens r ahead)
+
+-- what text behind a task marker begins: a paragraph, whatever it is
+abbrev pub text_begun : Row → Opening
+text_begun r = if is_blank_line r then Blank else Plain
+
+module _ (options : Options) where
+  -- what a line begins at a place, with these lines ahead
+  abbrev pub opens_at : Place → Row → List Row → Opening
+  opens_at place r ahead = if is_behind_task place && not r.lazy then text_begun r else opens options r ahead

@@ -11,6 +11,7 @@ ghost use Rattle.cmark_grammar.specs.BlocksModel.{blocks};
 ghost use Rattle.cmark_grammar.specs.Derivation.{Derives, document};
 ghost use Rattle.cmark_grammar.specs.Event.{Ranged};
 ghost use Rattle.cmark_grammar.specs.Options.{Options};
+ghost use Rattle.cmark_grammar.specs.Places.{Apart};
 ghost use Rattle.cmark_grammar.specs.Ranges.{AllAt, HasSlices, InOrder, count_nodes};
 ghost use Rattle.cmark_grammar.specs.References.{EachOnce, first_with, table};
 ghost use Rattle.cmark_grammar.specs.Rows.{rows};
@@ -18,13 +19,13 @@ ghost use Rattle.cmark_grammar.specs.Tightness.{HasTightParagraphs};
 
 /// The model's blocks are the blocks of the text's lines.
 pub fn blocks_are_derived()
-    ensures { (options : Options) (text : List ℕ) → Body options false (rows text) (blocks options text) }
+    ensures { (options : Options) (text : List ℕ) → Body options Apart (rows text) (blocks options text) }
 {}
 
 /// A text has one block structure: each that its lines are is the model's.
 pub fn one_block_structure()
     ensures { (options : Options) (text : List ℕ) (structure : Blocks)
-        → Body options false (rows text) structure → structure ≡ blocks options text }
+        → Body options Apart (rows text) structure → structure ≡ blocks options text }
 {}
 
 /// The model's document of a text is derived from it: so each text derives a document.

@@ -4,7 +4,7 @@ use Rattle.std.proofs.Common.{◌≡◌, ◌⊎◌, inl, inr, ⊎_elim, ℕ, ◌
 use Rattle.cmark_grammar.specs.Answers.{Lookup}
 use Rattle.cmark_grammar.specs.BlockDocument.{BlockKind, ListItem, Text, OwnedText, Html, BlockNode, BlockDocument, Nil, Node, node}
 use Rattle.cmark_grammar.specs.BlockReading.{Reads, Around, Inside, Alone, Silent, read_as}
-use Rattle.cmark_grammar.specs.Blocks.{Blocks, Nil as NoBlocks, BlankLine, Paragraph as ParagraphBlock, SetextHeading, LeafBlock, ContainerBlock, may_lazy, Body}
+use Rattle.cmark_grammar.specs.Blocks.{Blocks, Nil as NoBlocks, BlankLine, Paragraph as ParagraphBlock, SetextHeading, LeafBlock, ContainerBlock, behind_leaf, place_in, Body}
 use Rattle.cmark_grammar.specs.Containers.{Container, Quote, Item, is_alert, unless_tag, enter, strips, is_bare_start, insides}
 use Rattle.cmark_grammar.specs.Derivation.{leaf_then, item_then, document_of, Derives}
 use Rattle.cmark_grammar.specs.Lines.{lines, ends_line, onto, is_content, line_feed, carriage_return, begins_with_line_feed}
@@ -12,6 +12,7 @@ use Rattle.cmark_grammar.specs.Lists.{ListBefore, tight_behind, goes_on}
 use Rattle.cmark_grammar.specs.Metadata.{ends_metadata}
 use Rattle.cmark_grammar.specs.Openings.{Leaf, ThematicBreak as ThematicBreakLeaf, AtxHeading as AtxHeadingLeaf, IndentedCode as IndentedCodeLeaf, FencedCode as FencedCodeLeaf, HtmlBlock as HtmlBlockLeaf, LinkDefinition as LinkDefinitionLeaf, MetadataBlock as MetadataBlockLeaf}
 use Rattle.cmark_grammar.specs.Options.{Options}
+use Rattle.cmark_grammar.specs.Places.{Place, Apart, BehindTitle, over_blank}
 use Rattle.cmark_grammar.specs.Rows.{Row, rows, rows_from, first_place, begin_of, start_of, past_of}
 use Rattle.cmark_grammar.specs.SpanDocuments.{Segment, Given, Content, stretches_of, leaf_of, is_leaf, inside_of, node_segments, segments}
 use Rattle.cmark_grammar.specs.Tokens.{texts_then, Piece, text_kind_of, html_kind_of, html_then, code_tokens, html_tokens, fenced_lines, lines_before, piece_if, stretch_then, stretches, end_place, words_end, paragraph_tokens, heading_tokens, behind_hashes, heading_columns, slice}
@@ -215,36 +216,36 @@ item_of_lines text false number tight item inside after e i a = (no_leaf text (N
 item_of_lines text true number tight item inside Nil e i a = (no_leaf text (Node item inside Nil), ((λ f. absurd (true≢false (sym f ∙ e))), i, tt), tt)
 item_of_lines text true number tight item inside (Node list items after) e i a = (no_leaf text (Node item inside items), ((λ f. absurd (true≢false (sym f ∙ e))), i, a.1), a.2)
 
-document_of_lines : (text : List ℕ) (options : Options) (lookup : Lookup) (direct : Bool) (before : Option ListBefore) (behind : Bool) (all : List Row) (b : Blocks) → Body options behind all b → RowsEnd text all
+document_of_lines : (text : List ℕ) (options : Options) (lookup : Lookup) (direct : Bool) (before : Option ListBefore) (behind : Place) (all : List Row) (b : Blocks) → Body options behind all b → RowsEnd text all
     → AreOfLines text (document_of text options lookup direct before b)
 document_of_lines text options lookup direct before behind all NoBlocks body g = tt
 document_of_lines text options lookup direct before behind all (BlankLine line after) body g =
     let c : RowsEnd text (line ∷ body.rest) = subst (RowsEnd text) body.cut g in
-    document_of_lines text options lookup direct before false body.rest after body.after c.1
+    document_of_lines text options lookup direct before (over_blank behind) body.rest after body.after c.1
 document_of_lines text options lookup direct before behind all (ParagraphBlock first more after) body g =
     let c : RowsEnd text ((first ∷ more) ++ body.rest) = subst (RowsEnd text) body.cut g in
     let s = rows_split text (first ∷ more) body.rest c in (
       (λ e. stretches_end text (start_of first) first more s.0),
       texts_of_lines text (paragraph_tokens text first more) (stretches_are_texts text (start_of first) first more),
-      document_of_lines text options lookup direct None false body.rest after body.after s.1,
+      document_of_lines text options lookup direct None BehindTitle body.rest after body.after s.1,
     )
 document_of_lines text options lookup direct before behind all (SetextHeading level first more underline after) body g =
     let c : RowsEnd text ((first ∷ more) ++ (underline ∷ body.rest)) = subst (RowsEnd text) body.cut g in
     let s = rows_split text (first ∷ more) (underline ∷ body.rest) c in (
       (λ e. stretches_end text (start_of first) first more s.0),
       texts_of_lines text (paragraph_tokens text first more) (stretches_are_texts text (start_of first) first more),
-      document_of_lines text options lookup direct None false body.rest after body.after s.1.1,
+      document_of_lines text options lookup direct None Apart body.rest after body.after s.1.1,
     )
 document_of_lines text options lookup direct before behind all (LeafBlock leaf first more after) body g =
     let c : RowsEnd text ((first ∷ more) ++ body.rest) = subst (RowsEnd text) body.cut g in
     let s = rows_split text (first ∷ more) body.rest c in
-    leaf_of_lines text options lookup leaf first more (document_of text options lookup direct None after) (document_of_lines text options lookup direct None (may_lazy leaf) body.rest after body.after s.1)
+    leaf_of_lines text options lookup leaf first more (document_of text options lookup direct None after) (document_of_lines text options lookup direct None (behind_leaf leaf) body.rest after body.after s.1)
 document_of_lines text options lookup direct before behind all (ContainerBlock (Quote alert) first more inside after) body g =
     let c : RowsEnd text ((first ∷ more) ++ body.rest) = subst (RowsEnd text) body.cut g in
     let s = rows_split text (first ∷ more) body.rest c in (
       no_leaf text (document_of text options lookup false None inside),
-      document_of_lines text options lookup false None (is_alert (Quote alert)) (insides (Quote alert) first more) inside body.contents (rows_inside text (Quote alert) first more s.0),
-      document_of_lines text options lookup direct None false body.rest after body.after s.1,
+      document_of_lines text options lookup false None (place_in (Quote alert)) (insides (Quote alert) first more) inside body.contents (rows_inside text (Quote alert) first more s.0),
+      document_of_lines text options lookup direct None Apart body.rest after body.after s.1,
     )
 document_of_lines text options lookup direct before behind all (ContainerBlock (Item mark number width) first more inside after) body g =
     let c : RowsEnd text ((first ∷ more) ++ body.rest) = subst (RowsEnd text) body.cut g in
@@ -252,8 +253,8 @@ document_of_lines text options lookup direct before behind all (ContainerBlock (
     let tight = tight_behind before mark inside after in
     item_of_lines text (goes_on mark after) number tight (node ListItem (begin_of first) (past_of first more)) (document_of text options lookup tight None inside)
     (document_of text options lookup direct (Some (record { mark = mark; tight = tight })) after) refl
-    (document_of_lines text options lookup tight None false (insides (Item mark number width) first more) inside body.contents (rows_inside text (Item mark number width) first more s.0))
-    (document_of_lines text options lookup direct (Some (record { mark = mark; tight = tight })) false body.rest after body.after s.1)
+    (document_of_lines text options lookup tight None Apart (insides (Item mark number width) first more) inside body.contents (rows_inside text (Item mark number width) first more s.0))
+    (document_of_lines text options lookup direct (Some (record { mark = mark; tight = tight })) Apart body.rest after body.after s.1)
 
 -- ## Leaves
 
@@ -291,4 +292,4 @@ segments_lines text (Node node inside after) h =
 
 pub derived-lines : (text : List ℕ) (options : Options) (lookup : Lookup) (document : BlockDocument) → Derives text options lookup document → AreLeavesOfLines text (segments document)
 derived-lines text options lookup document h =
-    segments_lines text document (subst (AreOfLines text) (sym h.2) (document_of_lines text options lookup false None false (rows text) h.0 h.1 (rows_end text)))
+    segments_lines text document (subst (AreOfLines text) (sym h.2) (document_of_lines text options lookup false None Apart (rows text) h.0 h.1 (rows_end text)))

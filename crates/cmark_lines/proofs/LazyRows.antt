@@ -43,9 +43,9 @@ module _ (options : Options) (r : Row) (ahead : List Row) where
   unfolding texts
   lazy-texts = ap not (lazy-interrupts false)
 
-  pub lazily-is : lazily options r ahead ≡ not (interrupts options false r ahead)
+  pub lazily-is : (k : Container) → lazily options k r ahead ≡ not (interrupts options false r ahead)
   unfolding lazily
-  lazily-is = refl
+  lazily-is k = refl
 
   -- a line that lacks none goes on with a paragraph where it does not interrupt one of the same container
   pub whole-texts : r.lazy ≡ false → texts options r ahead ≡ not (interrupts options true r ahead)

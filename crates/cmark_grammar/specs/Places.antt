@@ -1,0 +1,31 @@
+-- Where a line stands among the blocks of its container, as far as what it begins depends on it.
+use Rattle.std.specs.Prelude.{Bool, true, false}
+
+-- Apart: none of what follows stands before. BehindLazy: directly behind a leaf, or an alert's tag, behind which a lazy line may
+-- begin a paragraph. BehindTask: on the line of an item's task marker, directly behind it. BehindTitle: behind a paragraph, which may be a
+-- title, or behind a definition; blank lines may stand between
+pub data Place : Type 0 where
+  Apart : Place
+  BehindLazy : Place
+  BehindTask : Place
+  BehindTitle : Place
+
+-- a lazy line may begin a paragraph there
+abbrev pub allows_lazy : Place → Bool
+allows_lazy Apart = false
+allows_lazy BehindLazy = true
+allows_lazy BehindTask = false
+allows_lazy BehindTitle = false
+
+abbrev pub is_behind_task : Place → Bool
+is_behind_task Apart = false
+is_behind_task BehindLazy = false
+is_behind_task BehindTask = true
+is_behind_task BehindTitle = false
+
+-- behind a blank line there
+abbrev pub over_blank : Place → Place
+over_blank Apart = Apart
+over_blank BehindLazy = Apart
+over_blank BehindTask = Apart
+over_blank BehindTitle = BehindTitle
