@@ -32,6 +32,7 @@ pub mod SliceLaws
 pub mod SpanEntries
 pub mod SpanPlaces
 pub mod TagSamples
+pub mod TaskSamples
 pub mod TightLaws
 pub mod TokenEdges
 pub mod TokenRanges

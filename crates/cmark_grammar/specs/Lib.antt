@@ -72,6 +72,7 @@ pub mod Tables
 pub mod Tag
 pub mod TagEnd
 pub mod Tags
+pub mod TaskItems
 pub mod TaskMarkers
 pub mod Tightness
 pub mod Tokens

@@ -1,3 +1,4 @@
+pub mod BoxRows
 pub mod ContainerRows
 pub mod InfoEdges
 pub mod LazyRows

@@ -1,3 +1,4 @@
+pub mod Boxes
 pub mod Opened
 pub mod Rests
 pub mod Starts

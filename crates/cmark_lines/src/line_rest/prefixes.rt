@@ -4,7 +4,9 @@ ghost use Rattle.std.specs.Prelude.{◌≡◌, ℕ, Option, false, option_map, I
 ghost use Rattle.cmark_grammar.specs.Containers.{keeps, Item};
 ghost use Rattle.cmark_grammar.specs.Alerts.{alert_in};
 ghost use Rattle.cmark_grammar.specs.Options.{Options};
+ghost use Rattle.cmark_grammar.specs.TaskItems.{task_in};
 ghost use Rattle.cmark_text.specs.Shown.{shown_block_quote_kind};
+ghost use Rattle.cmark_lines.specs.Boxes.{is_checked, IsBehindBox};
 ghost use Rattle.cmark_lines.specs.Rests.{row_of};
 ghost use Rattle.cmark_lines.specs.Starts.{quote_entered, number_by, shown_begun, begun_item, EntersItem};
 
@@ -37,6 +39,22 @@ impl<'a> LineRest<'a> {
         }
         let mut ahead = self.front;
         ahead.scan_blockquote_tag()
+    }
+
+    /// The task marker that this line begins with behind an item's marker, if it does (GFM 5.3): whether its box is checked, and
+    /// the line behind the box. Text stands on that line, behind a space or a tab (that it must is this profile's own). With
+    /// `tasklists` false there are no task markers.
+    #[inline]
+    pub fn task_marker(self, tasklists: bool) -> Option<(bool, LineRest<'a>)>
+        ensures task { (options : Options) → options.tasklists ≡ tasklists → option_map is_checked result ≡ task_in options (row_of self.entry) }
+        ensures behind { IfSome result (IsBehindBox (row_of self.entry)) }
+    {
+        if !tasklists {
+            return None;
+        }
+        let mut front = self.front;
+        let checked = front.scan_task_list_marker()?;
+        Some((checked, self.with_front(front)))
     }
 
     /// The line behind so many columns of spaces and tabs, or behind fewer if nothing follows them.

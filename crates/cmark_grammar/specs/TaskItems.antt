@@ -1,0 +1,9 @@
+-- Where a task marker stands: directly behind an item's own marker (GFM 5.3).
+use Rattle.std.specs.Prelude.{Bool, ◌==◌, ◌&&◌, if◌then◌else◌, Option, None}
+use Rattle.cmark_grammar.specs.Options.{Options}
+use Rattle.cmark_grammar.specs.Rows.{Row, indent_of, words_of}
+use Rattle.cmark_grammar.specs.TaskMarkers.{task_of}
+
+-- whether the box is checked with which a line begins, where task markers are asked for; no blank stands in front of it
+abbrev pub task_in : Options → Row → Option Bool
+task_in options r = if options.tasklists && (indent_of r == 0) then task_of (words_of r) else None

@@ -1,0 +1,13 @@
+-- A task marker in front of what is left of a line (GFM 5.3).
+use Rattle.std.specs.Prelude.{◌≡◌, Bool}
+use Rattle.cmark_grammar.specs.Rows.{Row, without}
+use Rattle.cmark_lines.specs.Rests.{row_of}
+use Rattle.cmark_lines.specs.declared.line_rest.LineRest.{LineRest}
+
+-- whether the box is checked
+abbrev pub is_checked : Bool × LineRest → Bool
+is_checked marker = marker.0
+
+-- the line behind the box, which has three columns
+abbrev pub IsBehindBox : Row → Bool × LineRest → Type 0
+IsBehindBox r marker = row_of marker.1 ≡ without 3 r
