@@ -31,6 +31,7 @@ pub mod ShorterRests
 pub mod SliceLaws
 pub mod SpanEntries
 pub mod SpanPlaces
+mod TableSamples
 pub mod TagSamples
 pub mod TaskSamples
 pub mod TightLaws

@@ -68,6 +68,7 @@ pub mod SpanDocuments
 pub mod SpanEntries
 pub mod Spans
 pub mod SpecialBytes
+pub mod TableRows
 pub mod Tables
 pub mod Tag
 pub mod TagEnd

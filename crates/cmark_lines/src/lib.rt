@@ -7,6 +7,7 @@ mod interrupt;
 mod line_rest;
 mod metadata;
 mod opening;
+mod table;
 mod verbatim;
 
 pub use cmark_scan::{CodeFence, HtmlKind};
@@ -15,4 +16,5 @@ pub use interrupt::{interrupts, underlines};
 pub use line_rest::LineRest;
 pub use metadata::{ends_metadata, metadata_kind};
 pub use opening::{Opening, what_opens};
+pub use table::{begins_with_pipe, count_missing, head_cells, is_delimiter_row};
 pub use verbatim::{Further, Verbatim, ends_at_once};

@@ -9,4 +9,5 @@ pub mod PlaceSteps
 pub mod PrefixSteps
 pub mod RemainingSteps
 pub mod RowSteps
+pub mod TableRowSteps
 pub mod TableSteps

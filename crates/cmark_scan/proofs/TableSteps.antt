@@ -12,11 +12,11 @@ use Rattle.cmark_text.specs.declared.kind.Alignment.{Alignment}
 use Rattle.cmark_text.specs.Shown.{shown_alignment}
 use Rattle.cmark_scan.proofs.FirstSteps.{none-before, first-within, first-is, none-at-all}
 
-cells-alone : (bs : List ℕ) → ((k : ℕ) → k < length bs → (get_or bs k 0 == 124) ≡ false) → cells bs ≡ bs ∷ []
+pub cells-alone : (bs : List ℕ) → ((k : ℕ) → k < length bs → (get_or bs k 0 == 124) ≡ false) → cells bs ≡ bs ∷ []
 cells-alone [] each = refl
 cells-alone (b ∷ bs) each = ap (λ t. if t then [] ∷ cells bs else onto b (cells bs)) (each 0 (omega arith)) ∙ ap (onto b) (cells-alone bs (λ k lt. each (suc k) (omega arith)))
 
-cells-more : (bs : List ℕ) (n : ℕ) → n < length bs → ((k : ℕ) → k < n → (get_or bs k 0 == 124) ≡ false) → (get_or bs n 0 == 124) ≡ true → cells bs ≡ take n bs ∷ cells (drop (suc n) bs)
+pub cells-more : (bs : List ℕ) (n : ℕ) → n < length bs → ((k : ℕ) → k < n → (get_or bs k 0 == 124) ≡ false) → (get_or bs n 0 == 124) ≡ true → cells bs ≡ take n bs ∷ cells (drop (suc n) bs)
 cells-more [] n lt before e = absurd (omega arith)
 cells-more (b ∷ bs) zero lt before e = ap (λ t. if t then [] ∷ cells bs else onto b (cells bs)) e
 cells-more (b ∷ bs) (suc n) lt before e =

@@ -4,3 +4,4 @@ pub mod LineMarkers
 pub mod LineStart
 pub mod Markers
 pub mod Places
+pub mod TableCells

@@ -9,6 +9,7 @@ mod line_start;
 mod marker;
 mod metadata;
 mod table;
+mod table_row;
 
 pub use cmark_scan_parts::{
     Cut, Entity, HtmlFind, HtmlTag, LinkLabelRest, scan_autolink, scan_entity,
@@ -23,4 +24,5 @@ pub use leaf::{
 };
 pub use line_start::LineStart;
 pub use metadata::{scan_closing_metadata_fence, scan_metadata_fence};
-pub use table::scan_table_head;
+pub use table::{count_delimiter_cells, scan_table_head};
+pub use table_row::{cells_in_row, count_cells, holds_pipe, next_cell};

@@ -1,6 +1,6 @@
 //! The delimiter row of a table (GFM 4.10).
 
-ghost use Rattle.std.specs.Prelude.{◌≡◌, map, option_map, IfOk};
+ghost use Rattle.std.specs.Prelude.{◌≡◌, ◌≤◌, map, length, option_map, IfOk};
 ghost use Rattle.cmark_grammar.specs.Tables.{aligned, hyphens, alignment_of, alignments, cells, without_first_pipe, without_last_pipe, delimiter_row};
 ghost use Rattle.cmark_text.specs.Shown.{shown_alignment};
 
@@ -19,6 +19,30 @@ pub fn scan_table_head(alloc: Global, line: &[u8]) -> Result<Option<Vec<Alignmen
         return Ok(None);
     }
     scan_cells(alloc, without_last_pipe(without_first_pipe(trimmed(line))))
+}
+
+/// How many columns the table has, where the line is a delimiter row. The line is handed in without its ending.
+pub fn count_delimiter_cells(line: &[u8]) -> Option<usize>
+    ensures { result ≡ option_map length (delimiter_row line.now) }
+{
+    memchr(b'|', line)?;
+    count_columns(without_last_pipe(without_first_pipe(trimmed(line))))
+}
+
+/// How many cells stand between pipes, where each is a delimiter cell.
+fn count_columns(row: &[u8]) -> Option<usize>
+    ensures { result ≡ option_map length (alignments (cells row.now)) }
+{
+    let mut columns = 0;
+    let mut rest = row;
+    while let Some(at) = memchr(b'|', rest) {
+        let (cell, behind) = rest.split_at(at);
+        scan_cell(trimmed(cell))?;
+        columns += 1;
+        rest = &behind[1..];
+    }
+    scan_cell(trimmed(rest))?;
+    Some(columns + 1)
 }
 
 /// What the cells between pipes say, where each is a delimiter cell.
@@ -44,8 +68,9 @@ fn scan_cells(alloc: Global, row: &[u8]) -> Result<Option<Vec<Alignment>>, Alloc
 
 /// The bytes behind a pipe in front, if there is one.
 #[inline]
-fn without_first_pipe(bytes: &[u8]) -> &[u8]
-    ensures { result.now ≡ without_first_pipe bytes.now }
+pub(crate) fn without_first_pipe(bytes: &[u8]) -> &[u8]
+    ensures value { result.now ≡ without_first_pipe bytes.now }
+    ensures within { length result.now ≤ length bytes.now }
 {
     match bytes {
         [b'|', rest @ ..] => rest,

@@ -17,6 +17,6 @@ pub returns : goal.returns
 returns c =
     let line = c.args.line.now in
     subst (λ (d : Option (List grammar.Alignment)). IfOk c.scan_cells.result (λ row. option_map (λ (columns : Vec Alignment Global). map shown_alignment columns.items) row ≡ d))
-    (ap (λ l. alignments (cells l)) (c.without_last_pipe.ensures ∙ ap without_last_pipe (c.without_first_pipe.ensures ∙ ap without_first_pipe c.trimmed.ensures.value))
+    (ap (λ l. alignments (cells l)) (c.without_last_pipe.ensures ∙ ap without_last_pipe (c.without_first_pipe.ensures.value ∙ ap without_first_pipe c.trimmed.ensures.value))
     ∙ row-of line (sym c.if-is_none.ensures ∙ pipe-found line c.memchr.result c.memchr.ensures))
     c.scan_cells.ensures
