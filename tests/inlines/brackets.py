@@ -3,6 +3,7 @@ from dataclasses import dataclass, replace
 from typing import NamedTuple
 
 from inlines import labels, letters
+from inlines.letters import first_is
 from inlines.tokens import Bracket, Closes, Item, Opens, begin_of
 
 
@@ -15,12 +16,25 @@ class Linked(NamedTuple):
     id: bytes
 
 
-class Form(NamedTuple):
-    """A link or an image that ends at a place, with what stands between its brackets."""
-    opener: Bracket
-    inside: list
+class Linking(NamedTuple):
+    """A link or an image: where it leads, and where it ends."""
     linked: Linked
     end: int
+
+
+class Wiki(NamedTuple):
+    """A wikilink, which shows its name or what stands from a place on."""
+    name: bytes
+    display: object
+    end: int
+
+
+class Form(NamedTuple):
+    """What two brackets form, with what stands between them."""
+    opener: Bracket
+    inside: list
+    closer: Bracket
+    formed: object
 
 
 class Opening(NamedTuple):
@@ -41,6 +55,7 @@ class Single(NamedTuple):
 class Opener:
     bracket: Bracket
     stands: bool = True
+    doubles: bool = True
     is_inactive: bool = False
 
 
@@ -59,7 +74,7 @@ class Taken(NamedTuple):
 
 
 class Outcome(NamedTuple):
-    """What is formed, the number of nearer openers and a link, or None; and the state behind the closing bracket."""
+    """The number of nearer openers and what is formed, or None; and the state behind the closing bracket."""
     forms: object
     after: State
 
@@ -73,6 +88,23 @@ def used_up(openers):
     if taken is None:
         return openers
     return openers[:taken.nearer] + (replace(taken.opener, stands=False),) + openers[taken.nearer + 1:]
+
+
+def touches(second, first):
+    return not second.bracket.is_image and second.bracket.start == first.bracket.end
+
+
+def doubled(openers):
+    pairs = zip(openers, openers[1:])
+    return next((Taken(n + 1, first) for n, (second, first) in enumerate(pairs) if first.doubles and touches(second, first)), None)
+
+
+def undoubled(o):
+    return replace(o, doubles=False)
+
+
+def tried(nearer, openers):
+    return openers[:nearer] + (undoubled(openers[nearer]),) + openers[nearer + 1:]
 
 
 def inactive(o):
@@ -96,9 +128,12 @@ def stays(closer, s):
     return Outcome(None, replace(s, at=closer.end))
 
 
+def forms(taken, formed, past, change, s):
+    return Outcome((taken.nearer, formed), replace(s, at=past, openers=change(s.openers[taken.nearer + 1:])))
+
+
 def links(taken, linked, end, past, s):
-    openers = behind_link(taken.opener.bracket.is_image, s.openers[taken.nearer + 1:])
-    return Outcome((taken.nearer, linked, end), replace(s, at=past, openers=openers))
+    return forms(taken, Linking(linked, end), past, lambda openers: behind_link(taken.opener.bracket.is_image, openers), s)
 
 
 def between(leaf, start, end):
@@ -163,17 +198,50 @@ def with_taken(leaf, taken, closer, s):
     return link_or(leaf, labels.link_tail_in(leaf.from_(closer.end)), taken, closer, s)
 
 
+def name_in(bs):
+    return bs.split(b"|")[0]
+
+
+def behind_pipe(at, bs):
+    return at + bs.index(b"|") + 1 if b"|" in bs else None
+
+
+def wiki_text(leaf, first, closer):
+    return leaf.reader.source[first.opener.bracket.end + 1:closer.start]
+
+
+def wikilink(leaf, first, closer, s):
+    text = wiki_text(leaf, first, closer)
+    formed = Wiki(name_in(text), behind_pipe(first.opener.bracket.end + 1, text), closer.end + 1)
+    return forms(first, formed, closer.end + 1, lambda openers: tuple(undoubled(inactive(o)) for o in openers), s)
+
+
+def wikilink_or(leaf, first, taken, closer, s):
+    if first is None:
+        return with_taken(leaf, taken, closer, s)
+    if first.opener.is_inactive or not name_in(wiki_text(leaf, first, closer)):
+        return with_taken(leaf, taken, closer, replace(s, openers=tried(first.nearer, s.openers)))
+    return wikilink(leaf, first, closer, s)
+
+
+def taking(leaf, taken, closer, s):
+    """Directly before another one a closing bracket tries the nearest doubled opening one first."""
+    if leaf.reader.options.wikilinks and first_is(lambda b: b == 93, leaf.from_(closer.end)):
+        return wikilink_or(leaf, doubled(s.openers), taken, closer, s)
+    return with_taken(leaf, taken, closer, s)
+
+
 def decide(leaf, s, closer):
-    return with_taken(leaf, nearest(s.openers), closer, replace(s, openers=used_up(s.openers)))
+    return taking(leaf, nearest(s.openers), closer, replace(s, openers=used_up(s.openers)))
 
 
 # ## BracketReading
 
-def formed(parts, nearer, linked, end):
-    """The parts where the opening bracket with so many nearer ones forms a link with what is read behind it."""
+def with_form(parts, closer, nearer, formed):
+    """The parts where the opening bracket with so many nearer ones forms something with what is read behind it."""
     openings = [at for at, part in enumerate(parts) if isinstance(part, Opening)]
     at = openings[len(openings) - 1 - nearer]
-    return parts[:at] + [Form(parts[at].bracket, parts[at + 1:], linked, end)]
+    return parts[:at] + [Form(parts[at].bracket, parts[at + 1:], closer, formed)]
 
 
 def reads_whole(leaf, expansion):
@@ -185,7 +253,7 @@ def reads_whole(leaf, expansion):
             s = replace(s, at=found.bracket.end, openers=(Opener(found.bracket),) + s.openers)
         elif isinstance(found, Closes):
             outcome = decide(leaf, s, found.bracket)
-            parts = parts + [Closing(found.bracket)] if outcome.forms is None else formed(parts, *outcome.forms)
+            parts = parts + [Closing(found.bracket)] if outcome.forms is None else with_form(parts, found.bracket, *outcome.forms)
             s = outcome.after
         else:
             parts.append(Single(found.item))

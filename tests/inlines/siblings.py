@@ -4,7 +4,7 @@ Spans are lists of places and of ("Around", kind, start, end, inside); siblings 
 """
 from typing import NamedTuple
 
-from inlines.brackets import Closing, Form, Linked, Opening, reads_whole
+from inlines.brackets import Closing, Form, Linked, Linking, Opening, Wiki, reads_whole
 from inlines.tokens import Item, Leaf, Run, quote_characters
 
 TILDE, CARET = ord("~"), ord("^")
@@ -205,10 +205,34 @@ def item_then(x):
     return Around("Link", Linked("Autolink", x.data, b"", b""), x.start, x.end, [Item("Own", x.start + 1, x.end - 1)])
 
 
+def from_place(place, siblings):
+    """Siblings from a place on, of which the one that holds the byte there begins there."""
+    at = next((n for n, s in enumerate(siblings) if s.end > place), len(siblings))
+    return [s._replace(start=max(s.start, place)) for s in siblings[at:at + 1]] + siblings[at + 1:]
+
+
+def display_from(place, end, siblings):
+    return [Item("Own", place, place)] if place == end else from_place(place, siblings)
+
+
+def shown(options, part, formed):
+    """What stands inside an element that two brackets form."""
+    if isinstance(formed, Wiki) and formed.display is None:
+        return [Item("Own", part.opener.end + 1, part.closer.start)]
+    inside = siblings_of(options, part.inside)
+    return dress(options, display_from(formed.display, part.closer.start, inside) if isinstance(formed, Wiki) else inside)
+
+
+def linked_of(formed):
+    if isinstance(formed, Linking):
+        return formed.linked
+    return Linked(["WikiLink", formed.display is not None], formed.name, b"", b"")
+
+
 def sibling_of(options, part):
     if isinstance(part, Form):
         tag = "Image" if part.opener.is_image else "Link"
-        return Around(tag, part.linked, part.opener.start, part.end, dress(options, siblings_of(options, part.inside)))
+        return Around(tag, linked_of(part.formed), part.opener.start, part.formed.end, shown(options, part, part.formed))
     if isinstance(part, (Opening, Closing)):
         return Item("Own", part.bracket.start, part.bracket.end)
     return item_then(part.item)

@@ -14,6 +14,7 @@ class Options(NamedTuple):
     subscript: bool
     smart_punctuation: bool
     math: bool
+    wikilinks: bool
 
 
 class Reader(NamedTuple):

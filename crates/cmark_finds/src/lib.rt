@@ -24,5 +24,6 @@ pub use code::{CodeSpan, code_span, code_text};
 pub use dollars::{Dollars, Formula};
 pub use html::inline_html;
 pub use label::{Label, collapsed_end, is_bracketed_label, reference_label};
+pub use line_end::has_line_ending;
 pub use link::{LinkTail, link_tail, title_text};
 pub use special::{LoopInstruction, iterate_special_bytes, next_special, special_bytes};

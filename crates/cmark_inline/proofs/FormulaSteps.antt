@@ -1,10 +1,9 @@
 -- Slots that stand for the formula that a dollar sign opens, or for the dollar sign.
 use Rattle.std.specs.Prelude.{Option, Some, None, option_map, if◌then◌else◌}
-use Rattle.std.specs.Option.{IfSome}
-use Rattle.std.proofs.Common.{◌≡◌, ℕ, suc, ◌+◌, ◌-◌, ◌<◌, ◌≤◌, ◌&&◌, Bool, true, false, List, [], ◌∷◌, length, take, drop, get_or, refl, sym, ap, subst, ◌∙◌, arith, length-drop, drop-drop}
+use Rattle.std.proofs.Common.{◌≡◌, ℕ, suc, ◌+◌, ◌-◌, ◌<◌, ◌≤◌, ◌&&◌, Bool, true, false, List, [], length, drop, get_or, refl, sym, ap, subst, ◌∙◌, arith, length-drop, drop-drop}
 use Rattle.cmark_grammar.specs.Answers.{Lookup}
 use Rattle.cmark_grammar.specs.Formulas.{Braces, is_dollar, no_braces, braces_behind, inline_in, display_in}
-use Rattle.cmark_grammar.specs.InlineTokens.{item_at, before, dollar, formula_or, smart_or, place_of}
+use Rattle.cmark_grammar.specs.InlineTokens.{item_at, before, dollar, formula_or, place_of}
 use Rattle.cmark_grammar.specs.Items.{ItemKind, Plain, Own, InlineMath, DisplayMath, Token, Stands}
 use Rattle.cmark_grammar.specs.Letters.{first_is}
 use Rattle.cmark_grammar.specs.LinkDefinitions.{Found}
@@ -15,8 +14,7 @@ use Rattle.cmark_finds.specs.Dollars.{IsFormulaAt, braces_at, formula_at, shown_
 use Rattle.cmark_finds.specs.declared.dollars.Formula.{Formula}
 use Rattle.cmark_text.specs.declared.text.CowStr.{CowStr}
 use Rattle.cmark_inline.specs.Stands.{IsContent}
-use Rattle.cmark_inline.specs.Tokens.{whole, reading, begins_at, IsItem, Says, Puts, Appends}
-use Rattle.cmark_inline.specs.declared.slot.Slot.{Slot}
+use Rattle.cmark_inline.specs.Tokens.{whole, reading, begins_at, Says, Puts, Appends}
 use Rattle.cmark_inline.specs.declared.slot.SlotKind.{SlotKind}
 use Rattle.cmark_inline.specs.declared.slot.SlotKind.TheVariants as kind
 use Rattle.cmark_inline.specs.declared.state.InlineState.{InlineState}

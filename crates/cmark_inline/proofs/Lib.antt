@@ -19,3 +19,4 @@ pub mod AngleMakes
 pub mod SpecialSteps
 pub mod SpanReads
 pub mod FormulaSteps
+pub mod WikiSteps

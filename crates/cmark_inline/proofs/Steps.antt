@@ -9,6 +9,7 @@ use Rattle.std.proofs.lemmas.Str.{IsCharBoundary-after_ascii}
 use Rattle.cmark_leaf_text.specs.Reads.{IsPart}
 use Rattle.cmark_inline.specs.Stands.{IsSlot, AreSlots, AreBrackets, AreFree, HoldNoLink, NoNewLink, PushesText, begins_link}
 use Rattle.cmark_inline.specs.declared.bracket.Bracket.{Bracket}
+use Rattle.cmark_inline.specs.declared.bracket.Brackets.{Brackets}
 use Rattle.cmark_inline.specs.declared.slot.Slot.{Slot}
 use Rattle.cmark_inline.specs.declared.slot.SlotKind.TheVariants as kind
 
@@ -40,11 +41,13 @@ last-holds-none ss ts s e p = subst (λ l. HoldNoLink l (length ss)) (sym p) (λ
     let l = length_push ss s in
     ap (λ (t : Slot). begins_link t.kind) (get_or_push ss s d k (let q : length ss ≡ k = omega (arith, le, lt, l) in q)) ∙ e)
 
-pub record Keeps (text : List ℕ) (at : ℕ) (ss : List Slot) (bs : List Bracket) (shut bytes : ℕ) : Type 0 where
+pub record Keeps (text : List ℕ) (at : ℕ) (ss : List Slot) (v w : Brackets) (bytes : ℕ) : Type 0 where
   pub slots : AreSlots text at ss
-  pub brackets : AreBrackets text at bs
+  pub brackets : AreBrackets text at v.standing.items
   pub few : length ss ≤ at
-  pub free : AreFree ss bs shut
+  pub free : AreFree ss v.standing.items v.shut
+  pub doubled : AreBrackets text at w.standing.items
+  pub doubled_free : AreFree ss w.standing.items w.shut
   pub runs : bytes ≤ length ss
 
 module _ (text : List ℕ) where
@@ -54,40 +57,52 @@ module _ (text : List ℕ) where
   pub brackets-on : (a b : ℕ) (bs : List Bracket) → AreBrackets text a bs → a ≤ b → AreBrackets text b bs
   brackets-on a b bs h le = λ k d lt. let s = h k d lt in record { part = s.part; before = (let e = s.before in let l : (get_or bs k d).inside ≤ b = omega (arith, e, le) in l) }
 
-  pub keeps-on : (a b : ℕ) (ss : List Slot) (bs : List Bracket) (shut n : ℕ) → Keeps text a ss bs shut n → a ≤ b → Keeps text b ss bs shut n
-  keeps-on a b ss bs shut n h le = record { slots = slots-on a b ss h.slots le; brackets = brackets-on a b bs h.brackets le; few = (let f = h.few in let q : length ss ≤ b = omega (arith, f, le) in q); free = h.free; runs = h.runs }
+  pub keeps-on : (a b : ℕ) (ss : List Slot) (v w : Brackets) (n : ℕ) → Keeps text a ss v w n → a ≤ b → Keeps text b ss v w n
+  keeps-on a b ss v w n h le = record {
+    slots = slots-on a b ss h.slots le;
+    brackets = brackets-on a b v.standing.items h.brackets le;
+    few = (let f = h.few in let q : length ss ≤ b = omega (arith, f, le) in q);
+    free = h.free;
+    doubled = brackets-on a b w.standing.items h.doubled le;
+    doubled_free = h.doubled_free;
+    runs = h.runs;
+  }
 
-  pub keeps-push : (a b : ℕ) (ss ts : List Slot) (s : Slot) (bs : List Bracket) (shut n : ℕ) → Keeps text a ss bs shut n → a ≤ b → length ss < b → begins_link s.kind ≡ false → IsSlot text b s → ts ≡ ss ++ (s ∷ []) → Keeps text b ts bs shut n
-  keeps-push a b ss ts s bs shut n h le room none new e =
+  pub keeps-push : (a b : ℕ) (ss ts : List Slot) (s : Slot) (v w : Brackets) (n : ℕ) → Keeps text a ss v w n → a ≤ b → length ss < b → begins_link s.kind ≡ false → IsSlot text b s → ts ≡ ss ++ (s ∷ []) → Keeps text b ts v w n
+  keeps-push a b ss ts s v w n h le room none new e =
       let l = length_push ss s in
       let m = ap length e in
       let r = h.runs in
       record {
         slots = subst (AreSlots text b) (sym e) (All-push (IsSlot text b) ss s (slots-on a b ss h.slots le) new);
-        brackets = brackets-on a b bs h.brackets le;
+        brackets = brackets-on a b v.standing.items h.brackets le;
         few = (let q : length ts ≤ b = omega (arith, l, m, room) in q);
-        free = free-on ss ts bs shut h.free (no-new ss ts s none e);
+        free = free-on ss ts v.standing.items v.shut h.free (no-new ss ts s none e);
+        doubled = brackets-on a b w.standing.items h.doubled le;
+        doubled_free = free-on ss ts w.standing.items w.shut h.doubled_free (no-new ss ts s none e);
         runs = let q : n ≤ length ts = omega (arith, l, m, r) in q;
       }
 
-  pub keeps-text : (a b : ℕ) (ss ts : List Slot) (bs : List Bracket) (shut n : ℕ) → Keeps text a ss bs shut n → a ≤ b → IsCharBoundary text a → IsCharBoundary text b → PushesText a b ss ts → Keeps text b ts bs shut n
-  keeps-text a b ss ts bs shut n h le starts ends pushed = go (nat_lt a b) refl
+  pub keeps-text : (a b : ℕ) (ss ts : List Slot) (v w : Brackets) (n : ℕ) → Keeps text a ss v w n → a ≤ b → IsCharBoundary text a → IsCharBoundary text b → PushesText a b ss ts → Keeps text b ts v w n
+  keeps-text a b ss ts v w n h le starts ends pushed = go (nat_lt a b) refl
     where
-      go : (z : Bool) → nat_lt a b ≡ z → Keeps text b ts bs shut n
+      go : (z : Bool) → nat_lt a b ≡ z → Keeps text b ts v w n
       go true e =
           let lt = ltb-true a b e in
-          let w = ends.0 in
+          let within = ends.0 in
           let f = h.few in
-          keeps-push a b ss ts (record { kind = kind.Text; start = a; end = b }) bs shut n h le (let q : length ss < b = omega (arith, f, lt) in q) refl
-          (record { part = record { some = lt; within = w; starts = starts; ends = ends }; before = (let l : b ≤ b = omega arith in l); content = tt }) (pushed.0 lt)
+          keeps-push a b ss ts (record { kind = kind.Text; start = a; end = b }) v w n h le (let q : length ss < b = omega (arith, f, lt) in q) refl
+          (record { part = record { some = lt; within = within; starts = starts; ends = ends }; before = (let l : b ≤ b = omega arith in l); content = tt }) (pushed.0 lt)
       go false e =
           let g = ltb-false a b e in
-          let k = keeps-on a b ss bs shut n h le in
+          let k = keeps-on a b ss v w n h le in
           record {
             slots = subst (AreSlots text b) (sym (pushed.1 g)) k.slots;
             brackets = k.brackets;
             few = subst (λ (l : List Slot). length l ≤ b) (sym (pushed.1 g)) k.few;
-            free = subst (λ (l : List Slot). AreFree l bs shut) (sym (pushed.1 g)) k.free;
+            free = subst (λ (l : List Slot). AreFree l v.standing.items v.shut) (sym (pushed.1 g)) k.free;
+            doubled = k.doubled;
+            doubled_free = subst (λ (l : List Slot). AreFree l w.standing.items w.shut) (sym (pushed.1 g)) k.doubled_free;
             runs = subst (λ (l : List Slot). n ≤ length l) (sym (pushed.1 g)) k.runs;
           }
 

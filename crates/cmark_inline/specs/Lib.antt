@@ -1,4 +1,5 @@
 pub mod Asking
+pub mod Doubled
 pub mod Elements
 pub mod FoundInSource
 pub mod Linked
@@ -7,3 +8,4 @@ pub mod Quoted
 pub mod SpecialReads
 pub mod Stands
 pub mod Tokens
+pub mod Wikilinks

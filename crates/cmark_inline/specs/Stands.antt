@@ -29,6 +29,9 @@ IsContent text (kind.InlineMath from to) = IsCharBoundary text from × IsCharBou
 IsContent text (kind.DisplayMath from to) = IsCharBoundary text from × IsCharBoundary text to
 IsContent text kind.InlineHtml = Unit {0}
 IsContent text (kind.SourceHtml end) = Unit {0}
+IsContent text (kind.CutHtml from) = IsCharBoundary text from
+IsContent text (kind.SourceText end) = Unit {0}
+IsContent text kind.Empty = Unit {0}
 IsContent text (kind.Begin element) = Unit {0}
 IsContent text kind.End = Unit {0}
 IsContent text kind.Nothing = Unit {0}
@@ -50,7 +53,7 @@ pub record IsBracket (text : List ℕ) (at : ℕ) (bracket : Bracket) : Type 0 w
 abbrev pub AreBrackets : (text : List ℕ) → (at : ℕ) → List Bracket → Type 0
 AreBrackets text at brackets = All (IsBracket text at) brackets
 
--- a link begins that is neither an autolink nor an image
+-- a link or a wikilink begins, which is neither an autolink nor an image
 abbrev pub is_link : Element → Bool
 is_link element.Emphasis = false
 is_link element.Strong = false
@@ -73,6 +76,9 @@ begins_link (kind.InlineMath from to) = false
 begins_link (kind.DisplayMath from to) = false
 begins_link kind.InlineHtml = false
 begins_link (kind.SourceHtml end) = false
+begins_link (kind.CutHtml from) = false
+begins_link (kind.SourceText end) = false
+begins_link kind.Empty = false
 begins_link (kind.Begin element) = is_link element
 begins_link kind.End = false
 begins_link kind.Nothing = false
@@ -93,13 +99,15 @@ AreFree slots brackets shut = (i : ℕ) (d : Bracket) → shut ≤ i → i < len
 abbrev pub bytes_of : List PlacedRun → ℕ
 bytes_of placed = sum_by (λ (p : PlacedRun). p.run.size) placed
 
--- all slots and brackets stand before this place of the text, there are no more slots than bytes before it, no link begins
--- behind a bracket that may form one, and there is a slot for each byte of the delimiter runs
+-- all slots and brackets, the doubled ones too, stand before this place of the text, there are no more slots than bytes before it,
+-- no link begins behind a bracket that may form one, and there is a slot for each byte of the delimiter runs
 pub record Stands (text : List ℕ) (at : ℕ) (state : InlineState) : Type 0 where
   pub slots : AreSlots text at state.slots.items
   pub brackets : AreBrackets text at state.brackets.standing.items
   pub few : length state.slots.items ≤ at
   pub free : AreFree state.slots.items state.brackets.standing.items state.brackets.shut
+  pub doubled : AreBrackets text at state.doubled.standing.items
+  pub doubled_free : AreFree state.slots.items state.doubled.standing.items state.doubled.shut
   pub runs : bytes_of state.delimiters.placed.items ≤ length state.slots.items
 
 -- a place that is reached, and the one from which on the text stands in no slot, cut no character
@@ -133,6 +141,7 @@ pub record IsTarget (text : List ℕ) (close : ℕ) (target : Target) : Type 0 w
 pub record SameSpans (old new : InlineState) : Type 0 where
   pub slots : new.slots ≡ old.slots
   pub brackets : new.brackets ≡ old.brackets
+  pub doubled : new.doubled ≡ old.doubled
   pub delimiters : new.delimiters ≡ old.delimiters
 
 -- a reference ends behind its closing bracket, and so does what it uses up

@@ -201,7 +201,7 @@ pub record PutsBracket (is_image : Bool) (start at inside : ℕ) (old new : Inli
       ≡ old.brackets.standing.items
       ++ (record { slot = length before; runs = length old.delimiters.placed.items; quotes = length old.quotes.placed.items; start = at; inside = inside; is_image = is_image } ∷ [])
   pub shut : new.brackets.shut ≡ old.brackets.shut
-  pub others : new ≡ record old { slots = new.slots; brackets = new.brackets }
+  pub others : new ≡ record old { slots = new.slots; brackets = new.brackets; doubled = new.doubled }
 
 -- the opening bracket that begins at the place that was reached
 pub record OpensBracket (options : Options) (lookup : Lookup) (text : List ℕ) (here : Cursor) (old new : InlineState) (next : Cursor) : Type 0 where

@@ -1,9 +1,13 @@
 //! Brackets that may open a link or an image (CommonMark 6.3 and 6.4).
 
-ghost use Rattle.std.specs.Prelude.{◌≡◌, true, false, ◌++◌, ◌∷◌, [], ℕ, List, OnOk, IfSome};
+ghost use Rattle.std.specs.Prelude.{◌≡◌, true, false, ◌-◌, ◌++◌, ◌∷◌, [], ℕ, List, length, take, OnOk, IfSome};
+ghost use Rattle.cmark_inline.specs.Doubled.{DropsBehind, doubles, nearest, touching};
+ghost use Rattle.cmark_text.specs.Shown.{shown_options};
 ghost use Rattle.cmark_inline.specs.Stands.{AreBrackets, AreFree, HoldNoLink, IsBracket};
 ghost use Rattle.cmark_inline.specs.declared.slot.Slot.{Slot};
 
+use bitflags::Flags;
+use cmark_text::Options;
 use std::alloc::{AllocError, Global};
 
 /// An opening bracket that no closing one has used up.
@@ -40,7 +44,8 @@ impl Brackets {
     }
 
     pub fn clear(&mut self)
-        ensures { self.new.standing.items ≡ [] }
+        ensures standing { self.new.standing.items ≡ [] }
+        ensures shut { self.new.shut ≡ 0 }
     {
         self.standing.clear();
         self.shut = 0;
@@ -56,6 +61,8 @@ impl Brackets {
 
     /// The nearest bracket, which is used up, and whether it can form a link or an image.
     pub fn take(&mut self) -> Option<(Bracket, bool)>
+        ensures value { result ≡ nearest self.old }
+        ensures others { self.new.standing.items ≡ take (length self.old.standing.items - 1) self.old.standing.items }
         ensures brackets { (text : List ℕ) (at : ℕ) → AreBrackets text at self.old.standing.items → AreBrackets text at self.new.standing.items }
         ensures free { (slots : List Slot) → AreFree slots self.old.standing.items self.old.shut → AreFree slots self.new.standing.items self.new.shut }
         ensures link { (slots : List Slot) → AreFree slots self.old.standing.items self.old.shut → IfSome result (λ taken. taken.1 ≡ true → taken.0.is_image ≡ false → HoldNoLink slots taken.0.slot) }
@@ -67,9 +74,67 @@ impl Brackets {
         Some((bracket, forms))
     }
 
+    /// The last bracket, if it ends at this place and no link was formed behind it.
+    pub fn touching(&self, place: usize) -> Option<Bracket>
+        ensures value { result ≡ touching place self.now }
+        ensures ends { IfSome result (λ first. first.inside ≡ place) }
+        ensures bracket { (text : List ℕ) (at : ℕ) → AreBrackets text at self.now.standing.items → IfSome result (IsBracket text at) }
+        ensures free { (slots : List Slot) → AreFree slots self.now.standing.items self.now.shut → IfSome result (λ first. HoldNoLink slots first.slot) }
+    {
+        let count = self.standing.len();
+        if count <= self.shut {
+            return None;
+        }
+        let last = self.standing[count - 1];
+        if last.inside == place {
+            Some(last)
+        } else {
+            None
+        }
+    }
+
+    /// These are doubled brackets, and a bracket is put behind those of `single`: with one that it touches it is a doubled bracket,
+    /// which may open a wikilink, where these are read and it opens no image.
+    pub fn double(
+        &mut self,
+        single: &Brackets,
+        options: Options,
+        second: Bracket,
+    ) -> Result<(), AllocError>
+        ensures doubled { OnOk result (self.new.standing.items ≡ doubles (shown_options options) single.now second.is_image second.start second.inside self.old.standing.items) }
+        ensures brackets { OnOk result ((text : List ℕ) (at : ℕ) → AreBrackets text at single.now.standing.items → AreBrackets text at self.old.standing.items → IsBracket text at second → AreBrackets text at self.new.standing.items) }
+        ensures free { OnOk result ((slots : List Slot) → AreFree slots single.now.standing.items single.now.shut → AreFree slots self.old.standing.items self.old.shut → AreFree slots self.new.standing.items self.new.shut) }
+    {
+        if second.is_image || !options.contains(Options::ENABLE_WIKILINKS) {
+            return Ok(());
+        }
+        if let Some(first) = single.touching(second.start) {
+            self.push(Bracket {
+                inside: second.inside,
+                ..first
+            })?;
+        }
+        Ok(())
+    }
+
+    /// Drops the last brackets, as many as end behind a place.
+    pub fn drop_behind(&mut self, place: usize)
+        ensures drops { DropsBehind place self.old.standing.items self.new.standing.items }
+        ensures brackets { (text : List ℕ) (at : ℕ) → AreBrackets text at self.old.standing.items → AreBrackets text at self.new.standing.items }
+        ensures free { (slots : List Slot) → AreFree slots self.old.standing.items self.old.shut → AreFree slots self.new.standing.items self.new.shut }
+    {
+        let mut count = self.standing.len();
+        while 0 < count && place < self.standing[count - 1].inside {
+            count -= 1;
+        }
+        self.standing.truncate(count);
+        self.shut = self.shut.min(count);
+    }
+
     /// A link is formed: the brackets that stand form none any more.
     pub fn shut_all(&mut self)
         ensures standing { self.new.standing ≡ self.old.standing }
+        ensures shut { self.new.shut ≡ length self.old.standing.items }
         ensures free { (slots : List Slot) → AreFree slots self.new.standing.items self.new.shut }
     {
         self.shut = self.standing.len();

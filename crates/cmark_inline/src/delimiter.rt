@@ -1,11 +1,12 @@
 //! Delimiter runs and the elements that they become (CommonMark 6.2).
 
-ghost use Rattle.std.specs.Prelude.{◌≡◌, ◌+◌, ◌≤◌, ◌++◌, ◌∷◌, ℕ, false, List, [], length, map, OnOk, IfOk, IfSome};
+ghost use Rattle.std.specs.Prelude.{◌≡◌, ◌+◌, ◌<◌, ◌≤◌, ◌++◌, ◌∷◌, ℕ, false, List, [], get_or, length, map, take, OnOk, IfOk, IfSome};
 ghost use Rattle.cmark_emphasis.specs.Shown.{shown_kind, shown_run};
 ghost use Rattle.cmark_emphasis.specs.Slots.{AreRuns};
 ghost use Rattle.cmark_text.specs.Shown.{shown_options};
 ghost use Rattle.cmark_inline.specs.Elements.{IsElementOf};
 ghost use Rattle.cmark_inline.specs.Stands.{AreSlots, NoNewLink, bytes_of, is_link};
+ghost use Rattle.cmark_inline.specs.declared.delimiter.PlacedRun.{PlacedRun as Placed};
 
 use crate::slot::{Element, Slot, begin, merge, use_up};
 use bitflags::Flags;
@@ -60,6 +61,27 @@ impl Delimiters {
     {
         self.placed.push(PlacedRun { slot, run })?;
         Ok(())
+    }
+
+    /// The first run from one on whose slot is this one or a later one; how many there are, where there is none.
+    pub fn first_from(&self, first: usize, slot: usize) -> usize
+        ensures order { first ≤ result }
+        ensures before { (k : ℕ) (d : Placed) → first ≤ k → k < result → (get_or self.now.placed.items k d).slot < slot }
+        ensures behind { (d : Placed) → result < length self.now.placed.items → slot ≤ (get_or self.now.placed.items result d).slot }
+    {
+        let mut at = first;
+        while at < self.placed.len() && self.placed[at].slot < slot {
+            at += 1;
+        }
+        at
+    }
+
+    /// Forgets the runs from this one on.
+    pub fn truncate(&mut self, first: usize)
+        ensures placed { self.new.placed.items ≡ take first self.old.placed.items }
+        ensures bytes { bytes_of self.new.placed.items ≤ bytes_of self.old.placed.items }
+    {
+        self.placed.truncate(first);
     }
 
     /// Resolves the runs from this one on, which are those of one list of siblings, and forgets them.

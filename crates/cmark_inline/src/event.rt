@@ -3,9 +3,9 @@
 ghost use Rattle.std.specs.Prelude.{◌≡◌, ◌⊎◌, ◌<◌, ◌≤◌, ◌+◌, ◌-◌, ℕ, false, List, [], IfOk, IfSome, OnOk, OnSome, length};
 ghost use Rattle.std.specs.Str.{IsCharBoundary};
 ghost use Rattle.cmark_grammar.specs.CodeSpans.{code_text};
-ghost use Rattle.cmark_grammar.specs.Event.{InlineHtml};
+ghost use Rattle.cmark_grammar.specs.Event.{InlineHtml, Text};
 ghost use Rattle.cmark_grammar.specs.InlineHtml.{takes_lines};
-ghost use Rattle.cmark_grammar.specs.LeafSpans.{IsInline, IsSpan};
+ghost use Rattle.cmark_grammar.specs.LeafSpans.{IsInline, IsRange, IsSpan};
 ghost use Rattle.cmark_grammar.specs.Tokens.{slice};
 ghost use Rattle.cmark_leaf_text.specs.Reads.{IsRead, IsPart, place_of, text_of, source_of};
 ghost use Rattle.cmark_scan_parts.specs.Shown.{IsBorrowed};
@@ -108,6 +108,8 @@ impl<'a> InlineState<'a> {
             SlotKind::End => Ok(self.end_last()),
             SlotKind::Nothing => Ok(None),
             SlotKind::SourceHtml(end) => Ok(Some(source_html(leaf, slot, end))),
+            SlotKind::SourceText(end) => Ok(Some(source_text(leaf, slot, end))),
+            SlotKind::Empty => Ok(Some(empty_text(leaf, slot))),
             _ => {
                 let event = self.single(leaf, slot)?;
                 let range = leaf.range(slot.start, slot.end);
@@ -228,6 +230,9 @@ impl<'a> InlineState<'a> {
             }
             SlotKind::DisplayMath(from, to) => {
                 Ok(Event::DisplayMath(formula_of(self.alloc, leaf, from, to)?))
+            }
+            SlotKind::CutHtml(from) => {
+                Ok(Event::InlineHtml(cut_html(self.alloc, leaf, slot, from)?))
             }
             SlotKind::InlineHtml => Ok(Event::InlineHtml(text_between(
                 self.alloc, leaf, slot.start, slot.end,
@@ -350,6 +355,62 @@ fn source_html<'a>(leaf: &LeafText<'a>, slot: Slot, end: usize) -> Given<'a>
         event: Event::InlineHtml(CowStr::Borrowed(html)),
         range,
     }
+}
+
+// A text that is a part of the source: borrowed, with the prefixes of its later lines.
+fn source_text<'a>(leaf: &LeafText<'a>, slot: Slot, end: usize) -> Given<'a>
+    requires read { IsRead leaf.now }
+    requires slot { IsSlot (text_of leaf.now) (length (text_of leaf.now)) slot }
+    ensures start { result.range.start ≡ place_of leaf.now slot.start }
+    ensures end { place_of leaf.now slot.start < end → IsCharBoundary (source_of leaf.now) end → result.range.end ≡ end }
+    ensures part { IsPart (source_of leaf.now) result.range.start result.range.end }
+    ensures value { shown result.event ≡ Text (slice (source_of leaf.now) result.range.start result.range.end) }
+    ensures lent { GivesZeroCopy (source_of leaf.now) result }
+{
+    let range = leaf.range_up_to(slot.start, slot.end, end);
+    let text = leaf.source_at(range.start, range.end);
+    Given {
+        event: Event::Text(CowStr::Borrowed(text)),
+        range,
+    }
+}
+
+// A text of no bytes, before the first byte of a slot.
+fn empty_text<'a>(leaf: &LeafText<'a>, slot: Slot) -> Given<'a>
+    requires read { IsRead leaf.now }
+    requires slot { IsSlot (text_of leaf.now) (length (text_of leaf.now)) slot }
+    ensures start { result.range.start ≡ place_of leaf.now slot.start }
+    ensures end { result.range.end ≡ place_of leaf.now slot.start }
+    ensures range { IsRange (source_of leaf.now) result.range.start result.range.end }
+    ensures value { shown result.event ≡ Text [] }
+    ensures lent { GivesZeroCopy (source_of leaf.now) result }
+{
+    let start = leaf.range(slot.start, slot.end).start;
+    Given {
+        event: Event::Text(CowStr::Borrowed("")),
+        range: start..start,
+    }
+}
+
+// A tag over lines that begins at a place, of which the slot has the last bytes.
+#[inline(never)]
+fn cut_html<'a>(
+    alloc: Global,
+    leaf: &LeafText<'a>,
+    slot: Slot,
+    from: usize,
+) -> Result<CowStr<'a>, AllocError>
+    requires read { IsRead leaf.now }
+    requires slot { IsSlot (text_of leaf.now) (length (text_of leaf.now)) slot }
+    requires from { IsCharBoundary (text_of leaf.now) from }
+    ensures value { IfOk result (λ made. text_bytes made ≡ slice (text_of leaf.now) from slot.end) }
+    ensures lent { IfOk result (IsLentBy (slice (source_of leaf.now) (place_of leaf.now slot.start) (place_of leaf.now (slot.end - 1) + 1))) }
+{
+    if from >= slot.end {
+        return written(alloc, leaf, slot, CowStr::Borrowed(""));
+    }
+    let tag = copied(alloc, &leaf.as_str()[from..slot.end])?;
+    written(alloc, leaf, slot, tag)
 }
 
 // What a code span holds: borrowed where it stands in the source without a gap and no line ends in it.

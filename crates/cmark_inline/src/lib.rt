@@ -21,6 +21,7 @@ mod special;
 mod state;
 mod step;
 mod text;
+mod wikilink;
 
 pub use callback::{BrokenLink, BrokenLinkCallback, DefaultBrokenLinkCallback, OwnedLinkCallback};
 pub use event::Given;

@@ -1,6 +1,6 @@
 //! Quotes, and the characters that they become (this profile's own).
 
-ghost use Rattle.std.specs.Prelude.{◌≡◌, ◌++◌, ◌∷◌, ℕ, List, [], drop, length, map, OnOk};
+ghost use Rattle.std.specs.Prelude.{◌≡◌, ◌<◌, ◌≤◌, ◌++◌, ◌∷◌, ℕ, List, [], drop, take, get_or, length, map, OnOk};
 ghost use Rattle.cmark_inline.specs.Quoted.{characters_of, with_characters};
 ghost use Rattle.cmark_inline.specs.Stands.{AreSlots, NoNewLink};
 ghost use Rattle.cmark_inline.specs.declared.quote.PlacedQuote.{PlacedQuote};
@@ -49,6 +49,26 @@ impl Quotes {
     {
         self.placed.push(PlacedQuote { slot, quote })?;
         Ok(())
+    }
+
+    /// The first quote from one on whose slot is this one or a later one; how many there are, where there is none.
+    pub fn first_from(&self, first: usize, slot: usize) -> usize
+        ensures order { first ≤ result }
+        ensures before { (k : ℕ) (d : PlacedQuote) → first ≤ k → k < result → (get_or self.now.placed.items k d).slot < slot }
+        ensures behind { (d : PlacedQuote) → result < length self.now.placed.items → slot ≤ (get_or self.now.placed.items result d).slot }
+    {
+        let mut at = first;
+        while at < self.placed.len() && self.placed[at].slot < slot {
+            at += 1;
+        }
+        at
+    }
+
+    /// Forgets the quotes from this one on.
+    pub fn truncate(&mut self, first: usize)
+        ensures { self.new.placed.items ≡ take first self.old.placed.items }
+    {
+        self.placed.truncate(first);
     }
 
     /// Gives the quotes from this one on, which are those of one list of siblings, their characters, and forgets them.

@@ -1,6 +1,6 @@
 //! Brackets, and the links and images that they form (CommonMark 6.3 and 6.4).
 
-ghost use Rattle.std.specs.Prelude.{◌≡◌, ◌⊎◌, true, false, ◌<◌, ◌≤◌, ◌+◌, ◌-◌, ◌++◌, ◌∷◌, ℕ, List, [], length, slice_index, IfOk, OnOk, IfSome, Some};
+ghost use Rattle.std.specs.Prelude.{◌≡◌, ◌⊎◌, true, false, ◌<◌, ◌≤◌, ◌+◌, ◌-◌, ◌++◌, ◌∷◌, ℕ, List, [], length, slice_index, IfOk, OnOk, IfSome, None, Some};
 ghost use Rattle.std.specs.Str.{IsCharBoundary};
 ghost use Rattle.cmark_leaf_text.specs.Reads.{IsRead, IsPart, place_of, text_of};
 ghost use Rattle.cmark_grammar.specs.Labels.{fold, normal_form};
@@ -9,7 +9,9 @@ ghost use Rattle.cmark_text.specs.Labelled.{link_text};
 ghost use Rattle.cmark_inline.specs.Linked.{Answers, Refers, left_behind};
 ghost use Rattle.cmark_grammar.specs.Answers.{Lookup};
 ghost use Rattle.cmark_grammar.specs.Options.{Options as Extensions};
+ghost use Rattle.cmark_text.specs.Shown.{shown_options};
 ghost use Rattle.cmark_inline.specs.Asking.{AsksOnce};
+ghost use Rattle.cmark_inline.specs.Doubled.{DropsBehind, doubles};
 ghost use Rattle.cmark_inline.specs.Tokens.{OpensBracket, Passes, PutsBracket};
 ghost use Rattle.cmark_inline.specs.Stands.{HoldNoLink, IsEnd, NoNewLink, AreSlots, AreBrackets, IsBracket, IsCursor, IsSlot, IsTarget, Moves, SameSpans, Stands, bytes_of};
 
@@ -28,7 +30,12 @@ use std::alloc::{AllocError, Global};
 impl<'a> InlineState<'a> {
     // `!`: with a bracket behind it the begin of an image.
     #[tactic(auto, using(std::proofs::lemmas::Str::lead_after_ascii))]
-    pub(crate) fn exclamation(&mut self, text: &str, here: Cursor) -> Result<Cursor, AllocError>
+    pub(crate) fn exclamation(
+        &mut self,
+        options: Options,
+        text: &str,
+        here: Cursor,
+    ) -> Result<Cursor, AllocError>
         requires stands { Stands text.now here.pending self.old }
         requires cursor { IsCursor text.now here }
         requires here { here.at < length text.now }
@@ -39,7 +46,7 @@ impl<'a> InlineState<'a> {
     {
         if is_followed_by(text, here.at, b'[') {
             let inside = behind(text, behind(text, here.at));
-            let next = self.open_bracket(text, here, inside, true)?;
+            let next = self.open_bracket(options, text, here, inside, true)?;
             return Ok(next);
         }
         Ok(pass(text, here))
@@ -48,6 +55,7 @@ impl<'a> InlineState<'a> {
     // A bracket that may open a link or an image.
     pub(crate) fn open_bracket(
         &mut self,
+        options: Options,
         text: &str,
         here: Cursor,
         inside: usize,
@@ -59,6 +67,7 @@ impl<'a> InlineState<'a> {
         ensures expansion { self.new.expansion ≡ self.old.expansion }
         ensures moves { IfOk result (Moves text.now here.at self.new) }
         ensures at { IfOk result (λ next. (next.pending ≡ inside) × (next.at ≡ inside)) }
+        ensures doubles { OnOk result (self.new.doubled.standing.items ≡ doubles (shown_options options) self.old.brackets is_image here.at inside self.old.doubled.standing.items) }
         ensures puts { OnOk result (PutsBracket is_image here.pending here.at inside self.old self.new) }
     {
         self.flush(text, here, here.at)?;
@@ -71,6 +80,7 @@ impl<'a> InlineState<'a> {
             is_image,
         };
         push_slot(&mut self.slots, SlotKind::Text, here.at, inside)?;
+        self.doubled.double(&self.brackets, options, bracket)?;
         self.brackets.push(bracket)?;
         Ok(Cursor {
             pending: inside,
@@ -99,15 +109,12 @@ impl<'a> InlineState<'a> {
     {
         self.flush(text, here, here.at)?;
         let behind_it = behind(text, here.at);
-        if let Some(bracket) = self.take_bracket(text, here.at) {
-            if let Some(target) = self.target(leaf, reader, callback, text, bracket, here.at)? {
-                let past = target.past;
-                self.form(reader.options, text, bracket, here.at, target)?;
-                return Ok(Cursor {
-                    pending: past,
-                    at: past,
-                });
-            }
+        let taken = self.take_bracket(text, here.at);
+        if let Some(next) = self.wikilink(leaf, reader.options, text, here.at)? {
+            return Ok(next);
+        }
+        if let Some(next) = self.link(leaf, reader, callback, text, taken, here.at)? {
+            return Ok(next);
         }
         let slot = Slot {
             kind: SlotKind::Text,
@@ -120,6 +127,41 @@ impl<'a> InlineState<'a> {
         };
         let next = self.put(text, flushed, here.at, slot)?;
         Ok(next)
+    }
+
+    // The link or the image that the bracket forms which was taken, if one was; `None` where it forms none.
+    fn link<E: EntityLookup, F: BrokenLinkCallback<'a>>(
+        &mut self,
+        leaf: &LeafText<'a>,
+        reader: &Reader<'_, 'a, E>,
+        callback: &mut F,
+        text: &str,
+        taken: Option<Bracket>,
+        close: usize,
+    ) -> Result<Option<Cursor>, AllocError>
+        requires stands { Stands text.now close self.old }
+        requires bracket { IfSome taken (IsBracket text.now close) }
+        requires free { IfSome taken (λ bracket. bracket.is_image ≡ false → HoldNoLink self.old.slots.items bracket.slot) }
+        requires close { IsPart text.now close (close + 1) }
+        requires read { IsRead leaf.now }
+        requires same { text.now ≡ text_of leaf.now }
+        ensures asks { AsksOnce F.answers callback.old callback.new }
+        ensures spent { self.old.expansion ≡ 0 → (callback.new ≡ callback.old) × (self.new.expansion ≡ 0) }
+        ensures stands { IfOk result (λ next. next ≡ None → Stands text.now close self.new) }
+        ensures moves { IfOk result (λ next. IfSome next (Moves text.now close self.new)) }
+    {
+        let Some(bracket) = taken else {
+            return Ok(None);
+        };
+        let Some(target) = self.target(leaf, reader, callback, text, bracket, close)? else {
+            return Ok(None);
+        };
+        let past = target.past;
+        self.form(reader.options, text, bracket, close, target)?;
+        Ok(Some(Cursor {
+            pending: past,
+            at: past,
+        }))
     }
 
     // The nearest opening bracket, which is used up, if it can form a link or an image.
@@ -247,11 +289,14 @@ impl<'a> InlineState<'a> {
         ensures expansion { self.new.expansion ≡ self.old.expansion }
         ensures stands { OnOk result (Stands text.now target.entry.past self.new) }
         ensures parts { OnOk result (self.new.links.items ≡ self.old.links.items ++ (target.entry.parts ∷ [])) }
+        ensures doubled { OnOk result (DropsBehind bracket.start self.old.doubled.standing.items self.new.doubled.standing.items) }
+        ensures inactive { OnOk result (bracket.is_image ≡ false → self.new.doubled.shut ≡ length self.new.doubled.standing.items) }
         ensures link { OnOk result (bracket.is_image ≡ false → HoldNoLink self.new.slots.items (bracket.slot + 1)) }
     {
         let Target { parts, end, .. } = target;
         let index = self.links.len();
         self.links.push(parts)?;
+        self.doubled.drop_behind(bracket.start);
         if bracket.is_image {
             begin(&mut self.slots, bracket.slot, Element::Image(index), end);
             self.finish(options, bracket, close, end)?;
@@ -260,11 +305,12 @@ impl<'a> InlineState<'a> {
         begin(&mut self.slots, bracket.slot, Element::Link(index), end);
         self.finish(options, bracket, close, end)?;
         self.brackets.shut_all();
+        self.doubled.shut_all();
         Ok(())
     }
 
     // Ends the link or the image that a bracket began, and resolves the quotes and the delimiter runs in it.
-    fn finish(
+    pub(crate) fn finish(
         &mut self,
         options: Options,
         bracket: Bracket,
@@ -275,6 +321,7 @@ impl<'a> InlineState<'a> {
         ensures table { self.new.links ≡ self.old.links }
         ensures expansion { self.new.expansion ≡ self.old.expansion }
         ensures brackets { self.new.brackets ≡ self.old.brackets }
+        ensures doubled { self.new.doubled ≡ self.old.doubled }
         ensures slots { OnOk result ((text : List ℕ) (place : ℕ) → AreSlots text place self.old.slots.items → IsEnd text place close end → AreSlots text place self.new.slots.items) }
         ensures length { OnOk result (length self.new.slots.items ≡ length self.old.slots.items + 1) }
         ensures links { OnOk result (NoNewLink self.old.slots.items self.new.slots.items) }

@@ -1,10 +1,14 @@
 //! Slots: what stands in a leaf's text, one behind the other.
 
-ghost use Rattle.std.specs.Prelude.{◌≡◌, ◌<◌, ◌≤◌, ◌+◌, ◌++◌, ◌∷◌, false, [], ℕ, List, length, OnOk};
+ghost use Rattle.std.specs.Prelude.{◌≡◌, ◌<◌, ◌≤◌, ◌+◌, ◌++◌, ◌∷◌, ◌&&◌, nat_lt, false, [], ℕ, List, get_or, length, set, OnOk};
 ghost use Rattle.std.specs.Str.{IsCharBoundary};
 ghost use Rattle.cmark_inline.specs.Quoted.{with_character};
-ghost use Rattle.cmark_inline.specs.Stands.{AreSlots, HoldNoLink, NoNewLink, PushesText, is_link};
+ghost use Rattle.cmark_leaf_text.specs.Reads.{IsPart};
+ghost use Rattle.cmark_inline.specs.Stands.{AreSlots, HoldNoLink, IsContent, IsSlot, NoNewLink, PushesText, begins_link, is_link};
+ghost use Rattle.cmark_inline.specs.Wikilinks.{Hides, IsFirstBehind, cut_at, cut_kind, cut_slot, hidden};
+ghost use Rattle.cmark_inline.specs.declared.slot.Slot.{Slot as Slots};
 
+use cmark_finds::has_line_ending;
 use std::alloc::AllocError;
 
 /// An element around other slots.
@@ -46,6 +50,12 @@ pub enum SlotKind {
     InlineHtml,
     /// Inline HTML that is a part of the source, up to before this place there.
     SourceHtml(usize),
+    /// A tag over lines that begins at this place, of which its range has the last bytes.
+    CutHtml(usize),
+    /// A text that is a part of the source, up to before this place there.
+    SourceText(usize),
+    /// A text of no bytes, before those of its range.
+    Empty,
     /// An element begins. The range is the whole element's.
     Begin(Element),
     /// The element that began last ends.
@@ -108,6 +118,7 @@ pub fn use_up(slots: &mut Vec<Slot>, at: usize, ends: bool)
     ensures slots { (text : List ℕ) (place : ℕ) → AreSlots text place slots.old.items → AreSlots text place slots.new.items }
     ensures length { length slots.new.items ≡ length slots.old.items }
     ensures links { NoNewLink slots.old.items slots.new.items }
+    ensures hides { (d : Slots) → ends ≡ false → at < length slots.old.items → slots.new.items ≡ set slots.old.items at (hidden (get_or slots.old.items at d)) }
 {
     if at < slots.len() {
         let slot = slots[at];
@@ -180,6 +191,101 @@ fn use_up_between(slots: &mut Vec<Slot>, first: usize, last: usize)
         let end = last_of(slots[at].kind, at);
         use_up(slots, at, false);
         at = end.min(last);
+    }
+}
+
+/// The index behind that of a slot.
+pub fn behind_slot(slots: &[Slot], at: usize) -> usize
+    ensures there { at < length slots.now → result ≡ at + 1 }
+    ensures past { length slots.now ≤ at → result ≡ length slots.now }
+    ensures within { result ≤ length slots.now }
+{
+    if at < slots.len() {
+        at + 1
+    } else {
+        slots.len()
+    }
+}
+
+/// The index of the first slot from one on that ends behind a place; the number of slots, where none does.
+pub fn first_behind(slots: &[Slot], from: usize, place: usize) -> usize
+    requires { from ≤ length slots.now }
+    ensures { IsFirstBehind slots.now from place result }
+{
+    let mut at = from;
+    while at < slots.len() && slots[at].end <= place {
+        at += 1;
+    }
+    at
+}
+
+/// Makes the slots from one up to before another nothing any more.
+pub fn hide(slots: &mut Vec<Slot>, from: usize, to: usize)
+    requires ordered { from ≤ to }
+    requires within { to ≤ length slots.old.items }
+    ensures hides { Hides from to slots.old.items slots.new.items }
+    ensures slots { (text : List ℕ) (place : ℕ) → AreSlots text place slots.old.items → AreSlots text place slots.new.items }
+    ensures links { NoNewLink slots.old.items slots.new.items }
+{
+    let mut at = from;
+    while at < to {
+        use_up(slots, at, false);
+        at += 1;
+    }
+}
+
+/// Makes a slot begin at a place, if that is inside it. What it holds stays whole, but for a text and for HTML on one line, which
+/// are the bytes of their range.
+pub fn cut(slots: &mut Vec<Slot>, at: usize, text: &str, place: usize)
+    requires slots { (end : ℕ) × AreSlots text.now end slots.old.items }
+    requires place { IsCharBoundary text.now place }
+    ensures value { slots.new.items ≡ cut_at text.now place at slots.old.items }
+    ensures slots { (end : ℕ) → AreSlots text.now end slots.old.items → AreSlots text.now end slots.new.items }
+    ensures length { length slots.new.items ≡ length slots.old.items }
+    ensures links { NoNewLink slots.old.items slots.new.items }
+{
+    if at < slots.len() {
+        let slot = slots[at];
+        slots[at] = cut_slot(slot, text, place);
+    }
+}
+
+// A slot that begins at a place, if that is inside it.
+fn cut_slot(slot: Slot, text: &str, place: usize) -> Slot
+    requires { IsPart text.now slot.start slot.end }
+    ensures value { result ≡ cut_slot text.now place slot }
+    ensures slot { (end : ℕ) → IsSlot text.now end slot → IsCharBoundary text.now place → IsSlot text.now end result }
+    ensures link { begins_link result.kind ≡ begins_link slot.kind }
+{
+    if is_inside(slot, place) {
+        return Slot {
+            kind: cut_kind(slot, text),
+            start: place,
+            end: slot.end,
+        };
+    }
+    slot
+}
+
+// Whether a place is inside a slot.
+fn is_inside(slot: Slot, place: usize) -> bool
+    ensures { result ≡ (nat_lt slot.start place && nat_lt place slot.end) }
+{
+    slot.start < place && place < slot.end
+}
+
+// What a slot stands for that begins behind its first bytes.
+fn cut_kind(slot: Slot, text: &str) -> SlotKind
+    requires { IsPart text.now slot.start slot.end }
+    ensures value { result ≡ cut_kind text.now slot.start slot.end slot.kind }
+    ensures content { IsContent text.now slot.kind → IsContent text.now result }
+    ensures link { begins_link result ≡ begins_link slot.kind }
+{
+    match slot.kind {
+        SlotKind::InlineHtml if has_line_ending(&text[slot.start..slot.end]) => {
+            SlotKind::CutHtml(slot.start)
+        }
+        kind => kind,
     }
 }
 

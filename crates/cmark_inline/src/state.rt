@@ -21,6 +21,8 @@ pub struct InlineState<'a> {
     pub(crate) alloc: Global,
     pub(crate) slots: Vec<Slot>,
     pub(crate) brackets: Brackets,
+    /// Two brackets that touch, each pair as one; the nearest is the last.
+    pub(crate) doubled: Brackets,
     pub(crate) delimiters: Delimiters,
     pub(crate) quotes: Quotes,
     pub(crate) texts: Vec<CowStr<'a>>,
@@ -40,6 +42,7 @@ impl<'a> InlineState<'a> {
             alloc,
             slots: Vec::new(alloc),
             brackets: Brackets::new(alloc),
+            doubled: Brackets::new(alloc),
             delimiters: Delimiters::new(alloc),
             quotes: Quotes::new(alloc),
             texts: Vec::new(alloc),
@@ -56,6 +59,7 @@ impl<'a> InlineState<'a> {
     {
         self.slots.clear();
         self.brackets.clear();
+        self.doubled.clear();
         self.delimiters.clear();
         self.quotes.clear();
         self.texts.clear();

@@ -152,10 +152,11 @@ impl<'a> InlineState<'a> {
             b'&' => self.entity(text, reader.entities, here),
             b'`' => self.backticks(&mut sought.runs, text, here),
             b'<' => self.less_than(&mut sought.unclosed, leaf, text, here),
-            b'!' => self.exclamation(text, here),
+            b'!' => self.exclamation(reader.options, text, here),
             b'$' => self.dollar(&mut sought.dollars, text, here),
             b'[' => {
-                let next = self.open_bracket(text, here, behind(text, here.at), false)?;
+                let inside = behind(text, here.at);
+                let next = self.open_bracket(reader.options, text, here, inside, false)?;
                 Ok(next)
             }
             b'.' => self.dots(text, here),

@@ -33,6 +33,10 @@ returns-then-bracket-clause-stands c =
       few = (let q : length c.finish.new.self.slots.items ≤ past = omega (arith, i, j, few, lt) in q);
       free = subst (λ (v : Brackets). AreFree c.finish.new.self.slots.items v.standing.items v.shut) (sym c.finish.ensures.brackets)
           (free-on ss c.finish.new.self.slots.items c.args.self.now.brackets.standing.items c.args.self.now.brackets.shut s.free (λ from h. c.in_ok-finish.ensures.links from (c.begin.ensures.links refl from h)));
+      doubled = subst (λ (w : Brackets). AreBrackets text past w.standing.items) (sym c.finish.ensures.doubled)
+          (c.drop_behind.ensures.brackets text past (brackets-on text c.args.close past c.args.self.now.doubled.standing.items s.doubled le));
+      doubled_free = subst (λ (w : Brackets). AreFree c.finish.new.self.slots.items w.standing.items w.shut) (sym c.finish.ensures.doubled)
+          (free-on ss c.finish.new.self.slots.items c.drop_behind.new.self.standing.items c.drop_behind.new.self.shut (c.drop_behind.ensures.free ss s.doubled_free) (λ from h. c.in_ok-finish.ensures.links from (c.begin.ensures.links refl from h)));
       runs = (let q : bytes_of c.finish.new.self.delimiters.placed.items ≤ length c.finish.new.self.slots.items = omega (arith, i, j, r, fewer) in q);
     }
 
@@ -57,6 +61,9 @@ returns-clause-stands c =
       brackets = subst (AreBrackets text past) (sym (ap (λ v. v.items) c.shut_all.ensures.standing)) (subst (λ (v : Brackets). AreBrackets text past v.standing.items) (sym c.finish-2.ensures.brackets) (brackets-on text c.args.close past c.args.self.now.brackets.standing.items s.brackets le));
       few = (let q : length c.finish-2.new.self.slots.items ≤ past = omega (arith, i, j, few, lt) in q);
       free = c.shut_all.ensures.free c.finish-2.new.self.slots.items;
+      doubled = subst (AreBrackets text past) (sym (ap (λ v. v.items) c.shut_all-2.ensures.standing)) (subst (λ (w : Brackets). AreBrackets text past w.standing.items) (sym c.finish-2.ensures.doubled)
+          (c.drop_behind.ensures.brackets text past (brackets-on text c.args.close past c.args.self.now.doubled.standing.items s.doubled le)));
+      doubled_free = c.shut_all-2.ensures.free c.finish-2.new.self.slots.items;
       runs = (let q : bytes_of c.finish-2.new.self.delimiters.placed.items ≤ length c.finish-2.new.self.slots.items = omega (arith, i, j, r, fewer) in q);
     }
 

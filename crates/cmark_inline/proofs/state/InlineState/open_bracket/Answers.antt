@@ -1,7 +1,7 @@
 use Rattle.std.proofs.Common.{rules, ◌≡◌, ◌≤◌, ◌<◌, List, ℕ, length, refl, sym, subst, arith}
 use Rattle.std.proofs.lemmas.List.Elements.{All-push}
 use Rattle.cmark_inline.specs.Stands.{AreBrackets, AreFree, HoldNoLink, IsBracket, bytes_of}
-use Rattle.cmark_inline.specs.declared.bracket.Bracket.{Bracket}
+use Rattle.cmark_inline.specs.declared.bracket.Brackets.{Brackets}
 use Rattle.cmark_inline.specs.declared.slot.Slot.{Slot}
 use Rattle.cmark_inline.specs.declared.slot.SlotKind.TheVariants as kind
 use Rattle.cmark_inline.proofs.Steps.{Keeps, free-push, keeps-push, last-holds-none}
@@ -16,22 +16,25 @@ returns-clause-moves c =
     let p = c.requires.part in
     let lt = p.some in
     let f = s.few in
-    let bs : List Bracket = c.flush.new.self.brackets.standing.items in
-    let shut : ℕ = c.flush.new.self.brackets.shut in
+    let v : Brackets = c.flush.new.self.brackets in
+    let w : Brackets = c.flush.new.self.doubled in
     let n : ℕ = bytes_of c.flush.new.self.delimiters.placed.items in
     let ts : List Slot = c.push_slot.new.slots.items in
     let slot : Slot = record { kind = kind.Text; start = at; end = inside } in
-    let k : Keeps text inside c.push_slot.new.slots.items bs shut n = keeps-push text at inside c.flush.new.self.slots.items c.push_slot.new.slots.items slot bs shut n (record { slots = s.slots; brackets = s.brackets; few = f; free = s.free; runs = s.runs })
+    let k : Keeps text inside c.push_slot.new.slots.items v w n = keeps-push text at inside c.flush.new.self.slots.items c.push_slot.new.slots.items slot v w n (record { slots = s.slots; brackets = s.brackets; few = f; free = s.free; doubled = s.doubled; doubled_free = s.doubled_free; runs = s.runs })
     (let q : at ≤ inside = omega (arith, lt) in q) (let q : length c.flush.new.self.slots.items < inside = omega (arith, f, lt) in q) refl
     (record { part = p; before = (let q : inside ≤ inside = omega arith in q); content = tt }) c.in_ok-push_slot.ensures in
+    let is : IsBracket text inside _ = record { part = p; before = (let q : inside ≤ inside = omega arith in q) } in
     record {
       stands = record {
         slots = k.slots;
-        brackets = subst (AreBrackets text inside) (sym c.in_ok-push.ensures.brackets) (All-push (IsBracket text inside) bs _ k.brackets (record { part = p; before = (let q : inside ≤ inside = omega arith in q) }));
+        brackets = subst (AreBrackets text inside) (sym c.in_ok-push.ensures.brackets) (All-push (IsBracket text inside) v.standing.items _ k.brackets is);
         few = k.few;
         free = subst (AreFree ts c.push.new.self.standing.items) (sym c.push.ensures.shut)
-            (free-push ts bs c.push.new.self.standing.items (record { slot = c.len.result; runs = c.len-2.result; quotes = c.len-3.result; start = at; inside = inside; is_image = c.args.is_image }) shut k.free
+            (free-push ts v.standing.items c.push.new.self.standing.items (record { slot = c.len.result; runs = c.len-2.result; quotes = c.len-3.result; start = at; inside = inside; is_image = c.args.is_image }) v.shut k.free
             (subst (HoldNoLink ts) (let q : length c.flush.new.self.slots.items ≡ c.len.result = search rules in q) (last-holds-none c.flush.new.self.slots.items ts slot refl c.in_ok-push_slot.ensures)) c.in_ok-push.ensures.brackets);
+        doubled = c.in_ok-double.ensures.brackets text inside k.brackets k.doubled is;
+        doubled_free = c.in_ok-double.ensures.free ts k.free k.doubled_free;
         runs = k.runs;
       };
       cursor = record { pending = p.ends; at = p.ends; ordered = (let q : inside ≤ inside = omega arith in q) };

@@ -1,6 +1,6 @@
-use Rattle.std.proofs.Common.{List, ℕ, ◌<◌, arith}
+use Rattle.std.proofs.Common.{ℕ, ◌<◌, arith}
 use Rattle.cmark_inline.specs.Stands.{bytes_of}
-use Rattle.cmark_inline.specs.declared.bracket.Bracket.{Bracket}
+use Rattle.cmark_inline.specs.declared.bracket.Brackets.{Brackets}
 use Rattle.cmark_inline.specs.declared.state.InlineState.{InlineState}
 use Rattle.cmark_inline.proofs.Steps.{Keeps, keeps-on}
 use Rattle.cmark_inline.proofs.state.InlineState.put_before_words.Goals as goal
@@ -12,15 +12,15 @@ returns-clause-moves c =
     let new : InlineState = c.put.new.self in
     let at : ℕ = c.in_ok-next.next.pending in
     let line : ℕ = c.words_from-words.result in
-    let bs : List Bracket = new.brackets.standing.items in
-    let shut : ℕ = new.brackets.shut in
+    let v : Brackets = new.brackets in
+    let w : Brackets = new.doubled in
     let n : ℕ = bytes_of new.delimiters.placed.items in
     let le = c.words_from-words.ensures.order in
-    let k : Keeps c.args.text.now line new.slots.items bs shut n = keeps-on c.args.text.now at line new.slots.items bs shut n (record { slots = h.slots; brackets = h.brackets; few = h.few; free = h.free; runs = h.runs }) le in
+    let k : Keeps c.args.text.now line new.slots.items v w n = keeps-on c.args.text.now at line new.slots.items v w n (record { slots = h.slots; brackets = h.brackets; few = h.few; free = h.free; doubled = h.doubled; doubled_free = h.doubled_free; runs = h.runs }) le in
     let e = c.in_ok-next.ensures.end in
     let f = c.requires.further in
     record {
-      stands = record { slots = k.slots; brackets = k.brackets; few = k.few; free = k.free; runs = k.runs };
+      stands = record { slots = k.slots; brackets = k.brackets; few = k.few; free = k.free; doubled = k.doubled; doubled_free = k.doubled_free; runs = k.runs };
       cursor = record { pending = c.words_from-words.ensures.boundary; at = c.words_from-words.ensures.boundary; ordered = omega arith };
       further = (let q : c.args.here.at < line = omega (arith, e, f, le) in q);
     }

@@ -1,0 +1,231 @@
+-- Wikilinks: their names, the slots that they show, and doubled brackets.
+use Rattle.std.specs.Prelude.{Option, Some, None, if◌then◌else◌, not, ◌&&◌, is_some}
+use Rattle.std.proofs.Common.{◌≡◌, ℕ, zero, suc, ◌+◌, ◌-◌, ◌≤◌, ◌<◌, ◌==◌, Bool, true, false, true≢false, List, [], ◌∷◌, length, take, drop, get_or, set, cond, refl, sym, ap, subst, ◌∙◌, arith, nat_lt}
+use Rattle.std.specs.List.{prefix_len}
+use Rattle.std.specs.Str.{IsCharBoundary, IsUtf8}
+use Rattle.std.proofs.lemmas.Bool.{ltb-true, ltb-false}
+use Rattle.std.proofs.lemmas.List.{get_or-take, get_or_default, get_or-set_same, get_or-set_other, length-set, length-take-le}
+use Rattle.std.proofs.lemmas.List.Folds.{length-prefix_len}
+use Rattle.cmark_grammar.specs.Autolinks.{piped_name_in}
+use Rattle.cmark_grammar.specs.BracketDecisions.{name_in, behind_pipe}
+use Rattle.cmark_grammar.specs.Letters.{first_is}
+use Rattle.cmark_scan_parts.specs.Shown.{Part, cut_at}
+use Rattle.cmark_grammar.specs.Tokens.{slice}
+use Rattle.cmark_leaf_text.specs.Reads.{IsPart, IsFirstFrom, place_of}
+use Rattle.cmark_leaf_text.specs.declared.leaf_text.LeafText.{LeafText}
+use Rattle.cmark_leaf_text.proofs.StretchSteps.{slice-length, byte-in-slice}
+use Rattle.cmark_inline.proofs.Steps.{after, part-from}
+use Rattle.cmark_inline.specs.Stands.{AreFree, HoldNoLink, IsContent, IsSlot, NoNewLink, begins_link}
+use Rattle.cmark_inline.specs.Wikilinks.{Hides, IsWikilink, ShowsFrom, hidden, wiki_start, wiki_text}
+use Rattle.cmark_inline.specs.Wikilinks.{cut_at as slots_cut_at, cut_slot}
+use Rattle.cmark_inline.specs.declared.bracket.Bracket.{Bracket}
+use Rattle.cmark_inline.specs.declared.slot.Slot.{Slot}
+use Rattle.cmark_inline.specs.declared.slot.SlotKind.{SlotKind}
+use Rattle.cmark_inline.specs.declared.wikilink.Wikilink.{Wikilink}
+
+-- ## Names
+
+-- how many bytes stand before the first pipe
+abbrev before_pipe : List ℕ → ℕ
+before_pipe bs = prefix_len (λ b. not (b == 124)) bs
+
+abbrev has_pipe : List ℕ → Bool
+has_pipe bs = first_is (λ b. b == 124) (drop (before_pipe bs) bs)
+
+name-front : (bs : List ℕ) → name_in bs ≡ take (before_pipe bs) bs
+name-front [] = refl
+name-front (b ∷ bs) = go (name-front bs) (b == 124) refl
+  where
+    go : name_in bs ≡ take (before_pipe bs) bs → (z : Bool) → (b == 124) ≡ z → (if b == 124 then [] else b ∷ name_in bs) ≡ take (cond (not (b == 124)) (1 + before_pipe bs) 0) (b ∷ bs)
+    go more true e = ap (λ z. if z then [] else b ∷ name_in bs) e ∙ sym (ap (λ z. take (cond (not z) (1 + before_pipe bs) 0) (b ∷ bs)) e)
+    go more false e = ap (λ z. if z then [] else b ∷ name_in bs) e ∙ ap (λ l. b ∷ l) more ∙ ap (λ k. take k (b ∷ bs)) (let q : suc (before_pipe bs) ≡ 1 + before_pipe bs = omega arith in q) ∙ sym (ap (λ z. take (cond (not z) (1 + before_pipe bs) 0) (b ∷ bs)) e)
+
+pipe-there : (at : ℕ) (bs : List ℕ) → has_pipe bs ≡ true → behind_pipe at bs ≡ Some (at + suc (before_pipe bs))
+pipe-there at [] h = absurd (true≢false (sym h))
+pipe-there at (b ∷ bs) h = go (λ more. pipe-there (suc at) bs more) (b == 124) refl
+  where
+    go : (has_pipe bs ≡ true → behind_pipe (suc at) bs ≡ Some (suc at + suc (before_pipe bs))) → (z : Bool) → (b == 124) ≡ z → (if b == 124 then Some (suc at) else behind_pipe (suc at) bs) ≡ Some (at + suc (cond (not (b == 124)) (1 + before_pipe bs) 0))
+    go more true e =
+        ap (λ z. if z then Some (suc at) else behind_pipe (suc at) bs) e ∙ ap Some (let q : suc at ≡ at + 1 = omega arith in q)
+        ∙ sym (ap (λ z. Some (at + suc (cond (not z) (1 + before_pipe bs) 0))) e)
+    go more false e =
+        ap (λ z. if z then Some (suc at) else behind_pipe (suc at) bs) e
+        ∙ more (ap (λ k. first_is (λ c. c == 124) (drop k (b ∷ bs))) (let q : suc (before_pipe bs) ≡ 1 + before_pipe bs = omega arith in q) ∙ sym (ap (λ z. first_is (λ c. c == 124) (drop (cond (not z) (1 + before_pipe bs) 0) (b ∷ bs))) e) ∙ h)
+        ∙ ap Some (let q : suc at + suc (before_pipe bs) ≡ at + suc (1 + before_pipe bs) = omega arith in q)
+        ∙ sym (ap (λ z. Some (at + suc (cond (not z) (1 + before_pipe bs) 0))) e)
+
+no-pipe : (at : ℕ) (bs : List ℕ) → has_pipe bs ≡ false → (name_in bs ≡ bs) × (behind_pipe at bs ≡ None)
+no-pipe at [] h = (refl, refl)
+no-pipe at (b ∷ bs) h = go (λ more. no-pipe (suc at) bs more) (b == 124) refl
+  where
+    go : (has_pipe bs ≡ false → (name_in bs ≡ bs) × (behind_pipe (suc at) bs ≡ None)) → (z : Bool) → (b == 124) ≡ z → ((if b == 124 then [] else b ∷ name_in bs) ≡ b ∷ bs) × ((if b == 124 then Some (suc at) else behind_pipe (suc at) bs) ≡ None)
+    go more true e = absurd (true≢false (sym e ∙ sym (ap (λ z. first_is (λ c. c == 124) (drop (cond (not z) (1 + before_pipe bs) 0) (b ∷ bs))) e) ∙ h))
+    go more false e =
+        let rest = more (ap (λ k. first_is (λ c. c == 124) (drop k (b ∷ bs))) (let q : suc (before_pipe bs) ≡ 1 + before_pipe bs = omega arith in q) ∙ sym (ap (λ z. first_is (λ c. c == 124) (drop (cond (not z) (1 + before_pipe bs) 0) (b ∷ bs))) e) ∙ h) in
+        (ap (λ z. if z then [] else b ∷ name_in bs) e ∙ ap (λ l. b ∷ l) rest.0, ap (λ z. if z then Some (suc at) else behind_pipe (suc at) bs) e ∙ rest.1)
+
+pub whole-name : (at : ℕ) (bs : List ℕ) → None ≡ cut_at 0 (piped_name_in bs) → (name_in bs ≡ bs) × (behind_pipe at bs ≡ None)
+whole-name at bs h = go (has_pipe bs) refl
+  where
+    go : (z : Bool) → has_pipe bs ≡ z → (name_in bs ≡ bs) × (behind_pipe at bs ≡ None)
+    go false e = no-pipe at bs e
+    go true e = absurd (true≢false (sym (ap is_some (h ∙ ap (λ z. cut_at 0 (if z then Some (record { bytes = take (before_pipe bs) bs; behind = drop (suc (before_pipe bs)) bs }) else None)) e))))
+
+abbrev end_in : Option Part → ℕ
+end_in None = 0
+end_in (Some part) = part.end
+
+abbrev bytes_in : Option Part → List ℕ
+bytes_in None = []
+bytes_in (Some part) = part.bytes
+
+pub first-name : (at : ℕ) (bs : List ℕ) (part : Part) → Some part ≡ cut_at 0 (piped_name_in bs) → (name_in bs ≡ part.bytes) × (behind_pipe at bs ≡ Some (at + part.end))
+first-name at bs part h = go (has_pipe bs) refl
+  where
+    cut : Bool → Option Part
+    cut z = cut_at 0 (if z then Some (record { bytes = take (before_pipe bs) bs; behind = drop (suc (before_pipe bs)) bs }) else None)
+
+    go : (z : Bool) → has_pipe bs ≡ z → (name_in bs ≡ part.bytes) × (behind_pipe at bs ≡ Some (at + part.end))
+    go true e =
+        let same : Some part ≡ Some (record { end = 0 + suc (length (take (before_pipe bs) bs)); bytes = take (before_pipe bs) bs }) = h ∙ ap cut e in
+        let n = length-prefix_len (λ b. not (b == 124)) bs in
+        let k : part.end ≡ 0 + suc (length (take (before_pipe bs) bs)) = ap end_in same in (
+          name-front bs ∙ sym (ap bytes_in same),
+          pipe-there at bs e ∙ ap (λ k. Some (at + k)) (let q : suc (before_pipe bs) ≡ part.end = omega (arith, k, n) in q),
+        )
+    go false e = absurd (true≢false (ap is_some (h ∙ ap cut e)))
+
+-- ## What is hidden
+pub hides-none : (from : ℕ) (ss : List Slot) → Hides from from ss ss
+hides-none from ss = record { size = refl; inside = λ k d low high. absurd (omega (arith, low, high)); before = λ k d lt. refl; behind = λ k d le. refl }
+
+pub hides-more : (from at : ℕ) (old ss ts : List Slot) (d : Slot) → Hides from at old ss → from ≤ at → at < length ss → ts ≡ set ss at (hidden (get_or ss at d)) → Hides from (at + 1) old ts
+hides-more from at old ss ts d0 h le lt e = record {
+  size = ap length e ∙ length-set ss at (hidden (get_or ss at d0)) ∙ h.size;
+  inside = λ k d low high. ap (λ (l : List Slot). get_or l k d) e ∙ go k d low (nat_lt k at) refl (omega (arith, high));
+  before = λ k d low. ap (λ (l : List Slot). get_or l k d) e ∙ get_or-set_other ss at k (hidden (get_or ss at d0)) d (λ (q : k ≡ at). absurd (omega (arith, q, low, le))) ∙ h.before k d low;
+  behind = λ k d low. ap (λ (l : List Slot). get_or l k d) e ∙ get_or-set_other ss at k (hidden (get_or ss at d0)) d (λ (q : k ≡ at). absurd (omega (arith, q, low))) ∙ h.behind k d (omega (arith, low));
+}
+  where
+    same-there : (k : ℕ) (d : Slot) → k ≡ at → get_or ss at d0 ≡ get_or old k d
+    same-there k d q = get_or_default ss at d0 d lt ∙ h.behind at d (omega arith) ∙ ap (λ n. get_or old n d) (sym q)
+
+    go : (k : ℕ) (d : Slot) → from ≤ k → (z : Bool) → nat_lt k at ≡ z → k ≤ at → get_or (set ss at (hidden (get_or ss at d0))) k d ≡ hidden (get_or old k d)
+    go k d low true b m =
+        let lt2 = ltb-true k at b in
+        get_or-set_other ss at k (hidden (get_or ss at d0)) d (λ (q : k ≡ at). absurd (omega (arith, q, lt2))) ∙ h.inside k d low lt2
+    go k d low false b m =
+        let g = ltb-false k at b in
+        let q : k ≡ at = omega (arith, g, m) in
+        ap (λ n. get_or (set ss at (hidden (get_or ss at d0))) n d) q ∙ get_or-set_same ss at (hidden (get_or ss at d0)) d lt ∙ ap hidden (same-there k d q)
+
+-- ## Brackets that are dropped
+pub free-take : (ss : List Slot) (bs cs : List Bracket) (n shut less : ℕ) → AreFree ss bs shut → cs ≡ take n bs → n ≤ length bs → (less < shut → n ≤ less) → AreFree ss cs less
+free-take ss bs cs n shut less h e le small = subst (λ (l : List Bracket). AreFree ss l less) (sym e) (λ i d low lt.
+    let m = length-take-le n bs le in
+    let high : i < n = omega (arith, lt, m) in
+    subst (λ (b : Bracket). HoldNoLink ss b.slot) (sym (get_or-take n bs i d high))
+    (h i d (go i low high (nat_lt less shut) refl) (omega (arith, high, le))))
+  where
+    go : (i : ℕ) → less ≤ i → i < n → (z : Bool) → nat_lt less shut ≡ z → shut ≤ i
+    go i low high true b = let s = small (ltb-true less shut b) in absurd (omega (arith, s, low, high))
+    go i low high false b = let g = ltb-false less shut b in omega (arith, g, low)
+
+-- ## Places
+pub slice-edge : (source : List ℕ) (a b k : ℕ) → IsPart source a b → IsCharBoundary (slice source a b) k → IsCharBoundary source (a + k)
+slice-edge source a b k there h = go (nat_lt k (b - a)) refl
+  where
+    sized : length (slice source a b) ≡ b - a
+    sized = slice-length source a b there.within
+
+    go : (z : Bool) → nat_lt k (b - a) ≡ z → IsCharBoundary source (a + k)
+    go true e =
+        let lt = ltb-true k (b - a) e in
+        let w = there.within in
+        let same = byte-in-slice source a b k lt w in (
+          (let q : a + k ≤ length source = omega (arith, lt, w) in q),
+          (λ l big. subst (λ b. 192 ≤ b) same (h.1 (let q : k < length (slice source a b) = omega (arith, lt, sized) in q) (subst (λ b. 128 ≤ b) (sym same) big))),
+        )
+    go false e =
+        let g = ltb-false k (b - a) e in
+        let l = h.0 in
+        let some = there.some in
+        subst (IsCharBoundary source) (let q : b ≡ a + k = omega (arith, g, l, sized, some) in q) there.ends
+
+-- ## A slot that is cut
+pub cut-there : (text : List ℕ) (place at : ℕ) (slots : List Slot) (d : Slot) → at < length slots → set slots at (cut_slot text place (get_or slots at d)) ≡ slots_cut_at text place at slots
+cut-there text place at [] d lt = absurd (omega (arith, lt))
+cut-there text place zero (slot ∷ slots) d lt = refl
+cut-there text place (suc at) (slot ∷ slots) d lt = ap (λ (l : List Slot). slot ∷ l) (cut-there text place at slots d (let q : at < length slots = omega (arith, lt) in q))
+
+pub cut-past : (text : List ℕ) (place at : ℕ) (slots : List Slot) → length slots ≤ at → slots ≡ slots_cut_at text place at slots
+cut-past text place at [] le = refl
+cut-past text place zero (slot ∷ slots) le = absurd (omega (arith, le))
+cut-past text place (suc at) (slot ∷ slots) le = ap (λ (l : List Slot). slot ∷ l) (cut-past text place at slots (let q : length slots ≤ at = omega (arith, le) in q))
+
+second : (x y : Bool) → (x && y) ≡ true → y ≡ true
+second true y e = e
+second false y e = absurd (true≢false (sym e))
+
+pub cut-stays : (text : List ℕ) (place end : ℕ) (slot : Slot) (k : SlotKind) → IsSlot text end slot → IsCharBoundary text place → (nat_lt slot.start place && nat_lt place slot.end) ≡ true → IsContent text k
+    → IsSlot text end (record { kind = k; start = place; end = slot.end })
+cut-stays text place end slot k h edge inside content = record {
+  part = record { some = ltb-true place slot.end (second (nat_lt slot.start place) (nat_lt place slot.end) inside); within = h.part.within; starts = edge; ends = h.part.ends };
+  before = h.before;
+  content = content;
+}
+
+pub no-new-set : (ss ts : List Slot) (at : ℕ) (s d0 : Slot) → at < length ss → begins_link s.kind ≡ begins_link (get_or ss at d0).kind → ts ≡ set ss at s → NoNewLink ss ts
+no-new-set ss ts at s d0 lt same e = subst (NoNewLink ss) (sym e) (λ from h k d low high.
+    let n = length-set ss at s in
+    let there : k < length ss = omega (arith, high, n) in
+    go from h k d low there (nat_lt k at) (nat_lt at k) refl refl)
+  where
+    go : (from : ℕ) → HoldNoLink ss from → (k : ℕ) (d : Slot) → from ≤ k → k < length ss → (y z : Bool) → nat_lt k at ≡ y → nat_lt at k ≡ z → begins_link (get_or (set ss at s) k d).kind ≡ false
+    go from h k d low there true z b c = let l = ltb-true k at b in ap (λ (t : Slot). begins_link t.kind) (get_or-set_other ss at k s d (λ (q : k ≡ at). absurd (omega (arith, q, l)))) ∙ h k d low there
+    go from h k d low there false true b c = let l = ltb-true at k c in ap (λ (t : Slot). begins_link t.kind) (get_or-set_other ss at k s d (λ (q : k ≡ at). absurd (omega (arith, q, l)))) ∙ h k d low there
+    go from h k d low there false false b c =
+        let g = ltb-false k at b in
+        let f = ltb-false at k c in
+        let q : k ≡ at = omega (arith, g, f) in
+        ap (λ n. begins_link (get_or (set ss at s) n d).kind) q ∙ ap (λ (t : Slot). begins_link t.kind) (get_or-set_same ss at s d lt) ∙ same
+        ∙ ap (λ (t : Slot). begins_link t.kind) (get_or_default ss at d0 d lt) ∙ ap (λ n. begins_link (get_or ss n d).kind) (sym q) ∙ h k d low there
+
+-- ## What a wikilink is
+module _ (leaf : LeafText) (doubled : Bracket) (close : ℕ) (wikilink : Wikilink) (written : List ℕ) where
+  pub is-whole : written ≡ wiki_text leaf doubled close → None ≡ cut_at 0 (piped_name_in written) → wikilink.name.now ≡ written → wikilink.display ≡ None → wikilink.source_end ≡ place_of leaf close → 0 < length written
+      → IsWikilink leaf doubled close wikilink
+  is-whole same none name display ends some =
+      let h = whole-name (wiki_start leaf doubled) written none in
+      record {
+        name = name ∙ sym h.0 ∙ ap name_in same;
+        some = subst (λ (bs : List ℕ). 0 < length bs) (sym name) some;
+        display = shows wikilink.display display (behind_pipe (wiki_start leaf doubled) (wiki_text leaf doubled close)) (ap (behind_pipe (wiki_start leaf doubled)) (sym same) ∙ h.1);
+        ends = ends;
+      }
+    where
+      shows : (at : Option ℕ) → at ≡ None → (place : Option ℕ) → place ≡ None → ShowsFrom leaf place at
+      shows at e place f = subst (ShowsFrom leaf place) (sym e) (subst (λ (p : Option ℕ). ShowsFrom leaf p None) (sym f) tt)
+
+  pub is-piped : (part : Part) (at : ℕ) → written ≡ wiki_text leaf doubled close → Some part ≡ cut_at 0 (piped_name_in written) → wikilink.name.now ≡ part.bytes → wikilink.display ≡ Some at
+      → IsFirstFrom leaf (wiki_start leaf doubled + part.end) at → wikilink.source_end ≡ place_of leaf close → 0 < length part.bytes → IsWikilink leaf doubled close wikilink
+  is-piped part at same found name display first ends some =
+      let h = first-name (wiki_start leaf doubled) written part found in
+      record {
+        name = name ∙ sym h.0 ∙ ap name_in same;
+        some = subst (λ (bs : List ℕ). 0 < length bs) (sym name) some;
+        display = shows wikilink.display display (behind_pipe (wiki_start leaf doubled) (wiki_text leaf doubled close)) (ap (behind_pipe (wiki_start leaf doubled)) (sym same) ∙ h.1);
+        ends = ends;
+      }
+    where
+      shows : (o : Option ℕ) → o ≡ Some at → (place : Option ℕ) → place ≡ Some (wiki_start leaf doubled + part.end) → ShowsFrom leaf place o
+      shows o e place f = subst (ShowsFrom leaf place) (sym e) (subst (λ (p : Option ℕ). ShowsFrom leaf p (Some at)) (sym f) first)
+
+  -- no name
+  pub no-name : (part : Part) → written ≡ wiki_text leaf doubled close → Some part ≡ cut_at 0 (piped_name_in written) → length part.bytes ≡ 0 → length (name_in (wiki_text leaf doubled close)) ≡ 0
+  no-name part same found none = ap (λ bs. length (name_in bs)) (sym same) ∙ ap length ((first-name 0 written part found).0) ∙ none
+
+pub two-brackets : (text : List ℕ) (close : ℕ) → IsUtf8 text → IsPart text close (close + 1) → close + 1 < length text → get_or text (close + 1) 0 ≡ 93 → IsPart text close (close + 2)
+two-brackets text close u part within byte =
+    let edge = after text (close + 1) u within (let q : get_or text (close + 1) 0 < 128 = omega (arith, byte) in q) in
+    part-from text close (close + 2) part.starts (subst (IsCharBoundary text) (let q : close + 1 + 1 ≡ close + 2 = omega arith in q) edge) (let q : close < close + 2 = omega arith in q)

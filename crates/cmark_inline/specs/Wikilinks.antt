@@ -1,0 +1,112 @@
+-- What a wikilink is between its brackets, and the slots that it shows (this profile's own).
+use Rattle.std.specs.Prelude.{◌≡◌, ◌==◌, ℕ, zero, suc, ◌+◌, ◌-◌, ◌≤◌, ◌<◌, nat_lt, Bool, true, false, ◌&&◌, if◌then◌else◌, List, [], ◌∷◌, ◌++◌, length, drop, get_or, Option, None, Some}
+use Rattle.cmark_grammar.specs.BracketDecisions.{name_in, behind_pipe}
+use Rattle.cmark_grammar.specs.InlineHtml.{takes_lines}
+use Rattle.cmark_grammar.specs.Letters.{first_is}
+use Rattle.cmark_grammar.specs.LinkType as link
+use Rattle.cmark_grammar.specs.Options.{Options}
+use Rattle.cmark_grammar.specs.Tokens.{slice}
+use Rattle.cmark_leaf_text.specs.declared.leaf_text.LeafText.{LeafText}
+use Rattle.cmark_leaf_text.specs.Reads.{IsFirstFrom, place_of, source_of, text_of}
+use Rattle.cmark_text.specs.Shown.{shown_link_type, text_bytes}
+use Rattle.cmark_inline.specs.Doubled.{nearest}
+use Rattle.cmark_inline.specs.declared.bracket.Bracket.{Bracket}
+use Rattle.cmark_inline.specs.declared.bracket.Brackets.{Brackets}
+use Rattle.cmark_inline.specs.declared.link.LinkParts.{LinkParts}
+use Rattle.cmark_inline.specs.declared.slot.Slot.{Slot}
+use Rattle.cmark_inline.specs.declared.slot.SlotKind.{SlotKind}
+use Rattle.cmark_inline.specs.declared.slot.SlotKind.TheVariants as kind
+use Rattle.cmark_inline.specs.declared.wikilink.Wikilink.{Wikilink}
+
+-- what stands in the source between a doubled bracket and a closing one
+abbrev pub wiki_start : LeafText → Bracket → ℕ
+wiki_start leaf doubled = place_of leaf (doubled.inside - 1) + 1
+
+abbrev pub wiki_text : LeafText → Bracket → (close : ℕ) → List ℕ
+wiki_text leaf doubled close = slice (source_of leaf) (wiki_start leaf doubled) (place_of leaf close)
+
+-- what it shows begins at the first byte of the leaf's text that stands at or behind this place of the source
+abbrev pub ShowsFrom : LeafText → Option ℕ → Option ℕ → Type 0
+ShowsFrom leaf None None = Unit {0}
+ShowsFrom leaf (Some place) (Some at) = IsFirstFrom leaf place at
+ShowsFrom leaf None (Some at) = ⊥
+ShowsFrom leaf (Some place) None = ⊥
+
+-- its name is what stands before the first pipe, and what it shows begins behind that
+pub record IsWikilink (leaf : LeafText) (doubled : Bracket) (close : ℕ) (wikilink : Wikilink) : Type 0 where
+  pub name : wikilink.name.now ≡ name_in (wiki_text leaf doubled close)
+  pub some : 0 < length wikilink.name.now
+  pub display : ShowsFrom leaf (behind_pipe (wiki_start leaf doubled) (wiki_text leaf doubled close)) wikilink.display
+  pub ends : wikilink.source_end ≡ place_of leaf close
+
+abbrev pub has_pothole : Option ℕ → Bool
+has_pothole None = false
+has_pothole (Some at) = true
+
+-- its name is where it leads, and it has no title and no label
+pub record IsNamed (wikilink : Wikilink) (parts : LinkParts) : Type 0 where
+  pub form : shown_link_type parts.link_type ≡ link.WikiLink (has_pothole wikilink.display)
+  pub destination : text_bytes parts.dest_url ≡ wikilink.name.now
+  pub title : text_bytes parts.title ≡ []
+  pub id : text_bytes parts.id ≡ []
+
+-- a closing bracket directly before another one forms a wikilink with the nearest doubled bracket, if that is active, and something
+-- stands between the two, and the name is not empty
+abbrev pub is_wikilink : LeafText → (close : ℕ) → Option (Bracket × Bool) → Bool
+is_wikilink leaf close None = false
+is_wikilink leaf close (Some nearest) = nearest.1 && (nat_lt nearest.0.inside close && nat_lt 0 (length (name_in (wiki_text leaf nearest.0 close))))
+
+abbrev pub forms_wikilink : Options → LeafText → (close : ℕ) → (doubled : Brackets) → Bool
+forms_wikilink options leaf close doubled =
+    options.wikilinks && (first_is (λ b. b == 93) (drop (close + 1) (text_of leaf)) && is_wikilink leaf close (nearest doubled))
+
+-- ## What it shows
+
+-- the first slot from one on that ends behind a place
+pub record IsFirstBehind (slots : List Slot) (from place at : ℕ) : Type 0 where
+  pub order : from ≤ at
+  pub within : at ≤ length slots
+  pub before : (k : ℕ) (d : Slot) → from ≤ k → k < at → (get_or slots k d).end ≤ place
+  pub behind : (d : Slot) → at < length slots → place < (get_or slots at d).end
+
+-- the slots from one to before another became nothing
+abbrev pub hidden : Slot → Slot
+hidden slot = record { kind = kind.Nothing; start = slot.start; end = slot.end }
+
+pub record Hides (from to : ℕ) (old new : List Slot) : Type 0 where
+  pub size : length new ≡ length old
+  pub inside : (k : ℕ) (d : Slot) → from ≤ k → k < to → get_or new k d ≡ hidden (get_or old k d)
+  pub before : (k : ℕ) (d : Slot) → k < from → get_or new k d ≡ get_or old k d
+  pub behind : (k : ℕ) (d : Slot) → to ≤ k → get_or new k d ≡ get_or old k d
+
+-- a slot that begins at a place inside it: a tag over lines stays whole
+abbrev pub cut_kind : (text : List ℕ) → (start end : ℕ) → SlotKind → SlotKind
+cut_kind text start end kind.InlineHtml = if takes_lines (slice text start end) then kind.CutHtml start else kind.InlineHtml
+cut_kind text start end other = other
+
+abbrev pub cut_slot : (text : List ℕ) → (place : ℕ) → Slot → Slot
+cut_slot text place slot =
+    if nat_lt slot.start place && nat_lt place slot.end then record { kind = cut_kind text slot.start slot.end slot.kind; start = place; end = slot.end } else slot
+
+abbrev pub cut_at : (text : List ℕ) → (place at : ℕ) → List Slot → List Slot
+cut_at text place at [] = []
+cut_at text place zero (slot ∷ slots) = cut_slot text place slot ∷ slots
+cut_at text place (suc at) (slot ∷ slots) = slot ∷ cut_at text place at slots
+
+-- behind those it shows its name, or a text of no bytes
+abbrev pub shown_name : Bracket → (close source_end : ℕ) → Option ℕ → List Slot
+shown_name doubled close source_end None = record { kind = kind.SourceText source_end; start = doubled.inside; end = close } ∷ []
+shown_name doubled close source_end (Some place) = if place == close then record { kind = kind.Empty; start = close; end = close + 1 } ∷ [] else []
+
+abbrev pub display_place : (close : ℕ) → Option ℕ → ℕ
+display_place close None = close
+display_place close (Some place) = place
+
+-- of the slots behind a doubled bracket those stay that a wikilink shows
+pub record Shows (text : List ℕ) (doubled : Bracket) (close : ℕ) (wikilink : Wikilink) (old new : List Slot) (at : ℕ) : Type 0 where
+  pub from : ℕ
+  pub behind : doubled.slot < length old → from ≡ doubled.slot + 1
+  pub first : IsFirstBehind old from (display_place close wikilink.display) at
+  pub between : List Slot
+  pub hides : Hides from at old between
+  pub slots_are : new ≡ cut_at text (display_place close wikilink.display) at between ++ shown_name doubled close wikilink.source_end wikilink.display

@@ -1,0 +1,217 @@
+//! Wikilinks (this profile's own).
+
+ghost use Rattle.std.specs.Prelude.{◌≡◌, ◌⊎◌, ◌≤◌, ◌<◌, ◌+◌, ◌++◌, ◌∷◌, true, false, is_some, ℕ, List, [], length, IfOk, OnOk, IfSome, None};
+ghost use Rattle.std.specs.Str.{IsCharBoundary};
+ghost use Rattle.cmark_grammar.specs.BracketDecisions.{name_in};
+ghost use Rattle.cmark_leaf_text.specs.Reads.{IsRead, IsPart, text_of};
+ghost use Rattle.cmark_text.specs.Shown.{shown_options};
+ghost use Rattle.cmark_inline.specs.Doubled.{DropsBehind};
+ghost use Rattle.cmark_inline.specs.Stands.{AreSlots, HoldNoLink, IsBracket, Moves, NoNewLink, Stands};
+ghost use Rattle.cmark_inline.specs.Wikilinks.{IsNamed, IsWikilink, Shows, forms_wikilink, wiki_text};
+ghost use Rattle.cmark_inline.specs.declared.link.LinkParts.{LinkParts as Parts};
+ghost use Rattle.cmark_inline.specs.declared.wikilink.Wikilink.{Wikilink as Found};
+
+use crate::bracket::Bracket;
+use crate::link::LinkParts;
+use crate::place::is_followed_by;
+use crate::slot::{Element, SlotKind, begin, behind_slot, cut, first_behind, hide, push_slot};
+use crate::state::InlineState;
+use crate::step::Cursor;
+use bitflags::Flags;
+use cmark_leaf_text::LeafText;
+use cmark_scan_parts::scan_wikilink_pipe;
+use cmark_text::{CowStr, LinkType, Options};
+use std::alloc::AllocError;
+
+/// A wikilink as it is written between its brackets.
+#[derive(Clone, Copy, Debug)]
+pub struct Wikilink<'a> {
+    /// What stands in the source before the first pipe.
+    pub name: &'a str,
+    /// The place behind the first pipe, if there is one.
+    pub display: Option<usize>,
+    /// Where the closing bracket stands in the source.
+    pub source_end: usize,
+}
+
+/// The wikilink of a doubled bracket and the closing one at `close`. Its name is a part of the source, with the prefixes of later
+/// lines. `None` where nothing stands between the two, or no name.
+fn wikilink_at<'a>(
+    leaf: &LeafText<'a>,
+    text: &str,
+    doubled: Bracket,
+    close: usize,
+) -> Option<Wikilink<'a>>
+    requires read { IsRead leaf.now }
+    requires same { text.now ≡ text_of leaf.now }
+    requires doubled { IsBracket text.now close doubled }
+    requires close { IsPart text.now close (close + 1) }
+    ensures is { IfSome result (IsWikilink leaf.now doubled close) }
+    ensures none { result ≡ None → (close ≤ doubled.inside) ⊎ (length (name_in (wiki_text leaf.now doubled close)) ≡ 0) }
+    ensures display { IfSome result (λ wikilink. IfSome wikilink.display (λ place. IsCharBoundary text.now place × (place ≤ close))) }
+    ensures inside { IfSome result (λ wikilink. doubled.inside < close) }
+{
+    if close <= doubled.inside {
+        return None;
+    }
+    let start = leaf.range(doubled.start, doubled.inside).end;
+    let source_end = leaf.range(close, close + 1).start;
+    if source_end <= start {
+        return None;
+    }
+    let written = leaf.source_at(start, source_end);
+    let Some(piped) = scan_wikilink_pipe(written, 0, written.len()) else {
+        return Some(Wikilink {
+            name: written,
+            display: None,
+            source_end,
+        });
+    };
+    if piped.part.is_empty() {
+        return None;
+    }
+    Some(Wikilink {
+        name: piped.part,
+        display: Some(leaf.first_from(start + piped.end)),
+        source_end,
+    })
+}
+
+impl<'a> InlineState<'a> {
+    // The wikilink that the closing bracket at `close` ends with another one behind it: the nearest doubled bracket is tried, and
+    // so used up. `None` where it forms none.
+    pub(crate) fn wikilink(
+        &mut self,
+        leaf: &LeafText<'a>,
+        options: Options,
+        text: &str,
+        close: usize,
+    ) -> Result<Option<Cursor>, AllocError>
+        requires stands { Stands text.now close self.old }
+        requires close { IsPart text.now close (close + 1) }
+        requires read { IsRead leaf.now }
+        requires same { text.now ≡ text_of leaf.now }
+        ensures forms { IfOk result (λ next. is_some next ≡ forms_wikilink (shown_options options) leaf.now close self.old.doubled) }
+        ensures next { IfOk result (λ next. IfSome next (λ next. (next.pending ≡ close + 2) × (next.at ≡ close + 2))) }
+        ensures moves { IfOk result (λ next. IfSome next (Moves text.now close self.new)) }
+        ensures stands { IfOk result (λ next. next ≡ None → Stands text.now close self.new) }
+        ensures others { IfOk result (λ next. next ≡ None → self.new ≡ record self.old { doubled = self.new.doubled }) }
+        ensures off { (shown_options options).wikilinks ≡ false → self.new ≡ self.old }
+        ensures expansion { self.new.expansion ≡ self.old.expansion }
+    {
+        if !options.contains(Options::ENABLE_WIKILINKS) || !is_followed_by(text, close, b']') {
+            return Ok(None);
+        }
+        let Some((doubled, forms)) = self.doubled.take() else {
+            return Ok(None);
+        };
+        if !forms {
+            return Ok(None);
+        }
+        let Some(wikilink) = wikilink_at(leaf, text, doubled, close) else {
+            return Ok(None);
+        };
+        self.form_wikilink(options, text, doubled, close, wikilink)?;
+        Ok(Some(Cursor {
+            pending: close + 2,
+            at: close + 2,
+        }))
+    }
+
+    // Forms a wikilink: no doubled bracket before it is tried any more, and no bracket before it forms a link.
+    fn form_wikilink(
+        &mut self,
+        options: Options,
+        text: &str,
+        doubled: Bracket,
+        close: usize,
+        wikilink: Wikilink<'a>,
+    ) -> Result<(), AllocError>
+        requires stands { Stands text.now close self.old }
+        requires doubled { IsBracket text.now close doubled }
+        requires inside { doubled.inside < close }
+        requires end { IsPart text.now close (close + 2) }
+        requires middle { IsCharBoundary text.now (close + 1) }
+        requires display { IfSome wikilink.display (λ place. IsCharBoundary text.now place × (place ≤ close)) }
+        requires free { doubled.is_image ≡ false → HoldNoLink self.old.slots.items doubled.slot }
+        ensures expansion { self.new.expansion ≡ self.old.expansion }
+        ensures stands { OnOk result (Stands text.now (close + 2) self.new) }
+        ensures parts { OnOk result ((parts : Parts) × IsNamed wikilink.entry parts × (self.new.links.items ≡ self.old.links.items ++ (parts ∷ []))) }
+        ensures link { OnOk result (doubled.is_image ≡ false → HoldNoLink self.new.slots.items (doubled.slot + 1)) }
+        ensures runs { OnOk result (length self.new.delimiters.placed.items ≤ doubled.runs) }
+        ensures quotes { OnOk result (length self.new.quotes.placed.items ≤ doubled.quotes) }
+        ensures brackets { OnOk result (DropsBehind doubled.start self.old.brackets.standing.items self.new.brackets.standing.items) }
+        ensures inactive { OnOk result (self.new.brackets.shut ≡ length self.new.brackets.standing.items) }
+        ensures tried { OnOk result (self.new.doubled.standing.items ≡ []) }
+    {
+        let end = close + 2;
+        let index = self.links.len();
+        self.links.push(LinkParts {
+            link_type: LinkType::WikiLink {
+                has_pothole: wikilink.display.is_some(),
+            },
+            dest_url: CowStr::Borrowed(wikilink.name),
+            title: CowStr::Borrowed(""),
+            id: CowStr::Borrowed(""),
+        })?;
+        let inside = self.show(text, doubled, close, wikilink)?;
+        let element = if doubled.is_image {
+            Element::Image(index)
+        } else {
+            Element::Link(index)
+        };
+        begin(&mut self.slots, doubled.slot, element, end);
+        self.finish(options, inside, close, end)?;
+        self.quotes.truncate(doubled.quotes);
+        self.delimiters.truncate(doubled.runs);
+        self.brackets.drop_behind(doubled.start);
+        self.brackets.shut_all();
+        self.doubled.clear();
+        Ok(())
+    }
+
+    // Leaves of the slots behind a doubled bracket those that its wikilink shows: its name as one text, or what stands behind the
+    // pipe, where the slot that holds the byte there begins there. The answer is the bracket with what is shown as its inside.
+    fn show(
+        &mut self,
+        text: &str,
+        doubled: Bracket,
+        close: usize,
+        wikilink: Wikilink<'a>,
+    ) -> Result<Bracket, AllocError>
+        requires stands { Stands text.now close self.old }
+        requires doubled { IsBracket text.now close doubled }
+        requires inside { doubled.inside < close }
+        requires end { IsPart text.now close (close + 1) }
+        requires display { IfSome wikilink.display (λ place. IsCharBoundary text.now place × (place ≤ close)) }
+        ensures shows { OnOk result ((at : ℕ) × Shows text.now doubled close wikilink.entry self.old.slots.items self.new.slots.items at) }
+        ensures slots { OnOk result ((end : ℕ) → AreSlots text.now close self.old.slots.items → close < end → AreSlots text.now end self.new.slots.items) }
+        ensures length { OnOk result (length self.new.slots.items ≤ length self.old.slots.items + 1) }
+        ensures longer { OnOk result (length self.old.slots.items ≤ length self.new.slots.items) }
+        ensures links { OnOk result (NoNewLink self.old.slots.items self.new.slots.items) }
+        ensures bracket { IfOk result (λ inside. inside.slot ≡ doubled.slot) }
+        ensures others { self.new ≡ record self.old { slots = self.new.slots } }
+    {
+        let place = wikilink.display.unwrap_or(close);
+        let from = behind_slot(&self.slots, doubled.slot);
+        let shown = first_behind(&self.slots, from, place);
+        hide(&mut self.slots, from, shown);
+        cut(&mut self.slots, shown, text, place);
+        let inside = Bracket {
+            runs: self.delimiters.first_from(doubled.runs, shown),
+            quotes: self.quotes.first_from(doubled.quotes, shown),
+            ..doubled
+        };
+        match wikilink.display {
+            None => {
+                let name = SlotKind::SourceText(wikilink.source_end);
+                push_slot(&mut self.slots, name, doubled.inside, close)?;
+            }
+            Some(place) if place == close => {
+                push_slot(&mut self.slots, SlotKind::Empty, close, close + 1)?;
+            }
+            Some(_) => {}
+        }
+        Ok(inside)
+    }
+}
