@@ -5,7 +5,7 @@ use Rattle.cmark_grammar.specs.Answers.{Lookup}
 use Rattle.cmark_grammar.specs.Options.{Options}
 use Rattle.cmark_grammar.specs.Rows.{Row, start_of, begin_of, words_of, is_blank_line, shown}
 use Rattle.cmark_grammar.specs.HtmlBlocks.{holds_end}
-use Rattle.cmark_grammar.specs.Containers.{Container, Quote, Item, is_alert, enter, strips, is_bare_start}
+use Rattle.cmark_grammar.specs.Containers.{Container, Quote, Item, Footnote, is_alert, enter, strips, is_bare_start}
 use Rattle.cmark_grammar.specs.Openings.{Leaf, ThematicBreak, AtxHeading, IndentedCode, FencedCode, HtmlBlock, LinkDefinition, Opening, Blank, Nests, Takes, Plain, opens, opens_at, MetadataBlock}
 use Rattle.cmark_grammar.specs.Blocks.{Blocks, Nil as NoBlocks, BlankLine, Paragraph, SetextHeading, LeafBlock, ContainerBlock, join as join_blocks, behind_leaf, behind_container, place_in}
 use Rattle.cmark_grammar.specs.Places.{Place, Apart, BehindLazy, BehindTask, BehindTitle, is_behind_task, over_blank}
@@ -27,6 +27,7 @@ module _ (text : List ℕ) (options : Options) (lookup : Lookup) where
 
   container-begins : (k : Container) (r : Row) (l : Level) (outer : List OpenContainer) (n : ℕ) → container_begun k r (pass_with l outer false Closed n) ≡ pass_with (entered k r l) (outer ++ container_at text options lookup k r l ∷ []) false Closed n
   container-begins (Quote alert) r l outer n = refl
+  container-begins (Footnote label old size) r l outer n = refl
   container-begins (Item mark number width) r l outer n = go l.inner.list
     where
       same : (z : Bool) (o : OpenList) → inside_of (Item mark number width) (node_opened (begin_of r) document.ListItem (if z then list_goes_on o (pass_with l outer false Closed n) else list_begun mark number (begin_of r) (pass_with l outer false Closed n)))
@@ -49,14 +50,17 @@ module _ (text : List ℕ) (options : Options) (lookup : Lookup) where
 
   bare-start : (k : Container) (r : Row) → is_bare_start k r ≡ true → is_blank_line (enter k r) ≡ true
   bare-start (Quote alert) r e = absurd (true≢false (sym e))
+  bare-start (Footnote label old size) r e = absurd (true≢false (sym e))
   bare-start (Item mark number width) r e = e
 
   bare-item : (k : Container) (r : Row) → is_bare_start k r ≡ true → is_item k ≡ true
   bare-item (Quote alert) r e = absurd (true≢false (sym e))
+  bare-item (Footnote label old size) r e = absurd (true≢false (sym e))
   bare-item (Item mark number width) r e = refl
 
   bare-none : (k : Container) (r : Row) → is_bare_start k r ≡ false → is_blank_line (enter k r) ≡ true → is_item k ≡ false
   bare-none (Quote alert) r e b = refl
+  bare-none (Footnote label old size) r e b = refl
   bare-none (Item mark number width) r e b = absurd (true≢false (sym b ∙ e))
 
   pub enter-past : (k : Container) (r : Row) → (enter k r).past ≡ r.past
@@ -121,6 +125,7 @@ module _ (text : List ℕ) (options : Options) (lookup : Lookup) where
   -- an alert's first line is not blank behind the marker
   alert-whole : (k : Container) (r : Row) → is_alert k ≡ true → is_bare_start k r ≡ false
   alert-whole (Quote alert) r e = refl
+  alert-whole (Footnote label old size) r e = refl
   alert-whole (Item mark number width) r e = absurd (true≢false (sym e))
 
   bare-begins : (m : ℕ) (k : Container) (r : Row) (ahead : List Row) → is_bare_start k r ≡ false → bare_at (is_item k) (inside_begun (suc m) k r ahead) ≡ bare_at false (inside_begun (suc m) k r ahead)
@@ -155,6 +160,7 @@ module _ (text : List ℕ) (options : Options) (lookup : Lookup) where
   -- no container's first line stands behind a task marker
   in-plain : (k : Container) → is_behind_task (place_in k) ≡ false
   in-plain (Quote None) = refl
+  in-plain (Footnote label old size) = refl
   in-plain (Quote (Some alert)) = refl
   in-plain (Item mark number width) = refl
 

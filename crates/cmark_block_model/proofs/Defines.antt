@@ -3,7 +3,7 @@ use Rattle.std.proofs.Common.{◌≡◌, ◌==◌, ℕ, Bool, true, false, List,
 use Rattle.cmark_grammar.specs.Options.{Options}
 use Rattle.cmark_grammar.specs.Answers.{Lookup}
 use Rattle.cmark_grammar.specs.Rows.{Row, past_of, begin_of, start_of}
-use Rattle.cmark_grammar.specs.Containers.{Quote, Item}
+use Rattle.cmark_grammar.specs.Containers.{Quote, Item, Footnote}
 use Rattle.cmark_grammar.specs.Openings.{Leaf, ThematicBreak, AtxHeading, IndentedCode, FencedCode, HtmlBlock, LinkDefinition, MetadataBlock}
 use Rattle.cmark_grammar.specs.Blocks.{Blocks, Nil as NoBlocks, BlankLine, Paragraph, SetextHeading, LeafBlock, ContainerBlock}
 use Rattle.cmark_grammar.specs.Lists.{ListBefore, tight_behind, goes_on}
@@ -61,6 +61,10 @@ module _ (text : List ℕ) (options : Options) (lookup : Lookup) where
   defines (ContainerBlock (Quote alert) first more inside after) direct before l =
       defines after direct None (left_by (Quote alert) (standing (Quote alert) first l).inner (past_of first more) (replay text options lookup inside (entered (Quote alert) first l)))
       ∙ ap (λ r. r ++ references (document_of text options lookup direct None after)) (defines inside false None (entered (Quote alert) first l))
+      ∙ append_assoc l.references (references (document_of text options lookup false None inside)) (references (document_of text options lookup direct None after))
+  defines (ContainerBlock (Footnote label old size) first more inside after) direct before l =
+      defines after direct None (left_by (Footnote label old size) (standing (Footnote label old size) first l).inner (past_of first more) (replay text options lookup inside (entered (Footnote label old size) first l)))
+      ∙ ap (λ r. r ++ references (document_of text options lookup direct None after)) (defines inside false None (entered (Footnote label old size) first l))
       ∙ append_assoc l.references (references (document_of text options lookup false None inside)) (references (document_of text options lookup direct None after))
   defines (ContainerBlock (Item mark number width) first more inside after) direct before l =
       let k = Item mark number width in

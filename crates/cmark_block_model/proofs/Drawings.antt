@@ -5,7 +5,7 @@ use Rattle.cmark_grammar.specs.Answers.{Lookup}
 use Rattle.cmark_grammar.specs.Options.{Options}
 use Rattle.cmark_grammar.specs.Event.{End, Ranged}
 use Rattle.cmark_grammar.specs.TagEnd.{end_of}
-use Rattle.cmark_grammar.specs.BlockDocument.{BlockKind, Paragraph, TightParagraph, Heading, ThematicBreak, IndentedCode, FencedCode, HtmlBlock, LinkDefinition, MetadataBlock, BlockQuote, BlockList, ListItem, Text, OwnedText, Html, BlockNode, BlockDocument, Nil, Node}
+use Rattle.cmark_grammar.specs.BlockDocument.{BlockKind, Paragraph, TightParagraph, Heading, ThematicBreak, IndentedCode, FencedCode, HtmlBlock, LinkDefinition, MetadataBlock, BlockQuote, BlockList, ListItem, FootnoteDefinition, Text, OwnedText, Html, BlockNode, BlockDocument, Nil, Node}
 use Rattle.cmark_grammar.specs.BlockReading.{Reads, Around, Inside, Alone, Silent, read_as, over, node_events, block_reading}
 use Rattle.cmark_grammar.specs.Derivation.{Derives, document}
 use Rattle.cmark_grammar.specs.DrawnDocument.{is_definition, node_unless, settled, without_definitions}
@@ -32,6 +32,7 @@ silent (FencedCode info) e = absurd (let q : false ≡ true = e in cc)
 silent HtmlBlock e = absurd (let q : false ≡ true = e in cc)
 silent (MetadataBlock kind) e = absurd (let q : false ≡ true = e in cc)
 silent (BlockQuote alert) e = absurd (let q : false ≡ true = e in cc)
+silent (FootnoteDefinition label) e = absurd (let q : false ≡ true = e in cc)
 silent (BlockList number tight) e = absurd (let q : false ≡ true = e in cc)
 silent ListItem e = absurd (let q : false ≡ true = e in cc)
 silent (Text bytes) e = absurd (let q : false ≡ true = e in cc)

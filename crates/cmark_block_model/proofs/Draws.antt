@@ -4,7 +4,8 @@ use Rattle.cmark_grammar.specs.Options.{Options}
 use Rattle.cmark_grammar.specs.Answers.{Lookup}
 use Rattle.cmark_grammar.specs.Attributes.{no_attributes}
 use Rattle.cmark_grammar.specs.Rows.{Row, past_of, begin_of, start_of}
-use Rattle.cmark_grammar.specs.Containers.{Quote, Item}
+use Rattle.cmark_grammar.specs.Labels.{normal_form}
+use Rattle.cmark_grammar.specs.Containers.{Quote, Item, Footnote}
 use Rattle.cmark_grammar.specs.Openings.{Leaf, ThematicBreak, AtxHeading, IndentedCode, FencedCode, HtmlBlock, LinkDefinition, MetadataBlock}
 use Rattle.cmark_grammar.specs.Blocks.{Blocks, Nil as NoBlocks, BlankLine, Paragraph, SetextHeading, LeafBlock, ContainerBlock}
 use Rattle.cmark_grammar.specs.Lists.{ends_blank, is_parted_item, loose_from, is_tight}
@@ -169,6 +170,11 @@ module _ (text : List ℕ) (options : Options) (lookup : Lookup) where
       alone after (draws after h.1) s v here up (Node (node (document.BlockQuote alert) (start_of first) (past_of first more)) (split text options lookup None inside).after Nil) _ (p || blank) _
       (ap (closed_at (past_of first more)) (inside-draws inside (draws inside h.0) (opened (start_of first) (document.BlockQuote alert) d) rs))
       (loose_at s blank (ContainerBlock (Quote alert) first more inside after)) (loose-none s blank (ContainerBlock (Quote alert) first more inside after) (λ mark. refl))
+  draws (ContainerBlock (Footnote label old size) first more inside after) h s v here up blank p rs =
+      let d = list_closed (list_of s) (drawing_at s v here up) in
+      alone after (draws after h.1) s v here up (Node (node (document.FootnoteDefinition (normal_form label)) (start_of first) (past_of first more)) (split text options lookup None inside).after Nil) _ (p || blank) _
+      (ap (closed_at (past_of first more)) (inside-draws inside (draws inside h.0) (opened (start_of first) (document.FootnoteDefinition (normal_form label)) d) rs))
+      (loose_at s blank (ContainerBlock (Footnote label old size) first more inside after)) (loose-none s blank (ContainerBlock (Footnote label old size) first more inside after) (λ mark. refl))
   draws (ContainerBlock (Item mark number width) first more inside after) h s v here up blank p rs = go s (draws inside h.1) (draws after h.2)
     where
       same : Draws inside → Draws after → (z : Bool) (o : OpenList) → (o.mark == mark) ≡ z → finished (replay text options lookup after (left_by (Item mark number width) (item_if z mark number (begin_of first) o (level_of (InList o) (record { here = here; up = v ∷ up }) blank p rs)).inner (past_of first more)

@@ -5,7 +5,7 @@ use Rattle.std.proofs.lemmas.List.Sums.{take_while-cons}
 use Rattle.cmark_grammar.specs.Options.{Options}
 use Rattle.cmark_grammar.specs.Columns.{Column, is_blank, indent, without_indent}
 use Rattle.cmark_grammar.specs.Rows.{Row, rows, shown, is_bare, is_blank_line, indent_of, without}
-use Rattle.cmark_grammar.specs.Containers.{Container, Quote, Item, enter, keeps, strip, strip_as, strips, is_bare_start, insides}
+use Rattle.cmark_grammar.specs.Containers.{Container, Quote, Item, Footnote, enter, keeps, strip, strip_as, strips, is_bare_start, insides}
 use Rattle.cmark_grammar.specs.Openings.{opens_at, Blank}
 use Rattle.cmark_grammar.specs.Blocks.{Blocks, Nil, BlankLine, Paragraph, SetextHeading, LeafBlock, ContainerBlock, behind_leaf, place_in, Body}
 use Rattle.cmark_grammar.specs.Places.{Place, Apart, BehindTitle, over_blank}
@@ -78,6 +78,7 @@ module _ (options : Options) where
   filled (SetextHeading level first more underline after) behind all h = filled after Apart h.rest h.after
   filled (LeafBlock leaf first more after) behind all h = filled after (behind_leaf leaf) h.rest h.after
   filled (ContainerBlock (Quote alert) first more inside after) behind all h = (filled inside (place_in (Quote alert)) (insides (Quote alert) first more) h.contents, filled after Apart h.rest h.after)
+  filled (ContainerBlock (Footnote label old size) first more inside after) behind all h = (filled inside (place_in (Footnote label old size)) (insides (Footnote label old size) first more) h.contents, filled after Apart h.rest h.after)
   filled (ContainerBlock (Item mark number width) first more inside after) behind all h =
       (nearly mark number width first more inside h.contents, filled inside Apart (insides (Item mark number width) first more) h.contents, filled after Apart h.rest h.after)
 

@@ -3,7 +3,7 @@ use Rattle.std.proofs.Common.{◌≡◌, ℕ, Bool, true, false, ◌==◌, ◌||
 use Rattle.cmark_grammar.specs.Options.{Options}
 use Rattle.cmark_grammar.specs.Answers.{Lookup}
 use Rattle.cmark_grammar.specs.Rows.{past_of, begin_of}
-use Rattle.cmark_grammar.specs.Containers.{Quote, Item}
+use Rattle.cmark_grammar.specs.Containers.{Quote, Item, Footnote}
 use Rattle.cmark_grammar.specs.Blocks.{Blocks, Nil, BlankLine, Paragraph, SetextHeading, LeafBlock, ContainerBlock}
 use Rattle.cmark_grammar.specs.Lists.{ends_blank, ItemWith, parted}
 use Rattle.cmark_grammar.specs.BlockDocument as document
@@ -68,6 +68,7 @@ module _ (text : List ℕ) (options : Options) (lookup : Lookup) where
   blank_behind (SetextHeading level first more underline after) h s f d blank p rs = blank_behind after h Behind tt _ false (p || blank) rs
   blank_behind (LeafBlock leaf first more after) h s f d blank p rs = blank_behind after h Behind tt _ false (p || blank) _
   blank_behind (ContainerBlock (Quote alert) first more inside after) h s f d blank p rs = blank_behind after h.1 Behind tt _ false (p || blank) _
+  blank_behind (ContainerBlock (Footnote label old size) first more inside after) h s f d blank p rs = blank_behind after h.1 Behind tt _ false (p || blank) _
   blank_behind (ContainerBlock (Item mark number width) first more inside after) h s f d blank p rs =
       go s (λ d1 rs1. blank_behind inside h.1 First h.0 d1 false false rs1) (λ o1 d1 b1 p1 rs1. blank_behind after h.2 (InList o1) tt d1 b1 p1 rs1)
     where
@@ -102,6 +103,7 @@ module _ (text : List ℕ) (options : Options) (lookup : Lookup) where
   parted_behind (SetextHeading level first more underline after) h s d blank p rs = parted_behind after h Behind _ false (p || blank) rs ∙ or-assoc p blank _
   parted_behind (LeafBlock leaf first more after) h s d blank p rs = parted_behind after h Behind _ false (p || blank) _ ∙ or-assoc p blank _
   parted_behind (ContainerBlock (Quote alert) first more inside after) h s d blank p rs = parted_behind after h.1 Behind _ false (p || blank) _ ∙ or-assoc p blank _
+  parted_behind (ContainerBlock (Footnote label old size) first more inside after) h s d blank p rs = parted_behind after h.1 Behind _ false (p || blank) _ ∙ or-assoc p blank _
   parted_behind (ContainerBlock (Item mark number width) first more inside after) h s d blank p rs =
       go s (λ o1 d1 b1 p1 rs1. parted_behind after h.2 (InList o1) d1 b1 p1 rs1)
     where

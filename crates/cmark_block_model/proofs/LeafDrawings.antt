@@ -5,7 +5,7 @@ use Rattle.cmark_grammar.specs.Options.{Options}
 use Rattle.cmark_grammar.specs.Event.{End}
 use Rattle.cmark_grammar.specs.TagEnd.{end_of}
 use Rattle.cmark_grammar.specs.Rows.{Row, first_place, begin_of, start_of, past_of}
-use Rattle.cmark_grammar.specs.Containers.{Quote, Item}
+use Rattle.cmark_grammar.specs.Containers.{Quote, Item, Footnote}
 use Rattle.cmark_grammar.specs.Openings.{Leaf, ThematicBreak as ThematicBreakLeaf, AtxHeading as AtxHeadingLeaf, IndentedCode as IndentedCodeLeaf, FencedCode as FencedCodeLeaf, HtmlBlock as HtmlBlockLeaf, LinkDefinition as LinkDefinitionLeaf, MetadataBlock as MetadataBlockLeaf}
 use Rattle.cmark_grammar.specs.Blocks.{Blocks, Nil as NoBlocks, BlankLine, Paragraph as ParagraphBlock, SetextHeading, LeafBlock, ContainerBlock}
 use Rattle.cmark_grammar.specs.Lists.{ListBefore, tight_behind, goes_on}
@@ -108,6 +108,7 @@ document-whole text options lookup direct before (SetextHeading level first more
     (λ e. stretches-free text (start_of first) first more, stretches-whole text (start_of first) first more, document-whole text options lookup direct None after)
 document-whole text options lookup direct before (LeafBlock leaf first more after) = leaf-whole text options lookup leaf first more (document_of text options lookup direct None after) (document-whole text options lookup direct None after)
 document-whole text options lookup direct before (ContainerBlock (Quote alert) first more inside after) = (λ e. no-leaf false refl _ e, document-whole text options lookup false None inside, document-whole text options lookup direct None after)
+document-whole text options lookup direct before (ContainerBlock (Footnote label old size) first more inside after) = (λ e. no-leaf false refl _ e, document-whole text options lookup false None inside, document-whole text options lookup direct None after)
 document-whole text options lookup direct before (ContainerBlock (Item mark number width) first more inside after) =
     let tight = tight_behind before mark inside after in
     item-whole (goes_on mark after) number tight (begin_of first) (past_of first more) (document_of text options lookup tight None inside) (document_of text options lookup direct (Some (record { mark = mark; tight = tight })) after)

@@ -4,7 +4,8 @@ use Rattle.cmark_grammar.specs.Options.{Options}
 use Rattle.cmark_grammar.specs.Answers.{Lookup}
 use Rattle.cmark_grammar.specs.Attributes.{no_attributes}
 use Rattle.cmark_grammar.specs.Rows.{Row, start_of, begin_of, past_of}
-use Rattle.cmark_grammar.specs.Containers.{Container, Quote, Item}
+use Rattle.cmark_grammar.specs.Labels.{normal_form}
+use Rattle.cmark_grammar.specs.Containers.{Container, Quote, Item, Footnote}
 use Rattle.cmark_grammar.specs.Openings.{Leaf, ThematicBreak, AtxHeading, IndentedCode, FencedCode, HtmlBlock, LinkDefinition, MetadataBlock}
 use Rattle.cmark_grammar.specs.Blocks.{Blocks, Nil, BlankLine, Paragraph, SetextHeading, LeafBlock, ContainerBlock, join}
 use Rattle.cmark_grammar.specs.Tokens.{paragraph_tokens}
@@ -55,6 +56,7 @@ level_drawn d l = record l { drawing = drawn d l.drawing }
 -- a container begins: its node is open, and these are the siblings that it stands behind
 abbrev pub standing : Container → Row → Level → Level
 standing (Quote alert) r l = level_opened (start_of r) (document.BlockQuote alert) (begun l)
+standing (Footnote label old size) r l = level_opened (start_of r) (document.FootnoteDefinition (normal_form label)) (begun l)
 standing (Item mark number width) r l = level_opened (begin_of r) document.ListItem (item_level mark number (begin_of r) l l.inner.list)
 
 abbrev pub entered : Container → Row → Level → Level

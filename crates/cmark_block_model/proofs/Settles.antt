@@ -5,7 +5,8 @@ use Rattle.cmark_grammar.specs.Options.{Options}
 use Rattle.cmark_grammar.specs.Answers.{Lookup}
 use Rattle.cmark_grammar.specs.Attributes.{no_attributes}
 use Rattle.cmark_grammar.specs.Rows.{Row, past_of, begin_of, start_of}
-use Rattle.cmark_grammar.specs.Containers.{Quote, Item}
+use Rattle.cmark_grammar.specs.Labels.{normal_form}
+use Rattle.cmark_grammar.specs.Containers.{Quote, Item, Footnote}
 use Rattle.cmark_grammar.specs.Openings.{Leaf, ThematicBreak, AtxHeading, IndentedCode, FencedCode, HtmlBlock, LinkDefinition, MetadataBlock}
 use Rattle.cmark_grammar.specs.Blocks.{Blocks, Nil as NoBlocks, BlankLine, Paragraph, SetextHeading, LeafBlock, ContainerBlock}
 use Rattle.cmark_grammar.specs.Lists.{ListBefore, is_tight, tight_behind, goes_on}
@@ -109,6 +110,8 @@ module _ (text : List ℕ) (options : Options) (lookup : Lookup) where
       stands direct before _ _ (leaf-settles leaf first more direct (split text options lookup None after).after (document_of text options lookup direct None after) (settles after direct None))
   settles (ContainerBlock (Quote alert) first more inside after) direct before =
       stands direct before _ _ (node-same (node (document.BlockQuote alert) (start_of first) (past_of first more)) (settles inside false None) (settles after direct None))
+  settles (ContainerBlock (Footnote label old size) first more inside after) direct before =
+      stands direct before _ _ (node-same (node (document.FootnoteDefinition (normal_form label)) (start_of first) (past_of first more)) (settles inside false None) (settles after direct None))
   settles (ContainerBlock (Item mark number width) first more inside after) direct before =
       go before (λ t. settles inside t None) (λ t. settles after direct (Some (record { mark = mark; tight = t })))
     where

@@ -5,7 +5,8 @@ use Rattle.cmark_grammar.specs.Options.{Options}
 use Rattle.cmark_grammar.specs.Answers.{Lookup}
 use Rattle.cmark_grammar.specs.Attributes.{no_attributes}
 use Rattle.cmark_grammar.specs.Rows.{Row, start_of, begin_of, past_of}
-use Rattle.cmark_grammar.specs.Containers.{Quote, Item}
+use Rattle.cmark_grammar.specs.Labels.{normal_form}
+use Rattle.cmark_grammar.specs.Containers.{Quote, Item, Footnote}
 use Rattle.cmark_grammar.specs.Openings.{Leaf, ThematicBreak, AtxHeading, IndentedCode, FencedCode, HtmlBlock, LinkDefinition, MetadataBlock}
 use Rattle.cmark_grammar.specs.Blocks.{Blocks, Nil as NoBlocks, BlankLine, Paragraph, SetextHeading, LeafBlock, ContainerBlock}
 use Rattle.cmark_grammar.specs.Lists.{is_tight}
@@ -57,5 +58,7 @@ module _ (text : List ℕ) (options : Options) (lookup : Lookup) where
   split mark (LeafBlock leaf first more after) = lone (leaf_raw leaf first more (split None after).after)
   split mark (ContainerBlock (Quote alert) first more inside after) =
       lone (Node (node (document.BlockQuote alert) (start_of first) (past_of first more)) (split None inside).after (split None after).after)
+  split mark (ContainerBlock (Footnote label old size) first more inside after) =
+      lone (Node (node (document.FootnoteDefinition (normal_form label)) (start_of first) (past_of first more)) (split None inside).after (split None after).after)
   split mark (ContainerBlock (Item m number width) first more inside after) =
       item_split (is_mark mark m) number (is_tight m inside after) (begin_of first) (past_of first more) (split None inside).after (split (Some m) after)

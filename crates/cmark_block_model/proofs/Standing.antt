@@ -2,7 +2,7 @@
 use Rattle.std.specs.Prelude.{ℕ, Bool, true, false, List, Option, Some, None}
 use Rattle.cmark_grammar.specs.BlockDocument.{Reference}
 use Rattle.cmark_grammar.specs.Blocks.{Blocks, Nil, BlankLine, Paragraph, SetextHeading, LeafBlock, ContainerBlock}
-use Rattle.cmark_grammar.specs.Containers.{Quote, Item}
+use Rattle.cmark_grammar.specs.Containers.{Quote, Item, Footnote}
 use Rattle.cmark_grammar.specs.Lists.{Before, NoBlock, Other, ItemWith}
 use Rattle.cmark_block_model.specs.Drawing.{Drawing}
 use Rattle.cmark_block_model.specs.OpenBlocks.{OpenList}
@@ -83,4 +83,5 @@ HasFilledItems (Paragraph first more after) = HasFilledItems after
 HasFilledItems (SetextHeading level first more underline after) = HasFilledItems after
 HasFilledItems (LeafBlock leaf first more after) = HasFilledItems after
 HasFilledItems (ContainerBlock (Quote alert) first more inside after) = HasFilledItems inside × HasFilledItems after
+HasFilledItems (ContainerBlock (Footnote label old size) first more inside after) = HasFilledItems inside × HasFilledItems after
 HasFilledItems (ContainerBlock (Item mark number width) first more inside after) = IsNearlyFilled inside × HasFilledItems inside × HasFilledItems after

@@ -6,13 +6,14 @@ use Rattle.cmark_grammar.specs.Options.{Options}
 use Rattle.cmark_grammar.specs.Rows.{Row, rows, shown, first_place, begin_of, start_of, words_of}
 use Rattle.cmark_grammar.specs.Leaves.{Further, GoesOn, Closes, Waits, Stops, underlines, code_further, closes_fence}
 use Rattle.cmark_grammar.specs.HtmlBlocks.{holds_end, html_further}
-use Rattle.cmark_grammar.specs.Containers.{Container, Quote, Item, is_alert, enter, keeps, strips}
+use Rattle.cmark_grammar.specs.Containers.{Container, Quote, Item, Footnote, is_alert, enter, keeps, strips}
 use Rattle.cmark_grammar.specs.Openings.{Leaf, ThematicBreak, AtxHeading, IndentedCode, FencedCode, HtmlBlock, LinkDefinition, Opening, Blank, Nests, Takes, Plain, opens, texts, lazily, MetadataBlock}
 use Rattle.cmark_grammar.specs.Tokens.{Piece, resolved, words_end, stretch_then, heading_tokens, heading_attributes, verbatim_line, html_then, code_columns}
 use Rattle.cmark_grammar.specs.Derivation.{stop_of, reference_of}
 use Rattle.cmark_grammar.specs.BlockDocument as document
 use Rattle.cmark_grammar.specs.BlockDocument.{BlockDocument, BlockKind, Reference, Nil, Node, node}
 use Rattle.cmark_grammar.specs.BlockQuoteKind.{BlockQuoteKind}
+use Rattle.cmark_grammar.specs.Labels.{normal_form}
 use Rattle.cmark_grammar.specs.Metadata.{ends_metadata}
 use Rattle.cmark_block_model.specs.Drawing.{Drawing, drawn, opened, closed_as, closed_at}
 use Rattle.cmark_block_model.specs.CodeLines.{code_line, rest_of, texts_of}
@@ -66,17 +67,22 @@ node_opened start kind p = record p { drawing = opened start kind p.drawing }
 abbrev pub quote_begun : (alert : Option BlockQuoteKind) → (start : ℕ) → Pass → Pass
 quote_begun alert start p = inside_of (Quote alert) (node_opened start (document.BlockQuote alert) (block_begun p))
 
+abbrev pub footnote_begun : (label : List ℕ) → (old : Bool) → (size start : ℕ) → Pass → Pass
+footnote_begun label old size start p = inside_of (Footnote label old size) (node_opened start (document.FootnoteDefinition (normal_form label)) (block_begun p))
+
 abbrev pub item_begun_in : (mark : ℕ) → Option ℕ → (width start : ℕ) → Pass → Pass
 item_begun_in mark number width start p = inside_of (Item mark number width) (node_opened start document.ListItem (item_begun mark number start p p.inner.list))
 
 -- a container begins on a line
 abbrev pub container_begun : Container → Row → Pass → Pass
 container_begun (Quote alert) r p = quote_begun alert (start_of r) p
+container_begun (Footnote label old size) r p = footnote_begun label old size (start_of r) p
 container_begun (Item mark number width) r p = item_begun_in mark number width (begin_of r) p
 
 -- the siblings that a closed container stands behind
 abbrev pub behind_container : Container → (end : ℕ) → (inside around : Siblings) → Siblings
 behind_container (Quote alert) end inside around = around
+behind_container (Footnote label old size) end inside around = around
 behind_container (Item mark number width) end inside around = siblings_behind_item end inside around
 
 -- the innermost container closed
@@ -90,6 +96,7 @@ container_closed c outer p = record p {
 abbrev pub is_item : Container → Bool
 is_item (Quote alert) = false
 is_item (Item mark number width) = true
+is_item (Footnote label old size) = false
 
 -- behind an alert's tag its line begins nothing more
 abbrev pub inside_begun : (is_alert : Bool) → (outside begun : Pass) → Pass

@@ -96,5 +96,7 @@ module _ (text : List ℕ) (options : Options) (lookup : Lookup) where
 -- what is left is behind the prefixes of the containers that keep the line
 pub behind-more : (line rest inside : LineRest) (k : Container) (bare : Bool) → ((g : grammar.Container) → Shows k g → Some (row_of inside) ≡ keeps g bare (row_of rest)) → IsBehind line rest → IsBehind line inside
 behind-more line rest inside container.Quote bare keep h = behind-next line rest inside (grammar.Quote None) bare (keep (grammar.Quote None) tt) h
+behind-more line rest inside (container.Footnote old) bare keep h =
+    behind-next line rest inside (grammar.Footnote [] old 0) bare (keep (grammar.Footnote [] old 0) refl) h
 behind-more line rest inside (container.Item width) bare keep h =
     behind-next line rest inside (grammar.Item 45 None width) bare (keep (grammar.Item 45 None width) refl) h

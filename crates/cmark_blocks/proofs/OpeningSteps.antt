@@ -3,7 +3,7 @@ use Rattle.std.proofs.Common.{◌≡◌, ℕ, Bool, true, false, ◌&&◌, nat_l
 use Rattle.std.specs.Prelude.{unwrap_or}
 use Rattle.cmark_grammar.specs.Rows.{Row, words_of, is_blank_line, indent_of}
 use Rattle.cmark_grammar.specs.BlockQuoteKind.{BlockQuoteKind}
-use Rattle.cmark_grammar.specs.Containers.{Container, Quote, Item, Marker, marker_of, item_with, item_of, container_with, container_of, is_quote, width_with}
+use Rattle.cmark_grammar.specs.Containers.{Container, Quote, Item, Footnote, Marker, marker_of, item_with, item_of, container_with, container_of, is_quote, width_with}
 use Rattle.cmark_grammar.specs.HtmlBlocks.{html_kind}
 use Rattle.cmark_grammar.specs.Leaves.{Fence, is_parted, run, is_thematic_break, is_atx_heading, fence_of, counted, code_further}
 use Rattle.cmark_grammar.specs.LinkDefinitions.{Defined, definition_in, bytes_over}
@@ -25,12 +25,14 @@ MarkerNumbered (Some m) = Numbered m.mark m.number
 abbrev pub ContainerNumbered : Option Container → Type 0
 ContainerNumbered None = Unit {0}
 ContainerNumbered (Some (Quote alert)) = Unit {0}
+ContainerNumbered (Some (Footnote label old size)) = Unit {0}
 ContainerNumbered (Some (Item mark number width)) = Numbered mark number
 
 -- an item has a number that its character tells, a heading this level
 abbrev pub Fits : (level : ℕ) → Opening → Type 0
 Fits level Blank = Unit {0}
 Fits level (Nests (Quote alert)) = Unit {0}
+Fits level (Nests (Footnote label old size)) = Unit {0}
 Fits level (Nests (Item mark number width)) = Numbered mark number
 Fits level (Takes ThematicBreak more) = Unit {0}
 Fits level (Takes (AtxHeading n) more) = n ≡ level
@@ -67,6 +69,7 @@ module _ (level : ℕ) where
 
   nests-fits : (k : Option Container) → ContainerNumbered k → Fits level (nests_if k)
   nests-fits (Some (Quote alert)) n = tt
+  nests-fits (Some (Footnote label old size)) n = tt
   nests-fits (Some (Item mark number width)) n = n
   nests-fits None n = tt
 

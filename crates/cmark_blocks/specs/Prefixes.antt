@@ -2,6 +2,7 @@
 use Rattle.std.specs.Prelude.{ℕ, suc, false, List, [], ◌∷◌, ◌++◌, Option, Some, None}
 use Rattle.cmark_grammar.specs.Containers as grammar
 use Rattle.cmark_grammar.specs.Containers.{keeps}
+use Rattle.cmark_grammar.specs.Options.{Options}
 use Rattle.cmark_grammar.specs.Rows.{Row}
 use Rattle.cmark_tree.specs.Zip.{Level}
 use Rattle.cmark_items.specs.declared.item.Item.{Item}
@@ -11,19 +12,21 @@ use Rattle.cmark_lines.specs.declared.container.Container.{Container}
 use Rattle.cmark_lines.specs.declared.container.Container.TheVariants as container
 
 -- an item with a prefix of this width: its character and number do not matter to what it keeps, so it is shown as a bullet; nor
--- does it matter whether a block quote is an alert, so it is shown as none
+-- does it matter whether a block quote is an alert, so it is shown as none, or which label a footnote definition has
 abbrev pub item_of_width : ℕ → grammar.Container
 item_of_width width = grammar.Item 45 None width
 
 abbrev pub shown_container : Container → grammar.Container
 shown_container container.Quote = grammar.Quote None
 shown_container (container.Item width) = item_of_width width
+shown_container (container.Footnote old) = grammar.Footnote [] old 0
 
--- the container that a node is: a block quote or a list item, and else none
-abbrev pub container_in : ItemBody → Option grammar.Container
-container_in (body.BlockQuote kind) = Some (grammar.Quote None)
-container_in (body.ListItem width) = Some (item_of_width width)
-container_in _ = None
+-- the container that a node is: a block quote, a list item or a footnote definition, which the options say how to read, and else none
+abbrev pub container_in : Options → ItemBody → Option grammar.Container
+container_in options (body.BlockQuote kind) = Some (grammar.Quote None)
+container_in options (body.ListItem width) = Some (item_of_width width)
+container_in options (body.FootnoteDefinition label) = Some (grammar.Footnote [] options.old_footnotes 0)
+container_in options _ = None
 
 -- the container, if there is one, in front of these
 abbrev pub in_front : Option grammar.Container → List grammar.Container → List grammar.Container
@@ -31,9 +34,9 @@ in_front None ks = ks
 in_front (Some k) ks = k ∷ ks
 
 -- the containers among the nodes of a path, the outermost first
-abbrev pub containers_of : List (Level Item) → List grammar.Container
-containers_of [] = []
-containers_of (v ∷ up) = containers_of up ++ in_front (container_in v.place.item.body) []
+abbrev pub containers_of : Options → List (Level Item) → List grammar.Container
+containers_of options [] = []
+containers_of options (v ∷ up) = containers_of options up ++ in_front (container_in options v.place.item.body) []
 
 -- how many containers keep a line, and what is left of it behind their prefixes
 pub record Kept : Type 0 where

@@ -199,7 +199,7 @@ impl OpenContainer {
         ensures { (m : model.OpenContainer) → ShowsContainer self m → shown_siblings result ≡ behind_container m.container end (shown_siblings inside) m.around }
     {
         match self.container {
-            Container::Quote => self.around,
+            Container::Quote | Container::Footnote { .. } => self.around,
             Container::Item { .. } => self.around.behind_item(inside, end),
         }
     }

@@ -1,26 +1,38 @@
 //! The prefixes of the open containers in front of a line (CommonMark 5).
 
-ghost use Rattle.std.specs.Prelude.{◌≡◌, ◌+◌, ℕ, Option, None, false, option_map};
-ghost use Rattle.cmark_grammar.specs.Containers.{Quote, Item as ListItem, keeps};
+ghost use Rattle.std.specs.Prelude.{◌≡◌, ◌+◌, ℕ, [], Option, None, false, option_map};
+ghost use Rattle.cmark_grammar.specs.Containers.{Quote, Item as ListItem, Footnote, keeps};
 ghost use Rattle.cmark_grammar.specs.Rows.{begin_of};
+ghost use Rattle.cmark_text.specs.Shown.{shown_options};
 ghost use Rattle.cmark_tree.specs.Zip.{Zip};
 ghost use Rattle.cmark_tree.specs.Tree.{Holds, IsTree};
 ghost use Rattle.cmark_scan.specs.LineStart.{row_from, line_of};
 ghost use Rattle.cmark_blocks.specs.Prefixes.{shown_container, container_in, containers_of, kept};
 
+use bitflags::Flags;
 use cmark_items::{Item, ItemBody};
 use cmark_lines::Container;
 use cmark_scan::LineStart;
 use cmark_text::Options;
 use cmark_tree::Tree;
 
+/// Whether these options ask for footnotes as they were read before.
+fn reads_old_footnotes(options: Options) -> bool
+    ensures { result ≡ (shown_options options).old_footnotes }
+{
+    options.contains(Options::ENABLE_OLD_FOOTNOTES)
+}
+
 /// The container that a node with this body is, if it is one.
-fn container_of(body: ItemBody) -> Option<Container>
-    ensures { option_map shown_container result ≡ container_in body }
+fn container_of(body: ItemBody, options: Options) -> Option<Container>
+    ensures { option_map shown_container result ≡ container_in (shown_options options) body }
 {
     match body {
         ItemBody::BlockQuote(_) => Some(Container::Quote),
         ItemBody::ListItem(width) => Some(Container::Item { width }),
+        ItemBody::FootnoteDefinition(_) => Some(Container::Footnote {
+            old: reads_old_footnotes(options),
+        }),
         _ => None,
     }
 }
@@ -49,6 +61,18 @@ fn behind_width<'a>(line: LineStart<'a>, width: usize) -> Option<LineStart<'a>>
     Some(behind)
 }
 
+/// The line behind a footnote definition's prefix, if it keeps the line (this profile's own).
+fn behind_footnote<'a>(line: LineStart<'a>, old: bool) -> Option<LineStart<'a>>
+    ensures { (at past : ℕ) → option_map (row_from at past) result ≡ keeps (Footnote [] old 0) false (row_from at past line.entry) }
+{
+    if !old {
+        return behind_width(line, 4);
+    }
+    let mut ahead = line;
+    ahead.scan_all_space();
+    if ahead.is_at_eol() { None } else { Some(line) }
+}
+
 /// The line behind this container's prefix, if the container keeps the line.
 fn behind_prefix<'a>(container: Container, line: LineStart<'a>) -> Option<LineStart<'a>>
     ensures { (at past : ℕ) → option_map (row_from at past) result ≡ keeps (shown_container container) false (row_from at past line.entry) }
@@ -56,23 +80,24 @@ fn behind_prefix<'a>(container: Container, line: LineStart<'a>) -> Option<LineSt
     match container {
         Container::Quote => behind_quote(line),
         Container::Item { width } => behind_width(line, width),
+        Container::Footnote { old } => behind_footnote(line, old),
     }
 }
 
 /// How many of the open containers, from the outermost on, a line continues (CommonMark 5). The open containers are the block
-/// quotes and the list items on the tree's path; its other nodes are passed over. The line's start moves behind the prefixes of
+/// quotes, the list items and the footnote definitions on the tree's path; its other nodes are passed over. The line's start moves behind the prefixes of
 /// those containers: where one lacks its prefix, it stands behind the prefixes before it. Nothing else changes.
 ///
 /// A blank line directly behind an item whose first line was blank counts as kept, though it ends the item: the tree does not
-/// tell what lines an item has. No option has a rule of its own yet.
-pub fn scan_containers(tree: &Tree<Item>, line: &mut LineStart<'_>, _options: Options) -> usize
+/// tell what lines an item has. The options say how footnote definitions are read.
+pub fn scan_containers(tree: &Tree<Item>, line: &mut LineStart<'_>, options: Options) -> usize
     requires { IsTree tree.now }
-    ensures count { (z : Zip Item) → Holds tree.now z → (at past : ℕ) → result ≡ (kept (containers_of z.up) (row_from at past line.old)).count }
-    ensures rest { (z : Zip Item) → Holds tree.now z → (at past : ℕ) → row_from at past line.new ≡ (kept (containers_of z.up) (row_from at past line.old)).rest }
+    ensures count { (z : Zip Item) → Holds tree.now z → (at past : ℕ) → result ≡ (kept (containers_of (shown_options options) z.up) (row_from at past line.old)).count }
+    ensures rest { (z : Zip Item) → Holds tree.now z → (at past : ℕ) → row_from at past line.new ≡ (kept (containers_of (shown_options options) z.up) (row_from at past line.old)).rest }
 {
     let mut count = 0;
     for ix in tree.walk_spine() {
-        let Some(container) = container_of(tree.item(*ix).body) else {
+        let Some(container) = container_of(tree.item(*ix).body, options) else {
             continue;
         };
         let Some(behind) = behind_prefix(container, *line) else {
@@ -89,7 +114,7 @@ pub fn scan_containers(tree: &Tree<Item>, line: &mut LineStart<'_>, _options: Op
 /// counted.
 pub fn skip_container_prefixes(tree: &Tree<Item>, bytes: &[u8], options: Options) -> usize
     requires { IsTree tree.now }
-    ensures { (z : Zip Item) → Holds tree.now z → (at past : ℕ) → begin_of (kept (containers_of z.up) (line_of at past bytes.now)).rest ≡ at + result }
+    ensures { (z : Zip Item) → Holds tree.now z → (at past : ℕ) → begin_of (kept (containers_of (shown_options options) z.up) (line_of at past bytes.now)).rest ≡ at + result }
 {
     let mut line = LineStart::new(bytes);
     scan_containers(tree, &mut line, options);

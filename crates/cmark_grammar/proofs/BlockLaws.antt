@@ -9,7 +9,7 @@ use Rattle.cmark_grammar.specs.MetadataBlockKind.{MetadataBlockKind}
 use Rattle.cmark_grammar.specs.Rows.{Row, without, lazy_row, is_bare, is_blank_line, is_whole_line, indent_of, words_of}
 use Rattle.cmark_grammar.specs.Leaves.{Fence, Further, GoesOn, Closes, Waits, Stops, count_more, counted, underlines, is_thematic_break, is_atx_heading, run, fence_of, fence_further, code_further}
 use Rattle.cmark_grammar.specs.BlockQuoteKind.{BlockQuoteKind}
-use Rattle.cmark_grammar.specs.Containers.{Container, Quote, Item, Marker, marker_of, delimited, digits, is_bullet, is_delimiter, number_of, item_with, width_with, container_with, container_of, item_of, is_quote, quote_width, width_of, enter, keep_as, keeps, strip_as, strip}
+use Rattle.cmark_grammar.specs.Containers.{Container, Quote, Item, Footnote, Marker, marker_of, delimited, digits, is_bullet, is_delimiter, number_of, item_with, width_with, container_with, container_of, item_of, is_quote, quote_width, width_of, enter, keep_as, keeps, strip_as, strip}
 use Rattle.cmark_grammar.specs.HtmlBlocks.{html_kind, holds_end, html_further}
 use Rattle.cmark_grammar.specs.LinkDefinitions.{Defined, definition_in, bytes_over}
 use Rattle.cmark_grammar.specs.Openings.{Leaf, IndentedCode, MetadataBlock, Opening, Blank, Nests, Takes, Plain, or_else, nests_if, fenced_if, metadata_begun, leaf_of, whole_opens, opens, opens_at, text_begun, texts, lazily, html_if, break_if, heading_if, text_lines, defined_if, put_if, definition_of, is_none}
@@ -289,17 +289,26 @@ module _ (options : Options) where
   unfolding enter
   enter-lazy k r = refl
 
+  wide-lazy : (width : ℕ) (r s : Row) → (if is_blank_line r || nat_le width (indent_of r) then Some (without width r) else None) ≡ Some s → s.lazy ≡ r.lazy
+  wide-lazy width r s e = go _ e
+    where
+      go : (z : Bool) → (if z then Some (without width r) else None) ≡ Some s → s.lazy ≡ r.lazy
+      go true q = let p : without width r ≡ s = cc in sym (ap (λ x. x.lazy) p)
+      go false q = cc
+
   keep_as-lazy : (k : Container) (r s : Row) → keep_as k r ≡ Some s → s.lazy ≡ r.lazy
   keep_as-lazy (Quote alert) r s e = go (is_quote r) e
     where
       go : (z : Bool) → (if z then Some (without (quote_width r) r) else None) ≡ Some s → s.lazy ≡ r.lazy
       go true q = let p : without (quote_width r) r ≡ s = cc in sym (ap (λ x. x.lazy) p)
       go false q = cc
-  keep_as-lazy (Item mark number width) r s e = go _ e
+  keep_as-lazy (Footnote label true size) r s e = go _ e
     where
-      go : (z : Bool) → (if z then Some (without width r) else None) ≡ Some s → s.lazy ≡ r.lazy
-      go true q = let p : without width r ≡ s = cc in sym (ap (λ x. x.lazy) p)
-      go false q = cc
+      go : (z : Bool) → (if z then None else Some r) ≡ Some s → s.lazy ≡ r.lazy
+      go true q = cc
+      go false q = let p : r ≡ s = cc in sym (ap (λ x. x.lazy) p)
+  keep_as-lazy (Footnote label false size) r s e = wide-lazy 4 r s e
+  keep_as-lazy (Item mark number width) r s e = wide-lazy width r s e
 
   or_no : (x y : Bool) → (x || y) ≡ false → x ≡ false
   or_no true y e = e

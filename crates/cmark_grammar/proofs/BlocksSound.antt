@@ -3,7 +3,7 @@ use Rattle.std.proofs.Common.{◌≡◌, ◌⊎◌, inl, inr, ⊎_elim, ℕ, zer
 use Rattle.cmark_grammar.specs.Rows.{Row, rows, rows_from, lazy_row, show_as, shown}
 use Rattle.cmark_grammar.specs.Lines.{lines}
 use Rattle.cmark_grammar.specs.Leaves.{underlines}
-use Rattle.cmark_grammar.specs.Containers.{Container, Quote, Item, is_alert, unless_tag, enter, keeps, strip, strips, is_bare_start, bare_after, insides}
+use Rattle.cmark_grammar.specs.Containers.{Container, Quote, Item, Footnote, is_alert, unless_tag, enter, keeps, strip, strips, is_bare_start, bare_after, insides}
 use Rattle.cmark_grammar.specs.Openings.{Opening, Blank, Nests, Takes, Plain, opens_at, texts, lazily}
 use Rattle.cmark_grammar.specs.Blocks.{Blocks, Nil, BlankLine, Paragraph, SetextHeading, LeafBlock, ContainerBlock, join, behind_leaf, behind_container, place_in, ends_lazily, IsText, AreText, AreLazy, MayBegin, Body}
 use Rattle.cmark_grammar.specs.BlocksModel.{Open, Between, BehindTag, InParagraph, InLeaf, InContainer, close, takes_lazy, within, inside_begun, begin_as, begin_in, begin_at, begin, place_behind, underline_or, goes_on_or, kept_or, feed, feed_all, blocks}
@@ -177,6 +177,7 @@ module _ (options : Options) where
   -- directly behind an alert's tag
   behind_tag : (k : Container) (r : Row) (o : Open) (ahead : List Row) → Holds (place_in k) (r ∷ []) o ahead → Holds (place_in k) (unless_tag (is_alert k) r []) (inside_begun (is_alert k) o) ahead
   behind_tag (Quote None) r o ahead h = h
+  behind_tag (Footnote label old size) r o ahead h = h
   behind_tag (Quote (Some kind)) r o ahead h = (refl, refl)
   behind_tag (Item mark number width) r o ahead h = h
 
@@ -188,6 +189,7 @@ module _ (options : Options) where
     where
       starts : (k : Container) → over_blank (place_in k) ≡ Apart
       starts (Quote None) = refl
+      starts (Footnote label old size) = refl
       starts (Quote (Some kind)) = refl
       starts (Item mark number width) = refl
 

@@ -9,7 +9,7 @@ use Rattle.cmark_grammar.specs.Places.{Place, Apart, BehindTitle, over_blank}
 use Rattle.cmark_grammar.specs.Lines.{lines, ends_line, onto, content, is_content, line_feed, carriage_return}
 use Rattle.cmark_grammar.specs.Columns.{Column, tab, expand, tab_columns, to_tab_stop}
 use Rattle.cmark_grammar.specs.Rows.{Row, rows, rows_from, row_at, begin_of, past_of}
-use Rattle.cmark_grammar.specs.Containers.{Container, Quote, Item, is_alert, unless_tag, enter, strips, is_bare_start, insides}
+use Rattle.cmark_grammar.specs.Containers.{Container, Quote, Item, Footnote, is_alert, unless_tag, enter, strips, is_bare_start, insides}
 use Rattle.cmark_grammar.specs.Openings.{Leaf, ThematicBreak as ThematicBreakLeaf, AtxHeading as AtxHeadingLeaf, IndentedCode as IndentedCodeLeaf, FencedCode as FencedCodeLeaf, HtmlBlock as HtmlBlockLeaf, LinkDefinition as LinkDefinitionLeaf, MetadataBlock as MetadataBlockLeaf}
 use Rattle.cmark_grammar.specs.Blocks.{Blocks, Nil as NoBlocks, BlankLine, Paragraph as ParagraphBlock, SetextHeading, LeafBlock, ContainerBlock, behind_leaf, place_in, Body}
 use Rattle.cmark_grammar.specs.Lists.{ListBefore, tight_behind, goes_on}
@@ -74,6 +74,14 @@ module _ (E : ℕ → Type 0) where
         start-E E first c.0,
         past-edge first more c.0 s.0,
         document-edged text options lookup false None (place_in (Quote alert)) (insides (Quote alert) first more) inside body.contents (insides-good (Quote alert) first more (enter-good E options (Quote alert) first _ (at-nests options behind first _ _ body.opened) c.0) s.0),
+        document-edged text options lookup direct None Apart body.rest after body.after s.1,
+      )
+  document-edged text options lookup direct before behind all (ContainerBlock (Footnote label old size) first more inside after) body g =
+      let c : GoodRows E (first ∷ (more ++ body.rest)) = subst (GoodRows E) body.cut g in
+      let s = split-good E more body.rest c.1 in (
+        start-E E first c.0,
+        past-edge first more c.0 s.0,
+        document-edged text options lookup false None (place_in (Footnote label old size)) (insides (Footnote label old size) first more) inside body.contents (insides-good (Footnote label old size) first more (enter-good E options (Footnote label old size) first _ (at-nests options behind first _ _ body.opened) c.0) s.0),
         document-edged text options lookup direct None Apart body.rest after body.after s.1,
       )
   document-edged text options lookup direct before behind all (ContainerBlock (Item mark number width) first more inside after) body g =

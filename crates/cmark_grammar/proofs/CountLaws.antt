@@ -9,7 +9,7 @@ use Rattle.cmark_grammar.specs.Lines.{lines, ends_line, onto, content}
 use Rattle.cmark_grammar.specs.Columns.{Column, tab, expand, tab_columns, to_tab_stop, indent, without_indent, is_blank}
 use Rattle.cmark_grammar.specs.Rows.{Row, rows, rows_from, without, place, first_place, begin_of, start_of, past_of, is_bare, is_blank_line}
 use Rattle.cmark_grammar.specs.Leaves.{closes_fence}
-use Rattle.cmark_grammar.specs.Containers.{Container, Quote, Item, is_alert, unless_tag, keeps, strip_as, strip, strips, enter, width_of, is_bare_start, insides}
+use Rattle.cmark_grammar.specs.Containers.{Container, Quote, Item, Footnote, is_alert, unless_tag, keeps, strip_as, strip, strips, enter, width_of, is_bare_start, insides}
 use Rattle.cmark_grammar.specs.Openings.{Leaf, ThematicBreak as ThematicBreakLeaf, AtxHeading as AtxHeadingLeaf, IndentedCode as IndentedCodeLeaf, FencedCode as FencedCodeLeaf, HtmlBlock as HtmlBlockLeaf, LinkDefinition as LinkDefinitionLeaf, MetadataBlock as MetadataBlockLeaf, Blank, Nests, Takes, Plain, opens, opens_at}
 use Rattle.cmark_grammar.specs.Blocks.{Blocks, Nil as NoBlocks, BlankLine, Paragraph as ParagraphBlock, SetextHeading, LeafBlock, ContainerBlock, MayBegin, Body, behind_leaf, place_in}
 use Rattle.cmark_grammar.specs.Lists.{ListBefore, tight_behind, goes_on}
@@ -390,6 +390,12 @@ module _ (text : List ℕ) (options : Options) (lookup : Lookup) where
       let c : FedBehind from (first ∷ (more ++ body.rest)) to = subst (λ ls. FedBehind from ls to) body.cut f in
       let s = fed-split first more body.rest to c.1 in
       let i = document-count false None (place_in (Quote alert)) (suc from) (insides (Quote alert) first more) inside (past_of first more) body.contents (insides-fed (Quote alert) from first more _ (past_of first more) (at-nests options behind first _ _ body.opened) c.0 s.0) in
+      let ih = document-count direct None Apart (past_of first more) body.rest after to body.after (fed-behind (past_of first more) body.rest to s.1) in
+      omega (arith, i, ih)
+  document-count direct before behind from all (ContainerBlock (Footnote label old size) first more inside after) to body f =
+      let c : FedBehind from (first ∷ (more ++ body.rest)) to = subst (λ ls. FedBehind from ls to) body.cut f in
+      let s = fed-split first more body.rest to c.1 in
+      let i = document-count false None (place_in (Footnote label old size)) (suc from) (insides (Footnote label old size) first more) inside (past_of first more) body.contents (insides-fed (Footnote label old size) from first more _ (past_of first more) (at-nests options behind first _ _ body.opened) c.0 s.0) in
       let ih = document-count direct None Apart (past_of first more) body.rest after to body.after (fed-behind (past_of first more) body.rest to s.1) in
       omega (arith, i, ih)
   document-count direct before behind from all (ContainerBlock (Item mark number width) first more inside after) to body f =

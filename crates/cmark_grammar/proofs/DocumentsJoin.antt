@@ -6,12 +6,13 @@ use Rattle.cmark_grammar.specs.Options.{Options}
 use Rattle.cmark_grammar.specs.Answers.{Lookup}
 use Rattle.cmark_grammar.specs.Attributes.{no_attributes}
 use Rattle.cmark_grammar.specs.Rows.{Row, start_of, past_of, begin_of}
-use Rattle.cmark_grammar.specs.Containers.{Quote, Item}
+use Rattle.cmark_grammar.specs.Containers.{Quote, Item, Footnote}
+use Rattle.cmark_grammar.specs.Labels.{normal_form}
 use Rattle.cmark_grammar.specs.Openings.{Leaf, ThematicBreak as ThematicBreakLeaf, AtxHeading as AtxHeadingLeaf, IndentedCode as IndentedCodeLeaf, FencedCode as FencedCodeLeaf, HtmlBlock as HtmlBlockLeaf, LinkDefinition as LinkDefinitionLeaf, MetadataBlock as MetadataBlockLeaf}
 use Rattle.cmark_grammar.specs.Blocks.{Blocks, Nil as NoBlocks, BlankLine, Paragraph as ParagraphBlock, SetextHeading, LeafBlock, ContainerBlock, join as join_blocks}
 use Rattle.cmark_grammar.specs.Lists.{ListBefore, ends_blank, is_parted_item, loose_from, is_tight, tight_behind, goes_on}
 use Rattle.cmark_grammar.specs.Tokens.{paragraph_tokens}
-use Rattle.cmark_grammar.specs.BlockDocument.{Heading, BlockQuote, ListItem, BlockNode, BlockDocument, Nil, Node, join, node}
+use Rattle.cmark_grammar.specs.BlockDocument.{Heading, BlockQuote, ListItem, FootnoteDefinition, BlockNode, BlockDocument, Nil, Node, join, node}
 use Rattle.cmark_grammar.specs.Derivation.{paragraph_kind, leaf_then, item_then, document_of}
 use Rattle.cmark_grammar.proofs.TightLaws.{Rest, rest_of}
 
@@ -23,6 +24,7 @@ list_behind mark (ParagraphBlock first more after) = list_behind None after
 list_behind mark (SetextHeading level first more underline after) = list_behind None after
 list_behind mark (LeafBlock leaf first more after) = list_behind None after
 list_behind mark (ContainerBlock (Quote alert) first more inside after) = list_behind None after
+list_behind mark (ContainerBlock (Footnote label old size) first more inside after) = list_behind None after
 list_behind mark (ContainerBlock (Item m number width) first more inside after) = list_behind (Some m) after
 
 -- no list of this character goes on with these
@@ -45,6 +47,7 @@ loose-off mark blank (ParagraphBlock first more after) e = refl
 loose-off mark blank (SetextHeading level first more underline after) e = refl
 loose-off mark blank (LeafBlock leaf first more after) e = refl
 loose-off mark blank (ContainerBlock (Quote alert) first more inside after) e = refl
+loose-off mark blank (ContainerBlock (Footnote label old size) first more inside after) e = refl
 loose-off mark blank (ContainerBlock (Item m number width) first more inside after) e = ap (λ z. z && (blank || (is_parted_item inside || loose_from mark (ends_blank true false inside) after))) e
 
 same-mark : (a b : ℕ) → (a == b) ≡ true → a ≡ b
@@ -57,6 +60,7 @@ loose-join mark blank (ParagraphBlock first more after) b p = refl
 loose-join mark blank (SetextHeading level first more underline after) b p = refl
 loose-join mark blank (LeafBlock leaf first more after) b p = refl
 loose-join mark blank (ContainerBlock (Quote alert) first more inside after) b p = refl
+loose-join mark blank (ContainerBlock (Footnote label old size) first more inside after) b p = refl
 loose-join mark blank (ContainerBlock (Item m number width) first more inside after) b p =
     go (m == mark) refl (λ q. loose-join mark (ends_blank true false inside) after b q)
   where
@@ -71,6 +75,7 @@ goes-join mark (ParagraphBlock first more after) b p = refl
 goes-join mark (SetextHeading level first more underline after) b p = refl
 goes-join mark (LeafBlock leaf first more after) b p = refl
 goes-join mark (ContainerBlock (Quote alert) first more inside after) b p = refl
+goes-join mark (ContainerBlock (Footnote label old size) first more inside after) b p = refl
 goes-join mark (ContainerBlock (Item m number width) first more inside after) b p = refl
 
 tight-join : (before : Option ListBefore) (mark : ℕ) (inside a b : Blocks) → Parts (list_behind (Some mark) a) b → tight_behind before mark inside (join_blocks a b) ≡ tight_behind before mark inside a
@@ -95,6 +100,7 @@ module _ (text : List ℕ) (options : Options) (lookup : Lookup) where
   list-off direct before (SetextHeading level first more underline after) e = refl
   list-off direct before (LeafBlock leaf first more after) e = refl
   list-off direct before (ContainerBlock (Quote alert) first more inside after) e = refl
+  list-off direct before (ContainerBlock (Footnote label old size) first more inside after) e = refl
   list-off direct before (ContainerBlock (Item m number width) first more inside after) e =
       ap (λ t. item_then (goes_on m after) number t (node ListItem (begin_of first) (past_of first more)) (document_of text options lookup t None inside) (document_of text options lookup direct (Some (record { mark = m; tight = t })) after))
       (ap (λ z. if z then before.tight else is_tight m inside after) (other m before.mark e))
@@ -115,6 +121,7 @@ module _ (text : List ℕ) (options : Options) (lookup : Lookup) where
   document-join direct before (SetextHeading level first more underline after) b p = ap (Node (node (Heading level no_attributes) (start_of first) underline.past) (paragraph_tokens text first more)) (document-join direct None after b p)
   document-join direct before (LeafBlock leaf first more after) b p = ap (leaf_then text options lookup leaf first more) (document-join direct None after b p) ∙ leaf-join text options lookup leaf first more (document_of text options lookup direct None after) (document_of text options lookup direct None b)
   document-join direct before (ContainerBlock (Quote alert) first more inside after) b p = ap (Node (node (BlockQuote alert) (start_of first) (past_of first more)) (document_of text options lookup false None inside)) (document-join direct None after b p)
+  document-join direct before (ContainerBlock (Footnote label old size) first more inside after) b p = ap (Node (node (FootnoteDefinition (normal_form label)) (start_of first) (past_of first more)) (document_of text options lookup false None inside)) (document-join direct None after b p)
   document-join direct before (ContainerBlock (Item mark number width) first more inside after) b p =
       let t = tight_behind before mark inside after in
       let item = node ListItem (begin_of first) (past_of first more) in

@@ -16,6 +16,8 @@ pub mod DocumentsJoin
 pub mod EmphasisOne
 pub mod EmphasisSamples
 pub mod EmphasisSound
+pub mod FootnoteMarkers
+pub mod FootnoteSamples
 pub mod HtmlSamples
 pub mod InlineSamples
 pub mod LeafSpanLaws

@@ -6,7 +6,7 @@ use Rattle.cmark_grammar.specs.Places.{Place, Apart, BehindTitle, over_blank}
 use Rattle.cmark_grammar.specs.Columns.{indent}
 use Rattle.cmark_grammar.specs.Rows.{Row, rows, first_place, begin_of, start_of, past_of}
 use Rattle.cmark_grammar.specs.BlockQuoteKind.{BlockQuoteKind}
-use Rattle.cmark_grammar.specs.Containers.{Container, Quote, Item, is_alert, unless_tag, enter, quote_width, one_blank, strips, is_bare_start, insides}
+use Rattle.cmark_grammar.specs.Containers.{Container, Quote, Item, Footnote, is_alert, unless_tag, enter, quote_width, footnote_width, one_blank, strips, is_bare_start, insides}
 use Rattle.cmark_grammar.specs.Openings.{Leaf, ThematicBreak as ThematicBreakLeaf, AtxHeading as AtxHeadingLeaf, IndentedCode as IndentedCodeLeaf, FencedCode as FencedCodeLeaf, HtmlBlock as HtmlBlockLeaf, LinkDefinition as LinkDefinitionLeaf, MetadataBlock as MetadataBlockLeaf}
 use Rattle.cmark_grammar.specs.Blocks.{Blocks, Nil as NoBlocks, BlankLine, Paragraph as ParagraphBlock, SetextHeading, LeafBlock, ContainerBlock, behind_leaf, place_in, Body}
 use Rattle.cmark_grammar.specs.Lists.{ListBefore, tight_behind, goes_on}
@@ -81,6 +81,12 @@ quote-Lies alert from r h =
     wide : (n : ℕ) → indent r.columns ≤ suc (indent r.columns + n)
     wide n = omega arith
 
+footnote-Lies : (label : List ℕ) (old : Bool) (size from : ℕ) (r : Row) → Lies from r → Lies (start_of r) (enter (Footnote label old size) r)
+unfolding enter
+footnote-Lies label old size from r h =
+    let l = Lies-without (footnote_width size r) from r h in
+    (drop-mono (indent r.columns) (footnote_width size r) (begin_of r) r.columns r.stop (omega arith) h.1, l.1, l.2)
+
 Along-lower : (from mid : ℕ) (rs : List Row) (to : ℕ) → from ≤ mid → Along mid rs to → Along from rs to
 Along-lower from mid [] to le a = omega (arith, le, a)
 Along-lower from mid (r ∷ rs) to le a = let l = a.0 in ((let b = l.0 in omega (arith, le, b), l.1, l.2), a.1)
@@ -126,6 +132,13 @@ module _ (text : List ℕ) (options : Options) (lookup : Lookup) where
       let s = Along-split first more body.rest to c.1 in (
         from-start from first c.0,
         document-order false None (place_in (Quote alert)) (start_of first) (insides (Quote alert) first more) inside (past_of first more) body.contents (insides-Along (Quote alert) (start_of first) first more (past_of first more) (quote-Lies alert from first c.0) s.0),
+        document-order direct None Apart (past_of first more) body.rest after to body.after s.1,
+      )
+  document-order direct before behind from all (ContainerBlock (Footnote label old size) first more inside after) to body a =
+      let c : Along from (first ∷ (more ++ body.rest)) to = subst (λ ls. Along from ls to) body.cut a in
+      let s = Along-split first more body.rest to c.1 in (
+        from-start from first c.0,
+        document-order false None (place_in (Footnote label old size)) (start_of first) (insides (Footnote label old size) first more) inside (past_of first more) body.contents (insides-Along (Footnote label old size) (start_of first) first more (past_of first more) (footnote-Lies label old size from first c.0) s.0),
         document-order direct None Apart (past_of first more) body.rest after to body.after s.1,
       )
   document-order direct before behind from all (ContainerBlock (Item mark number width) first more inside after) to body a =

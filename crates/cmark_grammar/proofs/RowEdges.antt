@@ -11,7 +11,7 @@ use Rattle.cmark_grammar.specs.LinkDefinitions.{Defined, definition_in, bytes_ov
 use Rattle.cmark_grammar.specs.Metadata.{metadata_kind, metadata_further, holds_metadata}
 use Rattle.cmark_grammar.specs.MetadataBlockKind.{MetadataBlockKind}
 use Rattle.cmark_grammar.specs.BlockQuoteKind.{BlockQuoteKind}
-use Rattle.cmark_grammar.specs.Containers.{Container, Quote, Item, Marker, is_bullet, is_digit, is_delimiter, digits, number_of, delimited, marker_of, behind_marker, padding, width_with, item_with, item_of, begins_with, is_quote, one_blank, quote_width, container_with, container_of, width_of, enter, keep_as, keeps, strip_as, strip, strips}
+use Rattle.cmark_grammar.specs.Containers.{Container, Quote, Item, Footnote, Marker, is_bullet, is_digit, is_delimiter, digits, number_of, delimited, marker_of, behind_marker, padding, width_with, item_with, item_of, begins_with, is_quote, one_blank, quote_width, container_with, container_of, width_of, enter, keep_as, keeps, strip_as, strip, strips}
 use Rattle.cmark_grammar.specs.Openings.{Leaf, ThematicBreak, AtxHeading, IndentedCode, FencedCode, HtmlBlock, LinkDefinition, MetadataBlock, Opening, Blank, Nests, Takes, Plain, or_else, nests_if, fenced_if, metadata_begun, html_if, break_if, heading_if, text_lines, defined_if, definition_of, leaf_of, whole_opens, opens}
 use Rattle.cmark_grammar.proofs.RowPlaces.{Runs, first_place-Runs, drop-Runs}
 
@@ -314,13 +314,8 @@ module _ (E : ℕ → Type 0) where
   leaf-front options r ahead leaf n e g = subst (OpeningFront r) e (front_opens options r ahead g)
 
   -- nor what its later lines have in front
-  keep_as-good : (k : Container) (r s : Row) → GoodRow r → keep_as k r ≡ Some s → GoodRow s
-  keep_as-good (Quote alert) r s g e = go (is_quote r) refl e
-    where
-      go : (z : Bool) → is_quote r ≡ z → (if z then Some (without (quote_width r) r) else None) ≡ Some s → GoodRow s
-      go true q f = let p : without (quote_width r) r ≡ s = cc in subst GoodRow p (without-good (quote_width r) r g (quote-front r g q))
-      go false q f = absurd (let p : None ≡ Some s = f in cc)
-  keep_as-good (Item mark number width) r s g e = go (is_blank_line r) (nat_le width (indent_of r)) refl refl e
+  wide-good : (width : ℕ) (r s : Row) → GoodRow r → (if is_blank_line r || nat_le width (indent_of r) then Some (without width r) else None) ≡ Some s → GoodRow s
+  wide-good width r s g e = go (is_blank_line r) (nat_le width (indent_of r)) refl refl e
     where
       le : (a b : ℕ) → nat_le a b ≡ true → a ≤ b
       le a b q = grind (arith)
@@ -332,6 +327,20 @@ module _ (E : ℕ → Type 0) where
       go true y ex ey f = is (bare-front width r.columns ex) f
       go false true ex ey f = is (front-less IsAsciiColumn width (indent r.columns) r.columns (le width (indent r.columns) ey) (indent-front r.columns)) f
       go false false ex ey f = absurd (let p : None ≡ Some s = f in cc)
+
+  keep_as-good : (k : Container) (r s : Row) → GoodRow r → keep_as k r ≡ Some s → GoodRow s
+  keep_as-good (Quote alert) r s g e = go (is_quote r) refl e
+    where
+      go : (z : Bool) → is_quote r ≡ z → (if z then Some (without (quote_width r) r) else None) ≡ Some s → GoodRow s
+      go true q f = let p : without (quote_width r) r ≡ s = cc in subst GoodRow p (without-good (quote_width r) r g (quote-front r g q))
+      go false q f = absurd (let p : None ≡ Some s = f in cc)
+  keep_as-good (Footnote label true size) r s g e = go (is_blank_line r) e
+    where
+      go : (z : Bool) → (if z then None else Some r) ≡ Some s → GoodRow s
+      go true f = absurd (let p : None ≡ Some s = f in cc)
+      go false f = let p : r ≡ s = cc in subst GoodRow p g
+  keep_as-good (Footnote label false size) r s g e = wide-good 4 r s g e
+  keep_as-good (Item mark number width) r s g e = wide-good width r s g e
 
   keeps-good : (k : Container) (bare : Bool) (r s : Row) → GoodRow r → keeps k bare r ≡ Some s → GoodRow s
   unfolding keeps

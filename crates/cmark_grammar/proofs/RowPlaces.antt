@@ -1,10 +1,10 @@
 -- Where the columns of lines stand in the text.
-use Rattle.std.proofs.Common.{◌≡◌, ℕ, zero, suc, ◌+◌, ◌≤◌, ◌<◌, Bool, true, false, ◌==◌, List, [], ◌∷◌, ◌++◌, length, drop, take, refl, sym, ap, ◌∙◌, subst, arith, Option, Some, None, ne_eqb}
+use Rattle.std.proofs.Common.{◌≡◌, ℕ, zero, suc, ◌+◌, ◌≤◌, ◌<◌, Bool, true, false, ◌==◌, ◌||◌, nat_le, if◌then◌else◌, List, [], ◌∷◌, ◌++◌, length, drop, take, refl, sym, ap, ◌∙◌, subst, arith, Option, Some, None, ne_eqb}
 use Rattle.std.specs.Prelude.{if◌then◌else◌}
 use Rattle.cmark_grammar.specs.Lines.{lines, ends_line, onto, content}
 use Rattle.cmark_grammar.specs.Columns.{Column, tab, expand, tab_columns, to_tab_stop, indent, without_indent}
-use Rattle.cmark_grammar.specs.Rows.{Row, rows, rows_from, row_at, without, place, first_place, begin_of, start_of, past_of}
-use Rattle.cmark_grammar.specs.Containers.{Container, Quote, Item, keeps, keep_as, strip_as, strip, strips, is_quote, quote_width}
+use Rattle.cmark_grammar.specs.Rows.{Row, rows, rows_from, row_at, without, is_blank_line, indent_of, place, first_place, begin_of, start_of, past_of}
+use Rattle.cmark_grammar.specs.Containers.{Container, Quote, Item, Footnote, keeps, keep_as, strip_as, strip, strips, is_quote, quote_width}
 
 -- these columns stand one behind the other, from one place to another
 abbrev pub Runs : ℕ → List Column → ℕ → Type 0
@@ -93,17 +93,26 @@ Along-le from (r ∷ rs) to h =
     omega (arith, a, b, c, d)
 
 -- prefixes taken off leave lines one behind the other
+wide-without : (width : ℕ) (r s : Row) → (if is_blank_line r || nat_le width (indent_of r) then Some (without width r) else None) ≡ Some s → without width r ≡ s
+wide-without width r s e = go _ e
+  where
+    go : (z : Bool) → (if z then Some (without width r) else None) ≡ Some s → without width r ≡ s
+    go true q = cc
+    go false q = cc
+
 kept_as-without : (k : Container) (r s : Row) → keep_as k r ≡ Some s → (n : ℕ) × (without n r ≡ s)
 kept_as-without (Quote alert) r s e = (quote_width r, go (is_quote r) e)
   where
     go : (z : Bool) → (if z then Some (without (quote_width r) r) else None) ≡ Some s → without (quote_width r) r ≡ s
     go true q = cc
     go false q = cc
-kept_as-without (Item mark number width) r s e = (width, go _ e)
+kept_as-without (Footnote label true size) r s e = (0, go _ e)
   where
-    go : (z : Bool) → (if z then Some (without width r) else None) ≡ Some s → without width r ≡ s
+    go : (z : Bool) → (if z then None else Some r) ≡ Some s → without 0 r ≡ s
     go true q = cc
-    go false q = cc
+    go false q = let p : r ≡ s = cc in p
+kept_as-without (Footnote label false size) r s e = (4, wide-without 4 r s e)
+kept_as-without (Item mark number width) r s e = (width, wide-without width r s e)
 
 pub kept-without : (k : Container) (bare : Bool) (r s : Row) → keeps k bare r ≡ Some s → (n : ℕ) × (without n r ≡ s)
 unfolding keeps

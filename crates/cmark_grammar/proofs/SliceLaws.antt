@@ -5,7 +5,7 @@ use Rattle.cmark_grammar.specs.Answers.{Lookup}
 use Rattle.cmark_grammar.specs.Options.{Options}
 use Rattle.cmark_grammar.specs.Columns.{Column}
 use Rattle.cmark_grammar.specs.Rows.{Row, first_place, begin_of, start_of}
-use Rattle.cmark_grammar.specs.Containers.{Quote, Item}
+use Rattle.cmark_grammar.specs.Containers.{Quote, Item, Footnote}
 use Rattle.cmark_grammar.specs.Openings.{Leaf, ThematicBreak as ThematicBreakLeaf, AtxHeading as AtxHeadingLeaf, IndentedCode as IndentedCodeLeaf, FencedCode as FencedCodeLeaf, HtmlBlock as HtmlBlockLeaf, LinkDefinition as LinkDefinitionLeaf, MetadataBlock as MetadataBlockLeaf}
 use Rattle.cmark_grammar.specs.Blocks.{Blocks, Nil as NoBlocks, BlankLine, Paragraph as ParagraphBlock, SetextHeading, LeafBlock, ContainerBlock}
 use Rattle.cmark_grammar.specs.Lists.{ListBefore, tight_behind, goes_on}
@@ -147,6 +147,8 @@ module _ (text : List ℕ) where
   document-sliced options lookup direct before (LeafBlock leaf first more after) =
       leaf-sliced options lookup leaf first more (document_of text options lookup direct None after) (document-sliced options lookup direct None after)
   document-sliced options lookup direct before (ContainerBlock (Quote alert) first more inside after) =
+      (tt, document-sliced options lookup false None inside, document-sliced options lookup direct None after)
+  document-sliced options lookup direct before (ContainerBlock (Footnote label old size) first more inside after) =
       (tt, document-sliced options lookup false None inside, document-sliced options lookup direct None after)
   document-sliced options lookup direct before (ContainerBlock (Item mark number width) first more inside after) =
       let tight = tight_behind before mark inside after in

@@ -4,7 +4,7 @@ use Rattle.std.specs.Prelude.{if◌then◌else◌}
 use Rattle.cmark_grammar.specs.Answers.{Lookup}
 use Rattle.cmark_grammar.specs.Options.{Options}
 use Rattle.cmark_grammar.specs.Rows.{Row, first_place, start_of, past_of, begin_of}
-use Rattle.cmark_grammar.specs.Containers.{Quote, Item}
+use Rattle.cmark_grammar.specs.Containers.{Quote, Item, Footnote}
 use Rattle.cmark_grammar.specs.Openings.{Leaf, ThematicBreak as ThematicBreakLeaf, AtxHeading as AtxHeadingLeaf, IndentedCode as IndentedCodeLeaf, FencedCode as FencedCodeLeaf, HtmlBlock as HtmlBlockLeaf, LinkDefinition as LinkDefinitionLeaf, MetadataBlock as MetadataBlockLeaf}
 use Rattle.cmark_grammar.specs.Blocks.{Blocks, Nil as NoBlocks, BlankLine, Paragraph as ParagraphBlock, SetextHeading, LeafBlock, ContainerBlock}
 use Rattle.cmark_grammar.specs.Lists.{ListBefore, tight_behind, goes_on, is_tight}
@@ -89,6 +89,7 @@ module _ (text : List ℕ) (options : Options) (lookup : Lookup) where
   rest_of direct tight mark (SetextHeading level first more underline after) e = absurd (true≢false (sym e))
   rest_of direct tight mark (LeafBlock leaf first more after) e = absurd (true≢false (sym e))
   rest_of direct tight mark (ContainerBlock (Quote alert) first more inside after) e = absurd (true≢false (sym e))
+  rest_of direct tight mark (ContainerBlock (Footnote label old size) first more inside after) e = absurd (true≢false (sym e))
   rest_of direct tight mark (ContainerBlock (Item m number width) first more inside after) e =
       let t : tight_behind (Some (record { mark = mark; tight = tight })) m inside after ≡ tight = if_true (mark == m) tight (is_tight m inside after) (eqb_sym m mark e) in
       subst (λ z. Rest z (document_of text options lookup direct (Some (record { mark = mark; tight = tight })) (ContainerBlock (Item m number width) first more inside after))) t
@@ -113,6 +114,7 @@ module _ (text : List ℕ) (options : Options) (lookup : Lookup) where
   document-tight direct before (SetextHeading level first more underline after) = (tt, paragraph_tight false text first more, document-tight direct None after)
   document-tight direct before (LeafBlock leaf first more after) = leaf_tight text options lookup direct leaf first more (document_of text options lookup direct None after) (document-tight direct None after)
   document-tight direct before (ContainerBlock (Quote alert) first more inside after) = (tt, document-tight false None inside, document-tight direct None after)
+  document-tight direct before (ContainerBlock (Footnote label old size) first more inside after) = (tt, document-tight false None inside, document-tight direct None after)
   document-tight direct before (ContainerBlock (Item mark number width) first more inside after) =
       let tight = tight_behind before mark inside after in
       item_tight direct (goes_on mark after) number tight (node ListItem (begin_of first) (past_of first more)) (document_of text options lookup tight None inside) (document_of text options lookup direct (Some (record { mark = mark; tight = tight })) after) refl

@@ -13,8 +13,9 @@ pub record Reference : Type 0 where
   pub end : ℕ
 
 -- what a node is. A paragraph that stands directly in an item of a tight list is no element of its own; a heading has
--- its attributes, a block quote its kind, if it is an alert, a list the number of its first item, if it is ordered. A
--- text and an HTML line stand as they are in the text; an owned text is the spaces that are left of a tab. The texts of a
+-- its attributes, a block quote its kind, if it is an alert, a list the number of its first item, if it is ordered, a
+-- footnote definition its label's normal form. A text and an HTML line stand as they are in the text; an owned text is the spaces that are left
+-- of a tab. The texts of a
 -- paragraph or heading are raw, with their line endings: what they say is for the inline pass to read
 pub data BlockKind : Type 0 where
   Paragraph : BlockKind
@@ -29,6 +30,7 @@ pub data BlockKind : Type 0 where
   BlockQuote : (alert : Option BlockQuoteKind) → BlockKind
   BlockList : (number : Option ℕ) → (tight : Bool) → BlockKind
   ListItem : BlockKind
+  FootnoteDefinition : (label : List ℕ) → BlockKind
   Text : (bytes : List ℕ) → BlockKind
   OwnedText : (bytes : List ℕ) → BlockKind
   Html : (bytes : List ℕ) → BlockKind

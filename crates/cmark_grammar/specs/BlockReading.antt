@@ -6,7 +6,7 @@ use Rattle.cmark_grammar.specs.CodeBlockKind.{Indented, Fenced}
 use Rattle.cmark_grammar.specs.TagEnd.{end_of}
 use Rattle.cmark_grammar.specs.Event as event
 use Rattle.cmark_grammar.specs.Event.{Event, Start, End, Rule, Ranged}
-use Rattle.cmark_grammar.specs.BlockDocument.{BlockKind, Paragraph, TightParagraph, Heading, ThematicBreak, IndentedCode, FencedCode, HtmlBlock, LinkDefinition, MetadataBlock, BlockQuote, BlockList, ListItem, Text, OwnedText, Html, BlockNode, BlockDocument, Nil, Node}
+use Rattle.cmark_grammar.specs.BlockDocument.{BlockKind, Paragraph, TightParagraph, Heading, ThematicBreak, IndentedCode, FencedCode, HtmlBlock, LinkDefinition, MetadataBlock, BlockQuote, BlockList, ListItem, FootnoteDefinition, Text, OwnedText, Html, BlockNode, BlockDocument, Nil, Node}
 
 -- how a node is read: as an element around what is inside it, as what is inside it alone, as one event, or not at all
 pub data Reads : Type 0 where
@@ -28,6 +28,7 @@ read_as HtmlBlock = Around tag.HtmlBlock
 read_as (LinkDefinition reference) = Silent
 read_as (MetadataBlock kind) = Around (tag.MetadataBlock kind)
 read_as (BlockQuote alert) = Around (tag.BlockQuote alert)
+read_as (FootnoteDefinition label) = Around (tag.FootnoteDefinition label)
 read_as (BlockList number tight) = Around (tag.Listing number)
 read_as ListItem = Around tag.ListItem
 read_as (Text bytes) = Alone (event.Text bytes)

@@ -2,7 +2,7 @@
 use Rattle.std.specs.Prelude.{◌≡◌, ◌⊎◌, ℕ, Bool, true, false, List, [], ◌∷◌, ◌++◌, length, Some, None}
 use Rattle.cmark_grammar.specs.Rows.{Row, shown}
 use Rattle.cmark_grammar.specs.Leaves.{underlines}
-use Rattle.cmark_grammar.specs.Containers.{Container, Quote, Item, keeps, is_bare_start, bare_after, insides}
+use Rattle.cmark_grammar.specs.Containers.{Container, Quote, Item, Footnote, keeps, is_bare_start, bare_after, insides}
 use Rattle.cmark_grammar.specs.Openings.{Leaf, ThematicBreak, AtxHeading, IndentedCode, FencedCode, HtmlBlock, LinkDefinition, MetadataBlock, Blank, Nests, Takes, Plain, opens_at, texts, lazily}
 use Rattle.cmark_grammar.specs.Options.{Options}
 use Rattle.cmark_grammar.specs.Places.{Place, Apart, BehindLazy, BehindTitle, allows_lazy, over_blank}
@@ -41,6 +41,7 @@ abbrev pub place_in : Container → Place
 place_in (Quote None) = Apart
 place_in (Quote (Some kind)) = BehindLazy
 place_in (Item mark number width) = Apart
+place_in (Footnote label old size) = Apart
 
 -- where a line stands behind such a container
 abbrev pub behind_container : Container → Place

@@ -7,11 +7,13 @@ use Rattle.cmark_grammar.specs.BlockQuoteKind.{BlockQuoteKind}
 use Rattle.cmark_grammar.specs.Alerts.{alert_in}
 use Rattle.cmark_grammar.specs.Options.{Options}
 
--- a block quote, with its kind if it is an alert, or a list item: its character (the bullet, or what stands behind the number), its number if it is
--- ordered, and the width of the prefix that its later lines have
+-- a block quote, with its kind if it is an alert; a list item: its character (the bullet, or what stands behind the number), its number if it is
+-- ordered, and the width of the prefix that its later lines have; or a footnote definition: the bytes of its label, whether it is read as such
+-- definitions were before, and how many columns its marker has, from `[^` to the colon (this profile's own)
 pub data Container : Type 0 where
   Quote : (alert : Option BlockQuoteKind) → Container
   Item : (mark : ℕ) → (number : Option ℕ) → (width : ℕ) → Container
+  Footnote : (label : List ℕ) → (old : Bool) → (size : ℕ) → Container
 
 abbrev pub is_bullet : ℕ → Bool
 is_bullet b = (b == 45) || ((b == 43) || (b == 42))
@@ -93,23 +95,37 @@ abbrev pub is_alert : Container → Bool
 is_alert (Quote None) = false
 is_alert (Quote (Some kind)) = true
 is_alert (Item mark number width) = false
+is_alert (Footnote label old size) = false
+
+-- the indent, the marker of a footnote definition and all blanks behind it
+abbrev pub footnote_width : (size : ℕ) → Row → ℕ
+footnote_width size r = indent_of r + (size + indent (behind_marker size r))
 
 abbrev pub width_of : Container → Row → ℕ
 width_of (Quote alert) r = quote_width r
 width_of (Item mark number width) r = width
+width_of (Footnote label old size) r = footnote_width size r
 
 -- a container's first line, behind the marker
 unfoldable pub enter : Container → Row → Row
 enter k r = without (width_of k r) r
 
+-- a footnote definition has four columns in front of its later lines, which may be blank; as such definitions were read before, nothing, and a
+-- blank line ends it (this profile's own)
+abbrev pub keep_footnote : (old : Bool) → Row → Option Row
+keep_footnote true r = if is_blank_line r then None else Some r
+keep_footnote false r = if is_blank_line r || nat_le 4 (indent_of r) then Some (without 4 r) else None
+
 abbrev pub keep_as : Container → Row → Option Row
 keep_as (Quote alert) r = if is_quote r then Some (without (quote_width r) r) else None
 keep_as (Item mark number width) r = if is_blank_line r || nat_le width (indent_of r) then Some (without width r) else None
+keep_as (Footnote label old size) r = keep_footnote old r
 
 -- an item whose first line is blank behind the marker
 abbrev pub is_bare_start : Container → Row → Bool
 is_bare_start (Quote alert) first = false
 is_bare_start (Item mark number width) first = is_blank_line (enter (Item mark number width) first)
+is_bare_start (Footnote label old size) first = false
 
 -- a later line behind the container's prefix, if it has the prefix. Bare: the line before was the blank first line of an
 -- item; then a blank line ends the item (CommonMark 5.2)

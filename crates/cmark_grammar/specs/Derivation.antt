@@ -9,13 +9,13 @@ use Rattle.cmark_grammar.specs.Rows.{Row, rows, first_place, begin_of, start_of,
 use Rattle.cmark_grammar.specs.Labels.{normal_form}
 use Rattle.cmark_grammar.specs.LinkDefinitions.{Definition}
 use Rattle.cmark_grammar.specs.Metadata.{ends_metadata}
-use Rattle.cmark_grammar.specs.Containers.{Quote, Item}
+use Rattle.cmark_grammar.specs.Containers.{Quote, Item, Footnote}
 use Rattle.cmark_grammar.specs.Openings.{Leaf, ThematicBreak as ThematicBreakLeaf, AtxHeading as AtxHeadingLeaf, IndentedCode as IndentedCodeLeaf, FencedCode as FencedCodeLeaf, HtmlBlock as HtmlBlockLeaf, LinkDefinition as LinkDefinitionLeaf, MetadataBlock as MetadataBlockLeaf}
 use Rattle.cmark_grammar.specs.Blocks.{Blocks, Nil as NoBlocks, BlankLine, Paragraph as ParagraphBlock, SetextHeading, LeafBlock, ContainerBlock, Body}
 use Rattle.cmark_grammar.specs.BlocksModel.{blocks}
 use Rattle.cmark_grammar.specs.Lists.{ListBefore, tight_behind, goes_on}
 use Rattle.cmark_grammar.specs.Tokens.{resolved, title_lines, paragraph_tokens, heading_tokens, heading_attributes, code_tokens, lines_before, fenced_lines, html_tokens, code_columns}
-use Rattle.cmark_grammar.specs.BlockDocument.{Reference, BlockKind, Paragraph, TightParagraph, Heading, ThematicBreak, IndentedCode, FencedCode, HtmlBlock, LinkDefinition, MetadataBlock, BlockQuote, BlockList, ListItem, BlockNode, BlockDocument, Nil, Node, node}
+use Rattle.cmark_grammar.specs.BlockDocument.{Reference, BlockKind, Paragraph, TightParagraph, Heading, ThematicBreak, IndentedCode, FencedCode, HtmlBlock, LinkDefinition, MetadataBlock, BlockQuote, BlockList, ListItem, FootnoteDefinition, BlockNode, BlockDocument, Nil, Node, node}
 
 -- where the last of these lines ends, without its line ending
 abbrev pub stop_of : Row → List Row → ℕ
@@ -64,7 +64,7 @@ abbrev pub paragraph_kind : (direct : Bool) → BlockKind
 paragraph_kind direct = if direct then TightParagraph else Paragraph
 
 -- the document of blocks. Direct: they stand directly in an item of a tight list; list: that of the item before. A block
--- quote runs from its marker, an item from the indent before it, to behind its last line
+-- quote and a footnote definition run from their marker, an item from the indent before it, to behind its last line
 abbrev pub document_of : List ℕ → Options → Lookup → (direct : Bool) → (list : Option ListBefore) → Blocks → BlockDocument
 document_of text options lookup direct list NoBlocks = Nil
 document_of text options lookup direct list (BlankLine line after) = document_of text options lookup direct list after
@@ -75,6 +75,8 @@ document_of text options lookup direct list (SetextHeading level first more unde
 document_of text options lookup direct list (LeafBlock leaf first more after) = leaf_then text options lookup leaf first more (document_of text options lookup direct None after)
 document_of text options lookup direct list (ContainerBlock (Quote alert) first more inside after) =
     Node (node (BlockQuote alert) (start_of first) (past_of first more)) (document_of text options lookup false None inside) (document_of text options lookup direct None after)
+document_of text options lookup direct list (ContainerBlock (Footnote label old size) first more inside after) =
+    Node (node (FootnoteDefinition (normal_form label)) (start_of first) (past_of first more)) (document_of text options lookup false None inside) (document_of text options lookup direct None after)
 document_of text options lookup direct list (ContainerBlock (Item mark number width) first more inside after) =
     let tight = tight_behind list mark inside after in
     item_then (goes_on mark after) number tight (node ListItem (begin_of first) (past_of first more)) (document_of text options lookup tight None inside)

@@ -28,6 +28,7 @@ pub mod Entities
 pub mod Escapes
 pub mod Event
 pub mod Flanking
+pub mod Footnotes
 pub mod Formulas
 pub mod Html
 pub mod HtmlBlocks

@@ -1,6 +1,6 @@
 -- Lists: neighbouring items, and whether a list is loose (CommonMark 5.3).
 use Rattle.std.specs.Prelude.{ℕ, Bool, true, false, ◌==◌, ◌&&◌, ◌||◌, not, if◌then◌else◌, Option, Some, None}
-use Rattle.cmark_grammar.specs.Containers.{Quote, Item}
+use Rattle.cmark_grammar.specs.Containers.{Quote, Item, Footnote}
 use Rattle.cmark_grammar.specs.Blocks.{Blocks, Nil, BlankLine, Paragraph, SetextHeading, LeafBlock, ContainerBlock}
 
 -- whether a blank line ends these blocks, where a nested item ends with the blank lines that its last block ends with.
@@ -12,6 +12,7 @@ ends_blank front so (Paragraph first more after) = ends_blank false false after
 ends_blank front so (SetextHeading level first more underline after) = ends_blank false false after
 ends_blank front so (LeafBlock leaf first more after) = ends_blank false false after
 ends_blank front so (ContainerBlock (Quote alert) first more inside after) = ends_blank false false after
+ends_blank front so (ContainerBlock (Footnote label old size) first more inside after) = ends_blank false false after
 ends_blank front so (ContainerBlock (Item mark number width) first more inside after) = ends_blank false (ends_blank true false inside) after
 
 -- what stands before a block in its container
@@ -39,6 +40,7 @@ parted before blank (Paragraph first more after) = blank || parted Other false a
 parted before blank (SetextHeading level first more underline after) = blank || parted Other false after
 parted before blank (LeafBlock leaf first more after) = blank || parted Other false after
 parted before blank (ContainerBlock (Quote alert) first more inside after) = blank || parted Other false after
+parted before blank (ContainerBlock (Footnote label old size) first more inside after) = blank || parted Other false after
 parted before blank (ContainerBlock (Item mark number width) first more inside after) =
     (blank && not (is_list_of mark before)) || parted (ItemWith mark) (ends_blank true false inside) after
 
@@ -54,6 +56,7 @@ loose_from mark blank (Paragraph first more after) = false
 loose_from mark blank (SetextHeading level first more underline after) = false
 loose_from mark blank (LeafBlock leaf first more after) = false
 loose_from mark blank (ContainerBlock (Quote alert) first more inside after) = false
+loose_from mark blank (ContainerBlock (Footnote label old size) first more inside after) = false
 loose_from mark blank (ContainerBlock (Item m number width) first more inside after) =
     (m == mark) && (blank || (is_parted_item inside || loose_from mark (ends_blank true false inside) after))
 
@@ -70,6 +73,7 @@ goes_on mark (Paragraph first more after) = false
 goes_on mark (SetextHeading level first more underline after) = false
 goes_on mark (LeafBlock leaf first more after) = false
 goes_on mark (ContainerBlock (Quote alert) first more inside after) = false
+goes_on mark (ContainerBlock (Footnote label old size) first more inside after) = false
 goes_on mark (ContainerBlock (Item m number width) first more inside after) = m == mark
 
 -- the list to which the item before belongs

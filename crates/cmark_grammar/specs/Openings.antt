@@ -4,7 +4,7 @@ use Rattle.cmark_grammar.specs.Rows.{Row, is_blank_line, indent_of, words_of, wi
 use Rattle.cmark_grammar.specs.Leaves.{Fence, underlines, counted, run, is_thematic_break, is_atx_heading, fence_of, fence_further, code_further}
 use Rattle.cmark_grammar.specs.HtmlBlocks.{html_kind, html_lines}
 use Rattle.cmark_grammar.specs.LinkDefinitions.{Definition, Defined, definition_in, bytes_over, line_ends}
-use Rattle.cmark_grammar.specs.Containers.{Container, Quote, Item, item_of, is_quote, container_of}
+use Rattle.cmark_grammar.specs.Containers.{Container, Quote, Item, Footnote, item_of, is_quote, container_of}
 use Rattle.cmark_grammar.specs.Metadata.{metadata_kind, holds_metadata, metadata_further}
 use Rattle.cmark_grammar.specs.MetadataBlockKind.{MetadataBlockKind}
 use Rattle.cmark_grammar.specs.Options.{Options}
@@ -46,6 +46,7 @@ is_one (Some n) = n == 1
 abbrev pub item_interrupts : (same : Bool) → Row → Option Container → Bool
 item_interrupts same r None = false
 item_interrupts same r (Some (Quote alert)) = false
+item_interrupts same r (Some (Footnote label old size)) = false
 item_interrupts same r (Some (Item mark number width)) = not same || (is_one number && not (is_blank_line (without width r)))
 
 abbrev pub is_some_fence : Option Fence → Bool

@@ -1,7 +1,7 @@
 -- The ranges of a document's nodes.
 use Rattle.std.specs.Prelude.{◌≡◌, ℕ, suc, ◌+◌, ◌≤◌, List}
 use Rattle.cmark_grammar.specs.Tokens.{slice}
-use Rattle.cmark_grammar.specs.BlockDocument.{BlockKind, Paragraph, TightParagraph, Heading, ThematicBreak, IndentedCode, FencedCode, HtmlBlock, LinkDefinition, MetadataBlock, BlockQuote, BlockList, ListItem, Text, OwnedText, Html, BlockDocument, Nil, Node}
+use Rattle.cmark_grammar.specs.BlockDocument.{BlockKind, Paragraph, TightParagraph, Heading, ThematicBreak, IndentedCode, FencedCode, HtmlBlock, LinkDefinition, MetadataBlock, BlockQuote, BlockList, ListItem, FootnoteDefinition, Text, OwnedText, Html, BlockDocument, Nil, Node}
 
 -- between these two places the nodes stand in order: none begins before the one before it has ended, and each holds what
 -- is inside it
@@ -32,6 +32,7 @@ IsSlice text HtmlBlock start end = Unit {0}
 IsSlice text (LinkDefinition reference) start end = Unit {0}
 IsSlice text (MetadataBlock kind) start end = Unit {0}
 IsSlice text (BlockQuote alert) start end = Unit {0}
+IsSlice text (FootnoteDefinition label) start end = Unit {0}
 IsSlice text (BlockList number tight) start end = Unit {0}
 IsSlice text ListItem start end = Unit {0}
 IsSlice text (OwnedText bytes) start end = Unit {0}

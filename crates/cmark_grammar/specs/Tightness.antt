@@ -1,6 +1,6 @@
 -- Paragraphs of tight lists (CommonMark 5.3).
 use Rattle.std.specs.Prelude.{◌≡◌, Bool, true, false}
-use Rattle.cmark_grammar.specs.BlockDocument.{BlockKind, Paragraph, TightParagraph, Heading, ThematicBreak, IndentedCode, FencedCode, HtmlBlock, LinkDefinition, MetadataBlock, BlockQuote, BlockList, ListItem, Text, OwnedText, Html, BlockDocument, Nil, Node}
+use Rattle.cmark_grammar.specs.BlockDocument.{BlockKind, Paragraph, TightParagraph, Heading, ThematicBreak, IndentedCode, FencedCode, HtmlBlock, LinkDefinition, MetadataBlock, BlockQuote, BlockList, ListItem, FootnoteDefinition, Text, OwnedText, Html, BlockDocument, Nil, Node}
 
 -- whether what is inside such a node stands in items of a tight list, or directly in one
 abbrev pub tight_within : Bool → BlockKind → Bool
@@ -16,6 +16,7 @@ tight_within tight HtmlBlock = false
 tight_within tight (LinkDefinition reference) = false
 tight_within tight (MetadataBlock kind) = false
 tight_within tight (BlockQuote alert) = false
+tight_within tight (FootnoteDefinition label) = false
 tight_within tight (Text bytes) = false
 tight_within tight (OwnedText bytes) = false
 tight_within tight (Html bytes) = false
@@ -32,6 +33,7 @@ IsElement tight HtmlBlock = Unit {0}
 IsElement tight (LinkDefinition reference) = Unit {0}
 IsElement tight (MetadataBlock kind) = Unit {0}
 IsElement tight (BlockQuote alert) = Unit {0}
+IsElement tight (FootnoteDefinition label) = Unit {0}
 IsElement tight (BlockList number t) = Unit {0}
 IsElement tight ListItem = Unit {0}
 IsElement tight (Text bytes) = Unit {0}

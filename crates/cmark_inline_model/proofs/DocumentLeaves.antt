@@ -1,6 +1,6 @@
 -- The leaves of a document that is derived stand in order.
 use Rattle.std.proofs.Common.{ℕ, ◌≤◌, List, [], ◌∷◌, ◌++◌, arith}
-use Rattle.cmark_grammar.specs.BlockDocument.{BlockKind, Paragraph, TightParagraph, Heading, ThematicBreak, IndentedCode, FencedCode, HtmlBlock, LinkDefinition, MetadataBlock, BlockQuote, BlockList, ListItem, Text, OwnedText, Html, BlockNode, BlockDocument, Nil, Node}
+use Rattle.cmark_grammar.specs.BlockDocument.{BlockKind, Paragraph, TightParagraph, Heading, ThematicBreak, IndentedCode, FencedCode, HtmlBlock, LinkDefinition, MetadataBlock, BlockQuote, BlockList, ListItem, FootnoteDefinition, Text, OwnedText, Html, BlockNode, BlockDocument, Nil, Node}
 use Rattle.cmark_grammar.specs.BlockReading.{Reads, Around, Inside, Alone, Silent, read_as}
 use Rattle.cmark_grammar.specs.LeafText.{InTurn}
 use Rattle.cmark_grammar.specs.Ranges.{InOrder}
@@ -33,6 +33,7 @@ inside_turn size HtmlBlock content others h k = k
 inside_turn size (MetadataBlock kind) content others h k = k
 inside_turn size (LinkDefinition reference) content others h k = k
 inside_turn size (BlockQuote alert) content others h k = k
+inside_turn size (FootnoteDefinition label) content others h k = k
 inside_turn size (BlockList number tight) content others h k = k
 inside_turn size ListItem content others h k = k
 inside_turn size (Text bytes) content others h k = k

@@ -5,7 +5,7 @@ use Rattle.cmark_grammar.specs.Answers.{Lookup}
 use Rattle.cmark_grammar.specs.BlockDocument.{BlockKind, ListItem, Text, OwnedText, Html, BlockNode, BlockDocument, Nil, Node, node}
 use Rattle.cmark_grammar.specs.BlockReading.{Reads, Around, Inside, Alone, Silent, read_as}
 use Rattle.cmark_grammar.specs.Blocks.{Blocks, Nil as NoBlocks, BlankLine, Paragraph as ParagraphBlock, SetextHeading, LeafBlock, ContainerBlock, behind_leaf, place_in, Body}
-use Rattle.cmark_grammar.specs.Containers.{Container, Quote, Item, is_alert, unless_tag, enter, strips, is_bare_start, insides}
+use Rattle.cmark_grammar.specs.Containers.{Container, Quote, Item, Footnote, is_alert, unless_tag, enter, strips, is_bare_start, insides}
 use Rattle.cmark_grammar.specs.Derivation.{leaf_then, item_then, document_of, Derives}
 use Rattle.cmark_grammar.specs.Lines.{lines, ends_line, onto, is_content, line_feed, carriage_return, begins_with_line_feed}
 use Rattle.cmark_grammar.specs.Lists.{ListBefore, tight_behind, goes_on}
@@ -245,6 +245,13 @@ document_of_lines text options lookup direct before behind all (ContainerBlock (
     let s = rows_split text (first ∷ more) body.rest c in (
       no_leaf text (document_of text options lookup false None inside),
       document_of_lines text options lookup false None (place_in (Quote alert)) (insides (Quote alert) first more) inside body.contents (rows_inside text (Quote alert) first more s.0),
+      document_of_lines text options lookup direct None Apart body.rest after body.after s.1,
+    )
+document_of_lines text options lookup direct before behind all (ContainerBlock (Footnote label old size) first more inside after) body g =
+    let c : RowsEnd text ((first ∷ more) ++ body.rest) = subst (RowsEnd text) body.cut g in
+    let s = rows_split text (first ∷ more) body.rest c in (
+      no_leaf text (document_of text options lookup false None inside),
+      document_of_lines text options lookup false None (place_in (Footnote label old size)) (insides (Footnote label old size) first more) inside body.contents (rows_inside text (Footnote label old size) first more s.0),
       document_of_lines text options lookup direct None Apart body.rest after body.after s.1,
     )
 document_of_lines text options lookup direct before behind all (ContainerBlock (Item mark number width) first more inside after) body g =

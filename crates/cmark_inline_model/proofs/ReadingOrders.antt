@@ -2,7 +2,7 @@
 use Rattle.std.specs.Prelude.{zero, suc, ◌-◌, get_or}
 use Rattle.std.proofs.Common.{◌≡◌, inl, inr, ℕ, ◌<◌, ◌≤◌, true≢false, List, [], ◌∷◌, ◌++◌, length, refl, sym, ap, subst, arith, ◌∙◌, append_assoc, append-nil}
 use Rattle.std.proofs.lemmas.Bool.{eq-eqb}
-use Rattle.cmark_grammar.specs.BlockDocument.{BlockKind, Paragraph, TightParagraph, Heading, ThematicBreak, IndentedCode, FencedCode, HtmlBlock, LinkDefinition, MetadataBlock, BlockQuote, BlockList, ListItem, Text, OwnedText, Html, BlockNode, BlockDocument, Nil, Node}
+use Rattle.cmark_grammar.specs.BlockDocument.{BlockKind, Paragraph, TightParagraph, Heading, ThematicBreak, IndentedCode, FencedCode, HtmlBlock, LinkDefinition, MetadataBlock, BlockQuote, BlockList, ListItem, FootnoteDefinition, Text, OwnedText, Html, BlockNode, BlockDocument, Nil, Node}
 use Rattle.cmark_grammar.specs.BlockReading.{Reads as ReadsAs, Around, Inside, Alone, Silent, read_as, over}
 use Rattle.cmark_grammar.specs.BracketDecisions.{decide}
 use Rattle.cmark_grammar.specs.BracketReading.{Reads}
@@ -137,6 +137,7 @@ module _ (reader : Reader) (Says : Saying) where
   inside_placed (MetadataBlock kind) content from to o k = k
   inside_placed (LinkDefinition reference) content from to o k = k
   inside_placed (BlockQuote alert) content from to o k = k
+  inside_placed (FootnoteDefinition label) content from to o k = k
   inside_placed (BlockList number tight) content from to o k = k
   inside_placed ListItem content from to o k = k
   inside_placed (Text bytes) content from to o k = k

@@ -1,6 +1,6 @@
 -- The segments of a document: its blocks are no links and need no option of spans, and its leaves stand one behind the other.
 use Rattle.std.proofs.Common.{◌≡◌, ℕ, ◌≤◌, List, [], ◌∷◌, ◌++◌, refl, arith}
-use Rattle.cmark_grammar.specs.BlockDocument.{BlockKind, Paragraph, TightParagraph, Heading, ThematicBreak, IndentedCode, FencedCode, HtmlBlock, LinkDefinition, MetadataBlock, BlockQuote, BlockList, ListItem, Text, OwnedText, Html, BlockNode, BlockDocument, Nil, Node}
+use Rattle.cmark_grammar.specs.BlockDocument.{BlockKind, Paragraph, TightParagraph, Heading, ThematicBreak, IndentedCode, FencedCode, HtmlBlock, LinkDefinition, MetadataBlock, BlockQuote, BlockList, ListItem, FootnoteDefinition, Text, OwnedText, Html, BlockNode, BlockDocument, Nil, Node}
 use Rattle.cmark_grammar.specs.BlockReading.{Reads, Around, Inside, Alone, Silent, read_as, over}
 use Rattle.cmark_grammar.specs.Event.{Event, Start, End}
 use Rattle.cmark_grammar.specs.LeafText.{Stretch, InTurn}
@@ -42,6 +42,7 @@ inside_given Holds HtmlBlock content others k = k
 inside_given Holds (MetadataBlock kind) content others k = k
 inside_given Holds (LinkDefinition reference) content others k = k
 inside_given Holds (BlockQuote alert) content others k = k
+inside_given Holds (FootnoteDefinition label) content others k = k
 inside_given Holds (BlockList number tight) content others k = k
 inside_given Holds ListItem content others k = k
 inside_given Holds (Text bytes) content others k = k
@@ -77,6 +78,7 @@ kind_neither HtmlBlock = (refl, refl)
 kind_neither (MetadataBlock kind) = (refl, refl)
 kind_neither (LinkDefinition reference) = tt
 kind_neither (BlockQuote alert) = (refl, refl)
+kind_neither (FootnoteDefinition label) = (refl, refl)
 kind_neither (BlockList number tight) = (refl, refl)
 kind_neither ListItem = (refl, refl)
 kind_neither (Text bytes) = refl
@@ -98,6 +100,7 @@ kind_optionless options HtmlBlock = (tt, tt)
 kind_optionless options (MetadataBlock kind) = (tt, tt)
 kind_optionless options (LinkDefinition reference) = tt
 kind_optionless options (BlockQuote alert) = (tt, tt)
+kind_optionless options (FootnoteDefinition label) = (tt, tt)
 kind_optionless options (BlockList number tight) = (tt, tt)
 kind_optionless options ListItem = (tt, tt)
 kind_optionless options (Text bytes) = tt
@@ -143,6 +146,7 @@ inside_rise from to HtmlBlock content others h k = k
 inside_rise from to (MetadataBlock kind) content others h k = k
 inside_rise from to (LinkDefinition reference) content others h k = k
 inside_rise from to (BlockQuote alert) content others h k = k
+inside_rise from to (FootnoteDefinition label) content others h k = k
 inside_rise from to (BlockList number tight) content others h k = k
 inside_rise from to ListItem content others h k = k
 inside_rise from to (Text bytes) content others h k = k

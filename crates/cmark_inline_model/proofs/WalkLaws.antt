@@ -4,7 +4,7 @@ use Rattle.std.proofs.Common.{◌≡◌, ℕ, List, [], ◌∷◌, ◌++◌, ref
 use Rattle.std.proofs.lemmas.List.{append_assoc}
 use Rattle.cmark_grammar.specs.Answers.{Lookup}
 use Rattle.cmark_grammar.specs.Balance.{IsSingle}
-use Rattle.cmark_grammar.specs.BlockDocument.{BlockKind, Paragraph, TightParagraph, Heading, ThematicBreak, IndentedCode, FencedCode, HtmlBlock, LinkDefinition, MetadataBlock, BlockQuote, BlockList, ListItem, Text, OwnedText, Html, BlockNode, BlockDocument, Nil, Node}
+use Rattle.cmark_grammar.specs.BlockDocument.{BlockKind, Paragraph, TightParagraph, Heading, ThematicBreak, IndentedCode, FencedCode, HtmlBlock, LinkDefinition, MetadataBlock, BlockQuote, BlockList, ListItem, FootnoteDefinition, Text, OwnedText, Html, BlockNode, BlockDocument, Nil, Node}
 use Rattle.cmark_grammar.specs.BlockReading.{Reads, Around, Inside, Alone, Silent, read_as, over}
 use Rattle.cmark_grammar.specs.Derivation.{Derives}
 use Rattle.cmark_grammar.specs.Event.{Event, Start, End, Text as TextEvent, Code, InlineHtml, SoftBreak, HardBreak, Ranged}
@@ -97,6 +97,7 @@ module _ (text : List ℕ) where
   inside_matches (LinkDefinition reference) content others k = k
   inside_matches (MetadataBlock kind) content others k = k
   inside_matches (BlockQuote alert) content others k = k
+  inside_matches (FootnoteDefinition label) content others k = k
   inside_matches (BlockList number tight) content others k = k
   inside_matches ListItem content others k = k
   inside_matches (Text bytes) content others k = k
@@ -148,6 +149,7 @@ module _ (text : List ℕ) where
   inside_edges (LinkDefinition reference) content others k = k
   inside_edges (MetadataBlock kind) content others k = k
   inside_edges (BlockQuote alert) content others k = k
+  inside_edges (FootnoteDefinition label) content others k = k
   inside_edges (BlockList number tight) content others k = k
   inside_edges ListItem content others k = k
   inside_edges (Text bytes) content others k = k

@@ -49,6 +49,7 @@ shape (body.MetadataBlock kind) = Element (document.MetadataBlock (shown_metadat
 shape (body.BlockQuote kind) = Element (document.BlockQuote (option_map shown_block_quote_kind kind))
 shape (body.List flags mark number) = Element (document.BlockList (list_number mark number) (is_tight flags))
 shape (body.ListItem width) = Element document.ListItem
+shape (body.FootnoteDefinition index) = Spelt document.FootnoteDefinition index.0
 shape (body.Text backslash_escaped) = TextSlice
 shape (body.SynthesizeText index) = Spelt document.OwnedText index.0
 shape (body.SynthesizeChar char) = Element (document.OwnedText (encode_utf8 char))

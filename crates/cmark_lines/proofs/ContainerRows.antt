@@ -37,6 +37,7 @@ shows-quote s k is h = by k (subst (λ x. Shows x k) is h)
     by : (k : grammar.Container) → Shows kept.Quote k → (alert : Option BlockQuoteKind) × (k ≡ grammar.Quote alert)
     by (grammar.Quote alert) p = (alert, refl)
     by (grammar.Item mark number width) p = absurd p
+    by (grammar.Footnote label old size) p = absurd p
 
 pub shows-item : (s : Container) (w : ℕ) (k : grammar.Container) → s ≡ kept.Item w → Shows s k → (mark : ℕ) × ((number : Option ℕ) × (k ≡ grammar.Item mark number w))
 shows-item s w k is h = by k (subst (λ x. Shows x k) is h)
@@ -44,6 +45,34 @@ shows-item s w k is h = by k (subst (λ x. Shows x k) is h)
     by : (k : grammar.Container) → Shows (kept.Item w) k → (mark : ℕ) × ((number : Option ℕ) × (k ≡ grammar.Item mark number w))
     by (grammar.Quote alert) p = absurd p
     by (grammar.Item mark number width) p = (mark, (number, ap (grammar.Item mark number) (sym p)))
+    by (grammar.Footnote label old size) p = absurd p
+
+pub shows-footnote : (s : Container) (old : Bool) (k : grammar.Container) → s ≡ kept.Footnote old → Shows s k → (label : List ℕ) × ((size : ℕ) × (k ≡ grammar.Footnote label old size))
+shows-footnote s old k is h = by k (subst (λ x. Shows x k) is h)
+  where
+    by : (k : grammar.Container) → Shows (kept.Footnote old) k → (label : List ℕ) × ((size : ℕ) × (k ≡ grammar.Footnote label old size))
+    by (grammar.Quote alert) p = absurd p
+    by (grammar.Item mark number width) p = absurd p
+    by (grammar.Footnote label o size) p = (label, (size, ap (λ z. grammar.Footnote label z size) (sym p)))
+
+-- a footnote definition keeps a line as an item of four columns does
+pub footnote-keeps : (label : List ℕ) (size : ℕ) (r : Row) → keeps (grammar.Item 0 None 4) false r ≡ keeps (grammar.Footnote label false size) false r
+unfolding keeps
+footnote-keeps label size r = refl
+
+pub old-blank : (label : List ℕ) (size : ℕ) (r : Row) → is_blank_line r ≡ true → None ≡ keeps (grammar.Footnote label true size) false r
+unfolding keeps
+old-blank label size r blank = go r.lazy ∙ ap (λ z. if r.lazy || (false && is_blank_line r) then None else (if z then None else Some r)) (sym blank)
+  where
+    go : (z : Bool) → None ≡ (if z || (false && is_blank_line r) then None else (if true then None else Some r))
+    go true = refl
+    go false = refl
+
+pub old-keeps : (label : List ℕ) (size : ℕ) (r : Row) → r.lazy ≡ false → is_blank_line r ≡ false → Some r ≡ keeps (grammar.Footnote label true size) false r
+unfolding keeps
+old-keeps label size r whole blank =
+    ap (λ z. if false || (false && is_blank_line r) then None else (if z then None else Some r)) (sym blank)
+    ∙ ap (λ z. if z || (false && is_blank_line r) then None else (if is_blank_line r then None else Some r)) (sym whole)
 
 -- what a container leaves of a line of a text stands in the text
 pub kept-in : (text : List ℕ) (rest : LineRest) (k : grammar.Container) (o : Option LineRest) → option_map row_of o ≡ keeps k false (row_of rest) → IsIn text rest → IfSome o (IsIn text)

@@ -6,7 +6,7 @@ use Rattle.cmark_grammar.specs.Options.{Options}
 use Rattle.cmark_grammar.specs.Rows.{Row, lazy_row, is_blank_line, indent_of, words_of}
 use Rattle.cmark_grammar.specs.Leaves.{is_thematic_break, is_atx_heading, fence_of, underlines}
 use Rattle.cmark_grammar.specs.HtmlBlocks.{html_kind}
-use Rattle.cmark_grammar.specs.Containers.{Container, Quote, Item, Marker, marker_of, item_with, item_of, is_quote, keeps}
+use Rattle.cmark_grammar.specs.Containers.{Container, Quote, Item, Footnote, Marker, marker_of, item_with, item_of, is_quote, keeps}
 use Rattle.cmark_grammar.specs.Openings.{Plain, item_interrupts, is_some_fence, html_interrupts, interrupts, texts, lazily, opens}
 
 -- no container keeps a line that lacks an outer prefix
@@ -25,6 +25,7 @@ lazy-item r (Some m) = refl
 lazy-item-interrupts : (same : Bool) (r : Row) (o : Option Container) → item_interrupts same (lazy_row r) o ≡ item_interrupts same r o
 lazy-item-interrupts same r None = refl
 lazy-item-interrupts same r (Some (Quote alert)) = refl
+lazy-item-interrupts same r (Some (Footnote label old size)) = refl
 lazy-item-interrupts same r (Some (Item mark number width)) = refl
 
 module _ (options : Options) (r : Row) (ahead : List Row) where

@@ -5,7 +5,7 @@ use Rattle.std.proofs.lemmas.Bool.{leb-true, leb-false}
 use Rattle.cmark_grammar.specs.Columns.{Column, indent, without_indent}
 use Rattle.cmark_grammar.specs.Rows.{Row, without, indent_of, words_of, is_bare}
 use Rattle.cmark_grammar.specs.Leaves.{is_parted, is_thematic_break}
-use Rattle.cmark_grammar.specs.Containers.{Container, Quote, Item, Marker, is_bullet, is_delimiter, digits, number_of, delimited, marker_of, behind_marker, padding, width_with, item_with, item_of, quote_width, enter, keeps}
+use Rattle.cmark_grammar.specs.Containers.{Container, Quote, Item, Footnote, Marker, is_bullet, is_delimiter, digits, number_of, delimited, marker_of, behind_marker, padding, width_with, item_with, item_of, quote_width, enter, keeps}
 use Rattle.cmark_scan.specs.LineMarkers.{begins_quote, behind_quote, item_in, item_numbers, entered}
 use Rattle.cmark_scan.proofs.PrefixSteps.{shallow, quote-seen, quote-entered, item-seen, item-entered, item-unseen, item-kept}
 use Rattle.cmark_lines.specs.Starts.{quote_entered, number_by, begun_item}
@@ -128,6 +128,18 @@ item-none r is = go (nat_le (indent_of r) 3) refl
             quote_item (Some m) x = test (is_parted (drop m.size (words_of r)) && not (is_thematic_break (words_of r))) x
               where
                 test : (z : Bool) → Some (Quote alert) ≡ (if z then Some (Item m.mark m.number (width_with m.size r)) else None) → ⊥
+                test true y = cc
+                test false y = cc
+    by (Some (Footnote label old size)) q e = absurd (never q)
+      where
+        never : Some (Footnote label old size) ≡ item_of r → ⊥
+        never p = footnote_item (marker_of (words_of r)) p
+          where
+            footnote_item : (m : Option Marker) → Some (Footnote label old size) ≡ item_with r m → ⊥
+            footnote_item None x = cc
+            footnote_item (Some m) x = test (is_parted (drop m.size (words_of r)) && not (is_thematic_break (words_of r))) x
+              where
+                test : (z : Bool) → Some (Footnote label old size) ≡ (if z then Some (Item m.mark m.number (width_with m.size r)) else None) → ⊥
                 test true y = cc
                 test false y = cc
     by (Some (Item mark number width)) q e = absurd (let p : None ≡ Some (mark, unwrap_or number 0, min (0 + width) (2 ^ 64 - 1)) = e in cc)

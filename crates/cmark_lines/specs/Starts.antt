@@ -13,12 +13,17 @@ use Rattle.cmark_lines.specs.declared.container.ItemStart.{ItemStart}
 use Rattle.cmark_lines.specs.declared.container.ContainerStart.{ContainerStart}
 use Rattle.cmark_lines.specs.declared.container.ContainerStart.TheVariants as begun
 
--- a container of the grammar keeps the lines that this one keeps: what else an item is does not matter to its later lines
+-- a container of the grammar keeps the lines that this one keeps: what else an item or a footnote definition is does not matter to its later lines
 abbrev pub Shows : Container → grammar.Container → Type 0
 Shows kept.Quote (grammar.Quote alert) = Unit {0}
 Shows kept.Quote (grammar.Item mark number width) = ⊥
+Shows kept.Quote (grammar.Footnote label old size) = ⊥
 Shows (kept.Item w) (grammar.Quote alert) = ⊥
 Shows (kept.Item w) (grammar.Item mark number width) = w ≡ width
+Shows (kept.Item w) (grammar.Footnote label old size) = ⊥
+Shows (kept.Footnote o) (grammar.Quote alert) = ⊥
+Shows (kept.Footnote o) (grammar.Item mark number width) = ⊥
+Shows (kept.Footnote o) (grammar.Footnote label old size) = o ≡ old
 
 abbrev pub shown_item : ItemStart → grammar.Container
 shown_item item = grammar.Item item.mark item.number item.width

@@ -20,6 +20,11 @@ pub enum Container {
         /// How many columns the prefix of its later lines has.
         width: usize,
     },
+    /// A footnote definition (this profile's own).
+    Footnote {
+        /// It is read as such definitions were before, and not as GitHub reads them.
+        old: bool,
+    },
 }
 
 /// A list item, as its first line shows it (CommonMark 5.2).
@@ -44,7 +49,8 @@ pub enum ContainerStart<'a> {
 
 impl Container {
     /// The line behind this container's prefix, if the container keeps the line. A block quote keeps the lines that have its
-    /// marker; an item those that are indented by its width, and blank lines. `bare` says that the line before was the item's
+    /// marker; an item those that are indented by its width, and blank lines; a footnote definition those that are indented by four
+    /// columns, and blank lines, or, as it was read before, all lines that are not blank. `bare` says that the line before was the item's
     /// first one, and blank behind the marker: then a blank line ends the item (CommonMark 5.2).
     #[inline]
     pub fn keeps<'a>(self, bare: bool, rest: LineRest<'a>) -> Option<LineRest<'a>>
@@ -57,6 +63,7 @@ impl Container {
         match self {
             Container::Quote => rest.behind_quote(),
             Container::Item { width } => rest.behind_width(width),
+            Container::Footnote { old } => rest.behind_footnote(old),
         }
     }
 }

@@ -8,7 +8,7 @@ use Rattle.cmark_grammar.specs.Columns.{Column, without_indent, bytes_of}
 use Rattle.cmark_grammar.specs.Rows.{Row, without, indent_of, words_of, is_bare, is_blank_line}
 use Rattle.cmark_grammar.specs.Leaves.{is_parted, is_thematic_break}
 use Rattle.cmark_grammar.specs.BlockQuoteKind.{BlockQuoteKind}
-use Rattle.cmark_grammar.specs.Containers.{Container, Quote, Item, Marker, marker_of, padding, width_with, item_with, item_of, begins_with, is_quote, one_blank, quote_width, enter, keep_as, keeps}
+use Rattle.cmark_grammar.specs.Containers.{Container, Quote, Item, Footnote, Marker, marker_of, padding, width_with, item_with, item_of, begins_with, is_quote, one_blank, quote_width, enter, keep_as, keeps}
 use Rattle.cmark_scan.specs.LineMarkers.{is_flush, begins_quote, behind_quote, item_in, item_numbers, entered}
 use Rattle.cmark_scan.proofs.PlaceSteps.{indent-drop}
 
@@ -78,6 +78,7 @@ quote-entered r e = quote-left r e
 abbrev pub widened : ℕ → Option Container → Option Container
 widened k None = None
 widened k (Some (Quote alert)) = Some (Quote alert)
+widened k (Some (Footnote label old size)) = Some (Footnote label old size)
 widened k (Some (Item mark number width)) = Some (Item mark number (k + width))
 
 module _ (r : Row) (le : indent_of r ≤ 3) where
@@ -112,6 +113,7 @@ module _ (r : Row) (le : indent_of r ≤ 3) where
       by : (o : Option Container) → item_numbers (indent_of r) o ≡ item_numbers 0 (widened (indent_of r) o)
       by None = refl
       by (Some (Quote alert)) = refl
+      by (Some (Footnote label old size)) = refl
       by (Some (Item mark number width)) = ap (λ n. Some (mark, unwrap_or number 0, min n (2 ^ 64 - 1))) (let s : indent_of r + width ≡ 0 + (indent_of r + width) = omega arith in s)
 
   no_quote_item : (alert : Option BlockQuoteKind) → item_in (shallow r) ≡ Some (Quote alert) → ⊥
@@ -126,6 +128,18 @@ module _ (r : Row) (le : indent_of r ≤ 3) where
       go true (Some m) q = test (is_parted (drop m.size (words_of (shallow r))) && not (is_thematic_break (words_of (shallow r)))) m.mark m.number (width_with m.size (shallow r)) q
       go false o q = cc
 
+  no_footnote_item : (label : List ℕ) (old : Bool) (size : ℕ) → item_in (shallow r) ≡ Some (Footnote label old size) → ⊥
+  no_footnote_item label old size e = go (is_flush (shallow r)) (marker_of (words_of (shallow r))) e
+    where
+      test : (z : Bool) (mark : ℕ) (number : Option ℕ) (width : ℕ) → (if z then Some (Item mark number width) else None) ≡ Some (Footnote label old size) → ⊥
+      test true mark number width q = cc
+      test false mark number width q = cc
+
+      go : (z : Bool) (o : Option Marker) → (if z then item_with (shallow r) o else None) ≡ Some (Footnote label old size) → ⊥
+      go true None q = cc
+      go true (Some m) q = test (is_parted (drop m.size (words_of (shallow r))) && not (is_thematic_break (words_of (shallow r)))) m.mark m.number (width_with m.size (shallow r)) q
+      go false o q = cc
+
   -- and what it leaves is the item's first line
   pub item-entered : (k : Container) → item_of r ≡ Some k → entered (item_in (shallow r)) (shallow r) ≡ enter k r
   unfolding enter
@@ -134,6 +148,7 @@ module _ (r : Row) (le : indent_of r ≤ 3) where
       by : (o : Option Container) → item_in (shallow r) ≡ o → widened (indent_of r) o ≡ Some k → entered o (shallow r) ≡ enter k r
       by None e q = let z : None ≡ Some k = q in absurd (cc)
       by (Some (Quote alert)) e q = absurd (no_quote_item alert e)
+      by (Some (Footnote label old size)) e q = absurd (no_footnote_item label old size e)
       by (Some (Item mark number width)) e q =
           let z : Item mark number (indent_of r + width) ≡ k = cc in
           ap (λ cs. record r { columns = cs }) (drop-drop width (min 3 (indent_of r)) r.columns) ∙ ap (λ n. without (n + width) r) (taken-all r le) ∙ ap (λ c. enter c r) z

@@ -1,7 +1,7 @@
 -- What begins on a line behind the prefixes that were taken, where no blank stands in front of it.
 use Rattle.std.specs.Prelude.{ℕ, ◌+◌, ◌-◌, ◌^◌, min, Bool, ◌==◌, ◌&&◌, if◌then◌else◌, [], Option, Some, None, is_some, unwrap_or}
 use Rattle.cmark_grammar.specs.Rows.{Row, without, indent_of, words_of}
-use Rattle.cmark_grammar.specs.Containers.{Container, Quote, Item, is_quote, quote_width, item_of, enter}
+use Rattle.cmark_grammar.specs.Containers.{Container, Quote, Item, Footnote, is_quote, quote_width, item_of, enter}
 use Rattle.cmark_grammar.specs.BlockQuoteKind.{BlockQuoteKind}
 use Rattle.cmark_grammar.specs.Alerts.{alert_of}
 use Rattle.cmark_grammar.specs.DefinitionLists.{definition_width}
@@ -44,6 +44,7 @@ sum_up_to_most m n = min (m + n) (2 ^ 64 - 1)
 abbrev pub item_numbers : (indent : ℕ) → Option Container → Option (ℕ × ℕ × ℕ)
 item_numbers indent None = None
 item_numbers indent (Some (Quote alert)) = None
+item_numbers indent (Some (Footnote label old size)) = None
 item_numbers indent (Some (Item mark number width)) = Some (mark, unwrap_or number 0, sum_up_to_most indent width)
 
 -- the width of a definition's prefix, and its first line behind the marker

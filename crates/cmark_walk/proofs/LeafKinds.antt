@@ -1,6 +1,6 @@
 -- Which nodes are leaves, and what is inside them.
 use Rattle.std.proofs.Common.{◌≡◌, Bool, true, false, if◌then◌else◌, List, [], ◌∷◌, refl, ap}
-use Rattle.cmark_grammar.specs.BlockDocument.{BlockKind, Paragraph, TightParagraph, Heading, ThematicBreak, IndentedCode, FencedCode, HtmlBlock, LinkDefinition, MetadataBlock, BlockQuote, BlockList, ListItem, Text, OwnedText, Html, BlockDocument, Nil, Node}
+use Rattle.cmark_grammar.specs.BlockDocument.{BlockKind, Paragraph, TightParagraph, Heading, ThematicBreak, IndentedCode, FencedCode, HtmlBlock, LinkDefinition, MetadataBlock, BlockQuote, BlockList, ListItem, FootnoteDefinition, Text, OwnedText, Html, BlockDocument, Nil, Node}
 use Rattle.cmark_grammar.specs.BlockReading.{Around, Inside, Alone, Silent, read_as}
 use Rattle.cmark_grammar.specs.DrawnDocument.{kind_within, settled}
 use Rattle.cmark_grammar.specs.LeafText.{Stretch}
@@ -19,6 +19,7 @@ leaf-within tight HtmlBlock = refl
 leaf-within tight (MetadataBlock kind) = refl
 leaf-within tight (LinkDefinition reference) = refl
 leaf-within tight (BlockQuote alert) = refl
+leaf-within tight (FootnoteDefinition label) = refl
 leaf-within tight (BlockList number t) = refl
 leaf-within tight ListItem = refl
 leaf-within tight (Text bytes) = refl
@@ -43,6 +44,7 @@ only-leaves-inside HtmlBlock e = absurd (let q : Inside ≡ Around _ = e in cc)
 only-leaves-inside (MetadataBlock kind) e = absurd (let q : Inside ≡ Around _ = e in cc)
 only-leaves-inside (LinkDefinition reference) e = absurd (let q : Inside ≡ Silent = e in cc)
 only-leaves-inside (BlockQuote alert) e = absurd (let q : Inside ≡ Around _ = e in cc)
+only-leaves-inside (FootnoteDefinition label) e = absurd (let q : Inside ≡ Around _ = e in cc)
 only-leaves-inside (BlockList number tight) e = absurd (let q : Inside ≡ Around _ = e in cc)
 only-leaves-inside ListItem e = absurd (let q : Inside ≡ Around _ = e in cc)
 only-leaves-inside (Text bytes) e = absurd (let q : Inside ≡ Alone _ = e in cc)

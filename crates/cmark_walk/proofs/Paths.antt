@@ -146,7 +146,7 @@ kind-within text texts start end tight body.HtmlBlock kind e = ap (tight_within 
 kind-within text texts start end tight (body.BlockQuote x0) kind e = ap (tight_within tight) (sym (same_Some (document.BlockQuote (option_map shown_block_quote_kind x0)) kind e))
 kind-within text texts start end tight (body.List x0 x1 x2) kind e = ap (tight_within tight) (sym (same_Some (document.BlockList (list_number x1 x2) (is_tight x0)) kind e))
 kind-within text texts start end tight (body.ListItem x0) kind e = ap (tight_within tight) (sym (same_Some document.ListItem kind e))
-kind-within text texts start end tight (body.FootnoteDefinition x0) kind e = absurd (let q : None ≡ Some kind = e in cc)
+kind-within text texts start end tight (body.FootnoteDefinition x0) kind e = ap (tight_within tight) (sym (spelt-kind document.FootnoteDefinition (text_at texts x0.0) kind e).1)
 kind-within text texts start end tight (body.MetadataBlock x0) kind e = ap (tight_within tight) (sym (same_Some (document.MetadataBlock (shown_metadata_block_kind x0)) kind e))
 kind-within text texts start end tight (body.DefinitionList x0) kind e = absurd (let q : None ≡ Some kind = e in cc)
 kind-within text texts start end tight body.MaybeDefinitionListTitle kind e = absurd (let q : None ≡ Some kind = e in cc)

@@ -346,6 +346,10 @@ impl<'a> Walk<'a> {
             ItemBody::BlockQuote(kind) => Ok(Some(Tag::BlockQuote(kind))),
             ItemBody::List(_, mark, number) => Ok(Some(Tag::List(first_number(mark, number)))),
             ItemBody::ListItem(_) => Ok(Some(Tag::Item)),
+            ItemBody::FootnoteDefinition(index) => {
+                let label = self.allocations[index].clone(self.alloc)?;
+                Ok(Some(Tag::FootnoteDefinition(label)))
+            }
             _ => Ok(None),
         }
     }
@@ -375,6 +379,7 @@ impl<'a> Walk<'a> {
                 Some(TagEnd::List(first_number(mark, number).is_some()))
             }
             ItemBody::ListItem(_) => Some(TagEnd::Item),
+            ItemBody::FootnoteDefinition(_) => Some(TagEnd::FootnoteDefinition),
             _ => None,
         }
     }

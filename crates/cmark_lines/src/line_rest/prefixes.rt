@@ -1,7 +1,7 @@
 //! The prefixes of containers in front of a line (CommonMark 5).
 
-ghost use Rattle.std.specs.Prelude.{◌≡◌, ℕ, Option, false, option_map, IfSome};
-ghost use Rattle.cmark_grammar.specs.Containers.{keeps, Item};
+ghost use Rattle.std.specs.Prelude.{◌≡◌, ℕ, List, Option, false, option_map, IfSome};
+ghost use Rattle.cmark_grammar.specs.Containers.{keeps, Item, Footnote};
 ghost use Rattle.cmark_grammar.specs.Alerts.{alert_in};
 ghost use Rattle.cmark_grammar.specs.Options.{Options};
 ghost use Rattle.cmark_grammar.specs.TaskItems.{task_in};
@@ -67,6 +67,18 @@ impl<'a> LineRest<'a> {
             return None;
         }
         Some(self.with_front(front))
+    }
+
+    /// The line behind a footnote definition's prefix, if it keeps the line: behind four columns of spaces and tabs, or behind fewer
+    /// if nothing follows them; as such definitions were read before, the line itself, if it is not blank (this profile's own).
+    #[inline]
+    pub(crate) fn behind_footnote(self, old: bool) -> Option<LineRest<'a>>
+        ensures { (label : List ℕ) (size : ℕ) → option_map row_of result ≡ keeps (Footnote label old size) false (row_of self.entry) }
+    {
+        if !old {
+            return self.behind_width(4);
+        }
+        if self.is_blank() { None } else { Some(self) }
     }
 
     /// The list item that the line begins, indented by at most three columns, and the line behind the marker.

@@ -2,6 +2,7 @@ use Rattle.std.proofs.Common.{◌+◌, length, option_map, ◌∙◌, sym, ap, s
 use Rattle.std.specs.Slice.Iter.{iter_rest}
 use Rattle.cmark_scan.specs.LineStart.{row_from}
 use Rattle.cmark_blocks.specs.Prefixes.{shown_container}
+use Rattle.cmark_text.specs.Shown.{shown_options}
 use Rattle.cmark_blocks.proofs.PrefixSteps.{Further, further-first, next-node, passed, taken, lacked, over}
 use Rattle.cmark_blocks.proofs.prefixes.scan_containers.Goals as goal
 
@@ -14,28 +15,28 @@ loop-ix-init c =
       tt,
       tt,
       omega (arith, spine, vec.ok.0, vec.ok.1, vec.small),
-      λ z holds. further-first c.args.tree.now z c.args.line.now (iter_rest c.into_iter-ix-iterator.result) holds (ap iter_rest same ∙ c.walk_spine-ix-items.ensures z holds),
+      λ z holds. further-first (shown_options c.args.options) c.args.tree.now z c.args.line.now (iter_rest c.into_iter-ix-iterator.result) holds (ap iter_rest same ∙ c.walk_spine-ix-items.ensures z holds),
     )
 
 pub item-requires : goal.item-requires
 item-requires c =
     let h = c.requires in
     let rest = iter_rest c.next.new.self in
-    next-node c.args.tree.now h.0.up c.args.line.now c.loop-ix.line c.loop-ix.count c.in-Some.ix.now rest
-    (subst (Further c.args.tree.now h.0.up c.args.line.now c.loop-ix.line c.loop-ix.count) c.in-Some.ensures.steps (c.loop-ix.invariant.3 h.0 h.1))
+    next-node (shown_options c.args.options) c.args.tree.now h.0.up c.args.line.now c.loop-ix.line c.loop-ix.count c.in-Some.ix.now rest
+    (subst (Further (shown_options c.args.options) c.args.tree.now h.0.up c.args.line.now c.loop-ix.line c.loop-ix.count) c.in-Some.ensures.steps (c.loop-ix.invariant.3 h.0 h.1))
 
 pub returns-in_default-behind_prefix-clause-count : goal.returns-in_default-behind_prefix-clause-count
 returns-in_default-behind_prefix-clause-count c = λ z holds at past. sym (ap (λ k. k.count) (
-    lacked c.args.tree.now z.up c.args.line.now c.loop-ix.line c.loop-ix.count c.in-Some.ix.now (iter_rest c.next.new.self)
-    (subst (Further c.args.tree.now z.up c.args.line.now c.loop-ix.line c.loop-ix.count) c.in-Some.ensures.steps (c.loop-ix.invariant.3 z holds))
+    lacked (shown_options c.args.options) c.args.tree.now z.up c.args.line.now c.loop-ix.line c.loop-ix.count c.in-Some.ix.now (iter_rest c.next.new.self)
+    (subst (Further (shown_options c.args.options) c.args.tree.now z.up c.args.line.now c.loop-ix.line c.loop-ix.count) c.in-Some.ensures.steps (c.loop-ix.invariant.3 z holds))
     c.item.result.now c.item.ensures (option_map shown_container c.container_of.result) c.container_of.ensures (shown_container c.in-Some-container_of.container)
     (ap (option_map shown_container) c.in-Some-container_of.is)
     (λ at past. ap (option_map (row_from at past)) (sym c.in_default-behind_prefix.is) ∙ c.behind_prefix.ensures at past) at past))
 
 pub returns-in_default-behind_prefix-clause-rest : goal.returns-in_default-behind_prefix-clause-rest
 returns-in_default-behind_prefix-clause-rest c = λ z holds at past. sym (ap (λ k. k.rest) (
-    lacked c.args.tree.now z.up c.args.line.now c.loop-ix.line c.loop-ix.count c.in-Some.ix.now (iter_rest c.next.new.self)
-    (subst (Further c.args.tree.now z.up c.args.line.now c.loop-ix.line c.loop-ix.count) c.in-Some.ensures.steps (c.loop-ix.invariant.3 z holds))
+    lacked (shown_options c.args.options) c.args.tree.now z.up c.args.line.now c.loop-ix.line c.loop-ix.count c.in-Some.ix.now (iter_rest c.next.new.self)
+    (subst (Further (shown_options c.args.options) c.args.tree.now z.up c.args.line.now c.loop-ix.line c.loop-ix.count) c.in-Some.ensures.steps (c.loop-ix.invariant.3 z holds))
     c.item.result.now c.item.ensures (option_map shown_container c.container_of.result) c.container_of.ensures (shown_container c.in-Some-container_of.container)
     (ap (option_map shown_container) c.in-Some-container_of.is)
     (λ at past. ap (option_map (row_from at past)) (sym c.in_default-behind_prefix.is) ∙ c.behind_prefix.ensures at past) at past))
@@ -50,8 +51,8 @@ loop-ix-preserved c =
       tt,
       omega (arith, l, c.loop-ix.invariant.2),
       λ z holds.
-          taken c.args.tree.now z.up c.args.line.now c.loop-ix.line c.loop-ix.count c.in-Some.ix.now (iter_rest c.next.new.self)
-          (subst (Further c.args.tree.now z.up c.args.line.now c.loop-ix.line c.loop-ix.count) c.in-Some.ensures.steps (c.loop-ix.invariant.3 z holds))
+          taken (shown_options c.args.options) c.args.tree.now z.up c.args.line.now c.loop-ix.line c.loop-ix.count c.in-Some.ix.now (iter_rest c.next.new.self)
+          (subst (Further (shown_options c.args.options) c.args.tree.now z.up c.args.line.now c.loop-ix.line c.loop-ix.count) c.in-Some.ensures.steps (c.loop-ix.invariant.3 z holds))
           c.item.result.now c.item.ensures (option_map shown_container c.container_of.result) c.container_of.ensures (shown_container c.in-Some-container_of.container)
           (ap (option_map shown_container) c.in-Some-container_of.is)
           c.in-Some-behind_prefix.behind
@@ -66,8 +67,8 @@ loop-ix-preserved-in_default c =
       tt,
       omega (arith, l, c.loop-ix.invariant.2),
       λ z holds.
-          passed c.args.tree.now z.up c.args.line.now c.loop-ix.line c.loop-ix.count c.in-Some.ix.now (iter_rest c.next.new.self)
-          (subst (Further c.args.tree.now z.up c.args.line.now c.loop-ix.line c.loop-ix.count) c.in-Some.ensures.steps (c.loop-ix.invariant.3 z holds))
+          passed (shown_options c.args.options) c.args.tree.now z.up c.args.line.now c.loop-ix.line c.loop-ix.count c.in-Some.ix.now (iter_rest c.next.new.self)
+          (subst (Further (shown_options c.args.options) c.args.tree.now z.up c.args.line.now c.loop-ix.line c.loop-ix.count) c.in-Some.ensures.steps (c.loop-ix.invariant.3 z holds))
           c.item.result.now c.item.ensures (option_map shown_container c.container_of.result) c.container_of.ensures
           (ap (option_map shown_container) c.in_default.is),
     )
@@ -75,9 +76,9 @@ loop-ix-preserved-in_default c =
 pub returns-clause-count : goal.returns-clause-count
 returns-clause-count c = λ z holds at past.
     sym (ap (λ k. k.count) (
-    over c.args.tree.now z.up c.args.line.now c.loop-ix.line c.loop-ix.count (iter_rest c.loop-ix.ix-iterator) c.in-None.ensures.steps.0 (c.loop-ix.invariant.3 z holds) at past))
+    over (shown_options c.args.options) c.args.tree.now z.up c.args.line.now c.loop-ix.line c.loop-ix.count (iter_rest c.loop-ix.ix-iterator) c.in-None.ensures.steps.0 (c.loop-ix.invariant.3 z holds) at past))
 
 pub returns-clause-rest : goal.returns-clause-rest
 returns-clause-rest c = λ z holds at past.
     sym (ap (λ k. k.rest) (
-    over c.args.tree.now z.up c.args.line.now c.loop-ix.line c.loop-ix.count (iter_rest c.loop-ix.ix-iterator) c.in-None.ensures.steps.0 (c.loop-ix.invariant.3 z holds) at past))
+    over (shown_options c.args.options) c.args.tree.now z.up c.args.line.now c.loop-ix.line c.loop-ix.count (iter_rest c.loop-ix.ix-iterator) c.in-None.ensures.steps.0 (c.loop-ix.invariant.3 z holds) at past))

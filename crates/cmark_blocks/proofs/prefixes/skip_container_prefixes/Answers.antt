@@ -1,8 +1,9 @@
 use Rattle.std.proofs.Common.{sym, ap, ◌∙◌}
 use Rattle.cmark_grammar.specs.Rows.{begin_of}
+use Rattle.cmark_text.specs.Shown.{shown_options}
 use Rattle.cmark_blocks.specs.Prefixes.{containers_of, kept}
 use Rattle.cmark_blocks.proofs.prefixes.skip_container_prefixes.Goals as goal
 
 pub returns : goal.returns
 returns c = λ z holds at past.
-    ap (λ r. begin_of (kept (containers_of z.up) r).rest) (sym (c.new-line.ensures at past)) ∙ ap begin_of (sym (c.scan_containers.ensures.rest z holds at past)) ∙ c.bytes_scanned.ensures at past
+    ap (λ r. begin_of (kept (containers_of (shown_options c.args.options) z.up) r).rest) (sym (c.new-line.ensures at past)) ∙ ap begin_of (sym (c.scan_containers.ensures.rest z holds at past)) ∙ c.bytes_scanned.ensures at past

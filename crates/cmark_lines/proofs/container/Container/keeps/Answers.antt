@@ -1,10 +1,10 @@
-use Rattle.std.proofs.Common.{◌≡◌, false, ◌&&◌, None, sym, ap, ◌∙◌}
+use Rattle.std.proofs.Common.{◌≡◌, [], false, ◌&&◌, None, sym, ap, ◌∙◌}
 use Rattle.cmark_grammar.specs.Rows.{is_blank_line}
 use Rattle.cmark_grammar.specs.Containers as grammar
 use Rattle.cmark_grammar.specs.Containers.{keeps}
 use Rattle.cmark_lines.specs.Rests.{row_of}
 use Rattle.cmark_lines.proofs.RestSteps.{whole}
-use Rattle.cmark_lines.proofs.ContainerRows.{blank-ends, bare-kept, quote-keeps, shows-quote, shows-item, kept-in}
+use Rattle.cmark_lines.proofs.ContainerRows.{blank-ends, bare-kept, quote-keeps, shows-quote, shows-item, shows-footnote, kept-in}
 use Rattle.cmark_lines.proofs.container.Container.keeps.Goals.{else-bare-via-then-bare+else-is_blank, else-bare-via-else-bare}
 use Rattle.cmark_lines.proofs.container.Container.keeps.Goals as goal
 
@@ -42,3 +42,18 @@ returns-in-Item-clause-row c k shows =
 
 pub returns-in-Item-clause-placed : goal.returns-in-Item-clause-placed
 returns-in-Item-clause-placed c text = kept-in text c.args.rest (grammar.Item 0 None c.in-Item.width) c.behind_width.result (c.behind_width.ensures 0 None)
+
+pub returns-in-Footnote-clause-row : goal.returns-in-Footnote-clause-row
+returns-in-Footnote-clause-row c k shows =
+    let r = row_of c.args.rest in
+    let test : (c.args.bare && is_blank_line r) ≡ false =
+    elim c.else-bare.branch [
+      | else-bare-via-then-bare+else-is_blank w ↦ ap (λ z. z && is_blank_line r) w.if-bare.true ∙ sym w.is_blank.ensures ∙ w.if-is_blank.false
+      | else-bare-via-else-bare w ↦ ap (λ z. z && is_blank_line r) w.if-bare.false
+    ]
+    in
+    let footnote = shows-footnote c.args.self c.in-Footnote.old k c.in-Footnote.is shows in
+    c.behind_footnote.ensures footnote.0 footnote.1.0 ∙ bare-kept (grammar.Footnote footnote.0 c.in-Footnote.old footnote.1.0) c.args.bare r test ∙ ap (λ x. keeps x c.args.bare r) (sym footnote.1.1)
+
+pub returns-in-Footnote-clause-placed : goal.returns-in-Footnote-clause-placed
+returns-in-Footnote-clause-placed c text = kept-in text c.args.rest (grammar.Footnote [] c.in-Footnote.old 0) c.behind_footnote.result (c.behind_footnote.ensures [] 0)

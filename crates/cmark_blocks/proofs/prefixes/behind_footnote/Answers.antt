@@ -1,0 +1,23 @@
+use Rattle.std.proofs.Common.{◌≡◌, refl, [], true, false, ap, ◌∙◌, sym, None}
+use Rattle.cmark_grammar.specs.Rows.{is_bare}
+use Rattle.cmark_grammar.specs.Containers.{keeps, Footnote}
+use Rattle.cmark_scan.specs.LineStart.{row_from}
+use Rattle.cmark_lines.proofs.ContainerRows.{footnote-keeps, old-blank, old-keeps}
+use Rattle.cmark_blocks.proofs.prefixes.behind_footnote.Goals as goal
+
+pub returns-then-not-old : goal.returns-then-not-old
+returns-then-not-old c at past =
+    let row = row_from at past c.args.line in
+    c.behind_width.ensures at past 0 None ∙ footnote-keeps [] 0 row ∙ ap (λ o. keeps (Footnote [] o 0) false row) (sym c.if-not-old.true)
+
+pub returns-then-is_at_eol : goal.returns-then-is_at_eol
+returns-then-is_at_eol c at past =
+    let row = row_from at past c.args.line in
+    old-blank [] 0 row (sym (c.is_at_eol.ensures at ∙ ap (λ r. is_bare r.columns) (c.scan_all_space.ensures at past)) ∙ c.if-is_at_eol.true)
+    ∙ ap (λ o. keeps (Footnote [] o 0) false row) (sym c.if-not-old.false)
+
+pub returns-else-is_at_eol : goal.returns-else-is_at_eol
+returns-else-is_at_eol c at past =
+    let row = row_from at past c.args.line in
+    old-keeps [] 0 row refl (sym (c.is_at_eol.ensures at ∙ ap (λ r. is_bare r.columns) (c.scan_all_space.ensures at past)) ∙ c.if-is_at_eol.false)
+    ∙ ap (λ o. keeps (Footnote [] o 0) false row) (sym c.if-not-old.false)

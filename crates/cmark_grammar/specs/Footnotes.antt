@@ -1,0 +1,70 @@
+-- The markers of footnote definitions: `[^`, a label on one line, and `]:` (this profile's own, as GitHub and the original read them).
+use Rattle.std.specs.Prelude.{ℕ, zero, suc, ◌+◌, Bool, true, false, ◌==◌, ◌&&◌, not, if◌then◌else◌, List, [], ◌∷◌, length, Option, Some, None}
+use Rattle.cmark_grammar.specs.Columns.{Column, without_indent}
+use Rattle.cmark_grammar.specs.LinkDefinitions.{Found, up_to, label_if}
+use Rattle.cmark_grammar.specs.Options.{Options}
+
+-- whether footnotes are read, and if so as GitHub reads them or as they were read before
+pub data Footnotes : Type 0 where
+  Off : Footnotes
+  Gfm : Footnotes
+  Old : Footnotes
+
+abbrev pub footnotes_in : Options → Footnotes
+footnotes_in options = if options.footnotes then (if options.old_footnotes then Old else Gfm) else Off
+
+abbrev pub are_read : Footnotes → Bool
+are_read Off = false
+are_read Gfm = true
+are_read Old = true
+
+-- a footnote definition interrupts a paragraph as GitHub reads it, and did not before
+abbrev pub do_interrupt : Footnotes → Bool
+do_interrupt Off = false
+do_interrupt Gfm = true
+do_interrupt Old = false
+
+-- behind the label stands a colon
+abbrev pub colon_behind : (label : List ℕ) → List ℕ → Option Found
+colon_behind label [] = None
+colon_behind label (b ∷ bs) = if b == 58 then Some (record { bytes = label; behind = bs }) else None
+
+abbrev pub label_then_colon : Option Found → Option Found
+label_then_colon None = None
+label_then_colon (Some found) = colon_behind found.bytes found.behind
+
+abbrev pub behind_caret : List ℕ → Option Found
+behind_caret [] = None
+behind_caret (b ∷ bs) = if b == 94 then label_then_colon (label_if (up_to false 93 91 false bs)) else None
+
+-- the label of the marker that these bytes begin with, and the bytes behind the marker
+abbrev pub footnote_in : List ℕ → Option Found
+footnote_in [] = None
+footnote_in (b ∷ bs) = if b == 91 then behind_caret bs else None
+
+-- how many of these columns the first n bytes have
+abbrev pub columns_over : ℕ → List Column → ℕ
+columns_over n [] = 0
+columns_over zero (c ∷ cs) = 0
+columns_over (suc n) (c ∷ cs) = suc (columns_over (if c.part == 0 then n else suc n) cs)
+
+-- the columns of the marker with this label: its bytes are the label's and those of `[^` and `]:`
+abbrev pub marker_columns : (label : List ℕ) → List Column → ℕ
+marker_columns label cs = columns_over (suc (suc (suc (suc (length label))))) (without_indent cs)
+
+abbrev pub is_label_found : Option Found → Bool
+is_label_found None = false
+is_label_found (Some found) = true
+
+-- a label that begins with `^` and goes on is none of a link
+abbrev pub goes_on_behind_caret : List ℕ → Bool
+goes_on_behind_caret [] = true
+goes_on_behind_caret (b ∷ bs) = not (b == 93)
+
+abbrev pub caret_goes_on : List ℕ → Bool
+caret_goes_on [] = false
+caret_goes_on (b ∷ bs) = (b == 94) && goes_on_behind_caret bs
+
+abbrev pub is_footnote_label : List ℕ → Bool
+is_footnote_label [] = false
+is_footnote_label (b ∷ bs) = (b == 91) && caret_goes_on bs
