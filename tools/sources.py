@@ -4,7 +4,7 @@ import pathlib
 import re
 import subprocess
 
-IMPORT = re.compile(r"\bRattle\.(\w+)\.(specs|proofs)\.([\w.]+)")
+IMPORT = re.compile(r"\bRattle\.(\w+)\.(specs|proofs)\.([\w.]+)|\b(\w+)::(specs|proofs)::([\w:]+)")
 
 
 class Sources:
@@ -28,8 +28,11 @@ class Sources:
 
     def imported(self, path):
         """The files of this repository that a file imports. What is declared in a source file stands under its name in `declared`."""
-        for crate, folder, module in IMPORT.findall(self.text(path)):
-            parts = module.strip(".").split(".")
+        own = path.relative_to(self.crates).parts[0]
+        for found in IMPORT.findall(self.text(path)):
+            crate, folder, module = found[:3] if found[0] else found[3:]
+            crate = own if crate == "crate" else crate
+            parts = re.split(r"\.|::", module.strip(".:"))
             at, ending = self.crates / crate / folder, ".antt"
             if parts[0] == "declared":
                 at, ending, parts = self.crates / crate / "src", ".rt", parts[1:]
@@ -42,8 +45,11 @@ class Sources:
     def below(self, crate):
         """All files that the verdicts on a crate's edits stand on."""
         left = self.files(crate, "src", "specs", "proofs", "wrong")
+        code = "".join(self.text(it) for it in self.files(crate, "src"))
         for called in self.direct[crate]:
-            left |= self.files(called, "src")
+            # a crate of which definitions alone are named is not called
+            if re.search(rf"\b{called}::(?!specs::|proofs::)", code):
+                left |= self.files(called, "src")
         found = set()
         while left:
             path = left.pop()
