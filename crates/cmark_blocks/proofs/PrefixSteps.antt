@@ -16,6 +16,7 @@ use Rattle.cmark_scan.specs.LineStart.{row_from}
 use Rattle.cmark_scan.specs.declared.line_start.LineStart.{LineStart}
 use Rattle.cmark_blocks.specs.Prefixes.{container_in, in_front, containers_of, Kept, one_more, kept_if, kept}
 use Rattle.cmark_grammar.specs.Options.{Options}
+
 -- a node of the tree has this item
 abbrev pub HasItem : Tree Item → ℕ → Item → Type 0
 HasItem tree ix item = (e : Entry Item) × (entry_at tree ix ≡ Some e) × (e.item ≡ item)
