@@ -6,7 +6,7 @@ use Rattle.cmark_grammar.specs.Options.{Options}
 use Rattle.cmark_grammar.specs.Rows.{Row, start_of, begin_of, words_of, is_blank_line, shown}
 use Rattle.cmark_grammar.specs.HtmlBlocks.{holds_end}
 use Rattle.cmark_grammar.specs.Containers.{Container, Quote, Item, Footnote, is_alert, enter, strips, is_bare_start}
-use Rattle.cmark_grammar.specs.Openings.{Leaf, ThematicBreak, AtxHeading, IndentedCode, FencedCode, HtmlBlock, LinkDefinition, Opening, Blank, Nests, Takes, Plain, opens, opens_at, MetadataBlock}
+use Rattle.cmark_grammar.specs.Openings.{Leaf, ThematicBreak, AtxHeading, IndentedCode, FencedCode, HtmlBlock, LinkDefinition, Opening, Blank, Nests, Takes, Plain, opens, opens_at, MetadataBlock, Table}
 use Rattle.cmark_grammar.specs.Blocks.{Blocks, Nil as NoBlocks, BlankLine, Paragraph, SetextHeading, LeafBlock, ContainerBlock, join as join_blocks, behind_leaf, behind_container, place_in}
 use Rattle.cmark_grammar.specs.Places.{Place, Apart, BehindLazy, BehindTask, BehindTitle, is_behind_task, over_blank}
 use Rattle.cmark_grammar.specs.BlocksModel.{within, place_behind}
@@ -86,6 +86,7 @@ module _ (text : List ℕ) (options : Options) (lookup : Lookup) where
   leaf-begins (HtmlBlock kind) more closed r ahead l outer b n t = html-begins (nat_le kind 5 && holds_end kind (words_of r)) kind closed r ahead l outer b n
   leaf-begins (LinkDefinition definition) more closed r ahead l outer b n t = refl
   leaf-begins (MetadataBlock kind) more closed r ahead l outer b n t = refl
+  leaf-begins (Table alignments) more closed r ahead l outer b n t = refl
 
   leaf-alone : (leaf : Leaf) (more : ℕ) (closed : Blocks) (r : Row) (l : Level) → containers_at text options lookup (leaf_lines_begun leaf more closed r) l ≡ []
   leaf-alone ThematicBreak more closed r l = refl
@@ -99,6 +100,7 @@ module _ (text : List ℕ) (options : Options) (lookup : Lookup) where
       go false = refl
   leaf-alone (LinkDefinition definition) more closed r l = refl
   leaf-alone (MetadataBlock kind) more closed r l = refl
+  leaf-alone (Table alignments) more closed r l = refl
 
   leaf-bare : (leaf : Leaf) (more : ℕ) (closed : Blocks) (r : Row) (a b : Bool) → bare_at a (leaf_lines_begun leaf more closed r) ≡ bare_at b (leaf_lines_begun leaf more closed r)
   leaf-bare ThematicBreak more closed r a b = refl
@@ -112,6 +114,7 @@ module _ (text : List ℕ) (options : Options) (lookup : Lookup) where
       go false = refl
   leaf-bare (LinkDefinition definition) more closed r a b = refl
   leaf-bare (MetadataBlock kind) more closed r a b = refl
+  leaf-bare (Table alignments) more closed r a b = refl
 
   -- what the first line begins inside a container
   abbrev pub inside_begun : ℕ → Container → Row → List Row → OpenLines
@@ -249,6 +252,7 @@ module _ (text : List ℕ) (options : Options) (lookup : Lookup) where
       leaf-fits (HtmlBlock kind) more nb le t = html (nat_le kind 5 && holds_end kind (words_of r)) kind nb
       leaf-fits (LinkDefinition definition) more nb le t = (nb, le, λ never. absurd (true≢false never))
       leaf-fits (MetadataBlock kind) more nb le t = (nb, (refl, q, tt))
+      leaf-fits (Table alignments) more nb le t = (nb, le, λ never. absurd (true≢false never))
 
       tagged : (k : Container) (is_tag : Bool) → is_alert k ≡ is_tag → Fits (is_bare_start k r) (inside_begun m k r (within k (is_bare_start k r) ahead)) (within k (is_bare_start k r) ahead) n
           → Fits (is_bare_start k r) (lines_inside_begun is_tag (inside_begun m k r (within k (is_bare_start k r) ahead))) (within k (is_bare_start k r) ahead) n
@@ -284,6 +288,7 @@ module _ (text : List ℕ) (options : Options) (lookup : Lookup) where
       behind (HtmlBlock kind) = refl
       behind (LinkDefinition definition) = refl
       behind (MetadataBlock kind) = refl
+      behind (Table alignments) = refl
   not-task place (ContainerBlock k first more inside after) e = not-task (behind_container k) after refl
 
   -- at a place behind closed blocks

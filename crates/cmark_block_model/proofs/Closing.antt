@@ -5,7 +5,7 @@ use Rattle.cmark_grammar.specs.Options.{Options}
 use Rattle.cmark_grammar.specs.Rows.{Row, start_of, begin_of, past_of, first_place}
 use Rattle.cmark_grammar.specs.Leaves.{closes_fence}
 use Rattle.cmark_grammar.specs.Containers.{is_bare_start, bare_after}
-use Rattle.cmark_grammar.specs.Openings.{Leaf, ThematicBreak, AtxHeading, IndentedCode, FencedCode, HtmlBlock, LinkDefinition, MetadataBlock}
+use Rattle.cmark_grammar.specs.Openings.{Leaf, ThematicBreak, AtxHeading, IndentedCode, FencedCode, HtmlBlock, LinkDefinition, MetadataBlock, Table}
 use Rattle.cmark_grammar.specs.Blocks.{Blocks, Nil as NoBlocks, Paragraph, LeafBlock, ContainerBlock, join as join_blocks}
 use Rattle.cmark_grammar.specs.BlocksByLine.{Verbatim, Indented, Fenced, HtmlLines, leaf_in, OpenLines, Between, BehindTag, InParagraph, InLeaf, InVerbatim, InContainer, blank_lines, close_lines, Metadata}
 use Rattle.cmark_grammar.specs.Tokens.{resolved, words_end, stretch_then, stop_at, html_tokens, fenced_lines, code_tokens, code_columns, lines_before}
@@ -57,6 +57,7 @@ module _ (text : List ℕ) (options : Options) (lookup : Lookup) where
   leaf-left (FencedCode fence) left q outer bare n = refl
   leaf-left (HtmlBlock kind) left q outer bare n = refl
   leaf-left (MetadataBlock kind) left q outer bare n = refl
+  leaf-left (Table alignments) left q outer bare n = refl
   leaf-left (LinkDefinition definition) left q outer bare n = refl
 
   replay-nil : (b : Blocks) (l : Level) → replay text options lookup (join_blocks b NoBlocks) l ≡ replay text options lookup b l

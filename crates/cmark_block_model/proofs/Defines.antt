@@ -1,10 +1,10 @@
 -- The references of closed blocks are the definitions of their document.
-use Rattle.std.proofs.Common.{◌≡◌, ◌==◌, ℕ, Bool, true, false, List, [], ◌∷◌, ◌++◌, refl, ap, ◌∙◌, sym, append_assoc, append-nil, Option, Some, None}
+use Rattle.std.proofs.Common.{◌≡◌, ◌==◌, ℕ, Bool, true, false, List, length, [], ◌∷◌, ◌++◌, refl, ap, ◌∙◌, sym, append_assoc, append-nil, Option, Some, None}
 use Rattle.cmark_grammar.specs.Options.{Options}
 use Rattle.cmark_grammar.specs.Answers.{Lookup}
 use Rattle.cmark_grammar.specs.Rows.{Row, past_of, begin_of, start_of}
 use Rattle.cmark_grammar.specs.Containers.{Quote, Item, Footnote}
-use Rattle.cmark_grammar.specs.Openings.{Leaf, ThematicBreak, AtxHeading, IndentedCode, FencedCode, HtmlBlock, LinkDefinition, MetadataBlock}
+use Rattle.cmark_grammar.specs.Openings.{Leaf, ThematicBreak, AtxHeading, IndentedCode, FencedCode, HtmlBlock, LinkDefinition, MetadataBlock, Table}
 use Rattle.cmark_grammar.specs.Blocks.{Blocks, Nil as NoBlocks, BlankLine, Paragraph, SetextHeading, LeafBlock, ContainerBlock}
 use Rattle.cmark_grammar.specs.Lists.{ListBefore, tight_behind, goes_on}
 use Rattle.cmark_grammar.specs.Tokens.{fenced_lines, lines_before}
@@ -14,7 +14,7 @@ use Rattle.cmark_grammar.specs.BlockDocument.{Reference, BlockKind, BlockNode, B
 use Rattle.cmark_grammar.specs.References.{references}
 use Rattle.cmark_grammar.specs.Metadata.{ends_metadata}
 use Rattle.cmark_block_model.specs.OpenBlocks.{OpenList}
-use Rattle.cmark_block_model.proofs.PlainTokens.{IsPlain, paragraph_plain, heading_plain, code_plain, html_tokens_plain}
+use Rattle.cmark_block_model.proofs.PlainTokens.{IsPlain, paragraph_plain, heading_plain, code_plain, table_plain, html_tokens_plain}
 use Rattle.cmark_block_model.proofs.Split.{Split, split}
 use Rattle.cmark_block_model.proofs.Settles.{Joins, settles}
 use Rattle.cmark_block_model.proofs.Replay.{Level, standing, entered, left_by, item_if, item_level, leaf_references, leaf_level, paragraph_level, heading_level, blank_level, replay}
@@ -46,6 +46,7 @@ module _ (text : List ℕ) (options : Options) (lookup : Lookup) where
   leaf-references (HtmlBlock kind) first more rs d = ap (λ r. rs ++ (r ++ references d)) (sym (html_tokens_plain text (first ∷ more)).defines)
   leaf-references (LinkDefinition definition) first more rs d = append_assoc rs (reference_of lookup definition (start_of first) (stop_of first more) ∷ []) (references d)
   leaf-references (MetadataBlock kind) first more rs d = ap (λ r. rs ++ (r ++ references d)) (sym (code_plain text 0 (lines_before (ends_metadata kind) more)).defines)
+  leaf-references (Table alignments) first more rs d = ap (λ r. rs ++ (r ++ references d)) (sym (table_plain text (length alignments) first more).defines)
 
   pub defines : (b : Blocks) (direct : Bool) (before : Option ListBefore) (l : Level) → (replay text options lookup b l).references ≡ (l.references ++ references (document_of text options lookup direct before b))
   defines NoBlocks direct before l = sym (append-nil l.references)

@@ -5,12 +5,12 @@ use Rattle.cmark_grammar.specs.Answers.{Lookup}
 use Rattle.cmark_grammar.specs.Options.{Options}
 use Rattle.cmark_grammar.specs.Event.{End, Ranged}
 use Rattle.cmark_grammar.specs.TagEnd.{end_of}
-use Rattle.cmark_grammar.specs.BlockDocument.{BlockKind, Paragraph, TightParagraph, Heading, ThematicBreak, IndentedCode, FencedCode, HtmlBlock, LinkDefinition, MetadataBlock, BlockQuote, BlockList, ListItem, FootnoteDefinition, Text, OwnedText, Html, BlockNode, BlockDocument, Nil, Node}
+use Rattle.cmark_grammar.specs.BlockDocument.{BlockKind, Paragraph, TightParagraph, Heading, ThematicBreak, IndentedCode, FencedCode, HtmlBlock, LinkDefinition, MetadataBlock, BlockQuote, BlockList, ListItem, FootnoteDefinition, Text, OwnedText, Html, BlockNode, BlockDocument, Nil, Node, Table, TableHead, TableRow, TableCell}
 use Rattle.cmark_grammar.specs.BlockReading.{Reads, Around, Inside, Alone, Silent, read_as, over, node_events, block_reading}
 use Rattle.cmark_grammar.specs.Derivation.{Derives, document}
 use Rattle.cmark_grammar.specs.DrawnDocument.{is_definition, node_unless, settled, without_definitions}
 use Rattle.cmark_grammar.specs.Tightness.{tight_within}
-use Rattle.cmark_grammar.specs.Ranges.{AllAt, InOrder, count_nodes}
+use Rattle.cmark_grammar.specs.Ranges.{AllAt, InOrder, count_nodes, count_tables}
 use Rattle.cmark_grammar.specs.BlocksModel.{blocks}
 use Rattle.cmark_grammar.proofs.BlocksSound.{blocks-body}
 use Rattle.cmark_grammar.proofs.BoundaryLaws.{derived-boundaries}
@@ -31,6 +31,10 @@ silent IndentedCode e = absurd (let q : false ≡ true = e in cc)
 silent (FencedCode info) e = absurd (let q : false ≡ true = e in cc)
 silent HtmlBlock e = absurd (let q : false ≡ true = e in cc)
 silent (MetadataBlock kind) e = absurd (let q : false ≡ true = e in cc)
+silent (Table alignments) e = absurd (let q : false ≡ true = e in cc)
+silent TableHead e = absurd (let q : false ≡ true = e in cc)
+silent TableRow e = absurd (let q : false ≡ true = e in cc)
+silent TableCell e = absurd (let q : false ≡ true = e in cc)
 silent (BlockQuote alert) e = absurd (let q : false ≡ true = e in cc)
 silent (FootnoteDefinition label) e = absurd (let q : false ≡ true = e in cc)
 silent (BlockList number tight) e = absurd (let q : false ≡ true = e in cc)
@@ -95,7 +99,7 @@ read-few (Node n inside after) =
     let a = read-few after in
     omega (arith, e, f, i, a)
 
-pub derived-few : (text : List ℕ) (options : Options) (lookup : Lookup) (d : BlockDocument) → Derives text options lookup d → length (block_reading d) ≤ 8 * length text
+pub derived-few : (text : List ℕ) (options : Options) (lookup : Lookup) (d : BlockDocument) → Derives text options lookup d → length (block_reading d) ≤ 8 * length text + 524288 * count_tables d
 derived-few text options lookup d h = let a = read-few d in let b = derived-count text options lookup d h in omega (arith, a, b)
 
 module _ (text : List ℕ) (options : Options) (lookup : Lookup) where

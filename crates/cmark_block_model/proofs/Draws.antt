@@ -6,7 +6,7 @@ use Rattle.cmark_grammar.specs.Attributes.{no_attributes}
 use Rattle.cmark_grammar.specs.Rows.{Row, past_of, begin_of, start_of}
 use Rattle.cmark_grammar.specs.Labels.{normal_form}
 use Rattle.cmark_grammar.specs.Containers.{Quote, Item, Footnote}
-use Rattle.cmark_grammar.specs.Openings.{Leaf, ThematicBreak, AtxHeading, IndentedCode, FencedCode, HtmlBlock, LinkDefinition, MetadataBlock}
+use Rattle.cmark_grammar.specs.Openings.{Leaf, ThematicBreak, AtxHeading, IndentedCode, FencedCode, HtmlBlock, LinkDefinition, MetadataBlock, Table}
 use Rattle.cmark_grammar.specs.Blocks.{Blocks, Nil as NoBlocks, BlankLine, Paragraph, SetextHeading, LeafBlock, ContainerBlock}
 use Rattle.cmark_grammar.specs.Lists.{ends_blank, is_parted_item, loose_from, is_tight}
 use Rattle.cmark_grammar.specs.Tokens.{paragraph_tokens}
@@ -117,6 +117,7 @@ module _ (text : List ℕ) (options : Options) (lookup : Lookup) where
   leaf-drawing (HtmlBlock kind) first more d = refl
   leaf-drawing (LinkDefinition definition) first more d = ap (λ h. record { here = h; up = d.up }) (sym (join-nil d.here))
   leaf-drawing (MetadataBlock kind) first more d = refl
+  leaf-drawing (Table alignments) first more d = refl
 
   leaf-raw : (leaf : Leaf) (first : Row) (more : List Row) (x : BlockDocument) → join (leaf_raw text options lookup leaf first more Nil) x ≡ leaf_raw text options lookup leaf first more x
   leaf-raw ThematicBreak first more x = refl
@@ -126,6 +127,7 @@ module _ (text : List ℕ) (options : Options) (lookup : Lookup) where
   leaf-raw (HtmlBlock kind) first more x = refl
   leaf-raw (LinkDefinition definition) first more x = refl
   leaf-raw (MetadataBlock kind) first more x = refl
+  leaf-raw (Table alignments) first more x = refl
 
   -- behind an item that stands in this list
   item-draws : (inside after : Blocks) → HasFilledItems inside → IsNearlyFilled inside → Draws inside → Draws after → (start past : ℕ) (o : OpenList) (v : OpenNode) (here : BlockDocument) (up : List OpenNode) (p : Bool) (rs : List Reference)

@@ -6,17 +6,17 @@ use Rattle.cmark_grammar.specs.Attributes.{no_attributes}
 use Rattle.cmark_grammar.specs.Options.{Options}
 use Rattle.cmark_grammar.specs.Rows.{Row, begin_of, start_of}
 use Rattle.cmark_grammar.specs.Leaves.{underlines}
-use Rattle.cmark_grammar.specs.Openings.{Leaf, ThematicBreak, AtxHeading, IndentedCode, FencedCode, HtmlBlock, LinkDefinition, texts, MetadataBlock}
+use Rattle.cmark_grammar.specs.Openings.{Leaf, ThematicBreak, AtxHeading, IndentedCode, FencedCode, HtmlBlock, LinkDefinition, texts, MetadataBlock, Table}
 use Rattle.cmark_grammar.specs.Blocks.{Blocks, Nil as NoBlocks, Paragraph, SetextHeading, LeafBlock, join as join_blocks, behind_leaf}
 use Rattle.cmark_grammar.specs.Places.{allows_lazy}
 use Rattle.cmark_grammar.specs.BlocksByLine.{Between, InParagraph, InLeaf, lines_underline_or, lines_go_on_or, lines_begin, lines_feed}
 use Rattle.cmark_grammar.specs.Tokens.{stretch_then}
 use Rattle.cmark_grammar.specs.BlockDocument as document
 use Rattle.cmark_grammar.specs.BlockDocument.{BlockDocument, Nil, Node, node, join}
-use Rattle.cmark_block_model.specs.OpenBlocks.{OpenContainer, OpenLeaf, Closed, InParagraph as InParagraphLeaf, InDefinition, Pass}
+use Rattle.cmark_block_model.specs.OpenBlocks.{OpenContainer, OpenLeaf, Closed, InParagraph as InParagraphLeaf, InDefinition, InTable, Pass}
 use Rattle.cmark_block_model.specs.BlockPass.{ahead_in, begin, leaf_closed, leaf_fed, underlined_or, heading_made, paragraph_line}
 use Rattle.cmark_block_model.proofs.Replay.{Level, begun, level_opened, level_drawn, leaf_level, replay, replay-join}
-use Rattle.cmark_block_model.proofs.Mirror.{whole, whole-same, last_of, last_push, last_begin, begin_push, pass_with, leaf_left, Fits, lines_drawn, drawn-tokens, one_more, drawn-push, paragraph_open, paragraph_leaf, inner_at, leaf_at, pass_at}
+use Rattle.cmark_block_model.proofs.Mirror.{whole, whole-same, last_of, last_push, last_begin, begin_push, pass_with, leaf_left, is_looked_up, Fits, lines_drawn, drawn-tokens, one_more, drawn-push, paragraph_open, paragraph_leaf, inner_at, leaf_at, pass_at}
 use Rattle.cmark_block_model.proofs.Closing.{noded, leaf-closes}
 use Rattle.cmark_block_model.proofs.Beginning.{starts}
 
@@ -101,12 +101,13 @@ module _ (text : List ℕ) (options : Options) (lookup : Lookup) where
       done (HtmlBlock kind) q = refl
       done (LinkDefinition definition) q = refl
       done (MetadataBlock kind) q = refl
+      done (Table alignments) q = refl
   leaf-feeds closed leaf first had (suc left) r next ahead l outer b n e a f = go leaf f.2
     where
       none : {A : Type 0} → suc left ≡ 0 → A
       none q = absurd (omega (arith, q))
 
-      go : (leaf : Leaf) → (allows_lazy (behind_leaf leaf) ≡ false → suc left ≡ 0) → leaf_fed text options lookup (leaf_left leaf (suc left)) r next (pass_with (leaf_level text options lookup leaf first (had ++ take (suc left) (r ∷ ahead)) (replay text options lookup closed l)) outer false (leaf_left leaf (suc left)) n)
+      go : (leaf : Leaf) → (is_looked_up leaf ≡ false → suc left ≡ 0) → leaf_fed text options lookup (leaf_left leaf (suc left)) r next (pass_with (leaf_level text options lookup leaf first (had ++ take (suc left) (r ∷ ahead)) (replay text options lookup closed l)) outer false (leaf_left leaf (suc left)) n)
           ≡ pass_with (leaf_level text options lookup leaf first ((had ++ r ∷ []) ++ take left ahead) (replay text options lookup closed l)) (outer ++ []) false (leaf_left leaf left) n
       go ThematicBreak h = none (h refl)
       go (AtxHeading level) h = none (h refl)
@@ -117,3 +118,6 @@ module _ (text : List ℕ) (options : Options) (lookup : Lookup) where
       go (LinkDefinition definition) h =
           ap (λ x. pass_with (leaf_level text options lookup (LinkDefinition definition) first x (replay text options lookup closed l)) outer false (InDefinition left) n) (sym (append_assoc had (r ∷ []) (take left ahead)))
           ∙ ap (λ o. pass_with (leaf_level text options lookup (LinkDefinition definition) first ((had ++ r ∷ []) ++ take left ahead) (replay text options lookup closed l)) o false (InDefinition left) n) (sym (append-nil outer))
+      go (Table alignments) h =
+          ap (λ x. pass_with (leaf_level text options lookup (Table alignments) first x (replay text options lookup closed l)) outer false (InTable left) n) (sym (append_assoc had (r ∷ []) (take left ahead)))
+          ∙ ap (λ o. pass_with (leaf_level text options lookup (Table alignments) first ((had ++ r ∷ []) ++ take left ahead) (replay text options lookup closed l)) o false (InTable left) n) (sym (append-nil outer))

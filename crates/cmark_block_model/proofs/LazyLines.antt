@@ -4,12 +4,12 @@ use Rattle.cmark_grammar.specs.Answers.{Lookup}
 use Rattle.cmark_grammar.specs.Options.{Options}
 use Rattle.cmark_grammar.specs.Rows.{Row, start_of, lazy_row}
 use Rattle.cmark_grammar.specs.Containers.{Container, enter, strip, is_bare_start, bare_after}
-use Rattle.cmark_grammar.specs.Openings.{Leaf, ThematicBreak, AtxHeading, IndentedCode, FencedCode, HtmlBlock, LinkDefinition, texts, lazily, MetadataBlock}
+use Rattle.cmark_grammar.specs.Openings.{Leaf, ThematicBreak, AtxHeading, IndentedCode, FencedCode, HtmlBlock, LinkDefinition, texts, lazily, MetadataBlock, Table}
 use Rattle.cmark_grammar.specs.Blocks.{Blocks, Nil as NoBlocks, Paragraph, SetextHeading, LeafBlock, ContainerBlock, join as join_blocks, behind_leaf, place_in}
 use Rattle.cmark_grammar.specs.Places.{Place, Apart, BehindLazy, allows_lazy}
 use Rattle.cmark_grammar.specs.BlocksModel.{within, place_behind}
 use Rattle.cmark_grammar.specs.BlocksByLine.{OpenLines, Between, BehindTag, InParagraph, InLeaf, InVerbatim, InContainer, close_lines, lines_take_lazy, lines_underline_or, lines_go_on_or, lines_kept_or, lines_begin_as, lines_begin_in, lines_begin_at, lines_begin, lines_feed}
-use Rattle.cmark_grammar.proofs.BlockLaws.{at-lazy, underlines-lazy, keeps-lazy, strip_lazy, lazily-texts}
+use Rattle.cmark_grammar.proofs.BlockLaws.{at-lazy, underlines-lazy, keeps-lazy, strip_lazy, lazily-texts, texts-lazily}
 use Rattle.cmark_grammar.proofs.BlocksSound.{bare_push}
 use Rattle.cmark_block_model.specs.OpenBlocks.{OpenContainer, InParagraph as InParagraphLeaf}
 use Rattle.cmark_block_model.specs.BlockPass.{lazy_fed}
@@ -18,9 +18,8 @@ use Rattle.cmark_block_model.proofs.Mirror.{whole-same, pass_with, Fits, paragra
 use Rattle.cmark_block_model.proofs.Feeding.{paragraph-goes}
 
 module _ (options : Options) where
-  lazily-same : (k j : Container) (r : Row) (x y : List Row) → lazily options k r x ≡ lazily options j (lazy_row r) y
-  unfolding lazily
-  lazily-same k j r x y = refl
+  lazily-still : (k j : Container) (r : Row) (x y : List Row) → lazily options k r x ≡ true → lazily options j (lazy_row r) y ≡ true
+  lazily-still k j r x y e = texts-lazily options j (lazy_row r) y refl (lazily-texts options k r x [] e)
 
   pub lazy-begins-at : (place : Place) (b : Blocks) (r : Row) (ahead : List Row) → lines_begin_at options place b (lazy_row r) ahead ≡ InParagraph b (lazy_row r) []
   lazy-begins-at place b r ahead =
@@ -44,7 +43,7 @@ module _ (options : Options) where
       let off = lines_begin options (join_blocks closed (ContainerBlock k first more (close_lines inside) NoBlocks)) (lazy_row r) ahead in
       let none = keeps-lazy options k bare (lazy_row r) refl in
       ap (λ o. lines_kept_or o (lazily options k (lazy_row r) ahead && lines_take_lazy inside) on off) none
-      ∙ ap (λ z. lines_kept_or None (z && lines_take_lazy inside) on off) (sym (lazily-same j k r x ahead) ∙ e)
+      ∙ ap (λ z. lines_kept_or None (z && lines_take_lazy inside) on off) (lazily-still j k r x ahead e)
       ∙ ap (λ z. lines_kept_or None z on off) t
       ∙ ap (λ s. InContainer closed k first (more ++ lazy_row r ∷ []) (lines_feed options inside s (within k false ahead))) (strip_lazy options k bare (lazy_row r) none)
 
@@ -80,6 +79,7 @@ module _ (text : List ℕ) (options : Options) (lookup : Lookup) where
       go (FencedCode fence) y = absurd (true≢false (sym y))
       go (HtmlBlock kind) y = absurd (true≢false (sym y))
       go (MetadataBlock kind) y = absurd (true≢false (sym y))
+      go (Table alignments) y = absurd (true≢false (sym y))
       go (LinkDefinition definition) y =
           let d = LinkDefinition definition in
           ap (λ h. pass_with (paragraph_open text options lookup r [] (leaf_level text options lookup d first h (replay text options lookup closed l))) (outer ++ []) false (InParagraphLeaf (start_of r) r) n) (append-nil had)

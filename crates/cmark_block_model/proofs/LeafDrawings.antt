@@ -1,24 +1,27 @@
 -- What is drawn has the events and the leaves of the document.
-use Rattle.std.proofs.Common.{◌≡◌, ℕ, ◌+◌, ◌*◌, ◌≤◌, Bool, true, false, ◌==◌, if◌then◌else◌, List, [], ◌∷◌, ◌++◌, length, Option, None, Some, refl, ap, ◌∙◌, sym, subst, arith, length-append}
+use Rattle.std.proofs.Common.{◌≡◌, ℕ, zero, suc, ◌+◌, ◌*◌, ◌≤◌, Bool, true, false, ◌==◌, if◌then◌else◌, List, [], ◌∷◌, ◌++◌, length, drop, take_while, Option, None, Some, refl, ap, ◌∙◌, sym, subst, arith, length-append}
 use Rattle.cmark_grammar.specs.Answers.{Lookup}
 use Rattle.cmark_grammar.specs.Options.{Options}
 use Rattle.cmark_grammar.specs.Event.{End}
 use Rattle.cmark_grammar.specs.TagEnd.{end_of}
-use Rattle.cmark_grammar.specs.Rows.{Row, first_place, begin_of, start_of, past_of}
+use Rattle.cmark_grammar.specs.Rows.{Row, first_place, begin_of, start_of, past_of, words_of}
 use Rattle.cmark_grammar.specs.Containers.{Quote, Item, Footnote}
-use Rattle.cmark_grammar.specs.Openings.{Leaf, ThematicBreak as ThematicBreakLeaf, AtxHeading as AtxHeadingLeaf, IndentedCode as IndentedCodeLeaf, FencedCode as FencedCodeLeaf, HtmlBlock as HtmlBlockLeaf, LinkDefinition as LinkDefinitionLeaf, MetadataBlock as MetadataBlockLeaf}
+use Rattle.cmark_grammar.specs.Openings.{Leaf, ThematicBreak as ThematicBreakLeaf, AtxHeading as AtxHeadingLeaf, IndentedCode as IndentedCodeLeaf, FencedCode as FencedCodeLeaf, HtmlBlock as HtmlBlockLeaf, LinkDefinition as LinkDefinitionLeaf, MetadataBlock as MetadataBlockLeaf, Table as TableLeaf}
 use Rattle.cmark_grammar.specs.Blocks.{Blocks, Nil as NoBlocks, BlankLine, Paragraph as ParagraphBlock, SetextHeading, LeafBlock, ContainerBlock}
 use Rattle.cmark_grammar.specs.Lists.{ListBefore, tight_behind, goes_on}
 use Rattle.cmark_grammar.specs.Tokens.{Piece, end_place, piece_if, texts_then, words_end, stretch_then, stretches, html_then, html_tokens, verbatim_line, behind_hashes, heading_columns, code_pieces, fenced_lines, lines_before}
-use Rattle.cmark_grammar.specs.BlockDocument.{Text, OwnedText, ListItem, BlockNode, BlockDocument, Nil, Node, node}
+use Rattle.cmark_grammar.specs.Columns.{is_blank_byte, drop_end}
+use Rattle.cmark_grammar.specs.TableRows.{cells_start, cells_of}
+use Rattle.cmark_grammar.specs.TableTokens.{cells_then, row_cells, row_tokens}
+use Rattle.cmark_grammar.specs.BlockDocument.{Text, OwnedText, ListItem, BlockKind, BlockNode, BlockDocument, Nil, Node, node}
 use Rattle.cmark_grammar.specs.BlockReading.{Reads, Around, Inside, Alone, Silent, read_as, over}
 use Rattle.cmark_grammar.specs.Derivation.{Derives, leaf_then, item_then, document_of, document}
 use Rattle.cmark_grammar.specs.DrawnDocument.{is_definition, node_unless, settled, without_definitions}
 use Rattle.cmark_grammar.specs.LeafText.{Stretch}
-use Rattle.cmark_grammar.specs.Ranges.{count_nodes}
-use Rattle.cmark_grammar.specs.SpanDocuments.{Segment, Given, Content, is_leaf, leaf_of, stretches_of, inside_of, node_segments, segments}
+use Rattle.cmark_grammar.specs.Ranges.{count_nodes, count_tables}
+use Rattle.cmark_grammar.specs.SpanDocuments.{Segment, Given, Content, is_leaf, is_cell, leaf_of, stretches_of, inside_of, node_segments, segments}
 use Rattle.cmark_grammar.specs.Metadata.{ends_metadata}
-use Rattle.cmark_grammar.proofs.CountLaws.{derived-count}
+use Rattle.cmark_grammar.proofs.CountLaws.{derived-count, derived-tables}
 use Rattle.cmark_block_model.specs.BlockPass.{pass_over}
 use Rattle.cmark_block_model.proofs.Drawings.{derived, silent}
 use Rattle.cmark_block_model.proofs.Theorem.{pass-draws}
@@ -80,6 +83,21 @@ html-whole text (r ∷ rs) = html-then-whole (verbatim_line text r.columns r) (h
 no-leaf : (kind : Bool) → kind ≡ false → (P : Type 0) → kind ≡ true → P
 no-leaf kind e P f = absurd (let q : true ≡ false = sym f ∙ e in cc)
 
+cells-whole : (text : List ℕ) (columns at past : ℕ) (cells : List (List ℕ)) → HasWholeLeaves (cells_then text columns at past cells)
+cells-whole text zero at past cells = tt
+cells-whole text (suc columns) at past [] = (λ e. tt, tt, cells-whole text columns at past [])
+cells-whole text (suc columns) at past (cell ∷ cells) =
+    let start = at + length (take_while is_blank_byte cell) in
+    let end = at + length (drop_end is_blank_byte cell) in
+    (λ e. stretch-free text start end Nil tt, stretch-whole text start end Nil tt, cells-whole text columns (suc (at + length cell)) past cells)
+
+row-whole : (text : List ℕ) (columns : ℕ) (r : Row) → HasWholeLeaves (row_cells text columns r)
+row-whole text columns r = cells-whole text columns (cells_start r) r.past (cells_of (words_of r))
+
+rows-whole : (text : List ℕ) (columns : ℕ) (rs : List Row) → HasWholeLeaves (row_tokens text columns rs)
+rows-whole text columns [] = tt
+rows-whole text columns (r ∷ rs) = (λ e. no-leaf false refl _ e, row-whole text columns r, rows-whole text columns rs)
+
 leaf-whole : (text : List ℕ) (options : Options) (lookup : Lookup) (leaf : Leaf) (first : Row) (more : List Row) (after : BlockDocument) → HasWholeLeaves after → HasWholeLeaves (leaf_then text options lookup leaf first more after)
 leaf-whole text options lookup ThematicBreakLeaf first more after h = (λ e. tt, tt, h)
 leaf-whole text options lookup (AtxHeadingLeaf level) first more after h =
@@ -93,6 +111,9 @@ leaf-whole text options lookup (HtmlBlockLeaf kind) first more after h = (λ e. 
 leaf-whole text options lookup (LinkDefinitionLeaf definition) first more after h = (λ e. tt, tt, h)
 leaf-whole text options lookup (MetadataBlockLeaf kind) first more after h =
     (λ e. texts-free (code_pieces text 0 (lines_before (ends_metadata kind) more)) Nil tt, texts-whole (code_pieces text 0 (lines_before (ends_metadata kind) more)) Nil tt, h)
+
+leaf-whole text options lookup (TableLeaf alignments) first more after h =
+    (λ e. no-leaf false refl _ e, ((λ e. no-leaf false refl _ e), row-whole text (length alignments) first, rows-whole text (length alignments) (drop 1 more)), h)
 
 item-whole : (joins : Bool) (number : Option ℕ) (tight : Bool) (start end : ℕ) (inside after : BlockDocument) → HasWholeLeaves inside → HasWholeLeaves after
     → HasWholeLeaves (item_then joins number tight (node ListItem start end) inside after)
@@ -123,10 +144,10 @@ same-stretches Nil h = refl
 same-stretches (Node n inside after) h =
     ap (λ b. stretches_of (node_unless b n (without_definitions inside) (without_definitions after))) h.0 ∙ ap (λ (more : List Stretch). record { start = n.start; end = n.end } ∷ more) (same-stretches after h.1)
 
-same-inside : (b : Bool) (inside : BlockDocument) (others more : List Segment) → (b ≡ true → AreNoDefinitions inside) → others ≡ more
-    → (if b then Content (leaf_of (without_definitions inside)) ∷ [] else others) ≡ (if b then Content (leaf_of inside) ∷ [] else more)
-same-inside true inside others more free e = ap (λ (l : List Stretch). Content (record { stretches = l; is_cell = false }) ∷ []) (same-stretches inside (free refl))
-same-inside false inside others more free e = e
+same-inside : (kind : BlockKind) (b : Bool) (inside : BlockDocument) (others more : List Segment) → (b ≡ true → AreNoDefinitions inside) → others ≡ more
+    → (if b then Content (leaf_of kind (without_definitions inside)) ∷ [] else others) ≡ (if b then Content (leaf_of kind inside) ∷ [] else more)
+same-inside kind true inside others more free e = ap (λ (l : List Stretch). Content (record { stretches = l; is_cell = is_cell kind }) ∷ []) (same-stretches inside (free refl))
+same-inside kind false inside others more free e = e
 
 -- a document without its definitions has the events and leaves of the document
 pub whole-segments : (d : BlockDocument) → HasWholeLeaves d → segments (without_definitions d) ≡ segments d
@@ -137,7 +158,7 @@ whole-segments (Node n inside after) h = go (is_definition n.kind) refl (whole-s
         → segments (node_unless b n (without_definitions inside) (without_definitions after)) ≡ node_segments (read_as n.kind) n (inside_of n.kind inside (segments inside)) ++ segments after
     go true e i a = a ∙ ap (λ r. node_segments r n (inside_of n.kind inside (segments inside)) ++ segments after) (sym (silent n.kind e))
     go false e i a =
-        ap (λ l. node_segments (read_as n.kind) n l ++ segments (without_definitions after)) (same-inside (is_leaf n.kind) inside (segments (without_definitions inside)) (segments inside) h.0 i)
+        ap (λ l. node_segments (read_as n.kind) n l ++ segments (without_definitions after)) (same-inside n.kind (is_leaf n.kind) inside (segments (without_definitions inside)) (segments inside) h.0 i)
         ∙ ap (λ l. node_segments (read_as n.kind) n (inside_of n.kind inside (segments inside)) ++ l) a
 
 -- a node gives three at most
@@ -147,9 +168,9 @@ node-few Inside n l = omega arith
 node-few (Alone event) n l = omega arith
 node-few Silent n l = omega arith
 
-inside-few : (b : Bool) (content : BlockDocument) (others : List Segment) → length (if b then Content (leaf_of content) ∷ [] else others) ≤ 1 + length others
-inside-few true content others = omega arith
-inside-few false content others = omega arith
+inside-few : (kind : BlockKind) (b : Bool) (content : BlockDocument) (others : List Segment) → length (if b then Content (leaf_of kind content) ∷ [] else others) ≤ 1 + length others
+inside-few kind true content others = omega arith
+inside-few kind false content others = omega arith
 
 segments-count : (d : BlockDocument) → length (segments d) ≤ 3 * count_nodes d
 segments-count Nil = omega arith
@@ -157,13 +178,17 @@ segments-count (Node n inside after) =
     let own = inside_of n.kind inside (segments inside) in
     let e = length-append (node_segments (read_as n.kind) n own) (segments after) in
     let f = node-few (read_as n.kind) n own in
-    let g = inside-few (is_leaf n.kind) inside (segments inside) in
+    let g = inside-few n.kind (is_leaf n.kind) inside (segments inside) in
     let i = segments-count inside in
     let a = segments-count after in
     omega (arith, e, f, g, i, a)
 
-pub segments-few : (text : List ℕ) (options : Options) (lookup : Lookup) (d : BlockDocument) → Derives text options lookup d → length (segments d) ≤ 12 * length text
+pub segments-few : (text : List ℕ) (options : Options) (lookup : Lookup) (d : BlockDocument) → Derives text options lookup d → length (segments d) ≤ 12 * length text + 786432 * count_tables d
 segments-few text options lookup d h = let a = segments-count d in let b = derived-count text options lookup d h in omega (arith, a, b)
+
+-- there are no more tables than bytes
+pub segments-bounded : (text : List ℕ) (options : Options) (lookup : Lookup) (d : BlockDocument) → Derives text options lookup d → length (segments d) ≤ 786444 * length text
+segments-bounded text options lookup d h = let a = segments-few text options lookup d h in let b = derived-tables text options lookup d h in omega (arith, a, b)
 
 pub drawn-segments : (text : List ℕ) (options : Options) (lookup : Lookup) → segments (settled false (pass_over text options lookup).drawing.here) ≡ segments (document text options lookup)
 drawn-segments text options lookup =

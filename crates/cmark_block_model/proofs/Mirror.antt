@@ -6,7 +6,7 @@ use Rattle.cmark_grammar.specs.Answers.{Lookup}
 use Rattle.cmark_grammar.specs.Rows.{Row, start_of, begin_of, past_of, first_place}
 use Rattle.cmark_grammar.specs.Leaves.{closes_fence}
 use Rattle.cmark_grammar.specs.Containers.{Container, is_bare_start, bare_after}
-use Rattle.cmark_grammar.specs.Openings.{Leaf, ThematicBreak, AtxHeading, IndentedCode, FencedCode, HtmlBlock, LinkDefinition, MetadataBlock}
+use Rattle.cmark_grammar.specs.Openings.{Leaf, ThematicBreak, AtxHeading, IndentedCode, FencedCode, HtmlBlock, LinkDefinition, MetadataBlock, Table}
 use Rattle.cmark_grammar.specs.Blocks.{behind_leaf}
 use Rattle.cmark_grammar.specs.Places.{allows_lazy}
 use Rattle.cmark_grammar.specs.BlocksModel.{within}
@@ -16,7 +16,7 @@ use Rattle.cmark_grammar.specs.BlockDocument as document
 use Rattle.cmark_grammar.specs.BlockDocument.{BlockDocument, Nil, Node, node, join}
 use Rattle.cmark_grammar.specs.Metadata.{ends_metadata}
 use Rattle.cmark_block_model.specs.CodeLines.{no_run, texts_of}
-use Rattle.cmark_block_model.specs.OpenBlocks.{OpenContainer, OpenLeaf, Closed, BehindTag as BehindTagLeaf, InParagraph as InParagraphLeaf, InDefinition, InIndented, InFenced, InHtml, Pass, InMetadata}
+use Rattle.cmark_block_model.specs.OpenBlocks.{OpenContainer, OpenLeaf, Closed, BehindTag as BehindTagLeaf, InParagraph as InParagraphLeaf, InDefinition, InIndented, InFenced, InHtml, Pass, InMetadata, InTable}
 use Rattle.cmark_block_model.proofs.PlainTokens.{stretch-join, html-join}
 use Rattle.cmark_block_model.proofs.CodeRuns.{code_run}
 use Rattle.cmark_block_model.proofs.Replay.{Level, begun, level_opened, level_drawn, standing, entered, leaf_level, replay}
@@ -71,6 +71,18 @@ leaf_left (FencedCode fence) left = Closed
 leaf_left (HtmlBlock kind) left = Closed
 leaf_left (MetadataBlock kind) left = Closed
 leaf_left (LinkDefinition definition) left = InDefinition left
+leaf_left (Table alignments) left = InTable left
+
+-- how many lines the leaf takes is looked up ahead
+abbrev pub is_looked_up : Leaf → Bool
+is_looked_up ThematicBreak = false
+is_looked_up (AtxHeading level) = false
+is_looked_up IndentedCode = false
+is_looked_up (FencedCode fence) = false
+is_looked_up (HtmlBlock kind) = false
+is_looked_up (MetadataBlock kind) = false
+is_looked_up (LinkDefinition definition) = true
+is_looked_up (Table alignments) = true
 
 -- the bare flag: of the container around, where nothing is open
 abbrev pub bare_at : Bool → OpenLines → Bool
@@ -97,7 +109,7 @@ abbrev pub Fits : Bool → OpenLines → List Row → ℕ → Type 0
 Fits bare (Between closed) ahead n = Unit {0}
 Fits bare BehindTag ahead n = bare ≡ false
 Fits bare (InParagraph closed first more) ahead n = (bare ≡ false) × (past_of first more ≡ n)
-Fits bare (InLeaf closed leaf first had left) ahead n = (bare ≡ false) × (left ≤ length ahead) × (allows_lazy (behind_leaf leaf) ≡ false → left ≡ 0)
+Fits bare (InLeaf closed leaf first had left) ahead n = (bare ≡ false) × (left ≤ length ahead) × (is_looked_up leaf ≡ false → left ≡ 0)
 Fits bare (InVerbatim closed verbatim first had waiting) ahead n = (bare ≡ false) × FitsVerbatim verbatim first had waiting n
 Fits bare (InContainer closed k first more inside) ahead n =
     (bare ≡ false) × (past_of first more ≡ n) × Fits (bare_after (is_bare_start k first) more) inside (within k (bare_after (is_bare_start k first) more) ahead) n

@@ -1,9 +1,12 @@
 -- Tokens are neither settled nor left out, and define nothing.
-use Rattle.std.proofs.Common.{◌≡◌, ℕ, Bool, true, false, List, [], ◌∷◌, ◌++◌, refl, ap}
+use Rattle.std.proofs.Common.{◌≡◌, ℕ, zero, suc, ◌+◌, Bool, true, false, List, [], ◌∷◌, ◌++◌, length, drop, take_while, refl, ap, ◌∙◌}
 use Rattle.std.specs.Prelude.{◌==◌, if◌then◌else◌}
-use Rattle.cmark_grammar.specs.Rows.{Row, first_place, begin_of, start_of}
+use Rattle.cmark_grammar.specs.Rows.{Row, first_place, begin_of, start_of, words_of}
 use Rattle.cmark_grammar.specs.Tokens.{Piece, end_place, piece_if, texts_then, words_end, stretch_then, stretches, paragraph_tokens, html_then, html_tokens, text_kind_of, html_kind_of, verbatim_line, behind_hashes, heading_columns, heading_tokens, code_pieces, code_tokens}
-use Rattle.cmark_grammar.specs.BlockDocument.{Text, OwnedText, Html, BlockDocument, Nil, Node, node, join}
+use Rattle.cmark_grammar.specs.Columns.{is_blank_byte, drop_end}
+use Rattle.cmark_grammar.specs.TableRows.{cells_start, cells_of}
+use Rattle.cmark_grammar.specs.TableTokens.{cell_tokens, cells_then, row_cells, row_tokens, table_tokens}
+use Rattle.cmark_grammar.specs.BlockDocument.{Text, OwnedText, Html, TableHead, TableRow, TableCell, BlockDocument, Nil, Node, node, join}
 use Rattle.cmark_grammar.specs.DrawnDocument.{settled, without_definitions}
 use Rattle.cmark_grammar.specs.References.{references}
 
@@ -56,6 +59,46 @@ heading_plain text attributes level r =
 
 pub code_plain : (text : List ℕ) (most : ℕ) (rs : List Row) → IsPlain (code_tokens text most rs)
 code_plain text most rs = texts_plain (code_pieces text most rs) Nil nil_plain
+
+-- a node of a table around plain nodes, in front of plain ones
+head_plain : (start end : ℕ) (inside after : BlockDocument) → IsPlain inside → IsPlain after → IsPlain (Node (node TableHead start end) inside after)
+head_plain start end inside after h k = record {
+  still = λ tight. ap (λ x. Node (node TableHead start end) x (settled tight after)) (h.still false) ∙ ap (Node (node TableHead start end) inside) (k.still tight);
+  whole = ap (λ x. Node (node TableHead start end) x (without_definitions after)) h.whole ∙ ap (Node (node TableHead start end) inside) k.whole;
+  defines = ap (λ r. r ++ references after) h.defines ∙ k.defines;
+}
+
+table_row_plain : (start end : ℕ) (inside after : BlockDocument) → IsPlain inside → IsPlain after → IsPlain (Node (node TableRow start end) inside after)
+table_row_plain start end inside after h k = record {
+  still = λ tight. ap (λ x. Node (node TableRow start end) x (settled tight after)) (h.still false) ∙ ap (Node (node TableRow start end) inside) (k.still tight);
+  whole = ap (λ x. Node (node TableRow start end) x (without_definitions after)) h.whole ∙ ap (Node (node TableRow start end) inside) k.whole;
+  defines = ap (λ r. r ++ references after) h.defines ∙ k.defines;
+}
+
+cell_plain : (start end : ℕ) (inside after : BlockDocument) → IsPlain inside → IsPlain after → IsPlain (Node (node TableCell start end) inside after)
+cell_plain start end inside after h k = record {
+  still = λ tight. ap (λ x. Node (node TableCell start end) x (settled tight after)) (h.still false) ∙ ap (Node (node TableCell start end) inside) (k.still tight);
+  whole = ap (λ x. Node (node TableCell start end) x (without_definitions after)) h.whole ∙ ap (Node (node TableCell start end) inside) k.whole;
+  defines = ap (λ r. r ++ references after) h.defines ∙ k.defines;
+}
+
+cells_plain : (text : List ℕ) (columns at past : ℕ) (cells : List (List ℕ)) → IsPlain (cells_then text columns at past cells)
+cells_plain text zero at past cells = nil_plain
+cells_plain text (suc columns) at past [] = cell_plain past past Nil (cells_then text columns at past []) nil_plain (cells_plain text columns at past [])
+cells_plain text (suc columns) at past (cell ∷ cells) =
+    cell_plain at (at + length cell) (cell_tokens text at cell) (cells_then text columns (suc (at + length cell)) past cells)
+    (stretch_plain text (at + length (take_while is_blank_byte cell)) (at + length (drop_end is_blank_byte cell)) Nil nil_plain) (cells_plain text columns (suc (at + length cell)) past cells)
+
+row_plain : (text : List ℕ) (columns : ℕ) (r : Row) → IsPlain (row_cells text columns r)
+row_plain text columns r = cells_plain text columns (cells_start r) r.past (cells_of (words_of r))
+
+rows_plain : (text : List ℕ) (columns : ℕ) (rs : List Row) → IsPlain (row_tokens text columns rs)
+rows_plain text columns [] = nil_plain
+rows_plain text columns (r ∷ rs) = table_row_plain (start_of r) r.past (row_cells text columns r) (row_tokens text columns rs) (row_plain text columns r) (rows_plain text columns rs)
+
+pub table_plain : (text : List ℕ) (columns : ℕ) (head : Row) (more : List Row) → IsPlain (table_tokens text columns head more)
+table_plain text columns head more =
+    head_plain (start_of head) head.past (row_cells text columns head) (row_tokens text columns (drop 1 more)) (row_plain text columns head) (rows_plain text columns (drop 1 more))
 
 pub join-nil : (d : BlockDocument) → join d Nil ≡ d
 join-nil Nil = refl

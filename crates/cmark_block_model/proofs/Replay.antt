@@ -6,7 +6,7 @@ use Rattle.cmark_grammar.specs.Attributes.{no_attributes}
 use Rattle.cmark_grammar.specs.Rows.{Row, start_of, begin_of, past_of}
 use Rattle.cmark_grammar.specs.Labels.{normal_form}
 use Rattle.cmark_grammar.specs.Containers.{Container, Quote, Item, Footnote}
-use Rattle.cmark_grammar.specs.Openings.{Leaf, ThematicBreak, AtxHeading, IndentedCode, FencedCode, HtmlBlock, LinkDefinition, MetadataBlock}
+use Rattle.cmark_grammar.specs.Openings.{Leaf, ThematicBreak, AtxHeading, IndentedCode, FencedCode, HtmlBlock, LinkDefinition, MetadataBlock, Table}
 use Rattle.cmark_grammar.specs.Blocks.{Blocks, Nil, BlankLine, Paragraph, SetextHeading, LeafBlock, ContainerBlock, join}
 use Rattle.cmark_grammar.specs.Tokens.{paragraph_tokens}
 use Rattle.cmark_grammar.specs.Derivation.{stop_of, reference_of, leaf_then}
@@ -89,6 +89,7 @@ module _ (text : List ℕ) (options : Options) (lookup : Lookup) where
   leaf_drawing (HtmlBlock kind) first more d = drawn (leaf_then text options lookup (HtmlBlock kind) first more document.Nil) d
   leaf_drawing (LinkDefinition definition) first more d = d
   leaf_drawing (MetadataBlock kind) first more d = drawn (leaf_then text options lookup (MetadataBlock kind) first more document.Nil) d
+  leaf_drawing (Table alignments) first more d = drawn (leaf_then text options lookup (Table alignments) first more document.Nil) d
 
   abbrev pub leaf_references : Leaf → Row → List Row → List Reference → List Reference
   leaf_references ThematicBreak first more rs = rs
@@ -97,6 +98,7 @@ module _ (text : List ℕ) (options : Options) (lookup : Lookup) where
   leaf_references (FencedCode fence) first more rs = rs
   leaf_references (HtmlBlock kind) first more rs = rs
   leaf_references (MetadataBlock kind) first more rs = rs
+  leaf_references (Table alignments) first more rs = rs
   leaf_references (LinkDefinition definition) first more rs = rs ++ reference_of lookup definition (start_of first) (stop_of first more) ∷ []
 
   abbrev pub leaf_level : Leaf → Row → List Row → Level → Level

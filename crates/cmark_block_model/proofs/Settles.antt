@@ -1,5 +1,5 @@
 -- The drawn document, settled, is the document of the grammar without its definitions; the references are its definitions.
-use Rattle.std.proofs.Common.{◌≡◌, ℕ, Bool, true, false, ◌==◌, List, ◌∷◌, refl, ap, ◌∙◌, sym, subst, Option, Some, None}
+use Rattle.std.proofs.Common.{◌≡◌, ℕ, Bool, true, false, ◌==◌, List, ◌∷◌, length, refl, ap, ◌∙◌, sym, subst, Option, Some, None}
 use Rattle.std.specs.Prelude.{if◌then◌else◌}
 use Rattle.cmark_grammar.specs.Options.{Options}
 use Rattle.cmark_grammar.specs.Answers.{Lookup}
@@ -7,7 +7,7 @@ use Rattle.cmark_grammar.specs.Attributes.{no_attributes}
 use Rattle.cmark_grammar.specs.Rows.{Row, past_of, begin_of, start_of}
 use Rattle.cmark_grammar.specs.Labels.{normal_form}
 use Rattle.cmark_grammar.specs.Containers.{Quote, Item, Footnote}
-use Rattle.cmark_grammar.specs.Openings.{Leaf, ThematicBreak, AtxHeading, IndentedCode, FencedCode, HtmlBlock, LinkDefinition, MetadataBlock}
+use Rattle.cmark_grammar.specs.Openings.{Leaf, ThematicBreak, AtxHeading, IndentedCode, FencedCode, HtmlBlock, LinkDefinition, MetadataBlock, Table}
 use Rattle.cmark_grammar.specs.Blocks.{Blocks, Nil as NoBlocks, BlankLine, Paragraph, SetextHeading, LeafBlock, ContainerBlock}
 use Rattle.cmark_grammar.specs.Lists.{ListBefore, is_tight, tight_behind, goes_on}
 use Rattle.cmark_grammar.specs.Tokens.{paragraph_tokens, heading_attributes, fenced_lines, lines_before}
@@ -16,7 +16,7 @@ use Rattle.cmark_grammar.specs.BlockDocument as document
 use Rattle.cmark_grammar.specs.BlockDocument.{Reference, BlockKind, BlockNode, BlockDocument, Nil, Node, node, join}
 use Rattle.cmark_grammar.specs.DrawnDocument.{settled, without_definitions}
 use Rattle.cmark_grammar.specs.Metadata.{ends_metadata}
-use Rattle.cmark_block_model.proofs.PlainTokens.{IsPlain, paragraph_plain, heading_plain, code_plain, html_tokens_plain}
+use Rattle.cmark_block_model.proofs.PlainTokens.{IsPlain, paragraph_plain, heading_plain, code_plain, html_tokens_plain, table_plain}
 use Rattle.cmark_block_model.proofs.Split.{Split, end_or, lone, item_split, leaf_raw, split}
 use Rattle.cmark_block_model.proofs.Draws.{other-mark}
 
@@ -60,6 +60,7 @@ module _ (text : List ℕ) (options : Options) (lookup : Lookup) where
   leaf-settles (HtmlBlock kind) first more direct x d e = let h = html_tokens_plain text (first ∷ more) in node-same _ (h.still false ∙ sym h.whole) e
   leaf-settles (LinkDefinition definition) first more direct x d e = e
   leaf-settles (MetadataBlock kind) first more direct x d e = let h = code_plain text 0 (lines_before (ends_metadata kind) more) in node-same _ (h.still false ∙ sym h.whole) e
+  leaf-settles (Table alignments) first more direct x d e = let h = table_plain text (length alignments) first more in node-same _ (h.still false ∙ sym h.whole) e
 
   -- an item and what goes on with it
   pub record IsWhole (direct tight : Bool) (number : Option ℕ) (start past : ℕ) (inside : BlockDocument) (s : Split) (d : BlockDocument) : Type 0 where

@@ -5,7 +5,7 @@ use Rattle.cmark_grammar.specs.Answers.{Lookup}
 use Rattle.cmark_grammar.specs.Options.{Options}
 use Rattle.cmark_grammar.specs.Rows.{Row}
 use Rattle.cmark_grammar.specs.Containers.{keeps, strip, strip_as, is_bare_start, bare_after}
-use Rattle.cmark_grammar.specs.Openings.{Leaf, ThematicBreak, AtxHeading, IndentedCode, FencedCode, HtmlBlock, LinkDefinition, lazily, MetadataBlock}
+use Rattle.cmark_grammar.specs.Openings.{Leaf, ThematicBreak, AtxHeading, IndentedCode, FencedCode, HtmlBlock, LinkDefinition, lazily, MetadataBlock, Table}
 use Rattle.cmark_grammar.specs.Blocks.{Nil as NoBlocks, ContainerBlock, join as join_blocks, behind_leaf}
 use Rattle.cmark_grammar.specs.Places.{allows_lazy}
 use Rattle.cmark_grammar.specs.BlocksModel.{within}
@@ -39,6 +39,7 @@ module _ (text : List ℕ) (options : Options) (lookup : Lookup) where
       go (HtmlBlock kind) = refl
       go (LinkDefinition definition) = refl
       go (MetadataBlock kind) = refl
+      go (Table alignments) = refl
   takes-lazy (InVerbatim closed verbatim first had waiting) = go verbatim
     where
       go : (v : Verbatim) → takes_lazy (verbatim_leaf text options lookup v first had waiting) ≡ false

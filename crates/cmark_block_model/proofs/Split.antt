@@ -7,7 +7,7 @@ use Rattle.cmark_grammar.specs.Attributes.{no_attributes}
 use Rattle.cmark_grammar.specs.Rows.{Row, start_of, begin_of, past_of}
 use Rattle.cmark_grammar.specs.Labels.{normal_form}
 use Rattle.cmark_grammar.specs.Containers.{Quote, Item, Footnote}
-use Rattle.cmark_grammar.specs.Openings.{Leaf, ThematicBreak, AtxHeading, IndentedCode, FencedCode, HtmlBlock, LinkDefinition, MetadataBlock}
+use Rattle.cmark_grammar.specs.Openings.{Leaf, ThematicBreak, AtxHeading, IndentedCode, FencedCode, HtmlBlock, LinkDefinition, MetadataBlock, Table}
 use Rattle.cmark_grammar.specs.Blocks.{Blocks, Nil as NoBlocks, BlankLine, Paragraph, SetextHeading, LeafBlock, ContainerBlock}
 use Rattle.cmark_grammar.specs.Lists.{is_tight}
 use Rattle.cmark_grammar.specs.Tokens.{paragraph_tokens}
@@ -47,6 +47,7 @@ module _ (text : List ℕ) (options : Options) (lookup : Lookup) where
   leaf_raw (HtmlBlock kind) first more after = leaf_then text options lookup (HtmlBlock kind) first more after
   leaf_raw (LinkDefinition definition) first more after = after
   leaf_raw (MetadataBlock kind) first more after = leaf_then text options lookup (MetadataBlock kind) first more after
+  leaf_raw (Table alignments) first more after = leaf_then text options lookup (Table alignments) first more after
 
   abbrev pub split : Option ℕ → Blocks → Split
   split mark NoBlocks = lone Nil

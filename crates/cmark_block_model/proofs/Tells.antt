@@ -7,7 +7,9 @@ use Rattle.cmark_grammar.specs.Leaves.{Fence, counted, is_thematic_break, is_atx
 use Rattle.cmark_grammar.specs.HtmlBlocks.{html_kind}
 use Rattle.cmark_grammar.specs.LinkDefinitions.{Defined, definition_in, bytes_over}
 use Rattle.cmark_grammar.specs.Containers.{Container, container_of}
-use Rattle.cmark_grammar.specs.Openings.{ThematicBreak, AtxHeading, IndentedCode, FencedCode, HtmlBlock, LinkDefinition, Opening, Blank, Nests, Takes, Plain, or_else, nests_if, fenced_if, html_if, break_if, heading_if, text_lines, defined_if, definition_of, leaf_of, opens, opens_at, MetadataBlock, metadata_begun, whole_opens}
+use Rattle.cmark_grammar.specs.Openings.{ThematicBreak, AtxHeading, IndentedCode, FencedCode, HtmlBlock, LinkDefinition, Opening, Blank, Nests, Takes, Plain, or_else, nests_if, fenced_if, html_if, break_if, heading_if, text_lines, defined_if, definition_of, leaf_of, opens, opens_at, MetadataBlock, metadata_begun, whole_opens, table_if, text_of, Table}
+use Rattle.cmark_grammar.specs.Alignment.{Alignment}
+use Rattle.cmark_grammar.specs.TableRows.{table_head}
 use Rattle.cmark_grammar.specs.Metadata.{metadata_kind, metadata_further, holds_metadata}
 use Rattle.cmark_grammar.specs.MetadataBlockKind.{MetadataBlockKind}
 use Rattle.cmark_grammar.specs.Places.{Place}
@@ -25,6 +27,7 @@ Tells r (Takes (FencedCode fence) n) = Unit {0}
 Tells r (Takes (HtmlBlock kind) n) = Unit {0}
 Tells r (Takes (LinkDefinition definition) n) = Unit {0}
 Tells r (Takes (MetadataBlock kind) n) = Unit {0}
+Tells r (Takes (Table alignments) n) = Unit {0}
 
 tells-or : (r : Row) (x y : Opening) → Tells r x → Tells r y → Tells r (or_else x y)
 tells-or r Blank y p q = p
@@ -65,13 +68,22 @@ tells-metadata r (Some kind) ahead = go (holds_metadata kind ahead)
     go false = tt
 
 module _ (options : Options) where
+  tells-table : (r : Row) (ahead : List Row) (o : Option (List Alignment)) → Tells r (table_if options o ahead)
+  tells-table r ahead (Some alignments) = tt
+  tells-table r ahead None = tt
+
+  tells-text : (r : Row) (ahead : List Row) → Tells r (text_of options r ahead)
+  tells-text r ahead =
+      tells-or r (definition_of options r ahead) (table_if options (table_head options r ahead) ahead)
+      (tells-defined r (length (text_lines options ahead)) (definition_in (bytes_over r (text_lines options ahead)))) (tells-table r ahead (table_head options r ahead))
+
   tells-leaf : (r : Row) (ahead : List Row) → Tells r (leaf_of options r ahead)
   tells-leaf r ahead =
       tells-or r (html_if r ahead (html_kind (words_of r))) _ (tells-html r ahead (html_kind (words_of r)))
       (tells-or r (break_if (is_thematic_break (words_of r))) _ (tells-break r (is_thematic_break (words_of r)))
       (tells-or r (heading_if (is_atx_heading (words_of r)) (run 35 (words_of r))) _ (tells-heading r (is_atx_heading (words_of r)) (run 35 (words_of r)))
-      (tells-or r (fenced_if (fence_of (indent_of r) (words_of r)) ahead) (definition_of options r ahead) (tells-fenced r ahead (fence_of (indent_of r) (words_of r)))
-      (tells-defined r (length (text_lines options ahead)) (definition_in (bytes_over r (text_lines options ahead)))))))
+      (tells-or r (fenced_if (fence_of (indent_of r) (words_of r)) ahead) (text_of options r ahead) (tells-fenced r ahead (fence_of (indent_of r) (words_of r)))
+      (tells-text r ahead))))
 
   pub tells : (r : Row) (ahead : List Row) → Tells r (opens options r ahead)
   unfolding opens

@@ -3,12 +3,13 @@ use Rattle.std.specs.Prelude.{ℕ, zero, suc, Bool, true, false, ◌==◌, ◌&&
 use Rattle.cmark_grammar.specs.Answers.{Lookup}
 use Rattle.cmark_grammar.specs.Attributes.{no_attributes}
 use Rattle.cmark_grammar.specs.Options.{Options}
-use Rattle.cmark_grammar.specs.Rows.{Row, rows, shown, first_place, begin_of, start_of, words_of}
+use Rattle.cmark_grammar.specs.Rows.{Row, rows, shown, first_place, begin_of, start_of, past_of, words_of}
 use Rattle.cmark_grammar.specs.Leaves.{Further, GoesOn, Closes, Waits, Stops, underlines, code_further, closes_fence}
 use Rattle.cmark_grammar.specs.HtmlBlocks.{holds_end, html_further}
 use Rattle.cmark_grammar.specs.Containers.{Container, Quote, Item, Footnote, is_alert, enter, keeps, strips}
-use Rattle.cmark_grammar.specs.Openings.{Leaf, ThematicBreak, AtxHeading, IndentedCode, FencedCode, HtmlBlock, LinkDefinition, Opening, Blank, Nests, Takes, Plain, opens, texts, lazily, MetadataBlock}
+use Rattle.cmark_grammar.specs.Openings.{Leaf, ThematicBreak, AtxHeading, IndentedCode, FencedCode, HtmlBlock, LinkDefinition, Opening, Blank, Nests, Takes, Plain, opens, texts, lazily, MetadataBlock, Table}
 use Rattle.cmark_grammar.specs.Tokens.{Piece, resolved, words_end, stretch_then, heading_tokens, heading_attributes, verbatim_line, html_then, code_columns}
+use Rattle.cmark_grammar.specs.TableTokens.{table_tokens}
 use Rattle.cmark_grammar.specs.Derivation.{stop_of, reference_of}
 use Rattle.cmark_grammar.specs.BlockDocument as document
 use Rattle.cmark_grammar.specs.BlockDocument.{BlockDocument, BlockKind, Reference, Nil, Node, node}
@@ -17,7 +18,7 @@ use Rattle.cmark_grammar.specs.Labels.{normal_form}
 use Rattle.cmark_grammar.specs.Metadata.{ends_metadata}
 use Rattle.cmark_block_model.specs.Drawing.{Drawing, drawn, opened, closed_as, closed_at}
 use Rattle.cmark_block_model.specs.CodeLines.{code_line, rest_of, texts_of}
-use Rattle.cmark_block_model.specs.OpenBlocks.{OpenList, Siblings, no_siblings, OpenContainer, OpenLeaf, Closed, BehindTag, InParagraph, InDefinition, InIndented, InFenced, InHtml, takes_lazy, Pass, at_start, InMetadata}
+use Rattle.cmark_block_model.specs.OpenBlocks.{OpenList, Siblings, no_siblings, OpenContainer, OpenLeaf, Closed, BehindTag, InParagraph, InDefinition, InIndented, InFenced, InHtml, takes_lazy, Pass, at_start, InMetadata, InTable}
 
 -- the list closed, if one is open
 abbrev pub list_closed : Option OpenList → Drawing → Drawing
@@ -129,6 +130,7 @@ module _ (text : List ℕ) (options : Options) (lookup : Lookup) where
   close_leaf BehindTag p = record p { leaf = Closed }
   close_leaf (InParagraph from last) p = node_closed p.past (with_drawn (last_stretch from last) p)
   close_leaf (InDefinition left) p = record p { leaf = Closed }
+  close_leaf (InTable left) p = record p { leaf = Closed }
   close_leaf (InIndented waits end blank) p =
       let q = node_closed end (with_drawn (texts_of (rest_of waits)) p) in record q { inner = record q.inner { blank = is_some blank } }
   close_leaf (InFenced fence waits) p = node_closed p.past (with_drawn (texts_of (rest_of waits)) p)
@@ -177,7 +179,7 @@ module _ (text : List ℕ) (options : Options) (lookup : Lookup) where
   html_begun true kind end p = node_closed end p
   html_begun false kind end p = record p { leaf = InHtml kind }
 
-  -- a leaf begins on a line; of a link reference definition so many of the lines ahead are read
+  -- a leaf begins on a line; of a link reference definition and of a table so many of the lines ahead are read
   abbrev pub leaf_begun : Leaf → (more : ℕ) → Row → (ahead : List Row) → Pass → Pass
   leaf_begun ThematicBreak more r ahead p = with_drawn (Node (node document.ThematicBreak (start_of r) r.past) Nil Nil) (block_begun p)
   leaf_begun (AtxHeading level) more r ahead p =
@@ -193,6 +195,8 @@ module _ (text : List ℕ) (options : Options) (lookup : Lookup) where
         references = q.references ++ reference_of lookup definition (start_of r) (stop_of r (take more ahead)) ∷ [];
       }
   leaf_begun (MetadataBlock kind) more r ahead p = let q = node_opened (start_of r) (document.MetadataBlock kind) (block_begun p) in record q { leaf = InMetadata kind None }
+  leaf_begun (Table alignments) more r ahead p =
+      let q = with_drawn (Node (node (document.Table alignments) (start_of r) (past_of r (take more ahead))) (table_tokens text (length alignments) r (take more ahead)) Nil) (block_begun p) in record q { leaf = InTable more }
 
   abbrev pub begin_as : Opening → (Container → Pass) → Row → (ahead : List Row) → (bare : Bool) → Pass → Pass
   begin_as Blank inside r ahead bare p = record p { inner = record p.inner { blank = p.inner.has_block }; bare = bare }
@@ -234,6 +238,8 @@ module _ (text : List ℕ) (options : Options) (lookup : Lookup) where
       (if texts options r (ahead_in p.outer next) then paragraph_line from last r p else begin r next (leaf_closed p))
   leaf_fed (InDefinition zero) r next p = begin r next (leaf_closed p)
   leaf_fed (InDefinition (suc left)) r next p = record p { leaf = InDefinition left }
+  leaf_fed (InTable zero) r next p = begin r next (leaf_closed p)
+  leaf_fed (InTable (suc left)) r next p = record p { leaf = InTable left }
   leaf_fed (InIndented waits end blank) r next p = indented_further (code_further r) waits end blank r next p
   leaf_fed (InFenced fence waits) r next p =
       if closes_fence fence r then node_closed r.past (with_drawn (texts_of (rest_of waits)) p) else code_drawn fence.indented r waits (InFenced fence) p
@@ -251,6 +257,7 @@ module _ (text : List ℕ) (options : Options) (lookup : Lookup) where
   lazy_fed (InFenced fence waits) r p = p
   lazy_fed (InHtml kind) r p = p
   lazy_fed (InMetadata kind waits) r p = p
+  lazy_fed (InTable left) r p = p
 
   -- the containers that keep a line, those that do not, and what is left of the line
   pub record Kept : Type 0 where

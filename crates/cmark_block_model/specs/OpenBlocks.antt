@@ -35,12 +35,13 @@ pub record OpenContainer : Type 0 where
 -- The open leaf, if there is one. A paragraph has its last line, and the place where the stretch of the text begins that this
 -- line stands in, which is drawn when it is seen what follows; a link reference definition has lines to come; indented code has
 -- the stretch of the text that waits (so have fenced code and metadata), the place where its last line ends, and the blank lines behind that.
--- Directly behind an alert's tag no leaf is open yet.
+-- Directly behind an alert's tag no leaf is open yet. A table is drawn where it begins, as far as its lines go, and has lines to come.
 pub data OpenLeaf : Type 0 where
   Closed : OpenLeaf
   BehindTag : OpenLeaf
   InParagraph : (from : ℕ) → (last : Row) → OpenLeaf
   InDefinition : (left : ℕ) → OpenLeaf
+  InTable : (left : ℕ) → OpenLeaf
   InIndented : (waits : Option Piece) → (end : ℕ) → (blank : List Row) → OpenLeaf
   InFenced : (fence : Fence) → (waits : Option Piece) → OpenLeaf
   InHtml : (kind : ℕ) → OpenLeaf
@@ -52,6 +53,7 @@ takes_lazy Closed = false
 takes_lazy BehindTag = true
 takes_lazy (InParagraph from last) = true
 takes_lazy (InDefinition left) = true
+takes_lazy (InTable left) = false
 takes_lazy (InIndented waits end blank) = false
 takes_lazy (InFenced fence waits) = false
 takes_lazy (InHtml kind) = false

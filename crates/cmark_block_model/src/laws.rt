@@ -1,13 +1,13 @@
 //! Theorems over the block pass, each the contract of a function that does nothing.
 
-ghost use Rattle.std.specs.Prelude.{◌≡◌, ℕ, false, ◌*◌, ◌≤◌, List, [], length, IsUtf8, IsCharBoundary};
+ghost use Rattle.std.specs.Prelude.{◌≡◌, ℕ, false, ◌+◌, ◌*◌, ◌≤◌, List, [], length, IsUtf8, IsCharBoundary};
 ghost use Rattle.cmark_grammar.specs.Answers.{Lookup};
 ghost use Rattle.cmark_grammar.specs.BlockDocument.{BlockDocument};
 ghost use Rattle.cmark_grammar.specs.BlockReading.{block_reading};
 ghost use Rattle.cmark_grammar.specs.Derivation.{Derives, document};
 ghost use Rattle.cmark_grammar.specs.DrawnDocument.{settled, without_definitions};
 ghost use Rattle.cmark_grammar.specs.Options.{Options};
-ghost use Rattle.cmark_grammar.specs.Ranges.{AllAt, InOrder};
+ghost use Rattle.cmark_grammar.specs.Ranges.{AllAt, InOrder, count_tables};
 ghost use Rattle.cmark_grammar.specs.References.{references};
 ghost use Rattle.cmark_grammar.specs.SpanDocuments.{segments};
 ghost use Rattle.cmark_block_model.specs.BlockPass.{pass_over};
@@ -41,10 +41,11 @@ pub fn drawing_is_read_as_the_document()
         → IsUtf8 text → AllAt (IsCharBoundary text) (pass_over text options lookup).drawing.here }
 {}
 
-/// A document is read as eight events at most a byte of its text, and gives twelve events and leaves at most.
+/// A document is read as eight events at most a byte of its text, and gives twelve events and leaves at most, but for the cells that are
+/// filled in: each of these is two events and a leaf, and a table has 262,144 of them at most.
 pub fn events_are_few()
     ensures events { (text : List ℕ) (options : Options) (lookup : Lookup) (document : BlockDocument)
-        → Derives text options lookup document → length (block_reading document) ≤ 8 * length text }
+        → Derives text options lookup document → length (block_reading document) ≤ 8 * length text + 524288 * count_tables document }
     ensures leaves { (text : List ℕ) (options : Options) (lookup : Lookup) (document : BlockDocument)
-        → Derives text options lookup document → length (segments document) ≤ 12 * length text }
+        → Derives text options lookup document → length (segments document) ≤ 12 * length text + 786432 * count_tables document }
 {}

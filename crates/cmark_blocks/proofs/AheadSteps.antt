@@ -1,5 +1,5 @@
 -- A line ahead, inside the containers that keep it.
-use Rattle.std.proofs.Common.{◌≡◌, ℕ, Bool, true, false, not, ◌&&◌, List, [], ◌∷◌, ◌++◌, Option, Some, None, refl, sym, ap, ◌∙◌, subst, zero, suc, ◌≤◌, drop, length, arith}
+use Rattle.std.proofs.Common.{◌≡◌, ℕ, Bool, true, false, not, ◌&&◌, ◌||◌, List, [], ◌∷◌, ◌++◌, Option, Some, None, refl, sym, ap, ◌∙◌, subst, zero, suc, ◌≤◌, drop, length, arith}
 use Rattle.std.specs.Prelude.{MatchOption}
 use Rattle.cmark_grammar.specs.Lines.{lines}
 use Rattle.cmark_grammar.specs.Answers.{Lookup}
@@ -11,6 +11,7 @@ use Rattle.cmark_blocks.specs.Ahead.{lines_at}
 use Rattle.cmark_grammar.specs.Containers.{keeps, strip_as, strips}
 use Rattle.cmark_grammar.specs.Leaves.{underlines}
 use Rattle.cmark_grammar.specs.Openings.{interrupts, text_lines, put_if, is_none}
+use Rattle.cmark_grammar.specs.TableRows.{table_interrupts}
 use Rattle.cmark_lines.proofs.LazyRows.{whole-texts}
 use Rattle.cmark_grammar.proofs.RowPlaces.{kept-without}
 use Rattle.cmark_block_model.specs.BlockPass.{Kept, kept_by, kept_if, ahead_in}
@@ -57,8 +58,50 @@ module _ (text : List ℕ) (options : Options) (lookup : Lookup) where
       }
 
   -- whether a line goes on with a paragraph as its text, in front of others
-  pub text-if : (r : Row) (ahead : List Row) → r.lazy ≡ false → (is : Bool) → is ≡ (not (interrupts options true r ahead) && is_none (underlines r)) → text_lines options (r ∷ ahead) ≡ put_if is r (text_lines options ahead)
-  text-if r ahead whole is e = ap (λ t. put_if (t && is_none (underlines r)) r (text_lines options ahead)) (whole-texts options r ahead whole) ∙ ap (λ b. put_if b r (text_lines options ahead)) (sym e)
+  pub text-if : (r : Row) (ahead : List Row) → r.lazy ≡ false → (is table : Bool) → is ≡ (not (interrupts options true r ahead) && is_none (underlines r)) → table ≡ table_interrupts options r ahead
+      → text_lines options (r ∷ ahead) ≡ put_if (is && not table) r (text_lines options ahead)
+  text-if r ahead whole is table e t =
+      ap (λ z. put_if (z && is_none (underlines r)) r (text_lines options ahead)) (whole-texts options r ahead whole)
+      ∙ ap (λ b. put_if b r (text_lines options ahead)) (apart (interrupts options true r ahead) (table_interrupts options r ahead) (is_none (underlines r)) ∙ ap (λ z. z && not (table_interrupts options r ahead)) (sym e) ∙ ap (λ z. is && not z) (sym t))
+    where
+      apart : (a b n : Bool) → (not (a || b) && n) ≡ ((not a && n) && not b)
+      apart true b n = refl
+      apart false true true = refl
+      apart false true false = refl
+      apart false false true = refl
+      apart false false false = refl
+
+  -- of the containers of a list the first few, one by one
+  pub record Inside (cs : List OpenContainer) (at : ℕ) (r : Row) (more : List Row) (rest : Row) : Type 0 where
+    pub others : List Row
+    pub lines : ahead_in text options lookup cs (r ∷ more) ≡ ahead_in text options lookup (drop at cs) (rest ∷ others)
+    pub behind : ahead_in text options lookup cs more ≡ ahead_in text options lookup (drop at cs) others
+
+  pub inside-start : (cs : List OpenContainer) (r : Row) (more : List Row) → Inside cs 0 r more r
+  inside-start cs r more = record { others = more; lines = refl; behind = refl }
+
+  pub inside-keeps : (cs : List OpenContainer) (at : ℕ) (c : OpenContainer) (others : List OpenContainer) (r : Row) (more : List Row) (rest s : Row) → drop at cs ≡ c ∷ others → drop (suc at) cs ≡ others →
+      Some s ≡ keeps c.container false rest → s.lazy ≡ false → Inside cs at r more rest → Inside cs (suc at) r more s
+  inside-keeps cs at c others r more rest s is next keep whole i = record {
+    others = shown (strips c.container false i.others);
+    lines =
+        i.lines ∙ ap (λ l. ahead_in text options lookup l (rest ∷ i.others)) is
+        ∙ ap (λ o. ahead_in text options lookup others (shown (strip_as o rest ∷ strips c.container false i.others))) (sym keep)
+        ∙ ap (λ l. ahead_in text options lookup others (show_as l s (shown (strips c.container false i.others)))) whole
+        ∙ ap (λ l. ahead_in text options lookup l (s ∷ shown (strips c.container false i.others))) (sym next);
+    behind = i.behind ∙ ap (λ l. ahead_in text options lookup l i.others) is ∙ ap (λ l. ahead_in text options lookup l (shown (strips c.container false i.others))) (sym next);
+  }
+
+  pub inside-misses : (cs : List OpenContainer) (at : ℕ) (c : OpenContainer) (others : List OpenContainer) (r : Row) (more : List Row) (rest : Row) → drop at cs ≡ c ∷ others →
+      None ≡ keeps c.container false rest → Inside cs at r more rest → ahead_in text options lookup cs (r ∷ more) ≡ []
+  inside-misses cs at c others r more rest is keep i =
+      i.lines ∙ ap (λ l. ahead_in text options lookup l (rest ∷ i.others)) is
+      ∙ ap (λ o. ahead_in text options lookup others (shown (strip_as o rest ∷ strips c.container false i.others))) (sym keep) ∙ ahead-none others
+
+  pub inside-all : (cs : List OpenContainer) (at : ℕ) (r : Row) (more : List Row) (rest : Row) → drop at cs ≡ [] → Inside cs at r more rest → ahead_in text options lookup cs (r ∷ more) ≡ rest ∷ ahead_in text options lookup cs more
+  inside-all cs at r more rest none i =
+      i.lines ∙ ap (λ l. ahead_in text options lookup l (rest ∷ i.others)) none
+      ∙ ap (λ l. rest ∷ l) (sym (i.behind ∙ ap (λ l. ahead_in text options lookup l i.others) none))
 
   -- the next whole line of the text, in front of those behind it
   pub next-line : (T : List ℕ) (start place : ℕ) (line : LineRest) (cs : List OpenContainer) (seen : Option LineRest) → T ≡ text → start ≡ place →

@@ -1,4 +1,4 @@
--- The tree that the pass over a text leaves has at most four nodes a byte of the text.
+-- The tree that the pass over a text leaves has at most four nodes a byte of the text, the cells aside that are filled in.
 use Rattle.std.proofs.Common.{◌≡◌, ℕ, suc, ◌+◌, ◌*◌, ◌≤◌, Bool, true, false, List, length, refl, sym, ap, ◌∙◌, arith}
 use Rattle.cmark_tree.specs.Forest as forest
 use Rattle.cmark_tree.specs.Forest.{Forest, size}
@@ -8,7 +8,7 @@ use Rattle.cmark_grammar.specs.BlockDocument.{BlockDocument, Nil, Node}
 use Rattle.cmark_grammar.specs.Derivation.{document}
 use Rattle.cmark_grammar.specs.DrawnDocument.{is_definition, node_unless, settled, without_definitions}
 use Rattle.cmark_grammar.specs.Options.{Options}
-use Rattle.cmark_grammar.specs.Ranges.{count_nodes}
+use Rattle.cmark_grammar.specs.Ranges.{count_nodes, count_tables}
 use Rattle.cmark_grammar.specs.Tightness.{tight_within}
 use Rattle.cmark_grammar.proofs.CountLaws.{derived-count}
 use Rattle.cmark_items.specs.declared.item.Item.{Item}
@@ -39,7 +39,7 @@ left-count (Node node inside after) = go (is_definition node.kind) (left-count i
     go true i a = omega (arith, i, a)
     go false i a = omega (arith, i, a)
 
-pub drawn-few : (text : List ℕ) (options : Options) (lookup : Lookup) (texts : List CowStr) (f : Forest Item) → shown_forest text texts f ≡ nodes_of (pass_over text options lookup).drawing.here → size f ≤ 4 * length text
+pub drawn-few : (text : List ℕ) (options : Options) (lookup : Lookup) (texts : List CowStr) (f : Forest Item) → shown_forest text texts f ≡ nodes_of (pass_over text options lookup).drawing.here → size f ≤ 4 * length text + 262144 * count_tables (document text options lookup)
 drawn-few text options lookup texts f is =
     let d : BlockDocument = (pass_over text options lookup).drawing.here in
     let shown : size f ≡ count_nodes d = sym (shown-size text texts f) ∙ ap size is ∙ nodes-count d in

@@ -1,5 +1,5 @@
 -- One more line, behind what is open.
-use Rattle.std.proofs.Common.{◌≡◌, ◌≢◌, ℕ, suc, ◌≤◌, ◌==◌, Bool, true, false, not, ◌&&◌, if◌then◌else◌, List, [], ◌∷◌, take, drop, length, Some, None, refl, sym, ap, subst, ◌∙◌, arith, true≢false}
+use Rattle.std.proofs.Common.{◌≡◌, ◌≢◌, ℕ, suc, ◌≤◌, ◌==◌, Bool, true, false, not, ◌&&◌, ◌||◌, if◌then◌else◌, List, [], ◌∷◌, take, drop, length, Some, None, refl, sym, ap, subst, ◌∙◌, arith, true≢false}
 use Rattle.std.proofs.lemmas.List.{drop_all}
 use Rattle.cmark_grammar.specs.Answers.{Lookup}
 use Rattle.cmark_grammar.specs.Leaves.{underlines}
@@ -7,6 +7,7 @@ use Rattle.cmark_grammar.specs.Openings.{interrupts, texts, lazily}
 use Rattle.cmark_grammar.specs.Options.{Options}
 use Rattle.cmark_grammar.specs.Lines.{lines}
 use Rattle.cmark_grammar.specs.Rows.{Row, begin_of, rows_from}
+use Rattle.cmark_grammar.specs.TableRows.{table_interrupts}
 use Rattle.cmark_grammar.specs.Tokens.{stretch_then}
 use Rattle.cmark_grammar.specs.BlockDocument.{Nil}
 use Rattle.cmark_lines.specs.Rests.{row_of}
@@ -34,6 +35,9 @@ module _ {E : Type 0} (replacement : E → Lookup) (text : List ℕ) (options : 
   pub in_definition : (left : ℕ) → pass.leaf ≡ leaf.Definition left → m.leaf ≡ model.InDefinition left
   in_definition left is = (subst (λ l. ShowsLeaf text l pass.blank_lines.items m.leaf) is runs.leaf).0
 
+  pub in_table : (left : ℕ) → pass.leaf ≡ leaf.Table left → m.leaf ≡ model.InTable left
+  in_table left is = (subst (λ l. ShowsLeaf text l pass.blank_lines.items m.leaf) is runs.leaf).0
+
 module _ (text : List ℕ) (options : Options) (lookup : Lookup) (r : Row) (m : model.Pass) where
   -- a line that touches the last one, or not
   pub line-touches : (from : ℕ) (last : Row) → begin_of r ≡ last.past → paragraph_line text options lookup from last r m ≡ record m { leaf = model.InParagraph from r }
@@ -52,18 +56,18 @@ module _ (text : List ℕ) (options : Options) (lookup : Lookup) (r : Row) (next
       ap (λ l. leaf_fed text options lookup l r next m) is
       ∙ ap (λ u. underlined_or text options lookup u (λ level. heading_made text options lookup level from last r m) (if texts options r (ahead_in text options lookup m.outer next) then paragraph_line text options lookup from last r m else begin text options lookup r next (leaf_closed text options lookup m))) (sym under)
 
-  feeds-other : (from : ℕ) (last : Row) (goes_on : Bool) → None ≡ underlines r → r.lazy ≡ false → not (interrupts options true r (ahead_in text options lookup m.outer next)) ≡ goes_on → m.leaf ≡ model.InParagraph from last →
+  feeds-other : (from : ℕ) (last : Row) (goes_on : Bool) → None ≡ underlines r → r.lazy ≡ false → not (interrupts options true r (ahead_in text options lookup m.outer next) || table_interrupts options r (ahead_in text options lookup m.outer next)) ≡ goes_on → m.leaf ≡ model.InParagraph from last →
       leaf_fed text options lookup m.leaf r next m ≡ (if goes_on then paragraph_line text options lookup from last r m else begin text options lookup r next (leaf_closed text options lookup m))
   feeds-other from last goes_on under whole on is =
       ap (λ l. leaf_fed text options lookup l r next m) is
       ∙ ap (λ u. underlined_or text options lookup u (λ level. heading_made text options lookup level from last r m) (if texts options r (ahead_in text options lookup m.outer next) then paragraph_line text options lookup from last r m else begin text options lookup r next (leaf_closed text options lookup m))) (sym under)
       ∙ ap (λ t. if t then paragraph_line text options lookup from last r m else begin text options lookup r next (leaf_closed text options lookup m)) (whole-texts options r (ahead_in text options lookup m.outer next) whole ∙ on)
 
-  pub feeds-interrupted : (from : ℕ) (last : Row) → None ≡ underlines r → r.lazy ≡ false → true ≡ interrupts options true r (ahead_in text options lookup m.outer next) → m.leaf ≡ model.InParagraph from last →
+  pub feeds-interrupted : (from : ℕ) (last : Row) → None ≡ underlines r → r.lazy ≡ false → true ≡ (interrupts options true r (ahead_in text options lookup m.outer next) || table_interrupts options r (ahead_in text options lookup m.outer next)) → m.leaf ≡ model.InParagraph from last →
       leaf_fed text options lookup m.leaf r next m ≡ begin text options lookup r next (leaf_closed text options lookup m)
   feeds-interrupted from last under whole on is = feeds-other from last false under whole (ap not (sym on)) is
 
-  pub feeds-text : (from : ℕ) (last : Row) → None ≡ underlines r → r.lazy ≡ false → false ≡ interrupts options true r (ahead_in text options lookup m.outer next) → m.leaf ≡ model.InParagraph from last →
+  pub feeds-text : (from : ℕ) (last : Row) → None ≡ underlines r → r.lazy ≡ false → false ≡ (interrupts options true r (ahead_in text options lookup m.outer next) || table_interrupts options r (ahead_in text options lookup m.outer next)) → m.leaf ≡ model.InParagraph from last →
       leaf_fed text options lookup m.leaf r next m ≡ paragraph_line text options lookup from last r m
   feeds-text from last under whole on is = feeds-other from last true under whole (ap not (sym on)) is
 
@@ -73,6 +77,13 @@ module _ (text : List ℕ) (options : Options) (lookup : Lookup) (r : Row) (next
 
   pub feeds-left : (left : ℕ) → m.leaf ≡ model.InDefinition (suc left) → leaf_fed text options lookup m.leaf r next m ≡ record m { leaf = model.InDefinition left }
   feeds-left left is = ap (λ l. leaf_fed text options lookup l r next m) is
+
+  -- behind a table's head
+  pub feeds-last_row : m.leaf ≡ model.InTable 0 → leaf_fed text options lookup m.leaf r next m ≡ begin text options lookup r next (leaf_closed text options lookup m)
+  feeds-last_row is = ap (λ l. leaf_fed text options lookup l r next m) is
+
+  pub feeds-row : (left : ℕ) → m.leaf ≡ model.InTable (suc left) → leaf_fed text options lookup m.leaf r next m ≡ record m { leaf = model.InTable left }
+  feeds-row left is = ap (λ l. leaf_fed text options lookup l r next m) is
 
   -- behind an alert's tag
   pub feeds-behind : m.leaf ≡ model.BehindTag → leaf_fed text options lookup m.leaf r next m ≡ begin text options lookup r next (leaf_closed text options lookup m)
@@ -96,20 +107,19 @@ module _ (text : List ℕ) (options : Options) (lookup : Lookup) (r : Row) (next
   pub rest-kept : (k : ℕ) → drop k m.outer ≡ [] → line_with text options lookup (drop k m.outer) (take k m.outer) r next m ≡ leaf_fed text options lookup m.leaf r next m
   rest-kept k none = ap (λ cs. line_with text options lookup cs (take k m.outer) r next m) none
 
-  missed : (k : ℕ) (c : model.OpenContainer) (cs : List model.OpenContainer) (on : Bool) → drop k m.outer ≡ c ∷ cs → (not (interrupts options false r (ahead_in text options lookup (take k m.outer) next)) && takes_lazy m.leaf) ≡ on →
+  missed : (k : ℕ) (c : model.OpenContainer) (cs : List model.OpenContainer) (on : Bool) → drop k m.outer ≡ c ∷ cs → (lazily options r (ahead_in text options lookup (take k m.outer) next) && takes_lazy m.leaf) ≡ on →
       line_with text options lookup (drop k m.outer) (take k m.outer) r next m
       ≡ (if on then lazy_fed text options lookup m.leaf r m else begin text options lookup r next (containers_closed text options lookup (take k m.outer) (drop k m.outer) (leaf_closed text options lookup m)))
-  unfolding lazily
   missed k c cs on some is =
       ap (λ cs. line_with text options lookup cs (take k m.outer) r next m) some
       ∙ ap (λ t. if t then lazy_fed text options lookup m.leaf r m else begin text options lookup r next (containers_closed text options lookup (take k m.outer) (c ∷ cs) (leaf_closed text options lookup m))) is
       ∙ ap (λ cs. if on then lazy_fed text options lookup m.leaf r m else begin text options lookup r next (containers_closed text options lookup (take k m.outer) cs (leaf_closed text options lookup m))) (sym some)
 
-  pub rest-lazy : (k : ℕ) (c : model.OpenContainer) (cs : List model.OpenContainer) → drop k m.outer ≡ c ∷ cs → (not (interrupts options false r (ahead_in text options lookup (take k m.outer) next)) && takes_lazy m.leaf) ≡ true →
+  pub rest-lazy : (k : ℕ) (c : model.OpenContainer) (cs : List model.OpenContainer) → drop k m.outer ≡ c ∷ cs → (lazily options r (ahead_in text options lookup (take k m.outer) next) && takes_lazy m.leaf) ≡ true →
       line_with text options lookup (drop k m.outer) (take k m.outer) r next m ≡ lazy_fed text options lookup m.leaf r m
   rest-lazy k c cs some is = missed k c cs true some is
 
-  pub rest-ends : (k : ℕ) (c : model.OpenContainer) (cs : List model.OpenContainer) → drop k m.outer ≡ c ∷ cs → (not (interrupts options false r (ahead_in text options lookup (take k m.outer) next)) && takes_lazy m.leaf) ≡ false →
+  pub rest-ends : (k : ℕ) (c : model.OpenContainer) (cs : List model.OpenContainer) → drop k m.outer ≡ c ∷ cs → (lazily options r (ahead_in text options lookup (take k m.outer) next) && takes_lazy m.leaf) ≡ false →
       line_with text options lookup (drop k m.outer) (take k m.outer) r next m
       ≡ begin text options lookup r next (containers_closed text options lookup (take k m.outer) (drop k m.outer) (leaf_closed text options lookup m))
   rest-ends k c cs some is = missed k c cs false some is
@@ -121,6 +131,7 @@ module _ (text : List ℕ) (options : Options) (lookup : Lookup) (m : model.Pass
   closed-outer model.BehindTag = refl
   closed-outer (model.InParagraph from last) = refl
   closed-outer (model.InDefinition left) = refl
+  closed-outer (model.InTable left) = refl
   closed-outer (model.InIndented waits end blank) = refl
   closed-outer (model.InFenced fence waits) = refl
   closed-outer (model.InHtml kind) = refl

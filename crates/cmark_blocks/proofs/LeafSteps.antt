@@ -30,6 +30,7 @@ verbatim-closes text options lookup leaf.Closed waits blanks o m v s = absurd v
 verbatim-closes text options lookup leaf.BehindTag waits blanks o m v s = absurd v
 verbatim-closes text options lookup (leaf.Paragraph from last) waits blanks o m v s = absurd v
 verbatim-closes text options lookup (leaf.Definition left) waits blanks o m v s = absurd v
+verbatim-closes text options lookup (leaf.Table left) waits blanks o m v s = absurd v
 verbatim-closes text options lookup (leaf.Indented others end) waits blanks o m v s = absurd v
 verbatim-closes text options lookup (leaf.Fenced mark size indent others) waits blanks o m v s = (
   s.3,

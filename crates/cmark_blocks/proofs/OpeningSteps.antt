@@ -7,10 +7,12 @@ use Rattle.cmark_grammar.specs.Containers.{Container, Quote, Item, Footnote, Mar
 use Rattle.cmark_grammar.specs.HtmlBlocks.{html_kind}
 use Rattle.cmark_grammar.specs.Leaves.{Fence, is_parted, run, is_thematic_break, is_atx_heading, fence_of, counted, code_further}
 use Rattle.cmark_grammar.specs.LinkDefinitions.{Defined, definition_in, bytes_over}
-use Rattle.cmark_grammar.specs.Openings.{AtxHeading, ThematicBreak, IndentedCode, FencedCode, HtmlBlock, LinkDefinition, MetadataBlock, Opening, Blank, Nests, Takes, Plain, or_else, nests_if, html_if, break_if, heading_if, fenced_if, defined_if, metadata_begun, text_lines, definition_of, leaf_of, whole_opens, opens}
+use Rattle.cmark_grammar.specs.Openings.{AtxHeading, ThematicBreak, IndentedCode, FencedCode, HtmlBlock, LinkDefinition, MetadataBlock, Table, Opening, Blank, Nests, Takes, Plain, or_else, nests_if, html_if, break_if, heading_if, fenced_if, defined_if, metadata_begun, text_lines, definition_of, table_if, text_of, leaf_of, whole_opens, opens}
 use Rattle.cmark_grammar.specs.Metadata.{metadata_kind, metadata_further, holds_metadata}
 use Rattle.cmark_grammar.specs.MetadataBlockKind.{MetadataBlockKind}
 use Rattle.cmark_grammar.specs.Options.{Options}
+use Rattle.cmark_grammar.specs.Alignment.{Alignment}
+use Rattle.cmark_grammar.specs.TableRows.{table_head}
 use Rattle.cmark_items.specs.ItemNodes.{list_number}
 use Rattle.cmark_lines.proofs.PrefixRows.{IsShort, marker-short}
 
@@ -41,6 +43,7 @@ Fits level (Takes (FencedCode fence) more) = Unit {0}
 Fits level (Takes (HtmlBlock kind) more) = Unit {0}
 Fits level (Takes (LinkDefinition definition) more) = Unit {0}
 Fits level (Takes (MetadataBlock kind) more) = Unit {0}
+Fits level (Takes (Table alignments) more) = Unit {0}
 Fits level Plain = Unit {0}
 
 marker-numbered : (m : Option Marker) → IsShort m → MarkerNumbered m
@@ -101,18 +104,27 @@ module _ (level : ℕ) where
   defined-fits lines (Some found) = tt
   defined-fits lines None = tt
 
+table-fits : (level : ℕ) (options : Options) (o : Option (List Alignment)) (ahead : List Row) → Fits level (table_if options o ahead)
+table-fits level options (Some alignments) ahead = tt
+table-fits level options None ahead = tt
+
+text-fits : (level : ℕ) (options : Options) (r : Row) (ahead : List Row) → Fits level (text_of options r ahead)
+text-fits level options r ahead =
+    else-fits level (definition_of options r ahead) (table_if options (table_head options r ahead) ahead)
+    (defined-fits level (length (text_lines options ahead)) (definition_in (bytes_over r (text_lines options ahead)))) (table-fits level options (table_head options r ahead) ahead)
+
 leaf-fits : (options : Options) (r : Row) (ahead : List Row) → Fits (run 35 (words_of r)) (leaf_of options r ahead)
 leaf-fits options r ahead =
     let level = run 35 (words_of r) in
-    let definition = definition_of options r ahead in
+    let text = text_of options r ahead in
     let fenced = fenced_if (fence_of (indent_of r) (words_of r)) ahead in
     let heading = heading_if (is_atx_heading (words_of r)) level in
     let rule = break_if (is_thematic_break (words_of r)) in
-    else-fits level (html_if r ahead (html_kind (words_of r))) (or_else rule (or_else heading (or_else fenced definition))) (html-fits level r ahead (html_kind (words_of r)))
-    (else-fits level rule (or_else heading (or_else fenced definition)) (break-fits level (is_thematic_break (words_of r)))
-    (else-fits level heading (or_else fenced definition) (heading-fits level (is_atx_heading (words_of r)))
-    (else-fits level fenced definition (fenced-fits level (fence_of (indent_of r) (words_of r)) ahead)
-    (defined-fits level (length (text_lines options ahead)) (definition_in (bytes_over r (text_lines options ahead)))))))
+    else-fits level (html_if r ahead (html_kind (words_of r))) (or_else rule (or_else heading (or_else fenced text))) (html-fits level r ahead (html_kind (words_of r)))
+    (else-fits level rule (or_else heading (or_else fenced text)) (break-fits level (is_thematic_break (words_of r)))
+    (else-fits level heading (or_else fenced text) (heading-fits level (is_atx_heading (words_of r)))
+    (else-fits level fenced text (fenced-fits level (fence_of (indent_of r) (words_of r)) ahead)
+    (text-fits level options r ahead))))
 
 pub opens-fits : (options : Options) (r : Row) (ahead : List Row) → Fits (run 35 (words_of r)) (opens options r ahead)
 unfolding opens

@@ -1,5 +1,5 @@
 -- The lines ahead, as they are seen inside the open containers.
-use Rattle.std.specs.Prelude.{◌≡◌, ℕ, List, [], ◌∷◌, Option, MatchOption, drop}
+use Rattle.std.specs.Prelude.{◌≡◌, ℕ, List, [], ◌∷◌, Option, MatchOption, take, drop}
 use Rattle.cmark_grammar.specs.Answers.{Lookup}
 use Rattle.cmark_grammar.specs.Lines.{lines}
 use Rattle.cmark_grammar.specs.Options.{Options}
@@ -23,6 +23,19 @@ module _ {E : Type 0} (replacement : E → Lookup) where
       (text : List ℕ) (options : Options) (lookup : Lookup) (m : model.Pass) (more : List Row) → Runs replacement text options lookup m pass →
       MatchOption seen (ahead_in text options lookup m.outer (row_of line ∷ more) ≡ [])
       (λ rest. ((row_of rest).past ≡ (row_of line).past) × (ahead_in text options lookup m.outer (row_of line ∷ more) ≡ row_of rest ∷ ahead_in text options lookup m.outer more))
+
+  -- the same inside so many of the containers, the outermost ones
+  abbrev pub SeenInsideFirst : Pass E → (count : ℕ) → LineRest → Option LineRest → Type 0
+  SeenInsideFirst pass count line seen =
+      (text : List ℕ) (options : Options) (lookup : Lookup) (m : model.Pass) (more : List Row) → Runs replacement text options lookup m pass →
+      let inside = ahead_in text options lookup (take count m.outer) in
+      MatchOption seen (inside (row_of line ∷ more) ≡ []) (λ rest. ((row_of rest).past ≡ (row_of line).past) × (inside (row_of line ∷ more) ≡ row_of rest ∷ inside more))
+
+  abbrev pub SeesNextInside : Pass E → (count : ℕ) → LineRest → Option LineRest → Type 0
+  SeesNextInside pass count last next =
+      (text : List ℕ) (options : Options) (lookup : Lookup) (m : model.Pass) → Runs replacement text options lookup m pass →
+      let lines_from = λ (at : ℕ). ahead_in text options lookup (take count m.outer) (lines_at text at) in
+      MatchOption next (lines_from (row_of last).past ≡ []) (λ rest. lines_from (row_of last).past ≡ row_of rest ∷ lines_from (row_of rest).past)
 
   -- the line behind this one is seen inside the containers as this; where none is left, or one of them misses it, nothing is seen
   abbrev pub SeesNext : Pass E → LineRest → Option LineRest → Type 0

@@ -11,3 +11,4 @@ pub mod Prefixes
 pub mod Runs
 pub mod Shown
 pub mod Steps
+pub mod TablesAhead

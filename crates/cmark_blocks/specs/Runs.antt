@@ -38,6 +38,7 @@ ShowsLeaf text leaf.Closed blanks m = (m ≡ model.Closed) × (blanks ≡ [])
 ShowsLeaf text leaf.BehindTag blanks m = (m ≡ model.BehindTag) × (blanks ≡ [])
 ShowsLeaf text (leaf.Paragraph from last) blanks m = (m ≡ model.InParagraph from (row_of last)) × (blanks ≡ [])
 ShowsLeaf text (leaf.Definition left) blanks m = (m ≡ model.InDefinition left) × (blanks ≡ [])
+ShowsLeaf text (leaf.Table left) blanks m = (m ≡ model.InTable left) × (blanks ≡ [])
 ShowsLeaf text (leaf.Indented waits end) blanks m = m ≡ model.InIndented (shown_waits text waits) end (map row_of blanks)
 ShowsLeaf text (leaf.Fenced mark size indent waits) blanks m =
     (fence : Fence) × IsFence fence mark size indent × (m ≡ model.InFenced fence (shown_waits text waits)) × (blanks ≡ [])
@@ -50,6 +51,7 @@ IsVerbatim leaf.Closed waits = ⊥
 IsVerbatim leaf.BehindTag waits = ⊥
 IsVerbatim (leaf.Paragraph from last) waits = ⊥
 IsVerbatim (leaf.Definition left) waits = ⊥
+IsVerbatim (leaf.Table left) waits = ⊥
 IsVerbatim (leaf.Indented others end) waits = ⊥
 IsVerbatim (leaf.Fenced mark size indent others) waits = waits ≡ others
 IsVerbatim (leaf.Html kind) waits = waits ≡ None

@@ -5,9 +5,10 @@ use Rattle.cmark_lines.specs.Rests.{row_of}
 use Rattle.cmark_lines.specs.declared.line_rest.LineRest.{LineRest}
 use Rattle.cmark_grammar.specs.Answers.{Lookup}
 use Rattle.cmark_grammar.specs.Containers.{Container}
-use Rattle.cmark_grammar.specs.Openings.{Leaf, definition_of}
+use Rattle.cmark_grammar.specs.Openings.{Leaf, table_if, text_of}
 use Rattle.cmark_grammar.specs.Options.{Options}
 use Rattle.cmark_grammar.specs.Rows.{Row}
+use Rattle.cmark_grammar.specs.TableRows.{table_head}
 use Rattle.cmark_block_model.specs.OpenBlocks as model
 use Rattle.cmark_blocks.specs.declared.state.Pass.{Pass}
 use Rattle.cmark_blocks.specs.Ahead.{lines_at}
@@ -69,12 +70,19 @@ module _ {E : Type 0} (replacement : E → Lookup) where
       (text : List ℕ) (options : Options) (lookup : Lookup) (m : model.Pass) → Runs replacement text options lookup m old →
       Runs replacement text options lookup (heading_made text options lookup level from (row_of last) (row_of rest) m) new
 
-  -- a line that may begin a link reference definition began one, or else a paragraph
+  -- a line that begins no other leaf began a table, or else a paragraph
+  abbrev pub BeginsText : LineRest → Pass E → Pass E → Type 0
+  BeginsText rest old new =
+      (text : List ℕ) (options : Options) (lookup : Lookup) (m : model.Pass) (inside : Container → model.Pass) (bare : Bool) → Runs replacement text options lookup m old →
+      let ahead = ahead_in text options lookup m.outer (lines_at text (row_of rest).past) in
+      Runs replacement text options lookup (begin_as text options lookup (table_if options (table_head options (row_of rest) ahead) ahead) inside (row_of rest) ahead bare m) new
+
+  -- a line that may begin a link reference definition began one, or else a table or a paragraph
   abbrev pub BeginsBracket : LineRest → Pass E → Pass E → Type 0
   BeginsBracket rest old new =
       (text : List ℕ) (options : Options) (lookup : Lookup) (m : model.Pass) (inside : Container → model.Pass) (bare : Bool) → Runs replacement text options lookup m old →
       let ahead = ahead_in text options lookup m.outer (lines_at text (row_of rest).past) in
-      Runs replacement text options lookup (begin_as text options lookup (definition_of options (row_of rest) ahead) inside (row_of rest) ahead bare m) new
+      Runs replacement text options lookup (begin_as text options lookup (text_of options (row_of rest) ahead) inside (row_of rest) ahead bare m) new
 
   -- all that a line begins was begun
   abbrev pub Begins : LineRest → Pass E → Pass E → Type 0

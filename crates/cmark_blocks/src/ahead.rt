@@ -1,6 +1,6 @@
 //! The lines ahead, as they are seen inside the open containers.
 
-ghost use Rattle.std.specs.Prelude.{◌≡◌, ◌<◌, ℕ, List, false, MatchOption, IfSome, not, true, ◌&&◌};
+ghost use Rattle.std.specs.Prelude.{◌≡◌, ◌<◌, ◌≤◌, ℕ, List, length, false, MatchOption, IfSome, not, true, ◌&&◌};
 ghost use Rattle.cmark_grammar.specs.Leaves.{underlines};
 ghost use Rattle.cmark_grammar.specs.Openings.{interrupts, is_none};
 ghost use Rattle.cmark_grammar.specs.Options.{Options};
@@ -13,7 +13,7 @@ use cmark_lines::{LineRest, interrupts, underlines};
 use cmark_text::EntityLookup;
 
 impl<'a, E: EntityLookup> Pass<'a, E> {
-    ghost use Rattle.cmark_blocks.specs.Ahead.{SeenInside, SeesNext, GoesOnWith};
+    ghost use Rattle.cmark_blocks.specs.Ahead.{SeenInside, SeenInsideFirst, SeesNext, SeesNextInside, GoesOnWith};
     ghost use Rattle.cmark_blocks.specs.Kept.{IsBehind};
 
     /// What all open containers leave of a line, if they keep it.
@@ -28,6 +28,39 @@ impl<'a, E: EntityLookup> Pass<'a, E> {
             return None;
         }
         Some(rest)
+    }
+
+    /// What so many open containers, the outermost ones, leave of a line, if they keep it.
+    fn inside_first(&self, count: usize, line: LineRest<'a>) -> Option<LineRest<'a>>
+        requires { count ≤ length self.now.outer.items }
+        ensures seen { SeenInsideFirst E.replacement self.now count line.entry result }
+        ensures placed { (text : List ℕ) → IsIn text line.entry → IfSome result (IsIn text) }
+        ensures behind { IfSome result (IsBehind line.entry) }
+    {
+        let mut at = 0;
+        let mut rest = line;
+        while at < count {
+            rest = self.outer[at].container.keeps(false, rest)?;
+            at += 1;
+        }
+        Some(rest)
+    }
+
+    /// The line behind this one, inside so many open containers, the outermost ones, if there is one and they keep it.
+    pub(crate) fn line_behind(&self, count: usize, last: LineRest<'a>) -> Option<LineRest<'a>>
+        requires few { count ≤ length self.now.outer.items }
+        requires within { IsIn self.now.text.now last }
+        ensures next { SeesNextInside E.replacement self.now count last.entry result }
+        ensures placed { IfSome result (IsIn self.now.text.now) }
+        ensures told { IfSome result (λ rest. AreTold self.now.text.now (row_of rest).columns) }
+        ensures further { IfSome result (λ rest. (row_of last.entry).past < (row_of rest).past) }
+    {
+        let start = last.past();
+        if start == self.text.len() {
+            return None;
+        }
+        let line = LineRest::new(self.text.as_bytes(), start);
+        self.inside_first(count, line)
     }
 
     /// The line behind this one, inside all open containers, if there is one and they keep it.
@@ -58,7 +91,11 @@ impl<'a, E: EntityLookup> Pass<'a, E> {
         ensures further { IfSome result (λ rest. (row_of last.entry).past < (row_of rest).past) }
     {
         let rest = self.line_ahead(last)?;
-        if is_text(rest) { Some(rest) } else { None }
+        if is_text(rest) && !self.table_interrupts(self.outer.len(), rest) {
+            Some(rest)
+        } else {
+            None
+        }
     }
 }
 

@@ -118,7 +118,7 @@ impl<'a, E: EntityLookup> Pass<'a, E> {
         Ok(())
     }
 
-    /// A line begins the link reference definition that stands in front of the text of a paragraph, or else that paragraph.
+    /// A line begins the link reference definition that stands in front of the text of a paragraph, or else a table or that paragraph.
     fn begin_gathered(
         &mut self,
         rest: LineRest<'a>,
@@ -137,7 +137,7 @@ impl<'a, E: EntityLookup> Pass<'a, E> {
     {
         let paragraph = gathered.text.as_str();
         let Some(definition) = scan_definition(paragraph) else {
-            self.begin_paragraph(rest)?;
+            self.begin_text(rest)?;
             return Ok(());
         };
         let behind = line_ends_behind(paragraph, definition.end);
@@ -147,7 +147,7 @@ impl<'a, E: EntityLookup> Pass<'a, E> {
         Ok(())
     }
 
-    /// A line whose words begin with a bracket begins a link reference definition, or else a paragraph.
+    /// A line whose words begin with a bracket begins a link reference definition, or else a table or a paragraph.
     pub(crate) fn begin_bracket(&mut self, rest: LineRest<'a>) -> Result<(), AllocError>
         requires good { IsGood self.old }
         requires line { IsRead self.old.text.now rest }
@@ -158,7 +158,7 @@ impl<'a, E: EntityLookup> Pass<'a, E> {
         ensures text { self.new.text ≡ self.old.text }
     {
         if begins_no_definition(rest.words()) {
-            self.begin_paragraph(rest)?;
+            self.begin_text(rest)?;
             return Ok(());
         }
         let room = mem::replace(&mut self.room, String::new(self.alloc));

@@ -17,6 +17,7 @@ fn takes_lazy(leaf: OpenLeaf<'_>) -> bool
     match leaf {
         OpenLeaf::Paragraph(_, _) | OpenLeaf::Definition(_) | OpenLeaf::BehindTag => true,
         OpenLeaf::Closed
+        | OpenLeaf::Table(_)
         | OpenLeaf::Indented(_, _)
         | OpenLeaf::Fenced(_, _, _, _)
         | OpenLeaf::Html(_)
@@ -55,7 +56,7 @@ impl<'a, E: EntityLookup> Pass<'a, E> {
             self.underline(from, last, level, rest)?;
             return Ok(());
         }
-        if interrupts(rest, true) {
+        if interrupts(rest, true) || self.table_interrupts(self.outer.len(), rest) {
             self.begin_anew(rest)?;
         } else {
             self.add_to_paragraph(from, last, rest)?;
@@ -81,6 +82,24 @@ impl<'a, E: EntityLookup> Pass<'a, E> {
         Ok(())
     }
 
+    /// One more line behind the head of a table, to which so many further lines belong.
+    fn feed_table(&mut self, left: usize, rest: LineRest<'a>) -> Result<(), AllocError>
+        requires good { IsGood self.old }
+        requires line { IsRead self.old.text.now rest }
+        requires is { self.old.leaf ≡ leaf.Table left }
+        requires bare { self.old.bare ≡ false }
+        ensures good { IsGood self.new }
+        ensures runs { OnOk result (FeedsLeaf E.replacement rest.entry self.old self.new) }
+        ensures text { self.new.text ≡ self.old.text }
+    {
+        if left == 0 {
+            self.begin_anew(rest)?;
+            return Ok(());
+        }
+        self.leaf = OpenLeaf::Table(left - 1);
+        Ok(())
+    }
+
     /// A line that lacks no prefix, behind the open leaf.
     #[inline(always)]
     fn feed_leaf(&mut self, rest: LineRest<'a>) -> Result<(), AllocError>
@@ -96,6 +115,7 @@ impl<'a, E: EntityLookup> Pass<'a, E> {
             OpenLeaf::BehindTag => self.begin_anew(rest),
             OpenLeaf::Paragraph(from, last) => self.feed_paragraph(from, last, rest),
             OpenLeaf::Definition(left) => self.feed_definition(left, rest),
+            OpenLeaf::Table(left) => self.feed_table(left, rest),
             OpenLeaf::Indented(waits, end) => self.feed_indented(waits, end, rest),
             OpenLeaf::Fenced(mark, size, indent, waits) => {
                 self.feed_fenced(mark, size, indent, waits, rest)
@@ -121,6 +141,7 @@ impl<'a, E: EntityLookup> Pass<'a, E> {
                 Ok(())
             }
             OpenLeaf::Closed
+            | OpenLeaf::Table(_)
             | OpenLeaf::Indented(_, _)
             | OpenLeaf::Fenced(_, _, _, _)
             | OpenLeaf::Html(_)
@@ -128,11 +149,13 @@ impl<'a, E: EntityLookup> Pass<'a, E> {
         }
     }
 
-    /// Whether a line that some container misses goes on with the open leaf all the same.
-    fn is_lazy(&self, rest: LineRest<'a>) -> bool
-        ensures { IsLazy E.replacement self.now rest.entry result }
+    /// Whether a line that all but so many containers miss, the outermost ones, goes on with the open leaf all the same.
+    fn is_lazy(&self, kept: usize, rest: LineRest<'a>) -> bool
+        requires line { IsRead self.now.text.now rest }
+        requires few { kept ≤ length self.now.outer.items }
+        ensures { IsLazy E.replacement self.now kept rest.entry result }
     {
-        takes_lazy(self.leaf) && !interrupts(rest, false)
+        takes_lazy(self.leaf) && !interrupts(rest, false) && !self.table_interrupts(kept, rest)
     }
 
     /// What so many containers, the outermost ones, left of a line: the others miss it.
@@ -149,7 +172,7 @@ impl<'a, E: EntityLookup> Pass<'a, E> {
             self.feed_leaf(rest)?;
             return Ok(());
         }
-        if self.is_lazy(rest) {
+        if self.is_lazy(kept, rest) {
             self.feed_lazily(rest)?;
             return Ok(());
         }

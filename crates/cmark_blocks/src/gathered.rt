@@ -25,7 +25,7 @@ pub(crate) struct Gathered<'a> {
 }
 
 /// The words of a line of this text.
-fn words_in<'a>(text: &'a str, rest: LineRest<'a>) -> &'a str
+pub(crate) fn words_in<'a>(text: &'a str, rest: LineRest<'a>) -> &'a str
     requires { IsRead text.now rest }
     ensures { result.now ≡ words_of (row_of rest.entry) }
 {

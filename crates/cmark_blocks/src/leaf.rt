@@ -88,7 +88,7 @@ impl<'a, E: EntityLookup> Pass<'a, E> {
         match self.leaf {
             OpenLeaf::Closed => Ok(()),
             OpenLeaf::Paragraph(from, last) => self.close_paragraph(from, last),
-            OpenLeaf::Definition(_) | OpenLeaf::BehindTag => {
+            OpenLeaf::Definition(_) | OpenLeaf::BehindTag | OpenLeaf::Table(_) => {
                 self.leaf = OpenLeaf::Closed;
                 Ok(())
             }

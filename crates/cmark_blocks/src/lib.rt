@@ -20,6 +20,7 @@ mod pass;
 mod prefixes;
 mod siblings;
 mod state;
+mod table;
 
 pub use first_pass::{FirstPass, run_first_pass};
 pub use prefixes::{scan_containers, skip_container_prefixes};

@@ -101,7 +101,7 @@ impl<'a, E: EntityLookup> Pass<'a, E> {
             Opening::AtxHeading(level) => self.begin_heading(level, rest),
             Opening::FencedCode { indent, fence } => self.begin_fenced(indent, fence, rest),
             Opening::Bracket => self.begin_bracket(rest),
-            Opening::Plain => self.begin_paragraph(rest),
+            Opening::Plain => self.begin_text(rest),
         }
     }
 

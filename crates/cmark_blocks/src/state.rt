@@ -22,6 +22,8 @@ pub(crate) enum OpenLeaf<'a> {
     Paragraph(usize, LineRest<'a>),
     /// A link reference definition, with so many lines to come.
     Definition(usize),
+    /// A table that was drawn to its end, with so many lines to come.
+    Table(usize),
     /// Indented code: the stretch of the text that waits, and where its last line ends.
     Indented(Option<Stretch>, usize),
     /// Fenced code: its fence's character, size and indent, and the stretch of the text that waits.

@@ -4,7 +4,7 @@ use Rattle.std.specs.Prelude.{map}
 use Rattle.std.proofs.lemmas.List.{append_assoc, map-append}
 use Rattle.cmark_grammar.specs.TagEnd.{end_of}
 use Rattle.cmark_grammar.specs.Event.{Event, Start, End, Ranged}
-use Rattle.cmark_grammar.specs.BlockDocument.{BlockKind, Paragraph, TightParagraph, Heading, ThematicBreak, IndentedCode, FencedCode, HtmlBlock, LinkDefinition, MetadataBlock, BlockQuote, BlockList, ListItem, FootnoteDefinition, Text, OwnedText, Html, BlockNode, BlockDocument, Nil, Node}
+use Rattle.cmark_grammar.specs.BlockDocument.{BlockKind, Paragraph, TightParagraph, Heading, ThematicBreak, IndentedCode, FencedCode, HtmlBlock, LinkDefinition, MetadataBlock, BlockQuote, BlockList, ListItem, FootnoteDefinition, Text, OwnedText, Html, BlockNode, BlockDocument, Nil, Node, Table, TableHead, TableRow, TableCell}
 use Rattle.cmark_grammar.specs.BlockReading.{Reads, Around, Inside, Alone, Silent, read_as, node_events, block_reading}
 use Rattle.cmark_grammar.specs.Balance.{IsSingle, Balanced, Nothing, Single, Element}
 
@@ -34,6 +34,10 @@ fit (FencedCode info) = tt
 fit HtmlBlock = tt
 fit (LinkDefinition reference) = tt
 fit (MetadataBlock kind) = tt
+fit (Table alignments) = tt
+fit TableHead = tt
+fit TableRow = tt
+fit TableCell = tt
 fit (BlockQuote alert) = tt
 fit (FootnoteDefinition label) = tt
 fit (BlockList number tight) = tt

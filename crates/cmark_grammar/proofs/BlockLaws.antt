@@ -1,5 +1,5 @@
 -- The laws of openings and prefixes that the theorems on blocks use.
-use Rattle.std.proofs.Common.{◌≡◌, ◌≢◌, ◌⊎◌, inl, inr, ⊎_elim, ℕ, zero, suc, ◌≤◌, ◌<◌, Bool, true, false, ◌||◌, ◌&&◌, List, [], ◌∷◌, length, drop, take_while, refl, sym, ap, ◌∙◌, subst, arith, Option, Some, None, length-drop, true≢false, not, ◌==◌}
+use Rattle.std.proofs.Common.{◌≡◌, ◌≢◌, ◌⊎◌, inl, inr, ⊎_elim, ℕ, zero, suc, ◌≤◌, ◌<◌, Bool, true, false, ◌||◌, ◌&&◌, List, [], ◌∷◌, length, drop, take_while, refl, sym, ap, ◌∙◌, subst, arith, Option, Some, None, length-drop, true≢false, not, ◌==◌, ◌-◌}
 use Rattle.std.specs.Prelude.{if◌then◌else◌, cond, nat_le, nat_lt}
 use Rattle.std.proofs.lemmas.List.Sums.{take_while-cons}
 use Rattle.cmark_grammar.specs.Columns.{Column, is_blank_byte, is_blank, without_indent, bytes_of}
@@ -12,9 +12,12 @@ use Rattle.cmark_grammar.specs.BlockQuoteKind.{BlockQuoteKind}
 use Rattle.cmark_grammar.specs.Containers.{Container, Quote, Item, Footnote, Marker, marker_of, delimited, digits, is_bullet, is_delimiter, number_of, item_with, width_with, container_with, container_of, item_of, is_quote, quote_width, width_of, enter, keep_as, keeps, strip_as, strip}
 use Rattle.cmark_grammar.specs.HtmlBlocks.{html_kind, holds_end, html_further}
 use Rattle.cmark_grammar.specs.LinkDefinitions.{Defined, definition_in, bytes_over}
-use Rattle.cmark_grammar.specs.Openings.{Leaf, IndentedCode, MetadataBlock, Opening, Blank, Nests, Takes, Plain, or_else, nests_if, fenced_if, metadata_begun, leaf_of, whole_opens, opens, opens_at, text_begun, texts, lazily, html_if, break_if, heading_if, text_lines, defined_if, put_if, definition_of, is_none}
+use Rattle.cmark_grammar.specs.Openings.{Leaf, IndentedCode, MetadataBlock, Opening, Blank, Nests, Takes, Plain, or_else, nests_if, fenced_if, metadata_begun, leaf_of, whole_opens, opens, opens_at, text_begun, texts, lazily, html_if, break_if, heading_if, text_lines, defined_if, put_if, definition_of, is_none, Table, interrupts, count_rows, table_if, text_of}
 use Rattle.cmark_grammar.specs.Options.{Options}
 use Rattle.cmark_grammar.specs.Places.{Place, is_behind_task}
+use Rattle.cmark_grammar.specs.Alignment.{Alignment}
+use Rattle.cmark_grammar.specs.TableRows.{one_more_if, count_missing, most_filled, holds_pipe, with_columns, delimited_ahead, count_cells, table_head, is_some_head, begins_with_pipe, table_interrupts}
+use Rattle.cmark_grammar.specs.Tables.{delimiter_row}
 
 -- blanks begin with no other byte
 blank-starts : (cs : List Column) (b : ℕ) (mark : List ℕ) → is_blank_byte b ≡ false → is_bare (without_indent cs) ≡ true → starts (b ∷ mark) (bytes_of cs) ≡ false
@@ -131,13 +134,43 @@ module _ (options : Options) where
   fits_defined lines None ahead le = tt
   fits_defined lines (Some found) ahead le = omega (arith, le)
 
+  count_rows-len : (columns left : ℕ) (ahead : List Row) → count_rows options columns left ahead ≤ length ahead
+  count_rows-len columns left [] = omega arith
+  count_rows-len columns left (r ∷ ahead) =
+      go (not (interrupts options false r ahead) && nat_le (count_missing columns r) left) (count_rows-len columns (left - count_missing columns r) ahead)
+    where
+      go : (z : Bool) → count_rows options columns (left - count_missing columns r) ahead ≤ length ahead → one_more_if z (count_rows options columns (left - count_missing columns r) ahead) ≤ suc (length ahead)
+      go true le = omega (arith, le)
+      go false le = omega arith
+
+  -- a table's head has a line behind it
+  fits_table : (r : Row) (ahead : List Row) → Fits (table_if options (table_head options r ahead) ahead) ahead
+  fits_table r ahead = go (options.tables && (not r.lazy && holds_pipe (words_of r)))
+    where
+      behind : (s : Row) (rest : List Row) (o : Option (List Alignment)) → Fits (table_if options o (s ∷ rest)) (s ∷ rest)
+      behind s rest None = tt
+      behind s rest (Some alignments) = let le = count_rows-len (length alignments) most_filled rest in omega (arith, le)
+
+      head : (rest : List Row) → Fits (table_if options (delimited_ahead (count_cells r) rest) rest) rest
+      head [] = tt
+      head (s ∷ rest) = behind s rest (delimited_ahead (count_cells r) (s ∷ rest))
+
+      go : (z : Bool) → Fits (table_if options (if z then delimited_ahead (count_cells r) ahead else None) ahead) ahead
+      go true = head ahead
+      go false = tt
+
+  fits_text : (r : Row) (ahead : List Row) → Fits (text_of options r ahead) ahead
+  fits_text r ahead =
+      fits_or (definition_of options r ahead) (table_if options (table_head options r ahead) ahead) ahead
+      (fits_defined (length (text_lines options ahead)) (definition_in (bytes_over r (text_lines options ahead))) ahead (text_lines-len ahead)) (fits_table r ahead)
+
   fits_leaf : (r : Row) (ahead : List Row) → Fits (leaf_of options r ahead) ahead
   fits_leaf r ahead =
       fits_or (html_if r ahead (html_kind (words_of r))) _ ahead (fits_html r ahead (html_kind (words_of r)))
       (fits_or (break_if (is_thematic_break (words_of r))) _ ahead (fits_break (is_thematic_break (words_of r)) ahead)
       (fits_or (heading_if (is_atx_heading (words_of r)) (run 35 (words_of r))) _ ahead (fits_heading (is_atx_heading (words_of r)) (run 35 (words_of r)) ahead)
-      (fits_or (fenced_if (fence_of (indent_of r) (words_of r)) ahead) (definition_of options r ahead) ahead (fits_fenced (fence_of (indent_of r) (words_of r)) ahead)
-      (fits_defined (length (text_lines options ahead)) (definition_in (bytes_over r (text_lines options ahead))) ahead (text_lines-len ahead)))))
+      (fits_or (fenced_if (fence_of (indent_of r) (words_of r)) ahead) (text_of options r ahead) ahead (fits_fenced (fence_of (indent_of r) (words_of r)) ahead)
+      (fits_text r ahead))))
 
   fits_metadata : (o : Option MetadataBlockKind) (ahead : List Row) → Fits (metadata_begun o ahead) ahead
   fits_metadata None ahead = tt
@@ -238,13 +271,22 @@ module _ (options : Options) where
   wide_defined r lines (Some found) = tt
   wide_defined r lines None = tt
 
+  wide_table : (r : Row) (o : Option (List Alignment)) (ahead : List Row) → IsWide r (table_if options o ahead)
+  wide_table r (Some alignments) ahead = tt
+  wide_table r None ahead = tt
+
+  wide_text : (r : Row) (ahead : List Row) → IsWide r (text_of options r ahead)
+  wide_text r ahead =
+      wide_or r (definition_of options r ahead) (table_if options (table_head options r ahead) ahead)
+      (wide_defined r (length (text_lines options ahead)) (definition_in (bytes_over r (text_lines options ahead)))) (wide_table r (table_head options r ahead) ahead)
+
   wide_leaf : (r : Row) (ahead : List Row) → IsWide r (leaf_of options r ahead)
   wide_leaf r ahead =
       wide_or r (html_if r ahead (html_kind (words_of r))) _ (wide_html r ahead (html_kind (words_of r)))
       (wide_or r (break_if (is_thematic_break (words_of r))) _ (wide_break r (is_thematic_break (words_of r)))
       (wide_or r (heading_if (is_atx_heading (words_of r)) (run 35 (words_of r))) _ (wide_heading r (is_atx_heading (words_of r)) (run 35 (words_of r)))
-      (wide_or r (fenced_if (fence_of (indent_of r) (words_of r)) ahead) (definition_of options r ahead) (wide_fenced r (fence_of (indent_of r) (words_of r)) ahead)
-      (wide_defined r (length (text_lines options ahead)) (definition_in (bytes_over r (text_lines options ahead)))))))
+      (wide_or r (fenced_if (fence_of (indent_of r) (words_of r)) ahead) (text_of options r ahead) (wide_fenced r (fence_of (indent_of r) (words_of r)) ahead)
+      (wide_text r ahead))))
 
   wide_metadata : (r : Row) (o : Option MetadataBlockKind) (ahead : List Row) → IsWide r (metadata_begun o ahead)
   wide_metadata r None ahead = tt
@@ -339,18 +381,45 @@ module _ (options : Options) where
   pub lazy-same : (r : Row) → r.lazy ≡ true → lazy_row r ≡ r
   lazy-same r e = ap (λ z. record { columns = r.columns; at = r.at; stop = r.stop; past = r.past; lazy = z }) (sym e)
 
+  not_or : (x y : Bool) → not (x || y) ≡ true → x ≡ false
+  not_or true y e = absurd (true≢false (sym e))
+  not_or false y e = refl
+
+  and_none : (z : Bool) → (z && false) ≡ false
+  and_none true = refl
+  and_none false = refl
+
+  or_none : (z : Bool) → (z || false) ≡ z
+  or_none true = refl
+  or_none false = refl
+
+  -- a lazy line is no table's head
+  pub lazy-head : (r : Row) (ahead : List Row) → r.lazy ≡ true → table_head options r ahead ≡ None
+  lazy-head r ahead e =
+      ap (λ z. if options.tables && (not z && holds_pipe (words_of r)) then delimited_ahead (count_cells r) ahead else None) e
+      ∙ ap (λ z. if z then delimited_ahead (count_cells r) ahead else None) (and_none options.tables)
+
+  pub lazy-interrupts : (r : Row) (ahead : List Row) → r.lazy ≡ true → table_interrupts options r ahead ≡ false
+  lazy-interrupts r ahead e =
+      ap (λ o. nat_le (indent_of r) 3 && (begins_with_pipe (words_of r) && is_some_head o)) (lazy-head r ahead e)
+      ∙ ap (λ z. nat_le (indent_of r) 3 && z) (and_none (begins_with_pipe (words_of r))) ∙ and_none (nat_le (indent_of r) 3)
+
   -- a lazy line looks at nothing ahead
   pub texts-lazy : (r : Row) (x y : List Row) → r.lazy ≡ true → texts options r x ≡ texts options r y
   unfolding texts
-  texts-lazy r x y e = rw e refl
+  texts-lazy r x y e = ap (λ z. not (interrupts options (not r.lazy) r x || z)) (lazy-interrupts r x e ∙ sym (lazy-interrupts r y e))
+
+  lazy-texts : (r : Row) (y : List Row) → texts options (lazy_row r) y ≡ not (interrupts options false r y)
+  unfolding texts
+  lazy-texts r y = ap (λ z. not (interrupts options false r y || z)) (lazy-interrupts (lazy_row r) y refl) ∙ ap not (or_none (interrupts options false r y))
 
   pub lazily-texts : (k : Container) (r : Row) (x y : List Row) → lazily options k r x ≡ true → texts options (lazy_row r) y ≡ true
-  unfolding texts lazily
-  lazily-texts k r x y e = e
+  unfolding lazily
+  lazily-texts k r x y e = lazy-texts r y ∙ ap not (not_or (interrupts options false r x) (table_interrupts options r x) e)
 
   pub texts-lazily : (k : Container) (r : Row) (x : List Row) → r.lazy ≡ true → texts options (lazy_row r) [] ≡ true → lazily options k r x ≡ true
-  unfolding texts lazily
-  texts-lazily k r x e t = t
+  unfolding lazily
+  texts-lazily k r x e t = ap (λ z. not (interrupts options false r x || z)) (lazy-interrupts r x e) ∙ ap not (or_none (interrupts options false r x)) ∙ sym (lazy-texts r []) ∙ t
 
   -- a line is whole, or text that lacks a prefix
   pub texts_or : (r : Row) (ahead : List Row) → texts options (lazy_row r) [] ≡ true → (r.lazy ≡ false) ⊎ (texts options r ahead ≡ true)
@@ -359,10 +428,6 @@ module _ (options : Options) where
       go : (z : Bool) → r.lazy ≡ z → (r.lazy ≡ false) ⊎ (texts options r ahead ≡ true)
       go true e = inr (texts-lazy r ahead [] e ∙ subst (λ s. texts options s [] ≡ true) (lazy-same r e) t)
       go false e = inl e
-
-  not_or : (x y : Bool) → not (x || y) ≡ true → x ≡ false
-  not_or true y e = absurd (true≢false (sym e))
-  not_or false y e = refl
 
   -- what begins something else than a blank line is not blank
   pub opens-words : (r : Row) (ahead : List Row) → r.lazy ≡ false → opens options r ahead ≢ Blank → is_blank_line r ≡ false
@@ -375,7 +440,7 @@ module _ (options : Options) where
 
   pub texts-words : (r : Row) (ahead : List Row) → texts options r ahead ≡ true → is_blank_line r ≡ false
   unfolding texts
-  texts-words r ahead t = not_or (is_blank_line r) _ t
+  texts-words r ahead t = not_or (is_blank_line r) _ (ap not (not_or (interrupts options (not r.lazy) r ahead) (table_interrupts options r ahead) t))
 
   -- behind a task marker text begins a paragraph; elsewhere a line begins what it begins at any other place
   pub at-or : (place : Place) (r : Row) (ahead : List Row) → ((r.lazy ≡ false) × (opens_at options place r ahead ≡ text_begun r)) ⊎ (opens_at options place r ahead ≡ opens options r ahead)

@@ -3,6 +3,8 @@ use Rattle.std.proofs.Common.{◌≡◌, ⊎_elim, ℕ, zero, suc, Bool, true, f
 use Rattle.std.specs.Prelude.{if◌then◌else◌, nat_le}
 use Rattle.cmark_grammar.specs.Options.{Options}
 use Rattle.cmark_grammar.specs.Places.{Place, Apart, BehindLazy, allows_lazy}
+use Rattle.cmark_grammar.specs.Alignment.{Alignment}
+use Rattle.cmark_grammar.specs.TableRows.{table_head}
 use Rattle.cmark_grammar.specs.Rows.{Row, rows, shown, show_as, words_of, is_blank_line, indent_of}
 use Rattle.cmark_grammar.specs.Leaves.{Fence, Further, GoesOn, Closes, Waits, Stops, count_more, counted, underlines, is_thematic_break, is_atx_heading, run, fence_of, code_further, fence_further, closes_fence}
 use Rattle.cmark_grammar.specs.HtmlBlocks.{html_kind, holds_end, html_further}
@@ -10,7 +12,7 @@ use Rattle.cmark_grammar.specs.LinkDefinitions.{Defined, definition_in, bytes_ov
 use Rattle.cmark_grammar.specs.Metadata.{metadata_kind, metadata_further, holds_metadata, ends_metadata}
 use Rattle.cmark_grammar.specs.MetadataBlockKind.{MetadataBlockKind}
 use Rattle.cmark_grammar.specs.Containers.{Container, is_alert, enter, keeps, strip, is_bare_start, bare_after, container_of}
-use Rattle.cmark_grammar.specs.Openings.{Leaf, ThematicBreak, AtxHeading, IndentedCode, FencedCode, HtmlBlock, LinkDefinition, MetadataBlock, Opening, Blank, Nests, Takes, Plain, or_else, nests_if, fenced_if, metadata_begun, html_if, break_if, heading_if, text_lines, defined_if, definition_of, leaf_of, whole_opens, opens, opens_at, texts, lazily}
+use Rattle.cmark_grammar.specs.Openings.{Leaf, ThematicBreak, AtxHeading, IndentedCode, FencedCode, HtmlBlock, LinkDefinition, MetadataBlock, Opening, Blank, Nests, Takes, Plain, or_else, nests_if, fenced_if, metadata_begun, html_if, break_if, heading_if, text_lines, defined_if, definition_of, leaf_of, whole_opens, opens, opens_at, texts, lazily, Table, table_if, text_of}
 use Rattle.cmark_grammar.specs.Blocks.{Blocks, Nil, BlankLine, Paragraph, SetextHeading, LeafBlock, ContainerBlock, join, place_in, behind_leaf}
 use Rattle.cmark_grammar.specs.BlocksModel.{Open, Between as IsBetween, BehindTag as IsBehindTag, InParagraph as IsInParagraph, InLeaf as IsInLeaf, InContainer as IsInContainer, close, takes_lazy, within, inside_begun, begin_as, begin_in, begin_at, begin, place_behind, underline_or, goes_on_or, kept_or, feed, feed_all, blocks}
 use Rattle.cmark_grammar.specs.BlocksByLine.{Verbatim, Indented, Fenced, HtmlLines, Metadata, leaf_in, further_in, further_if, OpenLines, Between, BehindTag, InParagraph, InLeaf, InVerbatim, InContainer, blank_lines, close_lines, lines_take_lazy, html_begun, leaf_begun, lines_inside_begun, lines_begin_as, lines_underline_or, lines_go_on_or, lines_kept_or, verbatim_line, lines_begin_in, lines_begin_at, lines_begin, lines_feed, lines_feed_all, blocks_by_line}
@@ -86,6 +88,7 @@ Counts r ahead (Takes (FencedCode fence) n) = n ≡ counted (fence_further fence
 Counts r ahead (Takes (HtmlBlock kind) n) = n ≡ (if nat_le kind 5 && holds_end kind (words_of r) then 0 else counted (html_further kind) ahead)
 Counts r ahead (Takes (LinkDefinition definition) n) = Unit {0}
 Counts r ahead (Takes (MetadataBlock kind) n) = n ≡ counted (metadata_further kind) ahead
+Counts r ahead (Takes (Table alignments) n) = Unit {0}
 
 counts_if : (r : Row) (ahead : List Row) (b : Bool) (x y : Opening) → Counts r ahead x → Counts r ahead y → Counts r ahead (if b then x else y)
 counts_if r ahead true x y p q = p
@@ -130,13 +133,22 @@ counts_metadata r ahead (Some kind) = go (holds_metadata kind ahead)
     go false = tt
 
 module _ (options : Options) where
+  counts_table : (r : Row) (ahead : List Row) (o : Option (List Alignment)) → Counts r ahead (table_if options o ahead)
+  counts_table r ahead (Some alignments) = tt
+  counts_table r ahead None = tt
+
+  counts_text : (r : Row) (ahead : List Row) → Counts r ahead (text_of options r ahead)
+  counts_text r ahead =
+      counts_or r ahead (definition_of options r ahead) (table_if options (table_head options r ahead) ahead)
+      (counts_defined r ahead (length (text_lines options ahead)) (definition_in (bytes_over r (text_lines options ahead)))) (counts_table r ahead (table_head options r ahead))
+
   counts_leaf : (r : Row) (ahead : List Row) → Counts r ahead (leaf_of options r ahead)
   counts_leaf r ahead =
       counts_or r ahead (html_if r ahead (html_kind (words_of r))) _ (counts_html r ahead (html_kind (words_of r)))
       (counts_or r ahead (break_if (is_thematic_break (words_of r))) _ (counts_break r ahead (is_thematic_break (words_of r)))
       (counts_or r ahead (heading_if (is_atx_heading (words_of r)) (run 35 (words_of r))) _ (counts_heading r ahead (is_atx_heading (words_of r)) (run 35 (words_of r)))
-      (counts_or r ahead (fenced_if (fence_of (indent_of r) (words_of r)) ahead) (definition_of options r ahead) (counts_fenced r ahead (fence_of (indent_of r) (words_of r)))
-      (counts_defined r ahead (length (text_lines options ahead)) (definition_in (bytes_over r (text_lines options ahead)))))))
+      (counts_or r ahead (fenced_if (fence_of (indent_of r) (words_of r)) ahead) (text_of options r ahead) (counts_fenced r ahead (fence_of (indent_of r) (words_of r)))
+      (counts_text r ahead))))
 
   counts_opens : (r : Row) (ahead : List Row) → Counts r ahead (opens options r ahead)
   unfolding opens
@@ -215,6 +227,7 @@ module _ (options : Options) where
       leaf (HtmlBlock kind) m c = html kind (nat_le kind 5 && holds_end kind (words_of r)) ∙ ap (IsInLeaf closed (HtmlBlock kind) r []) (sym c)
       leaf (LinkDefinition definition) m c = refl
       leaf (MetadataBlock kind) m c = ap (IsInLeaf closed (MetadataBlock kind) r []) (sym c)
+      leaf (Table alignments) m c = refl
 
       go : (o : Opening) → Counts r ahead o → ((k : Container) → seen (lines_begin_in options n (place_in k) Nil (enter k r) (within k (is_bare_start k r) ahead)) (within k (is_bare_start k r) ahead) ≡ begin_in options n (place_in k) Nil (enter k r) (within k (is_bare_start k r) ahead)) → seen (lines_begin_as o (λ k. lines_begin_in options n (place_in k) Nil (enter k r) (within k (is_bare_start k r) ahead)) closed r) ahead ≡ begin_as o (λ k. begin_in options n (place_in k) Nil (enter k r) (within k (is_bare_start k r) ahead)) closed r
       go Blank c ih = refl

@@ -10,7 +10,7 @@ use Rattle.cmark_grammar.specs.Lines.{lines, ends_line, onto, content, is_conten
 use Rattle.cmark_grammar.specs.Columns.{Column, tab, expand, tab_columns, to_tab_stop}
 use Rattle.cmark_grammar.specs.Rows.{Row, rows, rows_from, row_at, begin_of, past_of}
 use Rattle.cmark_grammar.specs.Containers.{Container, Quote, Item, Footnote, is_alert, unless_tag, enter, strips, is_bare_start, insides}
-use Rattle.cmark_grammar.specs.Openings.{Leaf, ThematicBreak as ThematicBreakLeaf, AtxHeading as AtxHeadingLeaf, IndentedCode as IndentedCodeLeaf, FencedCode as FencedCodeLeaf, HtmlBlock as HtmlBlockLeaf, LinkDefinition as LinkDefinitionLeaf, MetadataBlock as MetadataBlockLeaf}
+use Rattle.cmark_grammar.specs.Openings.{Leaf, ThematicBreak as ThematicBreakLeaf, AtxHeading as AtxHeadingLeaf, IndentedCode as IndentedCodeLeaf, FencedCode as FencedCodeLeaf, HtmlBlock as HtmlBlockLeaf, LinkDefinition as LinkDefinitionLeaf, MetadataBlock as MetadataBlockLeaf, Table as TableLeaf}
 use Rattle.cmark_grammar.specs.Blocks.{Blocks, Nil as NoBlocks, BlankLine, Paragraph as ParagraphBlock, SetextHeading, LeafBlock, ContainerBlock, behind_leaf, place_in, Body}
 use Rattle.cmark_grammar.specs.Lists.{ListBefore, tight_behind, goes_on}
 use Rattle.cmark_grammar.specs.Tokens.{fenced_lines, lines_before}
@@ -22,6 +22,7 @@ use Rattle.cmark_grammar.specs.Leaves.{closes_fence}
 use Rattle.cmark_grammar.proofs.BlockLaws.{at-nests, at-takes}
 use Rattle.cmark_grammar.proofs.RowPlaces.{Runs, expand-Runs, first_place-Runs}
 use Rattle.cmark_grammar.proofs.RowEdges.{is-ascii, AreGood, GoodRow, GoodRows, LeafFront, leaf-front, start-E, enter-good, strips-good, split-good}
+use Rattle.cmark_grammar.proofs.TableRanges.{row_cells-edged, row_tokens-edged}
 use Rattle.cmark_grammar.proofs.TokenEdges.{paragraph-edged, heading-edged, code-edged, code_place-edge, before-good, html-edged}
 
 module _ (E : ℕ → Type 0) where
@@ -42,6 +43,17 @@ module _ (E : ℕ → Type 0) where
   leaf-edged text options lookup (HtmlBlockLeaf kind) first more after g gs f a = (g.begin, past-edge first more g gs, html-edged E text (first ∷ more) (g, gs), a)
   leaf-edged text options lookup (LinkDefinitionLeaf definition) first more after g gs f a = (start-E E first g, past-edge first more g gs, tt, a)
   leaf-edged text options lookup (MetadataBlockLeaf kind) first more after g gs f a = (start-E E first g, past-edge first more g gs, code-edged E text 0 (lines_before (ends_metadata kind) more) (before-good E (ends_metadata kind) more gs), a)
+
+  leaf-edged text options lookup (TableLeaf alignments) first more after g gs f a = (
+    start-E E first g,
+    past-edge first more g gs,
+    (start-E E first g, g.past, row_cells-edged E text (length alignments) first g, row_tokens-edged E text (length alignments) (drop 1 more) (rows more gs)),
+    a,
+  )
+    where
+      rows : (rs : List Row) → GoodRows E rs → GoodRows E (drop 1 rs)
+      rows [] b = tt
+      rows (r ∷ rs) b = b.1
 
   insides-good : (k : Container) (first : Row) (more : List Row) → GoodRow E (enter k first) → GoodRows E more → GoodRows E (insides k first more)
   insides-good k first more g gs = go (is_alert k)

@@ -1,4 +1,4 @@
--- A document has at most four nodes a byte.
+-- A document has at most four nodes a byte, the cells aside that are filled in in its tables.
 use Rattle.std.proofs.Common.{◌≡◌, inl, inr, ℕ, zero, suc, ◌+◌, ◌-◌, ◌*◌, ◌≤◌, ◌<◌, Bool, true, false, ◌==◌, List, [], ◌∷◌, ◌++◌, length, drop, take_while, refl, sym, ap, ◌∙◌, subst, arith, Option, Some, None, true≢false, drop-drop}
 use Rattle.std.proofs.lemmas.List.Sums.{take_while-cons}
 use Rattle.std.specs.Prelude.{if◌then◌else◌, cond, nat_lt}
@@ -6,21 +6,26 @@ use Rattle.cmark_grammar.specs.Answers.{Lookup}
 use Rattle.cmark_grammar.specs.Options.{Options}
 use Rattle.cmark_grammar.specs.Places.{Place, Apart, BehindTitle, over_blank}
 use Rattle.cmark_grammar.specs.Lines.{lines, ends_line, onto, content}
-use Rattle.cmark_grammar.specs.Columns.{Column, tab, expand, tab_columns, to_tab_stop, indent, without_indent, is_blank}
-use Rattle.cmark_grammar.specs.Rows.{Row, rows, rows_from, without, place, first_place, begin_of, start_of, past_of, is_bare, is_blank_line}
+use Rattle.cmark_grammar.specs.Columns.{Column, tab, expand, tab_columns, to_tab_stop, indent, without_indent, is_blank, is_blank_byte, drop_end}
+use Rattle.cmark_grammar.specs.Rows.{Row, rows, rows_from, without, place, first_place, begin_of, start_of, past_of, is_bare, is_blank_line, shown, words_of}
 use Rattle.cmark_grammar.specs.Leaves.{closes_fence}
 use Rattle.cmark_grammar.specs.Containers.{Container, Quote, Item, Footnote, is_alert, unless_tag, keeps, strip_as, strip, strips, enter, width_of, is_bare_start, insides}
-use Rattle.cmark_grammar.specs.Openings.{Leaf, ThematicBreak as ThematicBreakLeaf, AtxHeading as AtxHeadingLeaf, IndentedCode as IndentedCodeLeaf, FencedCode as FencedCodeLeaf, HtmlBlock as HtmlBlockLeaf, LinkDefinition as LinkDefinitionLeaf, MetadataBlock as MetadataBlockLeaf, Blank, Nests, Takes, Plain, opens, opens_at}
+use Rattle.cmark_grammar.specs.Openings.{Leaf, ThematicBreak as ThematicBreakLeaf, AtxHeading as AtxHeadingLeaf, IndentedCode as IndentedCodeLeaf, FencedCode as FencedCodeLeaf, HtmlBlock as HtmlBlockLeaf, LinkDefinition as LinkDefinitionLeaf, MetadataBlock as MetadataBlockLeaf, Blank, Nests, Takes, Plain, opens, opens_at, Table as TableLeaf}
 use Rattle.cmark_grammar.specs.Blocks.{Blocks, Nil as NoBlocks, BlankLine, Paragraph as ParagraphBlock, SetextHeading, LeafBlock, ContainerBlock, MayBegin, Body, behind_leaf, place_in}
 use Rattle.cmark_grammar.specs.Lists.{ListBefore, tight_behind, goes_on}
-use Rattle.cmark_grammar.specs.BlockDocument.{ListItem, BlockNode, BlockDocument, Nil, Node, node}
-use Rattle.cmark_grammar.specs.Derivation.{leaf_then, item_then, document_of, Derives}
-use Rattle.cmark_grammar.specs.Ranges.{count_nodes}
-use Rattle.cmark_grammar.specs.Tokens.{Piece, texts_then, line_columns, words_end, stretch_then, stretches, paragraph_tokens, heading_columns, heading_tokens, piece_if, plain_line, left_columns, spaces_if, verbatim_line, touches, merge, merge_all, code_columns, code_pieces, stop_at, fenced_lines, html_then, html_tokens, slice, end_place, lines_before}
+use Rattle.cmark_grammar.specs.BlockDocument.{ListItem, Text, OwnedText, Html, BlockNode, BlockDocument, Nil, Node, node}
+use Rattle.cmark_grammar.specs.Derivation.{leaf_then, item_then, paragraph_kind, document_of, Derives}
+use Rattle.cmark_grammar.specs.Ranges.{count_nodes, count_table, count_tables}
+use Rattle.cmark_grammar.specs.Tokens.{Piece, texts_then, line_columns, words_end, stretch_then, stretches, paragraph_tokens, heading_columns, behind_hashes, heading_tokens, piece_if, plain_line, left_columns, spaces_if, verbatim_line, touches, merge, merge_all, code_columns, code_pieces, stop_at, fenced_lines, html_then, html_tokens, slice, end_place, lines_before}
 use Rattle.cmark_grammar.specs.Metadata.{ends_metadata}
-use Rattle.cmark_grammar.proofs.BlockLaws.{opens-whole, opens-words, at-whole, at-words, at-nests, texts-words, IsWide, wide_opens}
+use Rattle.cmark_grammar.proofs.BlockLaws.{opens-whole, opens-words, at-whole, at-words, at-nests, at-takes, texts-words, IsWide, wide_opens}
 use Rattle.cmark_grammar.proofs.RowPlaces.{Runs, Runs-le, first_place-Runs, drop-Runs, drop-mono, Lies, begin-start, start-Runs, start-stop, Lies-without, strip-Lies, kept-without, strip-past, Along, text-Along, Along-le}
 use Rattle.cmark_grammar.proofs.TokenRanges.{UpTo, end_place-Runs, line-UpTo, heading-UpTo}
+use Rattle.cmark_grammar.specs.Alignment.{Alignment}
+use Rattle.cmark_grammar.specs.TableRows.{count_missing, cells_start, cells_of}
+use Rattle.cmark_grammar.specs.TableTokens.{cells_then, row_cells, row_tokens}
+use Rattle.cmark_grammar.proofs.TableRanges.{words-places, row_cells-count, filled}
+use Rattle.cmark_grammar.proofs.TableCounts.{LeafFilled, opened-filled}
 
 -- a column in which no byte begins is of a tab
 abbrev AreTabs : List Column → Type 0
@@ -265,9 +270,31 @@ heading-count text attributes level from r h =
     let p = words-count text f (heading_columns attributes level r) r.stop Nil u in
     omega (arith, a, b, p)
 
+-- the rows of a table: four nodes a byte, and the cells that are filled in
+rows-count : (text : List ℕ) (columns from : ℕ) (rs : List Row) (to : ℕ) → Fed from rs to → 4 * from + count_nodes (row_tokens text columns rs) ≤ 4 * to + filled columns rs
+rows-count text columns from [] to f = let l : from ≤ to = f in omega (arith, l)
+rows-count text columns from (r ∷ rs) to f =
+    let lt : from < r.past = f.0 in
+    let low = from-start from r f.1.0 in
+    let w = words-places from r f.1.0 in
+    let p : r.stop ≤ r.past = f.1.0.2 in
+    let c = row_cells-count text columns r in
+    let ih = rows-count text columns r.past rs to f.2 in
+    omega (arith, lt, low, w, p, c, ih)
+
+rest-count : (text : List ℕ) (columns from : ℕ) (rs : List Row) (to : ℕ) → Fed from rs to → 4 * from + count_nodes (row_tokens text columns (drop 1 rs)) ≤ 4 * to + filled columns (drop 1 rs)
+rest-count text columns from [] to f = let l : from ≤ to = f in omega (arith, l)
+rest-count text columns from (r ∷ rs) to f = let lt : from < r.past = f.0 in let c = rows-count text columns r.past rs to f.2 in omega (arith, lt, c)
+
+-- whether a leaf is a table
+abbrev is_table : Leaf → ℕ
+is_table (TableLeaf alignments) = 1
+is_table _ = 0
+
 -- a leaf's nodes, where its first line is not blank
-leaf-count : (text : List ℕ) (options : Options) (lookup : Lookup) (from : ℕ) (leaf : Leaf) (first : Row) (more : List Row) (after : BlockDocument) → Sits from first → is_blank_line first ≡ false → Fed first.past more (past_of first more) → 4 * from + count_nodes (leaf_then text options lookup leaf first more after) ≤ 4 * past_of first more + count_nodes after
-leaf-count text options lookup from leaf first more after s e f = go leaf
+leaf-count : (text : List ℕ) (options : Options) (lookup : Lookup) (from : ℕ) (leaf : Leaf) (first : Row) (more : List Row) (after : BlockDocument) → Sits from first → is_blank_line first ≡ false → Fed first.past more (past_of first more) → LeafFilled leaf first more
+    → 4 * from + count_nodes (leaf_then text options lookup leaf first more after) ≤ 4 * past_of first more + (count_nodes after + 262144 * is_table leaf)
+leaf-count text options lookup from leaf first more after s e f few = go leaf few
   where
     low : from ≤ start_of first
     low = from-start from first s.0
@@ -281,34 +308,122 @@ leaf-count text options lookup from leaf first more after s e f = go leaf
     up : first.past ≤ past_of first more
     up = fed-le first.past more (past_of first more) f
 
-    go : (leaf : Leaf) → 4 * from + count_nodes (leaf_then text options lookup leaf first more after) ≤ 4 * past_of first more + count_nodes after
-    go ThematicBreakLeaf = omega (arith, low, some, high, up)
-    go (AtxHeadingLeaf level) = let h = heading-count text options.heading_attributes level from first s.0 in omega (arith, low, some, high, up, h)
-    go IndentedCodeLeaf =
+    go : (leaf : Leaf) → LeafFilled leaf first more → 4 * from + count_nodes (leaf_then text options lookup leaf first more after) ≤ 4 * past_of first more + (count_nodes after + 262144 * is_table leaf)
+    go ThematicBreakLeaf few = omega (arith, low, some, high, up)
+    go (AtxHeadingLeaf level) few = let h = heading-count text options.heading_attributes level from first s.0 in omega (arith, low, some, high, up, h)
+    go IndentedCodeLeaf few =
         let b = verbatim-count text (code_columns 4 first) first in
         let c = merge_all-count (verbatim_line text (code_columns 4 first) first) (code_pieces text 4 more) in
         let d = code-count text 4 first.past more (past_of first more) f in
         let t = texts-count (code_pieces text 4 (first ∷ more)) Nil in
         omega (arith, low, some, high, b, c, d, t)
-    go (FencedCodeLeaf fence) =
+    go (FencedCodeLeaf fence) few =
         let d = code-count text fence.indented first.past (fenced_lines fence more) (past_of first more) (before-fed (closes_fence fence) first.past more (past_of first more) f) in
         let t = texts-count (code_pieces text fence.indented (fenced_lines fence more)) Nil in
         omega (arith, low, some, high, d, t)
-    go (HtmlBlockLeaf kind) =
+    go (HtmlBlockLeaf kind) few =
         let b = verbatim-count text first.columns first in
         let c = html_then-count (verbatim_line text first.columns first) (html_tokens text more) in
         let d = html-count text first.past more (past_of first more) f in
         omega (arith, low, some, high, b, c, d)
-    go (LinkDefinitionLeaf definition) = omega (arith, low, some, high, up)
-    go (MetadataBlockLeaf kind) =
+    go (LinkDefinitionLeaf definition) few = omega (arith, low, some, high, up)
+    go (MetadataBlockLeaf kind) few =
         let d = code-count text 0 first.past (lines_before (ends_metadata kind) more) (past_of first more) (before-fed (ends_metadata kind) first.past more (past_of first more) f) in
         let t = texts-count (code_pieces text 0 (lines_before (ends_metadata kind) more)) Nil in
         omega (arith, low, some, high, d, t)
+    go (TableLeaf alignments) few =
+        let w = words-places from first s.0 in
+        let c = row_cells-count text (length alignments) first in
+        let d = rest-count text (length alignments) first.past more (past_of first more) f in
+        let none : count_missing (length alignments) first ≡ 0 = few.0 in
+        let most : filled (length alignments) (drop 1 more) ≤ 262144 = few.1 in
+        omega (arith, low, some, high, up, w, c, d, none, most)
 
 item-count : (joins : Bool) (number : Option ℕ) (tight : Bool) (item : BlockNode) (inside after : BlockDocument) → count_nodes (item_then joins number tight item inside after) ≤ 2 + (count_nodes inside + count_nodes after)
 item-count false number tight item inside after = omega arith
 item-count true number tight item inside Nil = omega arith
 item-count true number tight item inside (Node list items after) = omega arith
+
+-- the first node is no table
+abbrev NoTableFirst : BlockDocument → Type 0
+NoTableFirst Nil = Unit {0}
+NoTableFirst (Node node inside after) = count_table node.kind ≡ 0
+
+item-tables : (joins : Bool) (number : Option ℕ) (tight : Bool) (item : BlockNode) (inside after : BlockDocument) → count_table item.kind ≡ 0 → (joins ≡ true → NoTableFirst after) → count_tables (item_then joins number tight item inside after) ≡ count_tables inside + count_tables after
+item-tables false number tight item inside after e f = omega (arith, e)
+item-tables true number tight item inside Nil e f = omega (arith, e)
+item-tables true number tight item inside (Node list items after) e f = let n : count_table list.kind ≡ 0 = f refl in omega (arith, e, n)
+
+-- texts hold no table
+texts-tables : (ps : List Piece) (after : BlockDocument) → count_tables (texts_then ps after) ≡ count_tables after
+texts-tables [] after = refl
+texts-tables (p ∷ ps) after = let k = kind p.owned in let ih = texts-tables ps after in omega (arith, k, ih)
+  where
+    kind : (z : Bool) → count_table (if z then OwnedText p.bytes else Text p.bytes) ≡ 0
+    kind true = refl
+    kind false = refl
+
+html_then-tables : (ps : List Piece) (after : BlockDocument) → count_tables (html_then ps after) ≡ count_tables after
+html_then-tables [] after = refl
+html_then-tables (p ∷ ps) after = let k = kind p.owned in let ih = html_then-tables ps after in omega (arith, k, ih)
+  where
+    kind : (z : Bool) → count_table (if z then OwnedText p.bytes else Html p.bytes) ≡ 0
+    kind true = refl
+    kind false = refl
+
+html-tables : (text : List ℕ) (rs : List Row) → count_tables (html_tokens text rs) ≡ 0
+html-tables text [] = refl
+html-tables text (r ∷ rs) = html_then-tables (verbatim_line text r.columns r) (html_tokens text rs) ∙ html-tables text rs
+
+stretch-tables : (text : List ℕ) (start end : ℕ) (after : BlockDocument) → count_tables (stretch_then text start end after) ≡ count_tables after
+stretch-tables text start end after = texts-tables (piece_if text start end []) after
+
+stretches-tables : (text : List ℕ) (begin : ℕ) (r : Row) (more : List Row) → count_tables (stretches text begin r more) ≡ 0
+stretches-tables text begin r [] = stretch-tables text begin (words_end r) Nil
+stretches-tables text begin r (s ∷ more) = go (begin_of s == r.past) (stretches-tables text begin s more) (stretches-tables text (begin_of s) s more)
+  where
+    go : (z : Bool) → count_tables (stretches text begin s more) ≡ 0 → count_tables (stretches text (begin_of s) s more) ≡ 0 → count_tables (if z then stretches text begin s more else stretch_then text begin r.past (stretches text (begin_of s) s more)) ≡ 0
+    go true p q = p
+    go false p q = stretch-tables text begin r.past (stretches text (begin_of s) s more) ∙ q
+
+cells-tables : (text : List ℕ) (columns at past : ℕ) (cells : List (List ℕ)) → count_tables (cells_then text columns at past cells) ≡ 0
+cells-tables text zero at past cells = refl
+cells-tables text (suc columns) at past [] = let ih = cells-tables text columns at past [] in omega (arith, ih)
+cells-tables text (suc columns) at past (cell ∷ cells) =
+    let c = stretch-tables text (at + length (take_while is_blank_byte cell)) (at + length (drop_end is_blank_byte cell)) Nil in
+    let ih = cells-tables text columns (suc (at + length cell)) past cells in
+    omega (arith, c, ih)
+
+rows-tables : (text : List ℕ) (columns : ℕ) (rs : List Row) → count_tables (row_tokens text columns rs) ≡ 0
+rows-tables text columns [] = refl
+rows-tables text columns (r ∷ rs) =
+    let c = cells-tables text columns (cells_start r) r.past (cells_of (words_of r)) in
+    let ih = rows-tables text columns rs in
+    omega (arith, c, ih)
+
+leaf-tables : (text : List ℕ) (options : Options) (lookup : Lookup) (leaf : Leaf) (first : Row) (more : List Row) (after : BlockDocument) → count_tables (leaf_then text options lookup leaf first more after) ≡ is_table leaf + count_tables after
+leaf-tables text options lookup ThematicBreakLeaf first more after = omega arith
+leaf-tables text options lookup (AtxHeadingLeaf level) first more after =
+    let c = stretch-tables text (first_place first.stop (behind_hashes level first)) (end_place (first_place first.stop (behind_hashes level first)) (heading_columns options.heading_attributes level first)) Nil in omega (arith, c)
+leaf-tables text options lookup IndentedCodeLeaf first more after = let c = texts-tables (code_pieces text 4 (first ∷ more)) Nil in omega (arith, c)
+leaf-tables text options lookup (FencedCodeLeaf fence) first more after = let c = texts-tables (code_pieces text fence.indented (fenced_lines fence more)) Nil in omega (arith, c)
+leaf-tables text options lookup (HtmlBlockLeaf kind) first more after = let c = html-tables text (first ∷ more) in omega (arith, c)
+leaf-tables text options lookup (LinkDefinitionLeaf definition) first more after = omega arith
+leaf-tables text options lookup (MetadataBlockLeaf kind) first more after = let c = texts-tables (code_pieces text 0 (lines_before (ends_metadata kind) more)) Nil in omega (arith, c)
+leaf-tables text options lookup (TableLeaf alignments) first more after =
+    let c = cells-tables text (length alignments) (cells_start first) first.past (cells_of (words_of first)) in
+    let d = rows-tables text (length alignments) (drop 1 more) in
+    omega (arith, c, d)
+
+is_table-few : (leaf : Leaf) → is_table leaf ≤ 1
+is_table-few ThematicBreakLeaf = omega arith
+is_table-few (AtxHeadingLeaf level) = omega arith
+is_table-few IndentedCodeLeaf = omega arith
+is_table-few (FencedCodeLeaf fence) = omega arith
+is_table-few (HtmlBlockLeaf kind) = omega arith
+is_table-few (LinkDefinitionLeaf definition) = omega arith
+is_table-few (MetadataBlockLeaf kind) = omega arith
+is_table-few (TableLeaf alignments) = omega arith
 
 module _ (text : List ℕ) (options : Options) (lookup : Lookup) where
   begun-words : (behind : Place) (r : Row) (ahead : List Row) → MayBegin options behind r → opens_at options behind r ahead ≡ Plain → is_blank_line r ≡ false
@@ -348,7 +463,28 @@ module _ (text : List ℕ) (options : Options) (lookup : Lookup) where
       go true = fed-lower (suc from) first.past (strips k (is_bare_start k first) more) to past others
       go false = (begins, subst (λ p. Fed p (strips k (is_bare_start k first) more) to) (sym (enter-past k first)) others)
 
-  pub document-count : (direct : Bool) (before : Option ListBefore) (behind : Place) (from : ℕ) (all : List Row) (b : Blocks) (to : ℕ) → Body options behind all b → FedBehind from all to → 4 * from + count_nodes (document_of text options lookup direct before b) ≤ 4 * to
+  paragraph-table : (direct : Bool) → count_table (paragraph_kind direct) ≡ 0
+  paragraph-table true = refl
+  paragraph-table false = refl
+
+  -- a list that goes on is no table
+  list-first : (direct : Bool) (before : Option ListBefore) (mark : ℕ) (b : Blocks) → goes_on mark b ≡ true → NoTableFirst (document_of text options lookup direct before b)
+  list-first direct before mark NoBlocks e = tt
+  list-first direct before mark (BlankLine line after) e = list-first direct before mark after e
+  list-first direct before mark (ParagraphBlock first more after) e = absurd (true≢false (sym e))
+  list-first direct before mark (SetextHeading level first more underline after) e = absurd (true≢false (sym e))
+  list-first direct before mark (LeafBlock leaf first more after) e = absurd (true≢false (sym e))
+  list-first direct before mark (ContainerBlock (Quote alert) first more inside after) e = absurd (true≢false (sym e))
+  list-first direct before mark (ContainerBlock (Footnote label old size) first more inside after) e = absurd (true≢false (sym e))
+  list-first direct before mark (ContainerBlock (Item m number width) first more inside after) e =
+      go (goes_on m after) (document_of text options lookup direct (Some (record { mark = m; tight = tight_behind before m inside after })) after)
+    where
+      go : (joins : Bool) (d : BlockDocument) → NoTableFirst (item_then joins number (tight_behind before m inside after) (node ListItem (begin_of first) (past_of first more)) (document_of text options lookup (tight_behind before m inside after) None inside) d)
+      go false d = refl
+      go true Nil = refl
+      go true (Node list items rest) = refl
+
+  pub document-count : (direct : Bool) (before : Option ListBefore) (behind : Place) (from : ℕ) (all : List Row) (b : Blocks) (to : ℕ) → Body options behind all b → FedBehind from all to → 4 * from + count_nodes (document_of text options lookup direct before b) ≤ 4 * to + 262144 * count_tables (document_of text options lookup direct before b)
   document-count direct before behind from all NoBlocks to body f = let l : from ≤ to = subst (λ ls. FedBehind from ls to) body f in omega (arith, l)
   document-count direct before behind from all (BlankLine line after) to body f =
       let c : FedBehind from (line ∷ body.rest) to = subst (λ ls. FedBehind from ls to) body.cut f in
@@ -364,9 +500,11 @@ module _ (text : List ℕ) (options : Options) (lookup : Lookup) where
       let b = words-stop from first c.0 (begun-words behind first _ body.begun body.opened) in
       let d : first.stop ≤ first.past = c.0.0.2 in
       let p = paragraph-count text from first more c.0.0 s.0 in
+      let t = stretches-tables text (start_of first) first more in
       let u = fed-le first.past more (past_of first more) s.0 in
       let ih = document-count direct None BehindTitle (past_of first more) body.rest after to body.after (fed-behind (past_of first more) body.rest to s.1) in
-      omega (arith, a, b, d, p, u, ih)
+      let k = paragraph-table direct in
+      omega (arith, a, b, d, p, t, u, ih, k)
   document-count direct before behind from all (SetextHeading level first more underline after) to body f =
       let c : FedBehind from (first ∷ (more ++ (underline ∷ body.rest))) to = subst (λ ls. FedBehind from ls to) body.cut f in
       let s = fed-split first more (underline ∷ body.rest) to c.1 in
@@ -374,18 +512,20 @@ module _ (text : List ℕ) (options : Options) (lookup : Lookup) where
       let b = words-stop from first c.0 (begun-words behind first _ body.begun body.opened) in
       let d : first.stop ≤ first.past = c.0.0.2 in
       let p = paragraph-count text from first more c.0.0 s.0 in
+      let t = stretches-tables text (start_of first) first more in
       let u = fed-le first.past more (past_of first more) s.0 in
       let g : past_of first more < underline.past = s.1.0 in
       let ih = document-count direct None Apart underline.past body.rest after to body.after (fed-behind underline.past body.rest to s.1.2) in
-      omega (arith, a, b, d, p, u, g, ih)
+      omega (arith, a, b, d, p, t, u, g, ih)
   document-count direct before behind from all (LeafBlock leaf first more after) to body f =
       let c : FedBehind from (first ∷ (more ++ body.rest)) to = subst (λ ls. FedBehind from ls to) body.cut f in
       let s = fed-split first more body.rest to c.1 in
       let w : first.lazy ≡ false = at-whole options behind first _ (λ p. let q : Takes leaf (length more) ≡ Plain = sym body.opened ∙ p in cc) in
       let e : is_blank_line first ≡ false = at-words options behind first _ w (λ p. let q : Takes leaf (length more) ≡ Blank = sym body.opened ∙ p in cc) in
-      let l = leaf-count text options lookup from leaf first more (document_of text options lookup direct None after) c.0 e s.0 in
+      let l = leaf-count text options lookup from leaf first more (document_of text options lookup direct None after) c.0 e s.0 (opened-filled options first body.rest leaf more (at-takes options behind first _ leaf (length more) body.opened)) in
+      let t = leaf-tables text options lookup leaf first more (document_of text options lookup direct None after) in
       let ih = document-count direct None (behind_leaf leaf) (past_of first more) body.rest after to body.after (fed-behind (past_of first more) body.rest to s.1) in
-      omega (arith, l, ih)
+      omega (arith, l, t, ih)
   document-count direct before behind from all (ContainerBlock (Quote alert) first more inside after) to body f =
       let c : FedBehind from (first ∷ (more ++ body.rest)) to = subst (λ ls. FedBehind from ls to) body.cut f in
       let s = fed-split first more body.rest to c.1 in
@@ -405,7 +545,74 @@ module _ (text : List ℕ) (options : Options) (lookup : Lookup) where
       let i = document-count tight None Apart (suc from) (insides (Item mark number width) first more) inside (past_of first more) body.contents (insides-fed (Item mark number width) from first more _ (past_of first more) (at-nests options behind first _ _ body.opened) c.0 s.0) in
       let ih = document-count direct (Some (record { mark = mark; tight = tight })) Apart (past_of first more) body.rest after to body.after (fed-behind (past_of first more) body.rest to s.1) in
       let n = item-count (goes_on mark after) number tight (node ListItem (begin_of first) (past_of first more)) (document_of text options lookup tight None inside) (document_of text options lookup direct (Some (record { mark = mark; tight = tight })) after) in
-      omega (arith, i, ih, n)
+      let t = item-tables (goes_on mark after) number tight (node ListItem (begin_of first) (past_of first more)) (document_of text options lookup tight None inside) (document_of text options lookup direct (Some (record { mark = mark; tight = tight })) after) refl (λ g. list-first direct (Some (record { mark = mark; tight = tight })) mark after g) in
+      omega (arith, i, ih, n, t)
+
+  -- a table takes a byte
+  pub document-tables : (direct : Bool) (before : Option ListBefore) (behind : Place) (from : ℕ) (all : List Row) (b : Blocks) (to : ℕ) → Body options behind all b → FedBehind from all to → from + count_tables (document_of text options lookup direct before b) ≤ to
+  document-tables direct before behind from all NoBlocks to body f = let l : from ≤ to = subst (λ ls. FedBehind from ls to) body f in omega (arith, l)
+  document-tables direct before behind from all (BlankLine line after) to body f =
+      let c : FedBehind from (line ∷ body.rest) to = subst (λ ls. FedBehind from ls to) body.cut f in
+      let a = from-start from line c.0.0 in
+      let b = start-stop from line c.0.0 in
+      let d : line.stop ≤ line.past = c.0.0.2 in
+      let ih = document-tables direct before (over_blank behind) line.past body.rest after to body.after (fed-behind line.past body.rest to c.1) in
+      omega (arith, a, b, d, ih)
+  document-tables direct before behind from all (ParagraphBlock first more after) to body f =
+      let c : FedBehind from (first ∷ (more ++ body.rest)) to = subst (λ ls. FedBehind from ls to) body.cut f in
+      let s = fed-split first more body.rest to c.1 in
+      let a = from-start from first c.0.0 in
+      let b = start-stop from first c.0.0 in
+      let d : first.stop ≤ first.past = c.0.0.2 in
+      let t = stretches-tables text (start_of first) first more in
+      let u = fed-le first.past more (past_of first more) s.0 in
+      let ih = document-tables direct None BehindTitle (past_of first more) body.rest after to body.after (fed-behind (past_of first more) body.rest to s.1) in
+      let k = paragraph-table direct in
+      omega (arith, a, b, d, t, u, ih, k)
+  document-tables direct before behind from all (SetextHeading level first more underline after) to body f =
+      let c : FedBehind from (first ∷ (more ++ (underline ∷ body.rest))) to = subst (λ ls. FedBehind from ls to) body.cut f in
+      let s = fed-split first more (underline ∷ body.rest) to c.1 in
+      let a = from-start from first c.0.0 in
+      let b = start-stop from first c.0.0 in
+      let d : first.stop ≤ first.past = c.0.0.2 in
+      let t = stretches-tables text (start_of first) first more in
+      let u = fed-le first.past more (past_of first more) s.0 in
+      let g : past_of first more < underline.past = s.1.0 in
+      let ih = document-tables direct None Apart underline.past body.rest after to body.after (fed-behind underline.past body.rest to s.1.2) in
+      omega (arith, a, b, d, t, u, g, ih)
+  document-tables direct before behind from all (LeafBlock leaf first more after) to body f =
+      let c : FedBehind from (first ∷ (more ++ body.rest)) to = subst (λ ls. FedBehind from ls to) body.cut f in
+      let s = fed-split first more body.rest to c.1 in
+      let w : first.lazy ≡ false = at-whole options behind first _ (λ p. let q : Takes leaf (length more) ≡ Plain = sym body.opened ∙ p in cc) in
+      let e : is_blank_line first ≡ false = at-words options behind first _ w (λ p. let q : Takes leaf (length more) ≡ Blank = sym body.opened ∙ p in cc) in
+      let a = from-start from first c.0.0 in
+      let b = words-stop from first c.0 e in
+      let d : first.stop ≤ first.past = c.0.0.2 in
+      let u = fed-le first.past more (past_of first more) s.0 in
+      let t = leaf-tables text options lookup leaf first more (document_of text options lookup direct None after) in
+      let k = is_table-few leaf in
+      let ih = document-tables direct None (behind_leaf leaf) (past_of first more) body.rest after to body.after (fed-behind (past_of first more) body.rest to s.1) in
+      omega (arith, a, b, d, u, t, k, ih)
+  document-tables direct before behind from all (ContainerBlock (Quote alert) first more inside after) to body f =
+      let c : FedBehind from (first ∷ (more ++ body.rest)) to = subst (λ ls. FedBehind from ls to) body.cut f in
+      let s = fed-split first more body.rest to c.1 in
+      let i = document-tables false None (place_in (Quote alert)) (suc from) (insides (Quote alert) first more) inside (past_of first more) body.contents (insides-fed (Quote alert) from first more _ (past_of first more) (at-nests options behind first _ _ body.opened) c.0 s.0) in
+      let ih = document-tables direct None Apart (past_of first more) body.rest after to body.after (fed-behind (past_of first more) body.rest to s.1) in
+      omega (arith, i, ih)
+  document-tables direct before behind from all (ContainerBlock (Footnote label old size) first more inside after) to body f =
+      let c : FedBehind from (first ∷ (more ++ body.rest)) to = subst (λ ls. FedBehind from ls to) body.cut f in
+      let s = fed-split first more body.rest to c.1 in
+      let i = document-tables false None (place_in (Footnote label old size)) (suc from) (insides (Footnote label old size) first more) inside (past_of first more) body.contents (insides-fed (Footnote label old size) from first more _ (past_of first more) (at-nests options behind first _ _ body.opened) c.0 s.0) in
+      let ih = document-tables direct None Apart (past_of first more) body.rest after to body.after (fed-behind (past_of first more) body.rest to s.1) in
+      omega (arith, i, ih)
+  document-tables direct before behind from all (ContainerBlock (Item mark number width) first more inside after) to body f =
+      let c : FedBehind from (first ∷ (more ++ body.rest)) to = subst (λ ls. FedBehind from ls to) body.cut f in
+      let s = fed-split first more body.rest to c.1 in
+      let tight = tight_behind before mark inside after in
+      let i = document-tables tight None Apart (suc from) (insides (Item mark number width) first more) inside (past_of first more) body.contents (insides-fed (Item mark number width) from first more _ (past_of first more) (at-nests options behind first _ _ body.opened) c.0 s.0) in
+      let ih = document-tables direct (Some (record { mark = mark; tight = tight })) Apart (past_of first more) body.rest after to body.after (fed-behind (past_of first more) body.rest to s.1) in
+      let t = item-tables (goes_on mark after) number tight (node ListItem (begin_of first) (past_of first more)) (document_of text options lookup tight None inside) (document_of text options lookup direct (Some (record { mark = mark; tight = tight })) after) refl (λ g. list-first direct (Some (record { mark = mark; tight = tight })) mark after g) in
+      omega (arith, i, ih, t)
 
 -- each line of a text has a byte
 abbrev Full : List (List ℕ) → Type 0
@@ -428,8 +635,12 @@ rows-fed : (at : ℕ) (ls : List (List ℕ)) (to : ℕ) → Full ls → Along at
 rows-fed at [] to f a = a
 rows-fed at (l ∷ ls) to f a = (let n : 0 < length l = f.0 in omega (arith, n), (a.0, expand-tabs 0 at (content l)), rows-fed (at + length l) ls to f.1 a.1)
 
-pub derived-count : (text : List ℕ) (options : Options) (lookup : Lookup) (d : BlockDocument) → Derives text options lookup d → count_nodes d ≤ 4 * length text
+pub derived-count : (text : List ℕ) (options : Options) (lookup : Lookup) (d : BlockDocument) → Derives text options lookup d → count_nodes d ≤ 4 * length text + 262144 * count_tables d
 derived-count text options lookup d h =
-    let c = document-count text options lookup false None Apart 0 (rows text) h.0 (length text) h.1 (fed-behind 0 (rows text) (length text) (rows-fed 0 (lines text) (length text) (lines-full text) (text-Along text))) in
-    let e = ap count_nodes h.2 in
-    omega (arith, c, e)
+    subst (λ x. count_nodes x ≤ 4 * length text + 262144 * count_tables x) (sym h.2)
+    (let c = document-count text options lookup false None Apart 0 (rows text) h.0 (length text) h.1 (fed-behind 0 (rows text) (length text) (rows-fed 0 (lines text) (length text) (lines-full text) (text-Along text))) in omega (arith, c))
+
+pub derived-tables : (text : List ℕ) (options : Options) (lookup : Lookup) (d : BlockDocument) → Derives text options lookup d → count_tables d ≤ length text
+derived-tables text options lookup d h =
+    subst (λ x. count_tables x ≤ length text) (sym h.2)
+    (let c = document-tables text options lookup false None Apart 0 (rows text) h.0 (length text) h.1 (fed-behind 0 (rows text) (length text) (rows-fed 0 (lines text) (length text) (lines-full text) (text-Along text))) in omega (arith, c))

@@ -8,7 +8,7 @@ use Rattle.cmark_grammar.specs.Attributes.{no_attributes}
 use Rattle.cmark_grammar.specs.Rows.{Row, start_of, past_of, begin_of}
 use Rattle.cmark_grammar.specs.Containers.{Quote, Item, Footnote}
 use Rattle.cmark_grammar.specs.Labels.{normal_form}
-use Rattle.cmark_grammar.specs.Openings.{Leaf, ThematicBreak as ThematicBreakLeaf, AtxHeading as AtxHeadingLeaf, IndentedCode as IndentedCodeLeaf, FencedCode as FencedCodeLeaf, HtmlBlock as HtmlBlockLeaf, LinkDefinition as LinkDefinitionLeaf, MetadataBlock as MetadataBlockLeaf}
+use Rattle.cmark_grammar.specs.Openings.{Leaf, ThematicBreak as ThematicBreakLeaf, AtxHeading as AtxHeadingLeaf, IndentedCode as IndentedCodeLeaf, FencedCode as FencedCodeLeaf, HtmlBlock as HtmlBlockLeaf, LinkDefinition as LinkDefinitionLeaf, MetadataBlock as MetadataBlockLeaf, Table as TableLeaf}
 use Rattle.cmark_grammar.specs.Blocks.{Blocks, Nil as NoBlocks, BlankLine, Paragraph as ParagraphBlock, SetextHeading, LeafBlock, ContainerBlock, join as join_blocks}
 use Rattle.cmark_grammar.specs.Lists.{ListBefore, ends_blank, is_parted_item, loose_from, is_tight, tight_behind, goes_on}
 use Rattle.cmark_grammar.specs.Tokens.{paragraph_tokens}
@@ -90,6 +90,7 @@ leaf-join text options lookup (FencedCodeLeaf fence) first more a b = refl
 leaf-join text options lookup (HtmlBlockLeaf kind) first more a b = refl
 leaf-join text options lookup (LinkDefinitionLeaf definition) first more a b = refl
 leaf-join text options lookup (MetadataBlockLeaf kind) first more a b = refl
+leaf-join text options lookup (TableLeaf alignments) first more a b = refl
 
 module _ (text : List ℕ) (options : Options) (lookup : Lookup) where
   -- a list that does not go on is as good as none

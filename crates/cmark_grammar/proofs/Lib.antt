@@ -33,7 +33,10 @@ pub mod ShorterRests
 pub mod SliceLaws
 pub mod SpanEntries
 pub mod SpanPlaces
+pub mod TableCounts
+pub mod TableRanges
 mod TableSamples
+mod TableDocumentSamples
 pub mod TagSamples
 pub mod TaskSamples
 pub mod TightLaws

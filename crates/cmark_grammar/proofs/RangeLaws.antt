@@ -7,7 +7,7 @@ use Rattle.cmark_grammar.specs.Columns.{indent}
 use Rattle.cmark_grammar.specs.Rows.{Row, rows, first_place, begin_of, start_of, past_of}
 use Rattle.cmark_grammar.specs.BlockQuoteKind.{BlockQuoteKind}
 use Rattle.cmark_grammar.specs.Containers.{Container, Quote, Item, Footnote, is_alert, unless_tag, enter, quote_width, footnote_width, one_blank, strips, is_bare_start, insides}
-use Rattle.cmark_grammar.specs.Openings.{Leaf, ThematicBreak as ThematicBreakLeaf, AtxHeading as AtxHeadingLeaf, IndentedCode as IndentedCodeLeaf, FencedCode as FencedCodeLeaf, HtmlBlock as HtmlBlockLeaf, LinkDefinition as LinkDefinitionLeaf, MetadataBlock as MetadataBlockLeaf}
+use Rattle.cmark_grammar.specs.Openings.{Leaf, ThematicBreak as ThematicBreakLeaf, AtxHeading as AtxHeadingLeaf, IndentedCode as IndentedCodeLeaf, FencedCode as FencedCodeLeaf, HtmlBlock as HtmlBlockLeaf, LinkDefinition as LinkDefinitionLeaf, MetadataBlock as MetadataBlockLeaf, Table as TableLeaf}
 use Rattle.cmark_grammar.specs.Blocks.{Blocks, Nil as NoBlocks, BlankLine, Paragraph as ParagraphBlock, SetextHeading, LeafBlock, ContainerBlock, behind_leaf, place_in, Body}
 use Rattle.cmark_grammar.specs.Lists.{ListBefore, tight_behind, goes_on}
 use Rattle.cmark_grammar.specs.Tokens.{fenced_lines, paragraph_tokens, code_tokens, code_columns, lines_before}
@@ -16,6 +16,8 @@ use Rattle.cmark_grammar.specs.Derivation.{leaf_then, item_then, document_of, De
 use Rattle.cmark_grammar.specs.Ranges.{InOrder}
 use Rattle.cmark_grammar.specs.Metadata.{ends_metadata}
 use Rattle.cmark_grammar.specs.Leaves.{closes_fence}
+use Rattle.cmark_grammar.proofs.TableRanges.{row_cells-order, row_tokens-order}
+use Rattle.cmark_grammar.specs.TableTokens.{row_tokens}
 use Rattle.cmark_grammar.proofs.RowPlaces.{drop-mono, Lies, begin-start, start-stop, Lies-without, Along, Along-split, Along-le, strips-Along, text-Along}
 use Rattle.cmark_grammar.proofs.TokenRanges.{InOrder-lower, InOrder-upper, paragraph-order, heading-order, code-order, code_place, indented-order, before-Along, html-order}
 
@@ -57,6 +59,15 @@ leaf-order text options lookup from (MetadataBlockLeaf kind) first more after to
       (code-order text 0 first.past (lines_before (ends_metadata kind) more) (past_of first more) (before-Along (ends_metadata kind) first.past more (past_of first more) a)),
   o,
 )
+
+leaf-order text options lookup from (TableLeaf alignments) first more after to h a o =
+    (from-start from first h, (omega arith, row_cells-order text (length alignments) from first h, rows more a), o)
+  where
+    rows : (rs : List Row) → Along first.past rs (past_of first more) → InOrder first.past (row_tokens text (length alignments) (drop 1 rs)) (past_of first more)
+    rows [] b = b
+    rows (r ∷ rs) b =
+        InOrder-lower first.past r.past (row_tokens text (length alignments) rs) (past_of first more) (let s = from-start first.past r b.0 in let p = start-past first.past r b.0 in omega (arith, s, p))
+        (row_tokens-order text (length alignments) r.past rs (past_of first more) from-start b.1)
 
 item-order : (from : ℕ) (joins : Bool) (number : Option ℕ) (tight : Bool) (item : BlockNode) (inside after : BlockDocument) (to : ℕ) → from ≤ item.start → InOrder item.start inside item.end → InOrder item.end after to → InOrder from (item_then joins number tight item inside after) to
 item-order from false number tight item inside after to a i o = (a, (omega arith, i, omega arith), o)

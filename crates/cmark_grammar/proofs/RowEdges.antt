@@ -12,7 +12,9 @@ use Rattle.cmark_grammar.specs.Metadata.{metadata_kind, metadata_further, holds_
 use Rattle.cmark_grammar.specs.MetadataBlockKind.{MetadataBlockKind}
 use Rattle.cmark_grammar.specs.BlockQuoteKind.{BlockQuoteKind}
 use Rattle.cmark_grammar.specs.Containers.{Container, Quote, Item, Footnote, Marker, is_bullet, is_digit, is_delimiter, digits, number_of, delimited, marker_of, behind_marker, padding, width_with, item_with, item_of, begins_with, is_quote, one_blank, quote_width, container_with, container_of, width_of, enter, keep_as, keeps, strip_as, strip, strips}
-use Rattle.cmark_grammar.specs.Openings.{Leaf, ThematicBreak, AtxHeading, IndentedCode, FencedCode, HtmlBlock, LinkDefinition, MetadataBlock, Opening, Blank, Nests, Takes, Plain, or_else, nests_if, fenced_if, metadata_begun, html_if, break_if, heading_if, text_lines, defined_if, definition_of, leaf_of, whole_opens, opens}
+use Rattle.cmark_grammar.specs.Openings.{Leaf, ThematicBreak, AtxHeading, IndentedCode, FencedCode, HtmlBlock, LinkDefinition, MetadataBlock, Opening, Blank, Nests, Takes, Plain, or_else, nests_if, fenced_if, metadata_begun, html_if, break_if, heading_if, text_lines, defined_if, definition_of, leaf_of, whole_opens, opens, Table, table_if, text_of}
+use Rattle.cmark_grammar.specs.Alignment.{Alignment}
+use Rattle.cmark_grammar.specs.TableRows.{table_head}
 use Rattle.cmark_grammar.proofs.RowPlaces.{Runs, first_place-Runs, drop-Runs}
 
 -- what holds of the first n elements, as far as there are any
@@ -240,6 +242,7 @@ module _ (E : ℕ → Type 0) where
   LeafFront r (HtmlBlock kind) = Unit {0}
   LeafFront r (LinkDefinition definition) = Unit {0}
   LeafFront r (MetadataBlock kind) = Unit {0}
+  LeafFront r (Table alignments) = Unit {0}
 
   abbrev OpeningFront : Row → Opening → Type 0
   OpeningFront r Blank = Unit {0}
@@ -281,13 +284,22 @@ module _ (E : ℕ → Type 0) where
   front_defined r lines (Some found) = tt
   front_defined r lines None = tt
 
+  front_table : (options : Options) (r : Row) (o : Option (List Alignment)) (ahead : List Row) → OpeningFront r (table_if options o ahead)
+  front_table options r (Some alignments) ahead = tt
+  front_table options r None ahead = tt
+
+  front_text : (options : Options) (r : Row) (ahead : List Row) → OpeningFront r (text_of options r ahead)
+  front_text options r ahead =
+      front_or r (definition_of options r ahead) (table_if options (table_head options r ahead) ahead)
+      (front_defined r (length (text_lines options ahead)) (definition_in (bytes_over r (text_lines options ahead)))) (front_table options r (table_head options r ahead) ahead)
+
   front_leaf : (options : Options) (r : Row) (ahead : List Row) → GoodRow r → OpeningFront r (leaf_of options r ahead)
   front_leaf options r ahead g =
       front_or r (html_if r ahead (html_kind (words_of r))) _ (front_html r ahead (html_kind (words_of r)))
       (front_or r (break_if (is_thematic_break (words_of r))) _ (front_break r (is_thematic_break (words_of r)))
       (front_or r (heading_if (is_atx_heading (words_of r)) (run 35 (words_of r))) _ (front_heading r (is_atx_heading (words_of r)) g)
-      (front_or r (fenced_if (fence_of (indent_of r) (words_of r)) ahead) (definition_of options r ahead) (front_fenced r (fence_of (indent_of r) (words_of r)) ahead)
-      (front_defined r (length (text_lines options ahead)) (definition_in (bytes_over r (text_lines options ahead)))))))
+      (front_or r (fenced_if (fence_of (indent_of r) (words_of r)) ahead) (text_of options r ahead) (front_fenced r (fence_of (indent_of r) (words_of r)) ahead)
+      (front_text options r ahead))))
 
   front_metadata : (r : Row) (o : Option MetadataBlockKind) (ahead : List Row) → OpeningFront r (metadata_begun o ahead)
   front_metadata r None ahead = tt

@@ -1,12 +1,12 @@
 -- Texts that are not owned are the bytes of their ranges.
-use Rattle.std.proofs.Common.{◌≡◌, ℕ, zero, suc, ◌+◌, ◌-◌, ◌≤◌, ◌<◌, Bool, true, false, ◌==◌, ◌&&◌, not, List, [], ◌∷◌, ◌++◌, drop, take, refl, sym, ap, ◌∙◌, subst, arith, Option, Some, None, true≢false, drop-drop, take-add}
+use Rattle.std.proofs.Common.{◌≡◌, ℕ, zero, suc, ◌+◌, ◌-◌, ◌≤◌, ◌<◌, Bool, true, false, ◌==◌, ◌&&◌, not, List, [], ◌∷◌, ◌++◌, length, drop, take, take_while, refl, sym, ap, ◌∙◌, subst, arith, Option, Some, None, true≢false, drop-drop, take-add}
 use Rattle.std.specs.Prelude.{if◌then◌else◌, nat_lt}
 use Rattle.cmark_grammar.specs.Answers.{Lookup}
 use Rattle.cmark_grammar.specs.Options.{Options}
-use Rattle.cmark_grammar.specs.Columns.{Column}
-use Rattle.cmark_grammar.specs.Rows.{Row, first_place, begin_of, start_of}
+use Rattle.cmark_grammar.specs.Columns.{Column, is_blank_byte, drop_end}
+use Rattle.cmark_grammar.specs.Rows.{Row, first_place, begin_of, start_of, words_of}
 use Rattle.cmark_grammar.specs.Containers.{Quote, Item, Footnote}
-use Rattle.cmark_grammar.specs.Openings.{Leaf, ThematicBreak as ThematicBreakLeaf, AtxHeading as AtxHeadingLeaf, IndentedCode as IndentedCodeLeaf, FencedCode as FencedCodeLeaf, HtmlBlock as HtmlBlockLeaf, LinkDefinition as LinkDefinitionLeaf, MetadataBlock as MetadataBlockLeaf}
+use Rattle.cmark_grammar.specs.Openings.{Leaf, ThematicBreak as ThematicBreakLeaf, AtxHeading as AtxHeadingLeaf, IndentedCode as IndentedCodeLeaf, FencedCode as FencedCodeLeaf, HtmlBlock as HtmlBlockLeaf, LinkDefinition as LinkDefinitionLeaf, MetadataBlock as MetadataBlockLeaf, Table as TableLeaf}
 use Rattle.cmark_grammar.specs.Blocks.{Blocks, Nil as NoBlocks, BlankLine, Paragraph as ParagraphBlock, SetextHeading, LeafBlock, ContainerBlock}
 use Rattle.cmark_grammar.specs.Lists.{ListBefore, tight_behind, goes_on}
 use Rattle.cmark_grammar.specs.BlockDocument.{Text, OwnedText, Html, ListItem, BlockNode, BlockDocument, Nil, Node, node}
@@ -14,6 +14,8 @@ use Rattle.cmark_grammar.specs.Derivation.{leaf_then, item_then, paragraph_kind,
 use Rattle.cmark_grammar.specs.Ranges.{IsSlice, HasSlices}
 use Rattle.cmark_grammar.specs.Tokens.{slice, Piece, texts_then, end_place, words_end, stretch_then, stretches, paragraph_tokens, behind_hashes, heading_columns, piece_if, plain_line, left_columns, spaces_if, verbatim_line, touches, merge, merge_all, code_columns, code_pieces, fenced_lines, html_then, html_tokens, lines_before}
 use Rattle.cmark_grammar.specs.Metadata.{ends_metadata}
+use Rattle.cmark_grammar.specs.TableRows.{cells_start, cells_of}
+use Rattle.cmark_grammar.specs.TableTokens.{cells_then, row_cells, row_tokens}
 
 both : (x y : Bool) → (x && y) ≡ true → (x ≡ true) × (y ≡ true)
 both true y e = (refl, e)
@@ -121,6 +123,19 @@ module _ (text : List ℕ) where
   html-sliced [] = tt
   html-sliced (r ∷ rs) = html_then-sliced (verbatim_line text r.columns r) (html_tokens text rs) (verbatim-sliced r.columns r) (html-sliced rs)
 
+  cells-sliced : (columns at past : ℕ) (cells : List (List ℕ)) → HasSlices text (cells_then text columns at past cells)
+  cells-sliced zero at past cells = tt
+  cells-sliced (suc columns) at past [] = (tt, tt, cells-sliced columns at past [])
+  cells-sliced (suc columns) at past (cell ∷ cells) =
+      (tt, stretch-sliced (at + length (take_while is_blank_byte cell)) (at + length (drop_end is_blank_byte cell)) Nil tt, cells-sliced columns (suc (at + length cell)) past cells)
+
+  row-sliced : (columns : ℕ) (r : Row) → HasSlices text (row_cells text columns r)
+  row-sliced columns r = cells-sliced columns (cells_start r) r.past (cells_of (words_of r))
+
+  rows-sliced : (columns : ℕ) (rs : List Row) → HasSlices text (row_tokens text columns rs)
+  rows-sliced columns [] = tt
+  rows-sliced columns (r ∷ rs) = (tt, row-sliced columns r, rows-sliced columns rs)
+
   leaf-sliced : (options : Options) (lookup : Lookup) (leaf : Leaf) (first : Row) (more : List Row) (after : BlockDocument) → HasSlices text after → HasSlices text (leaf_then text options lookup leaf first more after)
   leaf-sliced options lookup ThematicBreakLeaf first more after a = (tt, tt, a)
   leaf-sliced options lookup (AtxHeadingLeaf level) first more after a = (tt, stretch-sliced (first_place first.stop (behind_hashes level first)) (end_place (first_place first.stop (behind_hashes level first)) (heading_columns options.heading_attributes level first)) Nil tt, a)
@@ -129,6 +144,7 @@ module _ (text : List ℕ) where
   leaf-sliced options lookup (HtmlBlockLeaf kind) first more after a = (tt, html-sliced (first ∷ more), a)
   leaf-sliced options lookup (LinkDefinitionLeaf definition) first more after a = (tt, tt, a)
   leaf-sliced options lookup (MetadataBlockLeaf kind) first more after a = (tt, texts-sliced (code_pieces text 0 (lines_before (ends_metadata kind) more)) Nil (code-sliced 0 (lines_before (ends_metadata kind) more)) tt, a)
+  leaf-sliced options lookup (TableLeaf alignments) first more after a = (tt, (tt, row-sliced (length alignments) first, rows-sliced (length alignments) (drop 1 more)), a)
 
   item-sliced : (joins : Bool) (number : Option ℕ) (tight : Bool) (item : BlockNode) (inside after : BlockDocument) → IsSlice text item.kind item.start item.end → HasSlices text inside → HasSlices text after → HasSlices text (item_then joins number tight item inside after)
   item-sliced false number tight item inside after k i a = (tt, (k, i, tt), a)

@@ -1,11 +1,11 @@
 -- Directly in an item of a tight list stands no paragraph of its own.
-use Rattle.std.proofs.Common.{◌≡◌, ℕ, Bool, true, false, ◌==◌, List, [], ◌∷◌, refl, sym, ap, ◌∙◌, subst, Option, Some, None, true≢false, arith}
+use Rattle.std.proofs.Common.{◌≡◌, ℕ, zero, suc, ◌+◌, Bool, true, false, ◌==◌, List, [], ◌∷◌, length, drop, take_while, refl, sym, ap, ◌∙◌, subst, Option, Some, None, true≢false, arith}
 use Rattle.std.specs.Prelude.{if◌then◌else◌}
 use Rattle.cmark_grammar.specs.Answers.{Lookup}
 use Rattle.cmark_grammar.specs.Options.{Options}
-use Rattle.cmark_grammar.specs.Rows.{Row, first_place, start_of, past_of, begin_of}
+use Rattle.cmark_grammar.specs.Rows.{Row, first_place, start_of, past_of, begin_of, words_of}
 use Rattle.cmark_grammar.specs.Containers.{Quote, Item, Footnote}
-use Rattle.cmark_grammar.specs.Openings.{Leaf, ThematicBreak as ThematicBreakLeaf, AtxHeading as AtxHeadingLeaf, IndentedCode as IndentedCodeLeaf, FencedCode as FencedCodeLeaf, HtmlBlock as HtmlBlockLeaf, LinkDefinition as LinkDefinitionLeaf, MetadataBlock as MetadataBlockLeaf}
+use Rattle.cmark_grammar.specs.Openings.{Leaf, ThematicBreak as ThematicBreakLeaf, AtxHeading as AtxHeadingLeaf, IndentedCode as IndentedCodeLeaf, FencedCode as FencedCodeLeaf, HtmlBlock as HtmlBlockLeaf, LinkDefinition as LinkDefinitionLeaf, MetadataBlock as MetadataBlockLeaf, Table as TableLeaf}
 use Rattle.cmark_grammar.specs.Blocks.{Blocks, Nil as NoBlocks, BlankLine, Paragraph as ParagraphBlock, SetextHeading, LeafBlock, ContainerBlock}
 use Rattle.cmark_grammar.specs.Lists.{ListBefore, tight_behind, goes_on, is_tight}
 use Rattle.cmark_grammar.specs.Tokens.{Piece, end_place, piece_if, texts_then, words_end, stretch_then, stretches, paragraph_tokens, html_then, html_tokens, html_kind_of, verbatim_line, behind_hashes, heading_columns, code_pieces, fenced_lines, lines_before}
@@ -13,6 +13,9 @@ use Rattle.cmark_grammar.specs.BlockDocument.{Text, OwnedText, BlockList, ListIt
 use Rattle.cmark_grammar.specs.Derivation.{leaf_then, item_then, paragraph_kind, document_of, Derives}
 use Rattle.cmark_grammar.specs.Tightness.{tight_within, IsElement, HasTightParagraphs}
 use Rattle.cmark_grammar.specs.Metadata.{ends_metadata}
+use Rattle.cmark_grammar.specs.Columns.{is_blank_byte, drop_end}
+use Rattle.cmark_grammar.specs.TableRows.{cells_start, cells_of}
+use Rattle.cmark_grammar.specs.TableTokens.{cells_then, row_cells, row_tokens, table_tokens}
 
 texts_tight : (tight : Bool) (ps : List Piece) (after : BlockDocument) → HasTightParagraphs tight after → HasTightParagraphs tight (texts_then ps after)
 texts_tight tight [] after h = h
@@ -52,6 +55,22 @@ html_tight : (text : List ℕ) (tight : Bool) (rs : List Row) → HasTightParagr
 html_tight text tight [] = tt
 html_tight text tight (r ∷ rs) = html_then_tight tight (verbatim_line text r.columns r) (html_tokens text rs) (html_tight text tight rs)
 
+cells_tight : (text : List ℕ) (tight : Bool) (columns at past : ℕ) (cells : List (List ℕ)) → HasTightParagraphs tight (cells_then text columns at past cells)
+cells_tight text tight zero at past cells = tt
+cells_tight text tight (suc columns) at past [] = (tt, tt, cells_tight text tight columns at past [])
+cells_tight text tight (suc columns) at past (cell ∷ cells) = (
+  tt,
+  stretch_tight false text (at + length (take_while is_blank_byte cell)) (at + length (drop_end is_blank_byte cell)) Nil tt,
+  cells_tight text tight columns (suc (at + length cell)) past cells,
+)
+
+row_tight : (text : List ℕ) (tight : Bool) (columns : ℕ) (r : Row) → HasTightParagraphs tight (row_cells text columns r)
+row_tight text tight columns r = cells_tight text tight columns (cells_start r) r.past (cells_of (words_of r))
+
+rows_tight : (text : List ℕ) (tight : Bool) (columns : ℕ) (rs : List Row) → HasTightParagraphs tight (row_tokens text columns rs)
+rows_tight text tight columns [] = tt
+rows_tight text tight columns (r ∷ rs) = (tt, row_tight text false columns r, rows_tight text tight columns rs)
+
 leaf_tight : (text : List ℕ) (options : Options) (lookup : Lookup) (tight : Bool) (leaf : Leaf) (first : Row) (more : List Row) (after : BlockDocument) → HasTightParagraphs tight after → HasTightParagraphs tight (leaf_then text options lookup leaf first more after)
 leaf_tight text options lookup tight ThematicBreakLeaf first more after h = (tt, tt, h)
 leaf_tight text options lookup tight (AtxHeadingLeaf level) first more after h = (tt, stretch_tight false text (first_place first.stop (behind_hashes level first)) (end_place (first_place first.stop (behind_hashes level first)) (heading_columns options.heading_attributes level first)) Nil tt, h)
@@ -60,6 +79,7 @@ leaf_tight text options lookup tight (FencedCodeLeaf fence) first more after h =
 leaf_tight text options lookup tight (HtmlBlockLeaf kind) first more after h = (tt, html_tight text false (first ∷ more), h)
 leaf_tight text options lookup tight (LinkDefinitionLeaf definition) first more after h = (tt, tt, h)
 leaf_tight text options lookup tight (MetadataBlockLeaf kind) first more after h = (tt, texts_tight false (code_pieces text 0 (lines_before (ends_metadata kind) more)) Nil tt, h)
+leaf_tight text options lookup tight (TableLeaf alignments) first more after h = (tt, (tt, row_tight text false (length alignments) first, rows_tight text false (length alignments) (drop 1 more)), h)
 
 module _ (text : List ℕ) (options : Options) (lookup : Lookup) where
   -- where the list goes on, the next node is its rest

@@ -1,5 +1,6 @@
 -- Documents of blocks with the lines of their leaves: ordered trees (CommonMark 3).
 use Rattle.std.specs.Prelude.{ℕ, Bool, List, [], ◌∷◌, ◌++◌, Option}
+use Rattle.cmark_grammar.specs.Alignment.{Alignment}
 use Rattle.cmark_grammar.specs.Attributes.{Attributes}
 use Rattle.cmark_grammar.specs.BlockQuoteKind.{BlockQuoteKind}
 use Rattle.cmark_grammar.specs.MetadataBlockKind.{MetadataBlockKind}
@@ -13,9 +14,9 @@ pub record Reference : Type 0 where
   pub end : ℕ
 
 -- what a node is. A paragraph that stands directly in an item of a tight list is no element of its own; a heading has
--- its attributes, a block quote its kind, if it is an alert, a list the number of its first item, if it is ordered, a
--- footnote definition its label's normal form. A text and an HTML line stand as they are in the text; an owned text is the spaces that are left
--- of a tab. The texts of a
+-- its attributes, a block quote its kind, if it is an alert, a list the number of its first item, if it is ordered, a table
+-- the alignments of its columns, a footnote definition its label's normal form. A text and an HTML line stand as they are in the text; an
+-- owned text is the spaces that are left of a tab. The texts of a
 -- paragraph or heading are raw, with their line endings: what they say is for the inline pass to read
 pub data BlockKind : Type 0 where
   Paragraph : BlockKind
@@ -27,6 +28,10 @@ pub data BlockKind : Type 0 where
   HtmlBlock : BlockKind
   LinkDefinition : (reference : Reference) → BlockKind
   MetadataBlock : (kind : MetadataBlockKind) → BlockKind
+  Table : (alignments : List Alignment) → BlockKind
+  TableHead : BlockKind
+  TableRow : BlockKind
+  TableCell : BlockKind
   BlockQuote : (alert : Option BlockQuoteKind) → BlockKind
   BlockList : (number : Option ℕ) → (tight : Bool) → BlockKind
   ListItem : BlockKind

@@ -6,7 +6,7 @@ use Rattle.cmark_grammar.specs.CodeBlockKind.{Indented, Fenced}
 use Rattle.cmark_grammar.specs.TagEnd.{end_of}
 use Rattle.cmark_grammar.specs.Event as event
 use Rattle.cmark_grammar.specs.Event.{Event, Start, End, Rule, Ranged}
-use Rattle.cmark_grammar.specs.BlockDocument.{BlockKind, Paragraph, TightParagraph, Heading, ThematicBreak, IndentedCode, FencedCode, HtmlBlock, LinkDefinition, MetadataBlock, BlockQuote, BlockList, ListItem, FootnoteDefinition, Text, OwnedText, Html, BlockNode, BlockDocument, Nil, Node}
+use Rattle.cmark_grammar.specs.BlockDocument.{BlockKind, Paragraph, TightParagraph, Heading, ThematicBreak, IndentedCode, FencedCode, HtmlBlock, LinkDefinition, MetadataBlock, BlockQuote, BlockList, ListItem, FootnoteDefinition, Text, OwnedText, Html, BlockNode, BlockDocument, Nil, Node, Table, TableHead, TableRow, TableCell}
 
 -- how a node is read: as an element around what is inside it, as what is inside it alone, as one event, or not at all
 pub data Reads : Type 0 where
@@ -27,6 +27,10 @@ read_as (FencedCode info) = Around (tag.CodeBlock (Fenced info))
 read_as HtmlBlock = Around tag.HtmlBlock
 read_as (LinkDefinition reference) = Silent
 read_as (MetadataBlock kind) = Around (tag.MetadataBlock kind)
+read_as (Table alignments) = Around (tag.Table alignments)
+read_as TableHead = Around tag.TableHead
+read_as TableRow = Around tag.TableRow
+read_as TableCell = Around tag.TableCell
 read_as (BlockQuote alert) = Around (tag.BlockQuote alert)
 read_as (FootnoteDefinition label) = Around (tag.FootnoteDefinition label)
 read_as (BlockList number tight) = Around (tag.Listing number)

@@ -1,5 +1,5 @@
--- The blocks of lines, as one line after the other shows them: of the lines ahead only a link reference definition is
--- looked up, and whether metadata is ended. Code, HTML and metadata go on as their lines come, and blank lines wait until it is seen whether they belong to code.
+-- The blocks of lines, as one line after the other shows them: of the lines ahead a link reference definition and the
+-- rows of a table are looked up, and whether metadata is ended. Code, HTML and metadata go on as their lines come, and blank lines wait until it is seen whether they belong to code.
 use Rattle.std.specs.Prelude.{ℕ, zero, suc, Bool, true, false, ◌&&◌, nat_le, List, [], ◌∷◌, ◌++◌, length, Option, Some, None}
 use Rattle.cmark_grammar.specs.Options.{Options}
 use Rattle.cmark_grammar.specs.Places.{Place, Apart, BehindLazy, allows_lazy}
@@ -9,7 +9,7 @@ use Rattle.cmark_grammar.specs.HtmlBlocks.{holds_end, html_further}
 use Rattle.cmark_grammar.specs.Metadata.{metadata_further}
 use Rattle.cmark_grammar.specs.MetadataBlockKind.{MetadataBlockKind}
 use Rattle.cmark_grammar.specs.Containers.{Container, is_alert, enter, keeps, strip, is_bare_start, bare_after}
-use Rattle.cmark_grammar.specs.Openings.{Leaf, ThematicBreak, AtxHeading, IndentedCode, FencedCode, HtmlBlock, LinkDefinition, MetadataBlock, Opening, Blank, Nests, Takes, Plain, opens_at, texts, lazily}
+use Rattle.cmark_grammar.specs.Openings.{Leaf, ThematicBreak, AtxHeading, IndentedCode, FencedCode, HtmlBlock, LinkDefinition, MetadataBlock, Opening, Blank, Nests, Takes, Plain, opens_at, texts, lazily, Table}
 use Rattle.cmark_grammar.specs.Blocks.{Blocks, Nil, BlankLine, Paragraph, SetextHeading, LeafBlock, ContainerBlock, join, behind_leaf, place_in}
 use Rattle.cmark_grammar.specs.BlocksModel.{within, place_behind}
 
@@ -71,7 +71,7 @@ abbrev pub html_begun : Bool → Blocks → ℕ → Row → OpenLines
 html_begun true closed kind r = InLeaf closed (HtmlBlock kind) r [] 0
 html_begun false closed kind r = InVerbatim closed (HtmlLines kind) r [] []
 
--- a leaf that begins: how many lines it takes is asked of definitions alone
+-- a leaf that begins: how many lines it takes is asked of definitions and tables alone
 abbrev pub leaf_begun : Leaf → ℕ → Blocks → Row → OpenLines
 leaf_begun ThematicBreak n closed r = InLeaf closed ThematicBreak r [] n
 leaf_begun (AtxHeading level) n closed r = InLeaf closed (AtxHeading level) r [] n
@@ -80,6 +80,7 @@ leaf_begun (FencedCode fence) n closed r = InVerbatim closed (Fenced fence) r []
 leaf_begun (HtmlBlock kind) n closed r = html_begun (nat_le kind 5 && holds_end kind (words_of r)) closed kind r
 leaf_begun (LinkDefinition definition) n closed r = InLeaf closed (LinkDefinition definition) r [] n
 leaf_begun (MetadataBlock kind) n closed r = InVerbatim closed (Metadata kind) r [] []
+leaf_begun (Table alignments) n closed r = InLeaf closed (Table alignments) r [] n
 
 -- directly behind an alert's tag nothing is begun yet
 abbrev pub lines_inside_begun : (is_alert : Bool) → OpenLines → OpenLines

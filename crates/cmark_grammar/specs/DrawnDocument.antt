@@ -1,7 +1,7 @@
 -- A document as a tree keeps it, and how much of it is read: link reference definitions stand in a table of their own, and whether
 -- a paragraph stands directly in an item of a tight list is seen from the list around it.
 use Rattle.std.specs.Prelude.{Bool, true, false, if◌then◌else◌}
-use Rattle.cmark_grammar.specs.BlockDocument.{BlockKind, Paragraph, TightParagraph, Heading, ThematicBreak, IndentedCode, FencedCode, HtmlBlock, LinkDefinition, MetadataBlock, BlockQuote, BlockList, ListItem, FootnoteDefinition, Text, OwnedText, Html, BlockNode, BlockDocument, Nil, Node}
+use Rattle.cmark_grammar.specs.BlockDocument.{BlockKind, Paragraph, TightParagraph, Heading, ThematicBreak, IndentedCode, FencedCode, HtmlBlock, LinkDefinition, MetadataBlock, BlockQuote, BlockList, ListItem, FootnoteDefinition, Text, OwnedText, Html, BlockNode, BlockDocument, Nil, Node, Table, TableHead, TableRow, TableCell}
 use Rattle.cmark_grammar.specs.Tightness.{tight_within}
 
 abbrev pub is_definition : BlockKind → Bool
@@ -14,6 +14,10 @@ is_definition IndentedCode = false
 is_definition (FencedCode info) = false
 is_definition HtmlBlock = false
 is_definition (MetadataBlock kind) = false
+is_definition (Table alignments) = false
+is_definition TableHead = false
+is_definition TableRow = false
+is_definition TableCell = false
 is_definition (BlockQuote alert) = false
 is_definition (FootnoteDefinition label) = false
 is_definition (BlockList number tight) = false
@@ -43,6 +47,10 @@ kind_within tight (FencedCode info) = FencedCode info
 kind_within tight HtmlBlock = HtmlBlock
 kind_within tight (LinkDefinition reference) = LinkDefinition reference
 kind_within tight (MetadataBlock kind) = MetadataBlock kind
+kind_within tight (Table alignments) = Table alignments
+kind_within tight TableHead = TableHead
+kind_within tight TableRow = TableRow
+kind_within tight TableCell = TableCell
 kind_within tight (BlockQuote alert) = BlockQuote alert
 kind_within tight (FootnoteDefinition label) = FootnoteDefinition label
 kind_within tight (BlockList number t) = BlockList number t

@@ -1,5 +1,6 @@
 -- What a line begins, and what interrupts a paragraph (CommonMark 3 to 5).
-use Rattle.std.specs.Prelude.{ℕ, Bool, true, false, ◌==◌, ◌&&◌, ◌||◌, not, nat_le, if◌then◌else◌, List, Option, Some, None, ◌∷◌, ◌-◌, length, []}
+use Rattle.std.specs.Prelude.{ℕ, suc, Bool, true, false, ◌==◌, ◌&&◌, ◌||◌, not, nat_le, if◌then◌else◌, List, Option, Some, None, ◌∷◌, ◌-◌, length, drop, []}
+use Rattle.cmark_grammar.specs.Alignment.{Alignment}
 use Rattle.cmark_grammar.specs.Rows.{Row, is_blank_line, indent_of, words_of, without}
 use Rattle.cmark_grammar.specs.Leaves.{Fence, underlines, counted, run, is_thematic_break, is_atx_heading, fence_of, fence_further, code_further}
 use Rattle.cmark_grammar.specs.HtmlBlocks.{html_kind, html_lines}
@@ -9,6 +10,7 @@ use Rattle.cmark_grammar.specs.Metadata.{metadata_kind, holds_metadata, metadata
 use Rattle.cmark_grammar.specs.MetadataBlockKind.{MetadataBlockKind}
 use Rattle.cmark_grammar.specs.Options.{Options}
 use Rattle.cmark_grammar.specs.Places.{Place, is_behind_task}
+use Rattle.cmark_grammar.specs.TableRows.{count_rows as count_rows_until, most_filled, table_head, table_interrupts}
 
 -- a leaf that is no paragraph
 pub data Leaf : Type 0 where
@@ -19,6 +21,7 @@ pub data Leaf : Type 0 where
   HtmlBlock : (kind : ℕ) → Leaf
   LinkDefinition : (definition : Definition) → Leaf
   MetadataBlock : (kind : MetadataBlockKind) → Leaf
+  Table : (alignments : List Alignment) → Leaf
 
 -- what a line begins: nothing, for it is blank; a container; a leaf, to which so many of the lines ahead belong; or, if
 -- none of these, a paragraph
@@ -99,11 +102,11 @@ module _ (options : Options) where
 
   -- the line goes on with a paragraph in the same container; a lazy line is none of it
   unfoldable pub texts : Row → List Row → Bool
-  texts r ahead = not (interrupts (not r.lazy) r ahead)
+  texts r ahead = not (interrupts (not r.lazy) r ahead || table_interrupts options r ahead)
 
   -- the line, which lacks the prefix of this container and of those further in, goes on with a paragraph there
   unfoldable pub lazily : Container → Row → List Row → Bool
-  lazily k r ahead = not (interrupts false r ahead)
+  lazily k r ahead = not (interrupts false r ahead || table_interrupts options r ahead)
 
   -- the lines ahead up to the first that does not go on with a paragraph
   abbrev pub text_lines : List Row → List Row
@@ -114,6 +117,20 @@ module _ (options : Options) where
   abbrev pub definition_of : Row → List Row → Opening
   definition_of r ahead = defined_if (length (text_lines ahead)) (definition_in (bytes_over r (text_lines ahead)))
 
+  -- the lines ahead up to the first that interrupts, as each list marker does, or for which more cells were filled in than are left: the
+  -- rows of a table with so many columns (GFM 4.10). No table interrupts one
+  abbrev pub count_rows : (columns left : ℕ) → List Row → ℕ
+  count_rows columns left ahead = count_rows_until (interrupts false) columns left ahead
+
+  -- behind its head a table has a delimiter row, and then its rows
+  abbrev pub table_if : Option (List Alignment) → List Row → Opening
+  table_if None ahead = Plain
+  table_if (Some alignments) ahead = Takes (Table alignments) (suc (count_rows (length alignments) most_filled (drop 1 ahead)))
+
+  -- what a line begins that begins no other leaf
+  abbrev pub text_of : Row → List Row → Opening
+  text_of r ahead = or_else (definition_of r ahead) (table_if (table_head options r ahead) ahead)
+
   -- the first leaf that the line begins; a paragraph, where there is none
   abbrev pub leaf_of : Row → List Row → Opening
   leaf_of r ahead =
@@ -121,7 +138,7 @@ module _ (options : Options) where
       (or_else (break_if (is_thematic_break (words_of r)))
       (or_else (heading_if (is_atx_heading (words_of r)) (run 35 (words_of r)))
       (or_else (fenced_if (fence_of (indent_of r) (words_of r)) ahead)
-      (definition_of r ahead))))
+      (text_of r ahead))))
 
   -- what a line begins that lacks no prefix: from four columns of indent on, indented code alone
   abbrev pub whole_opens : Row → List Row → Opening

@@ -1,7 +1,7 @@
 -- The ranges of a document's nodes.
 use Rattle.std.specs.Prelude.{◌≡◌, ℕ, suc, ◌+◌, ◌≤◌, List}
 use Rattle.cmark_grammar.specs.Tokens.{slice}
-use Rattle.cmark_grammar.specs.BlockDocument.{BlockKind, Paragraph, TightParagraph, Heading, ThematicBreak, IndentedCode, FencedCode, HtmlBlock, LinkDefinition, MetadataBlock, BlockQuote, BlockList, ListItem, FootnoteDefinition, Text, OwnedText, Html, BlockDocument, Nil, Node}
+use Rattle.cmark_grammar.specs.BlockDocument.{BlockKind, Paragraph, TightParagraph, Heading, ThematicBreak, IndentedCode, FencedCode, HtmlBlock, LinkDefinition, MetadataBlock, BlockQuote, BlockList, ListItem, FootnoteDefinition, Text, OwnedText, Html, BlockDocument, Nil, Node, Table, TableHead, TableRow, TableCell}
 
 -- between these two places the nodes stand in order: none begins before the one before it has ended, and each holds what
 -- is inside it
@@ -18,6 +18,14 @@ abbrev pub count_nodes : BlockDocument → ℕ
 count_nodes Nil = 0
 count_nodes (Node node inside after) = suc (count_nodes inside + count_nodes after)
 
+abbrev pub count_table : BlockKind → ℕ
+count_table (Table alignments) = 1
+count_table _ = 0
+
+abbrev pub count_tables : BlockDocument → ℕ
+count_tables Nil = 0
+count_tables (Node node inside after) = count_table node.kind + (count_tables inside + count_tables after)
+
 -- a text and an HTML line are the bytes of their range
 abbrev pub IsSlice : List ℕ → BlockKind → (start end : ℕ) → Type 0
 IsSlice text (Text bytes) start end = bytes ≡ slice text start end
@@ -31,6 +39,10 @@ IsSlice text (FencedCode info) start end = Unit {0}
 IsSlice text HtmlBlock start end = Unit {0}
 IsSlice text (LinkDefinition reference) start end = Unit {0}
 IsSlice text (MetadataBlock kind) start end = Unit {0}
+IsSlice text (Table alignments) start end = Unit {0}
+IsSlice text TableHead start end = Unit {0}
+IsSlice text TableRow start end = Unit {0}
+IsSlice text TableCell start end = Unit {0}
 IsSlice text (BlockQuote alert) start end = Unit {0}
 IsSlice text (FootnoteDefinition label) start end = Unit {0}
 IsSlice text (BlockList number tight) start end = Unit {0}

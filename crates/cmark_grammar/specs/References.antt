@@ -1,6 +1,6 @@
 -- The link reference definitions of a document: the first of each label counts (CommonMark 4.7).
 use Rattle.std.specs.Prelude.{ℕ, Bool, true, false, List, [], ◌∷◌, ◌++◌, bytes_eq, Option, Some, None, ◌≡◌}
-use Rattle.cmark_grammar.specs.BlockDocument.{Reference, BlockKind, Paragraph, TightParagraph, Heading, ThematicBreak, IndentedCode, FencedCode, HtmlBlock, LinkDefinition, MetadataBlock, BlockQuote, BlockList, ListItem, FootnoteDefinition, Text, OwnedText, Html, BlockDocument, Nil, Node}
+use Rattle.cmark_grammar.specs.BlockDocument.{Reference, BlockKind, Paragraph, TightParagraph, Heading, ThematicBreak, IndentedCode, FencedCode, HtmlBlock, LinkDefinition, MetadataBlock, BlockQuote, BlockList, ListItem, FootnoteDefinition, Text, OwnedText, Html, BlockDocument, Nil, Node, Table, TableHead, TableRow, TableCell}
 
 abbrev pub reference_of_kind : BlockKind → List Reference
 reference_of_kind Paragraph = []
@@ -12,6 +12,10 @@ reference_of_kind (FencedCode info) = []
 reference_of_kind HtmlBlock = []
 reference_of_kind (LinkDefinition reference) = reference ∷ []
 reference_of_kind (MetadataBlock kind) = []
+reference_of_kind (Table alignments) = []
+reference_of_kind TableHead = []
+reference_of_kind TableRow = []
+reference_of_kind TableCell = []
 reference_of_kind (BlockQuote alert) = []
 reference_of_kind (FootnoteDefinition label) = []
 reference_of_kind (BlockList number tight) = []

@@ -1,7 +1,7 @@
 -- The events that a text is read as: those of its blocks, with the spans of its leaves, and the questions that were put on the way.
 use Rattle.std.specs.Prelude.{◌≡◌, ℕ, Bool, true, false, if◌then◌else◌, List, [], ◌∷◌, ◌++◌}
 use Rattle.cmark_grammar.specs.Answers.{Lookup}
-use Rattle.cmark_grammar.specs.BlockDocument.{BlockKind, Paragraph, TightParagraph, Heading, BlockNode, BlockDocument, Nil, Node}
+use Rattle.cmark_grammar.specs.BlockDocument.{BlockKind, Paragraph, TightParagraph, Heading, TableCell, BlockNode, BlockDocument, Nil, Node}
 use Rattle.cmark_grammar.specs.BlockReading.{Reads, Around, Inside, Alone, Silent, read_as, over}
 use Rattle.cmark_grammar.specs.Derivation.{Derives}
 use Rattle.cmark_grammar.specs.Event.{Start, End, Ranged}
@@ -38,23 +38,29 @@ pub data Segment : Type 0 where
   Given : (event : Ranged) → Segment
   Content : (leaf : Leaf) → Segment
 
--- a paragraph or a heading holds the stretches of its text
+-- a paragraph, a heading or a cell holds the stretches of its text
 abbrev pub stretches_of : BlockDocument → List Stretch
 stretches_of Nil = []
 stretches_of (Node node inside after) = record { start = node.start; end = node.end } ∷ stretches_of after
 
-abbrev pub leaf_of : (content : BlockDocument) → Leaf
-leaf_of content = record { stretches = stretches_of content; is_cell = false }
+abbrev pub is_cell : BlockKind → Bool
+is_cell TableCell = true
+is_cell _ = false
 
--- paragraphs and headings are leaves that are read; all other text, as that of code and of HTML blocks, stands as it is
+abbrev pub leaf_of : BlockKind → (content : BlockDocument) → Leaf
+leaf_of kind content = record { stretches = stretches_of content; is_cell = is_cell kind }
+
+-- paragraphs, headings and the cells of tables are leaves that are read; all other text, as that of code and of HTML blocks, stands as
+-- it is
 abbrev pub is_leaf : BlockKind → Bool
 is_leaf Paragraph = true
 is_leaf TightParagraph = true
 is_leaf (Heading level attributes) = true
+is_leaf TableCell = true
 is_leaf _ = false
 
 abbrev pub inside_of : BlockKind → (content : BlockDocument) → (others : List Segment) → List Segment
-inside_of kind content others = if is_leaf kind then Content (leaf_of content) ∷ [] else others
+inside_of kind content others = if is_leaf kind then Content (leaf_of kind content) ∷ [] else others
 
 abbrev pub node_segments : Reads → BlockNode → List Segment → List Segment
 node_segments (Around tag) node inside = Given (over node (Start tag)) ∷ (inside ++ (Given (over node (End (end_of tag))) ∷ []))

@@ -1,6 +1,6 @@
 -- Paragraphs of tight lists (CommonMark 5.3).
 use Rattle.std.specs.Prelude.{◌≡◌, Bool, true, false}
-use Rattle.cmark_grammar.specs.BlockDocument.{BlockKind, Paragraph, TightParagraph, Heading, ThematicBreak, IndentedCode, FencedCode, HtmlBlock, LinkDefinition, MetadataBlock, BlockQuote, BlockList, ListItem, FootnoteDefinition, Text, OwnedText, Html, BlockDocument, Nil, Node}
+use Rattle.cmark_grammar.specs.BlockDocument.{BlockKind, Paragraph, TightParagraph, Heading, ThematicBreak, IndentedCode, FencedCode, HtmlBlock, LinkDefinition, MetadataBlock, BlockQuote, BlockList, ListItem, FootnoteDefinition, Text, OwnedText, Html, BlockDocument, Nil, Node, Table, TableHead, TableRow, TableCell}
 
 -- whether what is inside such a node stands in items of a tight list, or directly in one
 abbrev pub tight_within : Bool → BlockKind → Bool
@@ -15,6 +15,10 @@ tight_within tight (FencedCode info) = false
 tight_within tight HtmlBlock = false
 tight_within tight (LinkDefinition reference) = false
 tight_within tight (MetadataBlock kind) = false
+tight_within tight (Table alignments) = false
+tight_within tight TableHead = false
+tight_within tight TableRow = false
+tight_within tight TableCell = false
 tight_within tight (BlockQuote alert) = false
 tight_within tight (FootnoteDefinition label) = false
 tight_within tight (Text bytes) = false
@@ -32,6 +36,10 @@ IsElement tight (FencedCode info) = Unit {0}
 IsElement tight HtmlBlock = Unit {0}
 IsElement tight (LinkDefinition reference) = Unit {0}
 IsElement tight (MetadataBlock kind) = Unit {0}
+IsElement tight (Table alignments) = Unit {0}
+IsElement tight TableHead = Unit {0}
+IsElement tight TableRow = Unit {0}
+IsElement tight TableCell = Unit {0}
 IsElement tight (BlockQuote alert) = Unit {0}
 IsElement tight (FootnoteDefinition label) = Unit {0}
 IsElement tight (BlockList number t) = Unit {0}

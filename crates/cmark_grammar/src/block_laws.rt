@@ -1,6 +1,6 @@
 //! Theorems over the block grammar, each the contract of a function that does nothing.
 
-ghost use Rattle.std.specs.Prelude.{◌≡◌, ℕ, false, ◌*◌, ◌≤◌, List, length, map, IsUtf8, IsCharBoundary};
+ghost use Rattle.std.specs.Prelude.{◌≡◌, ℕ, false, ◌+◌, ◌*◌, ◌≤◌, List, length, map, IsUtf8, IsCharBoundary};
 ghost use Rattle.cmark_grammar.specs.Answers.{Lookup};
 ghost use Rattle.cmark_grammar.specs.Balance.{Balanced};
 ghost use Rattle.cmark_grammar.specs.BlockDocument.{BlockDocument, Reference};
@@ -12,7 +12,7 @@ ghost use Rattle.cmark_grammar.specs.Derivation.{Derives, document};
 ghost use Rattle.cmark_grammar.specs.Event.{Ranged};
 ghost use Rattle.cmark_grammar.specs.Options.{Options};
 ghost use Rattle.cmark_grammar.specs.Places.{Apart};
-ghost use Rattle.cmark_grammar.specs.Ranges.{AllAt, HasSlices, InOrder, count_nodes};
+ghost use Rattle.cmark_grammar.specs.Ranges.{AllAt, HasSlices, InOrder, count_nodes, count_tables};
 ghost use Rattle.cmark_grammar.specs.References.{EachOnce, first_with, table};
 ghost use Rattle.cmark_grammar.specs.Rows.{rows};
 ghost use Rattle.cmark_grammar.specs.Tightness.{HasTightParagraphs};
@@ -80,10 +80,13 @@ pub fn ranges_cut_no_character()
         → IsUtf8 text → Derives text options lookup document → AllAt (IsCharBoundary text) document }
 {}
 
-/// A document has at most four nodes a byte of its text.
+/// A document has at most four nodes a byte of its text, and 262,144 more for each of its tables: the cells that are filled in. There are
+/// no more tables than bytes.
 pub fn nodes_are_few()
-    ensures { (text : List ℕ) (options : Options) (lookup : Lookup) (document : BlockDocument)
-        → Derives text options lookup document → count_nodes document ≤ 4 * length text }
+    ensures nodes { (text : List ℕ) (options : Options) (lookup : Lookup) (document : BlockDocument)
+        → Derives text options lookup document → count_nodes document ≤ 4 * length text + 262144 * count_tables document }
+    ensures tables { (text : List ℕ) (options : Options) (lookup : Lookup) (document : BlockDocument)
+        → Derives text options lookup document → count_tables document ≤ length text }
 {}
 
 /// A text that is not owned, and an HTML line, is the slice of its range.

@@ -1,6 +1,6 @@
 -- The leaves of a document that is derived stand in order.
 use Rattle.std.proofs.Common.{ℕ, ◌≤◌, List, [], ◌∷◌, ◌++◌, arith}
-use Rattle.cmark_grammar.specs.BlockDocument.{BlockKind, Paragraph, TightParagraph, Heading, ThematicBreak, IndentedCode, FencedCode, HtmlBlock, LinkDefinition, MetadataBlock, BlockQuote, BlockList, ListItem, FootnoteDefinition, Text, OwnedText, Html, BlockNode, BlockDocument, Nil, Node}
+use Rattle.cmark_grammar.specs.BlockDocument.{BlockKind, Paragraph, TightParagraph, Heading, ThematicBreak, IndentedCode, FencedCode, HtmlBlock, LinkDefinition, MetadataBlock, BlockQuote, BlockList, ListItem, FootnoteDefinition, Text, OwnedText, Html, BlockNode, BlockDocument, Nil, Node, Table, TableHead, TableRow, TableCell}
 use Rattle.cmark_grammar.specs.BlockReading.{Reads, Around, Inside, Alone, Silent, read_as}
 use Rattle.cmark_grammar.specs.LeafText.{InTurn}
 use Rattle.cmark_grammar.specs.Ranges.{InOrder}
@@ -31,6 +31,10 @@ inside_turn size IndentedCode content others h k = k
 inside_turn size (FencedCode info) content others h k = k
 inside_turn size HtmlBlock content others h k = k
 inside_turn size (MetadataBlock kind) content others h k = k
+inside_turn size (Table alignments) content others h k = k
+inside_turn size TableHead content others h k = k
+inside_turn size TableRow content others h k = k
+inside_turn size TableCell content others h k = (h, tt)
 inside_turn size (LinkDefinition reference) content others h k = k
 inside_turn size (BlockQuote alert) content others h k = k
 inside_turn size (FootnoteDefinition label) content others h k = k

@@ -1,6 +1,6 @@
 -- In the leaves of a document that is derived each stretch but the last ends with a line ending.
-use Rattle.std.specs.Prelude.{◌-◌, ◌==◌, nat_lt, if◌then◌else◌, get_or}
-use Rattle.std.proofs.Common.{◌≡◌, ◌⊎◌, inl, inr, ⊎_elim, ℕ, ◌+◌, ◌<◌, Bool, true, false, not, ◌&&◌, ◌||◌, List, [], ◌∷◌, ◌++◌, length, refl, sym, ap, ◌∙◌, subst, arith, append_assoc, Option, Some, None, true≢false, length-append, get_or-append-add}
+use Rattle.std.specs.Prelude.{◌-◌, ◌==◌, nat_lt, if◌then◌else◌, get_or, take_while}
+use Rattle.std.proofs.Common.{◌≡◌, ◌⊎◌, inl, inr, ⊎_elim, ℕ, zero, suc, ◌+◌, ◌<◌, Bool, true, false, not, ◌&&◌, ◌||◌, List, [], ◌∷◌, ◌++◌, length, drop, refl, sym, ap, ◌∙◌, subst, arith, append_assoc, Option, Some, None, true≢false, length-append, get_or-append-add}
 use Rattle.cmark_grammar.specs.Answers.{Lookup}
 use Rattle.cmark_grammar.specs.BlockDocument.{BlockKind, ListItem, Text, OwnedText, Html, BlockNode, BlockDocument, Nil, Node, node}
 use Rattle.cmark_grammar.specs.BlockReading.{Reads, Around, Inside, Alone, Silent, read_as}
@@ -8,12 +8,15 @@ use Rattle.cmark_grammar.specs.Blocks.{Blocks, Nil as NoBlocks, BlankLine, Parag
 use Rattle.cmark_grammar.specs.Containers.{Container, Quote, Item, Footnote, is_alert, unless_tag, enter, strips, is_bare_start, insides}
 use Rattle.cmark_grammar.specs.Derivation.{leaf_then, item_then, document_of, Derives}
 use Rattle.cmark_grammar.specs.Lines.{lines, ends_line, onto, is_content, line_feed, carriage_return, begins_with_line_feed}
+use Rattle.cmark_grammar.specs.Columns.{is_blank_byte, drop_end}
+use Rattle.cmark_grammar.specs.TableRows.{cells_start, cells_of}
+use Rattle.cmark_grammar.specs.TableTokens.{cell_tokens, cells_then, row_cells, row_tokens, table_tokens}
 use Rattle.cmark_grammar.specs.Lists.{ListBefore, tight_behind, goes_on}
 use Rattle.cmark_grammar.specs.Metadata.{ends_metadata}
-use Rattle.cmark_grammar.specs.Openings.{Leaf, ThematicBreak as ThematicBreakLeaf, AtxHeading as AtxHeadingLeaf, IndentedCode as IndentedCodeLeaf, FencedCode as FencedCodeLeaf, HtmlBlock as HtmlBlockLeaf, LinkDefinition as LinkDefinitionLeaf, MetadataBlock as MetadataBlockLeaf}
+use Rattle.cmark_grammar.specs.Openings.{Leaf, ThematicBreak as ThematicBreakLeaf, AtxHeading as AtxHeadingLeaf, IndentedCode as IndentedCodeLeaf, FencedCode as FencedCodeLeaf, HtmlBlock as HtmlBlockLeaf, LinkDefinition as LinkDefinitionLeaf, MetadataBlock as MetadataBlockLeaf, Table as TableLeaf}
 use Rattle.cmark_grammar.specs.Options.{Options}
 use Rattle.cmark_grammar.specs.Places.{Place, Apart, BehindTitle, over_blank}
-use Rattle.cmark_grammar.specs.Rows.{Row, rows, rows_from, first_place, begin_of, start_of, past_of}
+use Rattle.cmark_grammar.specs.Rows.{Row, rows, rows_from, first_place, begin_of, start_of, past_of, words_of}
 use Rattle.cmark_grammar.specs.SpanDocuments.{Segment, Given, Content, stretches_of, leaf_of, is_leaf, inside_of, node_segments, segments}
 use Rattle.cmark_grammar.specs.Tokens.{texts_then, Piece, text_kind_of, html_kind_of, html_then, code_tokens, html_tokens, fenced_lines, lines_before, piece_if, stretch_then, stretches, end_place, words_end, paragraph_tokens, heading_tokens, behind_hashes, heading_columns, slice}
 use Rattle.cmark_grammar.proofs.BoundaryLaws.{joined}
@@ -195,6 +198,24 @@ html_tokens_are_texts : (text : List ℕ) (rows : List Row) → AreTexts (html_t
 html_tokens_are_texts text [] = tt
 html_tokens_are_texts text (r ∷ more) = html_are_texts _ (html_tokens text more) (html_tokens_are_texts text more)
 
+cells_of_lines : (text : List ℕ) (columns at past : ℕ) (cells : List (List ℕ)) → AreOfLines text (cells_then text columns at past cells)
+cells_of_lines text zero at past cells = tt
+cells_of_lines text (suc columns) at past [] = ((λ e. tt), tt, cells_of_lines text columns at past [])
+cells_of_lines text (suc columns) at past (cell ∷ cells) =
+    let start = at + length (take_while is_blank_byte cell) in
+    let end = at + length (drop_end is_blank_byte cell) in (
+      (λ e. stretch_ends text start end Nil (inl refl) tt),
+      texts_of_lines text (cell_tokens text at cell) (pieces_are_texts (piece_if text start end []) Nil tt),
+      cells_of_lines text columns (suc (at + length cell)) past cells,
+    )
+
+row_of_lines : (text : List ℕ) (columns : ℕ) (r : Row) → AreOfLines text (row_cells text columns r)
+row_of_lines text columns r = cells_of_lines text columns (cells_start r) r.past (cells_of (words_of r))
+
+rows_of_cells : (text : List ℕ) (columns : ℕ) (rs : List Row) → AreOfLines text (row_tokens text columns rs)
+rows_of_cells text columns [] = tt
+rows_of_cells text columns (r ∷ rs) = (no_leaf text (row_cells text columns r), row_of_lines text columns r, rows_of_cells text columns rs)
+
 leaf_of_lines : (text : List ℕ) (options : Options) (lookup : Lookup) (leaf : Leaf) (first : Row) (more : List Row) (after : BlockDocument) → AreOfLines text after → AreOfLines text (leaf_then text options lookup leaf first more after)
 leaf_of_lines text options lookup ThematicBreakLeaf first more after a = (no_leaf text Nil, tt, a)
 leaf_of_lines text options lookup (AtxHeadingLeaf level) first more after a =
@@ -209,6 +230,9 @@ leaf_of_lines text options lookup (HtmlBlockLeaf kind) first more after a =
 leaf_of_lines text options lookup (LinkDefinitionLeaf definition) first more after a = (no_leaf text Nil, tt, a)
 leaf_of_lines text options lookup (MetadataBlockLeaf kind) first more after a =
     let inside = code_tokens text 0 (lines_before (ends_metadata kind) more) in (no_leaf text inside, texts_of_lines text inside (pieces_are_texts _ Nil tt), a)
+
+leaf_of_lines text options lookup (TableLeaf alignments) first more after a =
+    (no_leaf text (table_tokens text (length alignments) first more), (no_leaf text (row_cells text (length alignments) first), row_of_lines text (length alignments) first, rows_of_cells text (length alignments) (drop 1 more)), a)
 
 item_of_lines : (text : List ℕ) (joins : Bool) (number : Option ℕ) (tight : Bool) (item : BlockNode) (inside after : BlockDocument) → is_leaf item.kind ≡ false → AreOfLines text inside → AreOfLines text after
     → AreOfLines text (item_then joins number tight item inside after)
@@ -279,7 +303,7 @@ inside_lines : (text : List ℕ) (kind : BlockKind) (content : BlockDocument) (o
     → AreLeavesOfLines text (inside_of kind content others)
 inside_lines text kind content others h k = go (is_leaf kind) refl
   where
-    go : (z : Bool) → is_leaf kind ≡ z → AreLeavesOfLines text (if z then Content (leaf_of content) ∷ [] else others)
+    go : (z : Bool) → is_leaf kind ≡ z → AreLeavesOfLines text (if z then Content (leaf_of kind content) ∷ [] else others)
     go true e = (h e, tt)
     go false e = k
 

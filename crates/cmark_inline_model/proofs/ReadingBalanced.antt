@@ -4,7 +4,7 @@ use Rattle.std.proofs.Common.{◌≡◌, ℕ, List, [], ◌∷◌, ◌++◌, ref
 use Rattle.std.proofs.lemmas.List.{append_assoc, map-append}
 use Rattle.cmark_grammar.specs.Balance as balance
 use Rattle.cmark_grammar.specs.Balance.{IsSingle, Balanced}
-use Rattle.cmark_grammar.specs.BlockDocument.{BlockKind, Paragraph, TightParagraph, Heading, ThematicBreak, IndentedCode, FencedCode, HtmlBlock, LinkDefinition, MetadataBlock, BlockQuote, BlockList, ListItem, FootnoteDefinition, Text, OwnedText, Html, BlockNode, BlockDocument, Nil, Node}
+use Rattle.cmark_grammar.specs.BlockDocument.{BlockKind, Paragraph, TightParagraph, Heading, ThematicBreak, IndentedCode, FencedCode, HtmlBlock, LinkDefinition, MetadataBlock, BlockQuote, BlockList, ListItem, FootnoteDefinition, Text, OwnedText, Html, BlockNode, BlockDocument, Nil, Node, Table, TableHead, TableRow, TableCell}
 use Rattle.cmark_grammar.specs.BlockReading.{Reads, Around, Inside, Alone, Silent, read_as, over}
 use Rattle.cmark_grammar.specs.Event.{Start, End, Ranged}
 use Rattle.cmark_grammar.specs.InlineReading.{event_of, inline_events}
@@ -104,6 +104,10 @@ module _ (reader : Reader) (Says : Saying) where
   inside_matches (FencedCode info) content others k = k
   inside_matches HtmlBlock content others k = k
   inside_matches (MetadataBlock kind) content others k = k
+  inside_matches (Table alignments) content others k = k
+  inside_matches TableHead content others k = k
+  inside_matches TableRow content others k = k
+  inside_matches TableCell content others k = leaf_matches _
   inside_matches (LinkDefinition reference) content others k = k
   inside_matches (BlockQuote alert) content others k = k
   inside_matches (FootnoteDefinition label) content others k = k

@@ -2,7 +2,7 @@
 use Rattle.std.specs.Prelude.{zero, suc, ◌-◌, get_or}
 use Rattle.std.proofs.Common.{◌≡◌, inl, inr, ℕ, ◌<◌, ◌≤◌, true≢false, List, [], ◌∷◌, ◌++◌, length, refl, sym, ap, subst, arith, ◌∙◌, append_assoc, append-nil}
 use Rattle.std.proofs.lemmas.Bool.{eq-eqb}
-use Rattle.cmark_grammar.specs.BlockDocument.{BlockKind, Paragraph, TightParagraph, Heading, ThematicBreak, IndentedCode, FencedCode, HtmlBlock, LinkDefinition, MetadataBlock, BlockQuote, BlockList, ListItem, FootnoteDefinition, Text, OwnedText, Html, BlockNode, BlockDocument, Nil, Node}
+use Rattle.cmark_grammar.specs.BlockDocument.{BlockKind, Paragraph, TightParagraph, Heading, ThematicBreak, IndentedCode, FencedCode, HtmlBlock, LinkDefinition, MetadataBlock, BlockQuote, BlockList, ListItem, FootnoteDefinition, Text, OwnedText, Html, BlockNode, BlockDocument, Nil, Node, Table, TableHead, TableRow, TableCell}
 use Rattle.cmark_grammar.specs.BlockReading.{Reads as ReadsAs, Around, Inside, Alone, Silent, read_as, over}
 use Rattle.cmark_grammar.specs.BracketDecisions.{decide}
 use Rattle.cmark_grammar.specs.BracketReading.{Reads}
@@ -88,10 +88,10 @@ module _ (reader : Reader) (Says : Saying) where
   abbrev Stand : (from : ℕ) → List Ranged → (to : ℕ) → Type 0
   Stand from events to = Places reader.options reader.source from events to
 
-  leaf_placed : (content : BlockDocument) (from to : ℕ) → InOrder from content to → to ≤ length reader.source → HaveLineEnds reader.source (stretches_of content) → (before after : Between) (events : List Ranged)
-      → ReadsLeaf reader Says (leaf_of content) before events after → Stand from events to
-  leaf_placed content from to o bound lines before after events h =
-      let leaf = leaf_of content in
+  leaf_placed : (kind : BlockKind) (content : BlockDocument) (from to : ℕ) → InOrder from content to → to ≤ length reader.source → HaveLineEnds reader.source (stretches_of content) → (before after : Between) (events : List Ranged)
+      → ReadsLeaf reader Says (leaf_of kind content) before events after → Stand from events to
+  leaf_placed kind content from to o bound lines before after events h =
+      let leaf = leaf_of kind content in
       let start = entering leaf before in
       let turn : InTurn from leaf.stretches to = stretches-turn from from content to to (omega arith) (omega arith) o in
       let zero_turn = lower from 0 leaf.stretches to (omega arith) turn in
@@ -113,7 +113,7 @@ module _ (reader : Reader) (Says : Saying) where
 
       empty : stretches_of content ≡ [] → spans_in reader.options h.parts ≡ NoSpans
       empty e =
-          let leaf = leaf_of content in
+          let leaf = leaf_of kind content in
           let turn : InTurn 0 leaf.stretches to = lower from 0 leaf.stretches to (omega arith) (stretches-turn from from content to to (omega arith) (omega arith) o) in
           let last : end_of leaf.stretches ≡ 0 = ap end_of e in
           ap (spans_in reader.options)
@@ -122,19 +122,23 @@ module _ (reader : Reader) (Says : Saying) where
   abbrev Placed : (from to : ℕ) → List Segment → Type 0
   Placed from to others = to ≤ length reader.source → AreLeavesOfLines reader.source others → (before after : Between) (events : List Ranged) → ReadsAll reader Says others before events after → Stand from events to
 
-  content_placed : (content : BlockDocument) (from to : ℕ) → InOrder from content to → Placed from to (Content (leaf_of content) ∷ [])
-  content_placed content from to o bound lines before after events h =
-      subst (λ es. Stand from es to) (sym (h.5 ∙ ap (λ l. h.0 ++ l) h.4.0 ∙ append-nil h.0)) (leaf_placed content from to o bound lines.0 before h.2 h.0 h.3)
+  content_placed : (kind : BlockKind) (content : BlockDocument) (from to : ℕ) → InOrder from content to → Placed from to (Content (leaf_of kind content) ∷ [])
+  content_placed kind content from to o bound lines before after events h =
+      subst (λ es. Stand from es to) (sym (h.5 ∙ ap (λ l. h.0 ++ l) h.4.0 ∙ append-nil h.0)) (leaf_placed kind content from to o bound lines.0 before h.2 h.0 h.3)
 
   inside_placed : (kind : BlockKind) (content : BlockDocument) (from to : ℕ) → InOrder from content to → Placed from to (segments content) → Placed from to (inside_of kind content (segments content))
-  inside_placed Paragraph content from to o k = content_placed content from to o
-  inside_placed TightParagraph content from to o k = content_placed content from to o
-  inside_placed (Heading level attributes) content from to o k = content_placed content from to o
+  inside_placed Paragraph content from to o k = content_placed Paragraph content from to o
+  inside_placed TightParagraph content from to o k = content_placed TightParagraph content from to o
+  inside_placed (Heading level attributes) content from to o k = content_placed (Heading level attributes) content from to o
   inside_placed ThematicBreak content from to o k = k
   inside_placed IndentedCode content from to o k = k
   inside_placed (FencedCode info) content from to o k = k
   inside_placed HtmlBlock content from to o k = k
   inside_placed (MetadataBlock kind) content from to o k = k
+  inside_placed (Table alignments) content from to o k = k
+  inside_placed TableHead content from to o k = k
+  inside_placed TableRow content from to o k = k
+  inside_placed TableCell content from to o k = content_placed TableCell content from to o
   inside_placed (LinkDefinition reference) content from to o k = k
   inside_placed (BlockQuote alert) content from to o k = k
   inside_placed (FootnoteDefinition label) content from to o k = k

@@ -1,6 +1,6 @@
 -- The segments of a document: its blocks are no links and need no option of spans, and its leaves stand one behind the other.
 use Rattle.std.proofs.Common.{◌≡◌, ℕ, ◌≤◌, List, [], ◌∷◌, ◌++◌, refl, arith}
-use Rattle.cmark_grammar.specs.BlockDocument.{BlockKind, Paragraph, TightParagraph, Heading, ThematicBreak, IndentedCode, FencedCode, HtmlBlock, LinkDefinition, MetadataBlock, BlockQuote, BlockList, ListItem, FootnoteDefinition, Text, OwnedText, Html, BlockNode, BlockDocument, Nil, Node}
+use Rattle.cmark_grammar.specs.BlockDocument.{BlockKind, Paragraph, TightParagraph, Heading, ThematicBreak, IndentedCode, FencedCode, HtmlBlock, LinkDefinition, MetadataBlock, BlockQuote, BlockList, ListItem, FootnoteDefinition, Text, OwnedText, Html, BlockNode, BlockDocument, Nil, Node, Table, TableHead, TableRow, TableCell}
 use Rattle.cmark_grammar.specs.BlockReading.{Reads, Around, Inside, Alone, Silent, read_as, over}
 use Rattle.cmark_grammar.specs.Event.{Event, Start, End}
 use Rattle.cmark_grammar.specs.LeafText.{Stretch, InTurn}
@@ -40,6 +40,10 @@ inside_given Holds IndentedCode content others k = k
 inside_given Holds (FencedCode info) content others k = k
 inside_given Holds HtmlBlock content others k = k
 inside_given Holds (MetadataBlock kind) content others k = k
+inside_given Holds (Table alignments) content others k = k
+inside_given Holds TableHead content others k = k
+inside_given Holds TableRow content others k = k
+inside_given Holds TableCell content others k = tt
 inside_given Holds (LinkDefinition reference) content others k = k
 inside_given Holds (BlockQuote alert) content others k = k
 inside_given Holds (FootnoteDefinition label) content others k = k
@@ -76,6 +80,10 @@ kind_neither IndentedCode = (refl, refl)
 kind_neither (FencedCode info) = (refl, refl)
 kind_neither HtmlBlock = (refl, refl)
 kind_neither (MetadataBlock kind) = (refl, refl)
+kind_neither (Table alignments) = (refl, refl)
+kind_neither TableHead = (refl, refl)
+kind_neither TableRow = (refl, refl)
+kind_neither TableCell = (refl, refl)
 kind_neither (LinkDefinition reference) = tt
 kind_neither (BlockQuote alert) = (refl, refl)
 kind_neither (FootnoteDefinition label) = (refl, refl)
@@ -98,6 +106,10 @@ kind_optionless options IndentedCode = (tt, tt)
 kind_optionless options (FencedCode info) = (tt, tt)
 kind_optionless options HtmlBlock = (tt, tt)
 kind_optionless options (MetadataBlock kind) = (tt, tt)
+kind_optionless options (Table alignments) = (tt, tt)
+kind_optionless options TableHead = (tt, tt)
+kind_optionless options TableRow = (tt, tt)
+kind_optionless options TableCell = (tt, tt)
 kind_optionless options (LinkDefinition reference) = tt
 kind_optionless options (BlockQuote alert) = (tt, tt)
 kind_optionless options (FootnoteDefinition label) = (tt, tt)
@@ -132,18 +144,22 @@ rise_append from mid to [] b h k = rise_from from mid b to h k
 rise_append from mid to (Given r ∷ a) b h k = rise_append from mid to a b h k
 rise_append from mid to (Content leaf ∷ a) b h k = (h.0, h.1, rise_append h.0 mid to a b h.2 k)
 
-leaf_rise : (from to : ℕ) (content : BlockDocument) → InOrder from content to → LeavesRise from (Content (leaf_of content) ∷ []) to
-leaf_rise from to content h = (to, stretches-turn from from content to to (omega arith) (omega arith) h, (let x : to ≤ to = omega arith in x))
+leaf_rise : (from to : ℕ) (kind : BlockKind) (content : BlockDocument) → InOrder from content to → LeavesRise from (Content (leaf_of kind content) ∷ []) to
+leaf_rise from to kind content h = (to, stretches-turn from from content to to (omega arith) (omega arith) h, (let x : to ≤ to = omega arith in x))
 
 inside_rise : (from to : ℕ) (kind : BlockKind) (content : BlockDocument) (others : List Segment) → InOrder from content to → LeavesRise from others to → LeavesRise from (inside_of kind content others) to
-inside_rise from to Paragraph content others h k = leaf_rise from to content h
-inside_rise from to TightParagraph content others h k = leaf_rise from to content h
-inside_rise from to (Heading level attributes) content others h k = leaf_rise from to content h
+inside_rise from to Paragraph content others h k = leaf_rise from to Paragraph content h
+inside_rise from to TightParagraph content others h k = leaf_rise from to TightParagraph content h
+inside_rise from to (Heading level attributes) content others h k = leaf_rise from to (Heading level attributes) content h
 inside_rise from to ThematicBreak content others h k = k
 inside_rise from to IndentedCode content others h k = k
 inside_rise from to (FencedCode info) content others h k = k
 inside_rise from to HtmlBlock content others h k = k
 inside_rise from to (MetadataBlock kind) content others h k = k
+inside_rise from to (Table alignments) content others h k = k
+inside_rise from to TableHead content others h k = k
+inside_rise from to TableRow content others h k = k
+inside_rise from to TableCell content others h k = leaf_rise from to TableCell content h
 inside_rise from to (LinkDefinition reference) content others h k = k
 inside_rise from to (BlockQuote alert) content others h k = k
 inside_rise from to (FootnoteDefinition label) content others h k = k

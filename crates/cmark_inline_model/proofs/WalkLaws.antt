@@ -4,7 +4,7 @@ use Rattle.std.proofs.Common.{◌≡◌, ℕ, List, [], ◌∷◌, ◌++◌, ref
 use Rattle.std.proofs.lemmas.List.{append_assoc}
 use Rattle.cmark_grammar.specs.Answers.{Lookup}
 use Rattle.cmark_grammar.specs.Balance.{IsSingle}
-use Rattle.cmark_grammar.specs.BlockDocument.{BlockKind, Paragraph, TightParagraph, Heading, ThematicBreak, IndentedCode, FencedCode, HtmlBlock, LinkDefinition, MetadataBlock, BlockQuote, BlockList, ListItem, FootnoteDefinition, Text, OwnedText, Html, BlockNode, BlockDocument, Nil, Node}
+use Rattle.cmark_grammar.specs.BlockDocument.{BlockKind, Paragraph, TightParagraph, Heading, ThematicBreak, IndentedCode, FencedCode, HtmlBlock, LinkDefinition, MetadataBlock, BlockQuote, BlockList, ListItem, FootnoteDefinition, Text, OwnedText, Html, BlockNode, BlockDocument, Nil, Node, Table, TableHead, TableRow, TableCell}
 use Rattle.cmark_grammar.specs.BlockReading.{Reads, Around, Inside, Alone, Silent, read_as, over}
 use Rattle.cmark_grammar.specs.Derivation.{Derives}
 use Rattle.cmark_grammar.specs.Event.{Event, Start, End, Text as TextEvent, Code, InlineHtml, SoftBreak, HardBreak, Ranged}
@@ -96,6 +96,10 @@ module _ (text : List ℕ) where
   inside_matches HtmlBlock content others k = k
   inside_matches (LinkDefinition reference) content others k = k
   inside_matches (MetadataBlock kind) content others k = k
+  inside_matches (Table alignments) content others k = k
+  inside_matches TableHead content others k = k
+  inside_matches TableRow content others k = k
+  inside_matches TableCell content others k = leaf_matches _
   inside_matches (BlockQuote alert) content others k = k
   inside_matches (FootnoteDefinition label) content others k = k
   inside_matches (BlockList number tight) content others k = k
@@ -148,6 +152,10 @@ module _ (text : List ℕ) where
   inside_edges HtmlBlock content others k = k
   inside_edges (LinkDefinition reference) content others k = k
   inside_edges (MetadataBlock kind) content others k = k
+  inside_edges (Table alignments) content others k = k
+  inside_edges TableHead content others k = k
+  inside_edges TableRow content others k = k
+  inside_edges TableCell content others k = tt
   inside_edges (BlockQuote alert) content others k = k
   inside_edges (FootnoteDefinition label) content others k = k
   inside_edges (BlockList number tight) content others k = k

@@ -1,9 +1,11 @@
 -- The items of a document's blocks as nodes of the grammar's documents.
 use Rattle.std.specs.Char.{encode_utf8}
-use Rattle.std.specs.Prelude.{ℕ, ◌%◌, Bool, ◌==◌, if◌then◌else◌, List, Option, Some, None, option_map, slice_get}
+use Rattle.std.specs.Prelude.{ℕ, ◌%◌, Bool, ◌==◌, if◌then◌else◌, List, [], Option, Some, None, option_map, slice_get}
 use Rattle.cmark_text.specs.Shown.{text_bytes, level_number, shown_block_quote_kind, shown_metadata_block_kind}
 use Rattle.cmark_tree.specs.Forest as forest
 use Rattle.cmark_tree.specs.Forest.{Forest}
+use Rattle.cmark_grammar.specs.Alignment.{Alignment}
+use Rattle.cmark_grammar.specs.Tables.{delimiter_row}
 use Rattle.cmark_grammar.specs.Attributes.{no_attributes, attributes_of}
 use Rattle.cmark_grammar.specs.Containers.{is_delimiter}
 use Rattle.cmark_grammar.specs.Tokens.{slice}
@@ -36,6 +38,11 @@ pub data Shape : Type 0 where
   HtmlSlice : Shape
   NoNode : Shape
 
+-- the columns that a delimiter row tells of
+abbrev pub columns_of : Option (List Alignment) → List Alignment
+columns_of None = []
+columns_of (Some alignments) = alignments
+
 abbrev pub shape : ItemBody → Shape
 shape body.Paragraph = Element document.Paragraph
 shape body.TightParagraph = Element document.TightParagraph
@@ -46,6 +53,10 @@ shape body.IndentCodeBlock = Element document.IndentedCode
 shape (body.FencedCodeBlock index) = Spelt document.FencedCode index.0
 shape body.HtmlBlock = Element document.HtmlBlock
 shape (body.MetadataBlock kind) = Element (document.MetadataBlock (shown_metadata_block_kind kind))
+shape (body.Table index) = Spelt (λ row. document.Table (columns_of (delimiter_row row))) index.0
+shape body.TableHead = Element document.TableHead
+shape body.TableRow = Element document.TableRow
+shape body.TableCell = Element document.TableCell
 shape (body.BlockQuote kind) = Element (document.BlockQuote (option_map shown_block_quote_kind kind))
 shape (body.List flags mark number) = Element (document.BlockList (list_number mark number) (is_tight flags))
 shape (body.ListItem width) = Element document.ListItem

@@ -2,7 +2,7 @@
 
 ghost use Rattle.cmark_items.specs.Spans.{spans};
 
-use crate::allocations::{AlignmentIndex, CowIndex, LinkIndex};
+use crate::allocations::{CowIndex, LinkIndex};
 use crate::list_flags::ListFlags;
 use cmark_text::{BlockQuoteKind, HeadingLevel, MetadataBlockKind};
 use cmark_tree::TreeSpan;
@@ -141,8 +141,8 @@ pub enum ItemBody {
     DefinitionListTitle,
     /// A definition, and the width of its prefix in columns.
     DefinitionListDefinition(usize),
-    /// A table (GFM 4.10).
-    Table(AlignmentIndex),
+    /// A table (GFM 4.10), and its delimiter row.
+    Table(CowIndex),
     /// A table's head.
     TableHead,
     /// A table's row.

@@ -14,7 +14,7 @@ ghost use Rattle.cmark_builder.specs.Drawn.{Draws};
 ghost use Rattle.cmark_lines.specs.Rests.{row_of};
 ghost use Rattle.cmark_leaves.specs.Closings.{behind_opening, without_closing_bytes, without_attributes_bytes, Finds};
 
-use crate::trailing::{is_blank, without_trailing, without_trailing_blanks};
+use crate::trailing::{count_blanks, without_trailing, without_trailing_blanks};
 use crate::words::draw_words;
 use cmark_builder::Builder;
 use cmark_lines::LineRest;
@@ -26,14 +26,6 @@ fn count_hashes(bytes: &[u8]) -> usize
     ensures within { result ≤ length bytes.now }
 {
     bytes.iter().take_while(|byte| **byte == b'#').count()
-}
-
-/// How many spaces and tabs stand in front.
-fn count_blanks(bytes: &[u8]) -> usize
-    ensures value { result ≡ length (take_while is_blank_byte bytes.now) }
-    ensures within { result ≤ length bytes.now }
-{
-    bytes.iter().take_while(|byte| is_blank(**byte)).count()
 }
 
 /// What stands behind an opening sequence and the blanks there.

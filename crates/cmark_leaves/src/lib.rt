@@ -6,6 +6,7 @@ mod heading;
 mod html;
 mod paragraph;
 mod stretch;
+mod table;
 mod trailing;
 mod words;
 
@@ -14,3 +15,4 @@ pub use heading::{draw_heading, find_attributes};
 pub use html::draw_html_line;
 pub use paragraph::{draw_last_lines, draw_lines};
 pub use stretch::Stretch;
+pub use table::{draw_head, draw_row};

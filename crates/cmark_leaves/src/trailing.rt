@@ -1,6 +1,7 @@
-//! What stands at the end of bytes.
+//! What stands in front and at the end of bytes.
 
 ghost use Rattle.std.specs.Prelude.{◌≡◌, ◌==◌, ◌≤◌, length};
+ghost use Rattle.std.specs.List.{take_while};
 ghost use Rattle.cmark_grammar.specs.Columns.{is_blank_byte, drop_end};
 
 /// Whether a byte is a space or a tab.
@@ -9,6 +10,14 @@ pub(crate) fn is_blank(byte: u8) -> bool
     ensures { result ≡ is_blank_byte byte }
 {
     byte == b' ' || byte == b'\t'
+}
+
+/// How many spaces and tabs stand in front.
+pub(crate) fn count_blanks(bytes: &[u8]) -> usize
+    ensures value { result ≡ length (take_while is_blank_byte bytes.now) }
+    ensures within { result ≤ length bytes.now }
+{
+    bytes.iter().take_while(|byte| is_blank(**byte)).count()
 }
 
 /// Without the spaces and tabs at the end.

@@ -7,6 +7,8 @@ use Rattle.cmark_grammar.specs.Rows.{Row, lazy_row, is_blank_line, indent_of, wo
 use Rattle.cmark_grammar.specs.Leaves.{is_thematic_break, is_atx_heading, fence_of, underlines}
 use Rattle.cmark_grammar.specs.HtmlBlocks.{html_kind}
 use Rattle.cmark_grammar.specs.Containers.{Container, Quote, Item, Footnote, Marker, marker_of, item_with, item_of, is_quote, keeps}
+use Rattle.cmark_grammar.specs.TableRows.{table_interrupts}
+use Rattle.cmark_grammar.proofs.BlockLaws.{lazy-interrupts as lazy-table}
 use Rattle.cmark_grammar.specs.Openings.{Plain, item_interrupts, is_some_fence, html_interrupts, interrupts, texts, lazily, opens}
 
 -- no container keeps a line that lacks an outer prefix
@@ -42,13 +44,19 @@ module _ (options : Options) (r : Row) (ahead : List Row) where
 
   pub lazy-texts : texts options (lazy_row r) ahead ≡ not (interrupts options false r ahead)
   unfolding texts
-  lazy-texts = ap not (lazy-interrupts false)
+  lazy-texts =
+      ap (λ z. not (interrupts options false (lazy_row r) ahead || z)) (lazy-table options (lazy_row r) ahead refl)
+      ∙ ap (λ z. not (z || false)) (lazy-interrupts false) ∙ go (interrupts options false r ahead)
+    where
+      go : (z : Bool) → not (z || false) ≡ not z
+      go true = refl
+      go false = refl
 
-  pub lazily-is : (k : Container) → lazily options k r ahead ≡ not (interrupts options false r ahead)
+  pub lazily-is : (k : Container) → lazily options k r ahead ≡ not (interrupts options false r ahead || table_interrupts options r ahead)
   unfolding lazily
   lazily-is k = refl
 
-  -- a line that lacks none goes on with a paragraph where it does not interrupt one of the same container
-  pub whole-texts : r.lazy ≡ false → texts options r ahead ≡ not (interrupts options true r ahead)
+  -- a line that lacks none goes on with a paragraph where neither it nor a table that it begins interrupts one of the same container
+  pub whole-texts : r.lazy ≡ false → texts options r ahead ≡ not (interrupts options true r ahead || table_interrupts options r ahead)
   unfolding texts
-  whole-texts whole = ap (λ z. not (interrupts options (not z) r ahead)) whole
+  whole-texts whole = ap (λ z. not (interrupts options (not z) r ahead || table_interrupts options r ahead)) whole

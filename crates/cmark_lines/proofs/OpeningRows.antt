@@ -11,8 +11,9 @@ use Rattle.cmark_grammar.specs.LinkDefinitions.{label_in, with_label, definition
 use Rattle.cmark_grammar.specs.BlockQuoteKind.{BlockQuoteKind}
 use Rattle.cmark_grammar.specs.Alerts.{alert_in}
 use Rattle.cmark_grammar.specs.Containers.{Container, Quote, Item, begins_with, is_quote, quote_width, item_of, container_with, container_of, enter}
-use Rattle.cmark_grammar.specs.Openings.{Opening, Blank, Nests, Takes, Plain, AtxHeading, IndentedCode, or_else, nests_if, is_one, item_interrupts, fenced_if, html_if, break_if, heading_if, defined_if, metadata_begun, text_lines, definition_of, leaf_of, whole_opens, opens}
+use Rattle.cmark_grammar.specs.Openings.{Opening, Blank, Nests, Takes, Plain, AtxHeading, IndentedCode, or_else, nests_if, is_one, item_interrupts, fenced_if, html_if, break_if, heading_if, defined_if, metadata_begun, text_lines, definition_of, table_if, text_of, leaf_of, whole_opens, opens}
 use Rattle.cmark_grammar.specs.Metadata.{metadata_kind}
+use Rattle.cmark_grammar.specs.TableRows.{table_head}
 use Rattle.cmark_grammar.specs.MetadataBlockKind.{MetadataBlockKind}
 use Rattle.cmark_grammar.proofs.BlockLaws.{enter_len}
 use Rattle.cmark_grammar.proofs.RowEdges.{enter-good}
@@ -59,20 +60,20 @@ module _ (options : Options) (r : Row) (ahead : List Row) where
       fence = fence_of (indent_of r) (words_of r)
 
       other : Opening
-      other = definition_of options r ahead
+      other = text_of options r ahead
 
       go : (z : Bool) → Some n ≡ (if z then Some (run 35 (words_of r)) else None) → in_order None false z (run 35 (words_of r)) fence other ≡ Takes (AtxHeading n) 0
       go true e = let q : n ≡ run 35 (words_of r) = cc in ap (λ m. Takes (AtxHeading m) 0) (sym q)
       go false e = absurd (let q : Some n ≡ None = e in cc)
 
-  pub leaf-plain : html_kind (words_of r) ≡ None → is_thematic_break (words_of r) ≡ false → None ≡ atx_level (words_of r) → None ≡ fence_of (indent_of r) (words_of r) → begins_with 91 (words_of r) ≡ false → leaf_of options r ahead ≡ Plain
+  pub leaf-plain : html_kind (words_of r) ≡ None → is_thematic_break (words_of r) ≡ false → None ≡ atx_level (words_of r) → None ≡ fence_of (indent_of r) (words_of r) → begins_with 91 (words_of r) ≡ false → leaf_of options r ahead ≡ table_if options (table_head options r ahead) ahead
   leaf-plain kind broken level fence bracket =
-      ap (λ k. in_order k (is_thematic_break (words_of r)) (is_atx_heading (words_of r)) (run 35 (words_of r)) (fence_of (indent_of r) (words_of r)) (definition_of options r ahead)) kind
-      ∙ ap (λ z. in_order None z (is_atx_heading (words_of r)) (run 35 (words_of r)) (fence_of (indent_of r) (words_of r)) (definition_of options r ahead)) broken
-      ∙ ap (λ f. in_order None false (is_atx_heading (words_of r)) (run 35 (words_of r)) f (definition_of options r ahead)) (sym fence)
-      ∙ ap (λ o. in_order None false (is_atx_heading (words_of r)) (run 35 (words_of r)) None o) (no-definition bracket) ∙ go (is_atx_heading (words_of r)) level
+      ap (λ k. in_order k (is_thematic_break (words_of r)) (is_atx_heading (words_of r)) (run 35 (words_of r)) (fence_of (indent_of r) (words_of r)) (text_of options r ahead)) kind
+      ∙ ap (λ z. in_order None z (is_atx_heading (words_of r)) (run 35 (words_of r)) (fence_of (indent_of r) (words_of r)) (text_of options r ahead)) broken
+      ∙ ap (λ f. in_order None false (is_atx_heading (words_of r)) (run 35 (words_of r)) f (text_of options r ahead)) (sym fence)
+      ∙ ap (λ o. in_order None false (is_atx_heading (words_of r)) (run 35 (words_of r)) None (or_else o (table_if options (table_head options r ahead) ahead))) (no-definition bracket) ∙ go (is_atx_heading (words_of r)) level
     where
-      go : (z : Bool) → None ≡ (if z then Some (run 35 (words_of r)) else None) → in_order None false z (run 35 (words_of r)) None Plain ≡ Plain
+      go : (z : Bool) → None ≡ (if z then Some (run 35 (words_of r)) else None) → in_order None false z (run 35 (words_of r)) None (table_if options (table_head options r ahead) ahead) ≡ table_if options (table_head options r ahead) ahead
       go true e = absurd (let q : None ≡ Some (run 35 (words_of r)) = e in cc)
       go false e = refl
 

@@ -12,7 +12,8 @@ use Rattle.cmark_grammar.specs.HtmlBlocks.{html_kind, kind_behind}
 use Rattle.cmark_grammar.specs.Containers.{is_bullet, is_digit, digits, delimited, marker_of, item_with, begins_with, quote_width, container_with}
 use Rattle.cmark_grammar.specs.BlockQuoteKind.{BlockQuoteKind}
 use Rattle.cmark_grammar.specs.Alerts.{alert_in}
-use Rattle.cmark_grammar.specs.Openings.{Plain, item_interrupts, is_some_fence, html_interrupts, interrupts, leaf_of}
+use Rattle.cmark_grammar.specs.Openings.{item_interrupts, is_some_fence, html_interrupts, interrupts, table_if, leaf_of}
+use Rattle.cmark_grammar.specs.TableRows.{begins_with_pipe, is_some_head, table_head, table_interrupts}
 use Rattle.cmark_scan.specs.LeafLines.{atx_level}
 use Rattle.cmark_lines.specs.Starts.{begun_container, begins_marker}
 use Rattle.cmark_lines.proofs.OpeningRows.{leaf-plain}
@@ -142,6 +143,16 @@ letter-interrupts-not options same r ahead e =
     rest : List ℕ → Bool
     rest ws = nat_le (indent_of r) 3 && ((nat_le (indent_of r) 3 && begins_with 62 ws) || others ws)
 
+-- no table begins so in the midst of a paragraph
+pub letter-table-not : (options : Options) (r : Row) (ahead : List Row) → first_is is_letter (words_of r) ≡ true → table_interrupts options r ahead ≡ false
+letter-table-not options r ahead e =
+    let first = first-letter (words_of r) e in
+    let b : ℕ = first.0 in
+    let bs : List ℕ = first.1.0 in
+    ap (λ ws. nat_le (indent_of r) 3 && (begins_with_pipe ws && is_some_head (table_head options r ahead))) first.1.1
+    ∙ ap (λ z. nat_le (indent_of r) 3 && (z && is_some_head (table_head options r ahead))) (apart b 124 first.1.2 refl)
+    ∙ and-false (nat_le (indent_of r) 3)
+
 pub letter-underlines-not : (r : Row) → first_is is_letter (words_of r) ≡ true → underlines r ≡ None
 unfolding underlines
 letter-underlines-not r e =
@@ -162,7 +173,7 @@ letter-underlines-not r e =
     go true = refl
     go false = refl
 
-pub letter-leaf : (options : Options) (r : Row) (ahead : List Row) → first_is is_letter (words_of r) ≡ true → leaf_of options r ahead ≡ Plain
+pub letter-leaf : (options : Options) (r : Row) (ahead : List Row) → first_is is_letter (words_of r) ≡ true → leaf_of options r ahead ≡ table_if options (table_head options r ahead) ahead
 letter-leaf options r ahead e =
     let first = first-letter (words_of r) e in
     let b : ℕ = first.0 in

@@ -7,7 +7,8 @@ use Rattle.cmark_grammar.specs.Leaves.{counted, code_further, is_thematic_break,
 use Rattle.cmark_grammar.specs.HtmlBlocks.{html_kind, html_lines}
 use Rattle.cmark_grammar.specs.Containers.{begins_with}
 use Rattle.cmark_grammar.specs.Openings as grammar
-use Rattle.cmark_grammar.specs.Openings.{definition_of, fenced_if, is_some_fence, html_interrupts}
+use Rattle.cmark_grammar.specs.Openings.{table_if, text_of, fenced_if, is_some_fence, html_interrupts}
+use Rattle.cmark_grammar.specs.TableRows.{table_head}
 use Rattle.cmark_text.specs.Shown.{level_number}
 use Rattle.cmark_scan.specs.HtmlLines.{kind_number}
 use Rattle.cmark_scan.specs.LeafLines.{shown_fence, HasPlace}
@@ -26,8 +27,8 @@ opened options (Html kind) r ahead = grammar.Takes (grammar.HtmlBlock (kind_numb
 opened options ThematicBreak r ahead = grammar.Takes grammar.ThematicBreak 0
 opened options (AtxHeading level) r ahead = grammar.Takes (grammar.AtxHeading (level_number level)) 0
 opened options (FencedCode indent fence) r ahead = fenced_if (Some (shown_fence indent (words_of r) fence)) ahead
-opened options Bracket r ahead = definition_of options r ahead
-opened options Plain r ahead = grammar.Plain
+opened options Bracket r ahead = text_of options r ahead
+opened options Plain r ahead = table_if options (table_head options r ahead) ahead
 
 -- the line inside a container is the one behind the container's marker
 abbrev pub HasInside : Opening → Row → Type 0

@@ -38,9 +38,9 @@ pub enum Opening<'a> {
         fence: CodeFence,
     },
     /// None of the above, and the words begin with `[`: a link reference definition (CommonMark 4.7), if one can be read from
-    /// this line and those ahead, and else a paragraph.
+    /// this line and those ahead, and else a table or a paragraph.
     Bracket,
-    /// A paragraph (CommonMark 4.8).
+    /// A table (GFM 4.10), if this line is the head of one, and else a paragraph (CommonMark 4.8).
     Plain,
 }
 

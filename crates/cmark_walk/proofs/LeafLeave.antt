@@ -11,21 +11,21 @@ use Rattle.cmark_text.specs.Shown.{shown_end}
 use Rattle.cmark_grammar.specs.Event as event
 use Rattle.cmark_grammar.specs.BlockReading.{read_as}
 use Rattle.cmark_grammar.specs.DrawnDocument.{kind_within, settled}
-use Rattle.cmark_grammar.specs.SpanDocuments.{Segment, Given, leaf_of, segments}
+use Rattle.cmark_grammar.specs.SpanDocuments.{Segment, Given, segments}
 use Rattle.cmark_items.specs.declared.item.Item.{Item}
 use Rattle.cmark_leaf_text.specs.declared.stretch.LeafLine.{LeafLine}
 use Rattle.cmark_walk.specs.declared.walk.Walk.{Walk}
 use Rattle.cmark_walk.specs.declared.reading.Met.TheVariants as met
 use Rattle.cmark_walk.specs.declared.reading.Stage.TheVariants as stage
 use Rattle.cmark_walk.specs.declared.reading.Step.{Step}
-use Rattle.cmark_walk.specs.Walking.{Gives, GivesStep, GivesRanged, Goes, HoldsLines, IsStaged, Remains, content_of, left_above, left_behind, left_from, leaving, texts_of, tight_below}
+use Rattle.cmark_walk.specs.Walking.{Gives, GivesStep, GivesRanged, Goes, HoldsLines, IsStaged, Remains, leaf_at, left_above, left_behind, left_from, leaving, texts_of, tight_below}
 use Rattle.cmark_walk.proofs.WalkSteps.{Focus, IsFocusAt, IsItem, at-item, beyond, gives-step, left-staged, moved, over-range, passed, remains-before, staged}
 use Rattle.cmark_walk.proofs.LeaveSteps.{EndsAs, leaving-none, leaving-some}
 
 -- the lines of the leaf are met, and what stands behind them is left
 pub meets-leaf : (walk : Walk) (lines : List LeafLine) → walk.stage ≡ stage.Lines → HoldsLines walk lines → (left : List Segment) → Remains walk left → Gives left met.Leaf lines (staged walk stage.Behind)
 meets-leaf walk lines now holds left r = (
-  leaf_of (content_of r.here),
+  leaf_at r.here,
   left_from stage.Behind r.here r.above,
   left-staged walk stage.Lines left now r,
   holds r.z r.here r.above r.stands,

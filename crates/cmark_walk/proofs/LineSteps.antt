@@ -12,12 +12,12 @@ use Rattle.cmark_text.specs.declared.text.CowStr.{CowStr}
 use Rattle.cmark_grammar.specs.BlockDocument as document
 use Rattle.cmark_grammar.specs.BlockDocument.{BlockNode, BlockDocument}
 use Rattle.cmark_grammar.specs.Ranges.{InOrder}
-use Rattle.cmark_grammar.specs.SpanDocuments.{leaf_of, stretches_of}
+use Rattle.cmark_grammar.specs.SpanDocuments.{stretches_of}
 use Rattle.cmark_items.specs.declared.item.Item.{Item}
 use Rattle.cmark_leaf_text.specs.declared.stretch.LeafLine.{LeafLine}
 use Rattle.cmark_leaf_text.specs.Stretches.{AreLines}
 use Rattle.cmark_walk.specs.declared.walk.Walk.{Walk}
-use Rattle.cmark_walk.specs.Walking.{AreLinesOf, Drawn, Draws, Goes, Outer, StandsAt, content_of, lines_of, texts_of}
+use Rattle.cmark_walk.specs.Walking.{AreLinesOf, Drawn, Draws, Goes, Outer, StandsAt, content_of, leaf_at, lines_of, texts_of}
 use Rattle.cmark_walk.proofs.WalkSteps.{IsFocusAt, range-of-item}
 
 -- the nodes of a leaf, in order, are lines
@@ -133,9 +133,13 @@ module _ (walk : Walk) where
   turn-at Nil (document.Node node inside after) d = absurd d
   turn-at (Node p f g) (document.Node node inside after) d = lines-turn walk.text.now (texts_of walk) 0 node.start f inside node.end (omega arith) d.1 d.3
 
+  content-stretches : (here : BlockDocument) → (leaf_at here).stretches ≡ stretches_of (content_of here)
+  content-stretches document.Nil = refl
+  content-stretches (document.Node node inside after) = refl
+
   pub lines-done : (lines : List LeafLine) (next : Option TreeIndex) → Gathered walk lines next → next ≡ None → (z : Zip Item) (here : BlockDocument) (above : List Outer) → StandsAt walk z here above
-      → AreLinesOf walk.text.now (leaf_of (content_of here)) lines
+      → AreLinesOf walk.text.now (leaf_at here) lines
   lines-done lines next h e z here above s =
       let k = h z here above s in
       let are = done-at lines (lines_of (stretches_of (content_of here))) k.rest k.left k.draws (sym e ∙ k.next_is) k.are in
-      record { are = are; in_turn = subst (AreLines walk.text.now 0) (sym are) (turn-at z.right here s.draws) }
+      record { are = are ∙ ap lines_of (sym (content-stretches here)); in_turn = subst (AreLines walk.text.now 0) (sym are) (turn-at z.right here s.draws) }

@@ -21,7 +21,8 @@ use Rattle.cmark_items.specs.declared.item.Item.{Item}
 use Rattle.cmark_items.specs.declared.item.ItemBody.{ItemBody}
 use Rattle.cmark_items.specs.declared.list_flags.ListFlags.{ListFlags}
 use Rattle.cmark_items.specs.declared.item.ItemBody.TheVariants as body
-use Rattle.cmark_items.specs.ItemNodes.{is_tight, list_number, text_at, ranged, kind_over, shape}
+use Rattle.cmark_grammar.specs.Tables.{delimiter_row}
+use Rattle.cmark_items.specs.ItemNodes.{is_tight, list_number, columns_of, text_at, ranged, kind_over, shape}
 use Rattle.cmark_walk.specs.declared.walk.Walk.{Walk}
 use Rattle.cmark_walk.specs.Walking.{Outer, DrawsAbove, StandsBelow, tight_below, texts_of, Drawn}
 
@@ -152,10 +153,10 @@ kind-within text texts start end tight (body.DefinitionList x0) kind e = absurd 
 kind-within text texts start end tight body.MaybeDefinitionListTitle kind e = absurd (let q : None ≡ Some kind = e in cc)
 kind-within text texts start end tight body.DefinitionListTitle kind e = absurd (let q : None ≡ Some kind = e in cc)
 kind-within text texts start end tight (body.DefinitionListDefinition x0) kind e = absurd (let q : None ≡ Some kind = e in cc)
-kind-within text texts start end tight (body.Table x0) kind e = absurd (let q : None ≡ Some kind = e in cc)
-kind-within text texts start end tight body.TableHead kind e = absurd (let q : None ≡ Some kind = e in cc)
-kind-within text texts start end tight body.TableRow kind e = absurd (let q : None ≡ Some kind = e in cc)
-kind-within text texts start end tight body.TableCell kind e = absurd (let q : None ≡ Some kind = e in cc)
+kind-within text texts start end tight (body.Table x0) kind e = ap (tight_within tight) (sym (spelt-kind (λ row. document.Table (columns_of (delimiter_row row))) (text_at texts x0.0) kind e).1)
+kind-within text texts start end tight body.TableHead kind e = ap (tight_within tight) (sym (same_Some document.TableHead kind e))
+kind-within text texts start end tight body.TableRow kind e = ap (tight_within tight) (sym (same_Some document.TableRow kind e))
+kind-within text texts start end tight body.TableCell kind e = ap (tight_within tight) (sym (same_Some document.TableCell kind e))
 
 pub drawn-within : (text : List ℕ) (texts : List CowStr) (item : Item) (node : BlockNode) (tight : Bool) → Drawn text texts item node → tight_within tight node.kind ≡ body_within tight item.body
 drawn-within text texts item node tight d =

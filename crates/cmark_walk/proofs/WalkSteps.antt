@@ -210,10 +210,10 @@ module _ (walk : Walk) (item : Item) (ix : TreeIndex) (t : Tree Item) (at : IsFo
   no-leaf-inside above node inside e =
       inside-block (kind_at above node) (settled (tight_within (tight_below above) node.kind) inside) (segments (settled (tight_within (tight_below above) node.kind) inside)) (leaf-within (tight_below above) node.kind ∙ e)
 
-  leaf-inside : (above : List Outer) (node : BlockNode) (inside : BlockDocument) → is_leaf node.kind ≡ true → inside_at above node inside ≡ Content (leaf_of inside) ∷ []
+  leaf-inside : (above : List Outer) (node : BlockNode) (inside : BlockDocument) → is_leaf node.kind ≡ true → inside_at above node inside ≡ Content (leaf_of node.kind inside) ∷ []
   leaf-inside above node inside e =
       inside-leaf (kind_at above node) (settled (tight_within (tight_below above) node.kind) inside) (segments (settled (tight_within (tight_below above) node.kind) inside)) (leaf-within (tight_below above) node.kind ∙ e)
-      ∙ ap (λ leaf. Content leaf ∷ []) (settled-leaf (tight_within (tight_below above) node.kind) inside)
+      ∙ ap (λ leaf. Content leaf ∷ []) (settled-leaf (tight_below above) node.kind (tight_within (tight_below above) node.kind) inside)
 
   pub enters-around : (tag : TextTag) (s : Step) → Reads-at walk item (reads.Around (shown_tag tag)) → Leaf-at walk item false → ((z : Zip Item) → Holds walk.tree z → HasFocus z → Holds t (pushed z))
       → GivesRanged (text_event.Start tag) item s
@@ -242,9 +242,9 @@ module _ (walk : Walk) (item : Item) (ix : TreeIndex) (t : Tree Item) (at : IsFo
   }
 
   lines-left : (left : List Segment) (r : Remains walk left) (f : Focus walk item ix r.z r.here)
-      → Content (leaf_of f.inside) ∷ (leaving (read_as (kind_at r.above f.node)) f.node ++ (after_at r.above f.after ++ left_above r.above)) ≡ left_from stage.Lines r.here r.above
+      → Content (leaf_of f.node.kind f.inside) ∷ (leaving (read_as (kind_at r.above f.node)) f.node ++ (after_at r.above f.after ++ left_above r.above)) ≡ left_from stage.Lines r.here r.above
   lines-left left r f =
-      ap (λ l. Content (leaf_of f.inside) ∷ l) (sym (append_assoc (leaving (read_as (kind_at r.above f.node)) f.node) (after_at r.above f.after) (left_above r.above)))
+      ap (λ l. Content (leaf_of f.node.kind f.inside) ∷ l) (sym (append_assoc (leaving (read_as (kind_at r.above f.node)) f.node) (after_at r.above f.after) (left_above r.above)))
       ∙ ap (λ h. left_from stage.Lines h r.above) (sym f.here_is)
 
   pub enters-leaf : (tag : TextTag) (s : Step) → Reads-at walk item (reads.Around (shown_tag tag)) → Leaf-at walk item true → GivesRanged (text_event.Start tag) item s

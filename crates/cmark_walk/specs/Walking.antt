@@ -90,6 +90,11 @@ abbrev pub content_of : BlockDocument → BlockDocument
 content_of document.Nil = document.Nil
 content_of (document.Node node inside after) = inside
 
+-- the first of these nodes as a leaf
+abbrev pub leaf_at : BlockDocument → Leaf
+leaf_at document.Nil = record { stretches = []; is_cell = false }
+leaf_at (document.Node node inside after) = leaf_of node.kind inside
+
 -- what is left of these nodes behind the lines of the first, a leaf
 abbrev pub left_behind : BlockDocument → List Outer → List Segment
 left_behind document.Nil above = []
@@ -99,7 +104,7 @@ left_behind (document.Node node inside after) above = leaving (read_as (kind_wit
 -- lines, if they were not met yet, and what stands behind them
 abbrev pub left_at : Stage → BlockDocument → List Outer → List Segment
 left_at stage.Before here above = segments (settled (tight_below above) here)
-left_at stage.Lines here above = Content (leaf_of (content_of here)) ∷ left_behind here above
+left_at stage.Lines here above = Content (leaf_at here) ∷ left_behind here above
 left_at stage.Behind here above = left_behind here above
 
 abbrev pub left_from : Stage → BlockDocument → List Outer → List Segment
@@ -192,7 +197,7 @@ GivesStep left step.Over lines walk = Gives left met.Over lines walk
 
 -- these are the lines of the leaf at the focus
 abbrev pub HoldsLines : Walk → List LeafLine → Type 0
-HoldsLines walk lines = (z : Zip Item) (here : BlockDocument) (above : List Outer) → StandsAt walk z here above → AreLinesOf walk.text.now (leaf_of (content_of here)) lines
+HoldsLines walk lines = (z : Zip Item) (here : BlockDocument) (above : List Outer) → StandsAt walk z here above → AreLinesOf walk.text.now (leaf_at here) lines
 
 -- this event with the item's range
 abbrev pub GivesRanged : TextEvent → Item → Step → Type 0

@@ -12,10 +12,11 @@ ghost use Rattle.cmark_grammar.specs.Ranges.{InOrder, AllAt};
 ghost use Rattle.cmark_grammar.specs.SpanDocuments.{Segment, segments, is_leaf};
 ghost use Rattle.cmark_grammar.specs.Event as event;
 ghost use Rattle.cmark_grammar.specs.Tokens.{slice};
-ghost use Rattle.cmark_items.specs.ItemNodes.{shown_forest, nodes_of, list_number};
+ghost use Rattle.cmark_items.specs.ItemNodes.{shown_forest, nodes_of, list_number, columns_of};
 ghost use Rattle.cmark_items.specs.Tables.{tables};
 ghost use Rattle.cmark_grammar.specs.Attributes.{attributes_of};
-ghost use Rattle.cmark_grammar.specs.Tag.{Heading};
+ghost use Rattle.cmark_grammar.specs.Tables.{delimiter_row};
+ghost use Rattle.cmark_grammar.specs.Tag.{Heading, Table};
 ghost use Rattle.cmark_text.specs.Shown.{shown, shown_tag, shown_end, text_bytes, level_number};
 ghost use Rattle.cmark_text.specs.ZeroCopy.{IsLentBy, IsZeroCopy};
 ghost use Rattle.cmark_walk.specs.Reads.{event_in, tag_in, end_in, shown_reading};
@@ -29,13 +30,14 @@ use crate::reading::{Met, Ranged, Reading, Stage, Step};
 use bitflags::Flags;
 use cmark_items::{Allocations, HeadingAttributes, Item, ItemBody, RefDefs};
 use cmark_leaf_text::LeafLine;
+use cmark_scan::scan_table_head;
 use cmark_text::{CodeBlockKind, CowStr, Event, HeadingLevel, Tag, TagEnd};
 use cmark_tree::{Tree, TreeIndex};
 use std::alloc::{AllocError, Global};
 
 /// A walk over the tree of a document, which meets the events of its blocks and the lines of its leaves in the order of the text.
 ///
-/// A leaf is a paragraph or a heading: whether a text is content that has spans is seen from the node around it, so the texts of code,
+/// A leaf is a paragraph, a heading or the cell of a table: whether a text is content that has spans is seen from the node around it, so the texts of code,
 /// of HTML blocks and of metadata are events. A paragraph that stands directly in an item of a tight list is met as its lines alone (CommonMark
 /// 5.3).
 #[derive(Drop)]
@@ -342,6 +344,13 @@ impl<'a> Walk<'a> {
                 Ok(Some(Tag::CodeBlock(CodeBlockKind::Fenced(info))))
             }
             ItemBody::HtmlBlock => Ok(Some(Tag::HtmlBlock)),
+            ItemBody::Table(index) => {
+                let row = self.allocations[index].as_str();
+                Ok(Some(table(self.alloc, row)?))
+            }
+            ItemBody::TableHead => Ok(Some(Tag::TableHead)),
+            ItemBody::TableRow => Ok(Some(Tag::TableRow)),
+            ItemBody::TableCell => Ok(Some(Tag::TableCell)),
             ItemBody::MetadataBlock(kind) => Ok(Some(Tag::MetadataBlock(kind))),
             ItemBody::BlockQuote(kind) => Ok(Some(Tag::BlockQuote(kind))),
             ItemBody::List(_, mark, number) => Ok(Some(Tag::List(first_number(mark, number)))),
@@ -373,6 +382,10 @@ impl<'a> Walk<'a> {
             ItemBody::IndentCodeBlock => Some(TagEnd::CodeBlock),
             ItemBody::FencedCodeBlock(_) => Some(TagEnd::CodeBlock),
             ItemBody::HtmlBlock => Some(TagEnd::HtmlBlock),
+            ItemBody::Table(_) => Some(TagEnd::Table),
+            ItemBody::TableHead => Some(TagEnd::TableHead),
+            ItemBody::TableRow => Some(TagEnd::TableRow),
+            ItemBody::TableCell => Some(TagEnd::TableCell),
             ItemBody::MetadataBlock(kind) => Some(TagEnd::MetadataBlock(kind)),
             ItemBody::BlockQuote(kind) => Some(TagEnd::BlockQuote(kind)),
             ItemBody::List(_, mark, number) => {
@@ -402,7 +415,7 @@ impl<'a> Walk<'a> {
     }
 }
 
-// Whether an item is a leaf, whose lines have spans (CommonMark 4.2, 4.3 and 4.8).
+// Whether an item is a leaf, whose lines have spans (CommonMark 4.2, 4.3 and 4.8, GFM 4.10).
 #[inline(always)]
 fn is_leaf(item: Item) -> bool
     ensures { (text : List ℕ) (texts : List CowStr) (node : BlockNode) → Drawn text texts item node → result ≡ is_leaf node.kind }
@@ -411,6 +424,7 @@ fn is_leaf(item: Item) -> bool
         ItemBody::Paragraph => true,
         ItemBody::TightParagraph => true,
         ItemBody::Heading(_, _) => true,
+        ItemBody::TableCell => true,
         _ => false,
     }
 }
@@ -426,6 +440,16 @@ fn heading<'a>(alloc: Global, level: HeadingLevel, words: &str) -> Result<Tag<'a
         classes,
         attrs,
     })
+}
+
+// The tag of a table with this delimiter row (GFM 4.10).
+fn table<'a>(alloc: Global, row: &str) -> Result<Tag<'a>, AllocError>
+    ensures { IfOk result (λ tag. shown_tag tag ≡ Table (columns_of (delimiter_row row.now))) }
+{
+    match scan_table_head(alloc, row.as_bytes())? {
+        Some(alignments) => Ok(Tag::Table(alignments)),
+        None => Ok(Tag::Table(Vec::new(alloc))),
+    }
 }
 
 // The number of the first item of a list with this character, if it is ordered (CommonMark 5.2).

@@ -1,7 +1,7 @@
 -- Steps of a walk.
 use Rattle.std.proofs.Common.{◌≡◌, ◌+◌, ◌*◌, ◌<◌, ℕ, suc, true, false, if◌then◌else◌, List, [], ◌∷◌, length, None, Some, Ok, inl, inr, refl, sym, ap, ◌∙◌, subst, arith}
 use Rattle.cmark_block_model.proofs.Drawings.{derived}
-use Rattle.cmark_block_model.proofs.LeafDrawings.{segments-few}
+use Rattle.cmark_block_model.proofs.LeafDrawings.{segments-bounded}
 use Rattle.cmark_grammar.specs.Answers.{Lookup}
 use Rattle.cmark_grammar.specs.Derivation.{document}
 use Rattle.cmark_grammar.specs.Event.{Ranged}
@@ -81,5 +81,5 @@ module _ {E F : Type 0} where
     can-begin r = record { goes = inr r.some }
 
 -- the events and leaves of its document are few
-pub begin-few : (text : List ℕ) (options : Options) (lookup : Lookup) → length (segments (document text options lookup)) < length text * 12 + 1
-begin-few text options lookup = let n = segments-few text options lookup (document text options lookup) (derived text options lookup) in omega (arith, n)
+pub begin-few : (text : List ℕ) (options : Options) (lookup : Lookup) → length (segments (document text options lookup)) < length text * 786444 + 1
+begin-few text options lookup = let n = segments-bounded text options lookup (document text options lookup) (derived text options lookup) in omega (arith, n)

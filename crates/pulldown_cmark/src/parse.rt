@@ -32,8 +32,9 @@ pub struct Parser<'input, E, F = DefaultBrokenLinkCallback> {
     is_over: bool,
 }
 
-/// The most events of blocks and leaves that a byte of text gives.
-const EVENTS_A_BYTE: u128 = 12;
+/// The most events of blocks and leaves that a byte of text gives: twelve, and three for each of the 262,144 cells that may be filled in
+/// in a table, which has a byte at least.
+const EVENTS_A_BYTE: u128 = 786_444;
 
 impl<'input, E: EntityLookup> Parser<'input, E> {
     ghost use Rattle.pulldown_cmark.specs.Parsing.{Reads, Defines, CanGo, text_of};

@@ -1,5 +1,8 @@
-use Rattle.cmark_grammar.proofs.CountLaws.{derived-count}
+use Rattle.cmark_grammar.proofs.CountLaws.{derived-count, derived-tables}
 use Rattle.cmark_grammar.proofs.block_laws.nodes_are_few.Goals as goal
 
-pub returns : goal.returns
-returns c = derived-count
+pub returns-clause-nodes : goal.returns-clause-nodes
+returns-clause-nodes c = derived-count
+
+pub returns-clause-tables : goal.returns-clause-tables
+returns-clause-tables c = derived-tables

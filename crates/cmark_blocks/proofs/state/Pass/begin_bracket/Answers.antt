@@ -18,9 +18,9 @@ returns-then-begins_no_definition-clause-runs g c text options lookup m inside b
     let ahead = ahead_in text options lookup m.outer (lines_at text r.past) in
     let more = text_lines options ahead in
     let seen : begins_none (words_of r) ≡ true = ap begins_none (sym c.words.ensures) ∙ sym c.begins_no_definition.ensures ∙ c.if-begins_no_definition.true in
-    subst (λ p. Runs g.E.EntityLookup.replacement text options lookup p c.begin_paragraph.new.self)
+    subst (λ p. Runs g.E.EntityLookup.replacement text options lookup p c.begin_text.new.self)
     (begins-none text options lookup m inside r ahead bare (sym (none-begins (further_bytes r more) (further-lacks r more) (words_of r) seen)))
-    (c.in_ok-begin_paragraph.ensures.runs text options lookup m runs)
+    (c.in_ok-begin_text.ensures.runs text options lookup m inside bare runs)
 
 pub returns-clause-runs : goal.returns-clause-runs
 returns-clause-runs g c text options lookup m inside bare runs =

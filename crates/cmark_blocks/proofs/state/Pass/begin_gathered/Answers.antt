@@ -19,10 +19,10 @@ returns-in_default-clause-runs g c text options lookup m inside bare runs =
     let holds = c.requires.holds text options lookup m runs in
     let more = left_bytes text options lookup m c.args.rest gathered holds in
     let none : None ≡ definition_in para = ap (option_map (shown_definition para)) (sym c.in_default.is) ∙ c.scan_definition.ensures.value in
-    subst (λ p. Runs replacement text options lookup p c.begin_paragraph.new.self)
+    subst (λ p. Runs replacement text options lookup p c.begin_text.new.self)
     (begins-none text options lookup m inside r ahead bare
     (ap (option_map (defined_before more)) none ∙ decided text options lookup m c.args.rest gathered holds para c.as_str-paragraph.ensures.value (c.requires.decides text options lookup m runs)))
-    (c.in_ok-begin_paragraph.ensures.runs text options lookup m runs)
+    (c.in_ok-begin_text.ensures.runs text options lookup m inside bare runs)
 
 pub returns-clause-runs : goal.returns-clause-runs
 returns-clause-runs g c text options lookup m inside bare runs =

@@ -58,10 +58,10 @@ returns-in-FencedCode-clause-runs g c =
 
 pub returns-in-Plain-clause-runs : goal.returns-in-Plain-clause-runs
 returns-in-Plain-clause-runs g c =
-    on_ok_weaker c.begin_paragraph.result
-    (λ begins. subst (λ o. BeginsAs g.E.EntityLookup.replacement o c.args.bare c.args.rest c.args.self.now c.begin_paragraph.new.self) (sym c.in-Plain.is)
-    (λ text options lookup m inside runs. begins text options lookup m runs))
-    c.begin_paragraph.ensures.runs
+    on_ok_weaker c.begin_text.result
+    (λ begins. subst (λ o. BeginsAs g.E.EntityLookup.replacement o c.args.bare c.args.rest c.args.self.now c.begin_text.new.self) (sym c.in-Plain.is)
+    (λ text options lookup m inside runs. begins text options lookup m inside c.args.bare runs))
+    c.begin_text.ensures.runs
 
 pub returns-in-Bracket-clause-runs : goal.returns-in-Bracket-clause-runs
 returns-in-Bracket-clause-runs g c =

@@ -1,0 +1,180 @@
+//! Tables (GFM 4.10). A table is drawn as far as its lines go where it begins; these lines are then passed over.
+
+ghost use Rattle.std.specs.Prelude.{◌≡◌, ◌<◌, ◌≤◌, List, ℕ, Some, false, length, OnOk, IfOk, IfSome};
+ghost use Rattle.cmark_block_model.specs.Drawing.{Drawing};
+ghost use Rattle.cmark_builder.specs.Drawn.{Draws};
+ghost use Rattle.cmark_grammar.specs.BlockDocument.{Table};
+ghost use Rattle.cmark_grammar.specs.TableRows.{count_missing};
+ghost use Rattle.cmark_grammar.specs.Tables.{delimiter_row};
+ghost use Rattle.cmark_items.specs.ItemNodes.{columns_of, kind_of, shape};
+ghost use Rattle.cmark_items.specs.Tables.{tables};
+ghost use Rattle.cmark_lines.specs.Rests.{IsIn, row_of};
+ghost use Rattle.cmark_text.specs.Shown.{shown_options};
+
+use crate::gathered::words_in;
+use crate::state::{OpenLeaf, Pass};
+use bitflags::Flags;
+use cmark_builder::Builder;
+use cmark_items::ItemBody;
+use cmark_leaves::{draw_head, draw_row};
+use cmark_lines::{
+    LineRest, begins_with_pipe, count_missing, head_cells, interrupts, is_delimiter_row,
+};
+use cmark_text::{CowStr, EntityLookup, Options};
+use std::alloc::AllocError;
+
+/// How many cells are filled in at most in one table (this profile's own).
+const MOST_FILLED: usize = 262_144;
+
+/// Whether tables are read.
+#[inline]
+fn reads_tables(options: Options) -> bool
+    ensures { result ≡ (shown_options options).tables }
+{
+    options.contains(Options::ENABLE_TABLES)
+}
+
+/// The body of a table with this delimiter row, which is kept in the table of texts.
+fn table_body<'a>(builder: &mut Builder<'a>, row: &'a str) -> Result<ItemBody, AllocError>
+    ensures kind { IfOk result (λ body. kind_of (tables builder.new.allocations).texts (shape body) ≡ Some (Table (columns_of (delimiter_row row.entry.now)))) }
+    ensures drawn { OnOk result ((text : List ℕ) (d : Drawing) → Draws text builder.old d → Draws text builder.new d) }
+    ensures tree { builder.new.tree ≡ builder.old.tree }
+    ensures references { (tables builder.new.allocations).references ≡ (tables builder.old.allocations).references }
+{
+    let index = builder.allocations.allocate_cow(CowStr::Borrowed(row))?;
+    Ok(ItemBody::Table(index))
+}
+
+impl<'a, E: EntityLookup> Pass<'a, E> {
+    ghost use Rattle.cmark_blocks.specs.declared.state.OpenLeaf.TheVariants as leaf;
+    ghost use Rattle.cmark_blocks.specs.Runs.{IsGood, IsRead};
+    ghost use Rattle.cmark_blocks.specs.Steps.{BeginsText};
+    ghost use Rattle.cmark_blocks.specs.TablesAhead.{TellsHead, TellsInterrupts, GoesOnWithRow, DrawsRows, BeginsTable};
+
+    /// How many columns the table has whose head the line is, and its delimiter row; none, where the line is none. The line and those
+    /// ahead are seen inside so many containers, the outermost ones.
+    fn table_head(&self, count: usize, rest: LineRest<'a>) -> Option<(usize, LineRest<'a>)>
+        requires line { IsRead self.now.text.now rest }
+        requires few { count ≤ length self.now.outer.items }
+        ensures tells { TellsHead E.replacement self.now count rest.entry result }
+        ensures line { IfSome result (λ head. IsRead self.now.text.now head.1) }
+    {
+        if !reads_tables(self.options) {
+            return None;
+        }
+        let columns = head_cells(rest)?;
+        let next = self.line_behind(count, rest)?;
+        if is_delimiter_row(next, columns) {
+            Some((columns, next))
+        } else {
+            None
+        }
+    }
+
+    /// Whether the line begins a table that interrupts a paragraph: a pipe stands in front of it. The line and those ahead are seen inside
+    /// so many containers, the outermost ones.
+    #[inline]
+    pub(crate) fn table_interrupts(&self, count: usize, rest: LineRest<'a>) -> bool
+        requires line { IsRead self.now.text.now rest }
+        requires few { count ≤ length self.now.outer.items }
+        ensures { TellsInterrupts E.replacement self.now count rest.entry result }
+    {
+        if !reads_tables(self.options) || !begins_with_pipe(rest) {
+            return false;
+        }
+        self.table_head(count, rest).is_some()
+    }
+
+    /// The line behind this one, inside all open containers, if it is one more row of a table with so many columns, in which so many cells
+    /// may still be filled in.
+    fn row_ahead(
+        &self,
+        columns: usize,
+        left: usize,
+        last: LineRest<'a>,
+    ) -> Option<LineRest<'a>>
+        requires bare { self.now.bare ≡ false }
+        requires within { IsIn self.now.text.now last }
+        ensures next { GoesOnWithRow E.replacement self.now columns left last.entry result }
+        ensures placed { IfSome result (IsIn self.now.text.now) }
+        ensures fits { IfSome result (λ row. count_missing columns (row_of row) ≤ left) }
+        ensures further { IfSome result (λ row. (row_of last.entry).past < (row_of row).past) }
+    {
+        let row = self.line_ahead(last)?;
+        if interrupts(row, false) || count_missing(row, columns) > left {
+            None
+        } else {
+            Some(row)
+        }
+    }
+
+    /// The rows behind the delimiter row of a table with so many columns, as nodes behind the last sibling. Answers how many there are, and
+    /// where the last line of the table ends.
+    fn draw_rows(
+        &mut self,
+        columns: usize,
+        delimiter: LineRest<'a>,
+    ) -> Result<(usize, usize), AllocError>
+        requires good { IsGood self.old }
+        requires line { IsIn self.old.text.now delimiter }
+        requires bare { self.old.bare ≡ false }
+        ensures good { IsGood self.new }
+        ensures runs { IfOk result (λ taken. DrawsRows E.replacement columns delimiter.entry taken.0 taken.1 self.old self.new) }
+        ensures few { IfOk result (λ taken. taken.0 < 18446744073709551615) }
+        ensures text { self.new.text ≡ self.old.text }
+        ensures leaf { self.new.leaf ≡ self.old.leaf }
+    {
+        let mut last = delimiter;
+        let mut count = 0;
+        let mut left = MOST_FILLED;
+        while let Some(row) = self.row_ahead(columns, left, last) {
+            left -= count_missing(row, columns);
+            draw_row(&mut self.builder, row, columns)?;
+            count += 1;
+            last = row;
+        }
+        Ok((count, last.past()))
+    }
+
+    /// A table with so many columns and this delimiter row begins on a line, with no leaf open.
+    fn begin_table(
+        &mut self,
+        columns: usize,
+        delimiter: LineRest<'a>,
+        rest: LineRest<'a>,
+    ) -> Result<(), AllocError>
+        requires good { IsGood self.old }
+        requires delimiter { IsRead self.old.text.now delimiter }
+        requires closed { self.old.leaf ≡ leaf.Closed }
+        requires bare { self.old.bare ≡ false }
+        ensures good { IsGood self.new }
+        ensures runs { OnOk result (BeginsTable E.replacement columns delimiter.entry rest.entry self.old self.new) }
+        ensures text { self.new.text ≡ self.old.text }
+    {
+        let row = words_in(self.text, delimiter);
+        self.begin_block();
+        let body = table_body(&mut self.builder, row)?;
+        self.builder.open(rest.words_begin(), body)?;
+        draw_head(&mut self.builder, rest, columns)?;
+        let (count, past) = self.draw_rows(columns, delimiter)?;
+        self.builder.close(past);
+        self.leaf = OpenLeaf::Table(count + 1);
+        Ok(())
+    }
+
+    /// A line begins a table, or else a paragraph, with no leaf open.
+    pub(crate) fn begin_text(&mut self, rest: LineRest<'a>) -> Result<(), AllocError>
+        requires good { IsGood self.old }
+        requires line { IsRead self.old.text.now rest }
+        requires closed { self.old.leaf ≡ leaf.Closed }
+        requires bare { self.old.bare ≡ false }
+        ensures good { IsGood self.new }
+        ensures runs { OnOk result (BeginsText E.replacement rest.entry self.old self.new) }
+        ensures text { self.new.text ≡ self.old.text }
+    {
+        match self.table_head(self.outer.len(), rest) {
+            Some((columns, delimiter)) => self.begin_table(columns, delimiter, rest),
+            None => self.begin_paragraph(rest),
+        }
+    }
+}

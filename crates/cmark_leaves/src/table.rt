@@ -1,0 +1,125 @@
+//! The rows of tables, cell by cell (GFM 4.10).
+
+ghost use Rattle.std.specs.Prelude.{◌≡◌, ◌≤◌, ◌+◌, ◌-◌, ℕ, suc, List, length, IfOk, OnOk};
+ghost use Rattle.cmark_tree.specs.Building.{IsPlaced};
+ghost use Rattle.cmark_items.specs.Tables.{tables};
+ghost use Rattle.cmark_grammar.specs.BlockDocument.{TableHead, TableRow, TableCell, Node, Nil, node};
+ghost use Rattle.cmark_grammar.specs.Rows.{start_of};
+ghost use Rattle.cmark_grammar.specs.TableTokens.{cell_tokens, cells_then, row_cells};
+ghost use Rattle.cmark_block_model.specs.Drawing.{Drawing, drawn};
+ghost use Rattle.cmark_builder.specs.Drawn.{Draws};
+ghost use Rattle.cmark_lines.specs.Rests.{row_of};
+ghost use Rattle.cmark_scan.specs.TableCells.{cells_behind};
+
+use crate::trailing::{count_blanks, without_trailing_blanks};
+use crate::words::draw_words;
+use cmark_builder::Builder;
+use cmark_items::ItemBody;
+use cmark_lines::LineRest;
+use cmark_scan::{cells_in_row, next_cell};
+use std::alloc::AllocError;
+
+/// A cell of these bytes, which stand at a byte offset of the text, as a node behind the last sibling. Its text is what stands in it
+/// without the spaces and tabs at both ends.
+fn draw_cell(builder: &mut Builder<'_>, at: usize, cell: &[u8]) -> Result<(), AllocError>
+    requires placed { IsPlaced builder.old.tree }
+    requires small { at + length cell.now ≤ 18446744073709551615 }
+    ensures placed { IsPlaced builder.new.tree }
+    ensures drawn { OnOk result ((text : List ℕ) (d : Drawing) → Draws text builder.old d
+        → Draws text builder.new (drawn (Node (node TableCell at (at + length cell.now)) (cell_tokens text at cell.now) Nil) d)) }
+    ensures references { (tables builder.new.allocations).references ≡ (tables builder.old.allocations).references }
+{
+    builder.open(at, ItemBody::TableCell)?;
+    let start = at + count_blanks(cell);
+    let end = at + without_trailing_blanks(cell).len();
+    draw_words(builder, start, end)?;
+    builder.close(at + cell.len());
+    Ok(())
+}
+
+/// The next cell of a row of which these bytes are left, up to the byte offset `stop` of the text: as a node behind the last sibling.
+/// Where no cell is left an empty one is filled in at the row's end, `past`. Answers what is left behind it.
+fn draw_next_cell<'a>(
+    builder: &mut Builder<'_>,
+    cells: &'a [u8],
+    stop: usize,
+    past: usize,
+) -> Result<&'a [u8], AllocError>
+    requires placed { IsPlaced builder.old.tree }
+    requires within { length cells.now ≤ stop }
+    ensures placed { IsPlaced builder.new.tree }
+    ensures within { IfOk result (λ behind. length behind.now ≤ stop) }
+    ensures drawn { IfOk result (λ behind. (text : List ℕ) (left : ℕ) (d : Drawing) → Draws text builder.old d → (e : Drawing) × Draws text builder.new e
+        × (drawn (cells_then text (suc left) (stop - length cells.now) past (cells_behind cells.now)) d ≡ drawn (cells_then text left (stop - length behind.now) past (cells_behind behind.now)) e)) }
+    ensures references { (tables builder.new.allocations).references ≡ (tables builder.old.allocations).references }
+{
+    match next_cell(cells) {
+        Some((size, behind)) => {
+            draw_cell(builder, stop - cells.len(), &cells[..size])?;
+            Ok(behind)
+        }
+        None => {
+            builder.add(past, past, ItemBody::TableCell)?;
+            Ok(cells)
+        }
+    }
+}
+
+/// So many cells of a line, as nodes behind the last sibling: further ones are left out, missing ones filled in.
+fn draw_cells(
+    builder: &mut Builder<'_>,
+    rest: LineRest<'_>,
+    columns: usize,
+) -> Result<(), AllocError>
+    requires { IsPlaced builder.old.tree }
+    ensures placed { IsPlaced builder.new.tree }
+    ensures drawn { OnOk result ((text : List ℕ) (d : Drawing) → Draws text builder.old d
+        → Draws text builder.new (drawn (row_cells text columns (row_of rest.entry)) d)) }
+    ensures references { (tables builder.new.allocations).references ≡ (tables builder.old.allocations).references }
+{
+    let stop = rest.stop();
+    let past = rest.past();
+    let mut cells = cells_in_row(rest.words());
+    let mut left = columns;
+    while left > 0 {
+        cells = draw_next_cell(builder, cells, stop, past)?;
+        left -= 1;
+    }
+    Ok(())
+}
+
+/// The head of a table with so many columns, as a node behind the last sibling.
+pub fn draw_head(
+    builder: &mut Builder<'_>,
+    rest: LineRest<'_>,
+    columns: usize,
+) -> Result<(), AllocError>
+    requires { IsPlaced builder.old.tree }
+    ensures placed { IsPlaced builder.new.tree }
+    ensures drawn { OnOk result ((text : List ℕ) (d : Drawing) → Draws text builder.old d
+        → Draws text builder.new (drawn (Node (node TableHead (start_of (row_of rest.entry)) (row_of rest.entry).past) (row_cells text columns (row_of rest.entry)) Nil) d)) }
+    ensures references { (tables builder.new.allocations).references ≡ (tables builder.old.allocations).references }
+{
+    builder.open(rest.words_begin(), ItemBody::TableHead)?;
+    draw_cells(builder, rest, columns)?;
+    builder.close(rest.past());
+    Ok(())
+}
+
+/// A row of a table with so many columns, as a node behind the last sibling.
+pub fn draw_row(
+    builder: &mut Builder<'_>,
+    rest: LineRest<'_>,
+    columns: usize,
+) -> Result<(), AllocError>
+    requires { IsPlaced builder.old.tree }
+    ensures placed { IsPlaced builder.new.tree }
+    ensures drawn { OnOk result ((text : List ℕ) (d : Drawing) → Draws text builder.old d
+        → Draws text builder.new (drawn (Node (node TableRow (start_of (row_of rest.entry)) (row_of rest.entry).past) (row_cells text columns (row_of rest.entry)) Nil) d)) }
+    ensures references { (tables builder.new.allocations).references ≡ (tables builder.old.allocations).references }
+{
+    builder.open(rest.words_begin(), ItemBody::TableRow)?;
+    draw_cells(builder, rest, columns)?;
+    builder.close(rest.past());
+    Ok(())
+}
