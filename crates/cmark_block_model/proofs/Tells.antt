@@ -4,10 +4,11 @@ use Rattle.std.specs.Prelude.{if◌then◌else◌, nat_le}
 use Rattle.cmark_grammar.specs.Options.{Options}
 use Rattle.cmark_grammar.specs.Rows.{Row, words_of, is_blank_line, indent_of}
 use Rattle.cmark_grammar.specs.Leaves.{Fence, counted, is_thematic_break, is_atx_heading, run, fence_of, code_further}
+use Rattle.cmark_grammar.specs.Footnotes.{footnotes_in}
 use Rattle.cmark_grammar.specs.HtmlBlocks.{html_kind}
 use Rattle.cmark_grammar.specs.LinkDefinitions.{Defined, definition_in, bytes_over}
 use Rattle.cmark_grammar.specs.Containers.{Container, container_of}
-use Rattle.cmark_grammar.specs.Openings.{ThematicBreak, AtxHeading, IndentedCode, FencedCode, HtmlBlock, LinkDefinition, Opening, Blank, Nests, Takes, Plain, or_else, nests_if, fenced_if, html_if, break_if, heading_if, text_lines, defined_if, definition_of, leaf_of, opens, opens_at, MetadataBlock, metadata_begun, whole_opens, table_if, text_of, Table}
+use Rattle.cmark_grammar.specs.Openings.{ThematicBreak, AtxHeading, IndentedCode, FencedCode, HtmlBlock, LinkDefinition, Opening, Blank, Nests, Takes, Plain, or_else, nests_if, fenced_if, html_if, break_if, heading_if, text_lines, defined_if, definition_of, leaf_of, opens, opens_at, MetadataBlock, metadata_begun, whole_opens, table_if, text_of, Table, begins_no_link}
 use Rattle.cmark_grammar.specs.Alignment.{Alignment}
 use Rattle.cmark_grammar.specs.TableRows.{table_head}
 use Rattle.cmark_grammar.specs.Metadata.{metadata_kind, metadata_further, holds_metadata}
@@ -59,6 +60,10 @@ tells-defined : (r : Row) (lines : ℕ) (o : Option Defined) → Tells r (define
 tells-defined r lines (Some found) = tt
 tells-defined r lines None = tt
 
+tells-unless : (r : Row) (z : Bool) (o : Opening) → Tells r o → Tells r (if z then Plain else o)
+tells-unless r true o t = tt
+tells-unless r false o t = t
+
 tells-metadata : (r : Row) (o : Option MetadataBlockKind) (ahead : List Row) → Tells r (metadata_begun o ahead)
 tells-metadata r None ahead = tt
 tells-metadata r (Some kind) ahead = go (holds_metadata kind ahead)
@@ -75,7 +80,8 @@ module _ (options : Options) where
   tells-text : (r : Row) (ahead : List Row) → Tells r (text_of options r ahead)
   tells-text r ahead =
       tells-or r (definition_of options r ahead) (table_if options (table_head options r ahead) ahead)
-      (tells-defined r (length (text_lines options ahead)) (definition_in (bytes_over r (text_lines options ahead)))) (tells-table r ahead (table_head options r ahead))
+      (tells-unless r (begins_no_link (footnotes_in options) (words_of r)) _
+      (tells-defined r (length (text_lines options ahead)) (definition_in (bytes_over r (text_lines options ahead))))) (tells-table r ahead (table_head options r ahead))
 
   tells-leaf : (r : Row) (ahead : List Row) → Tells r (leaf_of options r ahead)
   tells-leaf r ahead =

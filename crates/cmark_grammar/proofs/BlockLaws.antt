@@ -9,10 +9,11 @@ use Rattle.cmark_grammar.specs.MetadataBlockKind.{MetadataBlockKind}
 use Rattle.cmark_grammar.specs.Rows.{Row, without, lazy_row, is_bare, is_blank_line, is_whole_line, indent_of, words_of}
 use Rattle.cmark_grammar.specs.Leaves.{Fence, Further, GoesOn, Closes, Waits, Stops, count_more, counted, underlines, is_thematic_break, is_atx_heading, run, fence_of, fence_further, code_further}
 use Rattle.cmark_grammar.specs.BlockQuoteKind.{BlockQuoteKind}
-use Rattle.cmark_grammar.specs.Containers.{Container, Quote, Item, Footnote, Marker, marker_of, delimited, digits, is_bullet, is_delimiter, number_of, item_with, width_with, container_with, container_of, item_of, is_quote, quote_width, width_of, enter, keep_as, keeps, strip_as, strip}
+use Rattle.cmark_grammar.specs.Containers.{Container, Quote, Item, Footnote, Marker, marker_of, delimited, digits, is_bullet, is_delimiter, number_of, item_with, width_with, container_with, container_of, item_of, is_quote, quote_width, width_of, enter, keep_as, keeps, strip_as, strip, footnote_width, footnote_with, footnote_of, footnote_or}
+use Rattle.cmark_grammar.specs.Footnotes.{Footnotes, Off, Gfm, Old, footnotes_in, footnote_in, columns_over, marker_columns}
 use Rattle.cmark_grammar.specs.HtmlBlocks.{html_kind, holds_end, html_further}
-use Rattle.cmark_grammar.specs.LinkDefinitions.{Defined, definition_in, bytes_over}
-use Rattle.cmark_grammar.specs.Openings.{Leaf, IndentedCode, MetadataBlock, Opening, Blank, Nests, Takes, Plain, or_else, nests_if, fenced_if, metadata_begun, leaf_of, whole_opens, opens, opens_at, text_begun, texts, lazily, html_if, break_if, heading_if, text_lines, defined_if, put_if, definition_of, is_none, Table, interrupts, count_rows, table_if, text_of}
+use Rattle.cmark_grammar.specs.LinkDefinitions.{Defined, definition_in, bytes_over, Found}
+use Rattle.cmark_grammar.specs.Openings.{Leaf, IndentedCode, MetadataBlock, Opening, Blank, Nests, Takes, Plain, or_else, nests_if, fenced_if, metadata_begun, leaf_of, whole_opens, opens, opens_at, text_begun, texts, lazily, html_if, break_if, heading_if, text_lines, defined_if, put_if, definition_of, is_none, Table, interrupts, count_rows, table_if, text_of, begins_no_link}
 use Rattle.cmark_grammar.specs.Options.{Options}
 use Rattle.cmark_grammar.specs.Places.{Place, is_behind_task}
 use Rattle.cmark_grammar.specs.Alignment.{Alignment}
@@ -162,7 +163,8 @@ module _ (options : Options) where
   fits_text : (r : Row) (ahead : List Row) → Fits (text_of options r ahead) ahead
   fits_text r ahead =
       fits_or (definition_of options r ahead) (table_if options (table_head options r ahead) ahead) ahead
-      (fits_defined (length (text_lines options ahead)) (definition_in (bytes_over r (text_lines options ahead))) ahead (text_lines-len ahead)) (fits_table r ahead)
+      (fits_if (begins_no_link (footnotes_in options) (words_of r)) Plain _ ahead tt
+      (fits_defined (length (text_lines options ahead)) (definition_in (bytes_over r (text_lines options ahead))) ahead (text_lines-len ahead))) (fits_table r ahead)
 
   fits_leaf : (r : Row) (ahead : List Row) → Fits (leaf_of options r ahead) ahead
   fits_leaf r ahead =
@@ -247,6 +249,31 @@ module _ (options : Options) where
   container-wide None true alert r some = omega arith
   container-wide None false alert r some = tt
 
+  footnote-some : (old : Bool) (r : Row) (o : Option Found) → footnote_in (words_of r) ≡ o → SomeWide r (footnote_with old r o)
+  footnote-some old r None e = tt
+  footnote-some old r (Some found) e = go (without_indent r.columns) refl
+    where
+      go : (cs : List Column) → without_indent r.columns ≡ cs → indent_of r < footnote_width (marker_columns found.bytes r.columns) r
+      go [] ec = absurd (let q : None ≡ Some found = sym (ap (λ ds. footnote_in (bytes_of ds)) ec) ∙ e in cc)
+      go (c ∷ cs) ec =
+          let n : marker_columns found.bytes r.columns ≡ suc (columns_over (if c.part == 0 then suc (suc (suc (length found.bytes))) else suc (suc (suc (suc (length found.bytes))))) cs) = ap (columns_over (suc (suc (suc (suc (length found.bytes)))))) ec in
+          omega (arith, n)
+
+  -- a marker of a footnote definition has a column
+  footnote-wide : (f : Footnotes) (r : Row) → SomeWide r (footnote_of f r)
+  footnote-wide Off r = tt
+  footnote-wide Gfm r = footnote-some false r (footnote_in (words_of r)) refl
+  footnote-wide Old r = footnote-some true r (footnote_in (words_of r)) refl
+
+  or-wide : (x y : Option Container) (r : Row) → SomeWide r x → SomeWide r y → SomeWide r (footnote_or x y)
+  or-wide (Some k) y r wide other = wide
+  or-wide None y r wide other = other
+
+  container_of-wide : (r : Row) → SomeWide r (container_of options r)
+  container_of-wide r =
+      or-wide (footnote_of (footnotes_in options) r) _ r (footnote-wide (footnotes_in options) r)
+      (container-wide (item_of r) (is_quote r) _ r (item-wide (marker_of (words_of r)) r (marker-size (words_of r))))
+
   wide_nests : (r : Row) (o : Option Container) → SomeWide r o → IsWide r (nests_if o)
   wide_nests r (Some k) some = some
   wide_nests r None some = tt
@@ -278,7 +305,8 @@ module _ (options : Options) where
   wide_text : (r : Row) (ahead : List Row) → IsWide r (text_of options r ahead)
   wide_text r ahead =
       wide_or r (definition_of options r ahead) (table_if options (table_head options r ahead) ahead)
-      (wide_defined r (length (text_lines options ahead)) (definition_in (bytes_over r (text_lines options ahead)))) (wide_table r (table_head options r ahead) ahead)
+      (wide_if r (begins_no_link (footnotes_in options) (words_of r)) Plain _ tt
+      (wide_defined r (length (text_lines options ahead)) (definition_in (bytes_over r (text_lines options ahead))))) (wide_table r (table_head options r ahead) ahead)
 
   wide_leaf : (r : Row) (ahead : List Row) → IsWide r (leaf_of options r ahead)
   wide_leaf r ahead =
@@ -303,7 +331,7 @@ module _ (options : Options) where
       (wide_or r (metadata_begun (metadata_kind options r) ahead) (whole_opens options r ahead) (wide_metadata r (metadata_kind options r) ahead)
       (wide_if r (is_blank_line r) Blank _ tt
       (wide_if r (nat_le 4 (indent_of r)) (Takes IndentedCode (counted code_further ahead)) _ tt
-      (wide_or r (nests_if (container_of options r)) (leaf_of options r ahead) (wide_nests r (container_of options r) (container-wide (item_of r) (is_quote r) _ r (item-wide (marker_of (words_of r)) r (marker-size (words_of r))))) (wide_leaf r ahead)))))
+      (wide_or r (nests_if (container_of options r)) (leaf_of options r ahead) (wide_nests r (container_of options r) (container_of-wide r)) (wide_leaf r ahead)))))
 
   opens-some : (r : Row) (ahead : List Row) (k : Container) → opens options r ahead ≡ Nests k → 0 < length r.columns
   unfolding opens

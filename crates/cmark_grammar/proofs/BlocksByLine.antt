@@ -7,12 +7,13 @@ use Rattle.cmark_grammar.specs.Alignment.{Alignment}
 use Rattle.cmark_grammar.specs.TableRows.{table_head}
 use Rattle.cmark_grammar.specs.Rows.{Row, rows, shown, show_as, words_of, is_blank_line, indent_of}
 use Rattle.cmark_grammar.specs.Leaves.{Fence, Further, GoesOn, Closes, Waits, Stops, count_more, counted, underlines, is_thematic_break, is_atx_heading, run, fence_of, code_further, fence_further, closes_fence}
+use Rattle.cmark_grammar.specs.Footnotes.{footnotes_in}
 use Rattle.cmark_grammar.specs.HtmlBlocks.{html_kind, holds_end, html_further}
 use Rattle.cmark_grammar.specs.LinkDefinitions.{Defined, definition_in, bytes_over}
 use Rattle.cmark_grammar.specs.Metadata.{metadata_kind, metadata_further, holds_metadata, ends_metadata}
 use Rattle.cmark_grammar.specs.MetadataBlockKind.{MetadataBlockKind}
 use Rattle.cmark_grammar.specs.Containers.{Container, is_alert, enter, keeps, strip, is_bare_start, bare_after, container_of}
-use Rattle.cmark_grammar.specs.Openings.{Leaf, ThematicBreak, AtxHeading, IndentedCode, FencedCode, HtmlBlock, LinkDefinition, MetadataBlock, Opening, Blank, Nests, Takes, Plain, or_else, nests_if, fenced_if, metadata_begun, html_if, break_if, heading_if, text_lines, defined_if, definition_of, leaf_of, whole_opens, opens, opens_at, texts, lazily, Table, table_if, text_of}
+use Rattle.cmark_grammar.specs.Openings.{Leaf, ThematicBreak, AtxHeading, IndentedCode, FencedCode, HtmlBlock, LinkDefinition, MetadataBlock, Opening, Blank, Nests, Takes, Plain, or_else, nests_if, fenced_if, metadata_begun, html_if, break_if, heading_if, text_lines, defined_if, definition_of, leaf_of, whole_opens, opens, opens_at, texts, lazily, Table, table_if, text_of, begins_no_link}
 use Rattle.cmark_grammar.specs.Blocks.{Blocks, Nil, BlankLine, Paragraph, SetextHeading, LeafBlock, ContainerBlock, join, place_in, behind_leaf}
 use Rattle.cmark_grammar.specs.BlocksModel.{Open, Between as IsBetween, BehindTag as IsBehindTag, InParagraph as IsInParagraph, InLeaf as IsInLeaf, InContainer as IsInContainer, close, takes_lazy, within, inside_begun, begin_as, begin_in, begin_at, begin, place_behind, underline_or, goes_on_or, kept_or, feed, feed_all, blocks}
 use Rattle.cmark_grammar.specs.BlocksByLine.{Verbatim, Indented, Fenced, HtmlLines, Metadata, leaf_in, further_in, further_if, OpenLines, Between, BehindTag, InParagraph, InLeaf, InVerbatim, InContainer, blank_lines, close_lines, lines_take_lazy, html_begun, leaf_begun, lines_inside_begun, lines_begin_as, lines_underline_or, lines_go_on_or, lines_kept_or, verbatim_line, lines_begin_in, lines_begin_at, lines_begin, lines_feed, lines_feed_all, blocks_by_line}
@@ -140,7 +141,8 @@ module _ (options : Options) where
   counts_text : (r : Row) (ahead : List Row) → Counts r ahead (text_of options r ahead)
   counts_text r ahead =
       counts_or r ahead (definition_of options r ahead) (table_if options (table_head options r ahead) ahead)
-      (counts_defined r ahead (length (text_lines options ahead)) (definition_in (bytes_over r (text_lines options ahead)))) (counts_table r ahead (table_head options r ahead))
+      (counts_if r ahead (begins_no_link (footnotes_in options) (words_of r)) Plain _ tt
+      (counts_defined r ahead (length (text_lines options ahead)) (definition_in (bytes_over r (text_lines options ahead))))) (counts_table r ahead (table_head options r ahead))
 
   counts_leaf : (r : Row) (ahead : List Row) → Counts r ahead (leaf_of options r ahead)
   counts_leaf r ahead =

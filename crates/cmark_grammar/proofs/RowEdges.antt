@@ -1,20 +1,22 @@
 -- Where a line begins and ends behind prefixes no character is cut: prefixes are ASCII.
-use Rattle.std.proofs.Common.{◌≡◌, ◌⊎◌, inl, inr, ⊎_elim, ℕ, zero, suc, ◌+◌, ◌-◌, ◌≤◌, ◌<◌, Bool, true, false, ◌==◌, ◌&&◌, ◌||◌, not, List, [], ◌∷◌, ◌++◌, length, drop, take_while, refl, sym, subst, arith, Option, Some, None, true≢false, drop-drop}
+use Rattle.std.proofs.Common.{◌≡◌, ◌⊎◌, inl, inr, ⊎_elim, ℕ, zero, suc, ◌+◌, ◌-◌, ◌≤◌, ◌<◌, Bool, true, false, ◌==◌, ◌&&◌, ◌||◌, not, List, [], ◌∷◌, ◌++◌, length, drop, take_while, refl, sym, ap, ◌∙◌, subst, arith, Option, Some, None, true≢false, drop-drop}
 use Rattle.std.proofs.lemmas.List.Sums.{take_while-cons}
 use Rattle.std.specs.Prelude.{if◌then◌else◌, nat_le, nat_lt, cond}
 use Rattle.cmark_grammar.specs.Options.{Options}
 use Rattle.cmark_grammar.specs.Columns.{Column, is_blank_byte, is_blank, indent, without_indent, bytes_of}
 use Rattle.cmark_grammar.specs.Rows.{Row, without, first_place, begin_of, start_of, is_bare, is_blank_line, indent_of, words_of}
 use Rattle.cmark_grammar.specs.Leaves.{run, Fence, is_thematic_break, is_atx_heading, fence_of, counted, code_further, is_parted}
+use Rattle.cmark_grammar.specs.Footnotes.{Footnotes, Off, Gfm, Old, footnotes_in, footnote_in, columns_over, marker_columns}
 use Rattle.cmark_grammar.specs.HtmlBlocks.{html_kind}
-use Rattle.cmark_grammar.specs.LinkDefinitions.{Defined, definition_in, bytes_over}
+use Rattle.cmark_grammar.specs.LinkDefinitions.{Found, Defined, definition_in, bytes_over}
 use Rattle.cmark_grammar.specs.Metadata.{metadata_kind, metadata_further, holds_metadata}
 use Rattle.cmark_grammar.specs.MetadataBlockKind.{MetadataBlockKind}
 use Rattle.cmark_grammar.specs.BlockQuoteKind.{BlockQuoteKind}
-use Rattle.cmark_grammar.specs.Containers.{Container, Quote, Item, Footnote, Marker, is_bullet, is_digit, is_delimiter, digits, number_of, delimited, marker_of, behind_marker, padding, width_with, item_with, item_of, begins_with, is_quote, one_blank, quote_width, container_with, container_of, width_of, enter, keep_as, keeps, strip_as, strip, strips}
-use Rattle.cmark_grammar.specs.Openings.{Leaf, ThematicBreak, AtxHeading, IndentedCode, FencedCode, HtmlBlock, LinkDefinition, MetadataBlock, Opening, Blank, Nests, Takes, Plain, or_else, nests_if, fenced_if, metadata_begun, html_if, break_if, heading_if, text_lines, defined_if, definition_of, leaf_of, whole_opens, opens, Table, table_if, text_of}
+use Rattle.cmark_grammar.specs.Containers.{Container, Quote, Item, Footnote, Marker, is_bullet, is_digit, is_delimiter, digits, number_of, delimited, marker_of, behind_marker, padding, width_with, item_with, item_of, begins_with, is_quote, one_blank, quote_width, container_with, container_of, width_of, enter, keep_as, keeps, strip_as, strip, strips, footnote_width, footnote_with, footnote_of, footnote_or}
+use Rattle.cmark_grammar.specs.Openings.{Leaf, ThematicBreak, AtxHeading, IndentedCode, FencedCode, HtmlBlock, LinkDefinition, MetadataBlock, Opening, Blank, Nests, Takes, Plain, or_else, nests_if, fenced_if, metadata_begun, html_if, break_if, heading_if, text_lines, defined_if, definition_of, leaf_of, whole_opens, opens, Table, table_if, text_of, begins_no_link}
 use Rattle.cmark_grammar.specs.Alignment.{Alignment}
 use Rattle.cmark_grammar.specs.TableRows.{table_head}
+use Rattle.cmark_grammar.proofs.FootnoteMarkers.{IsAsciiAt, colon-ascii}
 use Rattle.cmark_grammar.proofs.RowPlaces.{Runs, first_place-Runs, drop-Runs}
 
 -- what holds of the first n elements, as far as there are any
@@ -233,6 +235,64 @@ module _ (E : ℕ → Type 0) where
   container-front None true alert r g e f = quote-front r g e
   container-front None false alert r g e f = tt
 
+  -- behind what a container's first line has in front no character is cut
+  abbrev SomeGood : Row → Option Container → Type 0
+  SomeGood r None = Unit {0}
+  SomeGood r (Some k) = GoodRow (without (width_of k r) r)
+
+  behind-front : (r : Row) (o : Option Container) → GoodRow r → SomeFront r o → SomeGood r o
+  behind-front r None g f = tt
+  behind-front r (Some k) g f = without-good (width_of k r) r g f
+
+  none-over : (cs : List Column) → columns_over 0 cs ≡ 0
+  none-over [] = refl
+  none-over (c ∷ cs) = refl
+
+  -- nor is one behind bytes of which the last is ASCII
+  over-E : (n from : ℕ) (cs : List Column) (to : ℕ) → Runs from cs to → AreGood cs → IsAsciiAt n (bytes_of cs) → E to → E (first_place to (drop (columns_over (suc n) cs) cs))
+  over-E n from [] to h g last et = et
+  over-E n from (c ∷ cs) to h g last et = go (c.part == 0) n (λ m l. over-E m (suc c.at) cs to h.1 g.1 l et) last
+    where
+      go : (z : Bool) (n : ℕ) → ((m : ℕ) → IsAsciiAt m (bytes_of cs) → E (first_place to (drop (columns_over (suc m) cs) cs))) → IsAsciiAt n (if z then c.byte ∷ bytes_of cs else bytes_of cs) → E (first_place to (drop (columns_over (if z then n else suc n) cs) cs))
+      go true zero ih l = subst (λ k. E (first_place to (drop k cs))) (sym (none-over cs)) (subst E (sym (first_place-Runs (suc c.at) cs to h.1)) (g.0.1 l).1)
+      go true (suc m) ih l = ih m l
+      go false m ih l = ih m l
+
+  footnote-good : (old : Bool) (r : Row) (o : Option Found) → footnote_in (words_of r) ≡ o → GoodRow r → SomeGood r (footnote_with old r o)
+  footnote-good old r None e g = tt
+  footnote-good old r (Some found) e g =
+      let size : ℕ = marker_columns found.bytes r.columns in
+      let middle : ℕ = indent r.columns + size in
+      let begin : E (first_place r.stop (drop middle r.columns)) =
+          subst (λ cs. E (first_place r.stop cs)) (drop-drop size (indent r.columns) r.columns)
+          (over-E (suc (suc (suc (length found.bytes)))) (first_place r.stop (without_indent r.columns)) (without_indent r.columns) r.stop (drop-Runs (indent r.columns) (begin_of r) r.columns r.stop g.runs).0
+          (drop-good (indent r.columns) r.columns g.good) (colon-ascii (words_of r) found e) g.stop) in
+      let good : GoodRow (without middle r) = record {
+          runs = (drop-Runs middle (begin_of r) r.columns r.stop g.runs).0;
+          good = drop-good middle r.columns g.good;
+          begin = begin;
+          stop = g.stop;
+          past = g.past;
+          feed = g.feed;
+        } in
+      let same : drop (indent (drop middle r.columns)) (drop middle r.columns) ≡ drop (footnote_width size r) r.columns =
+          drop-drop (indent (drop middle r.columns)) middle r.columns ∙ ap (λ k. drop k r.columns) (let s : middle + indent (drop middle r.columns) ≡ footnote_width size r = omega arith in s) in
+      subst GoodRow (ap (λ cs. record r { columns = cs }) same) (without-good (indent (drop middle r.columns)) (without middle r) good (indent-front (drop middle r.columns)))
+
+  footnote_of-good : (f : Footnotes) (r : Row) → GoodRow r → SomeGood r (footnote_of f r)
+  footnote_of-good Off r g = tt
+  footnote_of-good Gfm r g = footnote-good false r (footnote_in (words_of r)) refl g
+  footnote_of-good Old r g = footnote-good true r (footnote_in (words_of r)) refl g
+
+  or-good : (x y : Option Container) (r : Row) → SomeGood r x → SomeGood r y → SomeGood r (footnote_or x y)
+  or-good (Some k) y r good other = good
+  or-good None y r good other = other
+
+  container_of-good : (options : Options) (r : Row) → GoodRow r → SomeGood r (container_of options r)
+  container_of-good options r g =
+      or-good (footnote_of (footnotes_in options) r) _ r (footnote_of-good (footnotes_in options) r g)
+      (behind-front r _ g (container-front (item_of r) (is_quote r) _ r g refl (item-front r (marker_of (words_of r)) g (marker-front (words_of r)))))
+
   -- a heading's opening sequence is ASCII too
   abbrev pub LeafFront : Row → Leaf → Type 0
   LeafFront r ThematicBreak = Unit {0}
@@ -246,7 +306,7 @@ module _ (E : ℕ → Type 0) where
 
   abbrev OpeningFront : Row → Opening → Type 0
   OpeningFront r Blank = Unit {0}
-  OpeningFront r (Nests k) = Front IsAsciiColumn (width_of k r) r.columns
+  OpeningFront r (Nests k) = GoodRow (without (width_of k r) r)
   OpeningFront r (Takes leaf n) = LeafFront r leaf
   OpeningFront r Plain = Unit {0}
 
@@ -260,7 +320,7 @@ module _ (E : ℕ → Type 0) where
   front_or r (Takes leaf n) y p q = p
   front_or r Plain y p q = q
 
-  front_nests : (r : Row) (o : Option Container) → SomeFront r o → OpeningFront r (nests_if o)
+  front_nests : (r : Row) (o : Option Container) → SomeGood r o → OpeningFront r (nests_if o)
   front_nests r (Some k) f = f
   front_nests r None f = tt
 
@@ -291,7 +351,8 @@ module _ (E : ℕ → Type 0) where
   front_text : (options : Options) (r : Row) (ahead : List Row) → OpeningFront r (text_of options r ahead)
   front_text options r ahead =
       front_or r (definition_of options r ahead) (table_if options (table_head options r ahead) ahead)
-      (front_defined r (length (text_lines options ahead)) (definition_in (bytes_over r (text_lines options ahead)))) (front_table options r (table_head options r ahead) ahead)
+      (front_if r (begins_no_link (footnotes_in options) (words_of r)) Plain _ tt
+      (front_defined r (length (text_lines options ahead)) (definition_in (bytes_over r (text_lines options ahead))))) (front_table options r (table_head options r ahead) ahead)
 
   front_leaf : (options : Options) (r : Row) (ahead : List Row) → GoodRow r → OpeningFront r (leaf_of options r ahead)
   front_leaf options r ahead g =
@@ -316,11 +377,11 @@ module _ (E : ℕ → Type 0) where
       (front_or r (metadata_begun (metadata_kind options r) ahead) (whole_opens options r ahead) (front_metadata r (metadata_kind options r) ahead)
       (front_if r (is_blank_line r) Blank _ tt
       (front_if r (nat_le 4 (indent_of r)) (Takes IndentedCode (counted code_further ahead)) _ tt
-      (front_or r (nests_if (container_of options r)) (leaf_of options r ahead) (front_nests r (container_of options r) (container-front (item_of r) (is_quote r) _ r g refl (item-front r (marker_of (words_of r)) g (marker-front (words_of r))))) (front_leaf options r ahead g)))))
+      (front_or r (nests_if (container_of options r)) (leaf_of options r ahead) (front_nests r (container_of options r) (container_of-good options r g)) (front_leaf options r ahead g)))))
 
   pub enter-good : (options : Options) (k : Container) (r : Row) (ahead : List Row) → opens options r ahead ≡ Nests k → GoodRow r → GoodRow (enter k r)
   unfolding enter
-  enter-good options k r ahead e g = without-good (width_of k r) r g (subst (OpeningFront r) e (front_opens options r ahead g))
+  enter-good options k r ahead e g = subst (OpeningFront r) e (front_opens options r ahead g)
 
   pub leaf-front : (options : Options) (r : Row) (ahead : List Row) (leaf : Leaf) (n : ℕ) → opens options r ahead ≡ Takes leaf n → GoodRow r → LeafFront r leaf
   leaf-front options r ahead leaf n e g = subst (OpeningFront r) e (front_opens options r ahead g)

@@ -3,12 +3,13 @@ use Rattle.std.proofs.Common.{◌≡◌, ◌≢◌, ℕ, zero, suc, ◌+◌, ◌
 use Rattle.std.specs.Prelude.{if◌then◌else◌}
 use Rattle.cmark_grammar.specs.Alignment.{Alignment}
 use Rattle.cmark_grammar.specs.Containers.{Container, container_of}
+use Rattle.cmark_grammar.specs.Footnotes.{footnotes_in}
 use Rattle.cmark_grammar.specs.HtmlBlocks.{html_kind}
 use Rattle.cmark_grammar.specs.Leaves.{Fence, is_thematic_break, is_atx_heading, run, fence_of, counted, code_further}
 use Rattle.cmark_grammar.specs.LinkDefinitions.{Defined, definition_in, bytes_over}
 use Rattle.cmark_grammar.specs.Metadata.{metadata_kind, metadata_further, holds_metadata}
 use Rattle.cmark_grammar.specs.MetadataBlockKind.{MetadataBlockKind}
-use Rattle.cmark_grammar.specs.Openings.{Leaf, ThematicBreak, AtxHeading, IndentedCode, FencedCode, HtmlBlock, LinkDefinition, MetadataBlock, Table, Opening, Blank, Nests, Takes, Plain, or_else, nests_if, fenced_if, html_if, break_if, heading_if, defined_if, metadata_begun, text_lines, definition_of, interrupts, count_rows, table_if, text_of, leaf_of, whole_opens, opens}
+use Rattle.cmark_grammar.specs.Openings.{Leaf, ThematicBreak, AtxHeading, IndentedCode, FencedCode, HtmlBlock, LinkDefinition, MetadataBlock, Table, Opening, Blank, Nests, Takes, Plain, or_else, nests_if, fenced_if, html_if, break_if, heading_if, defined_if, metadata_begun, text_lines, definition_of, interrupts, count_rows, table_if, text_of, begins_no_link, leaf_of, whole_opens, opens}
 use Rattle.cmark_grammar.specs.Options.{Options}
 use Rattle.cmark_grammar.specs.Rows.{Row, show_as, shown, is_blank_line, indent_of, words_of}
 use Rattle.cmark_grammar.specs.TableRows.{one_more_if, count_cells, count_missing, most_filled, holds_pipe, with_columns, delimited_ahead, table_head}
@@ -151,7 +152,8 @@ module _ (options : Options) where
     fills_text : Fills (text_of options r ahead)
     fills_text =
         fills_or (definition_of options r ahead) (table_if options (table_head options r ahead) ahead)
-        (fills_defined (length (text_lines options ahead)) (definition_in (bytes_over r (text_lines options ahead)))) (fills_table (table_head options r ahead) head-columns)
+        (fills_if (begins_no_link (footnotes_in options) (words_of r)) Plain _ tt
+        (fills_defined (length (text_lines options ahead)) (definition_in (bytes_over r (text_lines options ahead))))) (fills_table (table_head options r ahead) head-columns)
 
     fills_leaf : Fills (leaf_of options r ahead)
     fills_leaf =

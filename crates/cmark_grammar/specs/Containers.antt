@@ -5,6 +5,8 @@ use Rattle.cmark_grammar.specs.Rows.{Row, without, lazy_row, is_bare, is_blank_l
 use Rattle.cmark_grammar.specs.Leaves.{is_parted, is_thematic_break}
 use Rattle.cmark_grammar.specs.BlockQuoteKind.{BlockQuoteKind}
 use Rattle.cmark_grammar.specs.Alerts.{alert_in}
+use Rattle.cmark_grammar.specs.Footnotes.{Footnotes, Off, Gfm, Old, footnotes_in, footnote_in, marker_columns}
+use Rattle.cmark_grammar.specs.LinkDefinitions.{Found}
 use Rattle.cmark_grammar.specs.Options.{Options}
 
 -- a block quote, with its kind if it is an alert; a list item: its character (the bullet, or what stands behind the number), its number if it is
@@ -88,8 +90,22 @@ abbrev pub container_with : Option Container → (quoted : Bool) → (alert : Op
 container_with (Some k) quoted alert = Some k
 container_with None quoted alert = if quoted then Some (Quote alert) else None
 
+abbrev pub footnote_with : (old : Bool) → Row → Option Found → Option Container
+footnote_with old r None = None
+footnote_with old r (Some found) = Some (Footnote found.bytes old (marker_columns found.bytes r.columns))
+
+-- a footnote definition, if they are read
+abbrev pub footnote_of : Footnotes → Row → Option Container
+footnote_of Off r = None
+footnote_of Gfm r = footnote_with false r (footnote_in (words_of r))
+footnote_of Old r = footnote_with true r (footnote_in (words_of r))
+
+abbrev pub footnote_or : Option Container → Option Container → Option Container
+footnote_or (Some k) other = Some k
+footnote_or None other = other
+
 abbrev pub container_of : Options → Row → Option Container
-container_of options r = container_with (item_of r) (is_quote r) (alert_in options (without (quote_width r) r))
+container_of options r = footnote_or (footnote_of (footnotes_in options) r) (container_with (item_of r) (is_quote r) (alert_in options (without (quote_width r) r)))
 
 abbrev pub is_alert : Container → Bool
 is_alert (Quote None) = false

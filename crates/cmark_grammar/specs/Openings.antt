@@ -6,6 +6,7 @@ use Rattle.cmark_grammar.specs.Leaves.{Fence, underlines, counted, run, is_thema
 use Rattle.cmark_grammar.specs.HtmlBlocks.{html_kind, html_lines}
 use Rattle.cmark_grammar.specs.LinkDefinitions.{Definition, Defined, definition_in, bytes_over, line_ends}
 use Rattle.cmark_grammar.specs.Containers.{Container, Quote, Item, Footnote, item_of, is_quote, container_of}
+use Rattle.cmark_grammar.specs.Footnotes.{Footnotes, footnotes_in, are_read, do_interrupt, footnote_in, is_label_found, is_footnote_label}
 use Rattle.cmark_grammar.specs.Metadata.{metadata_kind, holds_metadata, metadata_further}
 use Rattle.cmark_grammar.specs.MetadataBlockKind.{MetadataBlockKind}
 use Rattle.cmark_grammar.specs.Options.{Options}
@@ -73,6 +74,14 @@ abbrev pub is_none : Option ℕ → Bool
 is_none (Some n) = false
 is_none None = true
 
+-- a footnote definition, behind at most three columns of indent, that interrupts a paragraph
+abbrev pub footnote_interrupts : Footnotes → Row → Bool
+footnote_interrupts footnotes r = do_interrupt footnotes && (nat_le (indent_of r) 3 && is_label_found (footnote_in (words_of r)))
+
+-- where footnotes are read, the words do not begin with a link's label
+abbrev pub begins_no_link : Footnotes → List ℕ → Bool
+begins_no_link footnotes words = are_read footnotes && is_footnote_label words
+
 abbrev pub put_if : Bool → Row → List Row → List Row
 put_if true r rs = r ∷ rs
 put_if false r rs = []
@@ -97,8 +106,8 @@ module _ (options : Options) where
   -- whether a line interrupts a paragraph, which stands in the same container or further in (CommonMark 4.8)
   abbrev pub interrupts : (same : Bool) → Row → List Row → Bool
   interrupts same r ahead =
-      is_blank_line r || (nat_le (indent_of r) 3 && (is_quote r || (item_interrupts same r (item_of r) || (is_thematic_break (words_of r)
-      || (is_atx_heading (words_of r) || (is_some_fence (fence_of (indent_of r) (words_of r)) || html_interrupts (html_kind (words_of r))))))))
+      is_blank_line r || (footnote_interrupts (footnotes_in options) r || (nat_le (indent_of r) 3 && (is_quote r || (item_interrupts same r (item_of r) || (is_thematic_break (words_of r)
+      || (is_atx_heading (words_of r) || (is_some_fence (fence_of (indent_of r) (words_of r)) || html_interrupts (html_kind (words_of r)))))))))
 
   -- the line goes on with a paragraph in the same container; a lazy line is none of it
   unfoldable pub texts : Row → List Row → Bool
@@ -113,9 +122,11 @@ module _ (options : Options) where
   text_lines [] = []
   text_lines (r ∷ ahead) = put_if (texts r ahead && is_none (underlines r)) r (text_lines ahead)
 
-  -- a link reference definition, whose further lines could go on with a paragraph (CommonMark 4.7)
+  -- a link reference definition, whose further lines could go on with a paragraph (CommonMark 4.7). Where footnotes are read, a label that
+  -- begins with `^` and goes on is none
   abbrev pub definition_of : Row → List Row → Opening
-  definition_of r ahead = defined_if (length (text_lines ahead)) (definition_in (bytes_over r (text_lines ahead)))
+  definition_of r ahead =
+      if begins_no_link (footnotes_in options) (words_of r) then Plain else defined_if (length (text_lines ahead)) (definition_in (bytes_over r (text_lines ahead)))
 
   -- the lines ahead up to the first that interrupts, as each list marker does, or for which more cells were filled in than are left: the
   -- rows of a table with so many columns (GFM 4.10). No table interrupts one
