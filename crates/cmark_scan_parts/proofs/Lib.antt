@@ -2,6 +2,7 @@ pub mod Boundaries
 pub mod Closers
 pub mod Endings
 pub mod EntitySteps
+pub mod FootnoteSteps
 pub mod LabelSteps
 pub mod Links
 pub mod Lists

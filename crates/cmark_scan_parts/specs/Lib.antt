@@ -1,4 +1,5 @@
 pub mod Classes
+pub mod Footnotes
 pub mod Handled
 pub mod Pipes
 pub mod Resolved
