@@ -1,6 +1,8 @@
 pub mod ByteSteps
 pub mod ContentSteps
 pub mod FirstSteps
+pub mod FootnoteColumns
+pub mod FootnoteRows
 pub mod HtmlSteps
 pub mod LeafSteps
 pub mod LineStartSteps

@@ -64,7 +64,7 @@ expand-length column at (b ∷ bs) =
     let h = expand-length (column + width_at column b) (suc at) bs in
     omega (arith, e, w, h)
 
-column_behind-append : (column : ℕ) (xs ys : List ℕ) → column_behind column (xs ++ ys) ≡ column_behind (column_behind column xs) ys
+pub column_behind-append : (column : ℕ) (xs ys : List ℕ) → column_behind column (xs ++ ys) ≡ column_behind (column_behind column xs) ys
 column_behind-append column [] ys = refl
 column_behind-append column (b ∷ xs) ys = column_behind-append (column + width_at column b) xs ys
 

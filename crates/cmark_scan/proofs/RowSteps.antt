@@ -24,7 +24,7 @@ blank_cases b e = go (b == 32) refl e
     go false f e = inr (eqb-true b 9 e)
 
 -- a function of bytes finds nothing where a blank stands in front
-parted_none : {A : Type 0} (f : List ℕ → Option A) → f [] ≡ None → ((bs : List ℕ) → f (32 ∷ bs) ≡ None) → ((bs : List ℕ) → f (9 ∷ bs) ≡ None) → (bs : List ℕ) → is_parted bs ≡ true → f bs ≡ None
+pub parted_none : {A : Type 0} (f : List ℕ → Option A) → f [] ≡ None → ((bs : List ℕ) → f (32 ∷ bs) ≡ None) → ((bs : List ℕ) → f (9 ∷ bs) ≡ None) → (bs : List ℕ) → is_parted bs ≡ true → f bs ≡ None
 parted_none f none space tab [] e = none
 parted_none f none space tab (b ∷ bs) e = ⊎_elim (λ q. ap (λ c. f (c ∷ bs)) q ∙ space bs) (λ q. ap (λ c. f (c ∷ bs)) q ∙ tab bs) (blank_cases b e)
 

@@ -36,6 +36,7 @@ impl<'a> LineStart<'a> {
     ghost use Rattle.std.specs.Prelude.{ℕ, ◌≢◌, ◌==◌, ◌&&◌, ◌||◌, IsTrue, nat_le, min, true, false, drop, slice_index, MatchOption};
     ghost use Rattle.cmark_grammar.specs.Columns.{indent, tab, bytes_of};
     ghost use Rattle.cmark_grammar.specs.Containers.{begins_with};
+    ghost use Rattle.cmark_grammar.specs.Footnotes.{columns_over};
     ghost use Rattle.cmark_grammar.specs.Rows.{without, indent_of, words_of, is_bare, begin_of};
     ghost use Rattle.cmark_grammar.specs.Leaves.{all_pass, is_parted, is_break_of, is_thematic_break};
     ghost use Rattle.cmark_scan.specs.LineMarkers.{is_flush};
@@ -136,6 +137,38 @@ impl<'a> LineStart<'a> {
         ensures taken { self.new.taken ≡ self.old.taken + n }
     {
         self.taken += n;
+    }
+
+    /// Takes the next byte, with all columns of it.
+    #[inline]
+    fn take_byte(&mut self)
+        requires whole { self.old.pending ≡ 0 }
+        requires within { self.old.taken < length self.old.bytes.now }
+        ensures line { self.new.bytes ≡ self.old.bytes }
+        ensures whole { self.new.pending ≡ 0 }
+        ensures taken { self.new.taken ≡ self.old.taken + 1 }
+    {
+        let is_tab = self.bytes[self.taken] == b'\t';
+        self.taken += 1;
+        if is_tab {
+            self.behind_tab = self.taken;
+        }
+    }
+
+    /// Takes this many bytes, among which tabs may stand, but not as the last one.
+    fn take_marker(&mut self, n: usize)
+        requires whole { self.old.pending ≡ 0 }
+        requires some { 0 < n }
+        requires within { n ≤ length (drop self.old.taken self.old.bytes.now) }
+        requires last { slice_index (drop self.old.taken self.old.bytes.now) (n - 1) ≢ tab }
+        ensures line { self.new.bytes ≡ self.old.bytes }
+        ensures whole { self.new.pending ≡ 0 }
+        ensures rest { (at past : ℕ) → row_from at past self.new ≡ without (columns_over n (columns_from at self.old)) (row_from at past self.old) }
+    {
+        let stop = self.taken + n;
+        while self.taken < stop {
+            self.take_byte();
+        }
     }
 
     /// Whether the line goes on with this byte, which is no blank, and nothing is left of a tab.
