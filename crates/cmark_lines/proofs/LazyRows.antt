@@ -7,9 +7,10 @@ use Rattle.cmark_grammar.specs.Rows.{Row, lazy_row, is_blank_line, indent_of, wo
 use Rattle.cmark_grammar.specs.Leaves.{is_thematic_break, is_atx_heading, fence_of, underlines}
 use Rattle.cmark_grammar.specs.HtmlBlocks.{html_kind}
 use Rattle.cmark_grammar.specs.Containers.{Container, Quote, Item, Footnote, Marker, marker_of, item_with, item_of, is_quote, keeps}
+use Rattle.cmark_grammar.specs.Footnotes.{footnotes_in}
 use Rattle.cmark_grammar.specs.TableRows.{table_interrupts}
 use Rattle.cmark_grammar.proofs.BlockLaws.{lazy-interrupts as lazy-table}
-use Rattle.cmark_grammar.specs.Openings.{Plain, item_interrupts, is_some_fence, html_interrupts, interrupts, texts, lazily, opens}
+use Rattle.cmark_grammar.specs.Openings.{Plain, footnote_interrupts, item_interrupts, is_some_fence, html_interrupts, interrupts, texts, lazily, opens}
 
 -- no container keeps a line that lacks an outer prefix
 pub lazy-keeps : (k : Container) (bare : Bool) (r : Row) → keeps k bare (lazy_row r) ≡ None
@@ -34,8 +35,8 @@ module _ (options : Options) (r : Row) (ahead : List Row) where
   -- whether a line interrupts does not depend on the prefixes that it lacks
   pub lazy-interrupts : (same : Bool) → interrupts options same (lazy_row r) ahead ≡ interrupts options same r ahead
   lazy-interrupts same =
-      ap (λ z. is_blank_line r || (nat_le (indent_of r) 3 && (is_quote r || (z || (is_thematic_break (words_of r)
-      || (is_atx_heading (words_of r) || (is_some_fence (fence_of (indent_of r) (words_of r)) || html_interrupts (html_kind (words_of r)))))))))
+      ap (λ z. is_blank_line r || (footnote_interrupts (footnotes_in options) r || (nat_le (indent_of r) 3 && (is_quote r || (z || (is_thematic_break (words_of r)
+      || (is_atx_heading (words_of r) || (is_some_fence (fence_of (indent_of r) (words_of r)) || html_interrupts (html_kind (words_of r))))))))))
       (lazy-item-interrupts same r (item_of (lazy_row r)) ∙ ap (item_interrupts same r) (lazy-item r (marker_of (words_of r))))
 
   pub lazy-opens : opens options (lazy_row r) ahead ≡ Plain

@@ -1,5 +1,6 @@
 pub mod BoxRows
 pub mod ContainerRows
+pub mod FootnoteStarts
 pub mod InfoEdges
 pub mod LazyRows
 pub mod LineRows

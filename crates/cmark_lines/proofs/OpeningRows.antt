@@ -1,8 +1,9 @@
 -- What a line begins, test by test.
-use Rattle.std.proofs.Common.{◌≡◌, ℕ, ◌-◌, ◌<◌, ◌≤◌, Bool, true, false, ◌&&◌, ◌||◌, not, List, [], ◌∷◌, ◌++◌, length, Option, Some, None, refl, sym, ap, ◌∙◌, subst, arith}
+use Rattle.std.proofs.Common.{◌≡◌, ℕ, ◌-◌, ◌<◌, ◌≤◌, Bool, true, false, ◌&&◌, ◌||◌, not, List, [], ◌∷◌, ◌++◌, length, Option, Some, None, refl, sym, ap, ◌∙◌, subst, arith, true≢false}
 use Rattle.std.specs.Prelude.{if◌then◌else◌, nat_le}
 use Rattle.std.specs.Str.{IsCharBoundary}
-use Rattle.cmark_grammar.specs.Options.{Options, no_options}
+use Rattle.cmark_grammar.specs.Options.{Options}
+use Rattle.cmark_grammar.specs.Footnotes.{footnotes_in}
 use Rattle.cmark_grammar.specs.Columns.{bytes_of}
 use Rattle.cmark_grammar.specs.Rows.{Row, without, is_blank_line, indent_of, words_of}
 use Rattle.cmark_grammar.specs.Leaves.{Fence, run, is_thematic_break, is_atx_heading, fence_of, counted, code_further}
@@ -11,7 +12,7 @@ use Rattle.cmark_grammar.specs.LinkDefinitions.{label_in, with_label, definition
 use Rattle.cmark_grammar.specs.BlockQuoteKind.{BlockQuoteKind}
 use Rattle.cmark_grammar.specs.Alerts.{alert_in}
 use Rattle.cmark_grammar.specs.Containers.{Container, Quote, Item, begins_with, is_quote, quote_width, item_of, container_with, container_of, enter}
-use Rattle.cmark_grammar.specs.Openings.{Opening, Blank, Nests, Takes, Plain, AtxHeading, IndentedCode, or_else, nests_if, is_one, item_interrupts, fenced_if, html_if, break_if, heading_if, defined_if, metadata_begun, text_lines, definition_of, table_if, text_of, leaf_of, whole_opens, opens}
+use Rattle.cmark_grammar.specs.Openings.{Opening, Blank, Nests, Takes, Plain, AtxHeading, IndentedCode, or_else, nests_if, is_one, item_interrupts, fenced_if, html_if, break_if, heading_if, defined_if, metadata_begun, begins_no_link, text_lines, definition_of, table_if, text_of, leaf_of, whole_opens, opens}
 use Rattle.cmark_grammar.specs.Metadata.{metadata_kind}
 use Rattle.cmark_grammar.specs.TableRows.{table_head}
 use Rattle.cmark_grammar.specs.MetadataBlockKind.{MetadataBlockKind}
@@ -19,7 +20,8 @@ use Rattle.cmark_grammar.proofs.BlockLaws.{enter_len}
 use Rattle.cmark_grammar.proofs.RowEdges.{enter-good}
 use Rattle.cmark_scan.specs.LeafLines.{atx_level}
 use Rattle.cmark_lines.specs.Rests.{row_of, IsIn}
-use Rattle.cmark_lines.specs.Starts.{begun_item, begun_container, quote_entered}
+use Rattle.cmark_lines.specs.Opened.{bracket_of}
+use Rattle.cmark_lines.specs.Starts.{begun_item, begun_container, begun_marked, quote_entered}
 use Rattle.cmark_lines.specs.declared.line_rest.LineRest.{LineRest}
 use Rattle.cmark_lines.proofs.RestSteps.{in-moved}
 
@@ -41,10 +43,41 @@ over-no_bracket [] further e f = f
 over-no_bracket (b ∷ bs) further e f = e
 
 module _ (options : Options) (r : Row) (ahead : List Row) where
-  pub no-definition : begins_with 91 (words_of r) ≡ false → definition_of options r ahead ≡ Plain
+  abbrev definition_read : Opening
+  definition_read = defined_if (length (text_lines options ahead)) (definition_in (bytes_over r (text_lines options ahead)))
+
+  no-definition : begins_with 91 (words_of r) ≡ false → definition_read ≡ Plain
   no-definition e =
       ap (defined_if (length (text_lines options ahead)))
       (none_in (bytes_over r (text_lines options ahead)) (over-no_bracket (words_of r) (further_bytes r (text_lines options ahead)) e (further-no_bracket r (text_lines options ahead))))
+
+  abbrev unless_footnote : Bool → Opening
+  unless_footnote z = if z then Plain else definition_read
+
+  -- no definition begins without a bracket that may be that of a link
+  pub no-link : (begins_with 91 (words_of r) && not (begins_no_link (footnotes_in options) (words_of r))) ≡ false → definition_of options r ahead ≡ Plain
+  no-link e = go (begins_with 91 (words_of r)) (begins_no_link (footnotes_in options) (words_of r)) refl e
+    where
+      off : (z : Bool) → definition_read ≡ Plain → unless_footnote z ≡ Plain
+      off true f = refl
+      off false f = f
+
+      go : (x z : Bool) → begins_with 91 (words_of r) ≡ x → (x && not z) ≡ false → unless_footnote z ≡ Plain
+      go x true b f = refl
+      go false false b f = no-definition b
+      go true false b f = absurd (true≢false f)
+
+  pub no-bracket : begins_with 91 (words_of r) ≡ false → definition_of options r ahead ≡ Plain
+  no-bracket e = no-link (ap (λ z. z && not (begins_no_link (footnotes_in options) (words_of r))) e)
+
+  -- where the bracket may be that of a link, a definition is read
+  pub link-read : (begins_with 91 (words_of r) && not (begins_no_link (footnotes_in options) (words_of r))) ≡ true → text_of options r ahead ≡ bracket_of options r ahead
+  link-read e = ap (λ z. or_else (unless_footnote z) (table_if options (table_head options r ahead) ahead)) (go (begins_with 91 (words_of r)) (begins_no_link (footnotes_in options) (words_of r)) e)
+    where
+      go : (x z : Bool) → (x && not z) ≡ true → z ≡ false
+      go true true f = absurd (true≢false (sym f))
+      go true false f = refl
+      go false z f = absurd (true≢false (sym f))
 
   -- the leaves in their order
   abbrev in_order : Option ℕ → Bool → Bool → ℕ → Option Fence → Opening → Opening
@@ -66,16 +99,18 @@ module _ (options : Options) (r : Row) (ahead : List Row) where
       go true e = let q : n ≡ run 35 (words_of r) = cc in ap (λ m. Takes (AtxHeading m) 0) (sym q)
       go false e = absurd (let q : Some n ≡ None = e in cc)
 
-  pub leaf-plain : html_kind (words_of r) ≡ None → is_thematic_break (words_of r) ≡ false → None ≡ atx_level (words_of r) → None ≡ fence_of (indent_of r) (words_of r) → begins_with 91 (words_of r) ≡ false → leaf_of options r ahead ≡ table_if options (table_head options r ahead) ahead
-  leaf-plain kind broken level fence bracket =
+  pub leaf-text : html_kind (words_of r) ≡ None → is_thematic_break (words_of r) ≡ false → None ≡ atx_level (words_of r) → None ≡ fence_of (indent_of r) (words_of r) → leaf_of options r ahead ≡ text_of options r ahead
+  leaf-text kind broken level fence =
       ap (λ k. in_order k (is_thematic_break (words_of r)) (is_atx_heading (words_of r)) (run 35 (words_of r)) (fence_of (indent_of r) (words_of r)) (text_of options r ahead)) kind
       ∙ ap (λ z. in_order None z (is_atx_heading (words_of r)) (run 35 (words_of r)) (fence_of (indent_of r) (words_of r)) (text_of options r ahead)) broken
-      ∙ ap (λ f. in_order None false (is_atx_heading (words_of r)) (run 35 (words_of r)) f (text_of options r ahead)) (sym fence)
-      ∙ ap (λ o. in_order None false (is_atx_heading (words_of r)) (run 35 (words_of r)) None (or_else o (table_if options (table_head options r ahead) ahead))) (no-definition bracket) ∙ go (is_atx_heading (words_of r)) level
+      ∙ ap (λ f. in_order None false (is_atx_heading (words_of r)) (run 35 (words_of r)) f (text_of options r ahead)) (sym fence) ∙ go (is_atx_heading (words_of r)) level
     where
-      go : (z : Bool) → None ≡ (if z then Some (run 35 (words_of r)) else None) → in_order None false z (run 35 (words_of r)) None (table_if options (table_head options r ahead) ahead) ≡ table_if options (table_head options r ahead) ahead
+      go : (z : Bool) → None ≡ (if z then Some (run 35 (words_of r)) else None) → in_order None false z (run 35 (words_of r)) None (text_of options r ahead) ≡ text_of options r ahead
       go true e = absurd (let q : None ≡ Some (run 35 (words_of r)) = e in cc)
       go false e = refl
+
+  pub leaf-plain : html_kind (words_of r) ≡ None → is_thematic_break (words_of r) ≡ false → None ≡ atx_level (words_of r) → None ≡ fence_of (indent_of r) (words_of r) → definition_of options r ahead ≡ Plain → leaf_of options r ahead ≡ table_if options (table_head options r ahead) ahead
+  leaf-plain kind broken level fence none = leaf-text kind broken level fence ∙ ap (λ o. or_else o (table_if options (table_head options r ahead) ahead)) none
 
   -- what a line begins that lacks no prefix
   module _ (whole : r.lazy ≡ false) where
@@ -118,16 +153,16 @@ unfolding enter
 entered-past k r = refl
 
 -- the line inside a container that a line of a text begins stands in the text
-pub begun-in : (text : List ℕ) (rest inside : LineRest) (k : Container) → opens no_options (row_of rest) [] ≡ Nests k → row_of inside ≡ enter k (row_of rest) → IsIn text rest → IsIn text inside
-begun-in text rest inside k opened is h =
-    in-moved text rest inside (enter k (row_of rest)) is (entered-past k (row_of rest)) (enter-good (IsCharBoundary text) no_options k (row_of rest) [] opened h.good) h
+pub begun-in : (options : Options) (text : List ℕ) (rest inside : LineRest) (k : Container) → opens options (row_of rest) [] ≡ Nests k → row_of inside ≡ enter k (row_of rest) → IsIn text rest → IsIn text inside
+begun-in options text rest inside k opened is h =
+    in-moved text rest inside (enter k (row_of rest)) is (entered-past k (row_of rest)) (enter-good (IsCharBoundary text) options k (row_of rest) [] opened h.good) h
 
 -- and it has fewer columns
-pub begun-shorter : (rest inside : LineRest) (k : Container) → opens no_options (row_of rest) [] ≡ Nests k → row_of inside ≡ enter k (row_of rest) → length (row_of inside).columns < length (row_of rest).columns
-begun-shorter rest inside k opened is = subst (λ x. length x.columns < length (row_of rest).columns) (sym is) (enter_len no_options k (row_of rest) [] opened)
+pub begun-shorter : (options : Options) (rest inside : LineRest) (k : Container) → opens options (row_of rest) [] ≡ Nests k → row_of inside ≡ enter k (row_of rest) → length (row_of inside).columns < length (row_of rest).columns
+begun-shorter options rest inside k opened is = subst (λ x. length x.columns < length (row_of rest).columns) (sym is) (enter_len options k (row_of rest) [] opened)
 
 -- a line that begins no item, and shows a block quote's marker, begins a block quote: the line behind the marker tells whether it is an alert
-pub quote-begun : (options : Options) (r s : Row) → None ≡ begun_item r → Some s ≡ quote_entered r → Some (Quote (alert_in options s)) ≡ begun_container options r
+pub quote-begun : (options : Options) (r s : Row) → None ≡ begun_item r → Some s ≡ quote_entered r → Some (Quote (alert_in options s)) ≡ begun_marked options r
 quote-begun options r s none is = go (nat_le (indent_of r) 3) (begins_with 62 (words_of r)) none is
   where
     behind : Row

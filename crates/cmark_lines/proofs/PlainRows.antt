@@ -12,11 +12,12 @@ use Rattle.cmark_grammar.specs.HtmlBlocks.{html_kind, kind_behind}
 use Rattle.cmark_grammar.specs.Containers.{is_bullet, is_digit, digits, delimited, marker_of, item_with, begins_with, quote_width, container_with}
 use Rattle.cmark_grammar.specs.BlockQuoteKind.{BlockQuoteKind}
 use Rattle.cmark_grammar.specs.Alerts.{alert_in}
-use Rattle.cmark_grammar.specs.Openings.{item_interrupts, is_some_fence, html_interrupts, interrupts, table_if, leaf_of}
+use Rattle.cmark_grammar.specs.Footnotes.{Footnotes, footnotes_in, do_interrupt, footnote_in, behind_caret, is_label_found}
+use Rattle.cmark_grammar.specs.Openings.{footnote_interrupts, item_interrupts, is_some_fence, html_interrupts, interrupts, table_if, leaf_of}
 use Rattle.cmark_grammar.specs.TableRows.{begins_with_pipe, is_some_head, table_head, table_interrupts}
 use Rattle.cmark_scan.specs.LeafLines.{atx_level}
-use Rattle.cmark_lines.specs.Starts.{begun_container, begins_marker}
-use Rattle.cmark_lines.proofs.OpeningRows.{leaf-plain}
+use Rattle.cmark_lines.specs.Starts.{begun_marked, begins_marker}
+use Rattle.cmark_lines.proofs.OpeningRows.{leaf-plain, no-bracket}
 
 -- a letter is no other byte
 apart : (b k : ℕ) → is_letter b ≡ true → is_letter k ≡ false → (b == k) ≡ false
@@ -59,7 +60,7 @@ neither (b ∷ bs) e = go (is_bullet b) (is_digit b) (b == 62) refl refl refl e
     go false false true bullet digit quote q = absurd (true≢false q)
     go false false false bullet digit quote q = (unmarked b bs bullet digit, quote)
 
-pub no-container : (options : Options) (r : Row) → first_is begins_marker (words_of r) ≡ false → begun_container options r ≡ None
+pub no-container : (options : Options) (r : Row) → first_is begins_marker (words_of r) ≡ false → begun_marked options r ≡ None
 no-container options r e =
     let nothing = neither (words_of r) e in
     ap (λ m. if nat_le (indent_of r) 3 then container_with (item_with r m) (nat_le (indent_of r) 3 && begins_with 62 (words_of r)) alert else None) nothing.0
@@ -116,6 +117,13 @@ first-letter : (bs : List ℕ) → first_is is_letter bs ≡ true → (b : ℕ) 
 first-letter [] e = absurd (true≢false (sym e))
 first-letter (b ∷ bs) e = (b, (bs, refl, e))
 
+letter-no_footnote : (footnotes : Footnotes) (r : Row) (b : ℕ) (bs : List ℕ) → words_of r ≡ b ∷ bs → is_letter b ≡ true → footnote_interrupts footnotes r ≡ false
+letter-no_footnote footnotes r b bs is letter =
+    ap (λ ws. do_interrupt footnotes && (nat_le (indent_of r) 3 && is_label_found (footnote_in ws))) is
+    ∙ ap (λ z. do_interrupt footnotes && (nat_le (indent_of r) 3 && is_label_found (if z then behind_caret bs else None))) (apart b 91 letter refl)
+    ∙ ap (λ z. do_interrupt footnotes && z) (and-false (nat_le (indent_of r) 3))
+    ∙ and-false (do_interrupt footnotes)
+
 pub letter-interrupts-not : (options : Options) (same : Bool) (r : Row) (ahead : List Row) → first_is is_letter (words_of r) ≡ true → interrupts options same r ahead ≡ false
 letter-interrupts-not options same r ahead e =
     let first = first-letter (words_of r) e in
@@ -123,7 +131,8 @@ letter-interrupts-not options same r ahead e =
     let bs : List ℕ = first.1.0 in
     let is : words_of r ≡ b ∷ bs = first.1.1 in
     let letter : is_letter b ≡ true = first.1.2 in
-    ap (λ z. z || rest (words_of r)) (no-blank (without_indent r.columns) b bs is)
+    ap (λ z. z || (footnote_interrupts (footnotes_in options) r || rest (words_of r))) (no-blank (without_indent r.columns) b bs is)
+    ∙ ap (λ z. z || rest (words_of r)) (letter-no_footnote (footnotes_in options) r b bs is letter)
     ∙ ap rest is
     ∙ ap (λ z. nat_le (indent_of r) 3 && ((nat_le (indent_of r) 3 && z) || others (b ∷ bs))) (apart b 62 letter refl)
     ∙ ap (λ z. nat_le (indent_of r) 3 && (z || others (b ∷ bs))) (and-false (nat_le (indent_of r) 3))
@@ -182,4 +191,4 @@ letter-leaf options r ahead e =
     let letter : is_letter b ≡ true = first.1.2 in
     leaf-plain options r ahead (ap html_kind is ∙ no-html b bs letter) (ap is_thematic_break is ∙ no-break b bs letter)
     (sym (ap atx_level is ∙ ap (λ z. if z then Some (run 35 (b ∷ bs)) else None) (no-heading b bs letter)))
-    (sym (ap (fence_of (indent_of r)) is ∙ no-fence b bs letter (indent_of r))) (ap (begins_with 91) is ∙ apart b 91 letter refl)
+    (sym (ap (fence_of (indent_of r)) is ∙ no-fence b bs letter (indent_of r))) (no-bracket options r ahead (ap (begins_with 91) is ∙ apart b 91 letter refl))

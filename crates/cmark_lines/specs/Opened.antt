@@ -5,29 +5,35 @@ use Rattle.cmark_grammar.specs.Options.{Options}
 use Rattle.cmark_grammar.specs.Rows.{Row, words_of, start_of}
 use Rattle.cmark_grammar.specs.Leaves.{counted, code_further, is_thematic_break, is_atx_heading, fence_of}
 use Rattle.cmark_grammar.specs.HtmlBlocks.{html_kind, html_lines}
+use Rattle.cmark_grammar.specs.LinkDefinitions.{definition_in, bytes_over}
 use Rattle.cmark_grammar.specs.Containers.{begins_with}
 use Rattle.cmark_grammar.specs.Openings as grammar
-use Rattle.cmark_grammar.specs.Openings.{table_if, text_of, fenced_if, is_some_fence, html_interrupts}
+use Rattle.cmark_grammar.specs.Openings.{table_if, text_lines, defined_if, or_else, fenced_if, is_some_fence, html_interrupts}
 use Rattle.cmark_grammar.specs.TableRows.{table_head}
 use Rattle.cmark_text.specs.Shown.{level_number}
 use Rattle.cmark_scan.specs.HtmlLines.{kind_number}
 use Rattle.cmark_scan.specs.LeafLines.{shown_fence, HasPlace}
 use Rattle.cmark_scan.specs.declared.leaf.CodeFence.{CodeFence}
 use Rattle.cmark_lines.specs.Rests.{row_of, IsIn}
-use Rattle.cmark_lines.specs.Starts.{shown_start, inside_of, Enters}
+use Rattle.cmark_lines.specs.Starts.{shown_start, inside_of, Enters, HasMarker}
 use Rattle.cmark_lines.specs.declared.opening.Opening.{Opening}
 use Rattle.cmark_lines.specs.declared.opening.Opening.TheVariants.{Blank, Nests, IndentedCode, Html, ThematicBreak, AtxHeading, FencedCode, Bracket, Plain}
+
+-- what a line begins whose bracket may be that of a link: a link reference definition, if one can be read from this line and those ahead, and else
+-- a table or a paragraph
+abbrev pub bracket_of : Options → Row → List Row → grammar.Opening
+bracket_of options r ahead = or_else (defined_if (length (text_lines options ahead)) (definition_in (bytes_over r (text_lines options ahead)))) (table_if options (table_head options r ahead) ahead)
 
 -- what the line begins, with these lines ahead
 abbrev pub opened : Options → Opening → Row → List Row → grammar.Opening
 opened options Blank r ahead = grammar.Blank
-opened options (Nests start) r ahead = grammar.Nests (shown_start options start)
+opened options (Nests start) r ahead = grammar.Nests (shown_start options r start)
 opened options IndentedCode r ahead = grammar.Takes grammar.IndentedCode (counted code_further ahead)
 opened options (Html kind) r ahead = grammar.Takes (grammar.HtmlBlock (kind_number kind)) (html_lines (kind_number kind) r ahead)
 opened options ThematicBreak r ahead = grammar.Takes grammar.ThematicBreak 0
 opened options (AtxHeading level) r ahead = grammar.Takes (grammar.AtxHeading (level_number level)) 0
 opened options (FencedCode indent fence) r ahead = fenced_if (Some (shown_fence indent (words_of r) fence)) ahead
-opened options Bracket r ahead = text_of options r ahead
+opened options Bracket r ahead = bracket_of options r ahead
 opened options Plain r ahead = table_if options (table_head options r ahead) ahead
 
 -- the line inside a container is the one behind the container's marker
@@ -35,7 +41,12 @@ abbrev pub HasInside : Opening → Row → Type 0
 HasInside (Nests start) r = Enters r start
 HasInside _ r = Unit {0}
 
--- and it has fewer columns
+-- the label of a footnote definition stands between brackets
+abbrev pub IsMarked : Opening → Row → Type 0
+IsMarked (Nests start) r = HasMarker r start
+IsMarked _ r = Unit {0}
+
+-- the line inside it has fewer columns
 abbrev pub InsideIsShorter : Opening → Row → Type 0
 InsideIsShorter (Nests start) r = length (row_of (inside_of start)).columns < length r.columns
 InsideIsShorter _ r = Unit {0}

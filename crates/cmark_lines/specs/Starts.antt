@@ -1,10 +1,13 @@
 -- Containers as this crate knows them, seen as those of the grammar.
 use Rattle.std.specs.Prelude.{◌≡◌, ℕ, Bool, ◌==◌, ◌||◌, nat_le, if◌then◌else◌, Option, Some, None}
 use Rattle.cmark_grammar.specs.Containers as grammar
-use Rattle.cmark_grammar.specs.Containers.{item_of, container_of, is_quote, quote_width, enter}
+use Rattle.cmark_grammar.specs.Containers.{item_of, container_of, container_with, footnote_of, is_quote, quote_width, enter}
+use Rattle.cmark_grammar.specs.Footnotes.{footnotes_in, footnote_in, marker_columns}
+use Rattle.cmark_grammar.specs.LinkDefinitions.{Found}
+use Rattle.cmark_scan_parts.specs.Footnotes.{marked, IsClosed}
 use Rattle.cmark_grammar.specs.Alerts.{alert_in}
 use Rattle.cmark_grammar.specs.Options.{Options}
-use Rattle.cmark_grammar.specs.Rows.{Row, without, indent_of}
+use Rattle.cmark_grammar.specs.Rows.{Row, without, indent_of, words_of}
 use Rattle.cmark_lines.specs.Rests.{row_of}
 use Rattle.cmark_lines.specs.declared.line_rest.LineRest.{LineRest}
 use Rattle.cmark_lines.specs.declared.container.Container.{Container}
@@ -28,17 +31,29 @@ Shows (kept.Footnote o) (grammar.Footnote label old size) = o ≡ old
 abbrev pub shown_item : ItemStart → grammar.Container
 shown_item item = grammar.Item item.mark item.number item.width
 
+-- the footnote definition whose label has so many bytes
+abbrev pub shown_footnote : Row → (label_size : ℕ) → (old : Bool) → grammar.Container
+shown_footnote r label_size old = let label = (marked (words_of r) label_size).bytes in grammar.Footnote label old (marker_columns label r.columns)
+
 -- the container that begins, and the line behind its marker: that line tells whether a block quote is an alert
-abbrev pub shown_start : Options → ContainerStart → grammar.Container
-shown_start options (begun.Quote inside) = grammar.Quote (alert_in options (row_of inside))
-shown_start options (begun.Item item inside) = shown_item item
+abbrev pub shown_start : Options → Row → ContainerStart → grammar.Container
+shown_start options r (begun.Quote inside) = grammar.Quote (alert_in options (row_of inside))
+shown_start options r (begun.Item item inside) = shown_item item
+shown_start options r (begun.Footnote footnote inside) = shown_footnote r footnote.label_size footnote.old
 
 abbrev pub inside_of : ContainerStart → LineRest
 inside_of (begun.Quote inside) = inside
 inside_of (begun.Item item inside) = inside
+inside_of (begun.Footnote footnote inside) = inside
 
 abbrev pub Enters : Row → ContainerStart → Type 0
-Enters r start = (options : Options) → row_of (inside_of start) ≡ enter (shown_start options start) r
+Enters r start = (options : Options) → row_of (inside_of start) ≡ enter (shown_start options r start) r
+
+-- the label of a footnote definition stands between brackets
+abbrev pub HasMarker : Row → ContainerStart → Type 0
+HasMarker r (begun.Quote inside) = Unit {0}
+HasMarker r (begun.Item item inside) = Unit {0}
+HasMarker r (begun.Footnote footnote inside) = IsClosed (words_of r) footnote.label_size
 
 -- the number of an item of this character: what stands behind a number tells an ordered item
 abbrev pub number_by : (mark number : ℕ) → Option ℕ
@@ -47,6 +62,26 @@ number_by mark number = if grammar.is_delimiter mark then Some number else None
 -- of a line that is indented by at most three columns, the item and the container that it begins
 abbrev pub begun_item : Row → Option grammar.Container
 begun_item r = if nat_le (indent_of r) 3 then item_of r else None
+
+-- the footnote definition, and the item or block quote
+abbrev pub begun_footnote : Options → Row → Option grammar.Container
+begun_footnote options r = if nat_le (indent_of r) 3 then footnote_of (footnotes_in options) r else None
+
+abbrev pub begun_marked : Options → Row → Option grammar.Container
+begun_marked options r = if nat_le (indent_of r) 3 then container_with (item_of r) (is_quote r) (alert_in options (without (quote_width r) r)) else None
+
+-- the label of the footnote definition, and what stands behind its marker
+abbrev pub begun_label : Row → Option Found
+begun_label r = if nat_le (indent_of r) 3 then footnote_in (words_of r) else None
+
+abbrev pub label_shown : Row → ℕ × LineRest → Found
+label_shown r begun = marked (words_of r) begun.0
+
+abbrev pub EntersFootnote : Row → ℕ × LineRest → Type 0
+EntersFootnote r begun = (old : Bool) → row_of begun.1 ≡ enter (shown_footnote r begun.0 old) r
+
+abbrev pub IsMarkerClosed : Row → ℕ × LineRest → Type 0
+IsMarkerClosed r begun = IsClosed (words_of r) begun.0
 
 abbrev pub begun_container : Options → Row → Option grammar.Container
 begun_container options r = if nat_le (indent_of r) 3 then container_of options r else None

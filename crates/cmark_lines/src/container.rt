@@ -4,11 +4,14 @@ ghost use Rattle.std.specs.Prelude.{◌≡◌, ℕ, List, option_map, IfSome};
 ghost use Rattle.cmark_grammar.specs.Containers as grammar;
 ghost use Rattle.cmark_grammar.specs.Containers.{keeps};
 ghost use Rattle.cmark_grammar.specs.Letters.{first_is};
-ghost use Rattle.cmark_grammar.specs.Options.{Options};
+ghost use Rattle.cmark_grammar.specs.Options as profile;
 ghost use Rattle.cmark_lines.specs.Rests.{row_of, IsIn};
-ghost use Rattle.cmark_lines.specs.Starts.{Shows, shown_start, begun_container, begins_marker, Enters};
+ghost use Rattle.cmark_text.specs.Shown.{shown_options};
+ghost use Rattle.cmark_lines.specs.Starts.{Shows, shown_start, begun_container, begun_footnote, begun_marked, begins_marker, Enters, HasMarker};
 
+use crate::footnotes::{reads_footnotes, reads_old_footnotes};
 use crate::line_rest::LineRest;
+use cmark_text::Options;
 
 /// A container block, as far as it decides which later lines it keeps.
 #[derive(Clone, Copy, Debug, PartialEq, Eq)]
@@ -38,6 +41,15 @@ pub struct ItemStart {
     pub width: usize,
 }
 
+/// A footnote definition, as its first line shows it (this profile's own).
+#[derive(Clone, Copy, Debug, PartialEq, Eq)]
+pub struct FootnoteStart {
+    /// How many bytes the label has. It stands behind the first two bytes of the line's words, and a bracket behind it.
+    pub label_size: usize,
+    /// It is read as such definitions were before, and not as GitHub reads them.
+    pub old: bool,
+}
+
 /// A container that a line begins, and the line behind the container's marker.
 #[derive(Clone, Copy, Debug)]
 pub enum ContainerStart<'a> {
@@ -45,6 +57,8 @@ pub enum ContainerStart<'a> {
     Quote(LineRest<'a>),
     /// A list item.
     Item(ItemStart, LineRest<'a>),
+    /// A footnote definition (this profile's own), and the line behind the blanks that follow its marker.
+    Footnote(FootnoteStart, LineRest<'a>),
 }
 
 impl Container {
@@ -68,11 +82,45 @@ impl Container {
     }
 }
 
-/// The container that the line begins, indented by at most three columns, and the line behind its marker.
+/// The container that the line begins, indented by at most three columns, and the line behind its marker: where footnotes are read, the
+/// definition of one comes first.
 #[inline]
-pub(crate) fn container_start<'a>(rest: LineRest<'a>) -> Option<ContainerStart<'a>>
-    ensures container { (options : Options) → option_map (shown_start options) result ≡ begun_container options (row_of rest.entry) }
+pub(crate) fn container_start<'a>(
+    rest: LineRest<'a>,
+    options: Options,
+) -> Option<ContainerStart<'a>>
+    ensures container { option_map (shown_start (shown_options options) (row_of rest.entry)) result ≡ begun_container (shown_options options) (row_of rest.entry) }
     ensures inside { IfSome result (Enters (row_of rest.entry)) }
+    ensures marker { IfSome result (HasMarker (row_of rest.entry)) }
+{
+    if let Some(start) = footnote_start(rest, options) {
+        return Some(start);
+    }
+    marker_start(rest)
+}
+
+/// The footnote definition that the line begins, indented by at most three columns, and the line behind the blanks that follow its marker
+/// (this profile's own).
+#[inline]
+fn footnote_start<'a>(rest: LineRest<'a>, options: Options) -> Option<ContainerStart<'a>>
+    ensures container { option_map (shown_start (shown_options options) (row_of rest.entry)) result ≡ begun_footnote (shown_options options) (row_of rest.entry) }
+    ensures inside { IfSome result (Enters (row_of rest.entry)) }
+    ensures marker { IfSome result (HasMarker (row_of rest.entry)) }
+{
+    if !reads_footnotes(options) {
+        return None;
+    }
+    let (label_size, inside) = rest.behind_footnote_marker()?;
+    let old = reads_old_footnotes(options);
+    Some(ContainerStart::Footnote(FootnoteStart { label_size, old }, inside))
+}
+
+/// The list item or block quote that the line begins, indented by at most three columns, and the line behind its marker.
+#[inline]
+fn marker_start<'a>(rest: LineRest<'a>) -> Option<ContainerStart<'a>>
+    ensures container { (options : profile.Options) → option_map (shown_start options (row_of rest.entry)) result ≡ begun_marked options (row_of rest.entry) }
+    ensures inside { IfSome result (Enters (row_of rest.entry)) }
+    ensures marker { IfSome result (HasMarker (row_of rest.entry)) }
 {
     if !may_begin_container(rest.words()) {
         return None;
@@ -84,7 +132,7 @@ pub(crate) fn container_start<'a>(rest: LineRest<'a>) -> Option<ContainerStart<'
     Some(ContainerStart::Quote(inside))
 }
 
-/// Whether the words of a line may begin with the marker of a container, by their first byte alone.
+/// Whether the words of a line may begin with the marker of a list item or a block quote, by their first byte alone.
 #[inline]
 fn may_begin_container(words: &[u8]) -> bool
     ensures { result ≡ first_is begins_marker words.now }

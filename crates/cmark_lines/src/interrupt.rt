@@ -1,37 +1,47 @@
 //! What ends a paragraph (CommonMark 4.3 and 4.8).
 
 ghost use Rattle.std.specs.Prelude.{◌≡◌, ℕ, List, option_map};
-ghost use Rattle.cmark_grammar.specs.Options.{Options};
+ghost use Rattle.cmark_grammar.specs.Footnotes.{footnotes_in};
 ghost use Rattle.cmark_grammar.specs.Letters.{is_letter, first_is};
 ghost use Rattle.cmark_grammar.specs.Rows.{Row};
 ghost use Rattle.cmark_grammar.specs.Leaves.{is_atx_heading, fence_of, underlines};
 ghost use Rattle.cmark_grammar.specs.Containers.{is_quote};
-ghost use Rattle.cmark_grammar.specs.Openings.{interrupts, is_one, item_interrupts, is_some_fence, html_interrupts};
+ghost use Rattle.cmark_grammar.specs.Openings.{interrupts, footnote_interrupts, is_one, item_interrupts, is_some_fence, html_interrupts};
 ghost use Rattle.cmark_grammar.specs.HtmlBlocks.{html_kind};
-ghost use Rattle.cmark_text.specs.Shown.{level_number};
+ghost use Rattle.cmark_text.specs.Shown.{level_number, shown_options};
 ghost use Rattle.cmark_lines.specs.Rests.{row_of};
 ghost use Rattle.cmark_lines.specs.Starts.{begun_item};
 ghost use Rattle.cmark_lines.specs.Opened.{leaf_interrupts};
 
+use crate::footnotes::reads_gfm_footnotes;
 use crate::line_rest::LineRest;
 use cmark_scan::{
     HtmlKind, html_kind, scan_atx_heading, scan_code_fence, scan_hrule, scan_setext_heading,
 };
-use cmark_text::HeadingLevel;
+use cmark_text::{HeadingLevel, Options};
 
 /// Whether the line interrupts a paragraph, which stands in the same container (`same`), or further in, so that the line
 /// lacks a prefix there (CommonMark 4.8). An HTML block of kind 7 never does; an item that is blank behind its marker, or
-/// is numbered other than 1, interrupts none in the same container. What the line begins may tell another thing: four columns of
-/// indent and kind 7 begin something, and interrupt nothing.
-pub fn interrupts(rest: LineRest<'_>, same: bool) -> bool
-    ensures { (options : Options) (ahead : List Row) → result ≡ interrupts options same (row_of rest.entry) ahead }
+/// is numbered other than 1, interrupts none in the same container; a footnote definition does as GitHub reads it. What the line begins may tell
+/// another thing: four columns of indent and kind 7 begin something, and interrupt nothing.
+pub fn interrupts(rest: LineRest<'_>, same: bool, options: Options) -> bool
+    ensures { (ahead : List Row) → result ≡ interrupts (shown_options options) same (row_of rest.entry) ahead }
 {
     if rest.begins_with_letter() {
         return false;
     }
     rest.is_blank()
+        || footnote_interrupts(rest, options)
         || (rest.indent_upto(4) < 4
             && (is_quote(rest) || item_interrupts(rest, same) || leaf_interrupts(rest.words())))
+}
+
+/// Whether the line begins a footnote definition that interrupts a paragraph (this profile's own).
+#[inline]
+fn footnote_interrupts(rest: LineRest<'_>, options: Options) -> bool
+    ensures { result ≡ footnote_interrupts (footnotes_in (shown_options options)) (row_of rest.entry) }
+{
+    reads_gfm_footnotes(options) && rest.behind_footnote_marker().is_some()
 }
 
 /// Whether the words of a line begin with an ASCII letter: most lines of prose do, and what does begins nothing but text.

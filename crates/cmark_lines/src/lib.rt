@@ -3,6 +3,7 @@
 #![tactic(auto)]
 
 mod container;
+mod footnotes;
 mod interrupt;
 mod line_rest;
 mod metadata;
@@ -11,7 +12,7 @@ mod table;
 mod verbatim;
 
 pub use cmark_scan::{CodeFence, HtmlKind};
-pub use container::{Container, ContainerStart, ItemStart};
+pub use container::{Container, ContainerStart, FootnoteStart, ItemStart};
 pub use interrupt::{interrupts, underlines};
 pub use line_rest::LineRest;
 pub use metadata::{ends_metadata, metadata_kind};

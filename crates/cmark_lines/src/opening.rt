@@ -1,19 +1,21 @@
 //! What a line begins (CommonMark 3 to 5).
 
-ghost use Rattle.std.specs.Prelude.{◌≡◌, ℕ, List};
-ghost use Rattle.cmark_grammar.specs.Options.{Options};
+ghost use Rattle.std.specs.Prelude.{◌≡◌, ◌&&◌, not, ℕ, List};
+ghost use Rattle.cmark_grammar.specs.Footnotes.{footnotes_in, is_footnote_label};
 ghost use Rattle.cmark_grammar.specs.Rows.{Row, words_of, indent_of};
 ghost use Rattle.cmark_grammar.specs.Containers.{begins_with};
 ghost use Rattle.cmark_grammar.specs.Metadata.{metadata_kind};
-ghost use Rattle.cmark_grammar.specs.Openings.{opens, or_else, metadata_begun, leaf_of};
+ghost use Rattle.cmark_grammar.specs.Openings.{opens, or_else, metadata_begun, leaf_of, begins_no_link};
 ghost use Rattle.cmark_lines.specs.Rests.{row_of, CutsNoCharacter, IsIn};
-ghost use Rattle.cmark_lines.specs.Opened.{opened, HasInside, InsideIsShorter, HasInfo, HasBracket, InsideIsIn, InfoIsIn};
+ghost use Rattle.cmark_text.specs.Shown.{shown_options};
+ghost use Rattle.cmark_lines.specs.Opened.{opened, HasInside, IsMarked, InsideIsShorter, HasInfo, HasBracket, InsideIsIn, InfoIsIn};
 
 use crate::container::{ContainerStart, container_start};
+use crate::footnotes::reads_footnotes;
 use crate::interrupt::begins_with_letter;
 use crate::line_rest::LineRest;
 use cmark_scan::{CodeFence, HtmlKind, html_kind, scan_atx_heading, scan_code_fence, scan_hrule};
-use cmark_text::HeadingLevel;
+use cmark_text::{HeadingLevel, Options};
 
 /// What a line begins that lacks no prefix of the containers around it, metadata aside.
 #[derive(Clone, Copy, Debug)]
@@ -46,11 +48,12 @@ pub enum Opening<'a> {
 
 /// What the line begins, where it begins no metadata. A line that is indented by four columns or more begins an indented code
 /// block, unless it is blank; behind up to three columns a container's marker comes first, then the leaf blocks.
-pub fn what_opens<'a>(rest: LineRest<'a>) -> Opening<'a>
-    ensures opens { (options : Options) (ahead : List Row) → opens options (row_of rest.entry) ahead
-        ≡ or_else (metadata_begun (metadata_kind options (row_of rest.entry)) ahead) (opened options result (row_of rest.entry) ahead) }
+pub fn what_opens<'a>(rest: LineRest<'a>, options: Options) -> Opening<'a>
+    ensures opens { (ahead : List Row) → opens (shown_options options) (row_of rest.entry) ahead
+        ≡ or_else (metadata_begun (metadata_kind (shown_options options) (row_of rest.entry)) ahead) (opened (shown_options options) result (row_of rest.entry) ahead) }
     ensures inside { HasInside result (row_of rest.entry) }
     ensures shorter { InsideIsShorter result (row_of rest.entry) }
+    ensures marker { IsMarked result (row_of rest.entry) }
     ensures info { HasInfo result (row_of rest.entry) }
     ensures bracket { HasBracket result (row_of rest.entry) }
     ensures placed { (text : List ℕ) → IsIn text rest.entry → InsideIsIn text result }
@@ -63,16 +66,18 @@ pub fn what_opens<'a>(rest: LineRest<'a>) -> Opening<'a>
     if indent == 4 {
         return Opening::IndentedCode;
     }
-    if let Some(start) = container_start(rest) {
+    if let Some(start) = container_start(rest, options) {
         return Opening::Nests(start);
     }
-    leaf_opening(rest.words(), indent)
+    leaf_opening(rest.words(), indent, options)
 }
 
 /// What the words of a line begin, indented by so many columns, where they begin no container.
-fn leaf_opening<'a>(words: &[u8], indent: usize) -> Opening<'a>
-    ensures opens { (options : Options) (r : Row) (ahead : List Row) → words_of r ≡ words.now → indent_of r ≡ indent → leaf_of options r ahead ≡ opened options result r ahead }
+fn leaf_opening<'a>(words: &[u8], indent: usize, options: Options) -> Opening<'a>
+    ensures opens { (r : Row) (ahead : List Row) → words_of r ≡ words.now → indent_of r ≡ indent
+        → leaf_of (shown_options options) r ahead ≡ opened (shown_options options) result r ahead }
     ensures inside { (r : Row) → HasInside result r × InsideIsShorter result r }
+    ensures marker { (r : Row) → IsMarked result r }
     ensures info { (r : Row) → words_of r ≡ words.now → HasInfo result r }
     ensures bracket { (r : Row) → words_of r ≡ words.now → HasBracket result r }
     ensures placed { (text : List ℕ) → InsideIsIn text result }
@@ -93,11 +98,20 @@ fn leaf_opening<'a>(words: &[u8], indent: usize) -> Opening<'a>
     if let Some(fence) = scan_code_fence(words) {
         return Opening::FencedCode { indent, fence };
     }
-    if begins_with_bracket(words) {
+    if may_begin_link(words, options) {
         Opening::Bracket
     } else {
         Opening::Plain
     }
+}
+
+/// Whether the words of a line begin with an opening bracket, which may be that of a link's label: where footnotes are read, none begins with
+/// `[^` and goes on.
+#[inline]
+fn may_begin_link(words: &[u8], options: Options) -> bool
+    ensures { result ≡ (begins_with 91 words.now && not (begins_no_link (footnotes_in (shown_options options)) words.now)) }
+{
+    begins_with_bracket(words) && !(reads_footnotes(options) && begins_footnote_label(words))
 }
 
 /// Whether the words of a line begin with an opening bracket.
@@ -108,5 +122,16 @@ fn begins_with_bracket(words: &[u8]) -> bool
     match words {
         [first, ..] => *first == b'[',
         [] => false,
+    }
+}
+
+/// Whether the words of a line begin with `[^`, behind which a label goes on.
+fn begins_footnote_label(words: &[u8]) -> bool
+    ensures { result ≡ is_footnote_label words.now }
+{
+    match words {
+        [b'[', b'^', b']', ..] => false,
+        [b'[', b'^', ..] => true,
+        _ => false,
     }
 }

@@ -79,9 +79,9 @@ marker-taken at n line line' whole whole' same further some within last =
     let bs = line.bytes.now in
     let k : ℕ = column_behind 0 (take line.taken bs) in
     let new : column_behind 0 (take line'.taken line'.bytes.now) ≡ column_behind k (take n (drop line.taken bs)) =
-        ap (λ bytes. column_behind 0 (take line'.taken bytes.now)) same ∙ ap (λ m. column_behind 0 (take m bs)) further ∙ behind-more bs line.taken n in
+    ap (λ bytes. column_behind 0 (take line'.taken bytes.now)) same ∙ ap (λ m. column_behind 0 (take m bs)) further ∙ behind-more bs line.taken n in
     let over = ap (λ m. k + columns_over m (expand k (at + line.taken) (drop line.taken bs))) (let s : n ≡ suc (n - 1) = omega (arith, some) in s)
-        ∙ over-expand (n - 1) k (at + line.taken) (drop line.taken bs) (omega (arith, some, within)) last ∙ ap (λ m. column_behind k (take m (drop line.taken bs))) (let s : suc (n - 1) ≡ n = omega (arith, some) in s) in
+    ∙ over-expand (n - 1) k (at + line.taken) (drop line.taken bs) (omega (arith, some, within)) last ∙ ap (λ m. column_behind k (take m (drop line.taken bs))) (let s : suc (n - 1) ≡ n = omega (arith, some) in s) in
     let left : columns_from at line ≡ expand k (at + line.taken) (drop line.taken bs) = left-pending at bs line.taken line.pending whole ∙ left-whole at bs line.taken line.inside in
     let seen = ap (columns_over n) left in
     omega (arith, whole, whole', new, over, seen)

@@ -19,11 +19,11 @@ footnote-none = parted_none footnote_in refl (λ bs. refl) (λ bs. refl)
 pub found-at : (r : Row) (bs : List ℕ) → (is_flush r ≡ true → words_of r ≡ bs) → (is_flush r ≡ false → is_parted bs ≡ true) → footnote_at r ≡ footnote_in bs
 found-at r bs words blank = found-is r bs words blank footnote_in footnote-none
 
-flat : (r : Row) (found : Found) → footnote_at r ≡ Some found → indent_of r ≡ 0
-flat r found is = go (is_flush r) refl is
+pub flush-of : (r : Row) (found : Found) → footnote_at r ≡ Some found → is_flush r ≡ true
+flush-of r found is = go (is_flush r) refl is
   where
-    go : (z : Bool) → is_flush r ≡ z → (if z then footnote_in (words_of r) else None) ≡ Some found → indent_of r ≡ 0
-    go true e q = eqb-true (indent_of r) 0 e
+    go : (z : Bool) → is_flush r ≡ z → (if z then footnote_in (words_of r) else None) ≡ Some found → is_flush r ≡ true
+    go true e q = e
     go false e q = let none : None ≡ Some found = q in absurd (cc)
 
 behind-is : (r r1 r2 : Row) (n : ℕ) (label : List ℕ) → indent_of r ≡ 0 → suc (suc (suc (suc (length label)))) ≡ n → r1 ≡ without (columns_over n r.columns) r → r2 ≡ without (indent_of r1) r1
@@ -50,7 +50,7 @@ behind-is r r1 r2 n label none size first second =
 pub behind-taken : (r r1 r2 : Row) (bs : List ℕ) (size : ℕ) → Some (marked bs size) ≡ footnote_at r → size + 4 ≤ length bs → r1 ≡ without (columns_over (size + 4) r.columns) r → r2 ≡ without (indent_of r1) r1
     → r2 ≡ behind_footnote (footnote_at r) r
 behind-taken r r1 r2 bs size is within first second =
-    behind-is r r1 r2 (size + 4) (take size (drop 2 bs)) (flat r (marked bs size) (sym is)) length-is first second
+    behind-is r r1 r2 (size + 4) (take size (drop 2 bs)) (eqb-true (indent_of r) 0 (flush-of r (marked bs size) (sym is))) length-is first second
     ∙ ap (λ o. behind_footnote o r) is
   where
     length-is : suc (suc (suc (suc (length (take size (drop 2 bs)))))) ≡ size + 4

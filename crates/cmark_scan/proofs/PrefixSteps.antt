@@ -17,16 +17,16 @@ abbrev pub shallow : Row → Row
 shallow r = without (min 3 (indent_of r)) r
 
 module _ (r : Row) (le : indent_of r ≤ 3) where
-  taken-all : min 3 (indent_of r) ≡ indent_of r
+  pub taken-all : min 3 (indent_of r) ≡ indent_of r
   taken-all = omega arith
 
-  flat : indent_of (shallow r) ≡ 0
+  pub flat : indent_of (shallow r) ≡ 0
   flat = let e = indent-drop (min 3 (indent_of r)) r.columns (omega arith) in omega (arith, e, taken-all)
 
-  same-words : words_of (shallow r) ≡ words_of r
+  pub same-words : words_of (shallow r) ≡ words_of r
   same-words = ap (λ n. bytes_of (drop n (drop (min 3 (indent_of r)) r.columns))) flat ∙ ap (λ n. bytes_of (drop n r.columns)) taken-all
 
-deep : (r : Row) → 3 < indent_of r → is_flush (shallow r) ≡ false
+pub deep : (r : Row) → 3 < indent_of r → is_flush (shallow r) ≡ false
 deep r lt = ne_eqb (indent_of (shallow r)) 0 (λ e. let d = indent-drop (min 3 (indent_of r)) r.columns (omega arith) in absurd (omega (arith, d, e, lt)))
 
 -- a quote's marker behind up to three columns is the one that the grammar sees on the whole row

@@ -1,5 +1,5 @@
 -- What begins on a line behind the prefixes that were taken, where no blank stands in front of it.
-use Rattle.std.specs.Prelude.{ℕ, List, ◌+◌, ◌-◌, ◌^◌, min, Bool, ◌==◌, ◌&&◌, if◌then◌else◌, [], Option, Some, None, is_some, unwrap_or}
+use Rattle.std.specs.Prelude.{ℕ, ◌+◌, ◌-◌, ◌^◌, min, Bool, ◌==◌, ◌&&◌, if◌then◌else◌, [], Option, Some, None, is_some, unwrap_or}
 use Rattle.cmark_grammar.specs.Rows.{Row, without, indent_of, words_of}
 use Rattle.cmark_grammar.specs.Containers.{Container, Quote, Item, Footnote, is_quote, quote_width, footnote_width, item_of, enter}
 use Rattle.cmark_grammar.specs.Footnotes.{footnote_in, marker_columns}
@@ -63,12 +63,9 @@ task_in r = flush r (task_of (words_of r))
 abbrev pub behind_task : Row → Row
 behind_task r = if is_some (task_in r) then without 3 r else r
 
--- the label of the footnote definition whose marker stands in front, and the line behind the marker and all blanks behind it
+-- the footnote definition whose marker stands in front, and the line behind the marker and all blanks behind it
 abbrev pub footnote_at : Row → Option Found
 footnote_at r = flush r (footnote_in (words_of r))
-
-abbrev pub label_of : Found → List ℕ
-label_of found = found.bytes
 
 abbrev pub behind_footnote : Option Found → Row → Row
 behind_footnote None r = r

@@ -1,5 +1,5 @@
 -- The markers of footnote definitions, as they are found on a line.
-use Rattle.std.specs.Prelude.{ℕ, suc, List, take, drop}
+use Rattle.std.specs.Prelude.{◌≡◌, ◌≤◌, ℕ, suc, ◌+◌, List, length, take, drop, slice_index}
 use Rattle.cmark_grammar.specs.LinkDefinitions.{Found}
 
 -- the label in front, which has so many bytes, and what stands behind `]:`
@@ -9,3 +9,7 @@ labelled bytes size = record { bytes = take size bytes; behind = drop (suc (suc 
 -- the label of the marker in front, which has so many bytes, and what stands behind the marker
 abbrev pub marked : List ℕ → (size : ℕ) → Found
 marked words size = labelled (drop 2 words) size
+
+-- behind the marker's label, which has so many bytes, stands the bracket that closes it, and one more byte
+abbrev pub IsClosed : List ℕ → (size : ℕ) → Type 0
+IsClosed words size = (size + 4 ≤ length words) × (slice_index words (size + 2) ≡ 93)

@@ -3,7 +3,7 @@
 ghost use Rattle.std.specs.Prelude.{◌≡◌, ◌<◌, ◌≤◌, ◌+◌, ℕ, List, Option, suc, not, false, length, drop, take, nat_lt, nat_le, count_by, slice_index, IfSome, option_map, ◌||◌};
 ghost use Rattle.cmark_grammar.specs.Footnotes.{footnote_in, label_then_colon};
 ghost use Rattle.cmark_grammar.specs.LinkDefinitions.{Found, up_to_byte, up_to, is_white, characters, is_label, label_if};
-ghost use Rattle.cmark_scan_parts.specs.Footnotes.{labelled, marked};
+ghost use Rattle.cmark_scan_parts.specs.Footnotes.{labelled, marked, IsClosed};
 ghost use Rattle.cmark_scan_parts.specs.Steps.{read_closed, OnEnds};
 
 use crate::destination::{Step, escapes_next};
@@ -27,6 +27,7 @@ fn label_step(escaped: bool, byte: u8) -> Step
 fn closed_size(bytes: &[u8]) -> Option<usize>
     ensures value { option_map (λ size. record { bytes = take size bytes.now; behind = drop (suc size) bytes.now }) result ≡ up_to false 93 91 false bytes.now }
     ensures within { IfSome result (λ size. size < length bytes.now) }
+    ensures closed { IfSome result (λ size. slice_index bytes.now size ≡ 93) }
 {
     let mut escaped = false;
     let mut rest = bytes;
@@ -81,6 +82,7 @@ fn is_label(bytes: &[u8]) -> bool
 fn label_size(bytes: &[u8]) -> Option<usize>
     ensures value { option_map (labelled bytes.now) result ≡ label_then_colon (label_if (up_to false 93 91 false bytes.now)) }
     ensures within { IfSome result (λ size. size + 2 ≤ length bytes.now) }
+    ensures bracket { IfSome result (λ size. slice_index bytes.now size ≡ 93) }
     ensures colon { IfSome result (λ size. slice_index bytes.now (size + 1) ≡ 58) }
 {
     let size = closed_size(bytes)?;
@@ -96,7 +98,7 @@ fn label_size(bytes: &[u8]) -> Option<usize>
 /// stands behind the first two bytes; the marker has four bytes more than it.
 pub fn scan_footnote_marker(words: &[u8]) -> Option<usize>
     ensures value { option_map (marked words.now) result ≡ footnote_in words.now }
-    ensures within { IfSome result (λ size. size + 4 ≤ length words.now) }
+    ensures closed { IfSome result (IsClosed words.now) }
     ensures colon { IfSome result (λ size. slice_index words.now (size + 3) ≡ 58) }
 {
     match words {

@@ -8,7 +8,7 @@ ghost use Rattle.cmark_grammar.specs.TaskItems.{task_in};
 ghost use Rattle.cmark_text.specs.Shown.{shown_block_quote_kind};
 ghost use Rattle.cmark_lines.specs.Boxes.{is_checked, IsBehindBox};
 ghost use Rattle.cmark_lines.specs.Rests.{row_of};
-ghost use Rattle.cmark_lines.specs.Starts.{quote_entered, number_by, shown_begun, begun_item, EntersItem};
+ghost use Rattle.cmark_lines.specs.Starts.{quote_entered, number_by, shown_begun, begun_item, EntersItem, label_shown, begun_label, EntersFootnote, IsMarkerClosed};
 
 use crate::container::ItemStart;
 use crate::line_rest::LineRest;
@@ -79,6 +79,19 @@ impl<'a> LineRest<'a> {
             return self.behind_width(4);
         }
         if self.is_blank() { None } else { Some(self) }
+    }
+
+    /// How many bytes the label has of the footnote definition that the line begins, indented by at most three columns, and the line behind the
+    /// blanks that follow the marker (this profile's own).
+    pub(crate) fn behind_footnote_marker(self) -> Option<(usize, LineRest<'a>)>
+        ensures label { option_map (label_shown (row_of self.entry)) result ≡ begun_label (row_of self.entry) }
+        ensures inside { IfSome result (EntersFootnote (row_of self.entry)) }
+        ensures closed { IfSome result (IsMarkerClosed (row_of self.entry)) }
+    {
+        let mut front = self.front;
+        front.scan_space_upto(3);
+        let size = front.scan_footnote_marker()?;
+        Some((size, self.with_front(front)))
     }
 
     /// The list item that the line begins, indented by at most three columns, and the line behind the marker.

@@ -1,13 +1,14 @@
 //! The markers in front of a line, behind the prefixes that were taken. Where columns of a tab are left, or a blank stands
 //! in front, there is none.
 
-ghost use Rattle.std.specs.Prelude.{◌≡◌, ◌≤◌, ℕ, None, option_map, option_copied};
+ghost use Rattle.std.specs.Prelude.{◌≡◌, ◌≤◌, ℕ, None, IfSome, option_map};
 ghost use Rattle.std.specs.Bool.{OnFalse};
-ghost use Rattle.cmark_grammar.specs.Rows.{without};
+ghost use Rattle.cmark_grammar.specs.Rows.{without, words_of};
+ghost use Rattle.cmark_scan_parts.specs.Footnotes.{marked, IsClosed};
 ghost use Rattle.cmark_grammar.specs.Containers.{padding};
 ghost use Rattle.cmark_text.specs.Shown.{shown_block_quote_kind};
 ghost use Rattle.cmark_scan.specs.LineStart.{columns_from, row_from};
-ghost use Rattle.cmark_scan.specs.LineMarkers.{begins_quote, behind_quote, alert_in, behind_alert, item_in, item_numbers, entered, definition_in, behind_definition, sum_up_to_most, task_in, behind_task, footnote_at, label_of, behind_footnote};
+ghost use Rattle.cmark_scan.specs.LineMarkers.{begins_quote, behind_quote, alert_in, behind_alert, item_in, item_numbers, entered, definition_in, behind_definition, sum_up_to_most, task_in, behind_task, footnote_at, behind_footnote};
 
 use crate::line_start::LineStart;
 use crate::marker::{scan_alert, scan_listitem, scan_task};
@@ -101,18 +102,18 @@ impl<'a> LineStart<'a> {
         Some(checked)
     }
 
-    /// Takes the marker of a footnote definition (this profile's own), `[^`, a label and `]:`, and all blanks behind it, and answers the label. Where
-    /// there is none, nothing is taken.
-    pub fn scan_footnote_marker(&mut self) -> Option<&'a [u8]>
-        ensures found { (at past : ℕ) → option_copied result ≡ option_map label_of (footnote_at (row_from at past self.old)) }
+    /// Takes the marker of a footnote definition (this profile's own), `[^`, a label on one line and `]:`, and all blanks behind it. Answers how many bytes
+    /// the label has, which stands behind the first two bytes. Where there is none, nothing is taken.
+    pub fn scan_footnote_marker(&mut self) -> Option<usize>
+        ensures found { (at past : ℕ) → option_map (marked (words_of (row_from at past self.old))) result ≡ footnote_at (row_from at past self.old) }
+        ensures closed { (at past : ℕ) → IfSome result (IsClosed (words_of (row_from at past self.old))) }
         ensures rest { (at past : ℕ) → row_from at past self.new ≡ behind_footnote (footnote_at (row_from at past self.old)) (row_from at past self.old) }
         ensures stays { result ≡ None → self.new ≡ self.old }
     {
-        let ahead = self.ahead();
-        let size = scan_footnote_marker(ahead)?;
+        let size = scan_footnote_marker(self.ahead())?;
         self.take_marker(size + 4);
         self.scan_all_space();
-        Some(&ahead[2..size + 2])
+        Some(size)
     }
 
     /// Takes the blanks behind a marker that count (CommonMark 5.2): of five or more columns, and in front of a blank rest,

@@ -1,31 +1,50 @@
-use Rattle.std.proofs.Common.{sym, ap, ◌∙◌}
+use Rattle.std.proofs.Common.{◌≡◌, Bool, true, false, ◌&&◌, not, refl, sym, ap, ◌∙◌}
 use Rattle.cmark_grammar.specs.Leaves.{is_thematic_break, fence_of}
 use Rattle.cmark_grammar.specs.Rows.{words_of}
 use Rattle.cmark_grammar.specs.HtmlBlocks.{html_kind}
 use Rattle.cmark_grammar.specs.Containers.{begins_with}
-use Rattle.cmark_text.specs.Shown.{level_number}
+use Rattle.cmark_grammar.specs.Footnotes.{footnotes_in}
+use Rattle.cmark_grammar.specs.Openings.{begins_no_link}
+use Rattle.cmark_text.specs.Shown.{level_number, shown_options}
 use Rattle.cmark_scan.specs.LeafLines.{atx_level}
 use Rattle.cmark_lines.proofs.InfoEdges.{info-stands}
 use Rattle.cmark_grammar.specs.Letters.{is_letter, first_is}
-use Rattle.cmark_lines.proofs.OpeningRows.{leaf-heading, leaf-plain}
+use Rattle.cmark_lines.proofs.OpeningRows.{leaf-heading, leaf-text, leaf-plain, no-link, link-read}
 use Rattle.cmark_lines.proofs.PlainRows.{letter-leaf}
 use Rattle.cmark_lines.proofs.opening.leaf_opening.Goals as goal
 
 pub returns-then-begins_with_letter-clause-opens : goal.returns-then-begins_with_letter-clause-opens
-returns-then-begins_with_letter-clause-opens c options r ahead words indent =
-    letter-leaf options r ahead (ap (first_is is_letter) words ∙ sym c.begins_with_letter.ensures ∙ c.if-begins_with_letter.true)
+returns-then-begins_with_letter-clause-opens c r ahead words indent =
+    letter-leaf (shown_options c.args.options) r ahead (ap (first_is is_letter) words ∙ sym c.begins_with_letter.ensures ∙ c.if-begins_with_letter.true)
 
 pub returns-in-Some-scan_atx_heading-clause-opens : goal.returns-in-Some-scan_atx_heading-clause-opens
-returns-in-Some-scan_atx_heading-clause-opens c options r ahead words indent =
-    leaf-heading options r ahead (level_number c.in-Some-scan_atx_heading.level) (ap html_kind words ∙ sym c.in_default.ensures)
+returns-in-Some-scan_atx_heading-clause-opens c r ahead words indent =
+    leaf-heading (shown_options c.args.options) r ahead (level_number c.in-Some-scan_atx_heading.level) (ap html_kind words ∙ sym c.in_default.ensures)
     (ap is_thematic_break words ∙ sym c.if-scan_hrule.ensures) (c.in-Some-scan_atx_heading.ensures ∙ sym (ap atx_level words))
 
-pub returns-else-begins_with_bracket-clause-opens : goal.returns-else-begins_with_bracket-clause-opens
-returns-else-begins_with_bracket-clause-opens c options r ahead words indent =
+pub returns-then-may_begin_link-clause-opens : goal.returns-then-may_begin_link-clause-opens
+returns-then-may_begin_link-clause-opens c r ahead words indent =
+    let options = shown_options c.args.options in
+    leaf-text options r ahead (ap html_kind words ∙ sym c.in_default.ensures) (ap is_thematic_break words ∙ sym c.if-scan_hrule.ensures)
+    (c.in_default-scan_atx_heading.ensures ∙ sym (ap atx_level words))
+    (c.in_default-scan_code_fence.ensures.fence c.args.indent ∙ ap (fence_of c.args.indent) (sym words) ∙ ap (λ n. fence_of n (words_of r)) (sym indent))
+    ∙ link-read options r ahead (ap (λ ws. begins_with 91 ws && not (begins_no_link (footnotes_in options) ws)) words ∙ sym c.if-may_begin_link.ensures)
+
+pub returns-then-may_begin_link-clause-bracket : goal.returns-then-may_begin_link-clause-bracket
+returns-then-may_begin_link-clause-bracket c r words =
+    both (begins_with 91 (words_of r)) _ (ap (λ ws. begins_with 91 ws && not (begins_no_link (footnotes_in (shown_options c.args.options)) ws)) words ∙ sym c.if-may_begin_link.ensures)
+  where
+    both : (x y : Bool) → (x && y) ≡ true → x ≡ true
+    both true y e = refl
+    both false y e = e
+
+pub returns-else-may_begin_link-clause-opens : goal.returns-else-may_begin_link-clause-opens
+returns-else-may_begin_link-clause-opens c r ahead words indent =
+    let options = shown_options c.args.options in
     leaf-plain options r ahead (ap html_kind words ∙ sym c.in_default.ensures) (ap is_thematic_break words ∙ sym c.if-scan_hrule.ensures)
     (c.in_default-scan_atx_heading.ensures ∙ sym (ap atx_level words))
     (c.in_default-scan_code_fence.ensures.fence c.args.indent ∙ ap (fence_of c.args.indent) (sym words) ∙ ap (λ n. fence_of n (words_of r)) (sym indent))
-    (ap (begins_with 91) words ∙ sym c.begins_with_bracket.ensures ∙ c.if-begins_with_bracket.false)
+    (no-link options r ahead (ap (λ ws. begins_with 91 ws && not (begins_no_link (footnotes_in options) ws)) words ∙ sym c.if-may_begin_link.ensures))
 
 pub returns-in-Some-scan_code_fence-clause-info_placed : goal.returns-in-Some-scan_code_fence-clause-info_placed
 returns-in-Some-scan_code_fence-clause-info_placed c text r words good =

@@ -1,5 +1,5 @@
 use Rattle.std.proofs.Common.{◌≡◌, ◌≤◌, [], sym, ap, ◌∙◌, arith}
-use Rattle.cmark_grammar.specs.Options.{no_options}
+use Rattle.cmark_text.specs.Shown.{shown_options}
 use Rattle.cmark_grammar.specs.Rows.{indent_of}
 use Rattle.cmark_grammar.specs.Openings.{Nests, or_else, nests_if, metadata_begun, leaf_of, opens}
 use Rattle.cmark_grammar.specs.Metadata.{metadata_kind}
@@ -10,46 +10,46 @@ use Rattle.cmark_lines.proofs.OpeningRows.{opens-blank, opens-code, opens-shallo
 use Rattle.cmark_lines.proofs.opening.what_opens.Goals as goal
 
 pub returns-then-is_blank-clause-opens : goal.returns-then-is_blank-clause-opens
-returns-then-is_blank-clause-opens c options ahead = opens-blank options (row_of c.args.rest) ahead (whole c.args.rest) (sym c.if-is_blank.ensures)
+returns-then-is_blank-clause-opens c ahead = opens-blank (shown_options c.args.options) (row_of c.args.rest) ahead (whole c.args.rest) (sym c.if-is_blank.ensures)
 
 pub returns-then-indent-eq4-clause-opens : goal.returns-then-indent-eq4-clause-opens
-returns-then-indent-eq4-clause-opens c options ahead =
+returns-then-indent-eq4-clause-opens c ahead =
     let count = c.indent_upto-indent.ensures in
     let four = c.if-indent-eq4.true in
-    opens-code options (row_of c.args.rest) ahead (whole c.args.rest) (sym c.if-is_blank.ensures) (omega (arith, count, four))
+    opens-code (shown_options c.args.options) (row_of c.args.rest) ahead (whole c.args.rest) (sym c.if-is_blank.ensures) (omega (arith, count, four))
 
 pub returns-in-Some-clause-opens : goal.returns-in-Some-clause-opens
-returns-in-Some-clause-opens c options ahead =
+returns-in-Some-clause-opens c ahead =
     let count = c.indent_upto-indent.ensures in
     let other = c.if-indent-eq4.false in
     let row = row_of c.args.rest in
-    opens-shallow options row ahead (whole c.args.rest) (sym c.if-is_blank.ensures) (omega (arith, count, other))
-    ∙ ap (λ o. or_else (metadata_begun (metadata_kind options row) ahead) (or_else (nests_if o) (leaf_of options row ahead))) (sym (c.in-Some.ensures.container options))
+    opens-shallow (shown_options c.args.options) row ahead (whole c.args.rest) (sym c.if-is_blank.ensures) (omega (arith, count, other))
+    ∙ ap (λ o. or_else (metadata_begun (metadata_kind (shown_options c.args.options) row) ahead) (or_else (nests_if o) (leaf_of (shown_options c.args.options) row ahead))) (sym (c.in-Some.ensures.container))
 
-begun : (c : goal.In-Some) → opens no_options (row_of c.args.rest) [] ≡ Nests (shown_start no_options c.in-Some.start)
+begun : (c : goal.In-Some) → opens (shown_options c.args.options) (row_of c.args.rest) [] ≡ Nests (shown_start (shown_options c.args.options) (row_of c.args.rest) c.in-Some.start)
 begun c =
     let count = c.indent_upto-indent.ensures in
     let other = c.if-indent-eq4.false in
     let row = row_of c.args.rest in
-    opens-shallow no_options row [] (whole c.args.rest) (sym c.if-is_blank.ensures) (omega (arith, count, other))
-    ∙ none_ahead (metadata_kind no_options row) _
-    ∙ ap (λ o. or_else (nests_if o) (leaf_of no_options row [])) (sym (c.in-Some.ensures.container no_options))
+    opens-shallow (shown_options c.args.options) row [] (whole c.args.rest) (sym c.if-is_blank.ensures) (omega (arith, count, other))
+    ∙ none_ahead (metadata_kind (shown_options c.args.options) row) _
+    ∙ ap (λ o. or_else (nests_if o) (leaf_of (shown_options c.args.options) row [])) (sym (c.in-Some.ensures.container))
 
 pub returns-in-Some-clause-placed : goal.returns-in-Some-clause-placed
-returns-in-Some-clause-placed c text = begun-in text c.args.rest (inside_of c.in-Some.start) (shown_start no_options c.in-Some.start) (begun c) (c.in-Some.ensures.inside no_options)
+returns-in-Some-clause-placed c text = begun-in (shown_options c.args.options) text c.args.rest (inside_of c.in-Some.start) (shown_start (shown_options c.args.options) (row_of c.args.rest) c.in-Some.start) (begun c) (c.in-Some.ensures.inside (shown_options c.args.options))
 
 pub returns-in-Some-clause-shorter : goal.returns-in-Some-clause-shorter
-returns-in-Some-clause-shorter c = begun-shorter c.args.rest (inside_of c.in-Some.start) (shown_start no_options c.in-Some.start) (begun c) (c.in-Some.ensures.inside no_options)
+returns-in-Some-clause-shorter c = begun-shorter (shown_options c.args.options) c.args.rest (inside_of c.in-Some.start) (shown_start (shown_options c.args.options) (row_of c.args.rest) c.in-Some.start) (begun c) (c.in-Some.ensures.inside (shown_options c.args.options))
 
 pub returns-clause-opens : goal.returns-clause-opens
-returns-clause-opens c options ahead =
+returns-clause-opens c ahead =
     let count = c.indent_upto-indent.ensures in
     let other = c.if-indent-eq4.false in
     let row = row_of c.args.rest in
     let le : indent_of row ≤ 3 = omega (arith, count, other) in
-    opens-shallow options row ahead (whole c.args.rest) (sym c.if-is_blank.ensures) le
-    ∙ ap (λ o. or_else (metadata_begun (metadata_kind options row) ahead) (or_else (nests_if o) (leaf_of options row ahead))) (sym (c.in_default.ensures.container options))
-    ∙ ap (or_else (metadata_begun (metadata_kind options row) ahead)) (c.leaf_opening.ensures.opens options row ahead (sym c.words.ensures) (omega (arith, count, le)))
+    opens-shallow (shown_options c.args.options) row ahead (whole c.args.rest) (sym c.if-is_blank.ensures) le
+    ∙ ap (λ o. or_else (metadata_begun (metadata_kind (shown_options c.args.options) row) ahead) (or_else (nests_if o) (leaf_of (shown_options c.args.options) row ahead))) (sym (c.in_default.ensures.container))
+    ∙ ap (or_else (metadata_begun (metadata_kind (shown_options c.args.options) row) ahead)) (c.leaf_opening.ensures.opens row ahead (sym c.words.ensures) (omega (arith, count, le)))
 
 pub returns-clause-placed : goal.returns-clause-placed
 returns-clause-placed c text placed = c.leaf_opening.ensures.placed text

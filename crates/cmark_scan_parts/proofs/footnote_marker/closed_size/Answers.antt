@@ -20,6 +20,9 @@ returns-in-Ends-clause-value c =
 pub returns-in-Ends-clause-within : goal.returns-in-Ends-clause-within
 returns-in-Ends-clause-within c = (reads_byte _ _ c.args.bytes.now _ _ _ c.loop-first.invariant c.in-Some.ensures.cases.0).0
 
+pub returns-in-Ends-clause-closed : goal.returns-in-Ends-clause-closed
+returns-in-Ends-clause-closed c = (reads_byte _ _ c.args.bytes.now _ _ _ c.loop-first.invariant c.in-Some.ensures.cases.0).1 ∙ c.in-Ends.ensures.ends
+
 pub returns-in-Fails-clause-value : goal.returns-in-Fails-clause-value
 returns-in-Fails-clause-value c =
     let cut = c.in-Some.ensures.cases.0 in

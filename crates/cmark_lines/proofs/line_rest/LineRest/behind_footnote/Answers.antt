@@ -1,4 +1,4 @@
-use Rattle.std.proofs.Common.{◌≡◌, true, false, ap, ◌∙◌, sym, None}
+use Rattle.std.proofs.Common.{false, ap, ◌∙◌, sym, None}
 use Rattle.cmark_grammar.specs.Containers.{keeps, Footnote}
 use Rattle.cmark_lines.specs.Rests.{row_of}
 use Rattle.cmark_lines.proofs.RestSteps.{whole}
