@@ -8,7 +8,7 @@ use Rattle.cmark_grammar.specs.Derivation.{stop_of}
 use Rattle.cmark_grammar.specs.Labels.{fold}
 use Rattle.cmark_grammar.specs.Leaves.{underlines}
 use Rattle.cmark_grammar.specs.LinkDefinitions.{Defined, definition_in, further_bytes, bytes_over, line_ends}
-use Rattle.cmark_grammar.specs.Openings.{is_none, put_if, texts, text_lines, defined_if, text_of, table_if, or_else}
+use Rattle.cmark_grammar.specs.Openings.{is_none, put_if, texts, text_lines, defined_if, table_if, or_else}
 use Rattle.cmark_grammar.specs.TableRows.{table_head}
 use Rattle.cmark_grammar.specs.Options.{Options}
 use Rattle.cmark_grammar.specs.References.{first_with}
@@ -16,6 +16,7 @@ use Rattle.cmark_grammar.specs.Rows.{Row, start_of}
 use Rattle.cmark_items.specs.Definitions.{definition, shown_definition}
 use Rattle.cmark_items.specs.declared.definitions.RefDefs.{RefDefs}
 use Rattle.cmark_definitions.specs.Settled.{defined_before}
+use Rattle.cmark_lines.specs.Opened.{bracket_of}
 use Rattle.cmark_lines.specs.Rests.{row_of}
 use Rattle.cmark_lines.specs.declared.line_rest.LineRest.{LineRest}
 use Rattle.cmark_block_model.specs.BlockPass.{begin_as}
@@ -43,7 +44,7 @@ module _ (text : List ℕ) (options : Options) (lookup : Lookup) (m : model.Pass
   -- a definition that stands in front of the paragraph's text
   pub begins-definition : (found : Defined) (start stop more : ℕ) → Some found ≡ definition_in (bytes_over r (text_lines options ahead)) → start ≡ start_of r →
       more ≡ length (text_lines options ahead) - line_ends found.behind → stop ≡ stop_of r (take more (text_lines options ahead)) →
-      definition_begun lookup found.definition start stop more m ≡ begin_as text options lookup (text_of options r ahead) inside r ahead bare m
+      definition_begun lookup found.definition start stop more m ≡ begin_as text options lookup (bracket_of options r ahead) inside r ahead bare m
   begins-definition found start stop more is first count last =
       ap (λ s. definition_begun lookup found.definition s stop more m) first
       ∙ ap (λ e. definition_begun lookup found.definition (start_of r) e more m) (last ∙ ap (stop_of r) (take-texts options ahead more (omega (arith, count))))
@@ -52,7 +53,7 @@ module _ (text : List ℕ) (options : Options) (lookup : Lookup) (m : model.Pass
 
   -- none does
   pub begins-none : None ≡ definition_in (bytes_over r (text_lines options ahead)) →
-      begin_as text options lookup (table_if options (table_head options r ahead) ahead) inside r ahead bare m ≡ begin_as text options lookup (text_of options r ahead) inside r ahead bare m
+      begin_as text options lookup (table_if options (table_head options r ahead) ahead) inside r ahead bare m ≡ begin_as text options lookup (bracket_of options r ahead) inside r ahead bare m
   begins-none is = ap (λ o. begin_as text options lookup (or_else (defined_if (length (text_lines options ahead)) o) (table_if options (table_head options r ahead) ahead)) inside r ahead bare m) is
 
 module _ {E : Type 0} (replacement : E → Lookup) (text : List ℕ) (options : Options) (lookup : Lookup) (m : model.Pass) (pass : Pass E) where

@@ -5,6 +5,7 @@ pub mod CodeSteps
 pub mod CountSteps
 pub mod DefinitionSteps
 pub mod FeedSteps
+pub mod FootnoteSteps
 pub mod GatherSteps
 pub mod HeadingBodies
 pub mod HtmlSteps

@@ -13,9 +13,9 @@ use Rattle.cmark_grammar.specs.Options.{Options, no_options}
 use Rattle.cmark_grammar.specs.Rows.{Row, is_blank_line, words_of}
 use Rattle.cmark_grammar.proofs.BlockLaws.{no_metadata}
 use Rattle.cmark_lines.proofs.OpeningRows.{opens-blank, none_ahead}
-use Rattle.cmark_lines.specs.Opened.{opened, HasInside, InsideIsIn}
+use Rattle.cmark_lines.specs.Opened.{opened, HasInside, IsMarked, InsideIsIn}
 use Rattle.cmark_lines.specs.Rests.{row_of, IsIn}
-use Rattle.cmark_lines.specs.Starts.{shown_start, inside_of, Enters}
+use Rattle.cmark_lines.specs.Starts.{shown_start, inside_of, Enters, HasMarker}
 use Rattle.cmark_lines.specs.declared.container.ContainerStart.{ContainerStart}
 use Rattle.cmark_lines.specs.declared.container.ContainerStart.TheVariants as begun
 use Rattle.cmark_lines.specs.declared.line_rest.LineRest.{LineRest}
@@ -23,7 +23,7 @@ use Rattle.cmark_lines.specs.declared.opening.Opening.{Opening}
 use Rattle.cmark_lines.specs.declared.opening.Opening.TheVariants as opening
 use Rattle.cmark_text.specs.declared.kind.BlockQuoteKind as found
 use Rattle.cmark_text.specs.declared.kind.HeadingLevel.{HeadingLevel}
-use Rattle.cmark_text.specs.Shown.{level_number, shown_block_quote_kind}
+use Rattle.cmark_text.specs.Shown.{level_number, shown_block_quote_kind, shown_options}
 use Rattle.cmark_leaves.specs.Told.{AreTold}
 use Rattle.cmark_leaves.proofs.ToldSteps.{enter-told}
 use Rattle.cmark_block_model.specs.BlockPass.{ahead_in, begin, begin_as, begin_in, leaf_begun, container_begun, inside_begun, is_item}
@@ -35,27 +35,32 @@ use Rattle.cmark_blocks.specs.Runs.{Runs, IsRead}
 use Rattle.cmark_blocks.specs.Steps.{Begins}
 use Rattle.cmark_blocks.proofs.OpeningSteps.{Fits, opens-fits}
 
-opened-fits : (r : Row) (open_as is : Opening) → OpensAs open_as r → open_as ≡ is → Fits (run 35 (words_of r)) (opened no_options is r [])
-opened-fits r open_as is opens_as e =
-    subst (λ (x : Opening). Fits (run 35 (words_of r)) (opened no_options x r [])) e
-    (subst (Fits (run 35 (words_of r))) (opens_as no_options [] ∙ none_ahead (metadata_kind no_options r) (opened no_options open_as r [])) (opens-fits no_options r []))
+opened-fits : (options : Options) (r : Row) (open_as is : Opening) → OpensAs options open_as r → open_as ≡ is → Fits (run 35 (words_of r)) (opened options is r [])
+opened-fits options r open_as is opens_as e =
+    subst (λ (x : Opening). Fits (run 35 (words_of r)) (opened options x r [])) e
+    (subst (Fits (run 35 (words_of r))) (opens_as [] ∙ none_ahead (metadata_kind options r) (opened options open_as r [])) (opens-fits options r []))
 
 -- the number of an item that begins is told by its character
-pub start-numbered : (r : Row) (open_as : Opening) (start : ContainerStart) → OpensAs open_as r → open_as ≡ opening.Nests start → HasNumber start
-start-numbered r open_as (begun.Quote inside) opens_as e = tt
-start-numbered r open_as (begun.Item item inside) opens_as e = opened-fits r open_as (opening.Nests (begun.Item item inside)) opens_as e
+pub start-numbered : (options : Options) (r : Row) (open_as : Opening) (start : ContainerStart) → OpensAs options open_as r → open_as ≡ opening.Nests start → HasNumber start
+start-numbered options r open_as (begun.Quote inside) opens_as e = tt
+start-numbered options r open_as (begun.Item item inside) opens_as e = opened-fits options r open_as (opening.Nests (begun.Item item inside)) opens_as e
+start-numbered options r open_as (begun.Footnote footnote inside) opens_as e = tt
+
+-- the label of a footnote definition that begins stands between brackets
+pub start-marked : (r : Row) (open_as : Opening) (start : ContainerStart) → open_as ≡ opening.Nests start → IsMarked open_as r → HasMarker r start
+start-marked r open_as start nests has = subst (λ (x : Opening). IsMarked x r) nests has
 
 -- the kind of a block quote that begins
-pub quote-told : (options : Options) (start : ContainerStart) (inside : LineRest) (alert : Option BlockQuoteKind) → start ≡ begun.Quote inside → alert ≡ alert_in options (row_of inside) → shown_start options start ≡ Quote alert
-quote-told options start inside alert is told = ap (shown_start options) is ∙ ap Quote (sym told)
+pub quote-told : (options : Options) (r : Row) (start : ContainerStart) (inside : LineRest) (alert : Option BlockQuoteKind) → start ≡ begun.Quote inside → alert ≡ alert_in options (row_of inside) → shown_start options r start ≡ Quote alert
+quote-told options r start inside alert is told = ap (shown_start options r) is ∙ ap Quote (sym told)
 
 pub alert-told : (kind : Option found.BlockQuoteKind) (some : Bool) → is_some kind ≡ some → is_alert (Quote (option_map shown_block_quote_kind kind)) ≡ some
 alert-told None some e = e
 alert-told (Some kind) some e = e
 
 -- the level of a heading
-pub heading-level : (r : Row) (open_as : Opening) (level : HeadingLevel) → OpensAs open_as r → open_as ≡ opening.AtxHeading level → level_number level ≡ run 35 (words_of r)
-heading-level r open_as level opens_as e = opened-fits r open_as (opening.AtxHeading level) opens_as e
+pub heading-level : (options : Options) (r : Row) (open_as : Opening) (level : HeadingLevel) → OpensAs options open_as r → open_as ≡ opening.AtxHeading level → level_number level ≡ run 35 (words_of r)
+heading-level options r open_as level opens_as e = opened-fits options r open_as (opening.AtxHeading level) opens_as e
 
 -- the line behind a marker ends where the whole line does
 enter-past : (k : Container) (r : Row) → (enter k r).past ≡ r.past
@@ -67,59 +72,62 @@ module _ (r : Row) (open_as : Opening) (start : ContainerStart) (nests : open_as
   enters = subst (λ (x : Opening). HasInside x r) nests has
 
   module _ (inside : LineRest) (behind : inside ≡ inside_of start) where
-    pub inside-row : (options : Options) → row_of inside ≡ enter (shown_start options start) r
+    pub inside-row : (options : Options) → row_of inside ≡ enter (shown_start options r start) r
     inside-row options = ap row_of behind ∙ enters options
 
     pub inside-past : (row_of inside).past ≡ r.past
-    inside-past = ap (λ (s : Row). s.past) (inside-row no_options) ∙ enter-past (shown_start no_options start) r
+    inside-past = ap (λ (s : Row). s.past) (inside-row no_options) ∙ enter-past (shown_start no_options r start) r
 
     pub inside-read : (text : List ℕ) → InsideIsIn text open_as → AreTold text r.columns → IsRead text inside
     inside-read text placed told = record {
       placed = subst (IsIn text) (sym behind) (subst (InsideIsIn text) nests placed);
-      told = subst (λ (s : Row). AreTold text s.columns) (sym (inside-row no_options)) (enter-told text (shown_start no_options start) r told);
+      told = subst (λ (s : Row). AreTold text s.columns) (sym (inside-row no_options)) (enter-told text (shown_start no_options r start) r told);
     }
 
-  module _ (text : List ℕ) (options : Options) (lookup : Lookup) (bare : Bool) (columns : ℕ) (m : model.Pass) (opens_as : OpensAs open_as r)
+  module _ (text : List ℕ) (options : Options) (lookup : Lookup) (bare : Bool) (columns : ℕ) (m : model.Pass) (opens_as : OpensAs options open_as r)
       (none : metadata_begun (metadata_kind options r) (ahead_in text options lookup m.outer (lines_at text r.past)) ≡ Plain) where
     -- what the container begins, which is an alert or none
-    begins-nested : (is_tag : Bool) → is_alert (shown_start options start) ≡ is_tag →
+    begins-nested : (is_tag : Bool) → is_alert (shown_start options r start) ≡ is_tag →
         begin_in text options lookup (suc columns) r (lines_at text r.past) bare m
-        ≡ inside_begun is_tag (container_begun (shown_start options start) r m)
-        (begin_in text options lookup columns (enter (shown_start options start) r) (lines_at text r.past) (is_item (shown_start options start)) (container_begun (shown_start options start) r m))
+        ≡ inside_begun is_tag (container_begun (shown_start options r start) r m)
+        (begin_in text options lookup columns (enter (shown_start options r start) r) (lines_at text r.past) (is_item (shown_start options r start)) (container_begun (shown_start options r start) r m))
     begins-nested is_tag alert =
         let ahead = ahead_in text options lookup m.outer (lines_at text r.past) in
-        let k = shown_start options start in
+        let k = shown_start options r start in
         let p = container_begun k r m in
         ap (λ o. begin_as text options lookup o (λ k. inside_begun (is_alert k) (container_begun k r m) (begin_in text options lookup columns (enter k r) (lines_at text r.past) (is_item k) (container_begun k r m))) r ahead bare m)
-        (opens_as options ahead ∙ ap (λ o. or_else o (opened options open_as r ahead)) none ∙ ap (λ (x : Opening). opened options x r ahead) nests)
+        (opens_as ahead ∙ ap (λ o. or_else o (opened options open_as r ahead)) none ∙ ap (λ (x : Opening). opened options x r ahead) nests)
         ∙ ap (λ z. inside_begun z p (begin_in text options lookup columns (enter k r) (lines_at text r.past) (is_item k) p)) alert
 
-    pub tag-begins : is_alert (shown_start options start) ≡ true → begin_in text options lookup (suc columns) r (lines_at text r.past) bare m ≡ record (container_begun (shown_start options start) r m) { leaf = model.BehindTag }
+    pub tag-begins : is_alert (shown_start options r start) ≡ true → begin_in text options lookup (suc columns) r (lines_at text r.past) bare m ≡ record (container_begun (shown_start options r start) r m) { leaf = model.BehindTag }
     tag-begins alert = begins-nested true alert
 
-    pub inside-begins : (inside : LineRest) → inside ≡ inside_of start → (item : Bool) → is_alert (shown_start options start) ≡ false → item ≡ is_item (shown_start options start) →
+    pub inside-begins : (inside : LineRest) → inside ≡ inside_of start → (item : Bool) → is_alert (shown_start options r start) ≡ false → item ≡ is_item (shown_start options r start) →
         begin_in text options lookup (suc columns) r (lines_at text r.past) bare m
-        ≡ begin_in text options lookup columns (row_of inside) (lines_at text (row_of inside).past) item (container_begun (shown_start options start) r m)
+        ≡ begin_in text options lookup columns (row_of inside) (lines_at text (row_of inside).past) item (container_begun (shown_start options r start) r m)
     inside-begins inside behind item alert is =
-        let k = shown_start options start in
+        let k = shown_start options r start in
         begins-nested false alert
         ∙ ap (λ (s : Row). begin_in text options lookup columns s (lines_at text r.past) (is_item k) (container_begun k r m)) (sym (inside-row inside behind options))
         ∙ ap (λ (p : ℕ). begin_in text options lookup columns (row_of inside) (lines_at text p) (is_item k) (container_begun k r m)) (sym (inside-past inside behind))
         ∙ ap (λ (b : Bool). begin_in text options lookup columns (row_of inside) (lines_at text (row_of inside).past) b (container_begun k r m)) (sym is)
 
 -- a container was begun, and what it left of its line
-module _ {E : Type 0} (replacement : E → Lookup) (rest : LineRest) (open_as : Opening) (start : ContainerStart) (nests : open_as ≡ opening.Nests start) (has : HasInside open_as (row_of rest)) (opens_as : OpensAs open_as (row_of rest)) (old new : Pass E) where
+module _ {E : Type 0} (replacement : E → Lookup) (rest : LineRest) (open_as : Opening) (start : ContainerStart) (nests : open_as ≡ opening.Nests start) (has : HasInside open_as (row_of rest)) (old new : Pass E) (opens_as : OpensAs (shown_options old.options) open_as (row_of rest)) where
+  abbrev opens_here : (text : List ℕ) (options : Options) (lookup : Lookup) (m : model.Pass) → Runs replacement text options lookup m old → OpensAs options open_as (row_of rest)
+  opens_here text options lookup m runs = subst (λ o. OpensAs o open_as (row_of rest)) runs.options_is opens_as
+
   pub container-begins : (bare : Bool) (entered : Option (LineRest × Bool)) → TellsMetadata replacement old rest None → IfSome entered (λ inside. inside.0 ≡ inside_of start) →
       BeginsContainer replacement start rest entered old new → BeginsFirst replacement bare rest entered old new
   container-begins bare None none behind begins text options lookup columns m runs =
       let b = begins text options lookup m runs in
-      subst (λ p. Runs replacement text options lookup p new) (sym (tag-begins (row_of rest) open_as start nests has text options lookup bare columns m opens_as (none text options lookup m runs) b.0)) b.1
+      subst (λ p. Runs replacement text options lookup p new) (sym (tag-begins (row_of rest) open_as start nests has text options lookup bare columns m (opens_here text options lookup m runs) (none text options lookup m runs) b.0)) b.1
   container-begins bare (Some inside) none behind begins text options lookup columns m runs =
       let b = begins text options lookup m runs in (
-        container_begun (shown_start options start) (row_of rest) m,
+        container_begun (shown_start options (row_of rest) start) (row_of rest) m,
         b.2,
         inside-past (row_of rest) open_as start nests has inside.0 behind,
-        inside-begins (row_of rest) open_as start nests has text options lookup bare columns m opens_as (none text options lookup m runs) inside.0 behind inside.1 b.0 b.1,
+        inside-begins (row_of rest) open_as start nests has text options lookup bare columns m (opens_here text options lookup m runs) (none text options lookup m runs) inside.0 behind inside.1 b.0 b.1,
       )
 
 pub container-read : (r : Row) (open_as : Opening) (start : ContainerStart) → open_as ≡ opening.Nests start → HasInside open_as r → (entered : Option (LineRest × Bool)) (text : List ℕ) → IfSome entered (λ inside. inside.0 ≡ inside_of start) →
@@ -129,13 +137,13 @@ container-read r open_as start nests has (Some inside) text behind placed told =
 
 -- a line that begins no container, or metadata
 module _ (text : List ℕ) (options : Options) (lookup : Lookup) (r : Row) (next : List Row) (columns : ℕ) (bare : Bool) (m : model.Pass) where
-  pub leaf-begins : (open_as : Opening) → OpensAs open_as r → metadata_begun (metadata_kind options r) (ahead_in text options lookup m.outer next) ≡ Plain →
+  pub leaf-begins : (open_as : Opening) → OpensAs options open_as r → metadata_begun (metadata_kind options r) (ahead_in text options lookup m.outer next) ≡ Plain →
       begin_as text options lookup (opened options open_as r (ahead_in text options lookup m.outer next)) (λ k. inside_begun (is_alert k) (container_begun k r m) (begin_in text options lookup columns (enter k r) next (is_item k) (container_begun k r m))) r (ahead_in text options lookup m.outer next) bare m
       ≡ begin_in text options lookup (suc columns) r next bare m
   leaf-begins open_as opens_as none =
       let ahead = ahead_in text options lookup m.outer next in
       ap (λ o. begin_as text options lookup o (λ k. inside_begun (is_alert k) (container_begun k r m) (begin_in text options lookup columns (enter k r) next (is_item k) (container_begun k r m))) r ahead bare m)
-      (sym (opens_as options ahead ∙ ap (λ o. or_else o (opened options open_as r ahead)) none))
+      (sym (opens_as ahead ∙ ap (λ o. or_else o (opened options open_as r ahead)) none))
 
   pub metadata-begins : (leaf : Leaf) (more : ℕ) → r.lazy ≡ false → metadata_begun (metadata_kind options r) (ahead_in text options lookup m.outer next) ≡ Takes leaf more →
       leaf_begun text options lookup leaf more r (ahead_in text options lookup m.outer next) m ≡ begin_in text options lookup (suc columns) r next bare m

@@ -3,11 +3,12 @@ use Rattle.std.proofs.Common.{◌≡◌, ℕ, Bool, true, false, ◌&&◌, nat_l
 use Rattle.std.specs.Prelude.{unwrap_or}
 use Rattle.cmark_grammar.specs.Rows.{Row, words_of, is_blank_line, indent_of}
 use Rattle.cmark_grammar.specs.BlockQuoteKind.{BlockQuoteKind}
-use Rattle.cmark_grammar.specs.Containers.{Container, Quote, Item, Footnote, Marker, marker_of, item_with, item_of, container_with, container_of, is_quote, width_with}
+use Rattle.cmark_grammar.specs.Containers.{Container, Quote, Item, Footnote, Marker, marker_of, item_with, item_of, container_with, container_of, footnote_or, footnote_with, footnote_of, is_quote, width_with}
+use Rattle.cmark_grammar.specs.Footnotes.{Footnotes, Off, Gfm, Old, footnotes_in, footnote_in}
 use Rattle.cmark_grammar.specs.HtmlBlocks.{html_kind}
 use Rattle.cmark_grammar.specs.Leaves.{Fence, is_parted, run, is_thematic_break, is_atx_heading, fence_of, counted, code_further}
-use Rattle.cmark_grammar.specs.LinkDefinitions.{Defined, definition_in, bytes_over}
-use Rattle.cmark_grammar.specs.Openings.{AtxHeading, ThematicBreak, IndentedCode, FencedCode, HtmlBlock, LinkDefinition, MetadataBlock, Table, Opening, Blank, Nests, Takes, Plain, or_else, nests_if, html_if, break_if, heading_if, fenced_if, defined_if, metadata_begun, text_lines, definition_of, table_if, text_of, leaf_of, whole_opens, opens}
+use Rattle.cmark_grammar.specs.LinkDefinitions.{Found, Defined, definition_in, bytes_over}
+use Rattle.cmark_grammar.specs.Openings.{AtxHeading, ThematicBreak, IndentedCode, FencedCode, HtmlBlock, LinkDefinition, MetadataBlock, Table, Opening, Blank, Nests, Takes, Plain, or_else, nests_if, html_if, break_if, heading_if, fenced_if, defined_if, begins_no_link, metadata_begun, text_lines, definition_of, table_if, text_of, leaf_of, whole_opens, opens}
 use Rattle.cmark_grammar.specs.Metadata.{metadata_kind, metadata_further, holds_metadata}
 use Rattle.cmark_grammar.specs.MetadataBlockKind.{MetadataBlockKind}
 use Rattle.cmark_grammar.specs.Options.{Options}
@@ -63,6 +64,19 @@ container-numbered (Some k) quoted alert n = n
 container-numbered None true alert n = tt
 container-numbered None false alert n = tt
 
+footnote-numbered : (footnotes : Footnotes) (r : Row) (other : Option Container) → ContainerNumbered other → ContainerNumbered (footnote_or (footnote_of footnotes r) other)
+footnote-numbered Off r other n = n
+footnote-numbered Gfm r other n = by (footnote_in (words_of r))
+  where
+    by : (o : Option Found) → ContainerNumbered (footnote_or (footnote_with false r o) other)
+    by None = n
+    by (Some found) = tt
+footnote-numbered Old r other n = by (footnote_in (words_of r))
+  where
+    by : (o : Option Found) → ContainerNumbered (footnote_or (footnote_with true r o) other)
+    by None = n
+    by (Some found) = tt
+
 module _ (level : ℕ) where
   else-fits : (first second : Opening) → Fits level first → Fits level second → Fits level (or_else first second)
   else-fits Plain second f g = g
@@ -111,7 +125,14 @@ table-fits level options None ahead = tt
 text-fits : (level : ℕ) (options : Options) (r : Row) (ahead : List Row) → Fits level (text_of options r ahead)
 text-fits level options r ahead =
     else-fits level (definition_of options r ahead) (table_if options (table_head options r ahead) ahead)
-    (defined-fits level (length (text_lines options ahead)) (definition_in (bytes_over r (text_lines options ahead)))) (table-fits level options (table_head options r ahead) ahead)
+    (unless (begins_no_link (footnotes_in options) (words_of r))) (table-fits level options (table_head options r ahead) ahead)
+  where
+    found : Opening
+    found = defined_if (length (text_lines options ahead)) (definition_in (bytes_over r (text_lines options ahead)))
+
+    unless : (z : Bool) → Fits level (if z then Plain else found)
+    unless true = tt
+    unless false = defined-fits level (length (text_lines options ahead)) (definition_in (bytes_over r (text_lines options ahead)))
 
 leaf-fits : (options : Options) (r : Row) (ahead : List Row) → Fits (run 35 (words_of r)) (leaf_of options r ahead)
 leaf-fits options r ahead =
@@ -138,7 +159,8 @@ opens-fits options r ahead = by r.lazy
     whole false true = tt
     whole false false =
         else-fits level (nests_if (container_of options r)) (leaf_of options r ahead)
-        (nests-fits level (container_of options r) (container-numbered (item_of r) (is_quote r) _ (item-numbered r (marker_of (words_of r)) (marker-numbered (marker_of (words_of r)) (marker-short (words_of r))))))
+        (nests-fits level (container_of options r)
+        (footnote-numbered (footnotes_in options) r _ (container-numbered (item_of r) (is_quote r) _ (item-numbered r (marker_of (words_of r)) (marker-numbered (marker_of (words_of r)) (marker-short (words_of r)))))))
         (leaf-fits options r ahead)
 
     by : (lazy : Bool) → Fits level (if lazy then Plain else or_else (metadata_begun (metadata_kind options r) ahead) (whole_opens options r ahead))

@@ -25,8 +25,8 @@ use Rattle.cmark_blocks.specs.declared.state.Pass.{Pass}
 use Rattle.cmark_blocks.specs.Runs.{Runs}
 
 -- the line begins this, where it begins no metadata
-abbrev pub OpensAs : Opening → Row → Type 0
-OpensAs open_as r = (options : Options) (ahead : List Row) → opens options r ahead ≡ or_else (metadata_begun (metadata_kind options r) ahead) (opened options open_as r ahead)
+abbrev pub OpensAs : Options → Opening → Row → Type 0
+OpensAs options open_as r = (ahead : List Row) → opens options r ahead ≡ or_else (metadata_begun (metadata_kind options r) ahead) (opened options open_as r ahead)
 
 -- the metadata block that a line begins, if it begins one
 abbrev pub metadata_taken : Option MetadataBlockKind → List Row → grammar.Opening
@@ -40,6 +40,7 @@ IsNoContainer open_as = (start : ContainerStart) → open_as ≡ opening.Nests s
 abbrev pub HasNumber : ContainerStart → Type 0
 HasNumber (begun.Quote inside) = Unit {0}
 HasNumber (begun.Item item inside) = list_number item.mark (unwrap_or item.number 0) ≡ item.number
+HasNumber (begun.Footnote footnote inside) = Unit {0}
 
 module _ {E : Type 0} (replacement : E → Lookup) where
   -- whether the lines behind this one are those of a metadata block of this kind
@@ -66,7 +67,7 @@ module _ {E : Type 0} (replacement : E → Lookup) where
   abbrev pub BeginsContainer : ContainerStart → LineRest → Option (LineRest × Bool) → Pass E → Pass E → Type 0
   BeginsContainer start rest entered old new =
       (text : List ℕ) (options : Options) (lookup : Lookup) (m : model.Pass) → Runs replacement text options lookup m old →
-      let k = shown_start options start in
+      let k = shown_start options (row_of rest) start in
       let p = container_begun k (row_of rest) m in
       MatchOption entered ((is_alert k ≡ true) × Runs replacement text options lookup (record p { leaf = model.BehindTag }) new)
       (λ inside. (is_alert k ≡ false) × (inside.1 ≡ is_item k) × Runs replacement text options lookup p new)

@@ -3,6 +3,7 @@ pub mod Brackets
 pub mod Entered
 pub mod Fed
 pub mod FirstPass
+pub mod Footnotes
 pub mod Found
 pub mod Gathered
 pub mod IndentedLines

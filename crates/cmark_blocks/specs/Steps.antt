@@ -1,11 +1,12 @@
 -- What a call of the block pass does to the state of its model.
 use Rattle.std.specs.Prelude.{◌≡◌, ℕ, Bool, List, [], ◌∷◌, ◌++◌, length}
 use Rattle.cmark_block_model.specs.BlockPass.{container_closed, containers_closed, paragraph_begun, paragraph_line, heading_made, leaf_begun, leaf_closed, ahead_in, begin, begin_as, leaf_fed, lazy_fed}
+use Rattle.cmark_lines.specs.Opened.{bracket_of}
 use Rattle.cmark_lines.specs.Rests.{row_of}
 use Rattle.cmark_lines.specs.declared.line_rest.LineRest.{LineRest}
 use Rattle.cmark_grammar.specs.Answers.{Lookup}
 use Rattle.cmark_grammar.specs.Containers.{Container}
-use Rattle.cmark_grammar.specs.Openings.{Leaf, table_if, text_of}
+use Rattle.cmark_grammar.specs.Openings.{Leaf, table_if}
 use Rattle.cmark_grammar.specs.Options.{Options}
 use Rattle.cmark_grammar.specs.Rows.{Row}
 use Rattle.cmark_grammar.specs.TableRows.{table_head}
@@ -82,7 +83,7 @@ module _ {E : Type 0} (replacement : E → Lookup) where
   BeginsBracket rest old new =
       (text : List ℕ) (options : Options) (lookup : Lookup) (m : model.Pass) (inside : Container → model.Pass) (bare : Bool) → Runs replacement text options lookup m old →
       let ahead = ahead_in text options lookup m.outer (lines_at text (row_of rest).past) in
-      Runs replacement text options lookup (begin_as text options lookup (text_of options (row_of rest) ahead) inside (row_of rest) ahead bare m) new
+      Runs replacement text options lookup (begin_as text options lookup (bracket_of options (row_of rest) ahead) inside (row_of rest) ahead bare m) new
 
   -- all that a line begins was begun
   abbrev pub Begins : LineRest → Pass E → Pass E → Type 0

@@ -3,14 +3,14 @@
 ghost use Rattle.std.specs.Prelude.{◌≡◌, ◌<◌, ◌≤◌, ℕ, List, length, false, MatchOption, IfSome, not, true, ◌&&◌};
 ghost use Rattle.cmark_grammar.specs.Leaves.{underlines};
 ghost use Rattle.cmark_grammar.specs.Openings.{interrupts, is_none};
-ghost use Rattle.cmark_grammar.specs.Options.{Options};
+ghost use Rattle.cmark_text.specs.Shown.{shown_options};
 ghost use Rattle.cmark_grammar.specs.Rows.{Row};
 ghost use Rattle.cmark_leaves.specs.Told.{AreTold};
 ghost use Rattle.cmark_lines.specs.Rests.{IsIn, row_of};
 
 use crate::state::Pass;
 use cmark_lines::{LineRest, interrupts, underlines};
-use cmark_text::EntityLookup;
+use cmark_text::{EntityLookup, Options};
 
 impl<'a, E: EntityLookup> Pass<'a, E> {
     ghost use Rattle.cmark_blocks.specs.Ahead.{SeenInside, SeenInsideFirst, SeesNext, SeesNextInside, GoesOnWith};
@@ -91,7 +91,7 @@ impl<'a, E: EntityLookup> Pass<'a, E> {
         ensures further { IfSome result (λ rest. (row_of last.entry).past < (row_of rest).past) }
     {
         let rest = self.line_ahead(last)?;
-        if is_text(rest) && !self.table_interrupts(self.outer.len(), rest) {
+        if is_text(rest, self.options) && !self.table_interrupts(self.outer.len(), rest) {
             Some(rest)
         } else {
             None
@@ -100,10 +100,10 @@ impl<'a, E: EntityLookup> Pass<'a, E> {
 }
 
 /// Whether the line, which lacks no prefix, goes on with a paragraph as its text.
-fn is_text(rest: LineRest<'_>) -> bool
-    ensures { (options : Options) (ahead : List Row) → result ≡ (not (interrupts options true (row_of rest.entry) ahead) && is_none (underlines (row_of rest.entry))) }
+fn is_text(rest: LineRest<'_>, options: Options) -> bool
+    ensures { (ahead : List Row) → result ≡ (not (interrupts (shown_options options) true (row_of rest.entry) ahead) && is_none (underlines (row_of rest.entry))) }
 {
-    if interrupts(rest, true) {
+    if interrupts(rest, true, options) {
         return false;
     }
     match underlines(rest) {

@@ -56,7 +56,7 @@ impl<'a, E: EntityLookup> Pass<'a, E> {
             self.underline(from, last, level, rest)?;
             return Ok(());
         }
-        if interrupts(rest, true) || self.table_interrupts(self.outer.len(), rest) {
+        if interrupts(rest, true, self.options) || self.table_interrupts(self.outer.len(), rest) {
             self.begin_anew(rest)?;
         } else {
             self.add_to_paragraph(from, last, rest)?;
@@ -155,7 +155,7 @@ impl<'a, E: EntityLookup> Pass<'a, E> {
         requires few { kept ≤ length self.now.outer.items }
         ensures { IsLazy E.replacement self.now kept rest.entry result }
     {
-        takes_lazy(self.leaf) && !interrupts(rest, false) && !self.table_interrupts(kept, rest)
+        takes_lazy(self.leaf) && !interrupts(rest, false, self.options) && !self.table_interrupts(kept, rest)
     }
 
     /// What so many containers, the outermost ones, left of a line: the others miss it.

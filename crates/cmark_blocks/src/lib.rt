@@ -10,6 +10,7 @@ mod containers;
 mod definition;
 mod feed;
 mod first_pass;
+mod footnote;
 mod gathered;
 mod html;
 mod leaf;

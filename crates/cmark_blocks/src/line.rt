@@ -4,7 +4,7 @@ ghost use Rattle.std.specs.Prelude.{◌≡◌, ◌<◌, Bool, ℕ, List, false, 
 ghost use Rattle.cmark_text.specs.Shown.{shown_options};
 ghost use Rattle.cmark_lines.specs.Opened.{InfoIsIn};
 ghost use Rattle.cmark_lines.specs.Rests.{row_of};
-ghost use Rattle.cmark_lines.specs.Starts.{inside_of};
+ghost use Rattle.cmark_lines.specs.Starts.{inside_of, HasMarker};
 ghost use Rattle.cmark_blocks.specs.Entered.{OpensAs, IsNoContainer, HasNumber};
 
 use crate::state::{OpenLeaf, Pass};
@@ -34,8 +34,10 @@ impl<'a, E: EntityLookup> Pass<'a, E> {
         rest: LineRest<'a>,
     ) -> Result<Option<(LineRest<'a>, bool)>, AllocError>
         requires good { IsGood self.old }
+        requires line { IsRead self.old.text.now rest }
         requires closed { self.old.leaf ≡ leaf.Closed }
         requires number { HasNumber start }
+        requires marker { HasMarker (row_of rest) start }
         ensures good { IsGood self.new }
         ensures runs { IfOk result (λ entered. BeginsContainer E.replacement start.entry rest.entry entered self.old self.new) }
         ensures inside { IfOk result (λ entered. IfSome entered (λ inside. inside.0 ≡ inside_of start.entry)) }
@@ -56,6 +58,10 @@ impl<'a, E: EntityLookup> Pass<'a, E> {
             ContainerStart::Item(item, inside) => {
                 self.begin_item(item, rest.begin())?;
                 Ok(Some((inside, true)))
+            }
+            ContainerStart::Footnote(footnote, inside) => {
+                self.begin_footnote(footnote, rest)?;
+                Ok(Some((inside, false)))
             }
         }
     }
@@ -82,7 +88,7 @@ impl<'a, E: EntityLookup> Pass<'a, E> {
         requires line { IsRead self.old.text.now rest }
         requires closed { self.old.leaf ≡ leaf.Closed }
         requires bare { self.old.bare ≡ false }
-        requires opens { OpensAs opening (row_of rest) }
+        requires opens { OpensAs (shown_options self.old.options) opening (row_of rest) }
         requires leaf { IsNoContainer opening }
         requires info_placed { InfoIsIn self.old.text.now opening (row_of rest) }
         ensures good { IsGood self.new }
@@ -129,7 +135,7 @@ impl<'a, E: EntityLookup> Pass<'a, E> {
             self.begin_metadata(kind, rest)?;
             return Ok(None);
         }
-        let opening = what_opens(rest);
+        let opening = what_opens(rest, self.options);
         if let Opening::Nests(start) = opening {
             let entered = self.begin_container(start, rest)?;
             return Ok(entered);

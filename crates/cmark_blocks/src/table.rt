@@ -101,7 +101,7 @@ impl<'a, E: EntityLookup> Pass<'a, E> {
         ensures further { IfSome result (λ row. (row_of last.entry).past < (row_of row).past) }
     {
         let row = self.line_ahead(last)?;
-        if interrupts(row, false) || count_missing(row, columns) > left {
+        if interrupts(row, false, self.options) || count_missing(row, columns) > left {
             None
         } else {
             Some(row)

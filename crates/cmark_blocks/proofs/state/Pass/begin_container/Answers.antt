@@ -18,7 +18,7 @@ returns-then-is_some-clause-runs g c text options lookup m runs =
     let row = row_of c.args.rest in
     let alert = option_map shown_block_quote_kind c.alert_kind-alert.result in
     let told = c.alert_kind-alert.ensures options (ap (λ (o : Options). o.gfm) (sym runs.options_is) ∙ sym c.reads_alerts.ensures) in
-    let same = quote-told options c.args.start c.in-Quote.inside alert c.in-Quote.is told in
+    let same = quote-told options row c.args.start c.in-Quote.inside alert c.in-Quote.is told in
     let begun = subst (λ at. Runs replacement text options lookup (quote_begun alert at m) c.begin_quote.new.self) c.words_begin.ensures.place (c.in_ok-begin_quote-in-Quote.ensures.runs text options lookup m runs) in
     let closed = none_behind_closed replacement text options lookup _ c.begin_quote.new.self (c.in_ok-begin_quote-in-Quote.ensures.leaf ∙ c.requires.closed) begun in
     let tagged = runs-leaf replacement text options lookup _ c.begin_quote.new.self leaf.BehindTag model.BehindTag begun (refl, closed) in (
@@ -32,7 +32,7 @@ returns-else-is_some-clause-runs g c text options lookup m runs =
     let row = row_of c.args.rest in
     let alert = option_map shown_block_quote_kind c.alert_kind-alert.result in
     let told = c.alert_kind-alert.ensures options (ap (λ (o : Options). o.gfm) (sym runs.options_is) ∙ sym c.reads_alerts.ensures) in
-    let same = quote-told options c.args.start c.in-Quote.inside alert c.in-Quote.is told in
+    let same = quote-told options row c.args.start c.in-Quote.inside alert c.in-Quote.is told in
     let begun = subst (λ at. Runs replacement text options lookup (quote_begun alert at m) c.begin_quote.new.self) c.words_begin.ensures.place (c.in_ok-begin_quote-in-Quote.ensures.runs text options lookup m runs) in (
       subst (λ k. is_alert k ≡ false) (sym same) (alert-told c.alert_kind-alert.result false (sym c.is_some.ensures ∙ c.if-is_some.false)),
       ap is_item (sym same),
@@ -43,9 +43,19 @@ pub returns-in_ok-begin_item-in-Item-clause-runs : goal.returns-in_ok-begin_item
 returns-in_ok-begin_item-in-Item-clause-runs g c text options lookup m runs =
     let replacement = g.E.EntityLookup.replacement in
     let item = c.in-Item.item in
-    let same = ap (shown_start options) c.in-Item.is in (
+    let same = ap (shown_start options (row_of c.args.rest)) c.in-Item.is in (
       ap is_alert same,
       ap is_item (sym same),
-      subst (λ s. Runs replacement text options lookup (container_begun (shown_start options s) (row_of c.args.rest) m) c.begin_item.new.self) (sym c.in-Item.is)
+      subst (λ s. Runs replacement text options lookup (container_begun (shown_start options (row_of c.args.rest) s) (row_of c.args.rest) m) c.begin_item.new.self) (sym c.in-Item.is)
           (subst (λ at. Runs replacement text options lookup (item_begun_in item.mark item.number item.width at m) c.begin_item.new.self) c.begin.ensures.place (c.in_ok-begin_item-in-Item.ensures.runs text options lookup m runs)),
+    )
+
+pub returns-in_ok-begin_footnote-in-Footnote-clause-runs : goal.returns-in_ok-begin_footnote-in-Footnote-clause-runs
+returns-in_ok-begin_footnote-in-Footnote-clause-runs g c text options lookup m runs =
+    let replacement = g.E.EntityLookup.replacement in
+    let row = row_of c.args.rest in
+    let same = ap (shown_start options row) c.in-Footnote.is in (
+      ap is_alert same,
+      ap is_item (sym same),
+      subst (λ s. Runs replacement text options lookup (container_begun (shown_start options row s) row m) c.begin_footnote.new.self) (sym c.in-Footnote.is) (c.in_ok-begin_footnote-in-Footnote.ensures.runs text options lookup m runs),
     )

@@ -3,22 +3,25 @@ use Rattle.cmark_grammar.specs.Containers.{is_alert, enter}
 use Rattle.cmark_grammar.specs.Leaves.{counted}
 use Rattle.cmark_grammar.specs.Metadata.{metadata_further}
 use Rattle.cmark_grammar.specs.Openings.{MetadataBlock}
-use Rattle.cmark_text.specs.Shown.{shown_metadata_block_kind}
+use Rattle.cmark_text.specs.Shown.{shown_metadata_block_kind, shown_options}
 use Rattle.cmark_block_model.specs.BlockPass.{ahead_in, begin_in, container_begun, inside_begun, is_item}
 use Rattle.cmark_lines.specs.Rests.{row_of}
-use Rattle.cmark_lines.specs.Starts.{shown_start}
 use Rattle.cmark_lines.proofs.RestSteps.{whole}
 use Rattle.cmark_blocks.specs.Ahead.{lines_at}
+use Rattle.cmark_blocks.specs.Entered.{OpensAs}
 use Rattle.cmark_blocks.specs.Runs.{Runs}
-use Rattle.cmark_blocks.proofs.LineSteps.{start-numbered, container-begins, container-read, leaf-begins, metadata-begins}
+use Rattle.cmark_blocks.proofs.LineSteps.{start-numbered, start-marked, container-begins, container-read, leaf-begins, metadata-begins}
 use Rattle.cmark_blocks.proofs.state.Pass.begin_first.Goals as goal
 
 pub begin_container-requires-clause-number : goal.begin_container-requires-clause-number
-begin_container-requires-clause-number g c = start-numbered (row_of c.args.rest) c.what_opens-opening.result c.in-Nests.start c.what_opens-opening.ensures.opens c.in-Nests.is
+begin_container-requires-clause-number g c = start-numbered (shown_options c.args.self.now.options) (row_of c.args.rest) c.what_opens-opening.result c.in-Nests.start c.what_opens-opening.ensures.opens c.in-Nests.is
+
+pub begin_container-requires-clause-marker : goal.begin_container-requires-clause-marker
+begin_container-requires-clause-marker g c = start-marked (row_of c.args.rest) c.what_opens-opening.result c.in-Nests.start c.in-Nests.is c.what_opens-opening.ensures.marker
 
 pub returns-in-Nests-clause-runs : goal.returns-in-Nests-clause-runs
 returns-in-Nests-clause-runs g c =
-    container-begins g.E.EntityLookup.replacement c.args.rest c.what_opens-opening.result c.in-Nests.start c.in-Nests.is c.what_opens-opening.ensures.inside c.what_opens-opening.ensures.opens c.args.self.now c.begin_container.new.self
+    container-begins g.E.EntityLookup.replacement c.args.rest c.what_opens-opening.result c.in-Nests.start c.in-Nests.is c.what_opens-opening.ensures.inside c.args.self.now c.begin_container.new.self c.what_opens-opening.ensures.opens
     c.args.bare c.in_ok-entered.entered c.in_default.ensures c.in_ok-entered.ensures.inside c.in_ok-entered.ensures.runs
 
 pub returns-in-Nests-clause-line : goal.returns-in-Nests-clause-line
@@ -44,7 +47,7 @@ returns g c = record {
       let row = row_of c.args.rest in
       let next = lines_at text row.past in
       subst (λ p. Runs g.E.EntityLookup.replacement text options lookup p c.begin_leaf.new.self)
-      (leaf-begins text options lookup row next columns c.args.bare m c.what_opens-opening.result c.what_opens-opening.ensures.opens (c.in_default.ensures text options lookup m runs))
+      (leaf-begins text options lookup row next columns c.args.bare m c.what_opens-opening.result (subst (λ o. OpensAs o c.what_opens-opening.result row) runs.options_is c.what_opens-opening.ensures.opens) (c.in_default.ensures text options lookup m runs))
       (c.in_ok-begin_leaf.ensures.runs text options lookup m (λ k. inside_begun (is_alert k) (container_begun k row m) (begin_in text options lookup columns (enter k row) next (is_item k) (container_begun k row m))) runs);
   line = tt;
   shorter = tt;

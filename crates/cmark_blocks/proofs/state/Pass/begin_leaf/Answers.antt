@@ -4,6 +4,7 @@ use Rattle.cmark_grammar.specs.Leaves.{counted, code_further}
 use Rattle.cmark_grammar.specs.HtmlBlocks.{html_lines}
 use Rattle.cmark_grammar.specs.Leaves.{fence_further}
 use Rattle.cmark_grammar.specs.Rows.{words_of}
+use Rattle.cmark_text.specs.Shown.{shown_options}
 use Rattle.cmark_lines.specs.Rests.{row_of}
 use Rattle.cmark_scan.specs.HtmlLines.{kind_number}
 use Rattle.cmark_scan.specs.LeafLines.{shown_fence}
@@ -14,7 +15,7 @@ use Rattle.cmark_blocks.proofs.LineSteps.{heading-level}
 use Rattle.cmark_blocks.proofs.state.Pass.begin_leaf.Goals as goal
 
 pub begin_heading-requires-clause-level : goal.begin_heading-requires-clause-level
-begin_heading-requires-clause-level g c = heading-level (row_of c.args.rest) c.args.opening c.in-AtxHeading.level c.requires.opens c.in-AtxHeading.is
+begin_heading-requires-clause-level g c = heading-level (shown_options c.args.self.now.options) (row_of c.args.rest) c.args.opening c.in-AtxHeading.level c.requires.opens c.in-AtxHeading.is
 
 pub returns-in-Blank-clause-runs : goal.returns-in-Blank-clause-runs
 returns-in-Blank-clause-runs g c =

@@ -1,0 +1,80 @@
+//! Footnote definitions that begin (this profile's own).
+
+ghost use Rattle.std.specs.Prelude.{◌≡◌, length, OnOk, IfOk};
+ghost use Rattle.cmark_grammar.specs.Labels.{normal_form};
+ghost use Rattle.cmark_grammar.specs.Rows.{words_of};
+ghost use Rattle.cmark_block_model.specs.BlockPass.{container_begun};
+ghost use Rattle.cmark_items.specs.Tables.{tables};
+ghost use Rattle.cmark_lines.specs.Rests.{row_of};
+ghost use Rattle.cmark_lines.specs.Starts.{shown_footnote};
+ghost use Rattle.cmark_scan_parts.specs.Footnotes.{marked, IsClosed};
+ghost use Rattle.cmark_blocks.specs.Footnotes.{KeepsText, Notes};
+ghost use Rattle.cmark_blocks.specs.Runs.{IsRead};
+
+use crate::gathered::words_in;
+use crate::state::Pass;
+use cmark_items::{Allocations, CowIndex, FootnoteDef, ItemBody};
+use cmark_lines::{Container, FootnoteStart, LineRest};
+use cmark_text::{CowStr, EntityLookup, FootnoteLabel};
+use std::alloc::{AllocError, Global};
+
+/// The label, of so many bytes, of the footnote definition that a line of this text begins.
+fn label_in<'a>(text: &'a str, rest: LineRest<'a>, size: usize) -> &'a str
+    requires line { IsRead text.now rest }
+    requires closed { IsClosed (words_of (row_of rest)) size }
+    ensures { result.now ≡ (marked (words_of (row_of rest.entry)) size).bytes }
+{
+    let words = words_in(text, rest);
+    &words[2..2 + size]
+}
+
+/// Keeps a label of a footnote in its normal form, and notes that the footnote is defined: the first definition of a label stays.
+fn keep_label(
+    alloc: Global,
+    allocations: &mut Allocations<'_>,
+    label: &str,
+) -> Result<CowIndex, AllocError>
+    ensures index { IfOk result (λ index. index.0 ≡ length (tables allocations.old).texts) }
+    ensures kept { OnOk result (KeepsText (normal_form label.now) (tables allocations.old) (tables allocations.new)) }
+    ensures noted { OnOk result (Notes label.now (tables allocations.old).footnotes (tables allocations.new).footnotes) }
+    ensures references { OnOk result ((tables allocations.new).references ≡ (tables allocations.old).references) }
+{
+    let label = FootnoteLabel::new(alloc, label)?;
+    let name = CowStr::Borrowed(label.as_str()).into_static(alloc)?;
+    let index = allocations.allocate_cow(name)?;
+    allocations
+        .footdefs
+        .insert(label, FootnoteDef { use_count: 0 })?;
+    Ok(index)
+}
+
+impl<'a, E: EntityLookup> Pass<'a, E> {
+    ghost use Rattle.cmark_blocks.specs.Runs.{IsGood};
+    ghost use Rattle.cmark_blocks.specs.Steps.{Steps};
+
+    /// A footnote definition begins on a line.
+    pub(crate) fn begin_footnote(
+        &mut self,
+        footnote: FootnoteStart,
+        rest: LineRest<'a>,
+    ) -> Result<(), AllocError>
+        requires good { IsGood self.old }
+        requires line { IsRead self.old.text.now rest }
+        requires closed { IsClosed (words_of (row_of rest)) footnote.label_size }
+        ensures good { IsGood self.new }
+        ensures runs { OnOk result (Steps E.replacement self.old self.new (container_begun (shown_footnote (row_of rest.entry) footnote.label_size footnote.old) (row_of rest.entry))) }
+        ensures noted { OnOk result (Notes (marked (words_of (row_of rest.entry)) footnote.label_size).bytes
+            (tables self.old.builder.allocations).footnotes (tables self.new.builder.allocations).footnotes) }
+        ensures text { self.new.text ≡ self.old.text }
+        ensures leaf { self.new.leaf ≡ self.old.leaf }
+        ensures bare { self.new.bare ≡ self.old.bare }
+    {
+        let label = label_in(self.text, rest, footnote.label_size);
+        self.begin_block();
+        let index = keep_label(self.alloc, &mut self.builder.allocations, label)?;
+        let body = ItemBody::FootnoteDefinition(index);
+        self.builder.open(rest.words_begin(), body)?;
+        self.enter(Container::Footnote { old: footnote.old })?;
+        Ok(())
+    }
+}
