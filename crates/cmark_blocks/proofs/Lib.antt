@@ -10,6 +10,7 @@ pub mod HeadingBodies
 pub mod HtmlSteps
 pub mod IndentedSteps
 pub mod InfoSteps
+pub mod InsideSteps
 pub mod KeptSteps
 pub mod LeafSteps
 pub mod LineFeeds
@@ -20,3 +21,4 @@ pub mod PassSteps
 pub mod PrefixSteps
 pub mod ReferenceSteps
 pub mod RunSteps
+pub mod TableSteps
