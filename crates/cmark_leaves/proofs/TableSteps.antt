@@ -1,9 +1,9 @@
 -- The cells of a table's row, drawn one after the other.
 use Rattle.std.proofs.Common.{◌≡◌, ◌⊎◌, inl, inr, ℕ, zero, suc, ◌+◌, ◌-◌, ◌≤◌, List, [], ◌∷◌, take, length, refl, sym, ap, subst, ◌∙◌, arith}
 use Rattle.cmark_grammar.specs.BlockDocument.{BlockNode, BlockDocument, Nil, Node, node, TableCell}
-use Rattle.cmark_grammar.specs.TableRows.{cells_start}
+use Rattle.cmark_grammar.specs.TableRows.{cells_of, cells_start}
 use Rattle.cmark_grammar.specs.Tables.{without_first_pipe}
-use Rattle.cmark_grammar.specs.TableTokens.{cell_tokens, cells_then}
+use Rattle.cmark_grammar.specs.TableTokens.{cell_tokens, cells_then, row_cells}
 use Rattle.cmark_grammar.specs.Rows.{Row, start_of, words_of}
 use Rattle.cmark_scan.specs.TableCells.{cells_behind}
 use Rattle.cmark_lines.specs.Rests.{row_of}
@@ -62,3 +62,11 @@ cells-begin rest words cells stop is cut fewer place =
     let all : length (words_of (row_of rest)) ≡ length words = ap length (sym is) in
     let behind : length (without_first_pipe (words_of (row_of rest))) ≡ length cells = ap (λ ws. length (without_first_pipe ws)) (sym is) ∙ ap length (sym cut) in
     (omega (arith, end, fewer, place), omega (arith, end, fewer, place, all, behind))
+
+-- the cells of a line begin there
+pub cells-of-line : (text : List ℕ) (columns : ℕ) (r : Row) (cells : List ℕ) (stop past : ℕ) → cells_behind cells ≡ cells_of (words_of r) → cells_start r ≡ stop - length cells → past ≡ r.past →
+    row_cells text columns r ≡ cells_then text columns (stop - length cells) past (cells_behind cells)
+cells-of-line text columns r cells stop past is begins ends =
+    ap (λ at. cells_then text columns at r.past (cells_of (words_of r))) begins
+    ∙ ap (λ end. cells_then text columns (stop - length cells) end (cells_of (words_of r))) (sym ends)
+    ∙ ap (cells_then text columns (stop - length cells) past) (sym is)

@@ -1,4 +1,4 @@
-use Rattle.std.proofs.Common.{◌+◌, ℕ, List, length, refl, ap, subst}
+use Rattle.std.proofs.Common.{◌+◌, ℕ, List, length, refl, subst}
 use Rattle.std.specs.List.{take_while}
 use Rattle.cmark_grammar.specs.BlockDocument.{TableCell, Nil}
 use Rattle.cmark_grammar.specs.Columns.{is_blank_byte}

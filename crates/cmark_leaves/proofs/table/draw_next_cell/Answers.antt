@@ -1,4 +1,4 @@
-use Rattle.std.proofs.Common.{◌-◌, ◌+◌, take, length, refl, arith}
+use Rattle.std.proofs.Common.{◌-◌, ◌+◌, take, length, refl}
 use Rattle.std.proofs.lemmas.List.{length-take-le}
 use Rattle.cmark_grammar.specs.BlockDocument.{TableCell, Nil, Node, node}
 use Rattle.cmark_grammar.specs.TableTokens.{cell_tokens}
