@@ -107,7 +107,7 @@ module _ (text : List ℕ) (options : Options) (lookup : Lookup) (r : Row) (next
   pub rest-kept : (k : ℕ) → drop k m.outer ≡ [] → line_with text options lookup (drop k m.outer) (take k m.outer) r next m ≡ leaf_fed text options lookup m.leaf r next m
   rest-kept k none = ap (λ cs. line_with text options lookup cs (take k m.outer) r next m) none
 
-  missed : (k : ℕ) (c : model.OpenContainer) (cs : List model.OpenContainer) (on : Bool) → drop k m.outer ≡ c ∷ cs → (lazily options r (ahead_in text options lookup (take k m.outer) next) && takes_lazy m.leaf) ≡ on →
+  missed : (k : ℕ) (c : model.OpenContainer) (cs : List model.OpenContainer) (on : Bool) → drop k m.outer ≡ c ∷ cs → (lazily options c.container r (ahead_in text options lookup (take k m.outer) next) && takes_lazy m.leaf) ≡ on →
       line_with text options lookup (drop k m.outer) (take k m.outer) r next m
       ≡ (if on then lazy_fed text options lookup m.leaf r m else begin text options lookup r next (containers_closed text options lookup (take k m.outer) (drop k m.outer) (leaf_closed text options lookup m)))
   missed k c cs on some is =
@@ -115,11 +115,11 @@ module _ (text : List ℕ) (options : Options) (lookup : Lookup) (r : Row) (next
       ∙ ap (λ t. if t then lazy_fed text options lookup m.leaf r m else begin text options lookup r next (containers_closed text options lookup (take k m.outer) (c ∷ cs) (leaf_closed text options lookup m))) is
       ∙ ap (λ cs. if on then lazy_fed text options lookup m.leaf r m else begin text options lookup r next (containers_closed text options lookup (take k m.outer) cs (leaf_closed text options lookup m))) (sym some)
 
-  pub rest-lazy : (k : ℕ) (c : model.OpenContainer) (cs : List model.OpenContainer) → drop k m.outer ≡ c ∷ cs → (lazily options r (ahead_in text options lookup (take k m.outer) next) && takes_lazy m.leaf) ≡ true →
+  pub rest-lazy : (k : ℕ) (c : model.OpenContainer) (cs : List model.OpenContainer) → drop k m.outer ≡ c ∷ cs → (lazily options c.container r (ahead_in text options lookup (take k m.outer) next) && takes_lazy m.leaf) ≡ true →
       line_with text options lookup (drop k m.outer) (take k m.outer) r next m ≡ lazy_fed text options lookup m.leaf r m
   rest-lazy k c cs some is = missed k c cs true some is
 
-  pub rest-ends : (k : ℕ) (c : model.OpenContainer) (cs : List model.OpenContainer) → drop k m.outer ≡ c ∷ cs → (lazily options r (ahead_in text options lookup (take k m.outer) next) && takes_lazy m.leaf) ≡ false →
+  pub rest-ends : (k : ℕ) (c : model.OpenContainer) (cs : List model.OpenContainer) → drop k m.outer ≡ c ∷ cs → (lazily options c.container r (ahead_in text options lookup (take k m.outer) next) && takes_lazy m.leaf) ≡ false →
       line_with text options lookup (drop k m.outer) (take k m.outer) r next m
       ≡ begin text options lookup r next (containers_closed text options lookup (take k m.outer) (drop k m.outer) (leaf_closed text options lookup m))
   rest-ends k c cs some is = missed k c cs false some is

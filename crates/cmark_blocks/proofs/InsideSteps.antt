@@ -1,10 +1,11 @@
 -- So many of the open containers, the outermost ones, one by one.
-use Rattle.std.proofs.Common.{◌≡◌, ℕ, zero, suc, ◌<◌, ◌≤◌, false, List, [], ◌∷◌, take, drop, length, slice_get, Some, None, refl, ap, arith}
+use Rattle.std.proofs.Common.{◌≡◌, ℕ, zero, suc, ◌<◌, ◌≤◌, Bool, false, List, [], ◌∷◌, take, drop, length, slice_get, Some, None, refl, sym, ap, ◌∙◌, subst, arith}
 use Rattle.cmark_grammar.specs.Answers.{Lookup}
 use Rattle.cmark_grammar.specs.Containers as grammar
 use Rattle.cmark_grammar.specs.Containers.{keeps}
 use Rattle.cmark_grammar.specs.Options.{Options}
 use Rattle.cmark_grammar.specs.Rows.{Row}
+use Rattle.cmark_grammar.specs.TableRows.{table_interrupts}
 use Rattle.cmark_lines.specs.Rests.{row_of}
 use Rattle.cmark_lines.specs.Starts.{Shows}
 use Rattle.cmark_lines.specs.declared.line_rest.LineRest.{LineRest}
@@ -14,7 +15,7 @@ use Rattle.cmark_block_model.specs.OpenBlocks as model
 use Rattle.cmark_blocks.specs.declared.state.OpenContainer.{OpenContainer}
 use Rattle.cmark_blocks.specs.Shown.{ShowsContainers}
 use Rattle.cmark_blocks.proofs.AheadSteps.{Inside, inside-keeps, inside-misses, inside-all}
-use Rattle.cmark_blocks.proofs.KeptSteps.{shows-at}
+use Rattle.cmark_blocks.proofs.KeptSteps.{shows-at, shows-all}
 
 none-left : (ms : List model.OpenContainer) (n k : ℕ) → n ≤ k → drop k (take n ms) ≡ []
 none-left ms zero zero le = refl
@@ -33,12 +34,13 @@ one-first (x ∷ xs) (suc n) (suc k) m lt e = one-first xs n k m (omega (arith, 
 module _ (text : List ℕ) (options : Options) (lookup : Lookup) (cs : List OpenContainer) (ms : List model.OpenContainer) (shows : ShowsContainers cs ms)
     (count at : ℕ) (c : OpenContainer) (r : Row) (more : List Row) (rest : LineRest) (here : slice_get cs at ≡ Some c) (further : at < count) where
   -- one more of them keeps the line, or misses it
-  pub first-keeps : (inside : LineRest) → ((g : grammar.Container) → Shows c.container g → Some (row_of inside) ≡ keeps g false (row_of rest)) →
-      Inside text options lookup (take count ms) at r more (row_of rest) → Inside text options lookup (take count ms) (suc at) r more (row_of inside)
-  first-keeps inside keep i =
+  pub first-keeps : (inside : LineRest) → ((g : grammar.Container) → Shows c.container g → Some (row_of inside) ≡ keeps g false (row_of rest)) → (next : ℕ) → next ≡ suc at →
+      Inside text options lookup (take count ms) at r more (row_of rest) → Inside text options lookup (take count ms) next r more (row_of inside)
+  first-keeps inside keep next more_by_one i =
       let w = shows-at cs ms at c shows here in
-      inside-keeps text options lookup (take count ms) at w.m (drop (suc at) (take count ms)) r more (row_of rest) (row_of inside)
-      (one-first ms count at w.m further w.behind) refl (keep w.m.container w.shows.0) (whole inside) i
+      subst (λ n. Inside text options lookup (take count ms) n r more (row_of inside)) (sym more_by_one)
+      (inside-keeps text options lookup (take count ms) at w.m (drop (suc at) (take count ms)) r more (row_of rest) (row_of inside)
+      (one-first ms count at w.m further w.behind) refl (keep w.m.container w.shows.0) (whole inside) i)
 
   pub first-misses : ((g : grammar.Container) → Shows c.container g → None ≡ keeps g false (row_of rest)) →
       Inside text options lookup (take count ms) at r more (row_of rest) → ahead_in text options lookup (take count ms) (r ∷ more) ≡ []
@@ -51,3 +53,8 @@ module _ (text : List ℕ) (options : Options) (lookup : Lookup) (cs : List Open
 pub first-all : (text : List ℕ) (options : Options) (lookup : Lookup) (ms : List model.OpenContainer) (count at : ℕ) (r : Row) (more : List Row) (rest : LineRest) → count ≤ at →
     Inside text options lookup (take count ms) at r more (row_of rest) → ahead_in text options lookup (take count ms) (r ∷ more) ≡ row_of rest ∷ ahead_in text options lookup (take count ms) more
 first-all text options lookup ms count at r more rest le i = inside-all text options lookup (take count ms) at r more (row_of rest) (none-left ms count at le) i
+
+-- inside of all of them
+pub told-inside : (text : List ℕ) (options : Options) (lookup : Lookup) (cs : List OpenContainer) (ms : List model.OpenContainer) (count : ℕ) (r : Row) (next : List Row) (told : Bool) → ShowsContainers cs ms → length cs ≤ count →
+    told ≡ table_interrupts options r (ahead_in text options lookup (take count ms) next) → told ≡ table_interrupts options r (ahead_in text options lookup ms next)
+told-inside text options lookup cs ms count r next told shows all is = is ∙ ap (λ l. table_interrupts options r (ahead_in text options lookup l next)) (shows-all cs ms count shows all).0

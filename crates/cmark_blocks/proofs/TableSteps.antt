@@ -1,6 +1,6 @@
 -- Tables in the lines ahead: their heads and their rows.
 use Rattle.std.proofs.Common.{◌≡◌, ℕ, zero, suc, ◌+◌, ◌-◌, ◌<◌, ◌≤◌, Bool, true, false, ◌==◌, ◌&&◌, not, nat_le, List, [], ◌∷◌, take, length, Option, Some, None, refl, sym, ap, ◌∙◌, subst, arith, true≢false}
-use Rattle.std.specs.Prelude.{if◌then◌else◌}
+use Rattle.std.specs.Prelude.{if◌then◌else◌, MatchOption, is_some}
 use Rattle.std.proofs.lemmas.Bool.{eqb-true, le-leb}
 use Rattle.cmark_grammar.specs.Alignment.{Alignment}
 use Rattle.cmark_grammar.specs.Answers.{Lookup}
@@ -10,6 +10,8 @@ use Rattle.cmark_grammar.specs.Rows.{Row, indent_of, words_of}
 use Rattle.cmark_grammar.specs.TableRows.{holds_pipe, count_cells, count_missing, one_more_if, with_columns, delimited_ahead, table_head, is_some_head, begins_with_pipe, table_interrupts}
 use Rattle.cmark_grammar.specs.Tables.{delimiter_row}
 use Rattle.cmark_items.specs.ItemNodes.{columns_of}
+use Rattle.cmark_lines.specs.Rests.{row_of}
+use Rattle.cmark_lines.specs.declared.line_rest.LineRest.{LineRest}
 use Rattle.cmark_blocks.specs.TablesAhead.{IsHead, rows_taken}
 
 -- how many cells a line has that may be a head, if it may be one
@@ -108,6 +110,12 @@ module _ (options : Options) (r : Row) (ahead : List Row) where
       nothing : (z : Bool) → (z && false) ≡ false
       nothing true = refl
       nothing false = refl
+
+-- a head was told, or that the line is none
+pub head-told : (options : Options) (r : Row) (ahead : List Row) (behind : LineRest → List Row) (told : Option (ℕ × LineRest)) →
+    MatchOption told (table_head options r ahead ≡ None) (λ head. IsHead options r ahead head.0 (row_of head.1) (behind head.1)) → is_some told ≡ is_some_head (table_head options r ahead)
+head-told options r ahead behind None none = sym (ap is_some_head none)
+head-told options r ahead behind (Some head) some = sym (ap is_some_head some.is)
 
 -- the rows ahead
 module _ (options : Options) (columns left : ℕ) (r : Row) (ahead : List Row) where
