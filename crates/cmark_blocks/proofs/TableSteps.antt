@@ -1,7 +1,7 @@
 -- Tables in the lines ahead: their heads and their rows.
-use Rattle.std.proofs.Common.{◌≡◌, ℕ, zero, suc, ◌+◌, ◌-◌, ◌<◌, ◌≤◌, Bool, true, false, ◌==◌, ◌&&◌, not, nat_le, List, [], ◌∷◌, take, length, Option, Some, None, refl, sym, ap, ◌∙◌, subst, arith, true≢false}
+use Rattle.std.proofs.Common.{◌≡◌, ℕ, zero, suc, ◌+◌, ◌-◌, ◌<◌, ◌≤◌, Bool, true, false, ◌==◌, ◌&&◌, not, nat_le, ltb, List, [], ◌∷◌, take, length, Option, Some, None, refl, sym, ap, ◌∙◌, subst, arith, true≢false}
 use Rattle.std.specs.Prelude.{if◌then◌else◌, MatchOption, is_some}
-use Rattle.std.proofs.lemmas.Bool.{eqb-true, le-leb}
+use Rattle.std.proofs.lemmas.Bool.{eqb-true, le-leb, ltb-true, ltb-false}
 use Rattle.cmark_grammar.specs.Alignment.{Alignment}
 use Rattle.cmark_grammar.specs.Answers.{Lookup}
 use Rattle.cmark_grammar.specs.Openings.{interrupts, count_rows}
@@ -138,3 +138,9 @@ module _ (options : Options) (columns left : ℕ) (r : Row) (ahead : List Row) w
       nothing : (z : Bool) → (z && false) ≡ false
       nothing true = refl
       nothing false = refl
+
+pub less-told : (left missing cells : ℕ) → ltb left missing ≡ true → missing ≡ cells → left < cells
+less-told left missing cells e same = let lt = ltb-true left missing e in omega (arith, lt, same)
+
+pub fits-told : (left missing cells : ℕ) → ltb left missing ≡ false → missing ≡ cells → cells ≤ left
+fits-told left missing cells e same = let le = ltb-false left missing e in omega (arith, le, same)
