@@ -2,6 +2,7 @@
 use Rattle.std.proofs.Common.{◌≡◌, ◌≢◌, ℕ, suc, ◌≤◌, ◌==◌, Bool, true, false, not, ◌&&◌, ◌||◌, if◌then◌else◌, List, [], ◌∷◌, take, drop, length, Some, None, refl, sym, ap, subst, ◌∙◌, arith, true≢false}
 use Rattle.std.proofs.lemmas.List.{drop_all}
 use Rattle.cmark_grammar.specs.Answers.{Lookup}
+use Rattle.cmark_grammar.specs.Containers.{Container}
 use Rattle.cmark_grammar.specs.Leaves.{underlines}
 use Rattle.cmark_grammar.specs.Openings.{interrupts, texts, lazily}
 use Rattle.cmark_grammar.specs.Options.{Options}
@@ -12,7 +13,7 @@ use Rattle.cmark_grammar.specs.Tokens.{stretch_then}
 use Rattle.cmark_grammar.specs.BlockDocument.{Nil}
 use Rattle.cmark_lines.specs.Rests.{row_of}
 use Rattle.cmark_lines.specs.declared.line_rest.LineRest.{LineRest}
-use Rattle.cmark_lines.proofs.LazyRows.{whole-texts}
+use Rattle.cmark_lines.proofs.LazyRows.{whole-texts, lazily-is}
 use Rattle.cmark_block_model.specs.BlockPass.{ahead_in, kept_by, leaf_fed, lazy_fed, begin, leaf_closed, close_leaf, heading_made, paragraph_line, paragraph_begun, underlined_or, line_with, line_fed, lines_fed, containers_closed, with_drawn}
 use Rattle.cmark_block_model.specs.OpenBlocks as model
 use Rattle.cmark_block_model.specs.OpenBlocks.{takes_lazy}
@@ -107,7 +108,7 @@ module _ (text : List ℕ) (options : Options) (lookup : Lookup) (r : Row) (next
   pub rest-kept : (k : ℕ) → drop k m.outer ≡ [] → line_with text options lookup (drop k m.outer) (take k m.outer) r next m ≡ leaf_fed text options lookup m.leaf r next m
   rest-kept k none = ap (λ cs. line_with text options lookup cs (take k m.outer) r next m) none
 
-  missed : (k : ℕ) (c : model.OpenContainer) (cs : List model.OpenContainer) (on : Bool) → drop k m.outer ≡ c ∷ cs → (lazily options r (ahead_in text options lookup (take k m.outer) next) && takes_lazy m.leaf) ≡ on →
+  missed : (k : ℕ) (c : model.OpenContainer) (cs : List model.OpenContainer) (on : Bool) → drop k m.outer ≡ c ∷ cs → (lazily options c.container r (ahead_in text options lookup (take k m.outer) next) && takes_lazy m.leaf) ≡ on →
       line_with text options lookup (drop k m.outer) (take k m.outer) r next m
       ≡ (if on then lazy_fed text options lookup m.leaf r m else begin text options lookup r next (containers_closed text options lookup (take k m.outer) (drop k m.outer) (leaf_closed text options lookup m)))
   missed k c cs on some is =
@@ -115,11 +116,11 @@ module _ (text : List ℕ) (options : Options) (lookup : Lookup) (r : Row) (next
       ∙ ap (λ t. if t then lazy_fed text options lookup m.leaf r m else begin text options lookup r next (containers_closed text options lookup (take k m.outer) (c ∷ cs) (leaf_closed text options lookup m))) is
       ∙ ap (λ cs. if on then lazy_fed text options lookup m.leaf r m else begin text options lookup r next (containers_closed text options lookup (take k m.outer) cs (leaf_closed text options lookup m))) (sym some)
 
-  pub rest-lazy : (k : ℕ) (c : model.OpenContainer) (cs : List model.OpenContainer) → drop k m.outer ≡ c ∷ cs → (lazily options r (ahead_in text options lookup (take k m.outer) next) && takes_lazy m.leaf) ≡ true →
+  pub rest-lazy : (k : ℕ) (c : model.OpenContainer) (cs : List model.OpenContainer) → drop k m.outer ≡ c ∷ cs → (lazily options c.container r (ahead_in text options lookup (take k m.outer) next) && takes_lazy m.leaf) ≡ true →
       line_with text options lookup (drop k m.outer) (take k m.outer) r next m ≡ lazy_fed text options lookup m.leaf r m
   rest-lazy k c cs some is = missed k c cs true some is
 
-  pub rest-ends : (k : ℕ) (c : model.OpenContainer) (cs : List model.OpenContainer) → drop k m.outer ≡ c ∷ cs → (lazily options r (ahead_in text options lookup (take k m.outer) next) && takes_lazy m.leaf) ≡ false →
+  pub rest-ends : (k : ℕ) (c : model.OpenContainer) (cs : List model.OpenContainer) → drop k m.outer ≡ c ∷ cs → (lazily options c.container r (ahead_in text options lookup (take k m.outer) next) && takes_lazy m.leaf) ≡ false →
       line_with text options lookup (drop k m.outer) (take k m.outer) r next m
       ≡ begin text options lookup r next (containers_closed text options lookup (take k m.outer) (drop k m.outer) (leaf_closed text options lookup m))
   rest-ends k c cs some is = missed k c cs false some is
@@ -190,3 +191,21 @@ pub fed-outside : (text : List ℕ) (options : Options) (lookup : Lookup) (r : R
 fed-outside text options lookup r next m cs none shows =
     ap (λ outer. let w = kept_by text options lookup [] outer m.bare r in let q = line_with text options lookup w.missed w.kept w.left next (record m { bare = false }) in record q { past = r.past })
     (sym (shows-none cs m.outer none shows))
+
+-- a line that others miss goes on with a paragraph where neither it nor a table that it begins interrupts one
+module _ (options : Options) (k : Container) (r : Row) (ahead : List Row) (takes : Bool) where
+  by_tests : (interrupting table : Bool) → interrupts options false r ahead ≡ interrupting → table_interrupts options r ahead ≡ table → (lazily options k r ahead && takes) ≡ (not (interrupting || table) && takes)
+  by_tests interrupting table e f =
+      ap (λ z. z && takes) (lazily-is options r ahead k) ∙ ap (λ z. not (z || table_interrupts options r ahead) && takes) e ∙ ap (λ z. not (interrupting || z) && takes) f
+
+  pub lazily-unless : (table : Bool) → takes ≡ true → false ≡ interrupts options false r ahead → table ≡ table_interrupts options r ahead → not table ≡ (lazily options k r ahead && takes)
+  lazily-unless table on none is = and-true (not table) takes on ∙ sym (by_tests false table (sym none) (sym is))
+
+  pub lazily-not : true ≡ interrupts options false r ahead → false ≡ (lazily options k r ahead && takes)
+  lazily-not ends = sym (by_tests true (table_interrupts options r ahead) (sym ends) refl)
+
+pub is-not : (a b : Bool) → not a ≡ b → a ≡ not b
+is-not true true e = absurd (true≢false (sym e))
+is-not true false e = refl
+is-not false true e = refl
+is-not false false e = absurd (true≢false e)

@@ -11,6 +11,7 @@ pub mod HeadingBodies
 pub mod HtmlSteps
 pub mod IndentedSteps
 pub mod InfoSteps
+pub mod InsideSteps
 pub mod KeptSteps
 pub mod LeafSteps
 pub mod LineFeeds
@@ -21,3 +22,4 @@ pub mod PassSteps
 pub mod PrefixSteps
 pub mod ReferenceSteps
 pub mod RunSteps
+pub mod TableSteps

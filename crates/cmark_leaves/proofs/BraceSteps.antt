@@ -1,5 +1,5 @@
 -- Braces at the end of a heading: in columns, in bytes, and in the text.
-use Rattle.std.proofs.Common.{◌≡◌, ◌≢◌, ℕ, zero, suc, ◌+◌, ◌-◌, ◌≤◌, ◌<◌, Bool, true, false, ◌==◌, ◌&&◌, ◌||◌, not, List, [], ◌∷◌, ◌++◌, append_assoc, append-nil, length, length-append, drop, take, drop-drop, get_or, refl, sym, ap, ◌∙◌, subst, arith, true≢false, slice_range}
+use Rattle.std.proofs.Common.{◌≡◌, ◌≢◌, ℕ, zero, suc, ◌+◌, ◌-◌, ◌≤◌, ◌<◌, Bool, true, false, ◌==◌, ◌&&◌, ◌||◌, not, List, [], ◌∷◌, ◌++◌, append_assoc, append-nil, length, length-append, drop, take, drop-drop, get_or, refl, sym, ap, ◌∙◌, subst, arith, true≢false}
 use Rattle.std.specs.Prelude.{if◌then◌else◌}
 use Rattle.std.specs.Str.{IsUtf8, IsCharBoundary}
 use Rattle.std.proofs.lemmas.Str.{IsCharBoundary-before_ascii, IsCharBoundary-after_ascii}
@@ -7,7 +7,7 @@ use Rattle.cmark_grammar.specs.Attributes.{is_brace, closes, is_braced, before_b
 use Rattle.cmark_grammar.specs.Columns.{Column, is_blank_byte, drop_end, put_before, bytes_of}
 use Rattle.cmark_grammar.specs.Tokens.{slice, without_attributes}
 use Rattle.cmark_leaves.specs.Closings.{without_attributes_bytes, StandsAt}
-use Rattle.cmark_leaves.proofs.ColumnCuts.{goes_on, AreTabbed, Cut, front-tabbed, drop_end-bytes, blanks-cut}
+use Rattle.cmark_leaves.proofs.ColumnCuts.{AreTabbed, Cut, front-tabbed, drop_end-bytes, blanks-cut}
 
 and-both : (a b : Bool) → (a && b) ≡ true → (a ≡ true) × (b ≡ true)
 and-both true b e = (refl, e)

@@ -4,5 +4,6 @@ pub mod ColumnCuts
 pub mod DrawSteps
 pub mod EndSteps
 pub mod HeadingSteps
+pub mod TableSteps
 pub mod ToldSteps
 pub mod WordSteps

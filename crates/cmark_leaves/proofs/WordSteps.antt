@@ -7,7 +7,7 @@ use Rattle.cmark_tree.specs.Forest as forest
 use Rattle.cmark_tree.specs.Forest.{Forest, one, join as join_forests}
 use Rattle.cmark_tree.specs.Building.{Opened, Is}
 use Rattle.cmark_grammar.specs.BlockDocument.{Text, OwnedText, Nil, Node, node}
-use Rattle.cmark_grammar.specs.Tokens.{Piece, slice, piece_if}
+use Rattle.cmark_grammar.specs.Tokens.{slice, piece_if}
 use Rattle.cmark_items.specs.declared.allocations.Allocations.{Allocations}
 use Rattle.cmark_items.specs.declared.allocations.CowIndex.{CowIndex}
 use Rattle.cmark_items.specs.declared.item.Item.{Item}

@@ -1,4 +1,4 @@
-use Rattle.std.proofs.Common.{◌≡◌, length, sym, ap, ◌∙◌, arith}
+use Rattle.std.proofs.Common.{length, sym, ap, ◌∙◌, arith}
 use Rattle.cmark_leaves.proofs.BraceSteps.{none-before, unclosed, at-opening, at-closing, at-front}
 use Rattle.cmark_leaves.proofs.heading.count_before_braces.Goals.{then-at-eq0-via-then-at-eq0, then-at-eq0-via-else-at-eq0+then-bytes-at-ne125, then-loop-at-test+else-not-is_brace, else-loop-at-test, else-at-gt0-via-then-at-gt0+else-bytes-at-eq123, else-at-gt0-via-else-at-gt0}
 use Rattle.cmark_leaves.proofs.heading.count_before_braces.Goals as goal

@@ -1,4 +1,4 @@
-use Rattle.std.proofs.Common.{◌≡◌, ◌≤◌, ◌<◌, true, length, drop}
+use Rattle.std.proofs.Common.{◌≡◌, ◌<◌, true, length, drop}
 use Rattle.cmark_grammar.specs.Attributes.{closes}
 use Rattle.cmark_leaves.proofs.heading.count_before_braces.Given as goal
 

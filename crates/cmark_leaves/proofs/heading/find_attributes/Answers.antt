@@ -1,7 +1,6 @@
-use Rattle.std.proofs.Common.{◌≡◌, length, sym, ap, ◌∙◌}
+use Rattle.std.proofs.Common.{length, sym, ap, ◌∙◌}
 use Rattle.cmark_grammar.specs.Attributes.{before_braces, inside_braces}
 use Rattle.cmark_grammar.specs.Columns.{is_blank_byte, drop_end}
-use Rattle.cmark_grammar.specs.Rows.{words_of}
 use Rattle.cmark_lines.specs.Rests.{row_of}
 use Rattle.cmark_leaves.specs.Closings.{behind_opening}
 use Rattle.cmark_leaves.proofs.BraceSteps.{no-inside}

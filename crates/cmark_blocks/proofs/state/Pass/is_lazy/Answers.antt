@@ -1,16 +1,33 @@
-use Rattle.std.proofs.Common.{false, not, sym, ap, ◌∙◌}
-use Rattle.cmark_grammar.specs.Openings.{interrupts}
+use Rattle.std.proofs.Common.{◌≡◌, Bool, true, false, take, not, refl, sym, ◌∙◌, true≢false}
 use Rattle.cmark_lines.specs.Rests.{row_of}
+use Rattle.cmark_block_model.specs.BlockPass.{ahead_in}
 use Rattle.cmark_block_model.specs.OpenBlocks.{takes_lazy}
-use Rattle.cmark_blocks.proofs.FeedSteps.{and-true, and-false}
+use Rattle.cmark_grammar.specs.Openings.{lazily}
+use Rattle.cmark_blocks.specs.Ahead.{lines_at}
+use Rattle.cmark_blocks.proofs.FeedSteps.{and-false, lazily-unless, lazily-not, is-not}
 use Rattle.cmark_blocks.proofs.state.Pass.is_lazy.Goals as goal
+use Rattle.cmark_blocks.proofs.state.Pass.is_lazy.Goals.{then-takes_lazy, else-takes_lazy}
 
-pub returns-then-takes_lazy : goal.returns-then-takes_lazy
-returns-then-takes_lazy g c text options lookup m ahead runs =
-    ap not (c.interrupts.ensures options ahead)
-    ∙ and-true (not (interrupts options false (row_of c.args.rest) ahead)) (takes_lazy m.leaf) (sym (c.takes_lazy.ensures text _ m.leaf runs.leaf) ∙ c.if-takes_lazy.true)
-
-pub returns-else-takes_lazy : goal.returns-else-takes_lazy
-returns-else-takes_lazy g c text options lookup m ahead runs =
+pub returns-then-not-interrupts : goal.returns-then-not-interrupts
+returns-then-not-interrupts g c text options lookup m k runs =
+    let row = row_of c.args.rest in
+    let ahead = ahead_in text options lookup (take c.args.kept m.outer) (lines_at text row.past) in
     let takes = c.takes_lazy.ensures text _ m.leaf runs.leaf in
-    takes ∙ and-false (not (interrupts options false (row_of c.args.rest) ahead)) (takes_lazy m.leaf) (sym takes ∙ c.if-takes_lazy.false)
+    elim c.if-takes_lazy.branch [
+      | then-takes_lazy w ↦
+          lazily-unless options k row ahead (takes_lazy m.leaf) c.table_interrupts.result (sym takes ∙ w.if-takes_lazy.true)
+          (sym (is-not w.interrupts.result true (sym w.value-is ∙ c.if-not-interrupts.true)) ∙ w.interrupts.ensures options ahead) (c.table_interrupts.ensures text options lookup m runs)
+      | else-takes_lazy w ↦ absurd (true≢false (sym c.if-not-interrupts.true ∙ w.value-is ∙ w.if-takes_lazy.false))
+    ]
+
+pub returns-else-not-interrupts : goal.returns-else-not-interrupts
+returns-else-not-interrupts g c text options lookup m k runs =
+    let row = row_of c.args.rest in
+    let ahead = ahead_in text options lookup (take c.args.kept m.outer) (lines_at text row.past) in
+    let takes = c.takes_lazy.ensures text _ m.leaf runs.leaf in
+    elim c.if-takes_lazy.branch [
+      | then-takes_lazy w ↦
+          c.if-not-interrupts.false
+          ∙ lazily-not options k row ahead (takes_lazy m.leaf) (sym (is-not w.interrupts.result false (sym w.value-is ∙ c.if-not-interrupts.false)) ∙ w.interrupts.ensures options ahead)
+      | else-takes_lazy w ↦ w.value-is ∙ takes ∙ and-false (lazily options k row ahead) (takes_lazy m.leaf) (sym takes ∙ w.if-takes_lazy.false)
+    ]

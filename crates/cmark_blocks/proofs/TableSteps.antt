@@ -1,0 +1,146 @@
+-- Tables in the lines ahead: their heads and their rows.
+use Rattle.std.proofs.Common.{◌≡◌, ℕ, zero, suc, ◌+◌, ◌-◌, ◌<◌, ◌≤◌, Bool, true, false, ◌==◌, ◌&&◌, not, nat_le, ltb, List, [], ◌∷◌, take, length, Option, Some, None, refl, sym, ap, ◌∙◌, subst, arith, true≢false}
+use Rattle.std.specs.Prelude.{if◌then◌else◌, MatchOption, is_some}
+use Rattle.std.proofs.lemmas.Bool.{eqb-true, le-leb, ltb-true, ltb-false}
+use Rattle.cmark_grammar.specs.Alignment.{Alignment}
+use Rattle.cmark_grammar.specs.Answers.{Lookup}
+use Rattle.cmark_grammar.specs.Openings.{interrupts, count_rows}
+use Rattle.cmark_grammar.specs.Options.{Options}
+use Rattle.cmark_grammar.specs.Rows.{Row, indent_of, words_of}
+use Rattle.cmark_grammar.specs.TableRows.{holds_pipe, count_cells, count_missing, one_more_if, with_columns, delimited_ahead, table_head, is_some_head, begins_with_pipe, table_interrupts}
+use Rattle.cmark_grammar.specs.Tables.{delimiter_row}
+use Rattle.cmark_items.specs.ItemNodes.{columns_of}
+use Rattle.cmark_lines.specs.Rests.{row_of}
+use Rattle.cmark_lines.specs.declared.line_rest.LineRest.{LineRest}
+use Rattle.cmark_blocks.specs.TablesAhead.{IsHead, rows_taken}
+
+-- how many cells a line has that may be a head, if it may be one
+pub cells-some : (z : Bool) (cells columns : ℕ) → Some columns ≡ (if z then Some cells else None) → (z ≡ true) × (cells ≡ columns)
+cells-some true cells columns e = (refl, let q : Some columns ≡ Some cells = e in cc)
+cells-some false cells columns e = absurd (let q : Some columns ≡ None = e in cc)
+
+pub cells-none : (z : Bool) (cells : ℕ) → None ≡ (if z then Some cells else None) → z ≡ false
+cells-none true cells e = absurd (let q : None ≡ Some cells = e in cc)
+cells-none false cells e = refl
+
+module _ (options : Options) (r : Row) (ahead : List Row) where
+  by_tests : (tables pipe : Bool) → options.tables ≡ tables → holds_pipe (words_of r) ≡ pipe →
+      table_head options r ahead ≡ (if tables && (not r.lazy && pipe) then delimited_ahead (count_cells r) ahead else None)
+  by_tests tables pipe e f =
+      ap (λ z. if z && (not r.lazy && holds_pipe (words_of r)) then delimited_ahead (count_cells r) ahead else None) e
+      ∙ ap (λ z. if tables && (not r.lazy && z) then delimited_ahead (count_cells r) ahead else None) f
+
+  -- a line is no head where tables are not read, and where no pipe parts its cells
+  pub unread-head : options.tables ≡ false → table_head options r ahead ≡ None
+  unread-head off = by_tests false (holds_pipe (words_of r)) off refl
+
+  pub pipeless-head : holds_pipe (words_of r) ≡ false → table_head options r ahead ≡ None
+  pipeless-head none = by_tests options.tables false refl none ∙ go options.tables (not r.lazy)
+    where
+      go : (a b : Bool) → (if a && (b && false) then delimited_ahead (count_cells r) ahead else None) ≡ None
+      go true true = refl
+      go true false = refl
+      go false b = refl
+
+  -- else the next line tells
+  pub head-ahead : (columns : ℕ) → options.tables ≡ true → r.lazy ≡ false → holds_pipe (words_of r) ≡ true → count_cells r ≡ columns → table_head options r ahead ≡ delimited_ahead columns ahead
+  head-ahead columns on whole pipe cells =
+      by_tests true true on pipe
+      ∙ ap (λ z. if true && (not z && true) then delimited_ahead (count_cells r) ahead else None) whole
+      ∙ ap (λ n. delimited_ahead n ahead) cells
+
+  pub head-alone : options.tables ≡ true → r.lazy ≡ false → holds_pipe (words_of r) ≡ true → ahead ≡ [] → table_head options r ahead ≡ None
+  head-alone on whole pipe none = head-ahead (count_cells r) on whole pipe refl ∙ ap (delimited_ahead (count_cells r)) none
+
+-- what a delimiter row says
+no-columns : (o : Option (List Alignment)) → is_some_head o ≡ false → o ≡ None
+no-columns None e = refl
+no-columns (Some alignments) e = absurd (true≢false e)
+
+abbrev pub Says : (columns : ℕ) → Option (List Alignment) → Option (List Alignment) → Type 0
+Says columns row head = (head ≡ Some (columns_of row)) × (length (columns_of row) ≡ columns)
+
+with-columns : (columns : ℕ) (row : Option (List Alignment)) → is_some_head (with_columns columns row) ≡ true → Says columns row (with_columns columns row)
+with-columns columns None e = absurd (true≢false (sym e))
+with-columns columns (Some alignments) e = go (length alignments == columns) refl e
+  where
+    go : (z : Bool) → (length alignments == columns) ≡ z → is_some_head (if z then Some alignments else None) ≡ true → Says columns (Some alignments) (if z then Some alignments else None)
+    go true same e = (refl, eqb-true (length alignments) columns same)
+    go false same e = absurd (true≢false (sym e))
+
+delimiter-says : (columns : ℕ) (s : Row) (ahead : List Row) → is_some_head (delimited_ahead columns (s ∷ ahead)) ≡ true → Says columns (delimiter_row (words_of s)) (delimited_ahead columns (s ∷ ahead))
+delimiter-says columns s ahead e = go (nat_le (indent_of s) 3) e
+  where
+    row : Option (List Alignment)
+    row = delimiter_row (words_of s)
+
+    go : (z : Bool) → is_some_head (if z then with_columns columns row else None) ≡ true → Says columns row (if z then with_columns columns row else None)
+    go true e = with-columns columns row e
+    go false e = absurd (true≢false (sym e))
+
+module _ (options : Options) (r : Row) (ahead : List Row) (columns : ℕ) (s : Row) (behind : List Row) (next : ahead ≡ s ∷ behind)
+    (on : options.tables ≡ true) (whole : r.lazy ≡ false) (pipe : holds_pipe (words_of r) ≡ true) (cells : count_cells r ≡ columns) where
+  here : table_head options r ahead ≡ delimited_ahead columns (s ∷ behind)
+  here = head-ahead options r ahead columns on whole pipe cells ∙ ap (delimited_ahead columns) next
+
+  -- the next line is a delimiter row, or none
+  pub head-is : is_some_head (delimited_ahead columns (s ∷ behind)) ≡ true → IsHead options r ahead columns s behind
+  head-is e = let says = delimiter-says columns s behind e in record { next = next; is = here ∙ says.0; many = says.1 }
+
+  pub head-not : is_some_head (delimited_ahead columns (s ∷ behind)) ≡ false → table_head options r ahead ≡ None
+  head-not e = here ∙ no-columns (delimited_ahead columns (s ∷ behind)) e
+
+-- whether a table interrupts a paragraph
+module _ (options : Options) (r : Row) (ahead : List Row) where
+  pub interrupts-by : (begins : Bool) (head : Option (List Alignment)) → begins ≡ (nat_le (indent_of r) 3 && begins_with_pipe (words_of r)) → table_head options r ahead ≡ head →
+      table_interrupts options r ahead ≡ (begins && is_some_head head)
+  interrupts-by begins head e f =
+      ap (λ o. nat_le (indent_of r) 3 && (begins_with_pipe (words_of r) && is_some_head o)) f
+      ∙ grouped (nat_le (indent_of r) 3) (begins_with_pipe (words_of r)) (is_some_head head) ∙ ap (λ z. z && is_some_head head) (sym e)
+    where
+      grouped : (a b c : Bool) → (a && (b && c)) ≡ ((a && b) && c)
+      grouped true b c = refl
+      grouped false b c = refl
+
+  pub interrupts-never : options.tables ≡ false → table_interrupts options r ahead ≡ false
+  interrupts-never off =
+      interrupts-by (nat_le (indent_of r) 3 && begins_with_pipe (words_of r)) None refl (unread-head options r ahead off)
+      ∙ nothing (nat_le (indent_of r) 3 && begins_with_pipe (words_of r))
+    where
+      nothing : (z : Bool) → (z && false) ≡ false
+      nothing true = refl
+      nothing false = refl
+
+-- a head was told, or that the line is none
+pub head-told : (options : Options) (r : Row) (ahead : List Row) (behind : LineRest → List Row) (told : Option (ℕ × LineRest)) →
+    MatchOption told (table_head options r ahead ≡ None) (λ head. IsHead options r ahead head.0 (row_of head.1) (behind head.1)) → is_some told ≡ is_some_head (table_head options r ahead)
+head-told options r ahead behind None none = sym (ap is_some_head none)
+head-told options r ahead behind (Some head) some = sym (ap is_some_head some.is)
+
+-- the rows ahead
+module _ (options : Options) (columns left : ℕ) (r : Row) (ahead : List Row) where
+  taken-if : (z : Bool) → (not (interrupts options false r ahead) && nat_le (count_missing columns r) left) ≡ z →
+      rows_taken options columns left (r ∷ ahead) ≡ take (one_more_if z (count_rows options columns (left - count_missing columns r) ahead)) (r ∷ ahead)
+  taken-if z e = ap (λ y. take (one_more_if y (count_rows options columns (left - count_missing columns r) ahead)) (r ∷ ahead)) e
+
+  pub rows-more : interrupts options false r ahead ≡ false → count_missing columns r ≤ left → rows_taken options columns left (r ∷ ahead) ≡ r ∷ rows_taken options columns (left - count_missing columns r) ahead
+  rows-more goes_on few = taken-if true (ap (λ z. not z && nat_le (count_missing columns r) left) goes_on ∙ le-leb (count_missing columns r) left few)
+
+  pub rows-interrupted : interrupts options false r ahead ≡ true → rows_taken options columns left (r ∷ ahead) ≡ []
+  rows-interrupted ends = taken-if false (ap (λ z. not z && nat_le (count_missing columns r) left) ends)
+
+  pub rows-filled : left < count_missing columns r → rows_taken options columns left (r ∷ ahead) ≡ []
+  rows-filled many = taken-if false (ap (λ z. not (interrupts options false r ahead) && z) (more (count_missing columns r) left many) ∙ nothing (not (interrupts options false r ahead)))
+    where
+      more : (a b : ℕ) → b < a → nat_le a b ≡ false
+      more a b lt = grind (arith)
+
+      nothing : (z : Bool) → (z && false) ≡ false
+      nothing true = refl
+      nothing false = refl
+
+pub less-told : (left missing cells : ℕ) → ltb left missing ≡ true → missing ≡ cells → left < cells
+less-told left missing cells e same = let lt = ltb-true left missing e in omega (arith, lt, same)
+
+pub fits-told : (left missing cells : ℕ) → ltb left missing ≡ false → missing ≡ cells → cells ≤ left
+fits-told left missing cells e same = let le = ltb-false left missing e in omega (arith, le, same)

@@ -1,0 +1,54 @@
+use Rattle.std.proofs.Common.{◌≡◌, suc, ◌-◌, length, sym, ap, ◌∙◌, subst, arith, refl}
+use Rattle.cmark_grammar.specs.TableTokens.{cells_then}
+use Rattle.cmark_scan.specs.TableCells.{cells_behind}
+use Rattle.cmark_block_model.specs.Drawing.{drawn}
+use Rattle.cmark_builder.specs.Drawn.{Draws}
+use Rattle.cmark_grammar.specs.TableRows.{cells_of}
+use Rattle.cmark_lines.specs.Rests.{row_of}
+use Rattle.cmark_leaves.proofs.DrawSteps.{drawn-Nil}
+use Rattle.cmark_leaves.proofs.TableSteps.{cells-begin, cells-of-line}
+use Rattle.cmark_leaves.proofs.table.draw_cells.Goals as goal
+
+pub loop-left-init : goal.loop-left-init
+loop-left-init c =
+    let row = row_of c.args.rest in
+    let cells = c.cells_in_row-cells.result.now in
+    let stop = c.stop-stop.result in
+    let begins = cells-begin c.args.rest c.words.result.now cells stop c.words.ensures c.cells_in_row-cells.ensures.value c.cells_in_row-cells.ensures.within c.stop-stop.ensures.place in
+    record {
+      placed = c.requires;
+      within = begins.0;
+      drawn = λ text d draws. (
+        d,
+        draws,
+        ap (λ cells. drawn cells d) (cells-of-line text c.args.columns row cells stop c.past-past.result (c.cells_in_row-cells.ensures.cells ∙ ap cells_of c.words.ensures) begins.1 c.past-past.ensures.place),
+      );
+      references = refl;
+    }
+
+pub loop-left-preserved : goal.loop-left-preserved
+loop-left-preserved c =
+    let before = c.loop-left.invariant in
+    let left = c.loop-left.left in
+    let cells = c.loop-left.cells.now in
+    let stop = c.stop-stop.result in
+    let one : left ≡ suc (left - 1) = omega (arith, c.loop-left-test.true) in
+    record {
+      placed = c.in_ok-cells.ensures.placed;
+      within = c.in_ok-cells.ensures.within;
+      drawn = λ text d draws.
+          let so_far = before.drawn text d draws in
+          let next = c.in_ok-cells.ensures.drawn text (left - 1) so_far.0 so_far.1 in (
+            next.0,
+            next.1,
+            so_far.2 ∙ ap (λ n. drawn (cells_then text n (stop - length cells) c.past-past.result (cells_behind cells)) so_far.0) one ∙ next.2,
+          );
+      references = c.in_ok-cells.ensures.references ∙ before.references;
+    }
+
+pub returns-clause-drawn : goal.returns-clause-drawn
+returns-clause-drawn c text d draws =
+    let so_far = c.loop-left.invariant.drawn text d draws in
+    let none : c.loop-left.left ≡ 0 = omega (arith, c.loop-left-test.false) in
+    subst (Draws text c.loop-left.builder)
+    (sym (so_far.2 ∙ ap (λ n. drawn (cells_then text n (c.stop-stop.result - length c.loop-left.cells.now) c.past-past.result (cells_behind c.loop-left.cells.now)) so_far.0) none ∙ drawn-Nil so_far.0)) so_far.1

@@ -1,0 +1,21 @@
+use Rattle.std.proofs.Common.{◌≡◌, ◌-◌, ◌≤◌, ℕ, List, length}
+use Rattle.cmark_tree.specs.Building.{IsPlaced}
+use Rattle.cmark_items.specs.Tables.{tables}
+use Rattle.cmark_grammar.specs.TableTokens.{cells_then, row_cells}
+use Rattle.cmark_scan.specs.TableCells.{cells_behind}
+use Rattle.cmark_block_model.specs.Drawing.{Drawing, drawn}
+use Rattle.cmark_builder.specs.Drawn.{Draws}
+use Rattle.cmark_lines.specs.Rests.{row_of}
+use Rattle.cmark_leaves.proofs.table.draw_cells.Given as goal
+
+abbrev pub invariant-loop-left : goal.invariant-loop-left
+invariant-loop-left l = record {
+  placed : IsPlaced l.builder.tree;
+  within : length l.cells ≤ l.stop;
+  drawn : (text : List ℕ) (d : Drawing) → Draws text l.fn.builder d → (e : Drawing) × Draws text l.builder e
+      × (drawn (row_cells text l.fn.columns (row_of l.fn.rest)) d ≡ drawn (cells_then text l.left (l.stop - length l.cells) l.past (cells_behind l.cells)) e);
+  references : (tables l.builder.allocations).references ≡ (tables l.fn.builder.allocations).references;
+}
+
+abbrev pub decreases-loop-left : goal.decreases-loop-left
+decreases-loop-left l = l.left
