@@ -1,15 +1,16 @@
 //! Lines of the standard's examples, each call on its happy path.
 
 use cmark_lines::{
-    Container, ContainerStart, Further, HtmlKind, ItemStart, LineRest, Opening, Verbatim,
+    Container, ContainerStart, FootnoteStart, Further, HtmlKind, ItemStart, LineRest, Opening, Verbatim,
     ends_at_once, interrupts, underlines, what_opens,
 };
-use cmark_text::{BlockQuoteKind, HeadingLevel};
+use bitflags::Flags;
+use cmark_text::{BlockQuoteKind, HeadingLevel, Options};
 use std::test::Fail;
 
 /// The line behind the marker of the container that it begins; the line itself, where it begins none.
 fn inside<'a>(rest: LineRest<'a>) -> LineRest<'a> {
-    match what_opens(rest) {
+    match what_opens(rest, Options::empty()) {
         Opening::Nests(ContainerStart::Quote(inside)) => inside,
         Opening::Nests(ContainerStart::Item(_, inside)) => inside,
         _ => rest,
@@ -18,14 +19,22 @@ fn inside<'a>(rest: LineRest<'a>) -> LineRest<'a> {
 
 /// The list item that the line begins, if it begins one.
 fn item(rest: LineRest<'_>) -> Option<ItemStart> {
-    match what_opens(rest) {
+    match what_opens(rest, Options::empty()) {
         Opening::Nests(ContainerStart::Item(item, _)) => Some(item),
         _ => None,
     }
 }
 
+/// The footnote definition that the line begins with these options, if it begins one, and the line behind its marker.
+fn footnote<'a>(rest: LineRest<'a>, options: Options) -> Option<(FootnoteStart, LineRest<'a>)> {
+    match what_opens(rest, options) {
+        Opening::Nests(ContainerStart::Footnote(footnote, inside)) => Some((footnote, inside)),
+        _ => None,
+    }
+}
+
 fn begins_code(rest: LineRest<'_>) -> bool {
-    matches!(what_opens(rest), Opening::IndentedCode)
+    matches!(what_opens(rest, Options::empty()), Opening::IndentedCode)
 }
 
 #[test]
@@ -170,47 +179,47 @@ fn an_item_keeps_blank_lines_but_behind_a_bare_first_one(rt: HostRuntime) -> Res
 #[test]
 fn leaf_blocks(rt: HostRuntime) -> Result<(), Fail> {
     assert_eq!(rt;
-        matches!(what_opens(LineRest::new(b" \t", 0)), Opening::Blank),
+        matches!(what_opens(LineRest::new(b" \t", 0), Options::empty()), Opening::Blank),
         true
     );
     assert_eq!(rt;
         matches!(
-            what_opens(LineRest::new(b"- - -", 0)),
+            what_opens(LineRest::new(b"- - -", 0), Options::empty()),
             Opening::ThematicBreak
         ),
         true
     );
     assert_eq!(rt;
         matches!(
-            what_opens(LineRest::new(b"## a", 0)),
+            what_opens(LineRest::new(b"## a", 0), Options::empty()),
             Opening::AtxHeading(HeadingLevel::H2)
         ),
         true
     );
     assert_eq!(rt;
-        matches!(what_opens(LineRest::new(b"#a", 0)), Opening::Plain),
+        matches!(what_opens(LineRest::new(b"#a", 0), Options::empty()), Opening::Plain),
         true
     );
     assert_eq!(rt;
         matches!(
-            what_opens(LineRest::new(b" <div", 0)),
+            what_opens(LineRest::new(b" <div", 0), Options::empty()),
             Opening::Html(HtmlKind::Block)
         ),
         true
     );
     assert_eq!(rt;
         matches!(
-            what_opens(LineRest::new(b"<a>", 0)),
+            what_opens(LineRest::new(b"<a>", 0), Options::empty()),
             Opening::Html(HtmlKind::Tag)
         ),
         true
     );
     assert_eq!(rt;
-        matches!(what_opens(LineRest::new(b"[a]: b", 0)), Opening::Bracket),
+        matches!(what_opens(LineRest::new(b"[a]: b", 0), Options::empty()), Opening::Bracket),
         true
     );
     assert_eq!(rt;
-        matches!(what_opens(LineRest::new(b"``` a`", 0)), Opening::Plain),
+        matches!(what_opens(LineRest::new(b"``` a`", 0), Options::empty()), Opening::Plain),
         true
     );
     Ok(())
@@ -218,7 +227,7 @@ fn leaf_blocks(rt: HostRuntime) -> Result<(), Fail> {
 
 #[test]
 fn a_fence_with_an_info_string(rt: HostRuntime) -> Result<(), Fail> {
-    let places = match what_opens(LineRest::new(b"  ~~~~ aa  ", 0)) {
+    let places = match what_opens(LineRest::new(b"  ~~~~ aa  ", 0), Options::empty()) {
         Opening::FencedCode { indent, fence } => {
             Some((
                 indent,
@@ -238,21 +247,21 @@ fn a_fence_with_an_info_string(rt: HostRuntime) -> Result<(), Fail> {
 fn what_interrupts_a_paragraph(rt: HostRuntime) -> Result<(), Fail> {
     // CommonMark 0.31.2, examples 187, 285, 304 and 305
     assert_eq!(rt;
-        interrupts(LineRest::new(b"14.  The number", 0), true),
+        interrupts(LineRest::new(b"14.  The number", 0), true, Options::empty()),
         false
     );
     assert_eq!(rt;
-        interrupts(LineRest::new(b"14.  The number", 0), false),
+        interrupts(LineRest::new(b"14.  The number", 0), false, Options::empty()),
         true
     );
-    assert_eq!(rt; interrupts(LineRest::new(b"1.  The number", 0), true), true);
-    assert_eq!(rt; interrupts(LineRest::new(b"*", 0), true), false);
-    assert_eq!(rt; interrupts(LineRest::new(b"<a>", 0), true), false);
-    assert_eq!(rt; interrupts(LineRest::new(b"<div>", 0), true), true);
-    assert_eq!(rt; interrupts(LineRest::new(b"> a", 0), true), true);
-    assert_eq!(rt; interrupts(LineRest::new(b"    > a", 0), true), false);
-    assert_eq!(rt; interrupts(LineRest::new(b"", 0), true), true);
-    assert_eq!(rt; interrupts(LineRest::new(b"a", 0), true), false);
+    assert_eq!(rt; interrupts(LineRest::new(b"1.  The number", 0), true, Options::empty()), true);
+    assert_eq!(rt; interrupts(LineRest::new(b"*", 0), true, Options::empty()), false);
+    assert_eq!(rt; interrupts(LineRest::new(b"<a>", 0), true, Options::empty()), false);
+    assert_eq!(rt; interrupts(LineRest::new(b"<div>", 0), true, Options::empty()), true);
+    assert_eq!(rt; interrupts(LineRest::new(b"> a", 0), true, Options::empty()), true);
+    assert_eq!(rt; interrupts(LineRest::new(b"    > a", 0), true, Options::empty()), false);
+    assert_eq!(rt; interrupts(LineRest::new(b"", 0), true, Options::empty()), true);
+    assert_eq!(rt; interrupts(LineRest::new(b"a", 0), true, Options::empty()), false);
     Ok(())
 }
 
@@ -311,5 +320,23 @@ fn further_lines_of_html(rt: HostRuntime) -> Result<(), Fail> {
         ends_at_once(HtmlKind::Block, LineRest::new(b"<div>", 0)),
         false
     );
+    Ok(())
+}
+
+#[test]
+fn a_footnote_definition_takes_the_blanks_behind_its_marker(rt: HostRuntime) -> Result<(), Fail> {
+    let line = LineRest::new(b" [^a b]: \tc", 0);
+    assert_eq!(rt; footnote(line, Options::empty()).is_some(), false);
+    let found = footnote(line, Options::ENABLE_FOOTNOTES);
+    let start = FootnoteStart {
+        label_size: 3,
+        old: false,
+    };
+    assert_eq!(rt; found.map(|it| it.0), Some(start));
+    assert_eq!(rt; found.map(|it| it.1.begin()), Some(10));
+    let old = footnote(line, Options::ENABLE_OLD_FOOTNOTES);
+    assert_eq!(rt; old.map(|it| it.0.old), Some(true));
+    assert_eq!(rt; interrupts(line, true, Options::ENABLE_FOOTNOTES), true);
+    assert_eq!(rt; interrupts(line, true, Options::ENABLE_OLD_FOOTNOTES), false);
     Ok(())
 }

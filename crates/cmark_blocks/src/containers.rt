@@ -110,7 +110,7 @@ impl<'a, E: EntityLookup> Pass<'a, E> {
     }
 
     /// Goes into a container that begins.
-    fn enter(&mut self, container: Container) -> Result<(), AllocError>
+    pub(crate) fn enter(&mut self, container: Container) -> Result<(), AllocError>
         requires { IsGood self.old }
         ensures good { IsGood self.new }
         ensures runs { OnOk result ((k : grammar.Container) → Shows container k → Steps E.replacement self.old self.new (inside_of k)) }

@@ -1,5 +1,6 @@
 use Rattle.std.proofs.Common.{true, option_map, sym, ap, subst, ◌∙◌}
 use Rattle.cmark_text.specs.Shown.{level_number}
+use Rattle.cmark_grammar.specs.Openings.{interrupts}
 use Rattle.cmark_lines.specs.Rests.{row_of}
 use Rattle.cmark_lines.proofs.PlainRows.{letter-interrupts-not, letter-underlines-not}
 use Rattle.cmark_lines.proofs.RestSteps.{whole}
@@ -33,7 +34,7 @@ returns-in_ok-begin_anew-clause-runs g c text options lookup m runs =
     let row = row_of c.args.rest in
     subst (λ p. Runs replacement text options lookup p c.begin_anew.new.self)
     (sym (feeds-interrupted text options lookup row (lines_at text row.past) m c.args.from (row_of c.args.last) (ap (option_map level_number) (sym c.in_default.is) ∙ c.underlines.ensures) (whole c.args.rest)
-    (sym c.if-interrupts.true ∙ c.interrupts.ensures options (ahead_in text options lookup m.outer (lines_at text row.past))) (in_paragraph replacement text options lookup m c.args.self.now runs c.args.from c.args.last c.requires.is)))
+    (sym c.if-interrupts.true ∙ c.interrupts.ensures (ahead_in text options lookup m.outer (lines_at text row.past)) ∙ ap (λ o. interrupts o true row (ahead_in text options lookup m.outer (lines_at text row.past))) runs.options_is) (in_paragraph replacement text options lookup m c.args.self.now runs c.args.from c.args.last c.requires.is)))
     (c.in_ok-begin_anew.ensures.runs text options lookup m runs)
 
 pub returns-in_ok-add_to_paragraph-2-clause-runs : goal.returns-in_ok-add_to_paragraph-2-clause-runs
@@ -42,5 +43,5 @@ returns-in_ok-add_to_paragraph-2-clause-runs g c text options lookup m runs =
     let row = row_of c.args.rest in
     subst (λ p. Runs replacement text options lookup p c.add_to_paragraph-else-interrupts.new.self)
     (sym (feeds-text text options lookup row (lines_at text row.past) m c.args.from (row_of c.args.last) (ap (option_map level_number) (sym c.in_default.is) ∙ c.underlines.ensures) (whole c.args.rest)
-    (sym c.if-interrupts.false ∙ c.interrupts.ensures options (ahead_in text options lookup m.outer (lines_at text row.past))) (in_paragraph replacement text options lookup m c.args.self.now runs c.args.from c.args.last c.requires.is)))
+    (sym c.if-interrupts.false ∙ c.interrupts.ensures (ahead_in text options lookup m.outer (lines_at text row.past)) ∙ ap (λ o. interrupts o true row (ahead_in text options lookup m.outer (lines_at text row.past))) runs.options_is) (in_paragraph replacement text options lookup m c.args.self.now runs c.args.from c.args.last c.requires.is)))
     (c.in_ok-add_to_paragraph-2.ensures.runs text options lookup m runs)

@@ -1,8 +1,8 @@
-use Rattle.std.proofs.Common.{◌≡◌, Bool, true, false, take, not, refl, sym, ◌∙◌, true≢false}
+use Rattle.std.proofs.Common.{◌≡◌, Bool, true, false, take, not, refl, sym, ap, ◌∙◌, true≢false}
 use Rattle.cmark_lines.specs.Rests.{row_of}
 use Rattle.cmark_block_model.specs.BlockPass.{ahead_in}
 use Rattle.cmark_block_model.specs.OpenBlocks.{takes_lazy}
-use Rattle.cmark_grammar.specs.Openings.{lazily}
+use Rattle.cmark_grammar.specs.Openings.{interrupts, lazily}
 use Rattle.cmark_blocks.specs.Ahead.{lines_at}
 use Rattle.cmark_blocks.proofs.FeedSteps.{and-false, lazily-unless, lazily-not, is-not}
 use Rattle.cmark_blocks.proofs.state.Pass.is_lazy.Goals as goal
@@ -16,7 +16,7 @@ returns-then-not-interrupts g c text options lookup m k runs =
     elim c.if-takes_lazy.branch [
       | then-takes_lazy w ↦
           lazily-unless options k row ahead (takes_lazy m.leaf) c.table_interrupts.result (sym takes ∙ w.if-takes_lazy.true)
-          (sym (is-not w.interrupts.result true (sym w.value-is ∙ c.if-not-interrupts.true)) ∙ w.interrupts.ensures options ahead) (c.table_interrupts.ensures text options lookup m runs)
+          (sym (is-not w.interrupts.result true (sym w.value-is ∙ c.if-not-interrupts.true)) ∙ w.interrupts.ensures ahead ∙ ap (λ o. interrupts o false row ahead) runs.options_is) (c.table_interrupts.ensures text options lookup m runs)
       | else-takes_lazy w ↦ absurd (true≢false (sym c.if-not-interrupts.true ∙ w.value-is ∙ w.if-takes_lazy.false))
     ]
 
@@ -28,6 +28,6 @@ returns-else-not-interrupts g c text options lookup m k runs =
     elim c.if-takes_lazy.branch [
       | then-takes_lazy w ↦
           c.if-not-interrupts.false
-          ∙ lazily-not options k row ahead (takes_lazy m.leaf) (sym (is-not w.interrupts.result false (sym w.value-is ∙ c.if-not-interrupts.false)) ∙ w.interrupts.ensures options ahead)
+          ∙ lazily-not options k row ahead (takes_lazy m.leaf) (sym (is-not w.interrupts.result false (sym w.value-is ∙ c.if-not-interrupts.false)) ∙ w.interrupts.ensures ahead ∙ ap (λ o. interrupts o false row ahead) runs.options_is)
       | else-takes_lazy w ↦ w.value-is ∙ takes ∙ and-false (lazily options k row ahead) (takes_lazy m.leaf) (sym takes ∙ w.if-takes_lazy.false)
     ]

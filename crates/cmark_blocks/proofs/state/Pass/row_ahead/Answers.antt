@@ -1,4 +1,5 @@
 use Rattle.std.proofs.Common.{true, false, sym, ap, ◌∙◌, true≢false}
+use Rattle.cmark_grammar.specs.Openings.{interrupts}
 use Rattle.cmark_lines.specs.Rests.{row_of}
 use Rattle.cmark_block_model.specs.BlockPass.{ahead_in}
 use Rattle.cmark_blocks.specs.Ahead.{lines_at}
@@ -15,7 +16,7 @@ returns-then-count_missing-left-clause-next g c text options lookup m runs =
     let ahead = ahead_in text options lookup m.outer (lines_at text row.past) in
     ap (rows_taken options columns left) (c.in_ok-row.ensures.next text options lookup m runs)
     ∙ elim c.if-interrupts.branch [
-      | then-interrupts w ↦ rows-interrupted options columns left row ahead (sym (c.interrupts.ensures options ahead) ∙ w.if-interrupts.true)
+      | then-interrupts w ↦ rows-interrupted options columns left row ahead (sym (c.interrupts.ensures ahead ∙ ap (λ o. interrupts o false row ahead) runs.options_is) ∙ w.if-interrupts.true)
       | else-interrupts w ↦ rows-filled options columns left row ahead (less-told left w.count_missing.result _ (sym w.value-is ∙ c.if-count_missing-left.true) w.count_missing.ensures)
     ]
 
@@ -29,6 +30,6 @@ returns-else-count_missing-left-clause-next g c text options lookup m runs =
     ∙ elim c.if-interrupts.branch [
       | then-interrupts w ↦ absurd (true≢false (sym w.if-interrupts.true ∙ sym w.value-is ∙ c.if-count_missing-left.false))
       | else-interrupts w ↦
-          rows-more options columns left row ahead (sym (c.interrupts.ensures options ahead) ∙ w.if-interrupts.false)
+          rows-more options columns left row ahead (sym (c.interrupts.ensures ahead ∙ ap (λ o. interrupts o false row ahead) runs.options_is) ∙ w.if-interrupts.false)
           (fits-told left w.count_missing.result _ (sym w.value-is ∙ c.if-count_missing-left.false) w.count_missing.ensures)
     ]

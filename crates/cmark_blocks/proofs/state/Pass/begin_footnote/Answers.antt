@@ -1,0 +1,33 @@
+use Rattle.std.proofs.Common.{refl, ap, sym, ◌∙◌, subst}
+use Rattle.cmark_grammar.specs.BlockDocument.{FootnoteDefinition}
+use Rattle.cmark_grammar.specs.Containers.{Footnote}
+use Rattle.cmark_grammar.specs.Footnotes.{marker_columns}
+use Rattle.cmark_grammar.specs.Labels.{normal_form}
+use Rattle.cmark_grammar.specs.Rows.{start_of, words_of}
+use Rattle.cmark_items.specs.Tables.{tables}
+use Rattle.cmark_lines.specs.Rests.{row_of}
+use Rattle.cmark_lines.specs.Starts.{shown_footnote}
+use Rattle.cmark_scan_parts.specs.Footnotes.{marked}
+use Rattle.cmark_block_model.specs.BlockPass.{block_begun}
+use Rattle.cmark_block_model.specs.Drawing.{Drawing, opened}
+use Rattle.cmark_builder.specs.Drawn.{Draws}
+use Rattle.cmark_blocks.specs.Footnotes.{KeepsText, Notes}
+use Rattle.cmark_blocks.proofs.FootnoteSteps.{draws-footnote}
+use Rattle.cmark_blocks.proofs.RunSteps.{runs-builder}
+use Rattle.cmark_blocks.proofs.state.Pass.begin_footnote.Goals as goal
+
+pub returns-clause-runs : goal.returns-clause-runs
+returns-clause-runs g c text options lookup m runs =
+    let replacement = g.E.EntityLookup.replacement in
+    let before = c.begin_block.new.self in
+    let d = (block_begun m).drawing in
+    let row = row_of c.args.rest in
+    let label = (marked (words_of row) c.args.footnote.label_size).bytes in
+    let kind = FootnoteDefinition (normal_form label) in
+    let r = c.begin_block.ensures.runs text options lookup m runs in
+    let keeps = subst (λ l. KeepsText (normal_form l) (tables before.builder.allocations) (tables c.keep_label.new.allocations)) c.label_in-label.ensures c.in_ok-index.ensures.kept in
+    let draws = subst (λ start. Draws text c.open.new.self (opened start kind d)) c.words_begin.ensures.place
+    (draws-footnote text before.builder c.open.new.self c.keep_label.new.allocations c.in_ok-index.index c.words_begin.result (normal_form label) d c.in_ok-index.ensures.index keeps c.in_ok-open.ensures.ok c.in_ok-open.ensures.tables r.drawing) in
+    c.in_ok-enter.ensures.runs (shown_footnote row c.args.footnote.label_size c.args.footnote.old) refl text options lookup _
+    (runs-builder replacement text options lookup (block_begun m) before c.open.new.self (opened (start_of row) kind d) r draws
+    (ap (λ a. (tables a).references) c.in_ok-open.ensures.tables ∙ c.in_ok-index.ensures.references))
