@@ -1,0 +1,1 @@
+use Rattle.cmark_blocks.proofs.state.Pass.begin_table.Goals as goal
