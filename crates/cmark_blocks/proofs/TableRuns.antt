@@ -1,12 +1,15 @@
 -- The pass while the rows of a table are drawn.
-use Rattle.std.proofs.Common.{◌≡◌, ℕ, suc, ◌+◌, ◌-◌, List, [], ◌∷◌, length, refl, sym, ap, ◌∙◌, subst, arith}
+use Rattle.std.proofs.Common.{◌≡◌, ℕ, suc, ◌+◌, ◌-◌, ◌≤◌, Bool, true, false, ◌&&◌, not, nat_le, List, [], ◌∷◌, take, length, refl, sym, ap, ◌∙◌, subst, arith}
+use Rattle.std.proofs.lemmas.List.{length-take-le}
 use Rattle.cmark_grammar.specs.Answers.{Lookup}
 use Rattle.cmark_grammar.specs.BlockDocument.{BlockDocument, TableRow, Node, Nil, node}
+use Rattle.cmark_grammar.specs.Openings.{interrupts, count_rows}
 use Rattle.cmark_grammar.specs.Options.{Options}
 use Rattle.cmark_grammar.specs.Rows.{Row, start_of, past_of}
-use Rattle.cmark_grammar.specs.TableRows.{count_missing, most_filled}
+use Rattle.cmark_grammar.specs.TableRows.{count_missing, most_filled, one_more_if}
 use Rattle.cmark_grammar.specs.TableTokens.{row_cells, row_tokens}
 use Rattle.cmark_items.specs.Tables.{tables}
+use Rattle.cmark_lines.specs.declared.line_rest.LineRest.{LineRest}
 use Rattle.cmark_block_model.specs.BlockPass.{ahead_in}
 use Rattle.cmark_block_model.specs.Drawing.{Drawing, drawn}
 use Rattle.cmark_block_model.specs.OpenBlocks as model
@@ -16,7 +19,8 @@ use Rattle.cmark_leaves.proofs.DrawSteps.{drawn-Nil}
 use Rattle.cmark_leaves.proofs.TableSteps.{drawn-node}
 use Rattle.cmark_blocks.specs.declared.state.Pass.{Pass}
 use Rattle.cmark_blocks.specs.Ahead.{lines_at}
-use Rattle.cmark_blocks.specs.Runs.{Runs}
+use Rattle.cmark_blocks.specs.declared.state.OpenLeaf.TheVariants as leaf
+use Rattle.cmark_blocks.specs.Runs.{Runs, ShowsLeaf}
 use Rattle.cmark_blocks.specs.TablesAhead.{RowsLeft, rows_taken}
 use Rattle.cmark_blocks.proofs.RunSteps.{runs-builder}
 
@@ -63,3 +67,25 @@ module _ {E : Type 0} (replacement : E → Lookup) (text : List ℕ) (options : 
         omega (arith, counts, left_none)),
     place ∙ sym (before.ends ∙ ap (past_of last) none),
   )
+
+-- as many of the lines ahead are its rows as are counted
+rows-within : (options : Options) (columns left : ℕ) (ahead : List Row) → count_rows options columns left ahead ≤ length ahead
+rows-within options columns left [] = omega arith
+rows-within options columns left (r ∷ ahead) =
+    go (not (interrupts options false r ahead) && nat_le (count_missing columns r) left) (rows-within options columns (left - count_missing columns r) ahead)
+  where
+    go : (z : Bool) → count_rows options columns (left - count_missing columns r) ahead ≤ length ahead → one_more_if z (count_rows options columns (left - count_missing columns r) ahead) ≤ suc (length ahead)
+    go true le = omega (arith, le)
+    go false le = omega arith
+
+rows-few : (options : Options) (columns left count : ℕ) (ahead : List Row) → count ≡ length (rows_taken options columns left ahead) → count ≡ count_rows options columns left ahead
+rows-few options columns left count ahead is = is ∙ all (count_rows options columns left ahead) ahead (rows-within options columns left ahead)
+  where
+    all : (n : ℕ) (rs : List Row) → n ≤ length rs → length (take n rs) ≡ n
+    all n rs le = length-take-le n rs le
+
+-- the lines that a table takes behind its head: its delimiter row and its rows
+pub in_table : (text : List ℕ) (options : Options) (columns count : ℕ) (ahead : List Row) (blanks : List LineRest) → count ≡ length (rows_taken options columns most_filled ahead) → blanks ≡ [] →
+    ShowsLeaf text (leaf.Table (count + 1)) blanks (model.InTable (suc (count_rows options columns most_filled ahead)))
+in_table text options columns count ahead blanks is none =
+    (ap model.InTable (let same = rows-few options columns most_filled count ahead is in let more : suc (count_rows options columns most_filled ahead) ≡ count + 1 = omega (arith, same) in more), none)
