@@ -22,4 +22,5 @@ pub mod PassSteps
 pub mod PrefixSteps
 pub mod ReferenceSteps
 pub mod RunSteps
+pub mod TableRuns
 pub mod TableSteps

@@ -1,17 +1,20 @@
 -- Tables in the lines ahead: their heads and their rows.
-use Rattle.std.proofs.Common.{◌≡◌, ℕ, zero, suc, ◌+◌, ◌-◌, ◌<◌, ◌≤◌, Bool, true, false, ◌==◌, ◌&&◌, not, nat_le, ltb, List, [], ◌∷◌, take, length, Option, Some, None, refl, sym, ap, ◌∙◌, subst, arith, true≢false}
+use Rattle.std.proofs.Common.{◌≡◌, ℕ, zero, suc, ◌+◌, ◌-◌, ◌<◌, ◌≤◌, Bool, true, false, ◌==◌, ◌&&◌, not, nat_le, ltb, List, [], ◌∷◌, take, drop, length, Option, Some, None, refl, sym, ap, ◌∙◌, subst, arith, true≢false}
 use Rattle.std.specs.Prelude.{if◌then◌else◌, MatchOption, is_some}
 use Rattle.std.proofs.lemmas.Bool.{eqb-true, le-leb, ltb-true, ltb-false}
 use Rattle.cmark_grammar.specs.Alignment.{Alignment}
 use Rattle.cmark_grammar.specs.Answers.{Lookup}
-use Rattle.cmark_grammar.specs.Openings.{interrupts, count_rows}
+use Rattle.cmark_grammar.specs.Containers.{Container}
+use Rattle.cmark_grammar.specs.Openings.{Table, interrupts, count_rows, table_if}
 use Rattle.cmark_grammar.specs.Options.{Options}
 use Rattle.cmark_grammar.specs.Rows.{Row, indent_of, words_of}
-use Rattle.cmark_grammar.specs.TableRows.{holds_pipe, count_cells, count_missing, one_more_if, with_columns, delimited_ahead, table_head, is_some_head, begins_with_pipe, table_interrupts}
+use Rattle.cmark_grammar.specs.TableRows.{holds_pipe, count_cells, count_missing, most_filled, one_more_if, with_columns, delimited_ahead, table_head, is_some_head, begins_with_pipe, table_interrupts}
 use Rattle.cmark_grammar.specs.Tables.{delimiter_row}
 use Rattle.cmark_items.specs.ItemNodes.{columns_of}
 use Rattle.cmark_lines.specs.Rests.{row_of}
 use Rattle.cmark_lines.specs.declared.line_rest.LineRest.{LineRest}
+use Rattle.cmark_block_model.specs.BlockPass.{leaf_begun, begin_as, paragraph_begun}
+use Rattle.cmark_block_model.specs.OpenBlocks as model
 use Rattle.cmark_blocks.specs.TablesAhead.{IsHead, rows_taken}
 
 -- how many cells a line has that may be a head, if it may be one
@@ -144,3 +147,17 @@ less-told left missing cells e same = let lt = ltb-true left missing e in omega 
 
 pub fits-told : (left missing cells : ℕ) → ltb left missing ≡ false → missing ≡ cells → cells ≤ left
 fits-told left missing cells e same = let le = ltb-false left missing e in omega (arith, le, same)
+
+-- what a line begins that begins no other leaf
+module _ (text : List ℕ) (options : Options) (lookup : Lookup) (m : model.Pass) (inside : Container → model.Pass) (r : Row) (ahead : List Row) (bare : Bool) where
+  pub begins-table : (columns : ℕ) (delimiter : Row) (behind : List Row) → IsHead options r ahead columns delimiter behind →
+      leaf_begun text options lookup (Table (columns_of (delimiter_row (words_of delimiter)))) (suc (count_rows options columns most_filled behind)) r (delimiter ∷ behind) m
+      ≡ begin_as text options lookup (table_if options (table_head options r ahead) ahead) inside r ahead bare m
+  begins-table columns delimiter behind head =
+      let alignments = columns_of (delimiter_row (words_of delimiter)) in
+      sym (ap (λ o. begin_as text options lookup (table_if options o ahead) inside r ahead bare m) head.is
+      ∙ ap (λ rs. leaf_begun text options lookup (Table alignments) (suc (count_rows options (length alignments) most_filled (drop 1 rs))) r rs m) head.next
+      ∙ ap (λ n. leaf_begun text options lookup (Table alignments) (suc (count_rows options n most_filled behind)) r (delimiter ∷ behind) m) head.many)
+
+  pub begins-paragraph : table_head options r ahead ≡ None → paragraph_begun text options lookup r m ≡ begin_as text options lookup (table_if options (table_head options r ahead) ahead) inside r ahead bare m
+  begins-paragraph none = sym (ap (λ o. begin_as text options lookup (table_if options o ahead) inside r ahead bare m) none)

@@ -1,0 +1,26 @@
+use Rattle.std.proofs.Common.{arith}
+use Rattle.cmark_lines.specs.Rests.{row_of}
+use Rattle.cmark_blocks.proofs.TableRuns.{one-row-more, rows-drawn}
+use Rattle.cmark_blocks.proofs.state.Pass.draw_rows.Goals as goal
+
+pub loop-row-preserved : goal.loop-row-preserved
+loop-row-preserved g c =
+    let before = c.loop-row.invariant in
+    record {
+      good = record { placed = c.in_ok-draw_row.ensures.placed; begins = before.good.begins };
+      within = c.in-Some.ensures.placed;
+      bare = before.bare;
+      text = before.text;
+      leaf = before.leaf;
+      few = omega (arith, c.in-Some.ensures.further, before.few);
+      rows = λ text options lookup m runs.
+          let so_far = before.rows text options lookup m runs in
+          one-row-more g.E.EntityLookup.replacement text options lookup m c.args.columns (row_of c.args.delimiter) c.loop-row.left c.loop-row.count c.count_missing-left.result (row_of c.loop-row.last) (row_of c.in-Some.row) c.loop-row.self c.draw_row.new.builder so_far
+          (c.in-Some.ensures.next text options lookup _ so_far.runs) c.count_missing-left.ensures (λ d draws. c.in_ok-draw_row.ensures.drawn text d draws) c.in_ok-draw_row.ensures.references;
+    }
+
+pub returns-clause-runs : goal.returns-clause-runs
+returns-clause-runs g c text options lookup m runs =
+    let so_far = c.loop-row.invariant.rows text options lookup m runs in
+    rows-drawn g.E.EntityLookup.replacement text options lookup m c.args.columns (row_of c.args.delimiter) c.loop-row.left c.loop-row.count c.past.result (row_of c.loop-row.last) c.loop-row.self so_far
+    (c.in_default.ensures.next text options lookup _ so_far.runs) c.past.ensures.place
