@@ -39,6 +39,7 @@ impl<'a, E: EntityLookup> Pass<'a, E> {
         ensures good { IsGood self.new }
         ensures runs { Steps E.replacement self.old self.new (λ p. record p { drawing = list_closed p.inner.list p.drawing }) }
         ensures outer { self.new.outer ≡ self.old.outer }
+        ensures tables { self.new.builder.allocations ≡ self.old.builder.allocations }
         ensures text { self.new.text ≡ self.old.text }
         ensures blank_lines { self.new.blank_lines ≡ self.old.blank_lines }
         ensures leaf { self.new.leaf ≡ self.old.leaf }
@@ -55,6 +56,7 @@ impl<'a, E: EntityLookup> Pass<'a, E> {
         requires { IsGood self.old }
         ensures good { IsGood self.new }
         ensures runs { Steps E.replacement self.old self.new block_begun }
+        ensures tables { self.new.builder.allocations ≡ self.old.builder.allocations }
         ensures text { self.new.text ≡ self.old.text }
         ensures blank_lines { self.new.blank_lines ≡ self.old.blank_lines }
         ensures leaf { self.new.leaf ≡ self.old.leaf }
@@ -114,6 +116,7 @@ impl<'a, E: EntityLookup> Pass<'a, E> {
         requires { IsGood self.old }
         ensures good { IsGood self.new }
         ensures runs { OnOk result ((k : grammar.Container) → Shows container k → Steps E.replacement self.old self.new (inside_of k)) }
+        ensures tables { self.new.builder.allocations ≡ self.old.builder.allocations }
         ensures text { self.new.text ≡ self.old.text }
         ensures leaf { self.new.leaf ≡ self.old.leaf }
         ensures bare { self.new.bare ≡ self.old.bare }

@@ -148,10 +148,11 @@ impl<'a> LineStart<'a> {
         ensures whole { self.new.pending ≡ 0 }
         ensures taken { self.new.taken ≡ self.old.taken + 1 }
     {
+        let behind = self.taken + 1;
         let is_tab = self.bytes[self.taken] == b'\t';
-        self.taken += 1;
+        self.taken = behind;
         if is_tab {
-            self.behind_tab = self.taken;
+            self.behind_tab = behind;
         }
     }
 

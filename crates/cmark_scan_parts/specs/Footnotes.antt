@@ -10,6 +10,6 @@ labelled bytes size = record { bytes = take size bytes; behind = drop (suc (suc 
 abbrev pub marked : List ℕ → (size : ℕ) → Found
 marked words size = labelled (drop 2 words) size
 
--- behind the marker's label, which has so many bytes, stands the bracket that closes it, and one more byte
+-- in front of the marker's label, which has so many bytes, stands a caret, and behind it the bracket that closes it, and one more byte
 abbrev pub IsClosed : List ℕ → (size : ℕ) → Type 0
-IsClosed words size = (size + 4 ≤ length words) × (slice_index words (size + 2) ≡ 93)
+IsClosed words size = (size + 4 ≤ length words) × (slice_index words (size + 2) ≡ 93) × (slice_index words 1 ≡ 94)

@@ -16,6 +16,16 @@ use Rattle.cmark_blocks.proofs.FootnoteSteps.{draws-footnote}
 use Rattle.cmark_blocks.proofs.RunSteps.{runs-builder}
 use Rattle.cmark_blocks.proofs.state.Pass.begin_footnote.Goals as goal
 
+pub returns-clause-noted : goal.returns-clause-noted
+returns-clause-noted g c =
+    let row = row_of c.args.rest in
+    let label = (marked (words_of row) c.args.footnote.label_size).bytes in
+    let before = c.args.self.now.builder.allocations in
+    let kept = c.keep_label.new.allocations in
+    subst (λ a. Notes label (tables before).footnotes (tables a).footnotes) (sym (c.enter.ensures.tables ∙ c.in_ok-open.ensures.tables))
+    (subst (λ a. Notes label (tables a).footnotes (tables kept).footnotes) c.begin_block.ensures.tables
+    (subst (λ l. Notes l (tables c.begin_block.new.self.builder.allocations).footnotes (tables kept).footnotes) c.label_in-label.ensures c.in_ok-index.ensures.noted))
+
 pub returns-clause-runs : goal.returns-clause-runs
 returns-clause-runs g c text options lookup m runs =
     let replacement = g.E.EntityLookup.replacement in
