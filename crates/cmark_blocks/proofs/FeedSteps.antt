@@ -209,3 +209,11 @@ is-not true true e = absurd (true≢false (sym e))
 is-not true false e = refl
 is-not false true e = refl
 is-not false false e = absurd (true≢false e)
+
+pub or-first : (a b : Bool) → a ≡ true → true ≡ (a || b)
+or-first true b e = refl
+or-first false b e = absurd (true≢false (sym e))
+
+pub or-second : (a b z : Bool) → a ≡ false → z ≡ b → z ≡ (a || b)
+or-second true b z e f = absurd (true≢false e)
+or-second false b z e f = f

@@ -1,13 +1,12 @@
 -- The node of a heading, with the words between the braces of its attributes in the table of texts.
-use Rattle.std.proofs.Common.{◌≡◌, ℕ, zero, List, [], ◌∷◌, ◌++◌, length, Some, None, option_map, refl, sym, ap, ◌∙◌, subst, arith}
+use Rattle.std.proofs.Common.{◌≡◌, ℕ, List, [], ◌∷◌, ◌++◌, length, Some, option_map, refl, ap, ◌∙◌, arith}
 use Rattle.cmark_text.specs.declared.text.CowStr.{CowStr}
 use Rattle.cmark_text.specs.declared.kind.HeadingLevel.{HeadingLevel}
 use Rattle.cmark_text.specs.Shown.{text_bytes, level_number}
-use Rattle.cmark_items.specs.declared.allocations.Allocations.{Allocations}
 use Rattle.cmark_items.specs.declared.allocations.CowIndex.{CowIndex}
 use Rattle.cmark_items.specs.declared.item.ItemBody.TheVariants as body
 use Rattle.cmark_items.specs.ItemNodes.{shape, kind_of, text_at}
-use Rattle.cmark_items.specs.Tables.{Tables, tables, with_text}
+use Rattle.cmark_items.specs.Tables.{Tables, with_text}
 use Rattle.cmark_grammar.specs.Attributes.{attributes_of}
 use Rattle.cmark_grammar.specs.BlockDocument.{Heading}
 use Rattle.cmark_leaves.proofs.WordSteps.{last-text}

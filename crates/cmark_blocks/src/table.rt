@@ -87,12 +87,7 @@ impl<'a, E: EntityLookup> Pass<'a, E> {
 
     /// The line behind this one, inside all open containers, if it is one more row of a table with so many columns, in which so many cells
     /// may still be filled in.
-    fn row_ahead(
-        &self,
-        columns: usize,
-        left: usize,
-        last: LineRest<'a>,
-    ) -> Option<LineRest<'a>>
+    fn row_ahead(&self, columns: usize, left: usize, last: LineRest<'a>) -> Option<LineRest<'a>>
         requires bare { self.now.bare ≡ false }
         requires within { IsIn self.now.text.now last }
         ensures next { GoesOnWithRow E.replacement self.now columns left last.entry result }

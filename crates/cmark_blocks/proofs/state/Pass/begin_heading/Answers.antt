@@ -1,4 +1,4 @@
-use Rattle.std.proofs.Common.{◌≡◌, Some, option_map, refl, sym, ap, ◌∙◌, subst}
+use Rattle.std.proofs.Common.{◌≡◌, Some, option_map, sym, ap, ◌∙◌, subst}
 use Rattle.cmark_grammar.specs.Attributes.{attributes_of}
 use Rattle.cmark_grammar.specs.BlockDocument.{Heading, Node, Nil, node}
 use Rattle.cmark_grammar.specs.Columns.{bytes_of}

@@ -1,4 +1,4 @@
-use Rattle.std.proofs.Common.{◌+◌, suc, ◌∷◌, Some, option_map, ℕ, refl, sym, ap, ◌∙◌, subst}
+use Rattle.std.proofs.Common.{◌+◌, suc, ◌∷◌, Some, option_map, ℕ, sym, ap, ◌∙◌, subst}
 use Rattle.cmark_grammar.specs.BlockDocument.{Table, TableHead, Nil, Node, node}
 use Rattle.cmark_grammar.specs.Openings.{count_rows}
 use Rattle.cmark_grammar.specs.Rows.{start_of, past_of, words_of}

@@ -1,4 +1,4 @@
-use Rattle.std.proofs.Common.{true, [], take, sym, ap, ◌∙◌}
+use Rattle.std.proofs.Common.{[], take, sym, ap, ◌∙◌}
 use Rattle.cmark_grammar.specs.Options.{Options}
 use Rattle.cmark_grammar.specs.Rows.{words_of}
 use Rattle.cmark_grammar.specs.TableRows.{holds_pipe, count_cells}
