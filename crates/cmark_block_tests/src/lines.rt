@@ -1,10 +1,10 @@
 //! Lines of the standard's examples, each call on its happy path.
 
-use cmark_lines::{
-    Container, ContainerStart, FootnoteStart, Further, HtmlKind, ItemStart, LineRest, Opening, Verbatim,
-    ends_at_once, interrupts, underlines, what_opens,
-};
 use bitflags::Flags;
+use cmark_lines::{
+    Container, ContainerStart, FootnoteStart, Further, HtmlKind, ItemStart, LineRest, Opening,
+    Verbatim, ends_at_once, interrupts, underlines, what_opens,
+};
 use cmark_text::{BlockQuoteKind, HeadingLevel, Options};
 use std::test::Fail;
 
@@ -179,7 +179,10 @@ fn an_item_keeps_blank_lines_but_behind_a_bare_first_one(rt: HostRuntime) -> Res
 #[test]
 fn leaf_blocks(rt: HostRuntime) -> Result<(), Fail> {
     assert_eq!(rt;
-        matches!(what_opens(LineRest::new(b" \t", 0), Options::empty()), Opening::Blank),
+        matches!(
+            what_opens(LineRest::new(b" \t", 0), Options::empty()),
+            Opening::Blank
+        ),
         true
     );
     assert_eq!(rt;
@@ -197,7 +200,10 @@ fn leaf_blocks(rt: HostRuntime) -> Result<(), Fail> {
         true
     );
     assert_eq!(rt;
-        matches!(what_opens(LineRest::new(b"#a", 0), Options::empty()), Opening::Plain),
+        matches!(
+            what_opens(LineRest::new(b"#a", 0), Options::empty()),
+            Opening::Plain
+        ),
         true
     );
     assert_eq!(rt;
@@ -215,11 +221,17 @@ fn leaf_blocks(rt: HostRuntime) -> Result<(), Fail> {
         true
     );
     assert_eq!(rt;
-        matches!(what_opens(LineRest::new(b"[a]: b", 0), Options::empty()), Opening::Bracket),
+        matches!(
+            what_opens(LineRest::new(b"[a]: b", 0), Options::empty()),
+            Opening::Bracket
+        ),
         true
     );
     assert_eq!(rt;
-        matches!(what_opens(LineRest::new(b"``` a`", 0), Options::empty()), Opening::Plain),
+        matches!(
+            what_opens(LineRest::new(b"``` a`", 0), Options::empty()),
+            Opening::Plain
+        ),
         true
     );
     Ok(())
@@ -251,17 +263,45 @@ fn what_interrupts_a_paragraph(rt: HostRuntime) -> Result<(), Fail> {
         false
     );
     assert_eq!(rt;
-        interrupts(LineRest::new(b"14.  The number", 0), false, Options::empty()),
+        interrupts(
+            LineRest::new(b"14.  The number", 0),
+            false,
+            Options::empty()
+        ),
         true
     );
-    assert_eq!(rt; interrupts(LineRest::new(b"1.  The number", 0), true, Options::empty()), true);
-    assert_eq!(rt; interrupts(LineRest::new(b"*", 0), true, Options::empty()), false);
-    assert_eq!(rt; interrupts(LineRest::new(b"<a>", 0), true, Options::empty()), false);
-    assert_eq!(rt; interrupts(LineRest::new(b"<div>", 0), true, Options::empty()), true);
-    assert_eq!(rt; interrupts(LineRest::new(b"> a", 0), true, Options::empty()), true);
-    assert_eq!(rt; interrupts(LineRest::new(b"    > a", 0), true, Options::empty()), false);
-    assert_eq!(rt; interrupts(LineRest::new(b"", 0), true, Options::empty()), true);
-    assert_eq!(rt; interrupts(LineRest::new(b"a", 0), true, Options::empty()), false);
+    assert_eq!(rt;
+        interrupts(LineRest::new(b"1.  The number", 0), true, Options::empty()),
+        true
+    );
+    assert_eq!(rt;
+        interrupts(LineRest::new(b"*", 0), true, Options::empty()),
+        false
+    );
+    assert_eq!(rt;
+        interrupts(LineRest::new(b"<a>", 0), true, Options::empty()),
+        false
+    );
+    assert_eq!(rt;
+        interrupts(LineRest::new(b"<div>", 0), true, Options::empty()),
+        true
+    );
+    assert_eq!(rt;
+        interrupts(LineRest::new(b"> a", 0), true, Options::empty()),
+        true
+    );
+    assert_eq!(rt;
+        interrupts(LineRest::new(b"    > a", 0), true, Options::empty()),
+        false
+    );
+    assert_eq!(rt;
+        interrupts(LineRest::new(b"", 0), true, Options::empty()),
+        true
+    );
+    assert_eq!(rt;
+        interrupts(LineRest::new(b"a", 0), true, Options::empty()),
+        false
+    );
     Ok(())
 }
 
@@ -337,6 +377,9 @@ fn a_footnote_definition_takes_the_blanks_behind_its_marker(rt: HostRuntime) -> 
     let old = footnote(line, Options::ENABLE_OLD_FOOTNOTES);
     assert_eq!(rt; old.map(|it| it.0.old), Some(true));
     assert_eq!(rt; interrupts(line, true, Options::ENABLE_FOOTNOTES), true);
-    assert_eq!(rt; interrupts(line, true, Options::ENABLE_OLD_FOOTNOTES), false);
+    assert_eq!(rt;
+        interrupts(line, true, Options::ENABLE_OLD_FOOTNOTES),
+        false
+    );
     Ok(())
 }

@@ -155,7 +155,9 @@ impl<'a, E: EntityLookup> Pass<'a, E> {
         requires few { kept ≤ length self.now.outer.items }
         ensures { IsLazy E.replacement self.now kept rest.entry result }
     {
-        takes_lazy(self.leaf) && !interrupts(rest, false, self.options) && !self.table_interrupts(kept, rest)
+        takes_lazy(self.leaf)
+            && !interrupts(rest, false, self.options)
+            && !self.table_interrupts(kept, rest)
     }
 
     /// What so many containers, the outermost ones, left of a line: the others miss it.
