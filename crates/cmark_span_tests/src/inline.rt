@@ -9,7 +9,7 @@ use cmark_inline::{
     BrokenLink, BrokenLinkCallback, DefaultBrokenLinkCallback, InlineState, OwnedLinkCallback,
     Reader, special_bytes,
 };
-use cmark_items::{LinkDef, RefDefs};
+use cmark_items::{FootnoteDefs, LinkDef, RefDefs};
 use cmark_leaf_text::{LeafLine, LeafText};
 use cmark_text::{BasicEntities, CowStr, Event, LinkLabel, LinkType, Options, Tag, TagEnd};
 use std::alloc::{AllocError, Global};
@@ -95,7 +95,8 @@ fn events<'a, F: BrokenLinkCallback<'a>>(
         special: &special,
     };
     let mut state: InlineState<'a> = InlineState::new(alloc, 0);
-    state.resolve(&leaf, &reader, callback)?;
+    let mut footnotes = FootnoteDefs::new(alloc);
+    state.resolve(&leaf, &reader, &mut footnotes, callback)?;
     for _ in 0..500 {
         let Some(given) = state.next(&leaf)? else {
             break;

@@ -10,7 +10,7 @@ ghost use Rattle.cmark_walk.specs.Walking.{Remains as BlocksRemain, definitions_
 ghost use Rattle.cmark_span_walk.specs.Walking.{GivesZeroCopy};
 
 use cmark_inline::{BrokenLinkCallback, Given, InlineState, Reader, SpecialBytes, special_bytes};
-use cmark_items::RefDefs;
+use cmark_items::{FootnoteDefs, RefDefs};
 use cmark_leaf_text::{LeafLine, LeafText};
 use cmark_text::{EntityLookup, Options};
 use cmark_walk::{Met, Ranged, Walk};
@@ -27,6 +27,7 @@ pub struct SpanWalk<'input, 'e, E, F> {
     lines: Vec<LeafLine>,
     leaf: LeafText<'input>,
     inline: InlineState<'input>,
+    footnotes: FootnoteDefs,
     entities: &'e E,
     options: Options,
     special: SpecialBytes,
@@ -37,7 +38,8 @@ impl<'input, 'e, E: EntityLookup, F: BrokenLinkCallback<'input> + Drop> SpanWalk
     ghost use Rattle.cmark_span_walk.specs.Walking.{definitions_of, source_of, events_left, Stands, Remains, Gives, GivesSpan, BeforeLeaf, EntersLeaf};
 
     /// A walk over what this walk over the text meets, which are fewer events and leaves than `budget`. `entities` says what the
-    /// entity names stand for; `callback` is asked for references without a definition.
+    /// entity names stand for; `footnotes` are those that the text defines, of which each counts its references; `callback` is asked
+    /// for references without a definition.
     pub fn new(
         alloc: Global,
         text: &'input str,
@@ -45,6 +47,7 @@ impl<'input, 'e, E: EntityLookup, F: BrokenLinkCallback<'input> + Drop> SpanWalk
         budget: u128,
         options: Options,
         entities: &'e E,
+        footnotes: FootnoteDefs,
         callback: F,
     ) -> SpanWalk<'input, 'e, E, F>
         ensures begins { (left : List Segment) (events : List Shown)
@@ -67,6 +70,7 @@ impl<'input, 'e, E: EntityLookup, F: BrokenLinkCallback<'input> + Drop> SpanWalk
             lines: Vec::new(alloc),
             leaf: LeafText::new(alloc, text),
             inline: InlineState::new(alloc, text.len()),
+            footnotes,
             entities,
             options,
             special: special_bytes(options),
@@ -152,8 +156,9 @@ impl<'input, 'e, E: EntityLookup, F: BrokenLinkCallback<'input> + Drop> SpanWalk
             options: self.options,
             special: &self.special,
         };
+        let footnotes = &mut self.footnotes;
         self.inline
-            .resolve(&self.leaf, &reader, &mut self.callback)?;
+            .resolve(&self.leaf, &reader, footnotes, &mut self.callback)?;
         self.in_leaf = true;
         Ok(())
     }
