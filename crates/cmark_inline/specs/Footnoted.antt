@@ -1,10 +1,10 @@
 -- Which closing brackets form footnote references, and what becomes of the slots and the footnotes (this profile's own).
-use Rattle.std.specs.Prelude.{◌≡◌, ℕ, ◌+◌, min, nat_lt, Bool, true, false, not, ◌||◌, if◌then◌else◌, List, [], ◌∷◌, ◌++◌, length, drop, set, Option, None, Some, is_some}
+use Rattle.std.specs.Prelude.{◌≡◌, ℕ, ◌+◌, min, nat_lt, Bool, true, false, not, ◌&&◌, ◌||◌, if◌then◌else◌, List, [], ◌∷◌, ◌++◌, length, drop, set, Option, None, Some, is_some}
 use Rattle.cmark_grammar.specs.BracketDecisions as decisions
 use Rattle.cmark_grammar.specs.Labels.{fold, normal_form}
 use Rattle.cmark_grammar.specs.LeafText.{Leaf}
 use Rattle.cmark_grammar.specs.LinkDefinitions.{Found}
-use Rattle.cmark_grammar.specs.LinkTails.{link_tail_in, reference_label_in}
+use Rattle.cmark_grammar.specs.LinkTails.{is_bracketed_label, link_tail_in, reference_label_in}
 use Rattle.cmark_grammar.specs.Options.{Options}
 use Rattle.cmark_grammar.specs.Readers.{Reader}
 use Rattle.cmark_grammar.specs.Tokens.{slice}
@@ -35,6 +35,9 @@ no_leaf = record { stretches = []; is_cell = false }
 
 abbrev pub is_footnote_label : Options → (between : List ℕ) → Bool
 is_footnote_label options between = decisions.is_footnote_label (labels options) no_leaf between
+
+abbrev pub fits_footnote : Options → (label : List ℕ) → Bool
+fits_footnote options label = is_bracketed_label label && (options.old_footnotes || decisions.is_one_line (labels options) no_leaf label)
 
 -- the label of a footnote, without its `^`
 abbrev pub footnote_label : Options → (between : List ℕ) → Option (List ℕ)

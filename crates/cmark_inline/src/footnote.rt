@@ -11,7 +11,7 @@ ghost use Rattle.cmark_items.specs.Footnotes.{Counts};
 ghost use Rattle.cmark_leaf_text.specs.Reads.{IsPart};
 ghost use Rattle.cmark_text.specs.Shown.{shown_options, text_bytes};
 ghost use Rattle.cmark_inline.specs.Doubled.{DropsBehind};
-ghost use Rattle.cmark_inline.specs.Footnoted.{CountsOf, KeepsLabel, PutsReference, SameFootnotes, footnote_behind, footnote_label, footnote_of, forms_footnote, is_accepted, is_footnote_label, reference_as, reference_slot, reference_start, unless_footnote};
+ghost use Rattle.cmark_inline.specs.Footnoted.{CountsOf, KeepsLabel, PutsReference, SameFootnotes, fits_footnote, footnote_behind, footnote_label, footnote_of, forms_footnote, is_accepted, is_footnote_label, reference_as, reference_slot, reference_start, unless_footnote, with_mark};
 ghost use Rattle.cmark_inline.specs.Stands.{AreSlots, IsBracket, IsSlot, Moves, NoNewLink, Stands, begins_link};
 
 use crate::bracket::Bracket;
@@ -19,6 +19,7 @@ use crate::slot::{Slot, SlotKind, hide, put_slot, replace_slot};
 use crate::state::InlineState;
 use crate::step::Cursor;
 use bitflags::Flags;
+use cmark_definitions::behind_byte;
 use cmark_finds::{Label, has_line_ending, is_bracketed_label, link_tail, reference_label};
 use cmark_items::FootnoteDefs;
 use cmark_text::{CowStr, FootnoteLabel, Options};
@@ -31,14 +32,20 @@ pub fn footnote_label(options: Options, between: &str) -> Option<&str>
     if !options.contains(Options::ENABLE_FOOTNOTES) {
         return None;
     }
-    let label = between.strip_prefix('^')?;
-    if !is_bracketed_label(label) {
-        return None;
+    let label = behind_byte(b'^', between)?;
+    if fits_footnote(options, label) {
+        Some(label)
+    } else {
+        None
     }
-    if has_line_ending(label) && !options.contains(Options::ENABLE_OLD_FOOTNOTES) {
-        return None;
-    }
-    Some(label)
+}
+
+/// Whether a footnote may have this label: it has no bracket but escaped ones, and is on one line but for old footnotes.
+fn fits_footnote(options: Options, label: &str) -> bool
+    ensures { result ≡ fits_footnote (shown_options options) label.now }
+{
+    is_bracketed_label(label)
+        && (options.contains(Options::ENABLE_OLD_FOOTNOTES) || !has_line_ending(label))
 }
 
 /// Whether what stands between two brackets is the label of a footnote.
@@ -128,6 +135,24 @@ fn reference_start(bracket: Bracket) -> usize
         bracket.start + 1
     } else {
         bracket.start
+    }
+}
+
+/// Makes the slot of an image's bracket that of its `!` alone.
+fn put_mark(slots: &mut Vec<Slot>, bracket: Bracket)
+    requires { bracket.start < bracket.inside }
+    ensures value { slots.new.items ≡ with_mark bracket slots.old.items }
+    ensures slots { (text : List ℕ) (place : ℕ) → AreSlots text place slots.old.items → IsBracket text place bracket → AreSlots text place slots.new.items }
+    ensures length { length slots.new.items ≡ length slots.old.items }
+    ensures links { NoNewLink slots.old.items slots.new.items }
+{
+    if bracket.is_image {
+        let mark = Slot {
+            kind: SlotKind::Text,
+            start: bracket.start,
+            end: bracket.start + 1,
+        };
+        replace_slot(slots, bracket.slot, mark);
     }
 }
 
@@ -236,14 +261,7 @@ impl<'a> InlineState<'a> {
         let count = self.slots.len();
         let at = reference_slot(bracket, count);
         hide(&mut self.slots, at, count);
-        if bracket.is_image {
-            let mark = Slot {
-                kind: SlotKind::Text,
-                start: bracket.start,
-                end: bracket.start + 1,
-            };
-            replace_slot(&mut self.slots, bracket.slot, mark);
-        }
+        put_mark(&mut self.slots, bracket);
         put_slot(&mut self.slots, at, reference)?;
         Ok(())
     }
