@@ -29,15 +29,13 @@ use std::alloc::{AllocError, Global};
 pub fn footnote_label(options: Options, between: &str) -> Option<&str>
     ensures value { option_copied result ≡ footnote_label (shown_options options) between.entry.now }
 {
-    if !options.contains(Options::ENABLE_FOOTNOTES) {
-        return None;
+    if options.contains(Options::ENABLE_FOOTNOTES) {
+        let label = behind_byte(b'^', between)?;
+        if fits_footnote(options, label) {
+            return Some(label);
+        }
     }
-    let label = behind_byte(b'^', between)?;
-    if fits_footnote(options, label) {
-        Some(label)
-    } else {
-        None
-    }
+    None
 }
 
 /// Whether a footnote may have this label: it has no bracket but escaped ones, and is on one line but for old footnotes.

@@ -6,6 +6,7 @@ use Rattle.cmark_grammar.specs.LeafSpans.{AreGiven}
 use Rattle.cmark_grammar.specs.LeafText.{Leaf}
 use Rattle.cmark_grammar.specs.SpanDocuments.{Segment, Given as GivenOf, Content}
 use Rattle.cmark_grammar.proofs.LeafSpanLaws.{some-given}
+use Rattle.cmark_items.specs.declared.footnotes.FootnoteDefs.{FootnoteDefs}
 use Rattle.cmark_inline.specs.declared.event.Opened.{Opened}
 use Rattle.cmark_inline.specs.declared.slot.Slot.{Slot}
 use Rattle.cmark_inline.specs.declared.state.InlineState.{InlineState}
@@ -118,10 +119,10 @@ module _ {E F : Type 0} where
       record { left = s.0; stands = s.1; are = inside-left walk s.0 events inside ([], events, refl, none, subst (λ l. AreGiven (source_of walk) l events) same m.are) }
 
   -- into a leaf
-  pub enters : (old : SpanWalk E F) (leaf : LeafText) (inline : InlineState) (callback : F) → IsRead leaf → leaf.source.now ≡ source_of old → AreSlots (text_of leaf) (length (text_of leaf)) inline.slots.items → inline.walk.opened.items ≡ []
-      → (one : Leaf) (others : List Segment) → BeforeLeaf old one others → EntersLeaf others (record old { leaf = leaf; inline = inline; in_leaf = true; callback = callback })
-  enters old leaf inline callback read source slots none one others before =
-      let new : SpanWalk E F = record old { leaf = leaf; inline = inline; in_leaf = true; callback = callback } in
+  pub enters : (old : SpanWalk E F) (leaf : LeafText) (inline : InlineState) (footnotes : FootnoteDefs) (callback : F) → IsRead leaf → leaf.source.now ≡ source_of old → AreSlots (text_of leaf) (length (text_of leaf)) inline.slots.items → inline.walk.opened.items ≡ []
+      → (one : Leaf) (others : List Segment) → BeforeLeaf old one others → EntersLeaf others (record old { leaf = leaf; inline = inline; footnotes = footnotes; in_leaf = true; callback = callback })
+  enters old leaf inline footnotes callback read source slots none one others before =
+      let new : SpanWalk E F = record old { leaf = leaf; inline = inline; footnotes = footnotes; in_leaf = true; callback = callback } in
       record {
         stands = record { blocks = left-same old new others refl refl source before.blocks; leaf = record { read = read; slots = slots; opened = none-opened leaf.source.now inline.walk.opened.items none } };
         inside = refl;
