@@ -4,7 +4,6 @@ use Rattle.cmark_inline.specs.Stands.{AreBrackets, AreFree, IsBracket, IsSlot, b
 use Rattle.cmark_inline.specs.declared.bracket.Bracket.{Bracket}
 use Rattle.cmark_inline.specs.declared.bracket.Brackets.{Brackets}
 use Rattle.cmark_inline.specs.declared.slot.Slot.{Slot}
-use Rattle.cmark_inline.specs.declared.slot.SlotKind.TheVariants as kind
 use Rattle.cmark_inline.specs.declared.state.InlineState.{InlineState}
 use Rattle.cmark_inline.proofs.FootnoteSteps.{reference-part}
 use Rattle.cmark_inline.proofs.Steps.{brackets-on, free-on, slots-on}
@@ -31,7 +30,7 @@ returns-clause-stands c =
     let same = ap (λ (s : InlineState). s.doubled) c.put_reference.ensures.others in
     let before = b.before in
     let is : IsBracket text past c.args.bracket = record { part = b.part; mark = b.mark; before = (let q : c.args.bracket.inside ≤ past = omega (arith, before) in q) } in
-    let reference : IsSlot text past (record { kind = kind.FootnoteReference c.len.result; start = c.reference_start.result; end = past }) = record {
+    let reference : IsSlot text past _ = record {
       part = subst (λ k. IsPart text k past) (sym c.reference_start.ensures) (reference-part text close c.args.bracket b p);
       before = (let q : past ≤ past = omega arith in q);
       content = tt;
