@@ -91,11 +91,7 @@ fn footnote_at<'t>(
 }
 
 /// Counts a use of the footnote of a label, and says whether the label forms a reference: it needs a footnote but for old ones.
-fn count(
-    options: Options,
-    footnotes: &mut FootnoteDefs,
-    label: &str,
-) -> Result<bool, AllocError>
+fn count(options: Options, footnotes: &mut FootnoteDefs, label: &str) -> Result<bool, AllocError>
     ensures value { IfOk result (λ accepted. accepted ≡ is_accepted (shown_options options) footnotes.old label.now) }
     ensures counts { OnOk result (Counts (fold label.now) footnotes.old footnotes.new) }
     ensures same { SameFootnotes footnotes.old footnotes.new }
