@@ -5,6 +5,7 @@ ghost use Rattle.cmark_grammar.specs.Event.{Ranged as Shown};
 ghost use Rattle.cmark_grammar.specs.LeafSpans.{AreGiven};
 ghost use Rattle.cmark_grammar.specs.LeafText.{Leaf};
 ghost use Rattle.cmark_grammar.specs.SpanDocuments.{Segment};
+ghost use Rattle.cmark_inline.specs.Footnoted.{SameFootnotes};
 ghost use Rattle.cmark_inline.specs.Opens.{shown_given, GivesZeroCopy as SpanZeroCopy};
 ghost use Rattle.cmark_walk.specs.Walking.{Remains as BlocksRemain, definitions_of as block_definitions, shown_ranged, text_of};
 ghost use Rattle.cmark_span_walk.specs.Walking.{GivesZeroCopy};
@@ -35,7 +36,7 @@ pub struct SpanWalk<'input, 'e, E, F> {
 }
 
 impl<'input, 'e, E: EntityLookup, F: BrokenLinkCallback<'input> + Drop> SpanWalk<'input, 'e, E, F> {
-    ghost use Rattle.cmark_span_walk.specs.Walking.{definitions_of, source_of, events_left, Stands, Remains, Gives, GivesSpan, BeforeLeaf, EntersLeaf};
+    ghost use Rattle.cmark_span_walk.specs.Walking.{definitions_of, footnotes_of, source_of, events_left, Stands, Remains, Gives, GivesSpan, BeforeLeaf, EntersLeaf};
 
     /// A walk over what this walk over the text meets, which are fewer events and leaves than `budget`. `entities` says what the
     /// entity names stand for; `footnotes` are those that the text defines, of which each counts its references; `callback` is asked
@@ -61,6 +62,7 @@ impl<'input, 'e, E: EntityLookup, F: BrokenLinkCallback<'input> + Drop> SpanWalk
             → Remains result events
             → AreGiven text.entry.now left events }
         ensures definitions { definitions_of result ≡ block_definitions walk.entry }
+        ensures footnotes { footnotes_of result ≡ footnotes }
         ensures source { source_of result ≡ text.entry.now }
     {
         SpanWalk {
@@ -94,6 +96,7 @@ impl<'input, 'e, E: EntityLookup, F: BrokenLinkCallback<'input> + Drop> SpanWalk
         ensures lent { IfOk result (λ given. IfSome given (GivesZeroCopy (source_of self.old))) }
         ensures fewer { IfOk result (λ given. OnSome given (events_left self.new < events_left self.old)) }
         ensures definitions { definitions_of self.new ≡ definitions_of self.old }
+        ensures footnotes { SameFootnotes (footnotes_of self.old) (footnotes_of self.new) }
         ensures source { source_of self.new ≡ source_of self.old }
     {
         loop {
@@ -128,6 +131,7 @@ impl<'input, 'e, E: EntityLookup, F: BrokenLinkCallback<'input> + Drop> SpanWalk
         ensures budget { self.new.budget ≡ self.old.budget }
         ensures source { source_of self.new ≡ source_of self.old }
         ensures definitions { definitions_of self.new ≡ definitions_of self.old }
+        ensures footnotes { footnotes_of self.new ≡ footnotes_of self.old }
     {
         if !self.in_leaf {
             return Ok(None);
@@ -148,6 +152,7 @@ impl<'input, 'e, E: EntityLookup, F: BrokenLinkCallback<'input> + Drop> SpanWalk
         ensures source { source_of self.new ≡ source_of self.old }
         ensures budget { self.new.budget ≡ self.old.budget }
         ensures definitions { definitions_of self.new ≡ definitions_of self.old }
+        ensures footnotes { SameFootnotes (footnotes_of self.old) (footnotes_of self.new) }
     {
         self.leaf.read(self.lines.as_slice())?;
         let reader = Reader {
