@@ -22,6 +22,12 @@ class Linking(NamedTuple):
     end: int
 
 
+class Footnote(NamedTuple):
+    """A footnote reference: its label in normal form, and where it ends."""
+    label: bytes
+    end: int
+
+
 class Wiki(NamedTuple):
     """A wikilink, which shows its name or what stands from a place on."""
     name: bytes
@@ -111,6 +117,10 @@ def inactive(o):
     return replace(o, is_inactive=o.is_inactive or not o.bracket.is_image)
 
 
+def dropped(o):
+    return replace(o, stands=False)
+
+
 def behind_link(is_image, openers):
     return openers if is_image else tuple(map(inactive, openers))
 
@@ -162,11 +172,31 @@ def refers(leaf, named, taken, closer, s):
     return stays(closer, s) if found is None else leads(named, found, taken, s)
 
 
+def one_line_footnotes(options):
+    return options.footnotes and not options.old_footnotes
+
+
+def is_footnote_label(options, bs):
+    """A `^` and a label, which is on one line but for old footnotes."""
+    return (options.footnotes and bs.startswith(b"^") and labels.is_bracketed_label(bs[1:])
+            and (options.old_footnotes or all(map(letters.is_content, bs[1:]))))
+
+
+def footnote_reference(leaf, label, taken, closer, s):
+    """Its label needs a footnote but for old footnotes; all brackets that stand before it are dropped."""
+    if one_line_footnotes(leaf.reader.options) and not leaf.reader.has_footnote(labels.fold(label)):
+        return stays(closer, s)
+    formed = Footnote(labels.normal_form(label), closer.end)
+    return forms(taken, formed, closer.end, lambda openers: tuple(map(dropped, openers)), s)
+
+
 def collapsed_or_shortcut(leaf, label, end, rest):
     return Named(label, "Shortcut", end, end) if rest is None else Named(label, "Collapsed", end, leaf.place_of(rest))
 
 
 def by_own_label(leaf, label, taken, closer, s):
+    if is_footnote_label(leaf.reader.options, label):
+        return footnote_reference(leaf, label[1:], taken, closer, s)
     if not labels.is_bracketed_label(label):
         return stays(closer, s)
     named = collapsed_or_shortcut(leaf, label, closer.end, labels.behind_collapsed(leaf.from_(closer.end)))
@@ -186,10 +216,15 @@ def reference_or(leaf, found, taken, closer, s):
     return by_own_label(leaf, between(leaf, taken.opener.bracket.end, closer.start), taken, closer, s)
 
 
+def unless_footnote(options, found):
+    return None if found is None or is_footnote_label(options, found.bytes) else found
+
+
 def link_or(leaf, tail, taken, closer, s):
     if tail is not None:
         return inline_link(leaf, tail, taken, s)
-    return reference_or(leaf, labels.reference_label_in(leaf.from_(closer.end)), taken, closer, s)
+    found = unless_footnote(leaf.reader.options, labels.reference_label_in(leaf.from_(closer.end)))
+    return reference_or(leaf, found, taken, closer, s)
 
 
 def with_taken(leaf, taken, closer, s):

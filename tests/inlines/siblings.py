@@ -4,7 +4,7 @@ Spans are lists of places and of ("Around", kind, start, end, inside); siblings 
 """
 from typing import NamedTuple
 
-from inlines.brackets import Closing, Form, Linked, Linking, Opening, Wiki, reads_whole
+from inlines.brackets import Closing, Footnote, Form, Linked, Linking, Opening, Wiki, reads_whole
 from inlines.tokens import Item, Leaf, Run, quote_characters
 
 TILDE, CARET = ord("~"), ord("^")
@@ -229,6 +229,18 @@ def linked_of(formed):
     return Linked(["WikiLink", formed.display is not None], formed.name, b"", b"")
 
 
+def footnote_then(is_image, start, label, end):
+    """A footnote reference begins with its `[`; a `!` before it is a text."""
+    mark = [Item("Own", start, start + 1)] if is_image else []
+    return mark + [Item("FootnoteReference", start + len(mark), end, label)]
+
+
+def some_siblings(options, part):
+    if isinstance(part, Form) and isinstance(part.formed, Footnote):
+        return footnote_then(part.opener.is_image, part.opener.start, *part.formed)
+    return [sibling_of(options, part)]
+
+
 def sibling_of(options, part):
     if isinstance(part, Form):
         tag = "Image" if part.opener.is_image else "Link"
@@ -239,7 +251,7 @@ def sibling_of(options, part):
 
 
 def siblings_of(options, parts):
-    return [sibling_of(options, part) for part in parts]
+    return [sibling for part in parts for sibling in some_siblings(options, part)]
 
 
 # ## InlineReading and LeafReading: events as mdevents writes them
@@ -247,9 +259,9 @@ def siblings_of(options, parts):
 def event_of(source, x):
     if x.kind in ("SoftBreak", "HardBreak"):
         return [x.kind]
-    names = {"Html": "InlineHtml", "OwnedHtml": "InlineHtml", "Code": "Code", "InlineMath": "InlineMath", "DisplayMath": "DisplayMath"}
-    owned = x.kind in ("Code", "InlineMath", "DisplayMath", "OwnedHtml", "Written")
-    name = names.get(x.kind, "Text")
+    named = ("Code", "InlineMath", "DisplayMath", "FootnoteReference")
+    owned = x.kind in (*named, "OwnedHtml", "Written")
+    name = "InlineHtml" if x.kind in ("Html", "OwnedHtml") else x.kind if x.kind in named else "Text"
     return [name, (x.data if owned else source[x.start:x.end]).decode()]
 
 

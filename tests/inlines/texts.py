@@ -18,6 +18,7 @@ FRAGMENTS = [fragment.encode() for fragment in [
     "\f", "\v", "\x7f", "\0", "\u00a0", "\u2003", "é", "É", "ß", "SS", "ẞ", "«", "»", "“", "€", "+", "😀", "\u212a", "\u0301",
     "[a](", "(/u \"t\")", "[a][b c]", "[a][]", "(<v>)", " \"t\"", " 't'", " (t)", "(\n", "[ a ]", "[x]", "[é]", "[*x*]", "[a\\]]",
     "[k]", "[ss]", "[none]", "[a](b)", "![a](b)", "(b\\)", "<b c", "*a", "a*", "_a", "a_", "**a", "a**",
+    *["[^", "[^a]", "^"] * 3, "![^", "![^a]", "[^b c]", "[^x][]", "[a][^b]", "[^a][b c]", "[^a](b)", "[^ ]", "[^\n", "[^a\nb]", "[^[", "[[^a]", "[^\\]", "[^É]",
     *["[[", "]]", "|"] * 3, "![[", "[[a]]", "[[a|", "|b]]", "[[[", "]]]", "[[|", "|]]", "[[]]", "]](b)", "[[a", "[[`a|b`", "[[<a b='|'>",
 ]]
 
@@ -187,7 +188,7 @@ def may_open(row, is_first):
         return True
     if indent(row.columns) > 3:
         return False
-    if OPENS.match(words):
+    if OPENS.match(words) or (words.startswith(b"[^") and b"]:" in words):
         return True
     rest = letters.behind_tag(words) if is_first else None
     return rest is not None and not letters.behind_blanks(rest)

@@ -15,6 +15,8 @@ class Options(NamedTuple):
     smart_punctuation: bool
     math: bool
     wikilinks: bool
+    footnotes: bool
+    old_footnotes: bool
 
 
 class Reader(NamedTuple):
@@ -22,6 +24,7 @@ class Reader(NamedTuple):
     options: Options
     lookup: Callable
     definition: Callable
+    has_footnote: Callable
 
 
 class Stretch(NamedTuple):

@@ -3,7 +3,7 @@ use Rattle.std.specs.Prelude.{◌≡◌, ℕ, ◌≤◌, List, [], ◌∷◌, �
 use Rattle.std.specs.Str.{IsCharBoundary}
 use Rattle.cmark_grammar.specs.Tag.{Tag, Emphasis, Strong, Strikethrough, Superscript, Subscript, Link, Image}
 use Rattle.cmark_grammar.specs.TagEnd.{end_of}
-use Rattle.cmark_grammar.specs.Event.{Event, Start, End, Text, Code, InlineMath, DisplayMath, InlineHtml, SoftBreak, HardBreak, Ranged}
+use Rattle.cmark_grammar.specs.Event.{Event, Start, End, Text, Code, InlineMath, DisplayMath, InlineHtml, FootnoteReference, SoftBreak, HardBreak, Ranged}
 use Rattle.cmark_grammar.specs.LeafText.{Leaf}
 use Rattle.cmark_grammar.specs.SpanDocuments.{Segment, Given, Content}
 
@@ -24,6 +24,7 @@ IsInline (Code text) = Unit {0}
 IsInline (InlineMath text) = Unit {0}
 IsInline (DisplayMath text) = Unit {0}
 IsInline (InlineHtml text) = Unit {0}
+IsInline (FootnoteReference label) = Unit {0}
 IsInline SoftBreak = Unit {0}
 IsInline HardBreak = Unit {0}
 IsInline _ = ⊥

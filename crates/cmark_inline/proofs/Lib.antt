@@ -18,5 +18,6 @@ pub mod SourcePlaces
 pub mod AngleMakes
 pub mod SpecialSteps
 pub mod SpanReads
+pub mod FootnoteSteps
 pub mod FormulaSteps
 pub mod WikiSteps

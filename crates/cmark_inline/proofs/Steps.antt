@@ -55,7 +55,7 @@ module _ (text : List ℕ) where
   slots-on a b ss h le = λ k d lt. let s = h k d lt in record { part = s.part; before = (let e = s.before in let l : (get_or ss k d).end ≤ b = omega (arith, e, le) in l); content = s.content }
 
   pub brackets-on : (a b : ℕ) (bs : List Bracket) → AreBrackets text a bs → a ≤ b → AreBrackets text b bs
-  brackets-on a b bs h le = λ k d lt. let s = h k d lt in record { part = s.part; before = (let e = s.before in let l : (get_or bs k d).inside ≤ b = omega (arith, e, le) in l) }
+  brackets-on a b bs h le = λ k d lt. let s = h k d lt in record { part = s.part; mark = s.mark; before = (let e = s.before in let l : (get_or bs k d).inside ≤ b = omega (arith, e, le) in l) }
 
   pub keeps-on : (a b : ℕ) (ss : List Slot) (v w : Brackets) (n : ℕ) → Keeps text a ss v w n → a ≤ b → Keeps text b ss v w n
   keeps-on a b ss v w n h le = record {

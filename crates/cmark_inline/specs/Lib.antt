@@ -1,6 +1,7 @@
 pub mod Asking
 pub mod Doubled
 pub mod Elements
+pub mod Footnoted
 pub mod FoundInSource
 pub mod Linked
 pub mod Opens

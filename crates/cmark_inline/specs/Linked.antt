@@ -5,10 +5,12 @@ use Rattle.cmark_grammar.specs.LinkTails.{LinkTail, behind_collapsed, is_bracket
 use Rattle.cmark_grammar.specs.LinkType as link
 use Rattle.cmark_text.specs.declared.kind.LinkType.{LinkType}
 use Rattle.cmark_grammar.specs.Answers.{Lookup}
+use Rattle.cmark_grammar.specs.Options.{Options}
 use Rattle.cmark_grammar.specs.Tokens.{resolved, slice}
 use Rattle.cmark_items.specs.declared.definitions.LinkDef.{LinkDef}
 use Rattle.cmark_text.specs.Shown.{shown_link_type, text_bytes}
 use Rattle.cmark_text.specs.declared.text.CowStr.{CowStr}
+use Rattle.cmark_inline.specs.Footnoted.{is_footnote_label, unless_footnote}
 use Rattle.cmark_inline.specs.declared.callback.BrokenLink.{BrokenLink}
 use Rattle.cmark_inline.specs.declared.link.Asked.{Asked}
 use Rattle.cmark_inline.specs.declared.link.Destination.{Destination}
@@ -49,18 +51,21 @@ abbrev pub collapsed_or_shortcut : (label behind : List ℕ) → Option (List �
 collapsed_or_shortcut label behind (Some past) = record { label = label; form = link.Collapsed; behind = behind; past = past }
 collapsed_or_shortcut label behind None = record { label = label; form = link.Shortcut; behind = behind; past = behind }
 
--- the reference by the bracket's own label, if that is one
-abbrev pub by_own_label : (label behind : List ℕ) → Option Reference
-by_own_label label behind = if is_bracketed_label label then Some (collapsed_or_shortcut label behind (behind_collapsed behind)) else None
+-- the reference by the bracket's own label, if that is one, and none of a footnote
+abbrev pub by_own_label : Options → (label behind : List ℕ) → Option Reference
+by_own_label options label behind =
+    if is_footnote_label options label then None
+    else if is_bracketed_label label then Some (collapsed_or_shortcut label behind (behind_collapsed behind))
+    else None
 
--- the full reference where a label follows in brackets, and else that by the bracket's own label, unless the bracket is shut
--- off for it
-abbrev pub full_or_own : Option Found → (is_shut : Bool) → (label behind : List ℕ) → Option Reference
-full_or_own (Some found) is_shut label behind = Some (record { label = found.bytes; form = link.Reference; behind = found.behind; past = found.behind })
-full_or_own None is_shut label behind = if is_shut then None else by_own_label label behind
+-- the full reference where a label follows in brackets that is none of a footnote, and else that by the bracket's own label, unless
+-- the bracket is shut off for it
+abbrev pub full_or_own : Options → Option Found → (is_shut : Bool) → (label behind : List ℕ) → Option Reference
+full_or_own options (Some found) is_shut label behind = Some (record { label = found.bytes; form = link.Reference; behind = found.behind; past = found.behind })
+full_or_own options None is_shut label behind = if is_shut then None else by_own_label options label behind
 
-abbrev pub reference_behind : (is_shut : Bool) → (label behind : List ℕ) → Option Reference
-reference_behind is_shut label behind = full_or_own (reference_label_in behind) is_shut label behind
+abbrev pub reference_behind : Options → (is_shut : Bool) → (label behind : List ℕ) → Option Reference
+reference_behind options is_shut label behind = full_or_own options (unless_footnote options (reference_label_in behind)) is_shut label behind
 
 -- the question that a reference puts whose label has no definition: its bytes of the source, its form, and its label's normal
 -- form

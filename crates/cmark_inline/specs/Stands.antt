@@ -1,5 +1,5 @@
 -- What holds while the text of a leaf is read.
-use Rattle.std.specs.Prelude.{◌≡◌, ℕ, ◌≤◌, ◌<◌, Bool, true, false, List, [], ◌∷◌, ◌++◌, length, get_or, All}
+use Rattle.std.specs.Prelude.{◌≡◌, ℕ, ◌+◌, ◌≤◌, ◌<◌, Bool, true, false, List, [], ◌∷◌, ◌++◌, length, get_or, All}
 use Rattle.std.specs.List.{sum_by}
 use Rattle.std.specs.Str.{IsCharBoundary}
 use Rattle.cmark_leaf_text.specs.Reads.{IsPart}
@@ -32,6 +32,7 @@ IsContent text (kind.SourceHtml end) = Unit {0}
 IsContent text (kind.CutHtml from) = IsCharBoundary text from
 IsContent text (kind.SourceText end) = Unit {0}
 IsContent text kind.Empty = Unit {0}
+IsContent text (kind.FootnoteReference index) = Unit {0}
 IsContent text (kind.Begin element) = Unit {0}
 IsContent text kind.End = Unit {0}
 IsContent text kind.Nothing = Unit {0}
@@ -45,9 +46,10 @@ pub record IsSlot (text : List ℕ) (at : ℕ) (slot : Slot) : Type 0 where
 abbrev pub AreSlots : (text : List ℕ) → (at : ℕ) → List Slot → Type 0
 AreSlots text at slots = All (IsSlot text at) slots
 
--- an opening bracket stands before this place
+-- an opening bracket stands before this place; the `!` of an image is a character of its own
 pub record IsBracket (text : List ℕ) (at : ℕ) (bracket : Bracket) : Type 0 where
   pub part : IsPart text bracket.start bracket.inside
+  pub mark : bracket.is_image ≡ true → IsCharBoundary text (bracket.start + 1)
   pub before : bracket.inside ≤ at
 
 abbrev pub AreBrackets : (text : List ℕ) → (at : ℕ) → List Bracket → Type 0
@@ -79,6 +81,7 @@ begins_link (kind.SourceHtml end) = false
 begins_link (kind.CutHtml from) = false
 begins_link (kind.SourceText end) = false
 begins_link kind.Empty = false
+begins_link (kind.FootnoteReference index) = false
 begins_link (kind.Begin element) = is_link element
 begins_link kind.End = false
 begins_link kind.Nothing = false

@@ -222,6 +222,9 @@ impl<'a> InlineState<'a> {
             SlotKind::Whole(_) => Ok(Event::Text(CowStr::Borrowed(leaf.source_between(
                 slot.start, slot.end,
             )))),
+            SlotKind::FootnoteReference(index) => {
+                Ok(Event::FootnoteReference(self.take_text(index)))
+            }
             SlotKind::SoftBreak => Ok(Event::SoftBreak),
             SlotKind::HardBreak => Ok(Event::HardBreak),
             SlotKind::Code(from, to) => Ok(Event::Code(code_of(self.alloc, leaf, from, to)?)),

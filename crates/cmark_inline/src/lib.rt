@@ -6,6 +6,7 @@ mod bracket;
 mod callback;
 mod delimiter;
 mod event;
+mod footnote;
 mod formula;
 mod link;
 mod markup;

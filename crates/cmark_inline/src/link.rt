@@ -6,17 +6,18 @@ ghost use Rattle.cmark_leaf_text.specs.Reads.{IsRead, IsPart, text_of};
 ghost use Rattle.cmark_grammar.specs.Labels.{fold};
 ghost use Rattle.cmark_grammar.specs.LinkTails.{link_tail_in};
 ghost use Rattle.cmark_grammar.specs.Tokens.{slice};
-ghost use Rattle.cmark_text.specs.Shown.{text_bytes};
+ghost use Rattle.cmark_text.specs.Shown.{shown_options, text_bytes};
 ghost use Rattle.cmark_items.specs.Definitions.{definition};
 ghost use Rattle.cmark_inline.specs.Linked.{by_own_label, inline_link, reference_behind, resolved_title, said_by, shown_asked, shown_destination, shown_target};
 ghost use Rattle.cmark_inline.specs.Stands.{IsAsked, IsBracket, IsTarget};
 
 use crate::bracket::Bracket;
-use cmark_finds::{collapsed_end, is_bracketed_label, link_tail, reference_label, title_text};
+use crate::footnote::{full_label, is_footnote_label};
+use cmark_finds::{collapsed_end, is_bracketed_label, link_tail, title_text};
 use cmark_items::RefDefs;
 use cmark_leaf_text::LeafText;
 use cmark_scan_parts::unescape;
-use cmark_text::{CowStr, EntityLookup, LinkType};
+use cmark_text::{CowStr, EntityLookup, LinkType, Options};
 use std::alloc::{AllocError, Global};
 
 /// What a link or an image is.
@@ -154,8 +155,10 @@ pub struct Asked<'t> {
     pub past: usize,
 }
 
-/// The reference whose bracket closes at `close`: a full one, or, unless that bracket is shut off for it, by its own label.
+/// The reference whose bracket closes at `close`: a full one, or, unless that bracket is shut off for it, by its own label. A label of
+/// a footnote is none of a link.
 pub fn asked_at<'t>(
+    options: Options,
     text: &'t str,
     bracket: Bracket,
     close: usize,
@@ -163,10 +166,10 @@ pub fn asked_at<'t>(
 ) -> Option<Asked<'t>>
     requires bracket { IsBracket text.now close bracket }
     requires close { IsPart text.now close (close + 1) }
-    ensures value { option_map (shown_asked text.entry.now) result ≡ reference_behind is_shut (slice text.entry.now bracket.inside close) (drop (close + 1) text.entry.now) }
+    ensures value { option_map (shown_asked text.entry.now) result ≡ reference_behind (shown_options options) is_shut (slice text.entry.now bracket.inside close) (drop (close + 1) text.entry.now) }
     ensures ends { IfSome result (IsAsked text.entry.now close) }
 {
-    if let Some(label) = reference_label(text, close + 1) {
+    if let Some(label) = full_label(options, text, close + 1) {
         return Some(Asked {
             label: label.label,
             link_type: LinkType::Reference,
@@ -177,18 +180,23 @@ pub fn asked_at<'t>(
     if is_shut {
         return None;
     }
-    own_label_at(text, bracket, close)
+    own_label_at(options, text, bracket, close)
 }
 
 // The reference by the bracket's own label.
-fn own_label_at<'t>(text: &'t str, bracket: Bracket, close: usize) -> Option<Asked<'t>>
+fn own_label_at<'t>(
+    options: Options,
+    text: &'t str,
+    bracket: Bracket,
+    close: usize,
+) -> Option<Asked<'t>>
     requires bracket { IsBracket text.now close bracket }
     requires close { IsPart text.now close (close + 1) }
-    ensures value { option_map (shown_asked text.entry.now) result ≡ by_own_label (slice text.entry.now bracket.inside close) (drop (close + 1) text.entry.now) }
+    ensures value { option_map (shown_asked text.entry.now) result ≡ by_own_label (shown_options options) (slice text.entry.now bracket.inside close) (drop (close + 1) text.entry.now) }
     ensures ends { IfSome result (IsAsked text.entry.now close) }
 {
     let label = &text[bracket.inside..close];
-    if !is_bracketed_label(label) {
+    if is_footnote_label(options, label) || !is_bracketed_label(label) {
         return None;
     }
     let end = close + 1;

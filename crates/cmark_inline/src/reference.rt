@@ -12,6 +12,7 @@ ghost use Rattle.cmark_grammar.specs.Options.{Options as Extensions};
 ghost use Rattle.cmark_text.specs.Shown.{shown_options};
 ghost use Rattle.cmark_inline.specs.Asking.{AsksOnce};
 ghost use Rattle.cmark_inline.specs.Doubled.{DropsBehind, doubles};
+ghost use Rattle.cmark_inline.specs.Footnoted.{SameFootnotes};
 ghost use Rattle.cmark_inline.specs.Tokens.{OpensBracket, Passes, PutsBracket};
 ghost use Rattle.cmark_inline.specs.Stands.{HoldNoLink, IsEnd, NoNewLink, AreSlots, AreBrackets, IsBracket, IsCursor, IsSlot, IsTarget, Moves, SameSpans, Stands, bytes_of};
 
@@ -23,6 +24,7 @@ use crate::read::Reader;
 use crate::slot::{Element, Slot, SlotKind, begin, push_slot};
 use crate::state::InlineState;
 use crate::step::Cursor;
+use cmark_items::FootnoteDefs;
 use cmark_leaf_text::LeafText;
 use cmark_text::{CowStr, EntityLookup, LinkLabel, LinkType, Options};
 use std::alloc::{AllocError, Global};
@@ -64,6 +66,7 @@ impl<'a> InlineState<'a> {
         requires stands { Stands text.now here.pending self.old }
         requires cursor { IsCursor text.now here }
         requires part { IsPart text.now here.at inside }
+        requires mark { is_image ≡ true → IsCharBoundary text.now (here.at + 1) }
         ensures expansion { self.new.expansion ≡ self.old.expansion }
         ensures moves { IfOk result (Moves text.now here.at self.new) }
         ensures at { IfOk result (λ next. (next.pending ≡ inside) × (next.at ≡ inside)) }
@@ -93,6 +96,7 @@ impl<'a> InlineState<'a> {
         &mut self,
         leaf: &LeafText<'a>,
         reader: &Reader<'_, 'a, E>,
+        footnotes: &mut FootnoteDefs,
         callback: &mut F,
         text: &str,
         here: Cursor,
@@ -106,11 +110,15 @@ impl<'a> InlineState<'a> {
         ensures asks { AsksOnce F.answers callback.old callback.new }
         ensures spent { self.old.expansion ≡ 0 → (callback.new ≡ callback.old) × (self.new.expansion ≡ 0) }
         ensures moves { IfOk result (Moves text.now here.at self.new) }
+        ensures footnotes { SameFootnotes footnotes.old footnotes.new }
     {
         self.flush(text, here, here.at)?;
         let behind_it = behind(text, here.at);
         let taken = self.take_bracket(text, here.at);
         if let Some(next) = self.wikilink(leaf, reader.options, text, here.at)? {
+            return Ok(next);
+        }
+        if let Some(next) = self.footnote(reader.options, footnotes, text, taken, here.at)? {
             return Ok(next);
         }
         if let Some(next) = self.link(leaf, reader, callback, text, taken, here.at)? {
@@ -199,8 +207,8 @@ impl<'a> InlineState<'a> {
         if let Some(target) = inline_target(self.alloc, leaf, text, close + 1, reader.entities)? {
             return Ok(Some(target));
         }
-        let is_shut = self.shut_close == Some(close);
-        let Some(asked) = asked_at(text, bracket, close, is_shut) else {
+        let is_shut = self.is_shut(close);
+        let Some(asked) = asked_at(reader.options, text, bracket, close, is_shut) else {
             return Ok(None);
         };
         if asked.link_type == LinkType::Reference {

@@ -2,6 +2,7 @@
 
 ghost use Rattle.std.specs.Prelude.{◌≡◌, ◌<◌, ◌≤◌, ◌+◌, ◌++◌, ◌∷◌, ◌&&◌, nat_lt, false, [], ℕ, List, get_or, length, set, OnOk};
 ghost use Rattle.std.specs.Str.{IsCharBoundary};
+ghost use Rattle.cmark_inline.specs.Footnoted.{put_at};
 ghost use Rattle.cmark_inline.specs.Quoted.{with_character};
 ghost use Rattle.cmark_leaf_text.specs.Reads.{IsPart};
 ghost use Rattle.cmark_inline.specs.Stands.{AreSlots, HoldNoLink, IsContent, IsSlot, NoNewLink, PushesText, begins_link, is_link};
@@ -56,6 +57,8 @@ pub enum SlotKind {
     SourceText(usize),
     /// A text of no bytes, before those of its range.
     Empty,
+    /// A footnote reference, whose label is the owned text of this index.
+    FootnoteReference(usize),
     /// An element begins. The range is the whole element's.
     Begin(Element),
     /// The element that began last ends.
@@ -111,6 +114,36 @@ pub fn begin(slots: &mut Vec<Slot>, at: usize, element: Element, end: usize)
             end: slot.end.max(end),
         };
     }
+}
+
+/// Makes a slot another one.
+pub fn replace_slot(slots: &mut Vec<Slot>, at: usize, slot: Slot)
+    requires { begins_link slot.kind ≡ false }
+    ensures value { slots.new.items ≡ set slots.old.items at slot }
+    ensures slots { (text : List ℕ) (place : ℕ) → AreSlots text place slots.old.items → IsSlot text place slot → AreSlots text place slots.new.items }
+    ensures length { length slots.new.items ≡ length slots.old.items }
+    ensures links { NoNewLink slots.old.items slots.new.items }
+{
+    if at < slots.len() {
+        slots[at] = slot;
+    }
+}
+
+/// Puts a slot at this index, in the place of the one there or behind the last.
+pub fn put_slot(slots: &mut Vec<Slot>, at: usize, slot: Slot) -> Result<(), AllocError>
+    requires { begins_link slot.kind ≡ false }
+    ensures value { OnOk result (slots.new.items ≡ put_at at slot slots.old.items) }
+    ensures slots { OnOk result ((text : List ℕ) (place : ℕ) → AreSlots text place slots.old.items → IsSlot text place slot → AreSlots text place slots.new.items) }
+    ensures length { OnOk result (length slots.new.items ≤ length slots.old.items + 1) }
+    ensures longer { OnOk result (length slots.old.items ≤ length slots.new.items) }
+    ensures links { OnOk result (NoNewLink slots.old.items slots.new.items) }
+{
+    if at < slots.len() {
+        replace_slot(slots, at, slot);
+        return Ok(());
+    }
+    push_slot(slots, slot.kind, slot.start, slot.end)?;
+    Ok(())
 }
 
 /// Makes a slot that of a delimiter: the end of an element, or nothing any more.

@@ -7,6 +7,7 @@ ghost use Rattle.cmark_finds.specs.Dollars.{AreDollarsOf};
 ghost use Rattle.cmark_leaf_text.specs.Reads.{IsRead, IsPart, text_of};
 ghost use Rattle.cmark_inline.specs.Asking.{AsksBetween, AsksUpTo, closing_brackets};
 ghost use Rattle.cmark_inline.specs.Stands.{AreSlots, AreBrackets, IsBracket, IsCursor, IsSlot, IsTarget, Moves, SameSpans, Stands, PushesText, begins_link, bytes_of};
+ghost use Rattle.cmark_inline.specs.Footnoted.{SameFootnotes};
 ghost use Rattle.cmark_inline.specs.FoundInSource.{AreUnclosed};
 ghost use Rattle.cmark_inline.specs.SpecialReads.{ReadsSpecial};
 ghost use Rattle.cmark_inline.specs.Tokens.{Puts};
@@ -22,6 +23,7 @@ use crate::read::Reader;
 use crate::slot::{Slot, push_slot, push_text};
 use crate::state::InlineState;
 use cmark_finds::{BacktickRuns, Dollars};
+use cmark_items::FootnoteDefs;
 use cmark_leaf_text::LeafText;
 use cmark_text::EntityLookup;
 use std::alloc::AllocError;
@@ -44,11 +46,12 @@ pub struct Sought {
 }
 
 impl<'a> InlineState<'a> {
-    /// Reads the text of a leaf: its events are then given by `next`.
+    /// Reads the text of a leaf: its events are then given by `next`. A use is counted of each footnote of `footnotes` that it refers to.
     pub fn resolve<E: EntityLookup, F: BrokenLinkCallback<'a>>(
         &mut self,
         leaf: &LeafText<'a>,
         reader: &Reader<'_, 'a, E>,
+        footnotes: &mut FootnoteDefs,
         callback: &mut F,
     ) -> Result<(), AllocError>
         requires { IsRead leaf.now }
@@ -57,6 +60,7 @@ impl<'a> InlineState<'a> {
         ensures few { OnOk result (length self.new.slots.items ≤ length (text_of leaf.now)) }
         ensures slots { OnOk result (AreSlots (text_of leaf.now) (length (text_of leaf.now)) self.new.slots.items) }
         ensures opened { OnOk result (self.new.walk.opened.items ≡ []) }
+        ensures footnotes { SameFootnotes footnotes.old footnotes.new }
     {
         self.clear();
         let text = leaf.as_str();
@@ -67,7 +71,7 @@ impl<'a> InlineState<'a> {
         };
         let mut cursor = Cursor { pending: 0, at: 0 };
         while cursor.at < text.len() {
-            cursor = self.step(leaf, reader, callback, &mut sought, text, cursor)?;
+            cursor = self.step(leaf, reader, footnotes, callback, &mut sought, text, cursor)?;
         }
         self.flush(text, cursor, text.len())?;
         self.quotes.resolve(0, &mut self.slots)?;
@@ -81,6 +85,7 @@ impl<'a> InlineState<'a> {
         &mut self,
         leaf: &LeafText<'a>,
         reader: &Reader<'_, 'a, E>,
+        footnotes: &mut FootnoteDefs,
         callback: &mut F,
         sought: &mut Sought,
         text: &str,
@@ -101,6 +106,7 @@ impl<'a> InlineState<'a> {
         ensures asks_here { IfOk result (λ next. AsksBetween F.answers text.now cursor.at next.at callback.old callback.new) }
         ensures spent { self.old.expansion ≡ 0 → (callback.new ≡ callback.old) × (self.new.expansion ≡ 0) }
         ensures moves { IfOk result (Moves text.now cursor.at self.new) }
+        ensures footnotes { SameFootnotes footnotes.old footnotes.new }
         ensures token { (at : ℕ) → at ≡ cursor.at + position_or_len (in_rows reader.now.special.now) (drop cursor.at text.now) → at < length text.now → is_special (shown_options reader.now.options) (slice_index text.now at) ≡ true → (slice_index text.now at == 93) ≡ false → IfOk result (ReadsSpecial (shown_options reader.now.options) (E.replacement reader.now.entities.now) leaf.now (record { pending = cursor.pending; at = at }) self.old self.new) }
     {
         let bytes = text.as_bytes();
@@ -116,7 +122,7 @@ impl<'a> InlineState<'a> {
             at,
         };
         if bytes[at] == b']' {
-            return self.close_bracket(leaf, reader, callback, text, here);
+            return self.close_bracket(leaf, reader, footnotes, callback, text, here);
         }
         self.span(leaf, reader, sought, text, here)
     }

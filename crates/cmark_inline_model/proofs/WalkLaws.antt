@@ -32,7 +32,7 @@ inline_single (End tag) h = absurd h
 inline_single (event.InlineMath text) h = tt
 inline_single (event.DisplayMath text) h = tt
 inline_single (event.Html text) h = absurd h
-inline_single (event.FootnoteReference label) h = absurd h
+inline_single (event.FootnoteReference label) h = tt
 inline_single event.Rule h = absurd h
 inline_single (event.TaskListMarker is_checked) h = absurd h
 

@@ -9,7 +9,7 @@ use cmark_inline::{
     BrokenLink, BrokenLinkCallback, DefaultBrokenLinkCallback, InlineState, OwnedLinkCallback,
     Reader, special_bytes,
 };
-use cmark_items::{LinkDef, RefDefs};
+use cmark_items::{FootnoteDefs, LinkDef, RefDefs};
 use cmark_leaf_text::{LeafLine, LeafText};
 use cmark_text::{BasicEntities, CowStr, Event, LinkLabel, LinkType, Options, Tag, TagEnd};
 use std::alloc::{AllocError, Global};
@@ -30,7 +30,7 @@ fn is_line(source: &str, from: usize, line: LeafLine) -> bool
 }
 
 /// A leaf of one line, which is the source.
-fn whole<'a>(alloc: Global, source: &'a str) -> Result<Option<LeafText<'a>>, AllocError>
+pub fn whole<'a>(alloc: Global, source: &'a str) -> Result<Option<LeafText<'a>>, AllocError>
     ensures { IfOk result (λ found. IfSome found IsRead) }
 {
     let line = LeafLine {
@@ -72,11 +72,26 @@ fn quoted<'a>(
     Ok(Some(leaf))
 }
 
-/// The events of a leaf, one a line: its range and what it is. Nothing, where there is no leaf.
+/// The events of a leaf where no footnote is defined.
 fn events<'a, F: BrokenLinkCallback<'a>>(
     alloc: Global,
     found: Option<LeafText<'a>>,
     references: &RefDefs<'a>,
+    options: Options,
+    callback: &mut F,
+) -> Result<String, Fail>
+    requires { IfSome found IsRead }
+{
+    let mut none = FootnoteDefs::new(alloc);
+    events_with(alloc, found, references, &mut none, options, callback)
+}
+
+/// The events of a leaf, one a line: its range and what it is. Nothing, where there is no leaf.
+pub fn events_with<'a, F: BrokenLinkCallback<'a>>(
+    alloc: Global,
+    found: Option<LeafText<'a>>,
+    references: &RefDefs<'a>,
+    footnotes: &mut FootnoteDefs,
     options: Options,
     callback: &mut F,
 ) -> Result<String, Fail>
@@ -95,7 +110,7 @@ fn events<'a, F: BrokenLinkCallback<'a>>(
         special: &special,
     };
     let mut state: InlineState<'a> = InlineState::new(alloc, 0);
-    state.resolve(&leaf, &reader, callback)?;
+    state.resolve(&leaf, &reader, footnotes, callback)?;
     for _ in 0..500 {
         let Some(given) = state.next(&leaf)? else {
             break;

@@ -6,4 +6,6 @@ mod emphasis;
 #[cfg(test)]
 mod finds;
 #[cfg(test)]
+mod footnotes;
+#[cfg(test)]
 mod inline;

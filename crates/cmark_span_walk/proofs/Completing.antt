@@ -83,7 +83,7 @@ module _ (source : List ℕ) where
       by (DisplayMath text) is h = alone (DisplayMath text) is h.0 h.1
       by (Html text) is h = absurd h.0
       by (InlineHtml text) is h = alone (InlineHtml text) is h.0 h.1
-      by (FootnoteReference label) is h = absurd h.0
+      by (FootnoteReference label) is h = alone (FootnoteReference label) is h.0 h.1
       by SoftBreak is h = alone SoftBreak is h.0 h.1
       by HardBreak is h = alone HardBreak is h.0 h.1
       by Rule is h = absurd h.0

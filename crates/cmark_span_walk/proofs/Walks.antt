@@ -6,9 +6,11 @@ use Rattle.cmark_grammar.specs.LeafSpans.{AreGiven}
 use Rattle.cmark_grammar.specs.LeafText.{Leaf}
 use Rattle.cmark_grammar.specs.SpanDocuments.{Segment, Given as GivenOf, Content}
 use Rattle.cmark_grammar.proofs.LeafSpanLaws.{some-given}
+use Rattle.cmark_items.specs.declared.footnotes.FootnoteDefs.{FootnoteDefs}
 use Rattle.cmark_inline.specs.declared.event.Opened.{Opened}
 use Rattle.cmark_inline.specs.declared.slot.Slot.{Slot}
 use Rattle.cmark_inline.specs.declared.state.InlineState.{InlineState}
+use Rattle.cmark_inline.specs.Footnoted.{SameFootnotes}
 use Rattle.cmark_inline.specs.Opens.{Follows}
 use Rattle.cmark_inline.specs.Stands.{AreOpened, AreSlots}
 use Rattle.cmark_leaf_text.specs.declared.leaf_text.LeafText.{LeafText}
@@ -20,7 +22,7 @@ use Rattle.cmark_walk.specs.Walking as walking
 use Rattle.cmark_walk.specs.Walking.{AreLinesOf, shown_ranged}
 use Rattle.cmark_walk.proofs.OneRemainder.{one-remainder}
 use Rattle.cmark_span_walk.specs.declared.span_walk.SpanWalk.{SpanWalk}
-use Rattle.cmark_span_walk.specs.Walking.{BeforeLeaf, BlocksLeft, Completes, EntersLeaf, Gives, LeftIn, Remains, Stands, StandsIn, StandsInLeaf, definitions_of, events_left, opened_of, source_of}
+use Rattle.cmark_span_walk.specs.Walking.{BeforeLeaf, BlocksLeft, Completes, EntersLeaf, Gives, LeftIn, Remains, Stands, StandsIn, StandsInLeaf, definitions_of, events_left, footnotes_of, opened_of, source_of}
 use Rattle.cmark_span_walk.proofs.Completing.{can-close, completes-nested}
 
 none-opened : (source : List ℕ) (opened : List Opened) → opened ≡ [] → AreOpened source opened
@@ -118,10 +120,10 @@ module _ {E F : Type 0} where
       record { left = s.0; stands = s.1; are = inside-left walk s.0 events inside ([], events, refl, none, subst (λ l. AreGiven (source_of walk) l events) same m.are) }
 
   -- into a leaf
-  pub enters : (old : SpanWalk E F) (leaf : LeafText) (inline : InlineState) (callback : F) → IsRead leaf → leaf.source.now ≡ source_of old → AreSlots (text_of leaf) (length (text_of leaf)) inline.slots.items → inline.walk.opened.items ≡ []
-      → (one : Leaf) (others : List Segment) → BeforeLeaf old one others → EntersLeaf others (record old { leaf = leaf; inline = inline; in_leaf = true; callback = callback })
-  enters old leaf inline callback read source slots none one others before =
-      let new : SpanWalk E F = record old { leaf = leaf; inline = inline; in_leaf = true; callback = callback } in
+  pub enters : (old : SpanWalk E F) (leaf : LeafText) (inline : InlineState) (footnotes : FootnoteDefs) (callback : F) → IsRead leaf → leaf.source.now ≡ source_of old → AreSlots (text_of leaf) (length (text_of leaf)) inline.slots.items → inline.walk.opened.items ≡ []
+      → (one : Leaf) (others : List Segment) → BeforeLeaf old one others → EntersLeaf others (record old { leaf = leaf; inline = inline; footnotes = footnotes; in_leaf = true; callback = callback })
+  enters old leaf inline footnotes callback read source slots none one others before =
+      let new : SpanWalk E F = record old { leaf = leaf; inline = inline; footnotes = footnotes; in_leaf = true; callback = callback } in
       record {
         stands = record { blocks = left-same old new others refl refl source before.blocks; leaf = record { read = read; slots = slots; opened = none-opened leaf.source.now inline.walk.opened.items none } };
         inside = refl;
@@ -141,10 +143,11 @@ module _ {E F : Type 0} where
     pub budget : walk.budget ≤ old.budget
     pub most : (events_left walk ≤ events_left old) ⊎ IsFresh old walk
     pub definitions : definitions_of walk ≡ definitions_of old
+    pub footnotes : SameFootnotes (footnotes_of old) (footnotes_of walk)
     pub source : source_of walk ≡ source_of old
 
   pub lasts-none : (walk : SpanWalk E F) → Stands walk → Lasts walk walk
-  lasts-none walk s = record { stands = s; back = λ events r. r; budget = omega arith; most = inl (omega arith); definitions = refl; source = refl }
+  lasts-none walk s = record { stands = s; back = λ events r. r; budget = omega arith; most = inl (omega arith); definitions = refl; footnotes = λ folded. refl; source = refl }
 
   pub gives-back : (old mid new : SpanWalk E F) (given : Given) → Lasts old mid → Gives mid (Some given) new → Gives old (Some given) new
   gives-back old mid new given l g events r = l.back (shown_ranged given ∷ events) (g events r)
@@ -203,9 +206,9 @@ module _ {E F : Type 0} where
 
     -- behind the lines of a leaf, which is entered
     pub lasts-leaf : (old head new : SpanWalk E F) (leaf : Leaf) (others : List Segment) → Lasts old head → mid.budget ≡ head.budget
-        → ((events : List Ranged) → Remains mid events → Remains head events) → definitions_of new ≡ definitions_of head → source_of mid ≡ source_of head
+        → ((events : List Ranged) → Remains mid events → Remains head events) → definitions_of new ≡ definitions_of head → SameFootnotes (footnotes_of head) (footnotes_of new) → source_of mid ≡ source_of head
         → s.0 ≡ Content leaf ∷ others → EntersLeaf others new → source_of new ≡ source_of mid → new.budget ≡ mid.budget - 1 → Lasts old new
-    lasts-leaf old head new leaf others l same back definitions kept e enters source spent =
+    lasts-leaf old head new leaf others l same back definitions footnotes kept e enters source spent =
         let some = not-spent (Content leaf) others e in
         let le = l.budget in
         record {
@@ -214,5 +217,6 @@ module _ {E F : Type 0} where
           budget = omega (arith, spent, same, le);
           most = inr (record { spent = (let q : new.budget < old.budget = omega (arith, some, spent, same, le) in q); inside = enters.inside; none_open = enters.none_open });
           definitions = definitions ∙ l.definitions;
+          footnotes = λ folded. footnotes folded ∙ l.footnotes folded;
           source = source ∙ kept ∙ l.source;
         }

@@ -5,6 +5,7 @@ use Rattle.cmark_grammar.specs.LeafSpans.{AreGiven}
 use Rattle.cmark_grammar.specs.LeafText.{Leaf}
 use Rattle.cmark_grammar.specs.SpanDocuments.{Segment}
 use Rattle.cmark_items.specs.declared.definitions.RefDefs.{RefDefs}
+use Rattle.cmark_items.specs.declared.footnotes.FootnoteDefs.{FootnoteDefs}
 use Rattle.cmark_inline.specs.declared.event.Opened.{Opened}
 use Rattle.cmark_inline.specs.Opens as opens
 use Rattle.cmark_inline.specs.Opens.{Follows}
@@ -36,6 +37,10 @@ module _ {E F : Type 0} where
   -- the definitions of links
   abbrev pub definitions_of : SpanWalk E F → RefDefs
   definitions_of walk = walking.definitions_of walk.walk
+
+  -- the footnotes that the text defines, each with the uses that were counted
+  abbrev pub footnotes_of : SpanWalk E F → FootnoteDefs
+  footnotes_of walk = walk.footnotes
 
   -- these events and leaves of the document are left
   pub record BlocksLeft (walk : SpanWalk E F) (left : List Segment) : Type 0 where

@@ -5,12 +5,13 @@ ghost use Rattle.cmark_grammar.specs.Event.{Ranged as Shown};
 ghost use Rattle.cmark_grammar.specs.LeafSpans.{AreGiven};
 ghost use Rattle.cmark_grammar.specs.LeafText.{Leaf};
 ghost use Rattle.cmark_grammar.specs.SpanDocuments.{Segment};
+ghost use Rattle.cmark_inline.specs.Footnoted.{SameFootnotes};
 ghost use Rattle.cmark_inline.specs.Opens.{shown_given, GivesZeroCopy as SpanZeroCopy};
 ghost use Rattle.cmark_walk.specs.Walking.{Remains as BlocksRemain, definitions_of as block_definitions, shown_ranged, text_of};
 ghost use Rattle.cmark_span_walk.specs.Walking.{GivesZeroCopy};
 
 use cmark_inline::{BrokenLinkCallback, Given, InlineState, Reader, SpecialBytes, special_bytes};
-use cmark_items::RefDefs;
+use cmark_items::{FootnoteDefs, RefDefs};
 use cmark_leaf_text::{LeafLine, LeafText};
 use cmark_text::{EntityLookup, Options};
 use cmark_walk::{Met, Ranged, Walk};
@@ -27,6 +28,7 @@ pub struct SpanWalk<'input, 'e, E, F> {
     lines: Vec<LeafLine>,
     leaf: LeafText<'input>,
     inline: InlineState<'input>,
+    footnotes: FootnoteDefs,
     entities: &'e E,
     options: Options,
     special: SpecialBytes,
@@ -34,10 +36,11 @@ pub struct SpanWalk<'input, 'e, E, F> {
 }
 
 impl<'input, 'e, E: EntityLookup, F: BrokenLinkCallback<'input> + Drop> SpanWalk<'input, 'e, E, F> {
-    ghost use Rattle.cmark_span_walk.specs.Walking.{definitions_of, source_of, events_left, Stands, Remains, Gives, GivesSpan, BeforeLeaf, EntersLeaf};
+    ghost use Rattle.cmark_span_walk.specs.Walking.{definitions_of, footnotes_of, source_of, events_left, Stands, Remains, Gives, GivesSpan, BeforeLeaf, EntersLeaf};
 
     /// A walk over what this walk over the text meets, which are fewer events and leaves than `budget`. `entities` says what the
-    /// entity names stand for; `callback` is asked for references without a definition.
+    /// entity names stand for; `footnotes` are those that the text defines, of which each counts its references; `callback` is asked
+    /// for references without a definition.
     pub fn new(
         alloc: Global,
         text: &'input str,
@@ -45,6 +48,7 @@ impl<'input, 'e, E: EntityLookup, F: BrokenLinkCallback<'input> + Drop> SpanWalk
         budget: u128,
         options: Options,
         entities: &'e E,
+        footnotes: FootnoteDefs,
         callback: F,
     ) -> SpanWalk<'input, 'e, E, F>
         ensures begins { (left : List Segment) (events : List Shown)
@@ -58,6 +62,7 @@ impl<'input, 'e, E: EntityLookup, F: BrokenLinkCallback<'input> + Drop> SpanWalk
             → Remains result events
             → AreGiven text.entry.now left events }
         ensures definitions { definitions_of result ≡ block_definitions walk.entry }
+        ensures footnotes { footnotes_of result ≡ footnotes }
         ensures source { source_of result ≡ text.entry.now }
     {
         SpanWalk {
@@ -67,6 +72,7 @@ impl<'input, 'e, E: EntityLookup, F: BrokenLinkCallback<'input> + Drop> SpanWalk
             lines: Vec::new(alloc),
             leaf: LeafText::new(alloc, text),
             inline: InlineState::new(alloc, text.len()),
+            footnotes,
             entities,
             options,
             special: special_bytes(options),
@@ -90,6 +96,7 @@ impl<'input, 'e, E: EntityLookup, F: BrokenLinkCallback<'input> + Drop> SpanWalk
         ensures lent { IfOk result (λ given. IfSome given (GivesZeroCopy (source_of self.old))) }
         ensures fewer { IfOk result (λ given. OnSome given (events_left self.new < events_left self.old)) }
         ensures definitions { definitions_of self.new ≡ definitions_of self.old }
+        ensures footnotes { SameFootnotes (footnotes_of self.old) (footnotes_of self.new) }
         ensures source { source_of self.new ≡ source_of self.old }
     {
         loop {
@@ -124,6 +131,7 @@ impl<'input, 'e, E: EntityLookup, F: BrokenLinkCallback<'input> + Drop> SpanWalk
         ensures budget { self.new.budget ≡ self.old.budget }
         ensures source { source_of self.new ≡ source_of self.old }
         ensures definitions { definitions_of self.new ≡ definitions_of self.old }
+        ensures footnotes { footnotes_of self.new ≡ footnotes_of self.old }
     {
         if !self.in_leaf {
             return Ok(None);
@@ -144,6 +152,7 @@ impl<'input, 'e, E: EntityLookup, F: BrokenLinkCallback<'input> + Drop> SpanWalk
         ensures source { source_of self.new ≡ source_of self.old }
         ensures budget { self.new.budget ≡ self.old.budget }
         ensures definitions { definitions_of self.new ≡ definitions_of self.old }
+        ensures footnotes { SameFootnotes (footnotes_of self.old) (footnotes_of self.new) }
     {
         self.leaf.read(self.lines.as_slice())?;
         let reader = Reader {
@@ -152,8 +161,9 @@ impl<'input, 'e, E: EntityLookup, F: BrokenLinkCallback<'input> + Drop> SpanWalk
             options: self.options,
             special: &self.special,
         };
+        let footnotes = &mut self.footnotes;
         self.inline
-            .resolve(&self.leaf, &reader, &mut self.callback)?;
+            .resolve(&self.leaf, &reader, footnotes, &mut self.callback)?;
         self.in_leaf = true;
         Ok(())
     }

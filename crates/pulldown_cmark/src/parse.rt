@@ -8,11 +8,12 @@ ghost use Rattle.cmark_text.specs.Shown.{shown_options};
 use bitflags::Flags;
 use cmark_blocks::{FirstPass, run_first_pass};
 use cmark_inline::{BrokenLinkCallback, DefaultBrokenLinkCallback};
-use cmark_items::RefDefs;
+use cmark_items::{FootnoteDefs, RefDefs};
 use cmark_span_walk::{OptionalCallback, SpanWalk};
 use cmark_text::{EntityLookup, Event, Options};
 use cmark_walk::{Ranged, Walk};
 use std::alloc::{AllocError, Global};
+use std::mem;
 use std::ops::Range;
 
 /// An iterator over the events of a text's document, in the order of the text.
@@ -55,7 +56,7 @@ impl<'input, E: EntityLookup> Parser<'input, E> {
         Ok(parser)
     }
 
-    /// A parser of `text` with these options. Those for strikethrough, superscript, subscript and smart punctuation have an
+    /// A parser of `text` with these options. Those for strikethrough, superscript, subscript, smart punctuation and footnotes have an
     /// effect, on spans, those for metadata blocks on blocks, and that for heading attributes on ATX headings; the others are read
     /// from the day on which the grammar has their rules.
     pub fn new_ext(
@@ -91,12 +92,19 @@ impl<'input, E: EntityLookup, F: BrokenLinkCallback<'input> + Drop> Parser<'inpu
         ensures definitions { IfOk result (Defines text.entry.now (shown_options options) (E.replacement entities.entry.now)) }
         ensures goes { IfOk result CanGo }
     {
-        let FirstPass { tree, allocations } = run_first_pass(alloc, text, options, entities)?;
+        let FirstPass {
+            tree,
+            mut allocations,
+        } = run_first_pass(alloc, text, options, entities)?;
+        let none = FootnoteDefs::new(alloc);
+        let footnotes = mem::replace(&mut allocations.footdefs, none);
         let budget = text.len() as u128 * EVENTS_A_BYTE + 1;
         let walk = Walk::new(alloc, text, tree, allocations);
         let callback = OptionalCallback { callback };
         Ok(Parser {
-            spans: SpanWalk::new(alloc, text, walk, budget, options, entities, callback),
+            spans: SpanWalk::new(
+                alloc, text, walk, budget, options, entities, footnotes, callback,
+            ),
             is_over: false,
         })
     }

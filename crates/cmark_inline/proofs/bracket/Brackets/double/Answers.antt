@@ -13,7 +13,7 @@ returns-in_ok-push-clause-brackets c = λ text at bs ds is.
     let e = c.in-Some.ensures.ends in
     subst (AreBrackets text at) (sym c.in_ok-push.ensures.brackets)
     (All-push (IsBracket text at) c.args.self.now.standing.items _ ds
-    (record { part = record { some = (let q : c.in-Some.first.start < c.args.second.inside = omega (arith, a, b, e) in q); within = is.part.within; starts = first.part.starts; ends = is.part.ends }; before = is.before }))
+    (record { part = record { some = (let q : c.in-Some.first.start < c.args.second.inside = omega (arith, a, b, e) in q); within = is.part.within; starts = first.part.starts; ends = is.part.ends }; mark = first.mark; before = is.before }))
 
 pub returns-in_ok-push-clause-free : goal.returns-in_ok-push-clause-free
 returns-in_ok-push-clause-free c = λ slots free doubled.

@@ -24,7 +24,7 @@ returns-clause-moves c =
     let k : Keeps text inside c.push_slot.new.slots.items v w n = keeps-push text at inside c.flush.new.self.slots.items c.push_slot.new.slots.items slot v w n (record { slots = s.slots; brackets = s.brackets; few = f; free = s.free; doubled = s.doubled; doubled_free = s.doubled_free; runs = s.runs })
     (let q : at ≤ inside = omega (arith, lt) in q) (let q : length c.flush.new.self.slots.items < inside = omega (arith, f, lt) in q) refl
     (record { part = p; before = (let q : inside ≤ inside = omega arith in q); content = tt }) c.in_ok-push_slot.ensures in
-    let is : IsBracket text inside _ = record { part = p; before = (let q : inside ≤ inside = omega arith in q) } in
+    let is : IsBracket text inside _ = record { part = p; mark = c.requires.mark; before = (let q : inside ≤ inside = omega arith in q) } in
     record {
       stands = record {
         slots = k.slots;

@@ -8,7 +8,7 @@ use Rattle.cmark_inline.proofs.state.InlineState.resolve.Goals as goal
 pub loop-cursor-init : goal.loop-cursor-init
 loop-cursor-init g c =
     let b = IsCharBoundary-start c.as_str-text.result.now c.as_str-text.utf8 in
-    (c.clear.ensures.stands c.as_str-text.result.now, record { pending = b; at = b; ordered = omega arith }, refl, (λ none. (refl, none)), search rules, c.none.ensures c.args.leaf.now 0, search rules)
+    (c.clear.ensures.stands c.as_str-text.result.now, record { pending = b; at = b; ordered = omega arith }, refl, (λ none. (refl, none)), search rules, c.none.ensures c.args.leaf.now 0, search rules, (λ folded. refl))
 
 pub returns-clause-slots : goal.returns-clause-slots
 returns-clause-slots g c =
@@ -30,6 +30,7 @@ loop-cursor-preserved g c =
       c.step.ensures.runs,
       c.in_ok-cursor.ensures.kept,
       c.step.ensures.dollars,
+      (λ folded. c.step.ensures.footnotes folded ∙ i.7 folded),
     )
 
 pub returns-in_err-cursor-clause-asks : goal.returns-in_err-cursor-clause-asks

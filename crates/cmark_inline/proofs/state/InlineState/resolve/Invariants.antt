@@ -2,6 +2,7 @@ use Rattle.std.proofs.Common.{◌≡◌, ◌-◌, length, take}
 use Rattle.cmark_finds.specs.Backticks.{AreRunsOf}
 use Rattle.cmark_finds.specs.Dollars.{AreDollarsOf}
 use Rattle.cmark_inline.specs.Asking.{AsksUpTo, closing_brackets}
+use Rattle.cmark_inline.specs.Footnoted.{SameFootnotes}
 use Rattle.cmark_inline.specs.FoundInSource.{AreUnclosed}
 use Rattle.cmark_inline.specs.Stands.{Stands, IsCursor}
 use Rattle.cmark_inline.proofs.state.InlineState.resolve.Given as goal
@@ -15,6 +16,7 @@ invariant-loop-cursor g l =
     × AreRunsOf l.text l.sought.runs
     × AreUnclosed l.leaf l.cursor.at l.sought.unclosed
     × AreDollarsOf l.text l.sought.dollars
+    × SameFootnotes l.initial.footnotes l.footnotes
 
 abbrev pub decreases-loop-cursor : goal.decreases-loop-cursor
 decreases-loop-cursor g l = length l.text - l.cursor.at

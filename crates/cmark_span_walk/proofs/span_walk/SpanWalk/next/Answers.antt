@@ -1,4 +1,6 @@
-use Rattle.std.proofs.Common.{refl, ◌∙◌, subst}
+use Rattle.std.specs.Prelude.{is_some}
+use Rattle.std.proofs.Common.{refl, ap, ◌∙◌, subst}
+use Rattle.cmark_items.specs.Footnotes.{footnote}
 use Rattle.cmark_walk.specs.Walking as walking
 use Rattle.cmark_walk.specs.Walking.{MeetsZeroCopy, shown_ranged}
 use Rattle.cmark_span_walk.specs.Walking.{GivesSpan, GivesZeroCopy}
@@ -41,7 +43,8 @@ loop-given-preserved g c =
     let gives = subst (λ m. walking.Gives s.0 m c.next.new.lines.items c.next.new.self) c.in-Leaf.is (c.in_ok-given-2.ensures.given s.0 s.1.blocks.remains) in
     let before = before-leaf mid c.next.new.self c.next.new.lines s none.0 c.in_ok-given-2.ensures.text _ gives.0 gives.1 gives.2 gives.3 gives.4 refl in
     lasts-leaf mid c.next.new.self c.next.new.lines s none.0 c.in_ok-given-2.ensures.text c.args.self.now c.loop-given.self c.enter_leaf.new.self gives.0 gives.1 c.loop-given.invariant c.in_ok-given.ensures.budget none.1
-    (e.definitions ∙ c.in_ok-given-2.ensures.definitions ∙ c.in_ok-given.ensures.definitions) c.in_ok-given.ensures.source gives.2 (e.enters gives.0 gives.1 before) e.source e.budget
+    (e.definitions ∙ c.in_ok-given-2.ensures.definitions ∙ c.in_ok-given.ensures.definitions)
+    (λ folded. e.footnotes folded ∙ ap (λ t. is_some (footnote t folded)) c.in_ok-given.ensures.footnotes) c.in_ok-given.ensures.source gives.2 (e.enters gives.0 gives.1 before) e.source e.budget
 
 pub returns-in-Over-clause-stands : goal.returns-in-Over-clause-stands
 returns-in-Over-clause-stands g c =

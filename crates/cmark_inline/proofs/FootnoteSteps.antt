@@ -1,0 +1,73 @@
+-- Footnote references: their labels, and the slot of a `!` before one.
+use Rattle.std.specs.Prelude.{Option, Some, None, is_some, drop, if◌then◌else◌, not, ◌&&◌, ◌||◌}
+use Rattle.std.specs.List.{list_any}
+use Rattle.std.proofs.Common.{◌≡◌, ℕ, ◌+◌, ◌≤◌, ◌<◌, ◌==◌, Bool, true, false, true≢false, List, [], ◌∷◌, refl, sym, ap, subst, ◌∙◌, arith}
+use Rattle.cmark_grammar.specs.BracketDecisions as decisions
+use Rattle.cmark_grammar.specs.InlineHtml.{takes_lines}
+use Rattle.cmark_grammar.specs.Lines.{is_content}
+use Rattle.cmark_grammar.specs.LinkTails.{is_bracketed_label, link_tail_in, reference_label_in}
+use Rattle.cmark_grammar.specs.Options.{Options}
+use Rattle.cmark_grammar.specs.Tokens.{slice}
+use Rattle.cmark_leaf_text.specs.Reads.{IsPart}
+use Rattle.cmark_inline.specs.Footnoted.{fits_footnote, footnote_label, footnote_of, labels, no_leaf, reference_start, unless_footnote}
+use Rattle.cmark_inline.specs.Stands.{IsBracket, IsSlot}
+use Rattle.cmark_inline.specs.declared.bracket.Bracket.{Bracket}
+use Rattle.cmark_inline.specs.declared.slot.SlotKind.TheVariants as kind
+
+-- ## Labels
+
+neither : (y z : Bool) → not (y || z) ≡ (not y && not z)
+neither true z = refl
+neither false z = refl
+
+both : (x y z w : Bool) → not y ≡ w → x ≡ not z → (x && w) ≡ not (z || y)
+both true y true w e h = absurd (true≢false h)
+both true y false w e h = sym e
+both false y true w e h = refl
+both false y false w e h = absurd (true≢false (sym h))
+
+-- a text is on one line where no line ends in it
+pub one-line : (options : Options) (bs : List ℕ) → decisions.is_one_line (labels options) no_leaf bs ≡ not (takes_lines bs)
+one-line options [] = refl
+one-line options (b ∷ bs) = both (is_content b) (takes_lines bs) ((b == 10) || (b == 13)) (decisions.is_one_line (labels options) no_leaf bs) (sym (one-line options bs)) (sym (neither (b == 10) (b == 13)))
+
+pub fits-on-one-line : (options : Options) (label : List ℕ) (found : Bool) → is_bracketed_label label ≡ true → options.old_footnotes ≡ false → found ≡ takes_lines label → not found ≡ fits_footnote options label
+fits-on-one-line options label found is new e =
+    ap not e ∙ sym (one-line options label) ∙ sym (ap (λ y. y || decisions.is_one_line (labels options) no_leaf label) new)
+    ∙ sym (ap (λ y. y && (options.old_footnotes || decisions.is_one_line (labels options) no_leaf label)) is)
+
+-- where footnotes are not read, nothing is a label of one
+label-off : (options : Options) (between : List ℕ) → options.footnotes ≡ false → footnote_label options between ≡ None
+label-off options [] off = refl
+label-off options (b ∷ bs) off = ap (λ y. if y && ((b == 94) && fits_footnote options bs) then Some bs else None) off
+
+pub none-off : (options : Options) (is_shut : Bool) (text : List ℕ) (close : ℕ) (taken : Option Bracket) → options.footnotes ≡ false → footnote_of options is_shut text close taken ≡ None
+none-off options is_shut text close None off = refl
+none-off options is_shut text close (Some bracket) off = go (is_shut || (is_some (link_tail_in (drop (close + 1) text)) || is_some (unless_footnote options (reference_label_in (drop (close + 1) text)))))
+  where
+    go : (z : Bool) → (if z then None else footnote_label options (slice text bracket.inside close)) ≡ None
+    go true = refl
+    go false = label-off options (slice text bracket.inside close) off
+
+-- ## The slots of a reference, and of the `!` before one
+
+pub reference-part : (text : List ℕ) (close : ℕ) (bracket : Bracket) → IsBracket text close bracket → IsPart text close (close + 1) → IsPart text (reference_start bracket) (close + 1)
+reference-part text close bracket b p = go bracket.is_image refl
+  where
+    before : bracket.start < close
+    before = let some = b.part.some in let le = b.before in omega (arith, some, le)
+
+    go : (z : Bool) → bracket.is_image ≡ z → IsPart text (if z then bracket.start + 1 else bracket.start) (close + 1)
+    go true image = record { some = (let lt = before in let q : bracket.start + 1 < close + 1 = omega (arith, lt) in q); within = p.within; starts = b.mark image; ends = p.ends }
+    go false image = record { some = (let lt = before in let q : bracket.start < close + 1 = omega (arith, lt) in q); within = p.within; starts = b.part.starts; ends = p.ends }
+
+pub mark-slot : (text : List ℕ) (at : ℕ) (bracket : Bracket) → IsBracket text at bracket → bracket.is_image ≡ true → IsSlot text at (record { kind = kind.Text; start = bracket.start; end = bracket.start + 1 })
+mark-slot text at bracket h image =
+    let edge = h.mark image in
+    let some = h.part.some in
+    let before = h.before in
+    record {
+      part = record { some = (let q : bracket.start < bracket.start + 1 = omega arith in q); within = edge.0; starts = h.part.starts; ends = edge };
+      before = (let q : bracket.start + 1 ≤ at = omega (arith, some, before) in q);
+      content = tt;
+    }

@@ -1,0 +1,108 @@
+-- Which closing brackets form footnote references, and what becomes of the slots and the footnotes (this profile's own).
+use Rattle.std.specs.Prelude.{◌≡◌, ℕ, ◌+◌, min, nat_lt, Bool, true, false, not, ◌&&◌, ◌||◌, if◌then◌else◌, List, [], ◌∷◌, ◌++◌, length, drop, set, Option, None, Some, is_some}
+use Rattle.cmark_grammar.specs.BracketDecisions as decisions
+use Rattle.cmark_grammar.specs.Labels.{fold, normal_form}
+use Rattle.cmark_grammar.specs.LeafText.{Leaf}
+use Rattle.cmark_grammar.specs.LinkDefinitions.{Found}
+use Rattle.cmark_grammar.specs.LinkTails.{is_bracketed_label, link_tail_in, reference_label_in}
+use Rattle.cmark_grammar.specs.Options.{Options}
+use Rattle.cmark_grammar.specs.Readers.{Reader}
+use Rattle.cmark_grammar.specs.Tokens.{slice}
+use Rattle.cmark_items.specs.Footnotes.{footnote, Counts, Keeps}
+use Rattle.cmark_items.specs.declared.footnotes.FootnoteDefs.{FootnoteDefs}
+use Rattle.cmark_text.specs.Shown.{text_bytes}
+use Rattle.cmark_text.specs.declared.text.CowStr.{CowStr}
+use Rattle.cmark_inline.specs.Wikilinks.{Hides}
+use Rattle.cmark_inline.specs.declared.bracket.Bracket.{Bracket}
+use Rattle.cmark_inline.specs.declared.slot.Slot.{Slot}
+use Rattle.cmark_inline.specs.declared.slot.SlotKind.TheVariants as kind
+
+-- ## Labels
+
+-- whether a text is a label depends on the options alone
+abbrev pub labels : Options → Reader
+labels options = record {
+  source = [];
+  options = options;
+  lookup = λ name. None;
+  definition = λ folded. None;
+  has_footnote = λ folded. false;
+  has_callback = false;
+}
+
+abbrev pub no_leaf : Leaf
+no_leaf = record { stretches = []; is_cell = false }
+
+abbrev pub is_footnote_label : Options → (between : List ℕ) → Bool
+is_footnote_label options between = decisions.is_footnote_label (labels options) no_leaf between
+
+abbrev pub fits_footnote : Options → (label : List ℕ) → Bool
+fits_footnote options label = is_bracketed_label label && (options.old_footnotes || decisions.is_one_line (labels options) no_leaf label)
+
+-- the label of a footnote, without its `^`
+abbrev pub footnote_label : Options → (between : List ℕ) → Option (List ℕ)
+footnote_label options between = if is_footnote_label options between then Some (drop 1 between) else None
+
+-- such a label is none of a link
+abbrev pub unless_footnote : Options → Option Found → Option Found
+unless_footnote options found = decisions.unless_footnote (labels options) no_leaf found
+
+-- ## Which bracket forms a footnote reference
+
+-- the label between two brackets is that of a footnote reference, unless a destination in parentheses or the label of a link follows,
+-- or the closing bracket is shut off for it
+abbrev pub footnote_behind : Options → (is_shut : Bool) → (between behind : List ℕ) → Option (List ℕ)
+footnote_behind options is_shut between behind =
+    if is_shut || (is_some (link_tail_in behind) || is_some (unless_footnote options (reference_label_in behind))) then None else footnote_label options between
+
+abbrev pub footnote_of : Options → (is_shut : Bool) → (text : List ℕ) → (close : ℕ) → Option Bracket → Option (List ℕ)
+footnote_of options is_shut text close None = None
+footnote_of options is_shut text close (Some bracket) = footnote_behind options is_shut (slice text bracket.inside close) (drop (close + 1) text)
+
+-- it needs a footnote but for old footnotes
+abbrev pub is_accepted : Options → FootnoteDefs → (label : List ℕ) → Bool
+is_accepted options footnotes label = is_some (footnote footnotes (fold label)) || not (decisions.one_line_footnotes (labels options) no_leaf)
+
+abbrev pub forms_footnote : Options → FootnoteDefs → Option (List ℕ) → Bool
+forms_footnote options footnotes None = false
+forms_footnote options footnotes (Some label) = is_accepted options footnotes label
+
+-- ## The footnotes
+
+-- a use is counted of the footnote of this label, if there is one
+abbrev pub CountsOf : Option (List ℕ) → (old new : FootnoteDefs) → Type 0
+CountsOf None old new = Keeps old new
+CountsOf (Some label) old new = Counts (fold label) old new
+
+-- the same labels are those of footnotes
+abbrev pub SameFootnotes : (old new : FootnoteDefs) → Type 0
+SameFootnotes old new = (folded : List ℕ) → is_some (footnote new folded) ≡ is_some (footnote old folded)
+
+-- ## The slots
+
+-- a footnote reference begins with its `[`: a `!` before that is a text
+abbrev pub reference_start : Bracket → ℕ
+reference_start bracket = if bracket.is_image then bracket.start + 1 else bracket.start
+
+abbrev pub reference_slot : Bracket → (count : ℕ) → ℕ
+reference_slot bracket count = min (if bracket.is_image then bracket.slot + 1 else bracket.slot) count
+
+abbrev pub with_mark : Bracket → List Slot → List Slot
+with_mark bracket slots =
+    if bracket.is_image then set slots bracket.slot (record { kind = kind.Text; start = bracket.start; end = bracket.start + 1 }) else slots
+
+abbrev pub put_at : (at : ℕ) → Slot → List Slot → List Slot
+put_at at slot slots = if nat_lt at (length slots) then set slots at slot else slots ++ (slot ∷ [])
+
+-- the slots from that of the bracket on became nothing, and the first of them this one; behind a `!` it is the second
+pub record PutsReference (bracket : Bracket) (reference : Slot) (old new : List Slot) : Type 0 where
+  pub between : List Slot
+  pub hides : Hides (reference_slot bracket (length old)) (length old) old between
+  pub slots_are : new ≡ put_at (reference_slot bracket (length old)) reference (with_mark bracket between)
+
+abbrev pub reference_as : Bracket → (index end : ℕ) → Slot
+reference_as bracket index end = record { kind = kind.FootnoteReference index; start = reference_start bracket; end = end }
+
+-- its label is a text of its own, in normal form
+abbrev pub KeepsLabel : (label : List ℕ) → (old new : List CowStr) → Type 0
+KeepsLabel label old new = (text : CowStr) × (text_bytes text ≡ normal_form label) × (new ≡ old ++ (text ∷ []))

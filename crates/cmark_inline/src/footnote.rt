@@ -1,0 +1,262 @@
+//! Footnote references (this profile's own).
+
+ghost use Rattle.std.specs.Prelude.{◌≡◌, true, false, ◌<◌, ◌≤◌, ◌+◌, ◌++◌, ◌∷◌, ℕ, List, [], drop, length, is_some, IfOk, OnOk, IfSome, OnSome, None, Some, option_copied, option_map};
+ghost use Rattle.std.specs.Str.{IsCharBoundary};
+ghost use Rattle.cmark_finds.specs.Shown.{shown_label};
+ghost use Rattle.cmark_grammar.specs.BracketDecisions.{is_there};
+ghost use Rattle.cmark_grammar.specs.Labels.{fold, normal_form};
+ghost use Rattle.cmark_grammar.specs.LinkTails.{reference_label_in};
+ghost use Rattle.cmark_grammar.specs.Tokens.{slice};
+ghost use Rattle.cmark_items.specs.Footnotes.{Counts};
+ghost use Rattle.cmark_leaf_text.specs.Reads.{IsPart};
+ghost use Rattle.cmark_text.specs.Shown.{shown_options, text_bytes};
+ghost use Rattle.cmark_inline.specs.Doubled.{DropsBehind};
+ghost use Rattle.cmark_inline.specs.Footnoted.{CountsOf, KeepsLabel, PutsReference, SameFootnotes, fits_footnote, footnote_behind, footnote_label, footnote_of, forms_footnote, is_accepted, is_footnote_label, reference_as, reference_slot, reference_start, unless_footnote, with_mark};
+ghost use Rattle.cmark_inline.specs.Stands.{AreSlots, IsBracket, IsSlot, Moves, NoNewLink, Stands, begins_link};
+
+use crate::bracket::Bracket;
+use crate::slot::{Slot, SlotKind, hide, put_slot, replace_slot};
+use crate::state::InlineState;
+use crate::step::Cursor;
+use bitflags::Flags;
+use cmark_definitions::behind_byte;
+use cmark_finds::{Label, has_line_ending, is_bracketed_label, link_tail, reference_label};
+use cmark_items::FootnoteDefs;
+use cmark_text::{CowStr, FootnoteLabel, Options};
+use std::alloc::{AllocError, Global};
+
+/// The label of a footnote without its `^`, if what stands between two brackets is one. It is on one line but for old footnotes.
+pub fn footnote_label(options: Options, between: &str) -> Option<&str>
+    ensures value { option_copied result ≡ footnote_label (shown_options options) between.entry.now }
+{
+    if options.contains(Options::ENABLE_FOOTNOTES) {
+        let label = behind_byte(b'^', between)?;
+        if fits_footnote(options, label) {
+            return Some(label);
+        }
+    }
+    None
+}
+
+/// Whether a footnote may have this label: it has no bracket but escaped ones, and is on one line but for old footnotes.
+fn fits_footnote(options: Options, label: &str) -> bool
+    ensures { result ≡ fits_footnote (shown_options options) label.now }
+{
+    is_bracketed_label(label)
+        && (options.contains(Options::ENABLE_OLD_FOOTNOTES) || !has_line_ending(label))
+}
+
+/// Whether what stands between two brackets is the label of a footnote.
+pub fn is_footnote_label(options: Options, between: &str) -> bool
+    ensures { result ≡ is_footnote_label (shown_options options) between.now }
+{
+    footnote_label(options, between).is_some()
+}
+
+/// The label of a full reference at this place of the text, which stands right behind a closing bracket; one of a footnote is none.
+pub fn full_label(options: Options, text: &str, at: usize) -> Option<Label<'_>>
+    requires { IsCharBoundary text.now at }
+    ensures value { option_map (shown_label text.entry.now) result ≡ unless_footnote (shown_options options) (reference_label_in (drop at text.entry.now)) }
+    ensures further { IfSome result (λ label. at < label.end) }
+    ensures ends { IfSome result (λ label. IsCharBoundary text.entry.now label.end) }
+{
+    let label = reference_label(text, at)?;
+    if is_footnote_label(options, label.label) {
+        return None;
+    }
+    Some(label)
+}
+
+/// The label of the footnote reference whose bracket closes at `close`. `None` where a destination in parentheses or the label of a
+/// link follows, and where the bracket is shut off for its own label.
+fn footnote_at<'t>(
+    options: Options,
+    text: &'t str,
+    bracket: Bracket,
+    close: usize,
+    is_shut: bool,
+) -> Option<&'t str>
+    requires bracket { IsBracket text.now close bracket }
+    requires close { IsPart text.now close (close + 1) }
+    ensures value { option_copied result ≡ footnote_behind (shown_options options) is_shut (slice text.entry.now bracket.inside close) (drop (close + 1) text.entry.now) }
+{
+    let label = footnote_label(options, &text[bracket.inside..close])?;
+    if is_shut
+        || link_tail(text, close + 1).is_some()
+        || full_label(options, text, close + 1).is_some()
+    {
+        return None;
+    }
+    Some(label)
+}
+
+/// Counts a use of the footnote of a label, and says whether the label forms a reference: it needs a footnote but for old ones.
+fn count(options: Options, footnotes: &mut FootnoteDefs, label: &str) -> Result<bool, AllocError>
+    ensures value { IfOk result (λ accepted. accepted ≡ is_accepted (shown_options options) footnotes.old label.now) }
+    ensures counts { OnOk result (Counts (fold label.now) footnotes.old footnotes.new) }
+    ensures same { SameFootnotes footnotes.old footnotes.new }
+{
+    let is_defined = footnotes.count_use(label)?;
+    Ok(is_defined || !options.has_gfm_footnotes())
+}
+
+/// The normal form of a footnote's label, as a text of its own.
+fn name_of<'a>(alloc: Global, label: &str) -> Result<CowStr<'a>, AllocError>
+    ensures { IfOk result (λ name. text_bytes name ≡ normal_form label.now) }
+{
+    let label = FootnoteLabel::new(alloc, label)?;
+    CowStr::Borrowed(label.as_str()).into_static(alloc)
+}
+
+/// The index of the slot of the reference that a bracket opens, of so many slots: that of the bracket's, or of an image's the one behind
+/// it.
+fn reference_slot(bracket: Bracket, count: usize) -> usize
+    ensures { result ≡ reference_slot bracket count }
+{
+    if bracket.is_image {
+        bracket.slot.saturating_add(1).min(count)
+    } else {
+        bracket.slot.min(count)
+    }
+}
+
+/// Where the reference begins that a bracket opens: with its `[`, since a `!` before that is a text.
+fn reference_start(bracket: Bracket) -> usize
+    requires { bracket.start < bracket.inside }
+    ensures { result ≡ reference_start bracket }
+{
+    if bracket.is_image {
+        bracket.start + 1
+    } else {
+        bracket.start
+    }
+}
+
+/// Makes the slot of an image's bracket that of its `!` alone.
+fn put_mark(slots: &mut Vec<Slot>, bracket: Bracket)
+    requires { bracket.start < bracket.inside }
+    ensures value { slots.new.items ≡ with_mark bracket slots.old.items }
+    ensures slots { (text : List ℕ) (place : ℕ) → AreSlots text place slots.old.items → IsBracket text place bracket → AreSlots text place slots.new.items }
+    ensures length { length slots.new.items ≡ length slots.old.items }
+    ensures links { NoNewLink slots.old.items slots.new.items }
+{
+    if bracket.is_image {
+        let mark = Slot {
+            kind: SlotKind::Text,
+            start: bracket.start,
+            end: bracket.start + 1,
+        };
+        replace_slot(slots, bracket.slot, mark);
+    }
+}
+
+impl<'a> InlineState<'a> {
+    // The footnote reference that the bracket forms which was taken, if one was; `None` where it forms none. A use of its footnote is
+    // counted.
+    pub(crate) fn footnote(
+        &mut self,
+        options: Options,
+        footnotes: &mut FootnoteDefs,
+        text: &str,
+        taken: Option<Bracket>,
+        close: usize,
+    ) -> Result<Option<Cursor>, AllocError>
+        requires stands { Stands text.now close self.old }
+        requires bracket { IfSome taken (IsBracket text.now close) }
+        requires close { IsPart text.now close (close + 1) }
+        ensures forms { IfOk result (λ next. is_some next ≡ forms_footnote (shown_options options) footnotes.old (footnote_of (shown_options options) (is_there close self.old.shut_close) text.now close taken)) }
+        ensures next { IfOk result (λ next. IfSome next (λ next. (next.pending ≡ close + 1) × (next.at ≡ close + 1))) }
+        ensures moves { IfOk result (λ next. IfSome next (Moves text.now close self.new)) }
+        ensures others { IfOk result (λ next. next ≡ None → self.new ≡ self.old) }
+        ensures off { (shown_options options).footnotes ≡ false → (self.new ≡ self.old) × (footnotes.new ≡ footnotes.old) }
+        ensures counts { OnOk result (CountsOf (footnote_of (shown_options options) (is_there close self.old.shut_close) text.now close taken) footnotes.old footnotes.new) }
+        ensures same { SameFootnotes footnotes.old footnotes.new }
+        ensures expansion { self.new.expansion ≡ self.old.expansion }
+        ensures label { IfOk result (λ next. IfSome next (λ next. IfSome (footnote_of (shown_options options) (is_there close self.old.shut_close) text.now close taken) (λ label. KeepsLabel label self.old.texts.items self.new.texts.items))) }
+    {
+        if !options.contains(Options::ENABLE_FOOTNOTES) {
+            return Ok(None);
+        }
+        let Some(bracket) = taken else {
+            return Ok(None);
+        };
+        let is_shut = self.is_shut(close);
+        let Some(label) = footnote_at(options, text, bracket, close, is_shut) else {
+            return Ok(None);
+        };
+        if !count(options, footnotes, label)? {
+            return Ok(None);
+        }
+        let name = name_of(self.alloc, label)?;
+        self.form_footnote(text, bracket, close, name)?;
+        Ok(Some(Cursor {
+            pending: close + 1,
+            at: close + 1,
+        }))
+    }
+
+    // Whether a closing bracket is that of a full reference's label, and so shut off for its own.
+    pub(crate) fn is_shut(&self, close: usize) -> bool
+        ensures { result ≡ is_there close self.now.shut_close }
+    {
+        match self.shut_close {
+            Some(other) => other == close,
+            None => false,
+        }
+    }
+
+    // Forms a footnote reference: what stands between its brackets is nothing any more, and all brackets before it are dropped, so that
+    // no link is formed across it. Doubled brackets before it stay.
+    fn form_footnote(
+        &mut self,
+        text: &str,
+        bracket: Bracket,
+        close: usize,
+        name: CowStr<'a>,
+    ) -> Result<(), AllocError>
+        requires stands { Stands text.now close self.old }
+        requires bracket { IsBracket text.now close bracket }
+        requires close { IsPart text.now close (close + 1) }
+        ensures expansion { self.new.expansion ≡ self.old.expansion }
+        ensures stands { OnOk result (Stands text.now (close + 1) self.new) }
+        ensures texts { OnOk result (self.new.texts.items ≡ self.old.texts.items ++ (name.entry ∷ [])) }
+        ensures slots { OnOk result (PutsReference bracket (reference_as bracket (length self.old.texts.items) (close + 1)) self.old.slots.items self.new.slots.items) }
+        ensures brackets { OnOk result (self.new.brackets.standing.items ≡ []) }
+        ensures doubled { OnOk result (DropsBehind bracket.start self.old.doubled.standing.items self.new.doubled.standing.items) }
+        ensures runs { OnOk result (length self.new.delimiters.placed.items ≤ bracket.runs) }
+        ensures quotes { OnOk result (length self.new.quotes.placed.items ≤ bracket.quotes) }
+    {
+        let kind = SlotKind::FootnoteReference(self.texts.len());
+        self.texts.push(name)?;
+        let reference = Slot {
+            kind,
+            start: reference_start(bracket),
+            end: close + 1,
+        };
+        self.put_reference(bracket, reference)?;
+        self.quotes.truncate(bracket.quotes);
+        self.delimiters.truncate(bracket.runs);
+        self.brackets.clear();
+        self.doubled.drop_behind(bracket.start);
+        Ok(())
+    }
+
+    // Puts the slot of a footnote reference into the place of all slots from that of the bracket on. The `!` before it is a text.
+    fn put_reference(&mut self, bracket: Bracket, reference: Slot) -> Result<(), AllocError>
+        requires start { bracket.start < bracket.inside }
+        requires kind { begins_link reference.kind ≡ false }
+        ensures slots { OnOk result ((text : List ℕ) (place : ℕ) → AreSlots text place self.old.slots.items → IsBracket text place bracket → IsSlot text place reference → AreSlots text place self.new.slots.items) }
+        ensures length { OnOk result (length self.new.slots.items ≤ length self.old.slots.items + 1) }
+        ensures longer { OnOk result (length self.old.slots.items ≤ length self.new.slots.items) }
+        ensures links { OnOk result (NoNewLink self.old.slots.items self.new.slots.items) }
+        ensures puts { OnOk result (PutsReference bracket reference self.old.slots.items self.new.slots.items) }
+        ensures others { self.new ≡ record self.old { slots = self.new.slots } }
+    {
+        let count = self.slots.len();
+        let at = reference_slot(bracket, count);
+        hide(&mut self.slots, at, count);
+        put_mark(&mut self.slots, bracket);
+        put_slot(&mut self.slots, at, reference)?;
+        Ok(())
+    }
+}
