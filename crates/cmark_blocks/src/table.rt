@@ -53,6 +53,7 @@ impl<'a, E: EntityLookup> Pass<'a, E> {
 
     /// How many columns the table has whose head the line is, and its delimiter row; none, where the line is none. The line and those
     /// ahead are seen inside so many containers, the outermost ones.
+    #[inline]
     fn table_head(&self, count: usize, rest: LineRest<'a>) -> Option<(usize, LineRest<'a>)>
         requires line { IsRead self.now.text.now rest }
         requires few { count ≤ length self.now.outer.items }
@@ -158,6 +159,7 @@ impl<'a, E: EntityLookup> Pass<'a, E> {
     }
 
     /// A line begins a table, or else a paragraph, with no leaf open.
+    #[inline]
     pub(crate) fn begin_text(&mut self, rest: LineRest<'a>) -> Result<(), AllocError>
         requires good { IsGood self.old }
         requires line { IsRead self.old.text.now rest }

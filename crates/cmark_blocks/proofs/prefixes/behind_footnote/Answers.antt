@@ -1,4 +1,4 @@
-use Rattle.std.proofs.Common.{refl, [], false, ap, ◌∙◌, sym, None}
+use Rattle.std.proofs.Common.{◌≡◌, refl, [], true, false, ap, ◌∙◌, sym, None}
 use Rattle.cmark_grammar.specs.Rows.{is_bare}
 use Rattle.cmark_grammar.specs.Containers.{keeps, Footnote}
 use Rattle.cmark_scan.specs.LineStart.{row_from}

@@ -1,5 +1,5 @@
 use Rattle.std.proofs.Common.{◌≡◌, true, false, option_map, refl, sym, subst, ap, ◌∙◌}
-use Rattle.cmark_grammar.specs.Containers.{Container, is_alert}
+use Rattle.cmark_grammar.specs.Containers.{Container, Quote, is_alert}
 use Rattle.cmark_grammar.specs.Options.{Options}
 use Rattle.cmark_text.specs.Shown.{shown_block_quote_kind}
 use Rattle.cmark_block_model.specs.BlockPass.{container_begun, quote_begun, item_begun_in, is_item}
