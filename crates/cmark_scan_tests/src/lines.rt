@@ -131,6 +131,17 @@ fn task_markers(rt: HostRuntime) -> Result<(), Fail> {
 }
 
 #[test]
+fn markers_of_footnote_definitions(rt: HostRuntime) -> Result<(), Fail> {
+    let mut line = LineStart::new(b"[^a\tb]:\t c");
+    assert_eq!(rt; line.scan_footnote_marker(), Some(3));
+    assert_eq!(rt; line.bytes_scanned(), 9);
+    let mut none = LineStart::new(b"[a]: b");
+    assert_eq!(rt; none.scan_footnote_marker(), None);
+    assert_eq!(rt; none.bytes_scanned(), 0);
+    Ok(())
+}
+
+#[test]
 fn thematic_breaks(rt: HostRuntime) -> Result<(), Fail> {
     assert_eq!(rt; scan_hrule(b"- - -"), true);
     assert_eq!(rt; scan_hrule(b"--a"), false);

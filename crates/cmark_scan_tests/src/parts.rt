@@ -4,9 +4,9 @@ ghost use Rattle.cmark_grammar.specs.InlineHtml.{owned_tag_in};
 ghost use Rattle.cmark_scan_parts.specs.Shown.{shown_tag};
 
 use cmark_scan_parts::{
-    HtmlFind, HtmlTag, scan_autolink, scan_entity, scan_html_block_inner, scan_inline_html_comment,
-    scan_inline_html_processing, scan_link_dest, scan_link_label_rest, scan_rev_while, scan_tag,
-    scan_while, scan_wikilink_pipe, unescape,
+    HtmlFind, HtmlTag, scan_autolink, scan_entity, scan_footnote_marker, scan_html_block_inner,
+    scan_inline_html_comment, scan_inline_html_processing, scan_link_dest, scan_link_label_rest,
+    scan_rev_while, scan_tag, scan_while, scan_wikilink_pipe, unescape,
 };
 use cmark_text::{BasicEntities, CowStr};
 use std::alloc::{AllocError, Global};
@@ -208,6 +208,15 @@ fn scans_a_label_over_lines(rt: HostRuntime) -> Result<(), Fail> {
     let label = found.ok_or("no label")?;
     assert_eq!(rt; label.end, 8);
     assert_eq!(rt; label.text.as_str(), "a\\]\nb");
+    Ok(())
+}
+
+#[test]
+fn labels_of_footnote_definitions(rt: HostRuntime) -> Result<(), Fail> {
+    assert_eq!(rt; scan_footnote_marker(b"[^a b]: c"), Some(3));
+    assert_eq!(rt; scan_footnote_marker(b"[^\\]]:"), Some(2));
+    assert_eq!(rt; scan_footnote_marker(b"[^a] :"), None);
+    assert_eq!(rt; scan_footnote_marker(b"[^ ]: c"), None);
     Ok(())
 }
 
