@@ -1,7 +1,7 @@
 -- The events that a text is read as: those of its blocks, with the spans of its leaves, and the questions that were put on the way.
-use Rattle.std.specs.Prelude.{◌≡◌, ℕ, Bool, true, false, if◌then◌else◌, List, [], ◌∷◌, ◌++◌}
+use Rattle.std.specs.Prelude.{◌≡◌, ℕ, Bool, true, false, ◌||◌, bytes_eq, if◌then◌else◌, List, [], ◌∷◌, ◌++◌}
 use Rattle.cmark_grammar.specs.Answers.{Lookup}
-use Rattle.cmark_grammar.specs.BlockDocument.{BlockKind, Paragraph, TightParagraph, Heading, TableCell, BlockNode, BlockDocument, Nil, Node}
+use Rattle.cmark_grammar.specs.BlockDocument.{BlockKind, Paragraph, TightParagraph, Heading, TableCell, FootnoteDefinition, BlockNode, BlockDocument, Nil, Node}
 use Rattle.cmark_grammar.specs.BlockReading.{Reads, Around, Inside, Alone, Silent, read_as, over}
 use Rattle.cmark_grammar.specs.Derivation.{Derives}
 use Rattle.cmark_grammar.specs.Event.{Start, End, Ranged}
@@ -22,14 +22,27 @@ pub record Profile : Type 0 where
   pub expansion_limit : ℕ
   pub has_callback : Bool
 
--- no block of this grammar defines a footnote yet
+abbrev pub footnote_label : BlockKind → List (List ℕ)
+footnote_label (FootnoteDefinition label) = label ∷ []
+footnote_label _ = []
+
+-- the labels of the footnotes that a document defines
+abbrev pub footnote_labels : BlockDocument → List (List ℕ)
+footnote_labels Nil = []
+footnote_labels (Node node inside after) = footnote_label node.kind ++ (footnote_labels inside ++ footnote_labels after)
+
+-- one of these labels is this one, folded
+abbrev pub has_label : (folded : List ℕ) → List (List ℕ) → Bool
+has_label folded [] = false
+has_label folded (label ∷ others) = bytes_eq (fold label) folded || has_label folded others
+
 abbrev pub reader_of : (text : List ℕ) → Profile → BlockDocument → Reader
 reader_of text profile document = record {
   source = text;
   options = profile.options;
   lookup = profile.lookup;
   definition = λ folded. first_with fold folded (references document);
-  has_footnote = λ folded. false;
+  has_footnote = λ folded. has_label folded (footnote_labels document);
   has_callback = profile.has_callback;
 }
 
