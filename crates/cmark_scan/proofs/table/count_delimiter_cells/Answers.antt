@@ -1,4 +1,4 @@
-use Rattle.std.proofs.Common.{◌≡◌, Some, None, length, option_map, ap, ◌∙◌}
+use Rattle.std.proofs.Common.{Some, None, length, option_map, ap, ◌∙◌}
 use Rattle.cmark_grammar.specs.Tables.{alignments, cells, without_first_pipe, without_last_pipe}
 use Rattle.cmark_scan.proofs.FirstSteps.{pipe-found}
 use Rattle.cmark_scan.proofs.TableSteps.{row-of, no_row}

@@ -1,4 +1,4 @@
-use Rattle.std.proofs.Common.{◌≡◌, ◌==◌, ◌&&◌, not, true, ap, ◌∙◌}
+use Rattle.std.proofs.Common.{◌==◌, ◌&&◌, not, ap, ◌∙◌}
 use Rattle.cmark_scan.proofs.TableRowSteps.{passed-none, passed-found}
 use Rattle.cmark_scan.proofs.table_row.find_pipe.Goals as goal
 

@@ -1,4 +1,4 @@
-use Rattle.std.proofs.Common.{◌≡◌, Some, option_map, sym, ap, subst, ◌∙◌}
+use Rattle.std.proofs.Common.{Some, option_map, sym, ap, subst, ◌∙◌}
 use Rattle.cmark_grammar.specs.Rows.{words_of}
 use Rattle.cmark_scan_parts.specs.Footnotes.{marked, IsClosed}
 use Rattle.cmark_scan.specs.LineStart.{row_from}
