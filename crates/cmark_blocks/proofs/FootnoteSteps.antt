@@ -1,7 +1,5 @@
 -- Footnote definitions that begin.
-use Rattle.std.proofs.Common.{◌≡◌, ℕ, List, ◌∷◌, [], ◌++◌, length, Option, Some, option_map, refl, ap, ◌∙◌}
-use Rattle.cmark_text.specs.declared.text.CowStr.{CowStr}
-use Rattle.cmark_text.specs.Shown.{text_bytes}
+use Rattle.std.proofs.Common.{◌≡◌, ℕ, List, ◌∷◌, [], ◌++◌, length, Some, option_map, refl, ap, ◌∙◌}
 use Rattle.cmark_tree.specs.Forest as forest
 use Rattle.cmark_tree.specs.Forest.{Forest}
 use Rattle.cmark_tree.specs.Building.{Opened, Is}

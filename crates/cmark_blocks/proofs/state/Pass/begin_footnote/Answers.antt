@@ -1,7 +1,5 @@
 use Rattle.std.proofs.Common.{refl, ap, sym, ◌∙◌, subst}
 use Rattle.cmark_grammar.specs.BlockDocument.{FootnoteDefinition}
-use Rattle.cmark_grammar.specs.Containers.{Footnote}
-use Rattle.cmark_grammar.specs.Footnotes.{marker_columns}
 use Rattle.cmark_grammar.specs.Labels.{normal_form}
 use Rattle.cmark_grammar.specs.Rows.{start_of, words_of}
 use Rattle.cmark_items.specs.Tables.{tables}
@@ -9,7 +7,7 @@ use Rattle.cmark_lines.specs.Rests.{row_of}
 use Rattle.cmark_lines.specs.Starts.{shown_footnote}
 use Rattle.cmark_scan_parts.specs.Footnotes.{marked}
 use Rattle.cmark_block_model.specs.BlockPass.{block_begun}
-use Rattle.cmark_block_model.specs.Drawing.{Drawing, opened}
+use Rattle.cmark_block_model.specs.Drawing.{opened}
 use Rattle.cmark_builder.specs.Drawn.{Draws}
 use Rattle.cmark_blocks.specs.Footnotes.{KeepsText, Notes}
 use Rattle.cmark_blocks.proofs.FootnoteSteps.{draws-footnote}

@@ -1,4 +1,4 @@
-use Rattle.std.proofs.Common.{◌≡◌, Bool, true, false, take, not, refl, sym, ap, ◌∙◌, true≢false}
+use Rattle.std.proofs.Common.{true, false, take, sym, ap, ◌∙◌, true≢false}
 use Rattle.cmark_lines.specs.Rests.{row_of}
 use Rattle.cmark_block_model.specs.BlockPass.{ahead_in}
 use Rattle.cmark_block_model.specs.OpenBlocks.{takes_lazy}

@@ -1,4 +1,4 @@
-use Rattle.std.proofs.Common.{true, false, sym, ap, ◌∙◌, true≢false}
+use Rattle.std.proofs.Common.{false, sym, ap, ◌∙◌, true≢false}
 use Rattle.cmark_grammar.specs.Openings.{interrupts}
 use Rattle.cmark_lines.specs.Rests.{row_of}
 use Rattle.cmark_block_model.specs.BlockPass.{ahead_in}
