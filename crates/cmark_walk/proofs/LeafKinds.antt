@@ -83,6 +83,7 @@ cell-within tight (LinkDefinition reference) = refl
 cell-within tight (BlockQuote alert) = refl
 cell-within tight (BlockList number t) = refl
 cell-within tight ListItem = refl
+cell-within tight (FootnoteDefinition label) = refl
 cell-within tight (Text bytes) = refl
 cell-within tight (OwnedText bytes) = refl
 cell-within tight (Html bytes) = refl

@@ -98,12 +98,12 @@ body_within tight (body.List flags mark number) = is_tight flags
 body_within tight (body.ListItem width) = tight
 body_within tight _ = false
 
-within-kind : (start end : ℕ) (node : BlockNode) (kind : Option BlockKind) → option_map (ranged start end) kind ≡ Some node → kind ≡ Some node.kind
+pub within-kind : (start end : ℕ) (node : BlockNode) (kind : Option BlockKind) → option_map (ranged start end) kind ≡ Some node → kind ≡ Some node.kind
 within-kind start end node None e = absurd (let q : None ≡ Some node = e in cc)
 within-kind start end node (Some k) e = ap Some (ap (λ n. n.kind) (same_Some (ranged start end k) node e))
 
 -- a fence or an owned text has a kind with some bytes
-spelt-kind : (make : List ℕ → BlockKind) (bytes : Option (List ℕ)) (kind : BlockKind) → option_map make bytes ≡ Some kind → (b : List ℕ) × (make b ≡ kind)
+pub spelt-kind : (make : List ℕ → BlockKind) (bytes : Option (List ℕ)) (kind : BlockKind) → option_map make bytes ≡ Some kind → (b : List ℕ) × (make b ≡ kind)
 spelt-kind make None kind e = absurd (let q : None ≡ Some kind = e in cc)
 spelt-kind make (Some b) kind e = (b, same_Some (make b) kind e)
 

@@ -1,0 +1,99 @@
+-- No item of a tree is a link reference definition, so an item that is neither an event nor an element is a paragraph of a tight list.
+use Rattle.std.proofs.Common.{◌≡◌, ℕ, Bool, true, false, true≢false, List, Some, None, option_map, refl, sym, ap}
+use Rattle.std.proofs.lemmas.Option.{same_Some}
+use Rattle.std.specs.Char.{encode_utf8}
+use Rattle.cmark_text.specs.declared.text.CowStr.{CowStr}
+use Rattle.cmark_text.specs.Shown.{level_number, shown_block_quote_kind, shown_metadata_block_kind}
+use Rattle.cmark_grammar.specs.Attributes.{no_attributes, attributes_of}
+use Rattle.cmark_grammar.specs.Tokens.{slice}
+use Rattle.cmark_grammar.specs.BlockDocument as document
+use Rattle.cmark_grammar.specs.BlockDocument.{BlockKind, BlockNode, Paragraph, TightParagraph, Heading, ThematicBreak, IndentedCode, FencedCode, HtmlBlock, LinkDefinition, MetadataBlock, Table, TableHead, TableRow, TableCell, BlockQuote, BlockList, ListItem, FootnoteDefinition, Text, OwnedText, Html}
+use Rattle.cmark_grammar.specs.BlockReading as reads
+use Rattle.cmark_grammar.specs.BlockReading.{read_as}
+use Rattle.cmark_grammar.specs.DrawnDocument.{is_definition, kind_within}
+use Rattle.cmark_items.specs.declared.item.Item.{Item}
+use Rattle.cmark_items.specs.declared.item.ItemBody.{ItemBody}
+use Rattle.cmark_items.specs.declared.item.ItemBody.TheVariants as body
+use Rattle.cmark_grammar.specs.Tables.{delimiter_row}
+use Rattle.cmark_items.specs.ItemNodes.{is_tight, list_number, columns_of, text_at, kind_over, shape}
+use Rattle.cmark_walk.specs.Reads.{event_in, tag_in}
+use Rattle.cmark_walk.proofs.Paths.{within-kind, spelt-kind}
+use Rattle.cmark_walk.specs.Walking.{Drawn}
+
+kind-drawn : (text : List ℕ) (texts : List CowStr) (start end : ℕ) (b : ItemBody) (kind : BlockKind) → kind_over text texts start end (shape b) ≡ Some kind → is_definition kind ≡ false
+kind-drawn text texts start end (body.MaybeEmphasis x0 x1 x2) kind e = absurd (let q : None ≡ Some kind = e in cc)
+kind-drawn text texts start end (body.MaybeMath x0 x1 x2) kind e = absurd (let q : None ≡ Some kind = e in cc)
+kind-drawn text texts start end (body.MaybeSmartQuote x0 x1 x2) kind e = absurd (let q : None ≡ Some kind = e in cc)
+kind-drawn text texts start end (body.MaybeCode x0 x1) kind e = absurd (let q : None ≡ Some kind = e in cc)
+kind-drawn text texts start end body.MaybeHtml kind e = absurd (let q : None ≡ Some kind = e in cc)
+kind-drawn text texts start end body.MaybeLinkOpen kind e = absurd (let q : None ≡ Some kind = e in cc)
+kind-drawn text texts start end (body.MaybeLinkClose x0) kind e = absurd (let q : None ≡ Some kind = e in cc)
+kind-drawn text texts start end body.MaybeImage kind e = absurd (let q : None ≡ Some kind = e in cc)
+kind-drawn text texts start end body.Emphasis kind e = absurd (let q : None ≡ Some kind = e in cc)
+kind-drawn text texts start end body.Strong kind e = absurd (let q : None ≡ Some kind = e in cc)
+kind-drawn text texts start end body.Strikethrough kind e = absurd (let q : None ≡ Some kind = e in cc)
+kind-drawn text texts start end body.Superscript kind e = absurd (let q : None ≡ Some kind = e in cc)
+kind-drawn text texts start end body.Subscript kind e = absurd (let q : None ≡ Some kind = e in cc)
+kind-drawn text texts start end (body.Math x0 x1) kind e = absurd (let q : None ≡ Some kind = e in cc)
+kind-drawn text texts start end (body.Code x0) kind e = absurd (let q : None ≡ Some kind = e in cc)
+kind-drawn text texts start end (body.FootnoteReference x0) kind e = absurd (let q : None ≡ Some kind = e in cc)
+kind-drawn text texts start end (body.OwnedInlineHtml x0) kind e = absurd (let q : None ≡ Some kind = e in cc)
+kind-drawn text texts start end (body.SynthesizeText x0) kind e = ap is_definition (sym (spelt-kind document.OwnedText (text_at texts x0.0) kind e).1)
+kind-drawn text texts start end (body.Link x0) kind e = absurd (let q : None ≡ Some kind = e in cc)
+kind-drawn text texts start end (body.Image x0) kind e = absurd (let q : None ≡ Some kind = e in cc)
+kind-drawn text texts start end (body.TaskListMarker x0) kind e = absurd (let q : None ≡ Some kind = e in cc)
+kind-drawn text texts start end body.InlineHtml kind e = absurd (let q : None ≡ Some kind = e in cc)
+kind-drawn text texts start end (body.SynthesizeChar x0) kind e = ap is_definition (sym (same_Some (document.OwnedText (encode_utf8 x0)) kind e))
+kind-drawn text texts start end body.Html kind e = ap is_definition (sym (same_Some (document.Html (slice text start end)) kind e))
+kind-drawn text texts start end (body.Text x0) kind e = ap is_definition (sym (same_Some (document.Text (slice text start end)) kind e))
+kind-drawn text texts start end body.SoftBreak kind e = absurd (let q : None ≡ Some kind = e in cc)
+kind-drawn text texts start end (body.HardBreak x0) kind e = absurd (let q : None ≡ Some kind = e in cc)
+kind-drawn text texts start end body.Root kind e = absurd (let q : None ≡ Some kind = e in cc)
+kind-drawn text texts start end body.Paragraph kind e = ap is_definition (sym (same_Some document.Paragraph kind e))
+kind-drawn text texts start end body.TightParagraph kind e = ap is_definition (sym (same_Some document.TightParagraph kind e))
+kind-drawn text texts start end body.Rule kind e = ap is_definition (sym (same_Some document.ThematicBreak kind e))
+kind-drawn text texts start end (body.Heading x0 None) kind e = ap is_definition (sym (same_Some (document.Heading (level_number x0) no_attributes) kind e))
+kind-drawn text texts start end (body.Heading x0 (Some x1)) kind e = ap is_definition (sym (spelt-kind (λ words. document.Heading (level_number x0) (attributes_of words)) (text_at texts x1.0) kind e).1)
+kind-drawn text texts start end (body.FencedCodeBlock x0) kind e = ap is_definition (sym (spelt-kind document.FencedCode (text_at texts x0.0) kind e).1)
+kind-drawn text texts start end body.IndentCodeBlock kind e = ap is_definition (sym (same_Some document.IndentedCode kind e))
+kind-drawn text texts start end body.HtmlBlock kind e = ap is_definition (sym (same_Some document.HtmlBlock kind e))
+kind-drawn text texts start end (body.BlockQuote x0) kind e = ap is_definition (sym (same_Some (document.BlockQuote (option_map shown_block_quote_kind x0)) kind e))
+kind-drawn text texts start end (body.List x0 x1 x2) kind e = ap is_definition (sym (same_Some (document.BlockList (list_number x1 x2) (is_tight x0)) kind e))
+kind-drawn text texts start end (body.ListItem x0) kind e = ap is_definition (sym (same_Some document.ListItem kind e))
+kind-drawn text texts start end (body.FootnoteDefinition x0) kind e = ap is_definition (sym (spelt-kind document.FootnoteDefinition (text_at texts x0.0) kind e).1)
+kind-drawn text texts start end (body.MetadataBlock x0) kind e = ap is_definition (sym (same_Some (document.MetadataBlock (shown_metadata_block_kind x0)) kind e))
+kind-drawn text texts start end (body.DefinitionList x0) kind e = absurd (let q : None ≡ Some kind = e in cc)
+kind-drawn text texts start end body.MaybeDefinitionListTitle kind e = absurd (let q : None ≡ Some kind = e in cc)
+kind-drawn text texts start end body.DefinitionListTitle kind e = absurd (let q : None ≡ Some kind = e in cc)
+kind-drawn text texts start end (body.DefinitionListDefinition x0) kind e = absurd (let q : None ≡ Some kind = e in cc)
+kind-drawn text texts start end (body.Table x0) kind e = ap is_definition (sym (spelt-kind (λ row. document.Table (columns_of (delimiter_row row))) (text_at texts x0.0) kind e).1)
+kind-drawn text texts start end body.TableHead kind e = ap is_definition (sym (same_Some document.TableHead kind e))
+kind-drawn text texts start end body.TableRow kind e = ap is_definition (sym (same_Some document.TableRow kind e))
+kind-drawn text texts start end body.TableCell kind e = ap is_definition (sym (same_Some document.TableCell kind e))
+
+pub not-definition : (text : List ℕ) (texts : List CowStr) (item : Item) (node : BlockNode) → Drawn text texts item node → is_definition node.kind ≡ false
+not-definition text texts item node d =
+    kind-drawn text texts item.start item.end item.body node.kind (within-kind item.start item.end node (kind_over text texts item.start item.end (shape item.body)) d.shown)
+
+pub inside-only : (tight : Bool) (kind : BlockKind) → is_definition kind ≡ false → None ≡ event_in (read_as kind) → None ≡ tag_in (read_as (kind_within tight kind)) → reads.Inside ≡ read_as (kind_within tight kind)
+inside-only true Paragraph n e t = refl
+inside-only false Paragraph n e t = absurd (let q : None ≡ Some _ = t in cc)
+inside-only tight TightParagraph n e t = refl
+inside-only tight (LinkDefinition reference) n e t = absurd (true≢false n)
+inside-only tight (Heading level attributes) n e t = absurd (let q : None ≡ Some _ = t in cc)
+inside-only tight IndentedCode n e t = absurd (let q : None ≡ Some _ = t in cc)
+inside-only tight (FencedCode info) n e t = absurd (let q : None ≡ Some _ = t in cc)
+inside-only tight HtmlBlock n e t = absurd (let q : None ≡ Some _ = t in cc)
+inside-only tight (MetadataBlock kind) n e t = absurd (let q : None ≡ Some _ = t in cc)
+inside-only tight (Table alignments) n e t = absurd (let q : None ≡ Some _ = t in cc)
+inside-only tight TableHead n e t = absurd (let q : None ≡ Some _ = t in cc)
+inside-only tight TableRow n e t = absurd (let q : None ≡ Some _ = t in cc)
+inside-only tight TableCell n e t = absurd (let q : None ≡ Some _ = t in cc)
+inside-only tight (BlockQuote alert) n e t = absurd (let q : None ≡ Some _ = t in cc)
+inside-only tight (FootnoteDefinition label) n e t = absurd (let q : None ≡ Some _ = t in cc)
+inside-only tight (BlockList number z) n e t = absurd (let q : None ≡ Some _ = t in cc)
+inside-only tight ListItem n e t = absurd (let q : None ≡ Some _ = t in cc)
+inside-only tight ThematicBreak n e t = absurd (let q : None ≡ Some _ = e in cc)
+inside-only tight (Text bytes) n e t = absurd (let q : None ≡ Some _ = e in cc)
+inside-only tight (OwnedText bytes) n e t = absurd (let q : None ≡ Some _ = e in cc)
+inside-only tight (Html bytes) n e t = absurd (let q : None ≡ Some _ = e in cc)
