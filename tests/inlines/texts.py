@@ -30,6 +30,9 @@ DEFINITIONS = [text.encode() for text in [
     "[a]: " + "/" * 60000, "[x]: " + "x" * 33000 + " \"" + "y" * 30000 + "\"",
 ]]
 
+# the labels of footnotes
+FOOTNOTES = [text.encode() for text in ["a", "b c", "b", "x", "É", "SS", "&amp;", "*x*", "`", "1"]]
+
 PREFIXES = {"quote": [b"> ", b">", b" > ", b">\t", b"   >  ", b">"], "item": [b"- ", b"1. ", b"*   ", b" + ", b"-\t", b"12) "]}
 
 
