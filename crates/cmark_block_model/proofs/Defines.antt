@@ -10,7 +10,7 @@ use Rattle.cmark_grammar.specs.Lists.{ListBefore, tight_behind, goes_on}
 use Rattle.cmark_grammar.specs.Tokens.{fenced_lines, lines_before}
 use Rattle.cmark_grammar.specs.Derivation.{paragraph_kind, leaf_then, item_then, document_of, reference_of, stop_of}
 use Rattle.cmark_grammar.specs.BlockDocument as document
-use Rattle.cmark_grammar.specs.BlockDocument.{Reference, BlockKind, BlockNode, BlockDocument, Nil, Node, node}
+use Rattle.cmark_grammar.specs.BlockDocument.{Reference, BlockDocument, Node, node}
 use Rattle.cmark_grammar.specs.References.{references}
 use Rattle.cmark_grammar.specs.Metadata.{ends_metadata}
 use Rattle.cmark_block_model.specs.OpenBlocks.{OpenList}

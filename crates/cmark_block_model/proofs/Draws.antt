@@ -11,7 +11,7 @@ use Rattle.cmark_grammar.specs.Blocks.{Blocks, Nil as NoBlocks, BlankLine, Parag
 use Rattle.cmark_grammar.specs.Lists.{ends_blank, is_parted_item, loose_from, is_tight}
 use Rattle.cmark_grammar.specs.Tokens.{paragraph_tokens}
 use Rattle.cmark_grammar.specs.BlockDocument as document
-use Rattle.cmark_grammar.specs.BlockDocument.{Reference, BlockKind, BlockDocument, Nil, Node, node, join}
+use Rattle.cmark_grammar.specs.BlockDocument.{Reference, BlockDocument, Nil, Node, node, join}
 use Rattle.cmark_block_model.specs.Drawing.{Drawing, OpenNode, drawn, opened, closed_at}
 use Rattle.cmark_block_model.specs.OpenBlocks.{OpenList, no_siblings}
 use Rattle.cmark_block_model.specs.BlockPass.{list_closed}

@@ -111,7 +111,6 @@ leaf-whole text options lookup (HtmlBlockLeaf kind) first more after h = (λ e. 
 leaf-whole text options lookup (LinkDefinitionLeaf definition) first more after h = (λ e. tt, tt, h)
 leaf-whole text options lookup (MetadataBlockLeaf kind) first more after h =
     (λ e. texts-free (code_pieces text 0 (lines_before (ends_metadata kind) more)) Nil tt, texts-whole (code_pieces text 0 (lines_before (ends_metadata kind) more)) Nil tt, h)
-
 leaf-whole text options lookup (TableLeaf alignments) first more after h =
     (λ e. no-leaf false refl _ e, ((λ e. no-leaf false refl _ e), row-whole text (length alignments) first, rows-whole text (length alignments) (drop 1 more)), h)
 

@@ -13,7 +13,7 @@ use Rattle.cmark_grammar.specs.Lists.{ListBefore, is_tight, tight_behind, goes_o
 use Rattle.cmark_grammar.specs.Tokens.{paragraph_tokens, heading_attributes, fenced_lines, lines_before}
 use Rattle.cmark_grammar.specs.Derivation.{paragraph_kind, leaf_then, item_then, document_of}
 use Rattle.cmark_grammar.specs.BlockDocument as document
-use Rattle.cmark_grammar.specs.BlockDocument.{Reference, BlockKind, BlockNode, BlockDocument, Nil, Node, node, join}
+use Rattle.cmark_grammar.specs.BlockDocument.{BlockNode, BlockDocument, Nil, Node, node}
 use Rattle.cmark_grammar.specs.DrawnDocument.{settled, without_definitions}
 use Rattle.cmark_grammar.specs.Metadata.{ends_metadata}
 use Rattle.cmark_block_model.proofs.PlainTokens.{IsPlain, paragraph_plain, heading_plain, code_plain, html_tokens_plain, table_plain}

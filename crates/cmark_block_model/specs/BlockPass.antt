@@ -12,7 +12,7 @@ use Rattle.cmark_grammar.specs.Tokens.{Piece, resolved, words_end, stretch_then,
 use Rattle.cmark_grammar.specs.TableTokens.{table_tokens}
 use Rattle.cmark_grammar.specs.Derivation.{stop_of, reference_of}
 use Rattle.cmark_grammar.specs.BlockDocument as document
-use Rattle.cmark_grammar.specs.BlockDocument.{BlockDocument, BlockKind, Reference, Nil, Node, node}
+use Rattle.cmark_grammar.specs.BlockDocument.{BlockDocument, BlockKind, Nil, Node, node}
 use Rattle.cmark_grammar.specs.BlockQuoteKind.{BlockQuoteKind}
 use Rattle.cmark_grammar.specs.Labels.{normal_form}
 use Rattle.cmark_grammar.specs.Metadata.{ends_metadata}

@@ -13,12 +13,11 @@ use Rattle.cmark_grammar.specs.Containers.{Container, Quote, Item, Footnote, Mar
 use Rattle.cmark_grammar.specs.Footnotes.{Footnotes, Off, Gfm, Old, footnotes_in, footnote_in, columns_over, marker_columns}
 use Rattle.cmark_grammar.specs.HtmlBlocks.{html_kind, holds_end, html_further}
 use Rattle.cmark_grammar.specs.LinkDefinitions.{Defined, definition_in, bytes_over, Found}
-use Rattle.cmark_grammar.specs.Openings.{Leaf, IndentedCode, MetadataBlock, Opening, Blank, Nests, Takes, Plain, or_else, nests_if, fenced_if, metadata_begun, leaf_of, whole_opens, opens, opens_at, text_begun, texts, lazily, html_if, break_if, heading_if, text_lines, defined_if, put_if, definition_of, is_none, Table, interrupts, count_rows, table_if, text_of, begins_no_link}
+use Rattle.cmark_grammar.specs.Openings.{Leaf, IndentedCode, MetadataBlock, Opening, Blank, Nests, Takes, Plain, or_else, nests_if, fenced_if, metadata_begun, leaf_of, whole_opens, opens, opens_at, text_begun, texts, lazily, html_if, break_if, heading_if, text_lines, defined_if, put_if, definition_of, is_none, interrupts, count_rows, table_if, text_of, begins_no_link}
 use Rattle.cmark_grammar.specs.Options.{Options}
 use Rattle.cmark_grammar.specs.Places.{Place, is_behind_task}
 use Rattle.cmark_grammar.specs.Alignment.{Alignment}
-use Rattle.cmark_grammar.specs.TableRows.{one_more_if, count_missing, most_filled, holds_pipe, with_columns, delimited_ahead, count_cells, table_head, is_some_head, begins_with_pipe, table_interrupts}
-use Rattle.cmark_grammar.specs.Tables.{delimiter_row}
+use Rattle.cmark_grammar.specs.TableRows.{one_more_if, count_missing, most_filled, holds_pipe, delimited_ahead, count_cells, table_head, is_some_head, begins_with_pipe, table_interrupts}
 
 -- blanks begin with no other byte
 blank-starts : (cs : List Column) (b : ℕ) (mark : List ℕ) → is_blank_byte b ≡ false → is_bare (without_indent cs) ≡ true → starts (b ∷ mark) (bytes_of cs) ≡ false

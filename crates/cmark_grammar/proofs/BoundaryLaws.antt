@@ -43,7 +43,6 @@ module _ (E : ℕ → Type 0) where
   leaf-edged text options lookup (HtmlBlockLeaf kind) first more after g gs f a = (g.begin, past-edge first more g gs, html-edged E text (first ∷ more) (g, gs), a)
   leaf-edged text options lookup (LinkDefinitionLeaf definition) first more after g gs f a = (start-E E first g, past-edge first more g gs, tt, a)
   leaf-edged text options lookup (MetadataBlockLeaf kind) first more after g gs f a = (start-E E first g, past-edge first more g gs, code-edged E text 0 (lines_before (ends_metadata kind) more) (before-good E (ends_metadata kind) more gs), a)
-
   leaf-edged text options lookup (TableLeaf alignments) first more after g gs f a = (
     start-E E first g,
     past-edge first more g gs,

@@ -59,7 +59,6 @@ leaf-order text options lookup from (MetadataBlockLeaf kind) first more after to
       (code-order text 0 first.past (lines_before (ends_metadata kind) more) (past_of first more) (before-Along (ends_metadata kind) first.past more (past_of first more) a)),
   o,
 )
-
 leaf-order text options lookup from (TableLeaf alignments) first more after to h a o =
     (from-start from first h, (omega arith, row_cells-order text (length alignments) from first h, rows more a), o)
   where

@@ -264,19 +264,19 @@ module _ (E : ℕ → Type 0) where
       let size : ℕ = marker_columns found.bytes r.columns in
       let middle : ℕ = indent r.columns + size in
       let begin : E (first_place r.stop (drop middle r.columns)) =
-          subst (λ cs. E (first_place r.stop cs)) (drop-drop size (indent r.columns) r.columns)
-          (over-E (suc (suc (suc (length found.bytes)))) (first_place r.stop (without_indent r.columns)) (without_indent r.columns) r.stop (drop-Runs (indent r.columns) (begin_of r) r.columns r.stop g.runs).0
-          (drop-good (indent r.columns) r.columns g.good) (colon-ascii (words_of r) found e) g.stop) in
+      subst (λ cs. E (first_place r.stop cs)) (drop-drop size (indent r.columns) r.columns)
+      (over-E (suc (suc (suc (length found.bytes)))) (first_place r.stop (without_indent r.columns)) (without_indent r.columns) r.stop (drop-Runs (indent r.columns) (begin_of r) r.columns r.stop g.runs).0
+      (drop-good (indent r.columns) r.columns g.good) (colon-ascii (words_of r) found e) g.stop) in
       let good : GoodRow (without middle r) = record {
-          runs = (drop-Runs middle (begin_of r) r.columns r.stop g.runs).0;
-          good = drop-good middle r.columns g.good;
-          begin = begin;
-          stop = g.stop;
-          past = g.past;
-          feed = g.feed;
-        } in
+        runs = (drop-Runs middle (begin_of r) r.columns r.stop g.runs).0;
+        good = drop-good middle r.columns g.good;
+        begin = begin;
+        stop = g.stop;
+        past = g.past;
+        feed = g.feed;
+      } in
       let same : drop (indent (drop middle r.columns)) (drop middle r.columns) ≡ drop (footnote_width size r) r.columns =
-          drop-drop (indent (drop middle r.columns)) middle r.columns ∙ ap (λ k. drop k r.columns) (let s : middle + indent (drop middle r.columns) ≡ footnote_width size r = omega arith in s) in
+      drop-drop (indent (drop middle r.columns)) middle r.columns ∙ ap (λ k. drop k r.columns) (let s : middle + indent (drop middle r.columns) ≡ footnote_width size r = omega arith in s) in
       subst GoodRow (ap (λ cs. record r { columns = cs }) same) (without-good (indent (drop middle r.columns)) (without middle r) good (indent-front (drop middle r.columns)))
 
   footnote_of-good : (f : Footnotes) (r : Row) → GoodRow r → SomeGood r (footnote_of f r)

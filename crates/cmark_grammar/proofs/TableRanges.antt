@@ -1,20 +1,19 @@
 -- Where the cells of tables stand, and how many nodes they are.
-use Rattle.std.proofs.Common.{◌≡◌, ℕ, zero, suc, ◌+◌, ◌-◌, ◌*◌, ◌≤◌, ◌<◌, Bool, true, false, ◌==◌, ◌&&◌, not, List, [], ◌∷◌, length, drop, take_while, refl, sym, ap, ◌∙◌, subst, arith, true≢false}
+use Rattle.std.proofs.Common.{◌≡◌, ℕ, zero, suc, ◌+◌, ◌-◌, ◌*◌, ◌≤◌, ◌<◌, Bool, true, false, ◌==◌, ◌&&◌, not, List, [], ◌∷◌, length, drop, take_while, refl, sym, ap, ◌∙◌, subst, arith}
 use Rattle.std.specs.Prelude.{if◌then◌else◌, cond, nat_lt}
 use Rattle.std.proofs.lemmas.List.Sums.{take_while-cons}
 use Rattle.cmark_grammar.specs.Lines.{onto}
-use Rattle.cmark_grammar.specs.Columns.{Column, is_blank_byte, is_blank, indent, without_indent, drop_end, put_before, bytes_of}
+use Rattle.cmark_grammar.specs.Columns.{Column, is_blank_byte, indent, without_indent, drop_end, put_before, bytes_of}
 use Rattle.cmark_grammar.specs.Leaves.{are_blank}
 use Rattle.cmark_grammar.specs.Rows.{Row, words_of, start_of, begin_of}
-use Rattle.cmark_grammar.specs.BlockDocument.{BlockDocument, Nil, Node, node, Text, TableCell}
+use Rattle.cmark_grammar.specs.BlockDocument.{Nil}
 use Rattle.cmark_grammar.specs.Ranges.{InOrder, AllAt, count_nodes}
-use Rattle.cmark_grammar.specs.TableRows.{backslash, parts, without_blank_end, cells_of, cells_start, count_cells, count_missing}
+use Rattle.cmark_grammar.specs.TableRows.{backslash, parts, without_blank_end, cells_of, cells_start, count_missing}
 use Rattle.cmark_grammar.specs.Tables.{pipe, without_first_pipe}
 use Rattle.cmark_grammar.specs.TableTokens.{cell_tokens, cells_then, row_cells, row_tokens}
-use Rattle.cmark_grammar.specs.Tokens.{slice, Piece, texts_then, piece_if}
+use Rattle.cmark_grammar.specs.Tokens.{slice, Piece, texts_then}
 use Rattle.cmark_grammar.proofs.RowPlaces.{Runs, drop-Runs, Lies, start-Runs, Along}
 use Rattle.cmark_grammar.proofs.RowEdges.{is-ascii, blank-ascii, AreGood, drop-good, GoodRow, start-E, GoodRows}
-use Rattle.cmark_grammar.proofs.TokenRanges.{InOrder-lower}
 
 -- columns that stand one behind the other have a byte for each place
 pub bytes-places : (from : ℕ) (cs : List Column) (to : ℕ) → Runs from cs to → from + length (bytes_of cs) ≡ to
@@ -196,7 +195,6 @@ module _ (E : ℕ → Type 0) where
       go ((b == pipe) && not escaped) refl (parts-stand false (suc at) bs (subst E (let z : at + suc (length bs) ≡ suc at + length bs = omega arith in z) e) u.1)
       (parts-stand (b == backslash) (suc at) bs (subst E (let z : at + suc (length bs) ≡ suc at + length bs = omega arith in z) e) u.1)
     where
-
       joined : (ps : List (List ℕ)) → StandBehind (suc at) ps → (ps ≡ [] → ⊥) → StandBehind at (onto b ps)
       joined [] s some = absurd (some refl)
       joined (p ∷ ps) s some =

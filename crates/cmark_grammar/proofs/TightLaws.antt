@@ -15,7 +15,7 @@ use Rattle.cmark_grammar.specs.Tightness.{tight_within, IsElement, HasTightParag
 use Rattle.cmark_grammar.specs.Metadata.{ends_metadata}
 use Rattle.cmark_grammar.specs.Columns.{is_blank_byte, drop_end}
 use Rattle.cmark_grammar.specs.TableRows.{cells_start, cells_of}
-use Rattle.cmark_grammar.specs.TableTokens.{cells_then, row_cells, row_tokens, table_tokens}
+use Rattle.cmark_grammar.specs.TableTokens.{cells_then, row_cells, row_tokens}
 
 texts_tight : (tight : Bool) (ps : List Piece) (after : BlockDocument) → HasTightParagraphs tight after → HasTightParagraphs tight (texts_then ps after)
 texts_tight tight [] after h = h

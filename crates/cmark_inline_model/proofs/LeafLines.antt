@@ -230,7 +230,6 @@ leaf_of_lines text options lookup (HtmlBlockLeaf kind) first more after a =
 leaf_of_lines text options lookup (LinkDefinitionLeaf definition) first more after a = (no_leaf text Nil, tt, a)
 leaf_of_lines text options lookup (MetadataBlockLeaf kind) first more after a =
     let inside = code_tokens text 0 (lines_before (ends_metadata kind) more) in (no_leaf text inside, texts_of_lines text inside (pieces_are_texts _ Nil tt), a)
-
 leaf_of_lines text options lookup (TableLeaf alignments) first more after a =
     (no_leaf text (table_tokens text (length alignments) first more), (no_leaf text (row_cells text (length alignments) first), row_of_lines text (length alignments) first, rows_of_cells text (length alignments) (drop 1 more)), a)
 

@@ -10,7 +10,7 @@ use Rattle.cmark_tree.proofs.Steps.{focus_read, in_right}
 use Rattle.cmark_tree.proofs.Entries.{node_at-within}
 use Rattle.cmark_text.specs.declared.text.CowStr.{CowStr}
 use Rattle.cmark_grammar.specs.BlockDocument as document
-use Rattle.cmark_grammar.specs.BlockDocument.{BlockNode, BlockDocument}
+use Rattle.cmark_grammar.specs.BlockDocument.{BlockDocument}
 use Rattle.cmark_grammar.specs.Ranges.{InOrder}
 use Rattle.cmark_grammar.specs.SpanDocuments.{stretches_of}
 use Rattle.cmark_items.specs.declared.item.Item.{Item}

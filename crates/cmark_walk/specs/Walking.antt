@@ -15,7 +15,7 @@ use Rattle.cmark_grammar.specs.TagEnd.{end_of}
 use Rattle.cmark_grammar.specs.Event as event
 use Rattle.cmark_grammar.specs.Event.{Event}
 use Rattle.cmark_grammar.specs.BlockDocument as document
-use Rattle.cmark_grammar.specs.BlockDocument.{BlockKind, BlockNode, BlockDocument}
+use Rattle.cmark_grammar.specs.BlockDocument.{BlockNode, BlockDocument}
 use Rattle.cmark_grammar.specs.BlockReading as reads
 use Rattle.cmark_grammar.specs.BlockReading.{Reads, read_as, over}
 use Rattle.cmark_grammar.specs.DrawnDocument.{kind_within, settled}

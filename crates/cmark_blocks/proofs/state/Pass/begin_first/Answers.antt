@@ -6,7 +6,6 @@ use Rattle.cmark_grammar.specs.Openings.{MetadataBlock}
 use Rattle.cmark_text.specs.Shown.{shown_metadata_block_kind, shown_options}
 use Rattle.cmark_block_model.specs.BlockPass.{ahead_in, begin_in, container_begun, inside_begun, is_item}
 use Rattle.cmark_lines.specs.Rests.{row_of}
-use Rattle.cmark_lines.specs.Starts.{shown_start}
 use Rattle.cmark_lines.proofs.RestSteps.{whole}
 use Rattle.cmark_blocks.specs.Ahead.{lines_at}
 use Rattle.cmark_blocks.specs.Entered.{OpensAs}

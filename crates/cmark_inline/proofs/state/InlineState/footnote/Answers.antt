@@ -1,7 +1,7 @@
-use Rattle.std.proofs.Common.{◌≡◌, None, refl, sym, ap, subst, ◌∙◌}
+use Rattle.std.proofs.Common.{refl, sym, ap, subst, ◌∙◌}
 use Rattle.cmark_grammar.specs.BracketDecisions.{is_there}
 use Rattle.cmark_text.specs.Shown.{shown_options}
-use Rattle.cmark_inline.specs.Footnoted.{CountsOf, footnote_of, forms_footnote}
+use Rattle.cmark_inline.specs.Footnoted.{CountsOf, forms_footnote}
 use Rattle.cmark_inline.proofs.FootnoteSteps.{none-off}
 use Rattle.cmark_inline.proofs.state.InlineState.footnote.Goals as goal
 

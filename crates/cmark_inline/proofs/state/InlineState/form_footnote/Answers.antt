@@ -1,4 +1,4 @@
-use Rattle.std.proofs.Common.{◌≡◌, ◌≤◌, ◌+◌, List, ℕ, length, sym, ap, subst, arith}
+use Rattle.std.proofs.Common.{◌≤◌, ◌+◌, List, ℕ, length, sym, ap, subst, arith}
 use Rattle.cmark_leaf_text.specs.Reads.{IsPart}
 use Rattle.cmark_inline.specs.Stands.{AreBrackets, AreFree, IsBracket, IsSlot, bytes_of}
 use Rattle.cmark_inline.specs.declared.bracket.Bracket.{Bracket}
