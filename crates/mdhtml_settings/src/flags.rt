@@ -22,12 +22,12 @@ pub static FLAGS: [LineFlag; 15] = [
     LineFlag {
         name: "tables",
         option: Options::ENABLE_TABLES,
-        help: "Tables (no effect yet)",
+        help: "Tables",
     },
     LineFlag {
         name: "footnotes",
         option: Options::ENABLE_FOOTNOTES,
-        help: "Footnotes as GitHub reads them (no effect yet)",
+        help: "Footnotes as GitHub reads them",
     },
     LineFlag {
         name: "strikethrough",
@@ -62,7 +62,7 @@ pub static FLAGS: [LineFlag; 15] = [
     LineFlag {
         name: "old-footnotes",
         option: Options::ENABLE_OLD_FOOTNOTES,
-        help: "Footnotes as they were read before (no effect yet)",
+        help: "Footnotes as they were read before",
     },
     LineFlag {
         name: "math",
@@ -72,7 +72,7 @@ pub static FLAGS: [LineFlag; 15] = [
     LineFlag {
         name: "gfm",
         option: Options::ENABLE_GFM,
-        help: "Alerts: > [!NOTE] (no effect yet)",
+        help: "Alerts: > [!NOTE]",
     },
     LineFlag {
         name: "definition-list",
@@ -92,7 +92,7 @@ pub static FLAGS: [LineFlag; 15] = [
     LineFlag {
         name: "wikilinks",
         option: Options::ENABLE_WIKILINKS,
-        help: "Links by name: [[page]] (no effect yet)",
+        help: "Links by name: [[page]]",
     },
 ];
 
