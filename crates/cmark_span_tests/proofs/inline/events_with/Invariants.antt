@@ -1,7 +1,7 @@
 use Rattle.std.proofs.Common.{length}
 use Rattle.cmark_leaf_text.specs.Reads.{IsRead, text_of, source_of}
 use Rattle.cmark_inline.specs.Stands.{AreOpened, AreSlots}
-use Rattle.cmark_span_tests.proofs.inline.events.Given as goal
+use Rattle.cmark_span_tests.proofs.inline.events_with.Given as goal
 
 abbrev pub invariant-loop : goal.invariant-loop
 invariant-loop g l =
