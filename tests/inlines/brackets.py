@@ -153,8 +153,8 @@ def between(leaf, start, end):
 
 def inline_link(leaf, tail, taken, s):
     lookup, past = leaf.reader.lookup, leaf.place_of(tail.behind)
-    title = letters.unescaped(lookup, labels.title_lines(tail.title or b""))
-    return links(taken, Linked("Inline", letters.unescaped(lookup, tail.destination), title, b""), past, past, s)
+    title = letters.unescaped(lookup, leaf.is_cell, labels.title_lines(tail.title or b""))
+    return links(taken, Linked("Inline", letters.unescaped(lookup, leaf.is_cell, tail.destination), title, b""), past, past, s)
 
 
 def leads(named, found, taken, s):
@@ -190,22 +190,26 @@ def footnote_reference(leaf, label, taken, closer, s):
     return forms(taken, formed, closer.end, lambda openers: tuple(map(dropped, openers)), s)
 
 
+def as_label(leaf, bs):
+    return letters.with_literal_pipes(bs) if leaf.is_cell else bs
+
+
 def collapsed_or_shortcut(leaf, label, end, rest):
     return Named(label, "Shortcut", end, end) if rest is None else Named(label, "Collapsed", end, leaf.place_of(rest))
 
 
 def by_own_label(leaf, label, taken, closer, s):
     if is_footnote_label(leaf.reader.options, label):
-        return footnote_reference(leaf, label[1:], taken, closer, s)
+        return footnote_reference(leaf, as_label(leaf, label[1:]), taken, closer, s)
     if not labels.is_bracketed_label(label):
         return stays(closer, s)
-    named = collapsed_or_shortcut(leaf, label, closer.end, labels.behind_collapsed(leaf.from_(closer.end)))
+    named = collapsed_or_shortcut(leaf, as_label(leaf, label), closer.end, labels.behind_collapsed(leaf.from_(closer.end)))
     return refers(leaf, named, taken, closer, s)
 
 
 def full_reference(leaf, found, taken, closer, s):
     end = leaf.place_of(found.behind)
-    return refers(leaf, Named(found.bytes, "Reference", end, end), taken, closer, replace(s, label_close=end - 1))
+    return refers(leaf, Named(as_label(leaf, found.bytes), "Reference", end, end), taken, closer, replace(s, label_close=end - 1))
 
 
 def reference_or(leaf, found, taken, closer, s):

@@ -176,7 +176,13 @@ def resolved(lookup, bs):
     return answer
 
 
-unescaped = resolved
+def with_escaped_pipes(bs):
+    """Without the backslash directly before an escaped pipe."""
+    return b"".join(bs[at:at + 1] for at in range(len(bs)) if not bs[at:].startswith(b"\\\\|"))
+
+
+def unescaped(lookup, is_in_table, bs):
+    return resolved(lookup, with_escaped_pipes(bs) if is_in_table else bs)
 
 
 def lines_of_title(bs):
@@ -187,6 +193,21 @@ def lines_of_title(bs):
             answer.append(b)
         front = b == 10 or (front and is_blank_byte(b))
     return bytes(answer)
+
+
+# ## Pipes in cells: of InlineTokens and LabelsOverLines
+
+PIPED = b"\\|"
+
+
+def without_pipe_escapes(bs):
+    """Without each backslash directly before a pipe."""
+    return b"".join(bs[at:at + 1] for at in range(len(bs)) if not bs[at:].startswith(PIPED))
+
+
+def with_literal_pipes(bs):
+    """Without the backslash of each `\\|`, and without both of each `\\\\|`."""
+    return b"".join(bs[at:at + 1] for at in range(len(bs)) if not bs[at:].startswith((PIPED, b"\\" + PIPED)))
 
 
 # ## CodeSpans, LineBreaks and Dashes

@@ -282,7 +282,7 @@ def inline_events(source, siblings):
     return events
 
 
-def reads_leaf(reader, stretches, expansion):
+def reads_leaf(reader, stretches, is_cell, expansion):
     """The events of a leaf, and what is left of the expansion limit."""
-    parts, left = reads_whole(Leaf(reader, stretches), expansion)
+    parts, left = reads_whole(Leaf(reader, stretches, is_cell), expansion)
     return inline_events(reader.source, dress(reader.options, siblings_of(reader.options, parts))), left

@@ -26,12 +26,21 @@ FRAGMENTS = [fragment.encode() for fragment in [
 DEFINITIONS = [text.encode() for text in [
     "[a]: /u", "[A]: /second", "[b c]: <v w> \"t&amp;\\*\\\"\"", "[SS]: /s 'x\n  y'", "[ß]: /second", "[é]: /é\\_ (t)",
     "[a\\]]: /e&copy;\\]", "[*x*]: /e \"*q*\"", "[&amp;]: u(v(w))", "[!]:\n/i\n'j'", "[`]: /c", "[B\nC]: /second", "[x]: <>",
-    "[\"]: /q '\"'", "[_]: /_", "[k]: &auml;&nope;\\a", "[a a]: /aa \"\"", "[  a  b ]: /ab", "[1]: #1",
+    "[p|q]: /pipe \"|\"", "[\"]: /q '\"'", "[_]: /_", "[k]: &auml;&nope;\\a", "[a a]: /aa \"\"", "[  a  b ]: /ab", "[1]: #1",
     "[a]: " + "/" * 60000, "[x]: " + "x" * 33000 + " \"" + "y" * 30000 + "\"",
 ]]
 
 # the labels of footnotes
-FOOTNOTES = [text.encode() for text in ["a", "b c", "b", "x", "É", "SS", "&amp;", "*x*", "`", "1"]]
+FOOTNOTES = [text.encode() for text in ["a", "b c", "b", "x", "É", "SS", "&amp;", "*x*", "`", "1", "p|q"]]
+
+# what cells have besides
+IN_CELLS = [fragment.encode() for fragment in [
+    *["\\|", "\\\\|"] * 12, *["\\\\\\|", "`a\\|b`", "$a\\|b$", "[p\\|q]", "[p\\\\|q]", "[a][p\\|q]", "(/u\\|v)", "(/u\\\\|v \"t\\\\|\")"] * 4,
+    *["[^p\\|q]", "[[a\\|b]]", "<a:\\|>", "<a b=\"\\|\">", "\\`\\|`"] * 2,
+]]
+
+# between its pipes a cell has no pipe but behind a backslash, and does not end with one
+CELL = re.compile(rb"\|((?:[^\n\r|]|(?<=\\)\|)*[^\n\r|\\])\|\n\|-\|")
 
 PREFIXES = {"quote": [b"> ", b">", b" > ", b">\t", b"   >  ", b">"], "item": [b"- ", b"1. ", b"*   ", b" + ", b"-\t", b"12) "]}
 
@@ -203,6 +212,7 @@ class Sample(NamedTuple):
     kinds: tuple
     level: int
     underlined: bool
+    is_cell = False
 
     def rows(self, at):
         """What is left of its lines inside the containers; None where the first does not begin these."""
@@ -239,10 +249,29 @@ class Sample(NamedTuple):
         return names if self.kinds and self.kinds[-1] == "item" else names + ["Paragraph"]
 
 
-def some_text(random):
+class Cell(NamedTuple):
+    """A text that is the head of a table with one cell, between two pipes, and its delimiter row."""
+    text: bytes
+    is_cell = True
+
+    def leaf(self, at):
+        """The stretch of its cell, where the text stands at a place of the source; None where it may be something else."""
+        found = CELL.fullmatch(self.text)
+        words = found and found[1].strip(b" \t")
+        if not words:
+            return None
+        start = at + self.text.index(words, 1)
+        return [Stretch(start, start + len(words))]
+
+    def blocks(self):
+        """The names of the elements around the leaf."""
+        return ["Table", "TableHead", "TableCell"]
+
+
+def some_text(random, fragments=FRAGMENTS):
     """A text of 1 to 60 characters."""
     size, text = random.randint(1, 60) if random.random() < 0.5 else random.randint(1, 20), ""
-    few = random.sample(FRAGMENTS, random.randint(3, 8)) if random.random() < 0.5 else FRAGMENTS
+    few = random.sample(fragments, random.randint(3, 8)) if random.random() < 0.5 else fragments
     while len(text) < size:
         text += random.choice(few).decode()
     return text[:60].encode()
@@ -281,5 +310,14 @@ def some_sample(random):
             if underlined:
                 text += random.choice([b"\n", b"\r\n", b"\r"]) + b"> " * len(kinds) + random.choice([b"===", b"=", b"  =  "])
             sample = Sample(text, kinds, 1 if underlined else 0, underlined)
+        if sample.leaf(0) is not None:
+            return sample
+
+
+def some_cell(random):
+    """A sample that is a cell."""
+    while True:
+        words = re.sub(rb"[\n\r]", b" ", some_text(random, FRAGMENTS + IN_CELLS))
+        sample = Cell(b"|" + re.sub(rb"(?<!\\)\|", rb"\\|", words) + b"|\n|-|")
         if sample.leaf(0) is not None:
             return sample

@@ -17,6 +17,7 @@ class Options(NamedTuple):
     wikilinks: bool
     footnotes: bool
     old_footnotes: bool
+    tables: bool = False
 
 
 class Reader(NamedTuple):
@@ -226,10 +227,13 @@ def item_at(kind, start, end, data=None):
 
 
 class Leaf:
-    """A reader and the stretches of a leaf, which is no cell of a table."""
+    """A reader and the stretches of a leaf, which may be the cell of a table."""
 
-    def __init__(self, reader, stretches):
-        self.reader, self.stretches = reader, stretches
+    def __init__(self, reader, stretches, is_cell=False):
+        self.reader, self.stretches, self.is_cell = reader, stretches, is_cell
+
+    def as_in(self, bs):
+        return letters.without_pipe_escapes(bs) if self.is_cell else bs
 
     def from_(self, at):
         return bytes_from(self.reader.source, self.stretches, at)
@@ -264,7 +268,7 @@ class Leaf:
     def code_or(self, at, size, found):
         if found is None:
             return item_at("Own", at, at + size)
-        return item_at("Code", at, self.place_of(found.behind), letters.code_text(found.bytes))
+        return item_at("Code", at, self.place_of(found.behind), letters.code_text(self.as_in(found.bytes)))
 
     def escaped_backtick(self, at, size, found):
         return item_at("Own", at, at + size) if found is None else item_at("Plain", at, at + 1)
@@ -272,6 +276,8 @@ class Leaf:
     def escape_at(self, at, bs):
         if first_is(letters.is_backtick, bs):
             return self.escaped_backtick(at + 1, letters.backticks(bs), letters.code_in(bs[1:]))
+        if self.is_cell and bs.startswith(letters.PIPED):
+            return item_at("Plain", at + 2, at + 3)
         if first_is(letters.is_punctuation, bs):
             return item_at("Plain", at + 1, at + 2)
         return item_at("Plain", at, at + 1)
@@ -310,7 +316,7 @@ class Leaf:
         return item_at("Plain", at, at + size)
 
     def formula_or(self, kind, at, found):
-        return item_at("Own", at, at + 1) if found is None else item_at(kind, at, self.place_of(found.behind), found.bytes)
+        return item_at("Own", at, at + 1) if found is None else item_at(kind, at, self.place_of(found.behind), self.as_in(found.bytes))
 
     def dollar(self, at, bs, braces):
         if first_is(formulas.is_dollar, bs):

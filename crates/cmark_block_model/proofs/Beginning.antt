@@ -1,12 +1,12 @@
 -- What a line begins: the pass begins what the model does.
-use Rattle.std.proofs.Common.{◌≡◌, ℕ, zero, suc, ◌≤◌, ◌<◌, ◌==◌, ◌&&◌, Bool, true, false, List, [], ◌∷◌, ◌++◌, length, take, refl, ap, ◌∙◌, sym, append_assoc, append-nil, Option, Some, None, arith, true≢false}
+use Rattle.std.proofs.Common.{◌≡◌, ℕ, zero, suc, ◌≤◌, ◌<◌, ◌==◌, ◌&&◌, not, Bool, true, false, List, [], ◌∷◌, ◌++◌, length, take, refl, ap, ◌∙◌, sym, append_assoc, append-nil, Option, Some, None, arith, true≢false}
 use Rattle.std.specs.Prelude.{nat_le, if◌then◌else◌}
 use Rattle.cmark_grammar.specs.Answers.{Lookup}
 use Rattle.cmark_grammar.specs.Options.{Options}
 use Rattle.cmark_grammar.specs.Rows.{Row, start_of, begin_of, words_of, is_blank_line, shown}
 use Rattle.cmark_grammar.specs.HtmlBlocks.{holds_end}
 use Rattle.cmark_grammar.specs.Containers.{Container, Quote, Item, Footnote, is_alert, enter, strips, is_bare_start}
-use Rattle.cmark_grammar.specs.Openings.{Leaf, ThematicBreak, AtxHeading, IndentedCode, FencedCode, HtmlBlock, LinkDefinition, Opening, Blank, Nests, Takes, Plain, opens, opens_at, MetadataBlock, Table}
+use Rattle.cmark_grammar.specs.Openings.{Leaf, ThematicBreak, AtxHeading, IndentedCode, FencedCode, HtmlBlock, LinkDefinition, Opening, Blank, Nests, Takes, Plain, opens, opens_at, text_begun, MetadataBlock, Table}
 use Rattle.cmark_grammar.specs.Blocks.{Blocks, Nil as NoBlocks, BlankLine, Paragraph, SetextHeading, LeafBlock, ContainerBlock, join as join_blocks, behind_leaf, behind_container, place_in}
 use Rattle.cmark_grammar.specs.Places.{Place, Apart, BehindLazy, BehindTask, BehindTitle, is_behind_task, over_blank}
 use Rattle.cmark_grammar.specs.BlocksModel.{within, place_behind}
@@ -14,8 +14,8 @@ use Rattle.cmark_grammar.specs.BlocksByLine.{OpenLines, Between, InContainer, ht
 use Rattle.cmark_grammar.specs.BlockDocument as document
 use Rattle.cmark_grammar.proofs.BlockLaws.{no_metadata, enter-lazy, at-enter, at-len, at-plain, blank-at}
 use Rattle.cmark_block_model.specs.OpenBlocks.{OpenList, OpenContainer, Closed, BehindTag as BehindTagLeaf, InParagraph as InParagraphLeaf, Pass}
-use Rattle.cmark_block_model.specs.BlockPass.{inside_begun as inside_or_tag, item_begun, list_begun, list_goes_on, container_begun, inside_of, node_opened, is_item, ahead_in, html_begun, leaf_begun, begin_as, begin_in, begin}
-use Rattle.cmark_block_model.proofs.Replay.{Level, begun, item_if, item_level, level_opened, entered, leaf_level, replay, replay-join}
+use Rattle.cmark_block_model.specs.BlockPass.{with_drawn, inside_begun as inside_or_tag, item_begun, list_begun, list_goes_on, container_begun, inside_of, node_opened, is_item, ahead_in, html_begun, leaf_begun, begin_as, begin_in, begin}
+use Rattle.cmark_block_model.proofs.Replay.{Level, marked, begun, item_if, item_level, level_opened, entered, leaf_level, replay, replay-join}
 use Rattle.cmark_block_model.proofs.Tells.{Tells, tells-at}
 use Rattle.cmark_block_model.proofs.Mirror.{whole, whole-same, pass_with, bare_at, Fits, inner_at, leaf_at, container_at, containers_at, pass_at, paragraph_open}
 
@@ -28,15 +28,15 @@ module _ (text : List ℕ) (options : Options) (lookup : Lookup) where
   container-begins : (k : Container) (r : Row) (l : Level) (outer : List OpenContainer) (n : ℕ) → container_begun k r (pass_with l outer false Closed n) ≡ pass_with (entered k r l) (outer ++ container_at text options lookup k r l ∷ []) false Closed n
   container-begins (Quote alert) r l outer n = refl
   container-begins (Footnote label old size) r l outer n = refl
-  container-begins (Item mark number width) r l outer n = go l.inner.list
+  container-begins (Item mark number width task) r l outer n = ap (with_drawn (marked task width r document.Nil)) (go l.inner.list)
     where
-      same : (z : Bool) (o : OpenList) → inside_of (Item mark number width) (node_opened (begin_of r) document.ListItem (if z then list_goes_on o (pass_with l outer false Closed n) else list_begun mark number (begin_of r) (pass_with l outer false Closed n)))
-          ≡ pass_with (record (level_opened (begin_of r) document.ListItem (item_if z mark number (begin_of r) o l)) { inner = record { has_block = false; blank = false; parted = false; list = None } }) (outer ++ record { container = Item mark number width; around = (item_if z mark number (begin_of r) o l).inner } ∷ []) false Closed n
+      same : (z : Bool) (o : OpenList) → inside_of (Item mark number width task) (node_opened (begin_of r) document.ListItem (if z then list_goes_on o (pass_with l outer false Closed n) else list_begun mark number (begin_of r) (pass_with l outer false Closed n)))
+          ≡ pass_with (record (level_opened (begin_of r) document.ListItem (item_if z mark number (begin_of r) o l)) { inner = record { has_block = false; blank = false; parted = false; list = None } }) (outer ++ record { container = Item mark number width task; around = (item_if z mark number (begin_of r) o l).inner } ∷ []) false Closed n
       same true o = refl
       same false o = refl
 
-      go : (o : Option OpenList) → inside_of (Item mark number width) (node_opened (begin_of r) document.ListItem (item_begun mark number (begin_of r) (pass_with l outer false Closed n) o))
-          ≡ pass_with (record (level_opened (begin_of r) document.ListItem (item_level mark number (begin_of r) l o)) { inner = record { has_block = false; blank = false; parted = false; list = None } }) (outer ++ record { container = Item mark number width; around = (item_level mark number (begin_of r) l o).inner } ∷ []) false Closed n
+      go : (o : Option OpenList) → inside_of (Item mark number width task) (node_opened (begin_of r) document.ListItem (item_begun mark number (begin_of r) (pass_with l outer false Closed n) o))
+          ≡ pass_with (record (level_opened (begin_of r) document.ListItem (item_level mark number (begin_of r) l o)) { inner = record { has_block = false; blank = false; parted = false; list = None } }) (outer ++ record { container = Item mark number width task; around = (item_level mark number (begin_of r) l o).inner } ∷ []) false Closed n
       go None = refl
       go (Some o) = same (o.mark == mark) o
 
@@ -51,17 +51,17 @@ module _ (text : List ℕ) (options : Options) (lookup : Lookup) where
   bare-start : (k : Container) (r : Row) → is_bare_start k r ≡ true → is_blank_line (enter k r) ≡ true
   bare-start (Quote alert) r e = absurd (true≢false (sym e))
   bare-start (Footnote label old size) r e = absurd (true≢false (sym e))
-  bare-start (Item mark number width) r e = e
+  bare-start (Item mark number width task) r e = e
 
   bare-item : (k : Container) (r : Row) → is_bare_start k r ≡ true → is_item k ≡ true
   bare-item (Quote alert) r e = absurd (true≢false (sym e))
   bare-item (Footnote label old size) r e = absurd (true≢false (sym e))
-  bare-item (Item mark number width) r e = refl
+  bare-item (Item mark number width task) r e = refl
 
   bare-none : (k : Container) (r : Row) → is_bare_start k r ≡ false → is_blank_line (enter k r) ≡ true → is_item k ≡ false
   bare-none (Quote alert) r e b = refl
   bare-none (Footnote label old size) r e b = refl
-  bare-none (Item mark number width) r e b = absurd (true≢false (sym b ∙ e))
+  bare-none (Item mark number width task) r e b = absurd (true≢false (sym b ∙ e))
 
   pub enter-past : (k : Container) (r : Row) → (enter k r).past ≡ r.past
   unfolding enter
@@ -129,7 +129,7 @@ module _ (text : List ℕ) (options : Options) (lookup : Lookup) where
   alert-whole : (k : Container) (r : Row) → is_alert k ≡ true → is_bare_start k r ≡ false
   alert-whole (Quote alert) r e = refl
   alert-whole (Footnote label old size) r e = refl
-  alert-whole (Item mark number width) r e = absurd (true≢false (sym e))
+  alert-whole (Item mark number width task) r e = absurd (true≢false (sym e))
 
   bare-begins : (m : ℕ) (k : Container) (r : Row) (ahead : List Row) → is_bare_start k r ≡ false → bare_at (is_item k) (inside_begun (suc m) k r ahead) ≡ bare_at false (inside_begun (suc m) k r ahead)
   bare-begins m k r ahead e = go (opens_at options (place_in k) (enter k r) ahead) (tells-at options (place_in k) (enter k r) ahead)
@@ -160,22 +160,19 @@ module _ (text : List ℕ) (options : Options) (lookup : Lookup) where
           ap (λ z. pass_with (inner_at text options lookup o (within k false ahead) l) (outer ++ containers_at text options lookup o l) z (leaf_at text options lookup o) n) (bare-begins m k r (within k false ahead) b)
           ∙ ap (λ z. pass_at text options lookup (inside_begun (suc m) k r (within k z ahead)) (within k z ahead) l outer z n) (sym b)
 
-  -- no container's first line stands behind a task marker
-  in-plain : (k : Container) → is_behind_task (place_in k) ≡ false
-  in-plain (Quote None) = refl
-  in-plain (Footnote label old size) = refl
-  in-plain (Quote (Some alert)) = refl
-  in-plain (Item mark number width) = refl
+  -- whether a line stands behind a task marker is all that its place says of what it begins
+  at-same : (a b : Place) (r : Row) (ahead : List Row) → is_behind_task a ≡ is_behind_task b → opens_at options a r ahead ≡ opens_at options b r ahead
+  at-same a b r ahead e = ap (λ z. if z && not r.lazy then text_begun r else opens options r ahead) e
 
-  pub begins : (m : ℕ) (place : Place) (closed : Blocks) (r : Row) (next ahead : List Row) (l : Level) (outer : List OpenContainer) (b : Bool) (n : ℕ) → is_behind_task place ≡ false → r.lazy ≡ false → length r.columns < m → ahead_in text options lookup outer next ≡ ahead
-      → begin_in text options lookup m r next b (pass_with (replay text options lookup closed l) outer false Closed n) ≡ pass_at text options lookup (lines_begin_in options m place closed r ahead) ahead l outer b n
-  begins zero place closed r next ahead l outer b n s e f a = absurd (omega (arith, f))
-  begins (suc m) place closed r next ahead l outer b n s e f a =
-      ap (λ x. begin_as text options lookup (opens options r x) (λ k. inside_or_tag (is_alert k) (container_begun k r p) (begin_in text options lookup m (enter k r) next (is_item k) (container_begun k r p))) r x b p) a
-      ∙ ap (λ o. begin_as text options lookup o (λ k. inside_or_tag (is_alert k) (container_begun k r p) (begin_in text options lookup m (enter k r) next (is_item k) (container_begun k r p))) r ahead b p) (sym (at-plain options place r ahead s))
+  pub begins : (m : ℕ) (at place : Place) (closed : Blocks) (r : Row) (next ahead : List Row) (l : Level) (outer : List OpenContainer) (b : Bool) (n : ℕ) → is_behind_task at ≡ is_behind_task place → r.lazy ≡ false → length r.columns < m → ahead_in text options lookup outer next ≡ ahead
+      → begin_in text options lookup m at r next b (pass_with (replay text options lookup closed l) outer false Closed n) ≡ pass_at text options lookup (lines_begin_in options m place closed r ahead) ahead l outer b n
+  begins zero at place closed r next ahead l outer b n s e f a = absurd (omega (arith, f))
+  begins (suc m) at place closed r next ahead l outer b n s e f a =
+      ap (λ x. begin_as text options lookup (opens_at options at r x) (λ k. inside_or_tag (is_alert k) (container_begun k r p) (begin_in text options lookup m (place_in k) (enter k r) next (is_item k) (container_begun k r p))) r x b p) a
+      ∙ ap (λ o. begin_as text options lookup o (λ k. inside_or_tag (is_alert k) (container_begun k r p) (begin_in text options lookup m (place_in k) (enter k r) next (is_item k) (container_begun k r p))) r ahead b p) (at-same at place r ahead s)
       ∙ go (opens_at options place r ahead) refl (tells-at options place r ahead)
       (λ k o. let le : length (enter k r).columns < length r.columns = at-enter options place k r ahead o in
-      begins m (place_in k) NoBlocks (enter k r) next (within k false ahead) (entered k r c) (outer ++ container_at text options lookup k r c ∷ []) (is_item k) n (in-plain k) (enter-lazy options k r ∙ e) (omega (arith, f, le))
+      begins m (place_in k) (place_in k) NoBlocks (enter k r) next (within k false ahead) (entered k r c) (outer ++ container_at text options lookup k r c ∷ []) (is_item k) n refl (enter-lazy options k r ∙ e) (omega (arith, f, le))
       (ahead-inside outer (container_at text options lookup k r c) next ∙ ap (within k false) a))
     where
       c : Level
@@ -188,7 +185,7 @@ module _ (text : List ℕ) (options : Options) (lookup : Lookup) where
       inside k = lines_begin_in options m (place_in k) NoBlocks (enter k r) (within k (is_bare_start k r) ahead)
 
       Inside : Container → Type 0
-      Inside k = begin_in text options lookup m (enter k r) next (is_item k) (pass_with (entered k r (replay text options lookup closed l)) (outer ++ container_at text options lookup k r (replay text options lookup closed l) ∷ []) false Closed n)
+      Inside k = begin_in text options lookup m (place_in k) (enter k r) next (is_item k) (pass_with (entered k r (replay text options lookup closed l)) (outer ++ container_at text options lookup k r (replay text options lookup closed l) ∷ []) false Closed n)
           ≡ pass_at text options lookup (inside_begun m k r (within k false ahead)) (within k false ahead) (entered k r (replay text options lookup closed l)) (outer ++ container_at text options lookup k r (replay text options lookup closed l) ∷ []) (is_item k) n
 
       behind_tag : Pass → Pass
@@ -196,14 +193,14 @@ module _ (text : List ℕ) (options : Options) (lookup : Lookup) where
 
       -- behind an alert's tag nothing is begun
       tagged : (k : Container) (is_tag : Bool)
-          → begin_in text options lookup m (enter k r) next (is_item k) (container_begun k r (pass_with (replay text options lookup closed l) outer false Closed n)) ≡ pass_at text options lookup (InContainer closed k r [] (lines_begin_in options m (place_in k) NoBlocks (enter k r) (within k (is_bare_start k r) ahead))) ahead l outer b n
-          → inside_or_tag is_tag (container_begun k r (pass_with (replay text options lookup closed l) outer false Closed n)) (begin_in text options lookup m (enter k r) next (is_item k) (container_begun k r (pass_with (replay text options lookup closed l) outer false Closed n)))
+          → begin_in text options lookup m (place_in k) (enter k r) next (is_item k) (container_begun k r (pass_with (replay text options lookup closed l) outer false Closed n)) ≡ pass_at text options lookup (InContainer closed k r [] (lines_begin_in options m (place_in k) NoBlocks (enter k r) (within k (is_bare_start k r) ahead))) ahead l outer b n
+          → inside_or_tag is_tag (container_begun k r (pass_with (replay text options lookup closed l) outer false Closed n)) (begin_in text options lookup m (place_in k) (enter k r) next (is_item k) (container_begun k r (pass_with (replay text options lookup closed l) outer false Closed n)))
           ≡ pass_at text options lookup (InContainer closed k r [] (lines_inside_begun is_tag (lines_begin_in options m (place_in k) NoBlocks (enter k r) (within k (is_bare_start k r) ahead)))) ahead l outer b n
       tagged k true same = ap behind_tag (container-begins k r c outer n)
       tagged k false same = same
 
       go : (o : Opening) → opens_at options place r ahead ≡ o → Tells r o → ((k : Container) → opens_at options place r ahead ≡ Nests k → Inside k)
-          → begin_as text options lookup o (λ k. inside_or_tag (is_alert k) (container_begun k r (pass_with (replay text options lookup closed l) outer false Closed n)) (begin_in text options lookup m (enter k r) next (is_item k) (container_begun k r (pass_with (replay text options lookup closed l) outer false Closed n)))) r ahead b (pass_with (replay text options lookup closed l) outer false Closed n)
+          → begin_as text options lookup o (λ k. inside_or_tag (is_alert k) (container_begun k r (pass_with (replay text options lookup closed l) outer false Closed n)) (begin_in text options lookup m (place_in k) (enter k r) next (is_item k) (container_begun k r (pass_with (replay text options lookup closed l) outer false Closed n)))) r ahead b (pass_with (replay text options lookup closed l) outer false Closed n)
           ≡ pass_at text options lookup (lines_begin_as o (λ k. lines_begin_in options m (place_in k) NoBlocks (enter k r) (within k (is_bare_start k r) ahead)) closed r) ahead l outer b n
       go Blank q t ih =
           ap (λ x. pass_with x outer b Closed n) (sym (replay-join text options lookup closed (BlankLine r NoBlocks) l))
@@ -213,7 +210,7 @@ module _ (text : List ℕ) (options : Options) (lookup : Lookup) where
           let i = inside_begun m k r (within k (is_bare_start k r) ahead) in
           let le : length (enter k r).columns < length r.columns = at-enter options place k r ahead q in
           tagged k (is_alert k) (
-          ap (begin_in text options lookup m (enter k r) next (is_item k)) (container-begins k r c outer n)
+          ap (begin_in text options lookup m (place_in k) (enter k r) next (is_item k)) (container-begins k r c outer n)
           ∙ ih k q
           ∙ inside-same m k r ahead (entered k r c) (outer ++ v ∷ []) n e (omega (arith, f, le))
           ∙ ap (λ o. pass_with (inner_at text options lookup i (within k (is_bare_start k r) ahead) (entered k r c)) o (bare_at (is_bare_start k r) i) (leaf_at text options lookup i) n) (append_assoc outer (v ∷ []) (containers_at text options lookup i (entered k r c)))
@@ -294,7 +291,7 @@ module _ (text : List ℕ) (options : Options) (lookup : Lookup) where
   -- at a place behind closed blocks
   starts-at : (place : Place) (closed : Blocks) (r : Row) (next ahead : List Row) (l : Level) (outer : List OpenContainer) (n : ℕ) → is_behind_task place ≡ false → r.lazy ≡ false → ahead_in text options lookup outer next ≡ ahead
       → begin text options lookup r next (pass_with (replay text options lookup closed l) outer false Closed n) ≡ pass_at text options lookup (lines_begin_at options place closed r ahead) ahead l outer false n
-  starts-at place closed r next ahead l outer n s e a = begins (suc (length r.columns)) place closed r next ahead l outer false n s e (omega arith) a
+  starts-at place closed r next ahead l outer n s e a = begins (suc (length r.columns)) Apart place closed r next ahead l outer false n (sym s) e (omega arith) a
 
   pub starts : (closed : Blocks) (r : Row) (next ahead : List Row) (l : Level) (outer : List OpenContainer) (n : ℕ) → r.lazy ≡ false → ahead_in text options lookup outer next ≡ ahead
       → begin text options lookup r next (pass_with (replay text options lookup closed l) outer false Closed n) ≡ pass_at text options lookup (lines_begin options closed r ahead) ahead l outer false n

@@ -17,7 +17,7 @@ use Rattle.cmark_block_model.specs.OpenBlocks.{OpenList}
 use Rattle.cmark_block_model.proofs.PlainTokens.{IsPlain, paragraph_plain, heading_plain, code_plain, table_plain, html_tokens_plain}
 use Rattle.cmark_block_model.proofs.Split.{Split, split}
 use Rattle.cmark_block_model.proofs.Settles.{Joins, settles}
-use Rattle.cmark_block_model.proofs.Replay.{Level, standing, entered, left_by, item_if, item_level, leaf_references, leaf_level, paragraph_level, heading_level, blank_level, replay}
+use Rattle.cmark_block_model.proofs.Replay.{Noted, Level, marked, standing, entered, left_by, item_if, item_level, leaf_noted, leaf_level, paragraph_level, heading_level, blank_level, replay}
 
 paragraph-references : (direct : Bool) (start end : ℕ) (t d : BlockDocument) → IsPlain t → references (Node (node (paragraph_kind direct) start end) t d) ≡ references d
 paragraph-references true start end t d h = ap (λ r. r ++ references d) h.defines
@@ -29,50 +29,55 @@ item-references true direct tight number start past inner s d j =
     ap (λ x. references (item_then true number tight (node document.ListItem start past) inner x)) j.is
     ∙ append_assoc (references inner) (references j.items) (references j.after) ∙ ap (λ x. references inner ++ references x) (sym j.is)
 
-item-keeps : (mark : ℕ) (number : Option ℕ) (start : ℕ) (l : Level) (o : Option OpenList) → (item_level mark number start l o).references ≡ l.references
+marked-references : (task : Option Bool) (width : ℕ) (first : Row) (d : BlockDocument) → references d ≡ references (marked task width first d)
+marked-references None width first d = refl
+marked-references (Some is_checked) width first d = refl
+
+item-keeps : (mark : ℕ) (number : Option ℕ) (start : ℕ) (l : Level) (o : Option OpenList) → (item_level mark number start l o).noted.references ≡ l.noted.references
 item-keeps mark number start l None = refl
 item-keeps mark number start l (Some o) = go (o.mark == mark)
   where
-    go : (z : Bool) → (item_if z mark number start o l).references ≡ l.references
+    go : (z : Bool) → (item_if z mark number start o l).noted.references ≡ l.noted.references
     go true = refl
     go false = refl
 
 module _ (text : List ℕ) (options : Options) (lookup : Lookup) where
-  leaf-references : (leaf : Leaf) (first : Row) (more : List Row) (rs : List Reference) (d : BlockDocument) → (leaf_references text options lookup leaf first more rs ++ references d) ≡ (rs ++ references (leaf_then text options lookup leaf first more d))
-  leaf-references ThematicBreak first more rs d = refl
-  leaf-references (AtxHeading level) first more rs d = ap (λ r. rs ++ (r ++ references d)) (sym (heading_plain text options.heading_attributes level first).defines)
-  leaf-references IndentedCode first more rs d = ap (λ r. rs ++ (r ++ references d)) (sym (code_plain text 4 (first ∷ more)).defines)
-  leaf-references (FencedCode fence) first more rs d = ap (λ r. rs ++ (r ++ references d)) (sym (code_plain text fence.indented (fenced_lines fence more)).defines)
-  leaf-references (HtmlBlock kind) first more rs d = ap (λ r. rs ++ (r ++ references d)) (sym (html_tokens_plain text (first ∷ more)).defines)
-  leaf-references (LinkDefinition definition) first more rs d = append_assoc rs (reference_of lookup definition (start_of first) (stop_of first more) ∷ []) (references d)
-  leaf-references (MetadataBlock kind) first more rs d = ap (λ r. rs ++ (r ++ references d)) (sym (code_plain text 0 (lines_before (ends_metadata kind) more)).defines)
-  leaf-references (Table alignments) first more rs d = ap (λ r. rs ++ (r ++ references d)) (sym (table_plain text (length alignments) first more).defines)
+  leaf-references : (leaf : Leaf) (first : Row) (more : List Row) (n : Noted) (d : BlockDocument) → ((leaf_noted text options lookup leaf first more n).references ++ references d) ≡ (n.references ++ references (leaf_then text options lookup leaf first more d))
+  leaf-references ThematicBreak first more n d = refl
+  leaf-references (AtxHeading level) first more n d = ap (λ r. n.references ++ (r ++ references d)) (sym (heading_plain text options.heading_attributes level first).defines)
+  leaf-references IndentedCode first more n d = ap (λ r. n.references ++ (r ++ references d)) (sym (code_plain text 4 (first ∷ more)).defines)
+  leaf-references (FencedCode fence) first more n d = ap (λ r. n.references ++ (r ++ references d)) (sym (code_plain text fence.indented (fenced_lines fence more)).defines)
+  leaf-references (HtmlBlock kind) first more n d = ap (λ r. n.references ++ (r ++ references d)) (sym (html_tokens_plain text (first ∷ more)).defines)
+  leaf-references (LinkDefinition definition) first more n d = append_assoc n.references (reference_of lookup definition (start_of first) (stop_of first more) ∷ []) (references d)
+  leaf-references (MetadataBlock kind) first more n d = ap (λ r. n.references ++ (r ++ references d)) (sym (code_plain text 0 (lines_before (ends_metadata kind) more)).defines)
+  leaf-references (Table alignments) first more n d = ap (λ r. n.references ++ (r ++ references d)) (sym (table_plain text (length alignments) first more).defines)
 
-  pub defines : (b : Blocks) (direct : Bool) (before : Option ListBefore) (l : Level) → (replay text options lookup b l).references ≡ (l.references ++ references (document_of text options lookup direct before b))
-  defines NoBlocks direct before l = sym (append-nil l.references)
+  pub defines : (b : Blocks) (direct : Bool) (before : Option ListBefore) (l : Level) → (replay text options lookup b l).noted.references ≡ (l.noted.references ++ references (document_of text options lookup direct before b))
+  defines NoBlocks direct before l = sym (append-nil l.noted.references)
   defines (BlankLine line after) direct before l = defines after direct before (blank_level l)
   defines (Paragraph first more after) direct before l =
       defines after direct None (paragraph_level text options lookup first more l)
-      ∙ ap (λ r. l.references ++ r) (sym (paragraph-references direct (start_of first) (past_of first more) _ (document_of text options lookup direct None after) (paragraph_plain text first more)))
+      ∙ ap (λ r. l.noted.references ++ r) (sym (paragraph-references direct (start_of first) (past_of first more) _ (document_of text options lookup direct None after) (paragraph_plain text first more)))
   defines (SetextHeading level first more underline after) direct before l =
       defines after direct None (heading_level text options lookup level first more underline l)
-      ∙ ap (λ r. l.references ++ (r ++ references (document_of text options lookup direct None after))) (sym (paragraph_plain text first more).defines)
+      ∙ ap (λ r. l.noted.references ++ (r ++ references (document_of text options lookup direct None after))) (sym (paragraph_plain text first more).defines)
   defines (LeafBlock leaf first more after) direct before l =
-      defines after direct None (leaf_level text options lookup leaf first more l) ∙ leaf-references leaf first more l.references (document_of text options lookup direct None after)
+      defines after direct None (leaf_level text options lookup leaf first more l) ∙ leaf-references leaf first more l.noted (document_of text options lookup direct None after)
   defines (ContainerBlock (Quote alert) first more inside after) direct before l =
       defines after direct None (left_by (Quote alert) (standing (Quote alert) first l).inner (past_of first more) (replay text options lookup inside (entered (Quote alert) first l)))
       ∙ ap (λ r. r ++ references (document_of text options lookup direct None after)) (defines inside false None (entered (Quote alert) first l))
-      ∙ append_assoc l.references (references (document_of text options lookup false None inside)) (references (document_of text options lookup direct None after))
+      ∙ append_assoc l.noted.references (references (document_of text options lookup false None inside)) (references (document_of text options lookup direct None after))
   defines (ContainerBlock (Footnote label old size) first more inside after) direct before l =
       defines after direct None (left_by (Footnote label old size) (standing (Footnote label old size) first l).inner (past_of first more) (replay text options lookup inside (entered (Footnote label old size) first l)))
       ∙ ap (λ r. r ++ references (document_of text options lookup direct None after)) (defines inside false None (entered (Footnote label old size) first l))
-      ∙ append_assoc l.references (references (document_of text options lookup false None inside)) (references (document_of text options lookup direct None after))
-  defines (ContainerBlock (Item mark number width) first more inside after) direct before l =
-      let k = Item mark number width in
+      ∙ append_assoc l.noted.references (references (document_of text options lookup false None inside)) (references (document_of text options lookup direct None after))
+  defines (ContainerBlock (Item mark number width task) first more inside after) direct before l =
+      let k = Item mark number width task in
       let t = tight_behind before mark inside after in
       let d = document_of text options lookup direct (Some (record { mark = mark; tight = t })) after in
-      let i = document_of text options lookup t None inside in
+      let j = document_of text options lookup t None inside in
+      let i = marked task width first j in
       defines after direct (Some (record { mark = mark; tight = t })) (left_by k (standing k first l).inner (past_of first more) (replay text options lookup inside (entered k first l)))
-      ∙ ap (λ r. r ++ references d) (defines inside t None (entered k first l) ∙ ap (λ r. r ++ references i) (item-keeps mark number (begin_of first) l l.inner.list))
-      ∙ append_assoc l.references (references i) (references d)
-      ∙ ap (λ r. l.references ++ r) (sym (item-references (goes_on mark after) direct t number (begin_of first) (past_of first more) i (split text options lookup (Some mark) after) d (settles text options lookup after direct (Some (record { mark = mark; tight = t })))))
+      ∙ ap (λ r. r ++ references d) (defines inside t None (entered k first l) ∙ ap (λ r. (entered k first l).noted.references ++ r) (marked-references task width first j) ∙ ap (λ r. r ++ references i) (item-keeps mark number (begin_of first) l l.inner.list))
+      ∙ append_assoc l.noted.references (references i) (references d)
+      ∙ ap (λ r. l.noted.references ++ r) (sym (item-references (goes_on mark after) direct t number (begin_of first) (past_of first more) i (split text options lookup (Some mark) after) d (settles text options lookup after direct (Some (record { mark = mark; tight = t })))))

@@ -5,8 +5,8 @@ use Rattle.cmark_grammar.specs.Answers.{Lookup}
 use Rattle.cmark_grammar.specs.Options.{Options}
 use Rattle.cmark_grammar.specs.Event.{End, Ranged}
 use Rattle.cmark_grammar.specs.TagEnd.{end_of}
-use Rattle.cmark_grammar.specs.BlockDocument.{BlockKind, Paragraph, TightParagraph, Heading, ThematicBreak, IndentedCode, FencedCode, HtmlBlock, LinkDefinition, MetadataBlock, BlockQuote, BlockList, ListItem, FootnoteDefinition, Text, OwnedText, Html, BlockNode, BlockDocument, Nil, Node, Table, TableHead, TableRow, TableCell}
-use Rattle.cmark_grammar.specs.BlockReading.{Reads, Around, Inside, Alone, Silent, read_as, over, node_events, block_reading}
+use Rattle.cmark_grammar.specs.BlockDocument.{BlockKind, Paragraph, TightParagraph, Heading, ThematicBreak, IndentedCode, FencedCode, HtmlBlock, LinkDefinition, MetadataBlock, BlockQuote, BlockList, ListItem, TaskMarker, FootnoteDefinition, Text, OwnedText, Html, BlockNode, BlockDocument, Nil, Node, Table, TableHead, TableRow, TableCell}
+use Rattle.cmark_grammar.specs.BlockReading.{Reads, Around, Inside, Alone, First, Silent, read_as, over, node_events, is_leaf, begins_as, begins_element, first_event, first_in, with_first, block_reading}
 use Rattle.cmark_grammar.specs.Derivation.{Derives, document}
 use Rattle.cmark_grammar.specs.DrawnDocument.{is_definition, node_unless, settled, without_definitions}
 use Rattle.cmark_grammar.specs.Tightness.{tight_within}
@@ -38,20 +38,34 @@ silent TableCell e = absurd (let q : false ≡ true = e in cc)
 silent (BlockQuote alert) e = absurd (let q : false ≡ true = e in cc)
 silent (FootnoteDefinition label) e = absurd (let q : false ≡ true = e in cc)
 silent (BlockList number tight) e = absurd (let q : false ≡ true = e in cc)
+silent (TaskMarker is_checked) e = absurd (let q : false ≡ true = e in cc)
 silent ListItem e = absurd (let q : false ≡ true = e in cc)
 silent (Text bytes) e = absurd (let q : false ≡ true = e in cc)
 silent (OwnedText bytes) e = absurd (let q : false ≡ true = e in cc)
 silent (Html bytes) e = absurd (let q : false ≡ true = e in cc)
 
--- so a document without its definitions is read as the document is
+-- so an element begins behind definitions where one begins without them
+pub whole-begins : (d : BlockDocument) → begins_element (without_definitions d) ≡ begins_element d
+whole-begins Nil = refl
+whole-begins (Node n inside after) = go (is_definition n.kind) refl (whole-begins after)
+  where
+    go : (b : Bool) → is_definition n.kind ≡ b → begins_element (without_definitions after) ≡ begins_element after
+        → begins_element (node_unless b n (without_definitions inside) (without_definitions after)) ≡ begins_as (is_leaf n.kind) (read_as n.kind) (begins_element after)
+    go true e a = a ∙ ap (λ r. begins_as (is_leaf n.kind) r (begins_element after)) (sym (silent n.kind e))
+    go false e a = ap (begins_as (is_leaf n.kind) (read_as n.kind)) a
+
+-- and a document without its definitions is read as the document is
 pub whole-read : (d : BlockDocument) → block_reading (without_definitions d) ≡ block_reading d
 whole-read Nil = refl
 whole-read (Node n inside after) = go (is_definition n.kind) refl (whole-read inside) (whole-read after)
   where
     go : (b : Bool) → is_definition n.kind ≡ b → block_reading (without_definitions inside) ≡ block_reading inside → block_reading (without_definitions after) ≡ block_reading after
-        → block_reading (node_unless b n (without_definitions inside) (without_definitions after)) ≡ node_events (read_as n.kind) n (block_reading inside) ++ block_reading after
-    go true e i a = a ∙ ap (λ r. node_events r n (block_reading inside) ++ block_reading after) (sym (silent n.kind e))
-    go false e i a = ap (λ l. node_events (read_as n.kind) n l ++ block_reading (without_definitions after)) i ∙ ap (λ l. node_events (read_as n.kind) n (block_reading inside) ++ l) a
+        → block_reading (node_unless b n (without_definitions inside) (without_definitions after)) ≡ with_first (first_event (read_as n.kind)) (begins_element after) n (node_events (read_as n.kind) n (block_reading inside) ++ block_reading after)
+    go true e i a = a ∙ ap (λ r. with_first (first_event r) (begins_element after) n (node_events r n (block_reading inside) ++ block_reading after)) (sym (silent n.kind e))
+    go false e i a =
+        ap (λ z. with_first (first_event (read_as n.kind)) z n (node_events (read_as n.kind) n (block_reading (without_definitions inside)) ++ block_reading (without_definitions after))) (whole-begins after)
+        ∙ ap (λ l. with_first (first_event (read_as n.kind)) (begins_element after) n (node_events (read_as n.kind) n l ++ block_reading (without_definitions after))) i
+        ∙ ap (λ l. with_first (first_event (read_as n.kind)) (begins_element after) n (node_events (read_as n.kind) n (block_reading inside) ++ l)) a
 
 order-le : (from : ℕ) (d : BlockDocument) (to : ℕ) → InOrder from d to → from ≤ to
 order-le from Nil to h = h
@@ -88,16 +102,29 @@ node-few : (r : Reads) (n : BlockNode) (l : List Ranged) → length (node_events
 node-few (Around tag) n l = let e = length-append l (over n (End (end_of tag)) ∷ []) in omega (arith, e)
 node-few Inside n l = omega arith
 node-few (Alone event) n l = omega arith
+node-few (First event) n l = omega arith
 node-few Silent n l = omega arith
+
+-- a further one stands first in what is behind it
+first-few : (element : Bool) (e : Ranged) (others : List Ranged) → length (first_in element e others) ≤ 1 + length others
+first-few true e [] = omega arith
+first-few true e (r ∷ others) = omega arith
+first-few false e others = omega arith
+
+with-few : (r : Reads) (element : Bool) (n : BlockNode) (l others : List Ranged) → length (with_first (first_event r) element n (node_events r n l ++ others)) ≤ 2 + (length l + length others)
+with-few (Around tag) element n l others = let e = length-append (node_events (Around tag) n l) others in let f = node-few (Around tag) n l in omega (arith, e, f)
+with-few Inside element n l others = let e = length-append l others in omega (arith, e)
+with-few (Alone event) element n l others = omega arith
+with-few (First event) element n l others = let f = first-few element (over n event) others in omega (arith, f)
+with-few Silent element n l others = omega arith
 
 read-few : (d : BlockDocument) → length (block_reading d) ≤ 2 * count_nodes d
 read-few Nil = omega arith
 read-few (Node n inside after) =
-    let e = length-append (node_events (read_as n.kind) n (block_reading inside)) (block_reading after) in
-    let f = node-few (read_as n.kind) n (block_reading inside) in
+    let f = with-few (read_as n.kind) (begins_element after) n (block_reading inside) (block_reading after) in
     let i = read-few inside in
     let a = read-few after in
-    omega (arith, e, f, i, a)
+    omega (arith, f, i, a)
 
 pub derived-few : (text : List ℕ) (options : Options) (lookup : Lookup) (d : BlockDocument) → Derives text options lookup d → length (block_reading d) ≤ 8 * length text + 524288 * count_tables d
 derived-few text options lookup d h = let a = read-few d in let b = derived-count text options lookup d h in omega (arith, a, b)

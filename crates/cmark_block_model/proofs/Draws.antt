@@ -1,5 +1,5 @@
 -- Closed blocks draw their document: one behind the other, the same as from the last one on.
-use Rattle.std.proofs.Common.{◌≡◌, ℕ, Bool, true, false, ◌==◌, ◌||◌, ◌&&◌, not, List, ◌∷◌, refl, ap, ◌∙◌, sym, Option, Some, None, arith}
+use Rattle.std.proofs.Common.{◌≡◌, ℕ, Bool, true, false, ◌==◌, ◌||◌, ◌&&◌, not, List, [], ◌∷◌, ◌++◌, refl, ap, ◌∙◌, sym, Option, Some, None, arith}
 use Rattle.cmark_grammar.specs.Options.{Options}
 use Rattle.cmark_grammar.specs.Answers.{Lookup}
 use Rattle.cmark_grammar.specs.Attributes.{no_attributes}
@@ -11,12 +11,12 @@ use Rattle.cmark_grammar.specs.Blocks.{Blocks, Nil as NoBlocks, BlankLine, Parag
 use Rattle.cmark_grammar.specs.Lists.{ends_blank, is_parted_item, loose_from, is_tight}
 use Rattle.cmark_grammar.specs.Tokens.{paragraph_tokens}
 use Rattle.cmark_grammar.specs.BlockDocument as document
-use Rattle.cmark_grammar.specs.BlockDocument.{Reference, BlockDocument, Nil, Node, node, join}
+use Rattle.cmark_grammar.specs.BlockDocument.{BlockDocument, Nil, Node, node, join}
 use Rattle.cmark_block_model.specs.Drawing.{Drawing, OpenNode, drawn, opened, closed_at}
 use Rattle.cmark_block_model.specs.OpenBlocks.{OpenList, no_siblings}
 use Rattle.cmark_block_model.specs.BlockPass.{list_closed}
 use Rattle.cmark_block_model.proofs.PlainTokens.{join-nil, join-assoc}
-use Rattle.cmark_block_model.proofs.Replay.{Level, item_if, level_opened, left_by, leaf_drawing, leaf_references, replay}
+use Rattle.cmark_block_model.proofs.Replay.{Noted, Level, item_if, level_opened, level_drawn, marked, left_by, leaf_drawing, leaf_noted, replay}
 use Rattle.cmark_block_model.proofs.Standing.{Stand, First, FirstBlank, Behind, InList, list_of, mark_of, level_of, IsNearlyFilled, HasFilledItems}
 use Rattle.cmark_block_model.proofs.Flags.{or-false, same-mark, fresh, longer, item_list, in_item, behind_item, blank_behind, parted_behind}
 use Rattle.cmark_block_model.proofs.Split.{Split, end_or, lone, item_split, leaf_raw, split}
@@ -84,14 +84,14 @@ module _ (text : List ℕ) (options : Options) (lookup : Lookup) where
   -- what these blocks draw, wherever they stand
   abbrev pub Draws : Blocks → Type 0
   Draws b =
-      (s : Stand) (v : OpenNode) (here : BlockDocument) (up : List OpenNode) (blank p : Bool) (rs : List Reference)
+      (s : Stand) (v : OpenNode) (here : BlockDocument) (up : List OpenNode) (blank p : Bool) (rs : Noted)
       → finished (replay text options lookup b (level_of s (drawing_at s v here up) blank p rs)) ≡ completed s v here up (loose_at s blank b) (split text options lookup (mark_of s) b)
 
   -- behind a block that is no item
-  behind : (b : Blocks) → Draws b → (d : Drawing) (blank p : Bool) (rs : List Reference) → finished (replay text options lookup b (level_of Behind d blank p rs)) ≡ drawn (split text options lookup None b).after d
+  behind : (b : Blocks) → Draws b → (d : Drawing) (blank p : Bool) (rs : Noted) → finished (replay text options lookup b (level_of Behind d blank p rs)) ≡ drawn (split text options lookup None b).after d
   behind b h d blank p rs = h Behind (record { left = Nil; node = node document.Paragraph 0 0 }) d.here d.up blank p rs
 
-  inside-draws : (b : Blocks) → Draws b → (d : Drawing) (rs : List Reference) → finished (replay text options lookup b (level_of First d false false rs)) ≡ drawn (split text options lookup None b).after d
+  inside-draws : (b : Blocks) → Draws b → (d : Drawing) (rs : Noted) → finished (replay text options lookup b (level_of First d false false rs)) ≡ drawn (split text options lookup None b).after d
   inside-draws b h d rs = h First (record { left = Nil; node = node document.Paragraph 0 0 }) d.here d.up false false rs
 
   loose-none : (s : Stand) (blank : Bool) (b : Blocks) → ((mark : ℕ) → loose_from mark blank b ≡ false) → loose_at s blank b ≡ false
@@ -101,7 +101,7 @@ module _ (text : List ℕ) (options : Options) (lookup : Lookup) where
   loose-none (InList o) blank b h = h o.mark
 
   -- a block that is no item
-  alone : (after : Blocks) → Draws after → (s : Stand) (v : OpenNode) (here : BlockDocument) (up : List OpenNode) (n : BlockDocument) (d : Drawing) (p : Bool) (rs : List Reference) → d ≡ drawn n (list_closed (list_of s) (drawing_at s v here up))
+  alone : (after : Blocks) → Draws after → (s : Stand) (v : OpenNode) (here : BlockDocument) (up : List OpenNode) (n : BlockDocument) (d : Drawing) (p : Bool) (rs : Noted) → d ≡ drawn n (list_closed (list_of s) (drawing_at s v here up))
       → (z : Bool) → z ≡ false → finished (replay text options lookup after (level_of Behind d false p rs)) ≡ completed s v here up z (lone (join n (split text options lookup None after).after))
   alone after ih s v here up n d p rs e z f =
       behind after ih d false p rs ∙ ap (drawn (split text options lookup None after).after) e
@@ -130,25 +130,25 @@ module _ (text : List ℕ) (options : Options) (lookup : Lookup) where
   leaf-raw (Table alignments) first more x = refl
 
   -- behind an item that stands in this list
-  item-draws : (inside after : Blocks) → HasFilledItems inside → IsNearlyFilled inside → Draws inside → Draws after → (start past : ℕ) (o : OpenList) (v : OpenNode) (here : BlockDocument) (up : List OpenNode) (p : Bool) (rs : List Reference)
-      → finished (replay text options lookup after (behind_item text options lookup start past inside o (record { here = here; up = v ∷ up }) p rs))
-      ≡ completed (InList (item_list o (is_parted_item inside) past)) v (join here (Node (node document.ListItem start past) (split text options lookup None inside).after Nil)) up (loose_from o.mark (ends_blank true false inside) after) (split text options lookup (Some o.mark) after)
-  item-draws inside after hi ni di da start past o v here up p rs =
-      let i = replay text options lookup inside (in_item text options lookup start (record { here = here; up = v ∷ up }) rs) in
-      let item : BlockDocument = Node (node document.ListItem start past) (split text options lookup None inside).after Nil in
-      ap (λ d. finished (replay text options lookup after (level_of (InList (item_list o i.inner.parted past)) (closed_at past d) i.inner.blank p i.references))) (inside-draws inside di (opened start document.ListItem (record { here = here; up = v ∷ up })) rs)
-      ∙ ap (λ z. finished (replay text options lookup after (level_of (InList (item_list o z past)) (record { here = join here item; up = v ∷ up }) i.inner.blank p i.references))) (parted_behind text options lookup inside hi First (opened start document.ListItem (record { here = here; up = v ∷ up })) false false rs)
-      ∙ ap (λ z. finished (replay text options lookup after (level_of (InList (item_list o (is_parted_item inside) past)) (record { here = join here item; up = v ∷ up }) z p i.references))) (blank_behind text options lookup inside hi First ni (opened start document.ListItem (record { here = here; up = v ∷ up })) false false rs)
-      ∙ da (InList (item_list o (is_parted_item inside) past)) v (join here item) up (ends_blank true false inside) p i.references
+  item-draws : (inside after : Blocks) → HasFilledItems inside → IsNearlyFilled inside → Draws inside → Draws after → (start past : ℕ) (marker : BlockDocument) (o : OpenList) (v : OpenNode) (here : BlockDocument) (up : List OpenNode) (p : Bool) (rs : Noted)
+      → finished (replay text options lookup after (behind_item text options lookup start past marker inside o (record { here = here; up = v ∷ up }) p rs))
+      ≡ completed (InList (item_list o (is_parted_item inside) past)) v (join here (Node (node document.ListItem start past) (join marker (split text options lookup None inside).after) Nil)) up (loose_from o.mark (ends_blank true false inside) after) (split text options lookup (Some o.mark) after)
+  item-draws inside after hi ni di da start past marker o v here up p rs =
+      let i = replay text options lookup inside (in_item text options lookup start marker (record { here = here; up = v ∷ up }) rs) in
+      let item : BlockDocument = Node (node document.ListItem start past) (join marker (split text options lookup None inside).after) Nil in
+      ap (λ d. finished (replay text options lookup after (level_of (InList (item_list o i.inner.parted past)) (closed_at past d) i.inner.blank p i.noted))) (inside-draws inside di (drawn marker (opened start document.ListItem (record { here = here; up = v ∷ up }))) rs)
+      ∙ ap (λ z. finished (replay text options lookup after (level_of (InList (item_list o z past)) (record { here = join here item; up = v ∷ up }) i.inner.blank p i.noted))) (parted_behind text options lookup inside hi First (drawn marker (opened start document.ListItem (record { here = here; up = v ∷ up }))) false false rs)
+      ∙ ap (λ z. finished (replay text options lookup after (level_of (InList (item_list o (is_parted_item inside) past)) (record { here = join here item; up = v ∷ up }) z p i.noted))) (blank_behind text options lookup inside hi First ni (drawn marker (opened start document.ListItem (record { here = here; up = v ∷ up }))) false false rs)
+      ∙ da (InList (item_list o (is_parted_item inside) past)) v (join here item) up (ends_blank true false inside) p i.noted
 
   -- an item that begins a list
-  new-draws : (mark : ℕ) (number : Option ℕ) (inside after : Blocks) → HasFilledItems inside → IsNearlyFilled inside → Draws inside → Draws after → (start past : ℕ) (s : Stand) (v : OpenNode) (here : BlockDocument) (up : List OpenNode) (p : Bool) (rs : List Reference) (z : Bool) → z ≡ false
-      → finished (replay text options lookup after (behind_item text options lookup start past inside (fresh mark number start) (opened start (document.BlockList number false) (list_closed (list_of s) (drawing_at s v here up))) p rs))
-      ≡ completed s v here up z (item_split false number (is_tight mark inside after) start past (split text options lookup None inside).after (split text options lookup (Some mark) after))
-  new-draws mark number inside after hi ni di da start past s v here up p rs z f =
+  new-draws : (mark : ℕ) (number : Option ℕ) (inside after : Blocks) → HasFilledItems inside → IsNearlyFilled inside → Draws inside → Draws after → (start past : ℕ) (marker : BlockDocument) (s : Stand) (v : OpenNode) (here : BlockDocument) (up : List OpenNode) (p : Bool) (rs : Noted) (z : Bool) → z ≡ false
+      → finished (replay text options lookup after (behind_item text options lookup start past marker inside (fresh mark number start) (opened start (document.BlockList number false) (list_closed (list_of s) (drawing_at s v here up))) p rs))
+      ≡ completed s v here up z (item_split false number (is_tight mark inside after) start past (join marker (split text options lookup None inside).after) (split text options lookup (Some mark) after))
+  new-draws mark number inside after hi ni di da start past marker s v here up p rs z f =
       let d = list_closed (list_of s) (drawing_at s v here up) in
-      let t = item_split false number (is_tight mark inside after) start past (split text options lookup None inside).after (split text options lookup (Some mark) after) in
-      item-draws inside after hi ni di da start past (fresh mark number start) (record { left = d.here; node = node (document.BlockList number false) start start }) Nil d.up p rs
+      let t = item_split false number (is_tight mark inside after) start past (join marker (split text options lookup None inside).after) (split text options lookup (Some mark) after) in
+      item-draws inside after hi ni di da start past marker (fresh mark number start) (record { left = d.here; node = node (document.BlockList number false) start start }) Nil d.up p rs
       ∙ drawn-done s v here up t.after ∙ ap (λ y. completed s v here up y t) (sym f)
 
   pub draws : (b : Blocks) → HasFilledItems b → Draws b
@@ -164,7 +164,7 @@ module _ (text : List ℕ) (options : Options) (lookup : Lookup) where
       alone after (draws after h) s v here up (Node (node (document.Heading level no_attributes) (start_of first) underline.past) (paragraph_tokens text first more) Nil) _ (p || blank) rs refl
       (loose_at s blank (SetextHeading level first more underline after)) (loose-none s blank (SetextHeading level first more underline after) (λ mark. refl))
   draws (LeafBlock leaf first more after) h s v here up blank p rs =
-      alone after (draws after h) s v here up (leaf_raw text options lookup leaf first more Nil) _ (p || blank) (leaf_references text options lookup leaf first more rs) (leaf-drawing leaf first more (list_closed (list_of s) (drawing_at s v here up)))
+      alone after (draws after h) s v here up (leaf_raw text options lookup leaf first more Nil) _ (p || blank) (leaf_noted text options lookup leaf first more rs) (leaf-drawing leaf first more (list_closed (list_of s) (drawing_at s v here up)))
       (loose_at s blank (LeafBlock leaf first more after)) (loose-none s blank (LeafBlock leaf first more after) (λ mark. refl))
       ∙ ap (λ x. completed s v here up (loose_at s blank (LeafBlock leaf first more after)) (lone x)) (leaf-raw leaf first more (split text options lookup None after).after)
   draws (ContainerBlock (Quote alert) first more inside after) h s v here up blank p rs =
@@ -175,27 +175,27 @@ module _ (text : List ℕ) (options : Options) (lookup : Lookup) where
   draws (ContainerBlock (Footnote label old size) first more inside after) h s v here up blank p rs =
       let d = list_closed (list_of s) (drawing_at s v here up) in
       alone after (draws after h.1) s v here up (Node (node (document.FootnoteDefinition (normal_form label)) (start_of first) (past_of first more)) (split text options lookup None inside).after Nil) _ (p || blank) _
-      (ap (closed_at (past_of first more)) (inside-draws inside (draws inside h.0) (opened (start_of first) (document.FootnoteDefinition (normal_form label)) d) rs))
+      (ap (closed_at (past_of first more)) (inside-draws inside (draws inside h.0) (opened (start_of first) (document.FootnoteDefinition (normal_form label)) d) (record rs { footnotes = rs.footnotes ++ normal_form label ∷ [] })))
       (loose_at s blank (ContainerBlock (Footnote label old size) first more inside after)) (loose-none s blank (ContainerBlock (Footnote label old size) first more inside after) (λ mark. refl))
-  draws (ContainerBlock (Item mark number width) first more inside after) h s v here up blank p rs = go s (draws inside h.1) (draws after h.2)
+  draws (ContainerBlock (Item mark number width task) first more inside after) h s v here up blank p rs = go s (draws inside h.1) (draws after h.2)
     where
-      same : Draws inside → Draws after → (z : Bool) (o : OpenList) → (o.mark == mark) ≡ z → finished (replay text options lookup after (left_by (Item mark number width) (item_if z mark number (begin_of first) o (level_of (InList o) (record { here = here; up = v ∷ up }) blank p rs)).inner (past_of first more)
-          (replay text options lookup inside (record (level_opened (begin_of first) document.ListItem (item_if z mark number (begin_of first) o (level_of (InList o) (record { here = here; up = v ∷ up }) blank p rs))) { inner = no_siblings })))) ≡ completed (InList o) v here up (loose_from o.mark blank (ContainerBlock (Item mark number width) first more inside after)) (item_split z number (is_tight mark inside after) (begin_of first) (past_of first more) (split text options lookup None inside).after (split text options lookup (Some mark) after))
+      same : Draws inside → Draws after → (z : Bool) (o : OpenList) → (o.mark == mark) ≡ z → finished (replay text options lookup after (left_by (Item mark number width task) (item_if z mark number (begin_of first) o (level_of (InList o) (record { here = here; up = v ∷ up }) blank p rs)).inner (past_of first more)
+          (replay text options lookup inside (record (level_drawn (marked task width first Nil) (level_opened (begin_of first) document.ListItem (item_if z mark number (begin_of first) o (level_of (InList o) (record { here = here; up = v ∷ up }) blank p rs)))) { inner = no_siblings })))) ≡ completed (InList o) v here up (loose_from o.mark blank (ContainerBlock (Item mark number width task) first more inside after)) (item_split z number (is_tight mark inside after) (begin_of first) (past_of first more) (join (marked task width first Nil) (split text options lookup None inside).after) (split text options lookup (Some mark) after))
       same di da true o e =
-          let item : BlockDocument = Node (node document.ListItem (begin_of first) (past_of first more)) (split text options lookup None inside).after Nil in
+          let item : BlockDocument = Node (node document.ListItem (begin_of first) (past_of first more)) (join (marked task width first Nil) (split text options lookup None inside).after) Nil in
           let t = split text options lookup (Some mark) after in
           let l = loose_from o.mark (ends_blank true false inside) after in
-          item-draws inside after h.1 h.0 di da (begin_of first) (past_of first more) (longer o blank) v here up p rs
+          item-draws inside after h.1 h.0 di da (begin_of first) (past_of first more) (marked task width first Nil) (longer o blank) v here up p rs
           ∙ ap (λ m. completed (InList (item_list (longer o blank) (is_parted_item inside) (past_of first more))) v (join here item) up l (split text options lookup (Some m) after)) (same-mark o.mark mark e)
           ∙ ap (λ z. record { here = join v.left (Node (node (document.BlockList o.number (not z)) v.node.start (end_or (past_of first more) t.end)) (join (join here item) t.items) t.after); up = up }) (loose o.loose blank (is_parted_item inside) l (mark == o.mark) (other-mark o.mark mark true e))
           ∙ ap (λ i. record { here = join v.left (Node (node (document.BlockList o.number (not (o.loose || ((mark == o.mark) && (blank || (is_parted_item inside || l)))))) v.node.start (end_or (past_of first more) t.end)) i t.after); up = up }) (join-assoc here item t.items)
       same di da false o e =
-          new-draws mark number inside after h.1 h.0 di da (begin_of first) (past_of first more) (InList o) v here up (p || blank) rs
-          (loose_from o.mark blank (ContainerBlock (Item mark number width) first more inside after))
+          new-draws mark number inside after h.1 h.0 di da (begin_of first) (past_of first more) (marked task width first Nil) (InList o) v here up (p || blank) rs
+          (loose_from o.mark blank (ContainerBlock (Item mark number width task) first more inside after))
           (ap (λ z. z && (blank || (is_parted_item inside || loose_from o.mark (ends_blank true false inside) after))) (other-mark o.mark mark false e))
 
-      go : (s : Stand) → Draws inside → Draws after → finished (replay text options lookup (ContainerBlock (Item mark number width) first more inside after) (level_of s (drawing_at s v here up) blank p rs)) ≡ completed s v here up (loose_at s blank (ContainerBlock (Item mark number width) first more inside after)) (split text options lookup (mark_of s) (ContainerBlock (Item mark number width) first more inside after))
-      go First di da = new-draws mark number inside after h.1 h.0 di da (begin_of first) (past_of first more) First v here up (p || blank) rs false refl
-      go FirstBlank di da = new-draws mark number inside after h.1 h.0 di da (begin_of first) (past_of first more) FirstBlank v here up (p || blank) rs false refl
-      go Behind di da = new-draws mark number inside after h.1 h.0 di da (begin_of first) (past_of first more) Behind v here up (p || blank) rs false refl
+      go : (s : Stand) → Draws inside → Draws after → finished (replay text options lookup (ContainerBlock (Item mark number width task) first more inside after) (level_of s (drawing_at s v here up) blank p rs)) ≡ completed s v here up (loose_at s blank (ContainerBlock (Item mark number width task) first more inside after)) (split text options lookup (mark_of s) (ContainerBlock (Item mark number width task) first more inside after))
+      go First di da = new-draws mark number inside after h.1 h.0 di da (begin_of first) (past_of first more) (marked task width first Nil) First v here up (p || blank) rs false refl
+      go FirstBlank di da = new-draws mark number inside after h.1 h.0 di da (begin_of first) (past_of first more) (marked task width first Nil) FirstBlank v here up (p || blank) rs false refl
+      go Behind di da = new-draws mark number inside after h.1 h.0 di da (begin_of first) (past_of first more) (marked task width first Nil) Behind v here up (p || blank) rs false refl
       go (InList o) di da = same di da (o.mark == mark) o refl

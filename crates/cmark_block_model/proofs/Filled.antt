@@ -25,9 +25,9 @@ still-blank (suc n) (d ∷ cs) le e =
     go true f ih = ih (omega (arith, f))
     go false f ih = absurd (omega (arith, f))
 
-two-blanks : (mark : ℕ) (number : Option ℕ) (width : ℕ) (r : Row) → (strip (Item mark number width) true r).lazy ≡ false → is_blank_line (strip (Item mark number width) true r) ≡ true → ⊥
+two-blanks : (mark : ℕ) (number : Option ℕ) (width : ℕ) (task : Option Bool) (r : Row) → (strip (Item mark number width task) true r).lazy ≡ false → is_blank_line (strip (Item mark number width task) true r) ≡ true → ⊥
 unfolding keeps
-two-blanks mark number width r = go r.lazy (is_blank_line r) refl (nat_le width (indent_of r)) refl
+two-blanks mark number width task r = go r.lazy (is_blank_line r) refl (nat_le width (indent_of r)) refl
   where
     go : (a b : Bool) → is_blank_line r ≡ b → (c : Bool) → nat_le width (indent_of r) ≡ c
         → (strip_as (if a || (true && b) then None else if b || c then Some (without width r) else None) r).lazy ≡ false
@@ -41,21 +41,21 @@ module _ (options : Options) where
   blank-tells : (place : Place) (r : Row) (ahead : List Row) → opens_at options place r ahead ≡ Blank → (r.lazy ≡ false) × (is_blank_line r ≡ true)
   blank-tells place r ahead e = subst (Tells r) e (tells-at options place r ahead)
 
-  nearly : (mark : ℕ) (number : Option ℕ) (width : ℕ) (first : Row) (more : List Row) (inside : Blocks) → Body options Apart (insides (Item mark number width) first more) inside → IsNearlyFilled inside
-  nearly mark number width first more Nil h = tt
-  nearly mark number width first more (Paragraph a b c) h = tt
-  nearly mark number width first more (SetextHeading l a b u c) h = tt
-  nearly mark number width first more (LeafBlock l a b c) h = tt
-  nearly mark number width first more (ContainerBlock k a b i c) h = tt
-  nearly mark number width first more (BlankLine line Nil) h = tt
-  nearly mark number width first more (BlankLine line (Paragraph a b c)) h = tt
-  nearly mark number width first more (BlankLine line (SetextHeading l a b u c)) h = tt
-  nearly mark number width first more (BlankLine line (LeafBlock l a b c)) h = tt
-  nearly mark number width first more (BlankLine line (ContainerBlock k a b i c)) h = tt
-  nearly mark number width first more (BlankLine line (BlankLine other after)) h = go more h.rest (rest-is h.cut) (line-is h.cut) h.after
+  nearly : (place : Place) (mark : ℕ) (number : Option ℕ) (width : ℕ) (task : Option Bool) (first : Row) (more : List Row) (inside : Blocks) → Body options place (insides (Item mark number width task) first more) inside → IsNearlyFilled inside
+  nearly place mark number width task first more Nil h = tt
+  nearly place mark number width task first more (Paragraph a b c) h = tt
+  nearly place mark number width task first more (SetextHeading l a b u c) h = tt
+  nearly place mark number width task first more (LeafBlock l a b c) h = tt
+  nearly place mark number width task first more (ContainerBlock k a b i c) h = tt
+  nearly place mark number width task first more (BlankLine line Nil) h = tt
+  nearly place mark number width task first more (BlankLine line (Paragraph a b c)) h = tt
+  nearly place mark number width task first more (BlankLine line (SetextHeading l a b u c)) h = tt
+  nearly place mark number width task first more (BlankLine line (LeafBlock l a b c)) h = tt
+  nearly place mark number width task first more (BlankLine line (ContainerBlock k a b i c)) h = tt
+  nearly place mark number width task first more (BlankLine line (BlankLine other after)) h = go more h.rest (rest-is h.cut) (line-is h.cut) h.after
     where
       k : Container
-      k = Item mark number width
+      k = Item mark number width task
 
       rest-is : insides k first more ≡ line ∷ h.rest → strips k (is_bare_start k first) more ≡ h.rest
       rest-is e = cc
@@ -63,13 +63,13 @@ module _ (options : Options) where
       line-is : insides k first more ≡ line ∷ h.rest → enter k first ≡ line
       line-is e = cc
 
-      go : (more : List Row) (rest : List Row) → strips k (is_bare_start k first) more ≡ rest → enter k first ≡ line → Body options Apart rest (BlankLine other after) → ⊥
+      go : (more : List Row) (rest : List Row) → strips k (is_bare_start k first) more ≡ rest → enter k first ≡ line → Body options (over_blank place) rest (BlankLine other after) → ⊥
       go [] rest e f b = absurd (let q : [] ≡ other ∷ b.rest = e ∙ b.cut in cc)
       go (r ∷ more) rest e f b =
-          let bare : is_bare_start k first ≡ true = ap is_blank_line f ∙ (blank-tells Apart line (shown h.rest) h.opened).1 in
+          let bare : is_bare_start k first ≡ true = ap is_blank_line f ∙ (blank-tells place line (shown h.rest) h.opened).1 in
           let same : strip k true r ≡ other = let q : strip k (is_bare_start k first) r ∷ strips k false more ≡ other ∷ b.rest = e ∙ b.cut in ap (λ z. strip k z r) (sym bare) ∙ cc in
-          let t = blank-tells Apart other (shown b.rest) b.opened in
-          two-blanks mark number width r (ap (λ s. s.lazy) same ∙ t.0) (ap is_blank_line same ∙ t.1)
+          let t = blank-tells (over_blank place) other (shown b.rest) b.opened in
+          two-blanks mark number width task r (ap (λ s. s.lazy) same ∙ t.0) (ap is_blank_line same ∙ t.1)
 
   filled : (b : Blocks) (behind : Place) (all : List Row) → Body options behind all b → HasFilledItems b
   filled Nil behind all h = tt
@@ -79,8 +79,8 @@ module _ (options : Options) where
   filled (LeafBlock leaf first more after) behind all h = filled after (behind_leaf leaf) h.rest h.after
   filled (ContainerBlock (Quote alert) first more inside after) behind all h = (filled inside (place_in (Quote alert)) (insides (Quote alert) first more) h.contents, filled after Apart h.rest h.after)
   filled (ContainerBlock (Footnote label old size) first more inside after) behind all h = (filled inside (place_in (Footnote label old size)) (insides (Footnote label old size) first more) h.contents, filled after Apart h.rest h.after)
-  filled (ContainerBlock (Item mark number width) first more inside after) behind all h =
-      (nearly mark number width first more inside h.contents, filled inside Apart (insides (Item mark number width) first more) h.contents, filled after Apart h.rest h.after)
+  filled (ContainerBlock (Item mark number width task) first more inside after) behind all h =
+      (nearly (place_in (Item mark number width task)) mark number width task first more inside h.contents, filled inside (place_in (Item mark number width task)) (insides (Item mark number width task) first more) h.contents, filled after Apart h.rest h.after)
 
   pub blocks-filled : (text : List ℕ) → HasFilledItems (blocks options text)
   blocks-filled text = filled (blocks options text) Apart (rows text) (blocks-body options text)

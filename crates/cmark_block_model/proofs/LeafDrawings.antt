@@ -4,7 +4,7 @@ use Rattle.cmark_grammar.specs.Answers.{Lookup}
 use Rattle.cmark_grammar.specs.Options.{Options}
 use Rattle.cmark_grammar.specs.Event.{End}
 use Rattle.cmark_grammar.specs.TagEnd.{end_of}
-use Rattle.cmark_grammar.specs.Rows.{Row, first_place, begin_of, start_of, past_of, words_of}
+use Rattle.cmark_grammar.specs.Rows.{Row, without, first_place, begin_of, start_of, past_of, words_of}
 use Rattle.cmark_grammar.specs.Containers.{Quote, Item, Footnote}
 use Rattle.cmark_grammar.specs.Openings.{Leaf, ThematicBreak as ThematicBreakLeaf, AtxHeading as AtxHeadingLeaf, IndentedCode as IndentedCodeLeaf, FencedCode as FencedCodeLeaf, HtmlBlock as HtmlBlockLeaf, LinkDefinition as LinkDefinitionLeaf, MetadataBlock as MetadataBlockLeaf, Table as TableLeaf}
 use Rattle.cmark_grammar.specs.Blocks.{Blocks, Nil as NoBlocks, BlankLine, Paragraph as ParagraphBlock, SetextHeading, LeafBlock, ContainerBlock}
@@ -14,16 +14,17 @@ use Rattle.cmark_grammar.specs.Columns.{is_blank_byte, drop_end}
 use Rattle.cmark_grammar.specs.TableRows.{cells_start, cells_of}
 use Rattle.cmark_grammar.specs.TableTokens.{cells_then, row_cells, row_tokens}
 use Rattle.cmark_grammar.specs.BlockDocument.{Text, OwnedText, ListItem, BlockKind, BlockNode, BlockDocument, Nil, Node, node}
-use Rattle.cmark_grammar.specs.BlockReading.{Reads, Around, Inside, Alone, Silent, read_as, over}
-use Rattle.cmark_grammar.specs.Derivation.{Derives, leaf_then, item_then, document_of, document}
+use Rattle.cmark_grammar.specs.BlockReading.{Reads, Around, Inside, Alone, First, Silent, read_as, over, first_event, begins_element}
+use Rattle.cmark_grammar.specs.Derivation.{Derives, leaf_then, item_then, task_then, document_of, document}
 use Rattle.cmark_grammar.specs.DrawnDocument.{is_definition, node_unless, settled, without_definitions}
 use Rattle.cmark_grammar.specs.LeafText.{Stretch}
 use Rattle.cmark_grammar.specs.Ranges.{count_nodes, count_tables}
-use Rattle.cmark_grammar.specs.SpanDocuments.{Segment, Given, Content, is_leaf, is_cell, leaf_of, stretches_of, inside_of, node_segments, segments}
+use Rattle.cmark_grammar.specs.SpanDocuments.{Segment, Given, Content, is_leaf, is_cell, leaf_of, stretches_of, inside_of, node_segments, first_of_segments, with_first_segment, segments}
+use Rattle.cmark_grammar.specs.TaskItems.{behind_box}
 use Rattle.cmark_grammar.specs.Metadata.{ends_metadata}
 use Rattle.cmark_grammar.proofs.CountLaws.{derived-count, derived-tables}
 use Rattle.cmark_block_model.specs.BlockPass.{pass_over}
-use Rattle.cmark_block_model.proofs.Drawings.{derived, silent}
+use Rattle.cmark_block_model.proofs.Drawings.{derived, silent, whole-begins}
 use Rattle.cmark_block_model.proofs.Theorem.{pass-draws}
 
 -- none of these nodes is a definition
@@ -120,6 +121,10 @@ item-whole false number tight start end inside after i a = (λ e. no-leaf false 
 item-whole true number tight start end inside Nil i a = (λ e. no-leaf false refl _ e, (λ e. no-leaf false refl _ e, i, tt), tt)
 item-whole true number tight start end inside (Node list items after) i a = (λ e. no-leaf false refl _ e, (λ e. no-leaf false refl _ e, i, a.1), a.2)
 
+task-whole : (task : Option Bool) (start end : ℕ) (inside : BlockDocument) → HasWholeLeaves inside → HasWholeLeaves (task_then task start end inside)
+task-whole None start end inside h = h
+task-whole (Some is_checked) start end inside h = (λ e. no-leaf false refl _ e, tt, h)
+
 document-whole : (text : List ℕ) (options : Options) (lookup : Lookup) (direct : Bool) (before : Option ListBefore) (b : Blocks) → HasWholeLeaves (document_of text options lookup direct before b)
 document-whole text options lookup direct before NoBlocks = tt
 document-whole text options lookup direct before (BlankLine line after) = document-whole text options lookup direct before after
@@ -129,10 +134,10 @@ document-whole text options lookup direct before (SetextHeading level first more
 document-whole text options lookup direct before (LeafBlock leaf first more after) = leaf-whole text options lookup leaf first more (document_of text options lookup direct None after) (document-whole text options lookup direct None after)
 document-whole text options lookup direct before (ContainerBlock (Quote alert) first more inside after) = (λ e. no-leaf false refl _ e, document-whole text options lookup false None inside, document-whole text options lookup direct None after)
 document-whole text options lookup direct before (ContainerBlock (Footnote label old size) first more inside after) = (λ e. no-leaf false refl _ e, document-whole text options lookup false None inside, document-whole text options lookup direct None after)
-document-whole text options lookup direct before (ContainerBlock (Item mark number width) first more inside after) =
+document-whole text options lookup direct before (ContainerBlock (Item mark number width task) first more inside after) =
     let tight = tight_behind before mark inside after in
-    item-whole (goes_on mark after) number tight (begin_of first) (past_of first more) (document_of text options lookup tight None inside) (document_of text options lookup direct (Some (record { mark = mark; tight = tight })) after)
-    (document-whole text options lookup tight None inside) (document-whole text options lookup direct (Some (record { mark = mark; tight = tight })) after)
+    item-whole (goes_on mark after) number tight (begin_of first) (past_of first more) (task_then task (begin_of (without width first)) (begin_of (without (behind_box task width) first)) (document_of text options lookup tight None inside)) (document_of text options lookup direct (Some (record { mark = mark; tight = tight })) after)
+    (task-whole task _ _ (document_of text options lookup tight None inside) (document-whole text options lookup tight None inside)) (document-whole text options lookup direct (Some (record { mark = mark; tight = tight })) after)
 
 derived-whole : (text : List ℕ) (options : Options) (lookup : Lookup) (d : BlockDocument) → Derives text options lookup d → HasWholeLeaves d
 derived-whole text options lookup d h = subst HasWholeLeaves (sym h.2) (document-whole text options lookup false None h.0)
@@ -154,18 +159,33 @@ whole-segments Nil h = refl
 whole-segments (Node n inside after) h = go (is_definition n.kind) refl (whole-segments inside h.1) (whole-segments after h.2)
   where
     go : (b : Bool) → is_definition n.kind ≡ b → segments (without_definitions inside) ≡ segments inside → segments (without_definitions after) ≡ segments after
-        → segments (node_unless b n (without_definitions inside) (without_definitions after)) ≡ node_segments (read_as n.kind) n (inside_of n.kind inside (segments inside)) ++ segments after
-    go true e i a = a ∙ ap (λ r. node_segments r n (inside_of n.kind inside (segments inside)) ++ segments after) (sym (silent n.kind e))
+        → segments (node_unless b n (without_definitions inside) (without_definitions after)) ≡ with_first_segment (first_event (read_as n.kind)) (begins_element after) n (node_segments (read_as n.kind) n (inside_of n.kind inside (segments inside)) ++ segments after)
+    go true e i a = a ∙ ap (λ r. with_first_segment (first_event r) (begins_element after) n (node_segments r n (inside_of n.kind inside (segments inside)) ++ segments after)) (sym (silent n.kind e))
     go false e i a =
-        ap (λ l. node_segments (read_as n.kind) n l ++ segments (without_definitions after)) (same-inside n.kind (is_leaf n.kind) inside (segments (without_definitions inside)) (segments inside) h.0 i)
-        ∙ ap (λ l. node_segments (read_as n.kind) n (inside_of n.kind inside (segments inside)) ++ l) a
+        ap (λ z. with_first_segment (first_event (read_as n.kind)) z n (node_segments (read_as n.kind) n (inside_of n.kind (without_definitions inside) (segments (without_definitions inside))) ++ segments (without_definitions after))) (whole-begins after)
+        ∙ ap (λ l. with_first_segment (first_event (read_as n.kind)) (begins_element after) n (node_segments (read_as n.kind) n l ++ segments (without_definitions after))) (same-inside n.kind (is_leaf n.kind) inside (segments (without_definitions inside)) (segments inside) h.0 i)
+        ∙ ap (λ l. with_first_segment (first_event (read_as n.kind)) (begins_element after) n (node_segments (read_as n.kind) n (inside_of n.kind inside (segments inside)) ++ l)) a
 
 -- a node gives three at most
 node-few : (r : Reads) (n : BlockNode) (l : List Segment) → length (node_segments r n l) ≤ 2 + length l
 node-few (Around tag) n l = let e = length-append l (Given (over n (End (end_of tag))) ∷ []) in omega (arith, e)
 node-few Inside n l = omega arith
 node-few (Alone event) n l = omega arith
+node-few (First event) n l = omega arith
 node-few Silent n l = omega arith
+
+-- a further one stands first in what is behind it
+first-few : (element : Bool) (e : Segment) (others : List Segment) → length (first_of_segments element e others) ≤ 1 + length others
+first-few true e [] = omega arith
+first-few true e (s ∷ others) = omega arith
+first-few false e others = omega arith
+
+with-few : (r : Reads) (element : Bool) (n : BlockNode) (l others : List Segment) → length (with_first_segment (first_event r) element n (node_segments r n l ++ others)) ≤ 2 + (length l + length others)
+with-few (Around tag) element n l others = let e = length-append (node_segments (Around tag) n l) others in let f = node-few (Around tag) n l in omega (arith, e, f)
+with-few Inside element n l others = let e = length-append l others in omega (arith, e)
+with-few (Alone event) element n l others = omega arith
+with-few (First event) element n l others = let f = first-few element (Given (over n event)) others in omega (arith, f)
+with-few Silent element n l others = omega arith
 
 inside-few : (kind : BlockKind) (b : Bool) (content : BlockDocument) (others : List Segment) → length (if b then Content (leaf_of kind content) ∷ [] else others) ≤ 1 + length others
 inside-few kind true content others = omega arith
@@ -175,12 +195,11 @@ segments-count : (d : BlockDocument) → length (segments d) ≤ 3 * count_nodes
 segments-count Nil = omega arith
 segments-count (Node n inside after) =
     let own = inside_of n.kind inside (segments inside) in
-    let e = length-append (node_segments (read_as n.kind) n own) (segments after) in
-    let f = node-few (read_as n.kind) n own in
+    let f = with-few (read_as n.kind) (begins_element after) n own (segments after) in
     let g = inside-few n.kind (is_leaf n.kind) inside (segments inside) in
     let i = segments-count inside in
     let a = segments-count after in
-    omega (arith, e, f, g, i, a)
+    omega (arith, f, g, i, a)
 
 pub segments-few : (text : List ℕ) (options : Options) (lookup : Lookup) (d : BlockDocument) → Derives text options lookup d → length (segments d) ≤ 12 * length text + 786432 * count_tables d
 segments-few text options lookup d h = let a = segments-count d in let b = derived-count text options lookup d h in omega (arith, a, b)

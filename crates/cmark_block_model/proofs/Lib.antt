@@ -7,6 +7,7 @@ pub mod Draws
 pub mod Feeding
 pub mod Filled
 pub mod Flags
+pub mod FootnoteLabels
 pub mod Keeping
 pub mod LazyLines
 pub mod LeafDrawings

@@ -59,7 +59,7 @@ begin_push begin first (s ∷ more) r = go (begin_of s == first.past) (begin_pus
     go false p q = q
 
 abbrev pub pass_with : Level → List OpenContainer → Bool → OpenLeaf → ℕ → Pass
-pass_with l outer bare leaf past = record { drawing = l.drawing; inner = l.inner; outer = outer; bare = bare; leaf = leaf; past = past; references = l.references }
+pass_with l outer bare leaf past = record { drawing = l.drawing; inner = l.inner; outer = outer; bare = bare; leaf = leaf; past = past; references = l.noted.references; footnotes = l.noted.footnotes }
 
 abbrev pub leaf_left : Leaf → ℕ → OpenLeaf
 leaf_left ThematicBreak left = Closed

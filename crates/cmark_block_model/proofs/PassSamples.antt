@@ -1,5 +1,5 @@
 -- Examples of CommonMark: the steps of the block pass draw the document of the grammar.
-use Rattle.std.specs.Prelude.{◌≡◌, ℕ, List, codes, false}
+use Rattle.std.specs.Prelude.{◌≡◌, ℕ, List, [], ◌∷◌, codes, false, true}
 use Rattle.std.proofs.Common.{refl}
 use Rattle.cmark_grammar.specs.Leaves.{underlines}
 use Rattle.cmark_grammar.specs.Containers.{enter, keeps}
@@ -80,3 +80,8 @@ quotes_and_items = (refl, refl)
 item_ends_with_blank : IsSame (codes "- a\n  > b\n\n- c\n\n\n  d\ne\n")
 unfolding pass_over blocks begin opens texts lazily enter keeps underlines
 item_ends_with_blank = (refl, refl)
+
+-- the labels of footnotes, in their normal form and in the order of the document: one that stands twice is noted twice
+labels_of_footnotes : (pass_over (codes "[^a]: b\n\n> [^C\td]: e\n> [^f]: g\n\n[^a]: h\n") (record no_options { footnotes = true }) basic_entity).footnotes ≡ codes "a" ∷ codes "C d" ∷ codes "f" ∷ codes "a" ∷ []
+unfolding pass_over blocks begin opens texts lazily enter keeps underlines
+labels_of_footnotes = refl

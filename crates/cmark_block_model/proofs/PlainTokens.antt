@@ -1,4 +1,4 @@
--- Tokens are neither settled nor left out, and define nothing.
+-- Tokens are neither settled nor left out, and define nothing, neither links nor footnotes.
 use Rattle.std.proofs.Common.{◌≡◌, ℕ, zero, suc, ◌+◌, Bool, true, false, List, [], ◌∷◌, ◌++◌, length, drop, take_while, refl, ap, ◌∙◌}
 use Rattle.std.specs.Prelude.{◌==◌, if◌then◌else◌}
 use Rattle.cmark_grammar.specs.Rows.{Row, first_place, begin_of, start_of, words_of}
@@ -9,22 +9,24 @@ use Rattle.cmark_grammar.specs.TableTokens.{cell_tokens, cells_then, row_cells, 
 use Rattle.cmark_grammar.specs.BlockDocument.{Text, OwnedText, Html, TableHead, TableRow, TableCell, BlockDocument, Nil, Node, node, join}
 use Rattle.cmark_grammar.specs.DrawnDocument.{settled, without_definitions}
 use Rattle.cmark_grammar.specs.References.{references}
+use Rattle.cmark_grammar.specs.SpanDocuments.{footnote_labels}
 
 pub record IsPlain (d : BlockDocument) : Type 0 where
   pub still : (tight : Bool) → settled tight d ≡ d
   pub whole : without_definitions d ≡ d
   pub defines : references d ≡ []
+  pub labels : footnote_labels d ≡ []
 
 pub nil_plain : IsPlain Nil
-nil_plain = record { still = λ tight. refl; whole = refl; defines = refl }
+nil_plain = record { still = λ tight. refl; whole = refl; defines = refl; labels = refl }
 
 text_plain : (owned : Bool) (bytes : List ℕ) (start end : ℕ) (after : BlockDocument) → IsPlain after → IsPlain (Node (node (if owned then OwnedText bytes else Text bytes) start end) Nil after)
-text_plain true bytes start end after h = record { still = λ tight. ap (Node (node (OwnedText bytes) start end) Nil) (h.still tight); whole = ap (Node (node (OwnedText bytes) start end) Nil) h.whole; defines = h.defines }
-text_plain false bytes start end after h = record { still = λ tight. ap (Node (node (Text bytes) start end) Nil) (h.still tight); whole = ap (Node (node (Text bytes) start end) Nil) h.whole; defines = h.defines }
+text_plain true bytes start end after h = record { still = λ tight. ap (Node (node (OwnedText bytes) start end) Nil) (h.still tight); whole = ap (Node (node (OwnedText bytes) start end) Nil) h.whole; defines = h.defines; labels = h.labels }
+text_plain false bytes start end after h = record { still = λ tight. ap (Node (node (Text bytes) start end) Nil) (h.still tight); whole = ap (Node (node (Text bytes) start end) Nil) h.whole; defines = h.defines; labels = h.labels }
 
 html_plain : (owned : Bool) (bytes : List ℕ) (start end : ℕ) (after : BlockDocument) → IsPlain after → IsPlain (Node (node (if owned then OwnedText bytes else Html bytes) start end) Nil after)
-html_plain true bytes start end after h = record { still = λ tight. ap (Node (node (OwnedText bytes) start end) Nil) (h.still tight); whole = ap (Node (node (OwnedText bytes) start end) Nil) h.whole; defines = h.defines }
-html_plain false bytes start end after h = record { still = λ tight. ap (Node (node (Html bytes) start end) Nil) (h.still tight); whole = ap (Node (node (Html bytes) start end) Nil) h.whole; defines = h.defines }
+html_plain true bytes start end after h = record { still = λ tight. ap (Node (node (OwnedText bytes) start end) Nil) (h.still tight); whole = ap (Node (node (OwnedText bytes) start end) Nil) h.whole; defines = h.defines; labels = h.labels }
+html_plain false bytes start end after h = record { still = λ tight. ap (Node (node (Html bytes) start end) Nil) (h.still tight); whole = ap (Node (node (Html bytes) start end) Nil) h.whole; defines = h.defines; labels = h.labels }
 
 pub texts_plain : (ps : List Piece) (after : BlockDocument) → IsPlain after → IsPlain (texts_then ps after)
 texts_plain [] after h = h
@@ -66,6 +68,7 @@ head_plain start end inside after h k = record {
   still = λ tight. ap (λ x. Node (node TableHead start end) x (settled tight after)) (h.still false) ∙ ap (Node (node TableHead start end) inside) (k.still tight);
   whole = ap (λ x. Node (node TableHead start end) x (without_definitions after)) h.whole ∙ ap (Node (node TableHead start end) inside) k.whole;
   defines = ap (λ r. r ++ references after) h.defines ∙ k.defines;
+  labels = ap (λ r. r ++ footnote_labels after) h.labels ∙ k.labels;
 }
 
 table_row_plain : (start end : ℕ) (inside after : BlockDocument) → IsPlain inside → IsPlain after → IsPlain (Node (node TableRow start end) inside after)
@@ -73,6 +76,7 @@ table_row_plain start end inside after h k = record {
   still = λ tight. ap (λ x. Node (node TableRow start end) x (settled tight after)) (h.still false) ∙ ap (Node (node TableRow start end) inside) (k.still tight);
   whole = ap (λ x. Node (node TableRow start end) x (without_definitions after)) h.whole ∙ ap (Node (node TableRow start end) inside) k.whole;
   defines = ap (λ r. r ++ references after) h.defines ∙ k.defines;
+  labels = ap (λ r. r ++ footnote_labels after) h.labels ∙ k.labels;
 }
 
 cell_plain : (start end : ℕ) (inside after : BlockDocument) → IsPlain inside → IsPlain after → IsPlain (Node (node TableCell start end) inside after)
@@ -80,6 +84,7 @@ cell_plain start end inside after h k = record {
   still = λ tight. ap (λ x. Node (node TableCell start end) x (settled tight after)) (h.still false) ∙ ap (Node (node TableCell start end) inside) (k.still tight);
   whole = ap (λ x. Node (node TableCell start end) x (without_definitions after)) h.whole ∙ ap (Node (node TableCell start end) inside) k.whole;
   defines = ap (λ r. r ++ references after) h.defines ∙ k.defines;
+  labels = ap (λ r. r ++ footnote_labels after) h.labels ∙ k.labels;
 }
 
 cells_plain : (text : List ℕ) (columns at past : ℕ) (cells : List (List ℕ)) → IsPlain (cells_then text columns at past cells)

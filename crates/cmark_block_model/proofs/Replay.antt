@@ -1,15 +1,17 @@
--- What closed blocks leave of a level: what is drawn there, its siblings' flags and the references, block by block.
-use Rattle.std.specs.Prelude.{ℕ, Bool, true, false, ◌==◌, ◌||◌, List, [], ◌∷◌, ◌++◌, Option, Some, None}
+-- What closed blocks leave of a level: what is drawn there, its siblings' flags, the references and the labels of footnotes, block
+-- by block.
+use Rattle.std.specs.Prelude.{ℕ, ◌+◌, Bool, true, false, ◌==◌, ◌||◌, List, [], ◌∷◌, ◌++◌, Option, Some, None}
 use Rattle.cmark_grammar.specs.Options.{Options}
 use Rattle.cmark_grammar.specs.Answers.{Lookup}
 use Rattle.cmark_grammar.specs.Attributes.{no_attributes}
-use Rattle.cmark_grammar.specs.Rows.{Row, start_of, begin_of, past_of}
+use Rattle.cmark_grammar.specs.Rows.{Row, without, start_of, begin_of, past_of}
 use Rattle.cmark_grammar.specs.Labels.{normal_form}
 use Rattle.cmark_grammar.specs.Containers.{Container, Quote, Item, Footnote}
 use Rattle.cmark_grammar.specs.Openings.{Leaf, ThematicBreak, AtxHeading, IndentedCode, FencedCode, HtmlBlock, LinkDefinition, MetadataBlock, Table}
 use Rattle.cmark_grammar.specs.Blocks.{Blocks, Nil, BlankLine, Paragraph, SetextHeading, LeafBlock, ContainerBlock, join}
 use Rattle.cmark_grammar.specs.Tokens.{paragraph_tokens}
-use Rattle.cmark_grammar.specs.Derivation.{stop_of, reference_of, leaf_then}
+use Rattle.cmark_grammar.specs.TaskItems.{behind_box}
+use Rattle.cmark_grammar.specs.Derivation.{stop_of, reference_of, leaf_then, task_then}
 use Rattle.cmark_grammar.specs.BlockDocument as document
 use Rattle.cmark_grammar.specs.BlockDocument.{BlockDocument, BlockKind, Reference, Node, node}
 use Rattle.cmark_block_model.specs.Drawing.{Drawing, drawn, opened, closed_at}
@@ -17,11 +19,16 @@ use Rattle.cmark_block_model.specs.OpenBlocks.{OpenList, Siblings, no_siblings}
 use Rattle.cmark_block_model.specs.BlockPass.{list_closed, behind_container}
 use Rattle.std.proofs.Common.{◌≡◌, refl}
 
+-- the link reference definitions, and the labels of the footnote definitions
+pub record Noted : Type 0 where
+  pub references : List Reference
+  pub footnotes : List (List ℕ)
+
 -- the innermost level
 pub record Level : Type 0 where
   pub drawing : Drawing
   pub inner : Siblings
-  pub references : List Reference
+  pub noted : Noted
 
 -- a block begins that is no item
 abbrev pub begun : Level → Level
@@ -53,11 +60,19 @@ level_opened start kind l = record l { drawing = opened start kind l.drawing }
 abbrev pub level_drawn : BlockDocument → Level → Level
 level_drawn d l = record l { drawing = drawn d l.drawing }
 
+-- what is inside an item, behind its task marker, if it has one
+abbrev pub marked : Option Bool → (width : ℕ) → Row → BlockDocument → BlockDocument
+marked task width r inside = task_then task (begin_of (without width r)) (begin_of (without (behind_box task width) r)) inside
+
+-- a footnote's label is noted
+abbrev pub footnote_level : (label : List ℕ) → Level → Level
+footnote_level label l = record l { noted = record l.noted { footnotes = l.noted.footnotes ++ normal_form label ∷ [] } }
+
 -- a container begins: its node is open, and these are the siblings that it stands behind
 abbrev pub standing : Container → Row → Level → Level
 standing (Quote alert) r l = level_opened (start_of r) (document.BlockQuote alert) (begun l)
-standing (Footnote label old size) r l = level_opened (start_of r) (document.FootnoteDefinition (normal_form label)) (begun l)
-standing (Item mark number width) r l = level_opened (begin_of r) document.ListItem (item_level mark number (begin_of r) l l.inner.list)
+standing (Footnote label old size) r l = level_opened (start_of r) (document.FootnoteDefinition (normal_form label)) (footnote_level label (begun l))
+standing (Item mark number width task) r l = level_drawn (marked task width r document.Nil) (level_opened (begin_of r) document.ListItem (item_level mark number (begin_of r) l l.inner.list))
 
 abbrev pub entered : Container → Row → Level → Level
 entered k r l = record (standing k r l) { inner = no_siblings }
@@ -91,19 +106,19 @@ module _ (text : List ℕ) (options : Options) (lookup : Lookup) where
   leaf_drawing (MetadataBlock kind) first more d = drawn (leaf_then text options lookup (MetadataBlock kind) first more document.Nil) d
   leaf_drawing (Table alignments) first more d = drawn (leaf_then text options lookup (Table alignments) first more document.Nil) d
 
-  abbrev pub leaf_references : Leaf → Row → List Row → List Reference → List Reference
-  leaf_references ThematicBreak first more rs = rs
-  leaf_references (AtxHeading level) first more rs = rs
-  leaf_references IndentedCode first more rs = rs
-  leaf_references (FencedCode fence) first more rs = rs
-  leaf_references (HtmlBlock kind) first more rs = rs
-  leaf_references (MetadataBlock kind) first more rs = rs
-  leaf_references (Table alignments) first more rs = rs
-  leaf_references (LinkDefinition definition) first more rs = rs ++ reference_of lookup definition (start_of first) (stop_of first more) ∷ []
+  abbrev pub leaf_noted : Leaf → Row → List Row → Noted → Noted
+  leaf_noted ThematicBreak first more n = n
+  leaf_noted (AtxHeading level) first more n = n
+  leaf_noted IndentedCode first more n = n
+  leaf_noted (FencedCode fence) first more n = n
+  leaf_noted (HtmlBlock kind) first more n = n
+  leaf_noted (MetadataBlock kind) first more n = n
+  leaf_noted (Table alignments) first more n = n
+  leaf_noted (LinkDefinition definition) first more n = record n { references = n.references ++ reference_of lookup definition (start_of first) (stop_of first more) ∷ [] }
 
   abbrev pub leaf_level : Leaf → Row → List Row → Level → Level
   leaf_level leaf first more l =
-      let q = begun l in record q { drawing = leaf_drawing leaf first more q.drawing; references = leaf_references leaf first more q.references }
+      let q = begun l in record q { drawing = leaf_drawing leaf first more q.drawing; noted = leaf_noted leaf first more q.noted }
 
   -- the level behind these blocks
   abbrev pub replay : Blocks → Level → Level

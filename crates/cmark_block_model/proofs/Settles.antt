@@ -13,12 +13,13 @@ use Rattle.cmark_grammar.specs.Lists.{ListBefore, is_tight, tight_behind, goes_o
 use Rattle.cmark_grammar.specs.Tokens.{paragraph_tokens, heading_attributes, fenced_lines, lines_before}
 use Rattle.cmark_grammar.specs.Derivation.{paragraph_kind, leaf_then, item_then, document_of}
 use Rattle.cmark_grammar.specs.BlockDocument as document
-use Rattle.cmark_grammar.specs.BlockDocument.{BlockNode, BlockDocument, Nil, Node, node}
+use Rattle.cmark_grammar.specs.BlockDocument.{join, BlockNode, BlockDocument, Nil, Node, node}
 use Rattle.cmark_grammar.specs.DrawnDocument.{settled, without_definitions}
 use Rattle.cmark_grammar.specs.Metadata.{ends_metadata}
 use Rattle.cmark_block_model.proofs.PlainTokens.{IsPlain, paragraph_plain, heading_plain, code_plain, html_tokens_plain, table_plain}
 use Rattle.cmark_block_model.proofs.Split.{Split, end_or, lone, item_split, leaf_raw, split}
 use Rattle.cmark_block_model.proofs.Draws.{other-mark}
+use Rattle.cmark_block_model.proofs.Replay.{marked}
 
 -- what goes on with the list before: the document begins with it
 pub record GoesOn (direct tight : Bool) (s : Split) (d : BlockDocument) : Type 0 where
@@ -50,6 +51,10 @@ node-same n {a} {b} {c} {d} p q = ap (λ x. Node n x c) p ∙ ap (Node n b) q
 paragraph-settles : (direct : Bool) (start end : ℕ) (t x d : BlockDocument) → IsPlain t → settled direct x ≡ without_definitions d → settled direct (Node (node document.Paragraph start end) t x) ≡ without_definitions (Node (node (paragraph_kind direct) start end) t d)
 paragraph-settles true start end t x d h e = node-same (node document.TightParagraph start end) (h.still false ∙ sym h.whole) e
 paragraph-settles false start end t x d h e = node-same (node document.Paragraph start end) (h.still false ∙ sym h.whole) e
+
+marked-settles : (tight : Bool) (task : Option Bool) (width : ℕ) (first : Row) (x d : BlockDocument) → settled tight x ≡ without_definitions d → settled tight (join (marked task width first Nil) x) ≡ without_definitions (marked task width first d)
+marked-settles tight None width first x d e = e
+marked-settles tight (Some is_checked) width first x d e = node-same _ refl e
 
 module _ (text : List ℕ) (options : Options) (lookup : Lookup) where
   leaf-settles : (leaf : Leaf) (first : Row) (more : List Row) (direct : Bool) (x d : BlockDocument) → settled direct x ≡ without_definitions d → settled direct (leaf_raw text options lookup leaf first more x) ≡ without_definitions (leaf_then text options lookup leaf first more d)
@@ -113,30 +118,30 @@ module _ (text : List ℕ) (options : Options) (lookup : Lookup) where
       stands direct before _ _ (node-same (node (document.BlockQuote alert) (start_of first) (past_of first more)) (settles inside false None) (settles after direct None))
   settles (ContainerBlock (Footnote label old size) first more inside after) direct before =
       stands direct before _ _ (node-same (node (document.FootnoteDefinition (normal_form label)) (start_of first) (past_of first more)) (settles inside false None) (settles after direct None))
-  settles (ContainerBlock (Item mark number width) first more inside after) direct before =
-      go before (λ t. settles inside t None) (λ t. settles after direct (Some (record { mark = mark; tight = t })))
+  settles (ContainerBlock (Item mark number width task) first more inside after) direct before =
+      go before (λ t. marked-settles t task width first (split text options lookup None inside).after (document_of text options lookup t None inside) (settles inside t None)) (λ t. settles after direct (Some (record { mark = mark; tight = t })))
     where
       Inside : Bool → Type 0
-      Inside t = settled t (split text options lookup None inside).after ≡ without_definitions (document_of text options lookup t None inside)
+      Inside t = settled t (join (marked task width first Nil) (split text options lookup None inside).after) ≡ without_definitions (marked task width first (document_of text options lookup t None inside))
 
       After : Bool → Type 0
       After t = Joins (goes_on mark after) direct t (split text options lookup (Some mark) after) (document_of text options lookup direct (Some (record { mark = mark; tight = t })) after)
 
       D : Bool → BlockDocument
-      D t = item_then (goes_on mark after) number t (node document.ListItem (begin_of first) (past_of first more)) (document_of text options lookup t None inside) (document_of text options lookup direct (Some (record { mark = mark; tight = t })) after)
+      D t = item_then (goes_on mark after) number t (node document.ListItem (begin_of first) (past_of first more)) (marked task width first (document_of text options lookup t None inside)) (document_of text options lookup direct (Some (record { mark = mark; tight = t })) after)
 
-      whole : (t : Bool) → Inside t → After t → IsWhole direct t number (begin_of first) (past_of first more) (split text options lookup None inside).after (split text options lookup (Some mark) after) (D t)
-      whole t i a = item-whole (goes_on mark after) direct t number (begin_of first) (past_of first more) (split text options lookup None inside).after (document_of text options lookup t None inside) (split text options lookup (Some mark) after) (document_of text options lookup direct (Some (record { mark = mark; tight = t })) after) i a
+      whole : (t : Bool) → Inside t → After t → IsWhole direct t number (begin_of first) (past_of first more) (join (marked task width first Nil) (split text options lookup None inside).after) (split text options lookup (Some mark) after) (D t)
+      whole t i a = item-whole (goes_on mark after) direct t number (begin_of first) (past_of first more) (join (marked task width first Nil) (split text options lookup None inside).after) (marked task width first (document_of text options lookup t None inside)) (split text options lookup (Some mark) after) (document_of text options lookup direct (Some (record { mark = mark; tight = t })) after) i a
 
-      same : (z : Bool) (l : ListBefore) → ((t : Bool) → Inside t) → ((t : Bool) → After t) → Joins z direct l.tight (item_split z number (is_tight mark inside after) (begin_of first) (past_of first more) (split text options lookup None inside).after (split text options lookup (Some mark) after)) (D (if z then l.tight else is_tight mark inside after))
+      same : (z : Bool) (l : ListBefore) → ((t : Bool) → Inside t) → ((t : Bool) → After t) → Joins z direct l.tight (item_split z number (is_tight mark inside after) (begin_of first) (past_of first more) (join (marked task width first Nil) (split text options lookup None inside).after) (split text options lookup (Some mark) after)) (D (if z then l.tight else is_tight mark inside after))
       same true l i a =
           let w = whole l.tight (i l.tight) (a l.tight) in
           record { number = number; start = begin_of first; end = w.end; items = w.items; after = w.after; is = w.is; same_items = w.same_items; same_after = w.same_after; ends = ap Some w.ends }
       same false l i a =
-          (refl, refl, whole-settles direct (is_tight mark inside after) number (begin_of first) (past_of first more) (split text options lookup None inside).after (split text options lookup (Some mark) after) (D (is_tight mark inside after)) (whole (is_tight mark inside after) (i (is_tight mark inside after)) (a (is_tight mark inside after))))
+          (refl, refl, whole-settles direct (is_tight mark inside after) number (begin_of first) (past_of first more) (join (marked task width first Nil) (split text options lookup None inside).after) (split text options lookup (Some mark) after) (D (is_tight mark inside after)) (whole (is_tight mark inside after) (i (is_tight mark inside after)) (a (is_tight mark inside after))))
 
-      go : (before : Option ListBefore) → ((t : Bool) → Inside t) → ((t : Bool) → After t) → Settles direct before (λ m. mark == m) (λ m. split text options lookup m (ContainerBlock (Item mark number width) first more inside after)) (D (tight_behind before mark inside after))
-      go None i a = whole-settles direct (is_tight mark inside after) number (begin_of first) (past_of first more) (split text options lookup None inside).after (split text options lookup (Some mark) after) (D (is_tight mark inside after)) (whole (is_tight mark inside after) (i (is_tight mark inside after)) (a (is_tight mark inside after)))
+      go : (before : Option ListBefore) → ((t : Bool) → Inside t) → ((t : Bool) → After t) → Settles direct before (λ m. mark == m) (λ m. split text options lookup m (ContainerBlock (Item mark number width task) first more inside after)) (D (tight_behind before mark inside after))
+      go None i a = whole-settles direct (is_tight mark inside after) number (begin_of first) (past_of first more) (join (marked task width first Nil) (split text options lookup None inside).after) (split text options lookup (Some mark) after) (D (is_tight mark inside after)) (whole (is_tight mark inside after) (i (is_tight mark inside after)) (a (is_tight mark inside after)))
       go (Some l) i a =
-          subst (λ z. Joins z direct l.tight (item_split (l.mark == mark) number (is_tight mark inside after) (begin_of first) (past_of first more) (split text options lookup None inside).after (split text options lookup (Some mark) after)) (D (tight_behind (Some l) mark inside after)))
+          subst (λ z. Joins z direct l.tight (item_split (l.mark == mark) number (is_tight mark inside after) (begin_of first) (past_of first more) (join (marked task width first Nil) (split text options lookup None inside).after) (split text options lookup (Some mark) after)) (D (tight_behind (Some l) mark inside after)))
           (sym (other-mark l.mark mark (l.mark == mark) refl)) (same (l.mark == mark) l i a)

@@ -13,7 +13,8 @@ use Rattle.cmark_grammar.specs.Lists.{is_tight}
 use Rattle.cmark_grammar.specs.Tokens.{paragraph_tokens}
 use Rattle.cmark_grammar.specs.Derivation.{leaf_then}
 use Rattle.cmark_grammar.specs.BlockDocument as document
-use Rattle.cmark_grammar.specs.BlockDocument.{BlockDocument, Nil, Node, node}
+use Rattle.cmark_grammar.specs.BlockDocument.{BlockDocument, Nil, Node, node, join}
+use Rattle.cmark_block_model.proofs.Replay.{marked}
 
 -- the items that go on with a list, where the last one ends, and the document behind them
 pub record Split : Type 0 where
@@ -61,5 +62,5 @@ module _ (text : List ℕ) (options : Options) (lookup : Lookup) where
       lone (Node (node (document.BlockQuote alert) (start_of first) (past_of first more)) (split None inside).after (split None after).after)
   split mark (ContainerBlock (Footnote label old size) first more inside after) =
       lone (Node (node (document.FootnoteDefinition (normal_form label)) (start_of first) (past_of first more)) (split None inside).after (split None after).after)
-  split mark (ContainerBlock (Item m number width) first more inside after) =
-      item_split (is_mark mark m) number (is_tight m inside after) (begin_of first) (past_of first more) (split None inside).after (split (Some m) after)
+  split mark (ContainerBlock (Item m number width task) first more inside after) =
+      item_split (is_mark mark m) number (is_tight m inside after) (begin_of first) (past_of first more) (join (marked task width first Nil) (split None inside).after) (split (Some m) after)

@@ -1,12 +1,11 @@
 -- A level behind no block, behind a blank line alone, behind a block that is no item, or behind an item of a list that is open.
 use Rattle.std.specs.Prelude.{ℕ, Bool, true, false, List, Option, Some, None}
-use Rattle.cmark_grammar.specs.BlockDocument.{Reference}
 use Rattle.cmark_grammar.specs.Blocks.{Blocks, Nil, BlankLine, Paragraph, SetextHeading, LeafBlock, ContainerBlock}
 use Rattle.cmark_grammar.specs.Containers.{Quote, Item, Footnote}
 use Rattle.cmark_grammar.specs.Lists.{Before, NoBlock, Other, ItemWith}
 use Rattle.cmark_block_model.specs.Drawing.{Drawing}
 use Rattle.cmark_block_model.specs.OpenBlocks.{OpenList}
-use Rattle.cmark_block_model.proofs.Replay.{Level}
+use Rattle.cmark_block_model.proofs.Replay.{Noted, Level}
 
 pub data Stand : Type 0 where
   First : Stand
@@ -44,11 +43,11 @@ mark_of FirstBlank = None
 mark_of Behind = None
 mark_of (InList o) = Some o.mark
 
-abbrev pub level_of : Stand → Drawing → (blank parted : Bool) → List Reference → Level
-level_of stand d blank parted references = record {
+abbrev pub level_of : Stand → Drawing → (blank parted : Bool) → Noted → Level
+level_of stand d blank parted noted = record {
   drawing = d;
   inner = record { has_block = has_of stand; blank = blank; parted = parted; list = list_of stand };
-  references = references;
+  noted = noted;
 }
 
 -- no blank line stands in front
@@ -84,4 +83,4 @@ HasFilledItems (SetextHeading level first more underline after) = HasFilledItems
 HasFilledItems (LeafBlock leaf first more after) = HasFilledItems after
 HasFilledItems (ContainerBlock (Quote alert) first more inside after) = HasFilledItems inside × HasFilledItems after
 HasFilledItems (ContainerBlock (Footnote label old size) first more inside after) = HasFilledItems inside × HasFilledItems after
-HasFilledItems (ContainerBlock (Item mark number width) first more inside after) = IsNearlyFilled inside × HasFilledItems inside × HasFilledItems after
+HasFilledItems (ContainerBlock (Item mark number width task) first more inside after) = IsNearlyFilled inside × HasFilledItems inside × HasFilledItems after

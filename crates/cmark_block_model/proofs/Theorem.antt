@@ -9,6 +9,7 @@ use Rattle.cmark_grammar.specs.BlocksByLine.{OpenLines, Between, close_lines, li
 use Rattle.cmark_grammar.specs.Derivation.{document}
 use Rattle.cmark_grammar.specs.DrawnDocument.{settled, without_definitions}
 use Rattle.cmark_grammar.specs.References.{references}
+use Rattle.cmark_grammar.specs.SpanDocuments.{footnote_labels}
 use Rattle.cmark_grammar.specs.BlockDocument as document
 use Rattle.cmark_grammar.specs.BlockDocument.{node}
 use Rattle.cmark_grammar.proofs.BlocksSound.{AreWhole, rows-whole}
@@ -16,21 +17,25 @@ use Rattle.cmark_grammar.proofs.BlocksByLine.{by_line-same}
 use Rattle.cmark_block_model.specs.Drawing.{nothing_drawn}
 use Rattle.cmark_block_model.specs.OpenBlocks.{Closed, no_siblings, Pass}
 use Rattle.cmark_block_model.specs.BlockPass.{list_closed, containers_closed, line_fed, lines_fed, all_closed, pass_over}
-use Rattle.cmark_block_model.proofs.Replay.{Level, replay}
+use Rattle.cmark_block_model.proofs.Replay.{Noted, Level, replay}
 use Rattle.cmark_block_model.proofs.Standing.{First}
 use Rattle.cmark_block_model.proofs.Split.{split}
 use Rattle.cmark_block_model.proofs.Draws.{finished, draws}
 use Rattle.cmark_block_model.proofs.Settles.{settles}
 use Rattle.cmark_block_model.proofs.Defines.{defines}
+use Rattle.cmark_block_model.proofs.FootnoteLabels.{labels}
 use Rattle.cmark_block_model.proofs.Filled.{blocks-filled}
 use Rattle.cmark_block_model.proofs.Mirror.{pass_with, Fits, containers_at, bare_at, pass_at}
 use Rattle.cmark_block_model.proofs.Closing.{leaf-closes, containers-close}
 use Rattle.cmark_block_model.proofs.Keeping.{feed-fits}
 use Rattle.cmark_block_model.proofs.Simulation.{simulates}
 
+abbrev nothing_noted : Noted
+nothing_noted = record { references = []; footnotes = [] }
+
 -- the level at the beginning
 abbrev pub bottom : Level
-bottom = record { drawing = nothing_drawn; inner = no_siblings; references = [] }
+bottom = record { drawing = nothing_drawn; inner = no_siblings; noted = nothing_noted }
 
 -- where the last of these lines ends
 abbrev pub end_behind : ℕ → List Row → ℕ
@@ -88,15 +93,17 @@ module _ (text : List ℕ) (options : Options) (lookup : Lookup) where
       )
 
   drawn-all : finished (replay text options lookup (blocks options text) bottom) ≡ record { here = (split text options lookup None (blocks options text)).after; up = [] }
-  drawn-all = draws text options lookup (blocks options text) (blocks-filled options text) First (record { left = document.Nil; node = node document.Paragraph 0 0 }) document.Nil [] false false []
+  drawn-all = draws text options lookup (blocks options text) (blocks-filled options text) First (record { left = document.Nil; node = node document.Paragraph 0 0 }) document.Nil [] false false nothing_noted
 
   pub pass-draws :
       (settled false (pass_over text options lookup).drawing.here ≡ without_definitions (document text options lookup))
       × ((pass_over text options lookup).drawing.up ≡ [])
       × ((pass_over text options lookup).references ≡ references (document text options lookup))
+      × ((pass_over text options lookup).footnotes ≡ footnote_labels (document text options lookup))
   pass-draws =
       let p = pass-done in (
         ap (λ x. settled false x.drawing.here) p.2 ∙ ap (λ d. settled false d.here) drawn-all ∙ settles text options lookup (blocks options text) false None,
         ap (λ x. x.drawing.up) p.2 ∙ ap (λ d. d.up) drawn-all,
         ap (λ x. x.references) p.2 ∙ defines text options lookup (blocks options text) false None bottom,
+        ap (λ x. x.footnotes) p.2 ∙ labels text options lookup (blocks options text) false None bottom,
       )

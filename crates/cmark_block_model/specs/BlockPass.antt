@@ -1,21 +1,24 @@
 -- One more line of the block pass.
-use Rattle.std.specs.Prelude.{ℕ, zero, suc, Bool, true, false, ◌==◌, ◌&&◌, ◌||◌, not, nat_le, if◌then◌else◌, List, [], ◌∷◌, ◌++◌, length, take, Option, Some, None}
+use Rattle.std.specs.Prelude.{ℕ, zero, suc, ◌+◌, Bool, true, false, ◌==◌, ◌&&◌, ◌||◌, not, nat_le, if◌then◌else◌, List, [], ◌∷◌, ◌++◌, length, take, Option, Some, None}
 use Rattle.cmark_grammar.specs.Answers.{Lookup}
 use Rattle.cmark_grammar.specs.Attributes.{no_attributes}
 use Rattle.cmark_grammar.specs.Options.{Options}
-use Rattle.cmark_grammar.specs.Rows.{Row, rows, shown, first_place, begin_of, start_of, past_of, words_of}
+use Rattle.cmark_grammar.specs.Rows.{Row, rows, without, shown, first_place, begin_of, start_of, past_of, words_of}
 use Rattle.cmark_grammar.specs.Leaves.{Further, GoesOn, Closes, Waits, Stops, underlines, code_further, closes_fence}
 use Rattle.cmark_grammar.specs.HtmlBlocks.{holds_end, html_further}
 use Rattle.cmark_grammar.specs.Containers.{Container, Quote, Item, Footnote, is_alert, enter, keeps, strips}
-use Rattle.cmark_grammar.specs.Openings.{Leaf, ThematicBreak, AtxHeading, IndentedCode, FencedCode, HtmlBlock, LinkDefinition, Opening, Blank, Nests, Takes, Plain, opens, texts, lazily, MetadataBlock, Table}
+use Rattle.cmark_grammar.specs.Openings.{Leaf, ThematicBreak, AtxHeading, IndentedCode, FencedCode, HtmlBlock, LinkDefinition, Opening, Blank, Nests, Takes, Plain, opens_at, texts, lazily, MetadataBlock, Table}
 use Rattle.cmark_grammar.specs.Tokens.{Piece, resolved, words_end, stretch_then, heading_tokens, heading_attributes, verbatim_line, html_then, code_columns}
 use Rattle.cmark_grammar.specs.TableTokens.{table_tokens}
-use Rattle.cmark_grammar.specs.Derivation.{stop_of, reference_of}
+use Rattle.cmark_grammar.specs.Derivation.{stop_of, reference_of, task_then}
 use Rattle.cmark_grammar.specs.BlockDocument as document
 use Rattle.cmark_grammar.specs.BlockDocument.{BlockDocument, BlockKind, Nil, Node, node}
 use Rattle.cmark_grammar.specs.BlockQuoteKind.{BlockQuoteKind}
 use Rattle.cmark_grammar.specs.Labels.{normal_form}
 use Rattle.cmark_grammar.specs.Metadata.{ends_metadata}
+use Rattle.cmark_grammar.specs.Blocks.{place_in}
+use Rattle.cmark_grammar.specs.Places.{Place, Apart}
+use Rattle.cmark_grammar.specs.TaskItems.{behind_box}
 use Rattle.cmark_block_model.specs.Drawing.{Drawing, drawn, opened, closed_as, closed_at}
 use Rattle.cmark_block_model.specs.CodeLines.{code_line, rest_of, texts_of}
 use Rattle.cmark_block_model.specs.OpenBlocks.{OpenList, Siblings, no_siblings, OpenContainer, OpenLeaf, Closed, BehindTag, InParagraph, InDefinition, InIndented, InFenced, InHtml, takes_lazy, Pass, at_start, InMetadata, InTable}
@@ -68,23 +71,31 @@ node_opened start kind p = record p { drawing = opened start kind p.drawing }
 abbrev pub quote_begun : (alert : Option BlockQuoteKind) → (start : ℕ) → Pass → Pass
 quote_begun alert start p = inside_of (Quote alert) (node_opened start (document.BlockQuote alert) (block_begun p))
 
-abbrev pub footnote_begun : (label : List ℕ) → (old : Bool) → (size start : ℕ) → Pass → Pass
-footnote_begun label old size start p = inside_of (Footnote label old size) (node_opened start (document.FootnoteDefinition (normal_form label)) (block_begun p))
+-- a footnote's label is noted, behind those before
+abbrev pub footnote_noted : (label : List ℕ) → Pass → Pass
+footnote_noted label p = record p { footnotes = p.footnotes ++ normal_form label ∷ [] }
 
-abbrev pub item_begun_in : (mark : ℕ) → Option ℕ → (width start : ℕ) → Pass → Pass
-item_begun_in mark number width start p = inside_of (Item mark number width) (node_opened start document.ListItem (item_begun mark number start p p.inner.list))
+abbrev pub footnote_begun : (label : List ℕ) → (old : Bool) → (size start : ℕ) → Pass → Pass
+footnote_begun label old size start p = inside_of (Footnote label old size) (node_opened start (document.FootnoteDefinition (normal_form label)) (footnote_noted label (block_begun p)))
+
+abbrev pub item_begun_in : (mark : ℕ) → Option ℕ → (width : ℕ) → Option Bool → (start : ℕ) → Pass → Pass
+item_begun_in mark number width task start p = inside_of (Item mark number width task) (node_opened start document.ListItem (item_begun mark number start p p.inner.list))
+
+abbrev pub with_drawn : BlockDocument → Pass → Pass
+with_drawn document p = record p { drawing = drawn document p.drawing }
 
 -- a container begins on a line
 abbrev pub container_begun : Container → Row → Pass → Pass
 container_begun (Quote alert) r p = quote_begun alert (start_of r) p
 container_begun (Footnote label old size) r p = footnote_begun label old size (start_of r) p
-container_begun (Item mark number width) r p = item_begun_in mark number width (begin_of r) p
+container_begun (Item mark number width task) r p =
+    with_drawn (task_then task (begin_of (without width r)) (begin_of (without (behind_box task width) r)) Nil) (item_begun_in mark number width task (begin_of r) p)
 
 -- the siblings that a closed container stands behind
 abbrev pub behind_container : Container → (end : ℕ) → (inside around : Siblings) → Siblings
 behind_container (Quote alert) end inside around = around
 behind_container (Footnote label old size) end inside around = around
-behind_container (Item mark number width) end inside around = siblings_behind_item end inside around
+behind_container (Item mark number width task) end inside around = siblings_behind_item end inside around
 
 -- the innermost container closed
 abbrev pub container_closed : OpenContainer → List OpenContainer → Pass → Pass
@@ -96,7 +107,7 @@ container_closed c outer p = record p {
 
 abbrev pub is_item : Container → Bool
 is_item (Quote alert) = false
-is_item (Item mark number width) = true
+is_item (Item mark number width task) = true
 is_item (Footnote label old size) = false
 
 -- behind an alert's tag its line begins nothing more
@@ -107,9 +118,6 @@ inside_begun false outside begun = begun
 abbrev pub is_some : List Row → Bool
 is_some [] = false
 is_some (r ∷ rs) = true
-
-abbrev pub with_drawn : BlockDocument → Pass → Pass
-with_drawn document p = record p { drawing = drawn document p.drawing }
 
 abbrev pub node_closed : (end : ℕ) → Pass → Pass
 node_closed end p = record p { drawing = closed_at end p.drawing; leaf = Closed }
@@ -204,14 +212,15 @@ module _ (text : List ℕ) (options : Options) (lookup : Lookup) where
   begin_as (Takes leaf more) inside r ahead bare p = leaf_begun leaf more r ahead p
   begin_as Plain inside r ahead bare p = paragraph_begun r p
 
-  -- what a line begins behind the open containers, with these whole lines behind it; each container takes at least a column
-  abbrev pub begin_in : (columns : ℕ) → Row → (next : List Row) → (bare : Bool) → Pass → Pass
-  begin_in zero r next bare p = p
-  begin_in (suc columns) r next bare p =
-      begin_as (opens options r (ahead_in p.outer next)) (λ k. inside_begun (is_alert k) (container_begun k r p) (begin_in columns (enter k r) next (is_item k) (container_begun k r p))) r (ahead_in p.outer next) bare p
+  -- what a line begins at a place behind the open containers, with these whole lines behind it; each container takes at least a column
+  abbrev pub begin_in : (columns : ℕ) → Place → Row → (next : List Row) → (bare : Bool) → Pass → Pass
+  begin_in zero place r next bare p = p
+  begin_in (suc columns) place r next bare p =
+      begin_as (opens_at options place r (ahead_in p.outer next))
+      (λ k. inside_begun (is_alert k) (container_begun k r p) (begin_in columns (place_in k) (enter k r) next (is_item k) (container_begun k r p))) r (ahead_in p.outer next) bare p
 
   abbrev pub begin : Row → (next : List Row) → Pass → Pass
-  begin r next p = begin_in (suc (length r.columns)) r next false p
+  begin r next p = begin_in (suc (length r.columns)) Apart r next false p
 
   abbrev pub underlined_or : Option ℕ → (ℕ → Pass) → Pass → Pass
   underlined_or (Some level) underlined other = underlined level

@@ -60,8 +60,8 @@ takes_lazy (InHtml kind) = false
 takes_lazy (InMetadata kind waits) = false
 
 -- what was drawn, the innermost siblings, the containers around them, the outermost first, whether the innermost container
--- is an item whose first line was blank and came last, the leaf, the place where the next line begins, and the link
--- reference definitions
+-- is an item whose first line was blank and came last, the leaf, the place where the next line begins, the link
+-- reference definitions, and the labels of the footnote definitions, in their order
 pub record Pass : Type 0 where
   pub drawing : Drawing
   pub inner : Siblings
@@ -70,6 +70,7 @@ pub record Pass : Type 0 where
   pub leaf : OpenLeaf
   pub past : ℕ
   pub references : List Reference
+  pub footnotes : List (List ℕ)
 
 abbrev pub at_start : Pass
-at_start = record { drawing = nothing_drawn; inner = no_siblings; outer = []; bare = false; leaf = Closed; past = 0; references = [] }
+at_start = record { drawing = nothing_drawn; inner = no_siblings; outer = []; bare = false; leaf = Closed; past = 0; references = []; footnotes = [] }

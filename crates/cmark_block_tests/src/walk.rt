@@ -67,7 +67,7 @@ fn a_tight_paragraph_is_met_as_its_lines(rt: HostRuntime) -> Result<(), Fail> {
     let mut lines = Vec::new(rt.alloc());
     assert!(rt; gives(&mut walk, &mut lines, Event::Start(Tag::List(None)))?);
     assert!(rt; gives(&mut walk, &mut lines, Event::Start(Tag::Item))?);
-    assert!(rt; matches!(walk.next(&mut lines)?, Met::Leaf));
+    assert!(rt; matches!(walk.next(&mut lines)?, Met::Leaf { is_cell: false }));
     assert_eq!(rt; lines.len(), 1);
     assert_eq!(rt;
         lines[0],

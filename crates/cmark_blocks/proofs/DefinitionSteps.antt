@@ -72,6 +72,7 @@ module _ {E : Type 0} (replacement : E → Lookup) (text : List ℕ) (options : 
     leaf = runs.leaf;
     past = runs.past;
     references = same;
+    footnotes = runs.footnotes;
   }
 
 -- where no line is left, the whole text was gathered

@@ -3,7 +3,7 @@ use Rattle.std.proofs.Common.{◌≡◌, ℕ, List, [], ◌∷◌, ◌++◌, len
 use Rattle.cmark_text.specs.declared.text.CowStr.{CowStr}
 use Rattle.cmark_text.specs.declared.kind.HeadingLevel.{HeadingLevel}
 use Rattle.cmark_text.specs.Shown.{text_bytes, level_number}
-use Rattle.cmark_items.specs.declared.allocations.CowIndex.{CowIndex}
+use Rattle.cmark_items.specs.declared.allocations.HeadingIndex.{HeadingIndex}
 use Rattle.cmark_items.specs.declared.item.ItemBody.TheVariants as body
 use Rattle.cmark_items.specs.ItemNodes.{shape, kind_of, text_at}
 use Rattle.cmark_items.specs.Tables.{Tables, with_text}
@@ -17,7 +17,7 @@ no-words n [] e = refl
 no-words n (b ∷ bs) e = absurd (omega (arith, e))
 
 -- words that were kept
-pub kept-words : (old new : Tables) (level : HeadingLevel) (words : CowStr) (index : CowIndex) (bytes : List ℕ) →
+pub kept-words : (old new : Tables) (level : HeadingLevel) (words : CowStr) (index : HeadingIndex) (bytes : List ℕ) →
     index.0 ≡ length old.texts → new ≡ with_text words old → text_bytes words ≡ bytes →
     kind_of new.texts (shape (body.Heading level (Some index))) ≡ Some (Heading (level_number level) (attributes_of bytes))
 kept-words old new level words index bytes at is read =

@@ -94,4 +94,5 @@ runs-waiting replacement text options lookup m pass open_leaf blanks l runs show
   leaf = shows;
   past = runs.past;
   references = runs.references;
+  footnotes = runs.footnotes;
 }

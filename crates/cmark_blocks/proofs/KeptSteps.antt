@@ -99,4 +99,4 @@ behind-more line rest inside container.Quote bare keep h = behind-next line rest
 behind-more line rest inside (container.Footnote old) bare keep h =
     behind-next line rest inside (grammar.Footnote [] old 0) bare (keep (grammar.Footnote [] old 0) refl) h
 behind-more line rest inside (container.Item width) bare keep h =
-    behind-next line rest inside (grammar.Item 45 None width) bare (keep (grammar.Item 45 None width) refl) h
+    behind-next line rest inside (grammar.Item 45 None width None) bare (keep (grammar.Item 45 None width None) refl) h

@@ -24,3 +24,4 @@ pub mod ReferenceSteps
 pub mod RunSteps
 pub mod TableRuns
 pub mod TableSteps
+pub mod TaskSteps

@@ -5,12 +5,14 @@ use Rattle.cmark_grammar.specs.Options.{Options}
 use Rattle.cmark_grammar.specs.Answers.{Lookup}
 use Rattle.cmark_grammar.specs.Alerts.{alert_in}
 use Rattle.cmark_grammar.specs.BlockQuoteKind.{BlockQuoteKind}
-use Rattle.cmark_grammar.specs.Containers.{Container, Quote, is_alert, enter}
+use Rattle.cmark_grammar.specs.Blocks.{place_in}
+use Rattle.cmark_grammar.specs.Containers.{Quote, is_alert, marker_width, enter}
 use Rattle.cmark_grammar.specs.Leaves.{run}
 use Rattle.cmark_grammar.specs.Metadata.{metadata_kind}
 use Rattle.cmark_grammar.specs.Openings.{Leaf, Blank, Takes, Plain, or_else, metadata_begun, whole_opens, opens}
 use Rattle.cmark_grammar.specs.Options.{Options, no_options}
-use Rattle.cmark_grammar.specs.Rows.{Row, is_blank_line, words_of}
+use Rattle.cmark_grammar.specs.Places.{Apart}
+use Rattle.cmark_grammar.specs.Rows.{Row, without, is_blank_line, words_of}
 use Rattle.cmark_grammar.proofs.BlockLaws.{no_metadata}
 use Rattle.cmark_lines.proofs.OpeningRows.{opens-blank, none_ahead}
 use Rattle.cmark_lines.specs.Opened.{opened, HasInside, IsMarked, InsideIsIn}
@@ -25,15 +27,16 @@ use Rattle.cmark_text.specs.declared.kind.BlockQuoteKind as found
 use Rattle.cmark_text.specs.declared.kind.HeadingLevel.{HeadingLevel}
 use Rattle.cmark_text.specs.Shown.{level_number, shown_block_quote_kind, shown_options}
 use Rattle.cmark_leaves.specs.Told.{AreTold}
-use Rattle.cmark_leaves.proofs.ToldSteps.{enter-told}
+use Rattle.cmark_leaves.proofs.ToldSteps.{without-told}
 use Rattle.cmark_block_model.specs.BlockPass.{ahead_in, begin, begin_as, begin_in, leaf_begun, container_begun, inside_begun, is_item}
 use Rattle.cmark_block_model.specs.OpenBlocks as model
 use Rattle.cmark_blocks.specs.Ahead.{lines_at}
 use Rattle.cmark_blocks.specs.declared.state.Pass.{Pass}
-use Rattle.cmark_blocks.specs.Entered.{OpensAs, HasNumber, TellsMetadata, BeginsContainer, BeginsFirst, BeginsSoFar}
+use Rattle.cmark_blocks.specs.Entered.{OpensAs, HasNumber, TellsMetadata, takes_line, line_taken, BeginsContainer, BeginsFirst, BeginsSoFar}
 use Rattle.cmark_blocks.specs.Runs.{Runs, IsRead}
 use Rattle.cmark_blocks.specs.Steps.{Begins}
 use Rattle.cmark_blocks.proofs.OpeningSteps.{Fits, opens-fits}
+use Rattle.cmark_blocks.proofs.TaskSteps.{start-text, nested, nested-on, nested-taken}
 
 opened-fits : (options : Options) (r : Row) (open_as is : Opening) → OpensAs options open_as r → open_as ≡ is → Fits (run 35 (words_of r)) (opened options is r [])
 opened-fits options r open_as is opens_as e =
@@ -50,6 +53,10 @@ start-numbered options r open_as (begun.Footnote footnote inside) opens_as e = t
 pub start-marked : (r : Row) (open_as : Opening) (start : ContainerStart) → open_as ≡ opening.Nests start → IsMarked open_as r → HasMarker r start
 start-marked r open_as start nests has = subst (λ (x : Opening). IsMarked x r) nests has
 
+-- what begins inside a container stands behind its marker
+pub start-enters : (r : Row) (open_as : Opening) (start : ContainerStart) → open_as ≡ opening.Nests start → HasInside open_as r → Enters r start
+start-enters r open_as start nests has = subst (λ (x : Opening). HasInside x r) nests has
+
 -- the kind of a block quote that begins
 pub quote-told : (options : Options) (r : Row) (start : ContainerStart) (inside : LineRest) (alert : Option BlockQuoteKind) → start ≡ begun.Quote inside → alert ≡ alert_in options (row_of inside) → shown_start options r start ≡ Quote alert
 quote-told options r start inside alert is told = ap (shown_start options r) is ∙ ap Quote (sym told)
@@ -62,55 +69,46 @@ alert-told (Some kind) some e = e
 pub heading-level : (options : Options) (r : Row) (open_as : Opening) (level : HeadingLevel) → OpensAs options open_as r → open_as ≡ opening.AtxHeading level → level_number level ≡ run 35 (words_of r)
 heading-level options r open_as level opens_as e = opened-fits options r open_as (opening.AtxHeading level) opens_as e
 
--- the line behind a marker ends where the whole line does
-enter-past : (k : Container) (r : Row) → (enter k r).past ≡ r.past
-unfolding enter
-enter-past k r = refl
-
 module _ (r : Row) (open_as : Opening) (start : ContainerStart) (nests : open_as ≡ opening.Nests start) (has : HasInside open_as r) where
   enters : Enters r start
-  enters = subst (λ (x : Opening). HasInside x r) nests has
+  enters = start-enters r open_as start nests has
 
   module _ (inside : LineRest) (behind : inside ≡ inside_of start) where
-    pub inside-row : (options : Options) → row_of inside ≡ enter (shown_start options r start) r
+    pub inside-row : (options : Options) → row_of inside ≡ without (marker_width (shown_start options r start) r) r
     inside-row options = ap row_of behind ∙ enters options
 
     pub inside-past : (row_of inside).past ≡ r.past
-    inside-past = ap (λ (s : Row). s.past) (inside-row no_options) ∙ enter-past (shown_start no_options r start) r
+    inside-past = ap (λ (s : Row). s.past) (inside-row no_options)
 
     pub inside-read : (text : List ℕ) → InsideIsIn text open_as → AreTold text r.columns → IsRead text inside
     inside-read text placed told = record {
       placed = subst (IsIn text) (sym behind) (subst (InsideIsIn text) nests placed);
-      told = subst (λ (s : Row). AreTold text s.columns) (sym (inside-row no_options)) (enter-told text (shown_start no_options r start) r told);
+      told = subst (λ (s : Row). AreTold text s.columns) (sym (inside-row no_options)) (without-told text (marker_width (shown_start no_options r start) r) r told);
     }
 
   module _ (text : List ℕ) (options : Options) (lookup : Lookup) (bare : Bool) (columns : ℕ) (m : model.Pass) (opens_as : OpensAs options open_as r)
       (none : metadata_begun (metadata_kind options r) (ahead_in text options lookup m.outer (lines_at text r.past)) ≡ Plain) where
-    -- what the container begins, which is an alert or none
-    begins-nested : (is_tag : Bool) → is_alert (shown_start options r start) ≡ is_tag →
-        begin_in text options lookup (suc columns) r (lines_at text r.past) bare m
-        ≡ inside_begun is_tag (container_begun (shown_start options r start) r m)
-        (begin_in text options lookup columns (enter (shown_start options r start) r) (lines_at text r.past) (is_item (shown_start options r start)) (container_begun (shown_start options r start) r m))
-    begins-nested is_tag alert =
+    begins-nested : begin_in text options lookup (suc columns) Apart r (lines_at text r.past) bare m ≡ nested text options lookup columns (lines_at text r.past) r m (shown_start options r start)
+    begins-nested =
         let ahead = ahead_in text options lookup m.outer (lines_at text r.past) in
-        let k = shown_start options r start in
-        let p = container_begun k r m in
-        ap (λ o. begin_as text options lookup o (λ k. inside_begun (is_alert k) (container_begun k r m) (begin_in text options lookup columns (enter k r) (lines_at text r.past) (is_item k) (container_begun k r m))) r ahead bare m)
+        ap (λ o. begin_as text options lookup o (nested text options lookup columns (lines_at text r.past) r m) r ahead bare m)
         (opens_as ahead ∙ ap (λ o. or_else o (opened options open_as r ahead)) none ∙ ap (λ (x : Opening). opened options x r ahead) nests)
-        ∙ ap (λ z. inside_begun z p (begin_in text options lookup columns (enter k r) (lines_at text r.past) (is_item k) p)) alert
 
-    pub tag-begins : is_alert (shown_start options r start) ≡ true → begin_in text options lookup (suc columns) r (lines_at text r.past) bare m ≡ record (container_begun (shown_start options r start) r m) { leaf = model.BehindTag }
-    tag-begins alert = begins-nested true alert
+    pub taken-begins : length r.columns ≤ columns → takes_line (shown_start options r start) ≡ true →
+        begin_in text options lookup (suc columns) Apart r (lines_at text r.past) bare m ≡ line_taken text options lookup (shown_start options r start) r (container_begun (shown_start options r start) r m)
+    taken-begins le taken =
+        begins-nested ∙ nested-taken text options lookup columns (lines_at text r.past) r m (shown_start options r start) le (start-text options r start enters) taken
 
-    pub inside-begins : (inside : LineRest) → inside ≡ inside_of start → (item : Bool) → is_alert (shown_start options r start) ≡ false → item ≡ is_item (shown_start options r start) →
-        begin_in text options lookup (suc columns) r (lines_at text r.past) bare m
-        ≡ begin_in text options lookup columns (row_of inside) (lines_at text (row_of inside).past) item (container_begun (shown_start options r start) r m)
-    inside-begins inside behind item alert is =
+    pub inside-begins : (inside : LineRest) → inside ≡ inside_of start → (item : Bool) → takes_line (shown_start options r start) ≡ false → item ≡ is_item (shown_start options r start) →
+        begin_in text options lookup (suc columns) Apart r (lines_at text r.past) bare m
+        ≡ begin_in text options lookup columns Apart (row_of inside) (lines_at text (row_of inside).past) item (container_begun (shown_start options r start) r m)
+    inside-begins inside behind item left is =
         let k = shown_start options r start in
-        begins-nested false alert
-        ∙ ap (λ (s : Row). begin_in text options lookup columns s (lines_at text r.past) (is_item k) (container_begun k r m)) (sym (inside-row inside behind options))
-        ∙ ap (λ (p : ℕ). begin_in text options lookup columns (row_of inside) (lines_at text p) (is_item k) (container_begun k r m)) (sym (inside-past inside behind))
-        ∙ ap (λ (b : Bool). begin_in text options lookup columns (row_of inside) (lines_at text (row_of inside).past) b (container_begun k r m)) (sym is)
+        begins-nested
+        ∙ nested-on text options lookup columns (lines_at text r.past) r m k left
+        ∙ ap (λ (s : Row). begin_in text options lookup columns Apart s (lines_at text r.past) (is_item k) (container_begun k r m)) (sym (inside-row inside behind options))
+        ∙ ap (λ (p : ℕ). begin_in text options lookup columns Apart (row_of inside) (lines_at text p) (is_item k) (container_begun k r m)) (sym (inside-past inside behind))
+        ∙ ap (λ (b : Bool). begin_in text options lookup columns Apart (row_of inside) (lines_at text (row_of inside).past) b (container_begun k r m)) (sym is)
 
 -- a container was begun, and what it left of its line
 module _ {E : Type 0} (replacement : E → Lookup) (rest : LineRest) (open_as : Opening) (start : ContainerStart) (nests : open_as ≡ opening.Nests start) (has : HasInside open_as (row_of rest)) (old new : Pass E) (opens_as : OpensAs (shown_options old.options) open_as (row_of rest)) where
@@ -119,10 +117,10 @@ module _ {E : Type 0} (replacement : E → Lookup) (rest : LineRest) (open_as : 
 
   pub container-begins : (bare : Bool) (entered : Option (LineRest × Bool)) → TellsMetadata replacement old rest None → IfSome entered (λ inside. inside.0 ≡ inside_of start) →
       BeginsContainer replacement start rest entered old new → BeginsFirst replacement bare rest entered old new
-  container-begins bare None none behind begins text options lookup columns m runs =
+  container-begins bare None none behind begins text options lookup columns m le runs =
       let b = begins text options lookup m runs in
-      subst (λ p. Runs replacement text options lookup p new) (sym (tag-begins (row_of rest) open_as start nests has text options lookup bare columns m (opens_here text options lookup m runs) (none text options lookup m runs) b.0)) b.1
-  container-begins bare (Some inside) none behind begins text options lookup columns m runs =
+      subst (λ p. Runs replacement text options lookup p new) (sym (taken-begins (row_of rest) open_as start nests has text options lookup bare columns m (opens_here text options lookup m runs) (none text options lookup m runs) le b.0)) b.1
+  container-begins bare (Some inside) none behind begins text options lookup columns m le runs =
       let b = begins text options lookup m runs in (
         container_begun (shown_start options (row_of rest) start) (row_of rest) m,
         b.2,
@@ -138,19 +136,19 @@ container-read r open_as start nests has (Some inside) text behind placed told =
 -- a line that begins no container, or metadata
 module _ (text : List ℕ) (options : Options) (lookup : Lookup) (r : Row) (next : List Row) (columns : ℕ) (bare : Bool) (m : model.Pass) where
   pub leaf-begins : (open_as : Opening) → OpensAs options open_as r → metadata_begun (metadata_kind options r) (ahead_in text options lookup m.outer next) ≡ Plain →
-      begin_as text options lookup (opened options open_as r (ahead_in text options lookup m.outer next)) (λ k. inside_begun (is_alert k) (container_begun k r m) (begin_in text options lookup columns (enter k r) next (is_item k) (container_begun k r m))) r (ahead_in text options lookup m.outer next) bare m
-      ≡ begin_in text options lookup (suc columns) r next bare m
+      begin_as text options lookup (opened options open_as r (ahead_in text options lookup m.outer next)) (λ k. inside_begun (is_alert k) (container_begun k r m) (begin_in text options lookup columns (place_in k) (enter k r) next (is_item k) (container_begun k r m))) r (ahead_in text options lookup m.outer next) bare m
+      ≡ begin_in text options lookup (suc columns) Apart r next bare m
   leaf-begins open_as opens_as none =
       let ahead = ahead_in text options lookup m.outer next in
-      ap (λ o. begin_as text options lookup o (λ k. inside_begun (is_alert k) (container_begun k r m) (begin_in text options lookup columns (enter k r) next (is_item k) (container_begun k r m))) r ahead bare m)
+      ap (λ o. begin_as text options lookup o (λ k. inside_begun (is_alert k) (container_begun k r m) (begin_in text options lookup columns (place_in k) (enter k r) next (is_item k) (container_begun k r m))) r ahead bare m)
       (sym (opens_as ahead ∙ ap (λ o. or_else o (opened options open_as r ahead)) none))
 
   pub metadata-begins : (leaf : Leaf) (more : ℕ) → r.lazy ≡ false → metadata_begun (metadata_kind options r) (ahead_in text options lookup m.outer next) ≡ Takes leaf more →
-      leaf_begun text options lookup leaf more r (ahead_in text options lookup m.outer next) m ≡ begin_in text options lookup (suc columns) r next bare m
+      leaf_begun text options lookup leaf more r (ahead_in text options lookup m.outer next) m ≡ begin_in text options lookup (suc columns) Apart r next bare m
   unfolding opens
   metadata-begins leaf more whole is =
       let ahead = ahead_in text options lookup m.outer next in
-      ap (λ o. begin_as text options lookup o (λ k. inside_begun (is_alert k) (container_begun k r m) (begin_in text options lookup columns (enter k r) next (is_item k) (container_begun k r m))) r ahead bare m)
+      ap (λ o. begin_as text options lookup o (λ k. inside_begun (is_alert k) (container_begun k r m) (begin_in text options lookup columns (place_in k) (enter k r) next (is_item k) (container_begun k r m))) r ahead bare m)
       (sym (ap (λ z. if z then Plain else or_else (metadata_begun (metadata_kind options r) ahead) (whole_opens options r ahead)) whole ∙ ap (λ o. or_else o (whole_opens options r ahead)) is))
 
 module _ {E : Type 0} (replacement : E → Lookup) (line : LineRest) (old : Pass E) where
@@ -167,20 +165,20 @@ module _ {E : Type 0} (replacement : E → Lookup) (line : LineRest) (old : Pass
       go before.0 before.1 before.2 before.3 before.4
     where
       go : (columns : ℕ) (p : model.Pass) → length (row_of rest).columns ≤ columns → Runs replacement text options lookup p mid →
-          (begin text options lookup (row_of line) (lines_at text (row_of line).past) m ≡ begin_in text options lookup (suc columns) (row_of rest) (lines_at text (row_of rest).past) bare p) →
+          (begin text options lookup (row_of line) (lines_at text (row_of line).past) m ≡ begin_in text options lookup (suc columns) Apart (row_of rest) (lines_at text (row_of rest).past) bare p) →
           (columns : ℕ) × (p : model.Pass) × (length (row_of inside).columns ≤ columns) × Runs replacement text options lookup p new
-          × (begin text options lookup (row_of line) (lines_at text (row_of line).past) m ≡ begin_in text options lookup (suc columns) (row_of inside) (lines_at text (row_of inside).past) item p)
+          × (begin text options lookup (row_of line) (lines_at text (row_of line).past) m ≡ begin_in text options lookup (suc columns) Apart (row_of inside) (lines_at text (row_of inside).past) item p)
       go zero p le now same = absurd (omega (arith, le, shorter))
-      go (suc n) p le now same = let r = first text options lookup (suc n) p now in (n, r.0, omega (arith, le, shorter), r.1, same ∙ r.3)
+      go (suc n) p le now same = let r = first text options lookup (suc n) p le now in (n, r.0, omega (arith, le, shorter), r.1, same ∙ r.3)
 
   pub begins-end : (rest : LineRest) (bare : Bool) (mid new : Pass E) → BeginsSoFar replacement line bare rest old mid → BeginsFirst replacement bare rest None mid new → Begins replacement line old new
   begins-end rest bare mid new so_far first text options lookup m runs =
       let before = so_far text options lookup m runs in
-      subst (λ p. Runs replacement text options lookup p new) (sym before.4) (first text options lookup before.0 before.1 before.3)
+      subst (λ p. Runs replacement text options lookup p new) (sym before.4) (first text options lookup before.0 before.1 before.2 before.3)
 
 -- a blank line begins nothing
 pub begins-blank : (text : List ℕ) (options : Options) (lookup : Lookup) (r : Row) (next : List Row) (m : model.Pass) → r.lazy ≡ false → is_blank_line r ≡ true →
     begin text options lookup r next m ≡ record m { inner = record m.inner { blank = m.inner.has_block }; bare = false }
 begins-blank text options lookup r next m whole blank =
-    ap (λ o. begin_as text options lookup o (λ k. inside_begun (is_alert k) (container_begun k r m) (begin_in text options lookup (length r.columns) (enter k r) next (is_item k) (container_begun k r m))) r (ahead_in text options lookup m.outer next) false m)
+    ap (λ o. begin_as text options lookup o (λ k. inside_begun (is_alert k) (container_begun k r m) (begin_in text options lookup (length r.columns) (place_in k) (enter k r) next (is_item k) (container_begun k r m))) r (ahead_in text options lookup m.outer next) false m)
     (opens-blank options r (ahead_in text options lookup m.outer next) whole blank ∙ ap (λ kind. or_else (metadata_begun kind (ahead_in text options lookup m.outer next)) Blank) (no_metadata options r blank))

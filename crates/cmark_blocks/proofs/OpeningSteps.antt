@@ -3,7 +3,7 @@ use Rattle.std.proofs.Common.{◌≡◌, ℕ, Bool, true, false, ◌&&◌, nat_l
 use Rattle.std.specs.Prelude.{unwrap_or}
 use Rattle.cmark_grammar.specs.Rows.{Row, words_of, is_blank_line, indent_of}
 use Rattle.cmark_grammar.specs.BlockQuoteKind.{BlockQuoteKind}
-use Rattle.cmark_grammar.specs.Containers.{Container, Quote, Item, Footnote, Marker, marker_of, item_with, item_of, container_with, container_of, footnote_or, footnote_with, footnote_of, is_quote, width_with}
+use Rattle.cmark_grammar.specs.Containers.{Container, Quote, Item, Footnote, Marker, marker_of, item_with, item_of, container_with, container_of, footnote_or, footnote_with, footnote_of, is_quote, width_with, with_task}
 use Rattle.cmark_grammar.specs.Footnotes.{Footnotes, Off, Gfm, Old, footnotes_in, footnote_in}
 use Rattle.cmark_grammar.specs.HtmlBlocks.{html_kind}
 use Rattle.cmark_grammar.specs.Leaves.{Fence, is_parted, run, is_thematic_break, is_atx_heading, fence_of, counted, code_further}
@@ -29,14 +29,14 @@ abbrev pub ContainerNumbered : Option Container → Type 0
 ContainerNumbered None = Unit {0}
 ContainerNumbered (Some (Quote alert)) = Unit {0}
 ContainerNumbered (Some (Footnote label old size)) = Unit {0}
-ContainerNumbered (Some (Item mark number width)) = Numbered mark number
+ContainerNumbered (Some (Item mark number width task)) = Numbered mark number
 
 -- an item has a number that its character tells, a heading this level
 abbrev pub Fits : (level : ℕ) → Opening → Type 0
 Fits level Blank = Unit {0}
 Fits level (Nests (Quote alert)) = Unit {0}
 Fits level (Nests (Footnote label old size)) = Unit {0}
-Fits level (Nests (Item mark number width)) = Numbered mark number
+Fits level (Nests (Item mark number width task)) = Numbered mark number
 Fits level (Takes ThematicBreak more) = Unit {0}
 Fits level (Takes (AtxHeading n) more) = n ≡ level
 Fits level (Takes IndentedCode more) = Unit {0}
@@ -55,9 +55,15 @@ item-numbered : (r : Row) (m : Option Marker) → MarkerNumbered m → Container
 item-numbered r None n = tt
 item-numbered r (Some m) n = by (is_parted (drop m.size (words_of r)) && not (is_thematic_break (words_of r)))
   where
-    by : (t : Bool) → ContainerNumbered (if t then Some (Item m.mark m.number (width_with m.size r)) else None)
+    by : (t : Bool) → ContainerNumbered (if t then Some (Item m.mark m.number (width_with m.size r) None) else None)
     by true = n
     by false = tt
+
+task-numbered : (options : Options) (r : Row) (k : Option Container) → ContainerNumbered k → ContainerNumbered (with_task options r k)
+task-numbered options r None n = tt
+task-numbered options r (Some (Quote alert)) n = tt
+task-numbered options r (Some (Footnote label old size)) n = tt
+task-numbered options r (Some (Item mark number width task)) n = n
 
 container-numbered : (k : Option Container) (quoted : Bool) (alert : Option BlockQuoteKind) → ContainerNumbered k → ContainerNumbered (container_with k quoted alert)
 container-numbered (Some k) quoted alert n = n
@@ -87,7 +93,7 @@ module _ (level : ℕ) where
   nests-fits : (k : Option Container) → ContainerNumbered k → Fits level (nests_if k)
   nests-fits (Some (Quote alert)) n = tt
   nests-fits (Some (Footnote label old size)) n = tt
-  nests-fits (Some (Item mark number width)) n = n
+  nests-fits (Some (Item mark number width task)) n = n
   nests-fits None n = tt
 
   html-fits : (r : Row) (ahead : List Row) (kind : Option ℕ) → Fits level (html_if r ahead kind)
@@ -160,7 +166,8 @@ opens-fits options r ahead = by r.lazy
     whole false false =
         else-fits level (nests_if (container_of options r)) (leaf_of options r ahead)
         (nests-fits level (container_of options r)
-        (footnote-numbered (footnotes_in options) r _ (container-numbered (item_of r) (is_quote r) _ (item-numbered r (marker_of (words_of r)) (marker-numbered (marker_of (words_of r)) (marker-short (words_of r)))))))
+        (footnote-numbered (footnotes_in options) r _ (container-numbered (with_task options r (item_of r)) (is_quote r) _
+        (task-numbered options r (item_of r) (item-numbered r (marker_of (words_of r)) (marker-numbered (marker_of (words_of r)) (marker-short (words_of r))))))))
         (leaf-fits options r ahead)
 
     by : (lazy : Bool) → Fits level (if lazy then Plain else or_else (metadata_begun (metadata_kind options r) ahead) (whole_opens options r ahead))

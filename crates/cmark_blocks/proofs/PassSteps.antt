@@ -5,8 +5,10 @@ use Rattle.cmark_grammar.specs.Answers.{Lookup}
 use Rattle.cmark_grammar.specs.Labels.{fold}
 use Rattle.cmark_grammar.specs.Options.{Options}
 use Rattle.cmark_grammar.specs.References.{first_with}
+use Rattle.cmark_grammar.specs.SpanDocuments.{has_label}
 use Rattle.cmark_items.specs.ItemNodes.{shown_forest}
 use Rattle.cmark_items.specs.Definitions.{definition, shown_definition}
+use Rattle.cmark_items.specs.Footnotes.{footnote}
 use Rattle.cmark_items.specs.Tables.{tables}
 use Rattle.cmark_builder.specs.Drawn.{shown_open, open_node}
 use Rattle.cmark_block_model.specs.BlockPass.{pass_over, all_closed, lines_fed}
@@ -15,6 +17,7 @@ use Rattle.cmark_block_model.proofs.Theorem.{pass-draws}
 use Rattle.cmark_blocks.proofs.CountSteps.{drawn-few}
 use Rattle.cmark_blocks.specs.Ahead.{lines_at}
 use Rattle.cmark_blocks.specs.FirstPass.{Leaves}
+use Rattle.cmark_blocks.specs.Footnotes.{unused_if}
 use Rattle.cmark_blocks.specs.declared.first_pass.FirstPass.{FirstPass}
 use Rattle.cmark_blocks.specs.declared.state.Pass.{Pass}
 use Rattle.cmark_blocks.specs.Runs.{Runs, shown_reference}
@@ -39,6 +42,10 @@ module _ {E : Type 0} (replacement : E → Lookup) (text : List ℕ) (options : 
         ap (λ a. option_map shown_definition (definition (tables a).references folded)) allocations
         ∙ runs.references folded
         ∙ ap (λ rs. option_map shown_reference (first_with fold folded rs)) (pass-draws text options lookup).2;
+    footnotes = λ folded.
+        ap (λ a. footnote (tables a).footnotes folded) allocations
+        ∙ runs.footnotes folded
+        ∙ ap (λ labels. unused_if (has_label folded labels)) (pass-draws text options lookup).3;
   }
     where
       runs : Runs replacement text options lookup (pass_over text options lookup) pass

@@ -64,7 +64,7 @@ pub fold-again : (label : List ℕ) → fold (normal_form label) ≡ fold label
 fold-again label =
     ap (λ ws. case_folded (join_with_byte 32 ws)) (words-again (words label) (filter-words (slice_split is_ascii_whitespace label) (split-parts label)))
 
-eq-sym : (a b : List ℕ) → bytes_eq a b ≡ bytes_eq b a
+pub eq-sym : (a b : List ℕ) → bytes_eq a b ≡ bytes_eq b a
 eq-sym a b =
     go (bytes_eq a b) (bytes_eq b a) (λ e. (bytes_eq-Decides b a).1 (sym ((bytes_eq-Decides a b).0 e))) (λ e. (bytes_eq-Decides a b).1 (sym ((bytes_eq-Decides b a).0 e)))
   where

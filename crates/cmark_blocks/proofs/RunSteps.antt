@@ -3,7 +3,8 @@ use Rattle.std.proofs.Common.{◌≡◌, ℕ, Bool, true, false, List, [], ◌�
 use Rattle.cmark_grammar.specs.Options.{Options}
 use Rattle.cmark_grammar.specs.Answers.{Lookup}
 use Rattle.cmark_items.specs.Definitions.{definition, shown_definition}
-use Rattle.cmark_items.specs.Tables.{tables}
+use Rattle.cmark_items.specs.Footnotes.{footnote}
+use Rattle.cmark_items.specs.Tables.{tables, defined}
 use Rattle.cmark_block_model.specs.Drawing.{Drawing}
 use Rattle.cmark_block_model.specs.OpenBlocks as model
 use Rattle.cmark_builder.specs.declared.builder.Builder.{Builder}
@@ -58,7 +59,7 @@ module _ (mark : ℕ) (number : Option ℕ) (start : ℕ) (p : model.Pass) where
 
 module _ {E : Type 0} (replacement : E → Lookup) (text : List ℕ) (options : Options) (lookup : Lookup) (m : model.Pass) (pass : Pass E) where
   -- something was drawn
-  pub runs-builder : (b : Builder) (d : Drawing) → Runs replacement text options lookup m pass → Draws text b d → (tables b.allocations).references ≡ (tables pass.builder.allocations).references → Runs replacement text options lookup (record m { drawing = d }) (record pass { builder = b })
+  pub runs-builder : (b : Builder) (d : Drawing) → Runs replacement text options lookup m pass → Draws text b d → defined (tables b.allocations) ≡ defined (tables pass.builder.allocations) → Runs replacement text options lookup (record m { drawing = d }) (record pass { builder = b })
   runs-builder b d runs draws same = record {
     text_is = runs.text_is;
     options_is = runs.options_is;
@@ -69,7 +70,8 @@ module _ {E : Type 0} (replacement : E → Lookup) (text : List ℕ) (options : 
     bare = runs.bare;
     leaf = runs.leaf;
     past = runs.past;
-    references = λ folded. ap (λ r. option_map shown_definition (definition r folded)) same ∙ runs.references folded;
+    references = λ folded. ap (λ d. option_map shown_definition (definition d.references folded)) same ∙ runs.references folded;
+    footnotes = λ folded. ap (λ d. footnote d.footnotes folded) same ∙ runs.footnotes folded;
   }
 
   -- the innermost siblings
@@ -85,6 +87,7 @@ module _ {E : Type 0} (replacement : E → Lookup) (text : List ℕ) (options : 
     leaf = runs.leaf;
     past = runs.past;
     references = runs.references;
+    footnotes = runs.footnotes;
   }
 
   pub list_is : Runs replacement text options lookup m pass → option_map shown_list pass.inner.list ≡ m.inner.list
@@ -103,6 +106,7 @@ module _ {E : Type 0} (replacement : E → Lookup) (text : List ℕ) (options : 
     leaf = runs.leaf;
     past = runs.past;
     references = runs.references;
+    footnotes = runs.footnotes;
   }
 
   -- the open leaf
@@ -118,6 +122,7 @@ module _ {E : Type 0} (replacement : E → Lookup) (text : List ℕ) (options : 
     leaf = shows;
     past = runs.past;
     references = runs.references;
+    footnotes = runs.footnotes;
   }
 
   -- blank lines wait behind indented code alone
@@ -140,6 +145,7 @@ module _ {E : Type 0} (replacement : E → Lookup) (text : List ℕ) (options : 
     leaf = (refl, none);
     past = runs.past;
     references = runs.references;
+    footnotes = runs.footnotes;
   }
 
   -- whether the innermost container is a bare item
@@ -155,6 +161,7 @@ module _ {E : Type 0} (replacement : E → Lookup) (text : List ℕ) (options : 
     leaf = runs.leaf;
     past = runs.past;
     references = runs.references;
+    footnotes = runs.footnotes;
   }
 
   -- where the next line begins
@@ -170,6 +177,7 @@ module _ {E : Type 0} (replacement : E → Lookup) (text : List ℕ) (options : 
     leaf = runs.leaf;
     past = same;
     references = runs.references;
+    footnotes = runs.footnotes;
   }
 
   -- what stands in the memory for a paragraph's text does not matter
@@ -185,4 +193,5 @@ module _ {E : Type 0} (replacement : E → Lookup) (text : List ℕ) (options : 
     leaf = runs.leaf;
     past = runs.past;
     references = runs.references;
+    footnotes = runs.footnotes;
   }

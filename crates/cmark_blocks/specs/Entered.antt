@@ -1,13 +1,14 @@
 -- What a line begins, one container or leaf after the other.
 use Rattle.std.specs.Prelude.{◌≡◌, ◌≤◌, ℕ, suc, Bool, true, false, List, length, unwrap_or, Option, Some, None, MatchOption}
 use Rattle.cmark_grammar.specs.Answers.{Lookup}
-use Rattle.cmark_grammar.specs.Containers.{Container, is_alert}
+use Rattle.cmark_grammar.specs.Containers.{Container, Quote, Item, Footnote, is_alert, enter}
 use Rattle.cmark_grammar.specs.Leaves.{counted}
 use Rattle.cmark_grammar.specs.Metadata.{metadata_kind, metadata_further, holds_metadata}
 use Rattle.cmark_grammar.specs.MetadataBlockKind.{MetadataBlockKind}
 use Rattle.cmark_grammar.specs.Openings as grammar
 use Rattle.cmark_grammar.specs.Openings.{MetadataBlock, Takes, Plain, or_else, metadata_begun, opens}
 use Rattle.cmark_grammar.specs.Options.{Options}
+use Rattle.cmark_grammar.specs.Places.{Apart}
 use Rattle.cmark_grammar.specs.Rows.{Row}
 use Rattle.cmark_items.specs.ItemNodes.{list_number}
 use Rattle.cmark_lines.specs.Opened.{opened}
@@ -18,7 +19,7 @@ use Rattle.cmark_lines.specs.declared.container.ContainerStart.TheVariants as be
 use Rattle.cmark_lines.specs.declared.line_rest.LineRest.{LineRest}
 use Rattle.cmark_lines.specs.declared.opening.Opening.{Opening}
 use Rattle.cmark_lines.specs.declared.opening.Opening.TheVariants as opening
-use Rattle.cmark_block_model.specs.BlockPass.{ahead_in, begin, begin_as, begin_in, container_begun, is_item}
+use Rattle.cmark_block_model.specs.BlockPass.{ahead_in, begin, begin_as, begin_in, container_begun, is_item, paragraph_begun}
 use Rattle.cmark_block_model.specs.OpenBlocks as model
 use Rattle.cmark_blocks.specs.Ahead.{lines_at}
 use Rattle.cmark_blocks.specs.declared.state.Pass.{Pass}
@@ -42,6 +43,19 @@ HasNumber (begun.Quote inside) = Unit {0}
 HasNumber (begun.Item item inside) = list_number item.mark (unwrap_or item.number 0) ≡ item.number
 HasNumber (begun.Footnote footnote inside) = Unit {0}
 
+-- whether nothing of a line is left to begin behind a container's marker: it is the tag of an alert, or the paragraph behind a task marker
+abbrev pub takes_line : Container → Bool
+takes_line (Quote alert) = is_alert (Quote alert)
+takes_line (Item mark number width None) = false
+takes_line (Item mark number width (Some is_checked)) = true
+takes_line (Footnote label old size) = false
+
+-- the whole line of such a container was taken
+abbrev pub line_taken : List ℕ → Options → Lookup → Container → Row → model.Pass → model.Pass
+line_taken text options lookup (Quote alert) r p = record p { leaf = model.BehindTag }
+line_taken text options lookup (Item mark number width task) r p = paragraph_begun text options lookup (enter (Item mark number width task) r) p
+line_taken text options lookup (Footnote label old size) r p = p
+
 module _ {E : Type 0} (replacement : E → Lookup) where
   -- whether the lines behind this one are those of a metadata block of this kind
   abbrev pub HoldsMetadata : Pass E → (kind : MetadataBlockKind) → LineRest → Bool → Type 0
@@ -63,27 +77,27 @@ module _ {E : Type 0} (replacement : E → Lookup) where
       let ahead = ahead_in text options lookup m.outer (lines_at text (row_of rest).past) in
       Runs replacement text options lookup (begin_as text options lookup (opened options open_as (row_of rest) ahead) inside (row_of rest) ahead bare m) new
 
-  -- a container was begun on a line: an alert with its tag, behind which nothing of the line is left, or another one
+  -- a container was begun on a line: with the whole line, where nothing of it is left behind the marker, or alone
   abbrev pub BeginsContainer : ContainerStart → LineRest → Option (LineRest × Bool) → Pass E → Pass E → Type 0
   BeginsContainer start rest entered old new =
       (text : List ℕ) (options : Options) (lookup : Lookup) (m : model.Pass) → Runs replacement text options lookup m old →
       let k = shown_start options (row_of rest) start in
       let p = container_begun k (row_of rest) m in
-      MatchOption entered ((is_alert k ≡ true) × Runs replacement text options lookup (record p { leaf = model.BehindTag }) new)
-      (λ inside. (is_alert k ≡ false) × (inside.1 ≡ is_item k) × Runs replacement text options lookup p new)
+      MatchOption entered ((takes_line k ≡ true) × Runs replacement text options lookup (line_taken text options lookup k (row_of rest) p) new)
+      (λ inside. (takes_line k ≡ false) × (inside.1 ≡ is_item k) × Runs replacement text options lookup p new)
 
   -- behind the marker of a container that was begun, the rest of the line begins what is left
   abbrev pub Enters : List ℕ → Options → Lookup → (columns : ℕ) → (bare : Bool) → LineRest → model.Pass → LineRest × Bool → Pass E → Type 0
   Enters text options lookup columns bare rest m entered new =
       (p : model.Pass) × Runs replacement text options lookup p new × ((row_of entered.0).past ≡ (row_of rest).past)
-      × (begin_in text options lookup (suc columns) (row_of rest) (lines_at text (row_of rest).past) bare m
-      ≡ begin_in text options lookup columns (row_of entered.0) (lines_at text (row_of entered.0).past) entered.1 p)
+      × (begin_in text options lookup (suc columns) Apart (row_of rest) (lines_at text (row_of rest).past) bare m
+      ≡ begin_in text options lookup columns Apart (row_of entered.0) (lines_at text (row_of entered.0).past) entered.1 p)
 
-  -- the first thing that a line begins was begun
+  -- the first thing that a line begins was begun, where no more columns are left of the line than these
   abbrev pub BeginsFirst : (bare : Bool) → LineRest → Option (LineRest × Bool) → Pass E → Pass E → Type 0
   BeginsFirst bare rest entered old new =
-      (text : List ℕ) (options : Options) (lookup : Lookup) (columns : ℕ) (m : model.Pass) → Runs replacement text options lookup m old →
-      MatchOption entered (Runs replacement text options lookup (begin_in text options lookup (suc columns) (row_of rest) (lines_at text (row_of rest).past) bare m) new)
+      (text : List ℕ) (options : Options) (lookup : Lookup) (columns : ℕ) (m : model.Pass) → length (row_of rest).columns ≤ columns → Runs replacement text options lookup m old →
+      MatchOption entered (Runs replacement text options lookup (begin_in text options lookup (suc columns) Apart (row_of rest) (lines_at text (row_of rest).past) bare m) new)
       (λ inside. Enters text options lookup columns bare rest m inside new)
 
   -- some of the containers were begun that a line begins: what is left of the line begins what is left
@@ -91,4 +105,4 @@ module _ {E : Type 0} (replacement : E → Lookup) where
   BeginsSoFar line bare rest old now =
       (text : List ℕ) (options : Options) (lookup : Lookup) (m : model.Pass) → Runs replacement text options lookup m old →
       (columns : ℕ) × (p : model.Pass) × (length (row_of rest).columns ≤ columns) × Runs replacement text options lookup p now
-      × (begin text options lookup (row_of line) (lines_at text (row_of line).past) m ≡ begin_in text options lookup (suc columns) (row_of rest) (lines_at text (row_of rest).past) bare p)
+      × (begin text options lookup (row_of line) (lines_at text (row_of line).past) m ≡ begin_in text options lookup (suc columns) Apart (row_of rest) (lines_at text (row_of rest).past) bare p)

@@ -1,10 +1,12 @@
 -- Footnote definitions that are kept (this profile's own).
-use Rattle.std.specs.Prelude.{◌≡◌, ℕ, List, [], ◌∷◌, ◌++◌}
+use Rattle.std.specs.Prelude.{◌≡◌, ℕ, Bool, if◌then◌else◌, List, [], ◌∷◌, ◌++◌, Option, Some, None}
 use Rattle.cmark_grammar.specs.Labels.{fold}
 use Rattle.cmark_items.specs.Definitions.{first_of, at_label}
 use Rattle.cmark_items.specs.Footnotes.{footnote}
 use Rattle.cmark_items.specs.Tables.{Tables}
+use Rattle.cmark_items.specs.declared.footnotes.FootnoteDef.{FootnoteDef}
 use Rattle.cmark_items.specs.declared.footnotes.FootnoteDefs.{FootnoteDefs}
+use Rattle.cmark_grammar.specs.SpanDocuments.{has_label}
 use Rattle.cmark_text.specs.Shown.{text_bytes}
 use Rattle.cmark_text.specs.declared.text.CowStr.{CowStr}
 
@@ -15,3 +17,11 @@ KeepsText bytes old new = (name : CowStr) × (text_bytes name ≡ bytes) × (new
 -- it was noted that the footnote of a label is defined, unless it was before
 abbrev pub Notes : (label : List ℕ) → (old new : FootnoteDefs) → Type 0
 Notes label old new = (folded : List ℕ) → footnote new folded ≡ first_of (footnote old folded) (at_label (fold label) (record { use_count = 0 }) folded)
+
+-- a footnote that is defined, and to which no reference was read; none, where it is not defined
+abbrev pub unused_if : (is_defined : Bool) → Option FootnoteDef
+unused_if is_defined = if is_defined then Some (record { use_count = 0 }) else None
+
+-- the table has exactly these labels, and none was used
+abbrev pub HasLabels : List (List ℕ) → FootnoteDefs → Type 0
+HasLabels labels table = (folded : List ℕ) → footnote table folded ≡ unused_if (has_label folded labels)

@@ -11,10 +11,10 @@ use Rattle.cmark_items.specs.declared.item.ItemBody.TheVariants as body
 use Rattle.cmark_lines.specs.declared.container.Container.{Container}
 use Rattle.cmark_lines.specs.declared.container.Container.TheVariants as container
 
--- an item with a prefix of this width: its character and number do not matter to what it keeps, so it is shown as a bullet; nor
+-- an item with a prefix of this width: its character, number and task marker do not matter to what it keeps, so it is shown as a bullet with none; nor
 -- does it matter whether a block quote is an alert, so it is shown as none, or which label a footnote definition has
 abbrev pub item_of_width : ℕ → grammar.Container
-item_of_width width = grammar.Item 45 None width
+item_of_width width = grammar.Item 45 None width None
 
 abbrev pub shown_container : Container → grammar.Container
 shown_container container.Quote = grammar.Quote None

@@ -22,6 +22,7 @@ use Rattle.cmark_block_model.specs.OpenBlocks as model
 use Rattle.cmark_blocks.specs.declared.state.OpenLeaf.{OpenLeaf}
 use Rattle.cmark_blocks.specs.declared.state.OpenLeaf.TheVariants as leaf
 use Rattle.cmark_blocks.specs.declared.state.Pass.{Pass}
+use Rattle.cmark_blocks.specs.Footnotes.{HasLabels}
 use Rattle.cmark_blocks.specs.Shown.{shown_siblings, ShowsContainers}
 
 -- the line stands in the text, and tells its bytes
@@ -80,3 +81,4 @@ module _ {E : Type 0} (replacement : E → Lookup) where
     pub leaf : ShowsLeaf text pass.leaf pass.blank_lines.items m.leaf
     pub past : pass.past ≡ m.past
     pub references : (folded : List ℕ) → option_map shown_definition (definition (tables pass.builder.allocations).references folded) ≡ option_map shown_reference (first_with fold folded m.references)
+    pub footnotes : HasLabels m.footnotes (tables pass.builder.allocations).footnotes

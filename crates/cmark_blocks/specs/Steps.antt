@@ -1,14 +1,16 @@
 -- What a call of the block pass does to the state of its model.
-use Rattle.std.specs.Prelude.{◌≡◌, ℕ, Bool, List, [], ◌∷◌, ◌++◌, length}
-use Rattle.cmark_block_model.specs.BlockPass.{container_closed, containers_closed, paragraph_begun, paragraph_line, heading_made, leaf_begun, leaf_closed, ahead_in, begin, begin_as, leaf_fed, lazy_fed}
+use Rattle.std.specs.Prelude.{◌≡◌, ℕ, Bool, List, [], ◌∷◌, ◌++◌, length, Some}
+use Rattle.cmark_block_model.specs.BlockPass.{container_closed, containers_closed, paragraph_begun, paragraph_line, heading_made, leaf_begun, leaf_closed, ahead_in, begin, begin_as, leaf_fed, lazy_fed, with_drawn}
 use Rattle.cmark_lines.specs.Opened.{bracket_of}
 use Rattle.cmark_lines.specs.Rests.{row_of}
 use Rattle.cmark_lines.specs.declared.line_rest.LineRest.{LineRest}
 use Rattle.cmark_grammar.specs.Answers.{Lookup}
+use Rattle.cmark_grammar.specs.BlockDocument.{Nil}
 use Rattle.cmark_grammar.specs.Containers.{Container}
+use Rattle.cmark_grammar.specs.Derivation.{task_then}
 use Rattle.cmark_grammar.specs.Openings.{Leaf, table_if}
 use Rattle.cmark_grammar.specs.Options.{Options}
-use Rattle.cmark_grammar.specs.Rows.{Row}
+use Rattle.cmark_grammar.specs.Rows.{Row, begin_of}
 use Rattle.cmark_grammar.specs.TableRows.{table_head}
 use Rattle.cmark_block_model.specs.OpenBlocks as model
 use Rattle.cmark_blocks.specs.declared.state.Pass.{Pass}
@@ -47,6 +49,12 @@ module _ {E : Type 0} (replacement : E → Lookup) where
   abbrev pub BeginsParagraph : LineRest → Pass E → Pass E → Type 0
   BeginsParagraph rest old new =
       (text : List ℕ) (options : Options) (lookup : Lookup) (m : model.Pass) → Runs replacement text options lookup m old → Runs replacement text options lookup (paragraph_begun text options lookup (row_of rest) m) new
+
+  -- a task marker was drawn, whose box begins at this place, and a paragraph was begun on the line behind the box
+  abbrev pub BeginsTask : (is_checked : Bool) → (start : ℕ) → LineRest → Pass E → Pass E → Type 0
+  BeginsTask is_checked start behind old new =
+      (text : List ℕ) (options : Options) (lookup : Lookup) (m : model.Pass) → Runs replacement text options lookup m old →
+      Runs replacement text options lookup (paragraph_begun text options lookup (row_of behind) (with_drawn (task_then (Some is_checked) start (begin_of (row_of behind)) Nil) m)) new
 
   -- the leaf was closed
   abbrev pub ClosesLeaf : Pass E → Pass E → Type 0

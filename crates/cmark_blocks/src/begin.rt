@@ -9,7 +9,7 @@ ghost use Rattle.cmark_grammar.specs.Tokens.{attribute_columns, content_columns}
 ghost use Rattle.cmark_block_model.specs.Drawing.{Drawing};
 ghost use Rattle.cmark_builder.specs.Drawn.{Draws};
 ghost use Rattle.cmark_items.specs.ItemNodes.{shape, kind_of};
-ghost use Rattle.cmark_items.specs.Tables.{tables};
+ghost use Rattle.cmark_items.specs.Tables.{tables, defined};
 ghost use Rattle.cmark_grammar.specs.Options.{Options};
 ghost use Rattle.cmark_block_model.specs.BlockPass.{paragraph_begun};
 ghost use Rattle.cmark_block_model.specs.OpenBlocks.{Closed};
@@ -46,12 +46,14 @@ fn heading_body<'a>(
     ensures kind { IfOk result (λ body. kind_of (tables builder.new.allocations).texts (shape body) ≡ Some (Heading (level_number level) (attributes_of words.entry.now))) }
     ensures drawn { OnOk result ((text : List ℕ) (d : Drawing) → Draws text builder.old d → Draws text builder.new d) }
     ensures tree { builder.new.tree ≡ builder.old.tree }
-    ensures references { (tables builder.new.allocations).references ≡ (tables builder.old.allocations).references }
+    ensures definitions { defined (tables builder.new.allocations) ≡ defined (tables builder.old.allocations) }
 {
     if words.is_empty() {
         return Ok(ItemBody::Heading(level, None));
     }
-    let index = builder.allocations.allocate_cow(CowStr::Borrowed(words))?;
+    let index = builder
+        .allocations
+        .allocate_heading(CowStr::Borrowed(words))?;
     Ok(ItemBody::Heading(level, Some(index)))
 }
 
@@ -67,6 +69,7 @@ impl<'a, E: EntityLookup> Pass<'a, E> {
         ensures good { IsGood self.new }
         ensures runs { OnOk result (BeginsParagraph E.replacement rest.entry self.old self.new) }
         ensures text { self.new.text ≡ self.old.text }
+        ensures bare { self.new.bare ≡ self.old.bare }
     {
         self.begin_block();
         let begin = rest.words_begin();

@@ -2,7 +2,7 @@
 
 ghost use Rattle.std.specs.Prelude.{◌≡◌, List, ℕ, Option, OnOk, IfOk, false, map};
 ghost use Rattle.cmark_tree.specs.Building.{IsPlaced};
-ghost use Rattle.cmark_items.specs.Tables.{tables};
+ghost use Rattle.cmark_items.specs.Tables.{tables, defined};
 ghost use Rattle.cmark_grammar.specs.Leaves as grammar;
 ghost use Rattle.cmark_grammar.specs.Leaves.{code_further};
 ghost use Rattle.cmark_lines.specs.Rests.{row_of};
@@ -25,7 +25,7 @@ fn draw_blank_lines(
     requires { IsPlaced builder.old.tree }
     ensures placed { IsPlaced builder.new.tree }
     ensures lines { IfOk result (λ left. (text : List ℕ) → DrawsLines text builder.old builder.new (map row_of lines.now) waits left) }
-    ensures references { (tables builder.new.allocations).references ≡ (tables builder.old.allocations).references }
+    ensures definitions { defined (tables builder.new.allocations) ≡ defined (tables builder.old.allocations) }
 {
     let mut left = waits;
     for line in lines {

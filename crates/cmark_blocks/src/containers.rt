@@ -1,6 +1,6 @@
 //! Containers and lists that begin and end (CommonMark 5).
 
-ghost use Rattle.std.specs.Prelude.{◌≡◌, List, ℕ, OnOk, not, unwrap_or, option_map, length, ◌-◌};
+ghost use Rattle.std.specs.Prelude.{◌≡◌, Bool, List, Option, ℕ, OnOk, not, unwrap_or, option_map, length, ◌-◌};
 ghost use Rattle.cmark_grammar.specs.Answers.{Lookup};
 ghost use Rattle.cmark_grammar.specs.Containers as grammar;
 ghost use Rattle.cmark_items.specs.ItemNodes.{is_tight, list_number};
@@ -148,12 +148,12 @@ impl<'a, E: EntityLookup> Pass<'a, E> {
         Ok(())
     }
 
-    /// An item begins at this byte offset.
+    /// An item begins at this byte offset. Whether a task marker stands behind its marker is not seen here.
     pub(crate) fn begin_item(&mut self, item: ItemStart, start: usize) -> Result<(), AllocError>
         requires good { IsGood self.old }
         requires number { list_number item.mark (unwrap_or item.number 0) ≡ item.number }
         ensures good { IsGood self.new }
-        ensures runs { OnOk result (Steps E.replacement self.old self.new (item_begun_in item.mark item.number item.width start)) }
+        ensures runs { OnOk result ((task : Option Bool) → Steps E.replacement self.old self.new (item_begun_in item.mark item.number item.width task start)) }
         ensures text { self.new.text ≡ self.old.text }
         ensures leaf { self.new.leaf ≡ self.old.leaf }
         ensures bare { self.new.bare ≡ self.old.bare }

@@ -16,7 +16,7 @@ use std::alloc::{AllocError, Global};
 pub struct FirstPass<'a> {
     /// The tree of the text's blocks. Its focus is the last one that stands in no other.
     pub tree: Tree<Item>,
-    /// The tables that the items point into, and the link reference definitions.
+    /// The tables that the items point into, the link reference definitions, and the footnotes that are defined.
     pub allocations: Allocations<'a>,
 }
 
@@ -61,8 +61,8 @@ impl<'a, E: EntityLookup> Pass<'a, E> {
     }
 }
 
-/// The blocks of a text with the texts in them (CommonMark 3 to 5), and its link reference definitions, of which the first one of
-/// a label stands in the table. `entities` says what entity names stand for. Of the options those for metadata blocks have rules
+/// The blocks of a text with the texts in them (CommonMark 3 to 5), its link reference definitions, of which the first one of
+/// a label stands in the table, and the labels of the footnotes that it defines, each with no use yet. `entities` says what entity names stand for. Of the options those for metadata blocks have rules
 /// here, and that for the attributes of headings, which is read for ATX headings. The tree has at most four nodes a byte of the
 /// text. A line takes time in proportion to its bytes and to the containers around it. Fails only where memory is refused.
 pub fn run_first_pass<'a, E: EntityLookup>(

@@ -4,11 +4,12 @@ ghost use Rattle.std.specs.Prelude.{◌≡◌, ◌<◌, Bool, ℕ, List, false, 
 ghost use Rattle.cmark_text.specs.Shown.{shown_options};
 ghost use Rattle.cmark_lines.specs.Opened.{InfoIsIn};
 ghost use Rattle.cmark_lines.specs.Rests.{row_of};
-ghost use Rattle.cmark_lines.specs.Starts.{inside_of, HasMarker};
+ghost use Rattle.cmark_lines.specs.Starts.{inside_of, Enters, HasMarker};
 ghost use Rattle.cmark_blocks.specs.Entered.{OpensAs, IsNoContainer, HasNumber};
 
 use crate::state::{OpenLeaf, Pass};
 use bitflags::Flags;
+use cmark_items::ItemBody;
 use cmark_lines::{ContainerStart, LineRest, Opening, what_opens};
 use cmark_text::{EntityLookup, Options};
 use std::alloc::AllocError;
@@ -20,14 +21,41 @@ fn reads_alerts(options: Options) -> bool
     options.contains(Options::ENABLE_GFM)
 }
 
+/// Whether task markers are read.
+fn reads_tasklists(options: Options) -> bool
+    ensures { result ≡ (shown_options options).tasklists }
+{
+    options.contains(Options::ENABLE_TASKLISTS)
+}
+
 impl<'a, E: EntityLookup> Pass<'a, E> {
     ghost use Rattle.cmark_blocks.specs.declared.state.OpenLeaf.TheVariants as leaf;
     ghost use Rattle.cmark_blocks.specs.Runs.{IsGood, IsRead};
-    ghost use Rattle.cmark_blocks.specs.Steps.{Steps, Begins, BeginsAnew};
+    ghost use Rattle.cmark_blocks.specs.Steps.{Steps, Begins, BeginsAnew, BeginsTask};
     ghost use Rattle.cmark_blocks.specs.Entered.{BeginsAs, BeginsContainer, BeginsFirst};
 
+    /// A task marker begins at this byte offset, and a paragraph behind its box, whatever its text looks like (GFM 5.3).
+    fn begin_task(
+        &mut self,
+        is_checked: bool,
+        start: usize,
+        behind: LineRest<'a>,
+    ) -> Result<(), AllocError>
+        requires good { IsGood self.old }
+        requires closed { self.old.leaf ≡ leaf.Closed }
+        ensures good { IsGood self.new }
+        ensures runs { OnOk result (BeginsTask E.replacement is_checked start behind.entry self.old self.new) }
+        ensures text { self.new.text ≡ self.old.text }
+        ensures bare { self.new.bare ≡ self.old.bare }
+    {
+        let body = ItemBody::TaskListMarker(is_checked);
+        self.builder.add(start, behind.begin(), body)?;
+        self.begin_paragraph(behind)?;
+        Ok(())
+    }
+
     /// A container begins on a line, with no leaf open. Answers the line behind its marker, and whether the container is an item;
-    /// none, where that line is an alert's tag.
+    /// none, where nothing of the line is left to begin: that line is an alert's tag, or a task marker with its paragraph.
     fn begin_container(
         &mut self,
         start: ContainerStart<'a>,
@@ -38,6 +66,7 @@ impl<'a, E: EntityLookup> Pass<'a, E> {
         requires closed { self.old.leaf ≡ leaf.Closed }
         requires number { HasNumber start }
         requires marker { HasMarker (row_of rest) start }
+        requires enters { Enters (row_of rest) start }
         ensures good { IsGood self.new }
         ensures runs { IfOk result (λ entered. BeginsContainer E.replacement start.entry rest.entry entered self.old self.new) }
         ensures inside { IfOk result (λ entered. IfSome entered (λ inside. inside.0 ≡ inside_of start.entry)) }
@@ -56,7 +85,12 @@ impl<'a, E: EntityLookup> Pass<'a, E> {
                 Ok(Some((inside, false)))
             }
             ContainerStart::Item(item, inside) => {
+                let task = inside.task_marker(reads_tasklists(self.options));
                 self.begin_item(item, rest.begin())?;
+                if let Some((is_checked, behind)) = task {
+                    self.begin_task(is_checked, inside.begin(), behind)?;
+                    return Ok(None);
+                }
                 Ok(Some((inside, true)))
             }
             ContainerStart::Footnote(footnote, inside) => {
@@ -112,7 +146,7 @@ impl<'a, E: EntityLookup> Pass<'a, E> {
     }
 
     /// The first thing that a line begins, with no leaf open: where it is a container, the line behind the container's marker is
-    /// answered, and whether the container is an item; none, where that line is an alert's tag. `bare` says that this is a line behind the marker of an item.
+    /// answered, and whether the container is an item; none, where nothing of the line is left to begin. `bare` says that this is a line behind the marker of an item.
     #[inline(always)]
     fn begin_first(
         &mut self,

@@ -1,6 +1,6 @@
 //! The prefixes of the open containers in front of a line (CommonMark 5).
 
-ghost use Rattle.std.specs.Prelude.{◌≡◌, ◌+◌, ℕ, [], Option, None, false, option_map};
+ghost use Rattle.std.specs.Prelude.{◌≡◌, ◌+◌, ℕ, [], Bool, Option, None, false, option_map};
 ghost use Rattle.cmark_grammar.specs.Containers.{Quote, Item as ListItem, Footnote, keeps};
 ghost use Rattle.cmark_grammar.specs.Rows.{begin_of};
 ghost use Rattle.cmark_text.specs.Shown.{shown_options};
@@ -52,7 +52,7 @@ fn behind_quote<'a>(line: LineStart<'a>) -> Option<LineStart<'a>>
 
 /// The line behind so many columns of spaces and tabs, or behind fewer if nothing follows them (CommonMark 5.2).
 fn behind_width<'a>(line: LineStart<'a>, width: usize) -> Option<LineStart<'a>>
-    ensures { (at past mark : ℕ) (number : Option ℕ) → option_map (row_from at past) result ≡ keeps (ListItem mark number width) false (row_from at past line.entry) }
+    ensures { (at past mark : ℕ) (number : Option ℕ) (task : Option Bool) → option_map (row_from at past) result ≡ keeps (ListItem mark number width task) false (row_from at past line.entry) }
 {
     let mut behind = line;
     if !behind.scan_space(width) && !behind.is_at_eol() {

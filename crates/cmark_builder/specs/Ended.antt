@@ -4,6 +4,7 @@ use Rattle.cmark_tree.specs.Building.{Opened}
 use Rattle.cmark_items.specs.declared.item.Item.{Item}
 use Rattle.cmark_items.specs.declared.item.ItemBody.{ItemBody}
 use Rattle.cmark_items.specs.Definitions.{definition}
+use Rattle.cmark_items.specs.Footnotes.{footnote}
 use Rattle.cmark_items.specs.Tables.{Tables}
 
 abbrev pub item_at : (start end : ℕ) → ItemBody → Item
@@ -19,3 +20,4 @@ pub record IsEmpty (t : Tables) : Type 0 where
   pub links : t.links ≡ []
   pub alignments : t.alignments ≡ []
   pub references : (folded : List ℕ) → definition t.references folded ≡ None
+  pub footnotes : (folded : List ℕ) → footnote t.footnotes folded ≡ None

@@ -6,7 +6,7 @@ ghost use Rattle.cmark_grammar.specs.Destinations.{link_destination_in};
 ghost use Rattle.cmark_grammar.specs.LinkDefinitions.{title_in};
 ghost use Rattle.cmark_grammar.specs.InlineHtml.{takes_lines};
 ghost use Rattle.cmark_grammar.specs.LinkTails.{behind_separator, closed_tail, with_title, tail_inside, link_tail_in, title_lines};
-ghost use Rattle.cmark_grammar.specs.Tokens.{resolved};
+ghost use Rattle.cmark_grammar.specs.Unescaped.{unescaped};
 ghost use Rattle.cmark_text.specs.Shown.{text_bytes};
 ghost use Rattle.cmark_definitions.specs.Rests.{IsRest};
 ghost use Rattle.cmark_definitions.specs.Shown.{shown_part};
@@ -105,18 +105,20 @@ pub fn link_tail(text: &str, at: usize) -> Option<LinkTail<'_>>
 }
 
 /// The text of a title as it is written (CommonMark 6.3): each line ending and the blanks behind it are one line feed, and
-/// escapes and entities are resolved. It is borrowed where none of these is in it; fails only where memory is refused.
+/// escapes and entities are resolved; in a table `\\|` is `|`. It is borrowed where none of these is in it; fails only where memory is
+/// refused.
 pub fn title_text<'t, E: EntityLookup>(
     alloc: Global,
     title: &'t str,
+    is_in_table: bool,
     entities: &E,
 ) -> Result<CowStr<'t>, AllocError>
-    ensures { IfOk result (λ made. text_bytes made ≡ resolved (E.replacement entities.now) (title_lines title.entry.now)) }
+    ensures { IfOk result (λ made. text_bytes made ≡ unescaped (E.replacement entities.now) is_in_table (title_lines title.entry.now)) }
 {
     if !has_line_ending(title) {
-        return unescape(alloc, CowStr::Borrowed(title), false, entities);
+        return unescape(alloc, CowStr::Borrowed(title), is_in_table, entities);
     }
     let feeds = with_line_ends(alloc, title, "\n")?;
     let lines = CowStr::from_string(title_lines(alloc, feeds.as_str())?)?;
-    unescape(alloc, lines, false, entities)
+    unescape(alloc, lines, is_in_table, entities)
 }

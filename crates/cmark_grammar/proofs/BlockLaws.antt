@@ -9,7 +9,8 @@ use Rattle.cmark_grammar.specs.MetadataBlockKind.{MetadataBlockKind}
 use Rattle.cmark_grammar.specs.Rows.{Row, without, lazy_row, is_bare, is_blank_line, is_whole_line, indent_of, words_of}
 use Rattle.cmark_grammar.specs.Leaves.{Fence, Further, GoesOn, Closes, Waits, Stops, count_more, counted, underlines, is_thematic_break, is_atx_heading, run, fence_of, fence_further, code_further}
 use Rattle.cmark_grammar.specs.BlockQuoteKind.{BlockQuoteKind}
-use Rattle.cmark_grammar.specs.Containers.{Container, Quote, Item, Footnote, Marker, marker_of, delimited, digits, is_bullet, is_delimiter, number_of, item_with, width_with, container_with, container_of, item_of, is_quote, quote_width, width_of, enter, keep_as, keeps, strip_as, strip, footnote_width, footnote_with, footnote_of, footnote_or}
+use Rattle.cmark_grammar.specs.TaskItems.{behind_box}
+use Rattle.cmark_grammar.specs.Containers.{with_task, marker_width, Container, Quote, Item, Footnote, Marker, marker_of, delimited, digits, is_bullet, is_delimiter, number_of, item_with, width_with, container_with, container_of, item_of, is_quote, quote_width, width_of, enter, keep_as, keeps, strip_as, strip, footnote_width, footnote_with, footnote_of, footnote_or}
 use Rattle.cmark_grammar.specs.Footnotes.{Footnotes, Off, Gfm, Old, footnotes_in, footnote_in, columns_over, marker_columns}
 use Rattle.cmark_grammar.specs.HtmlBlocks.{html_kind, holds_end, html_further}
 use Rattle.cmark_grammar.specs.LinkDefinitions.{Defined, definition_in, bytes_over, Found}
@@ -196,7 +197,7 @@ module _ (options : Options) where
   -- a container takes a column behind the indent at least
   abbrev pub IsWide : Row → Opening → Type 0
   IsWide r Blank = Unit {0}
-  IsWide r (Nests k) = indent_of r < width_of k r
+  IsWide r (Nests k) = indent_of r < marker_width k r
   IsWide r (Takes leaf n) = Unit {0}
   IsWide r Plain = Unit {0}
 
@@ -213,7 +214,7 @@ module _ (options : Options) where
   -- and a marker too
   abbrev pub SomeWide : Row → Option Container → Type 0
   SomeWide r None = Unit {0}
-  SomeWide r (Some k) = indent_of r < width_of k r
+  SomeWide r (Some k) = indent_of r < marker_width k r
 
   abbrev pub SomeSize : Option Marker → Type 0
   SomeSize None = Unit {0}
@@ -235,11 +236,11 @@ module _ (options : Options) where
       go true = omega arith
       go false = delimited-size (digits (b ∷ bs)) (drop (length (digits (b ∷ bs))) (b ∷ bs))
 
-  item-wide : (m : Option Marker) (r : Row) → SomeSize m → SomeWide r (item_with r m)
-  item-wide None r some = tt
-  item-wide (Some m) r some = go _
+  task-wide : (m : Option Marker) (r : Row) → SomeSize m → SomeWide r (with_task options r (item_with r m))
+  task-wide None r some = tt
+  task-wide (Some m) r some = go _
     where
-      go : (z : Bool) → SomeWide r (if z then Some (Item m.mark m.number (width_with m.size r)) else None)
+      go : (z : Bool) → SomeWide r (with_task options r (if z then Some (Item m.mark m.number (width_with m.size r) None) else None))
       go true = let p : 0 < m.size = some in omega (arith, p)
       go false = tt
 
@@ -271,7 +272,7 @@ module _ (options : Options) where
   container_of-wide : (r : Row) → SomeWide r (container_of options r)
   container_of-wide r =
       or-wide (footnote_of (footnotes_in options) r) _ r (footnote-wide (footnotes_in options) r)
-      (container-wide (item_of r) (is_quote r) _ r (item-wide (marker_of (words_of r)) r (marker-size (words_of r))))
+      (container-wide (with_task options r (item_of r)) (is_quote r) _ r (task-wide (marker_of (words_of r)) r (marker-size (words_of r))))
 
   wide_nests : (r : Row) (o : Option Container) → SomeWide r o → IsWide r (nests_if o)
   wide_nests r (Some k) some = some
@@ -347,12 +348,25 @@ module _ (options : Options) where
           let p : whole_opens options r ahead ≡ Nests k = sym (ap (λ b. if b then Plain else whole) ez ∙ ap (λ o. or_else (metadata_begun o ahead) (whole_opens options r ahead)) none) ∙ e in
           let q : Blank ≡ Nests k = sym (ap (λ cs. if is_bare (without_indent cs) then Blank else if nat_le 4 (indent_of r) then Takes IndentedCode (counted code_further ahead) else or_else (nests_if (container_of options r)) (leaf_of options r ahead)) ec) ∙ p in cc
 
+  pub marker-within : (k : Container) (r : Row) → marker_width k r ≤ width_of k r
+  marker-within (Quote alert) r = omega arith
+  marker-within (Item mark number width None) r = omega arith
+  marker-within (Item mark number width (Some is_checked)) r = omega arith
+  marker-within (Footnote label old size) r = omega arith
+
   -- inside a container a first line has fewer columns
   pub enter_len : (k : Container) (r : Row) (ahead : List Row) → opens options r ahead ≡ Nests k → length (enter k r).columns < length r.columns
   unfolding enter
   enter_len k r ahead e =
-      let wide : indent_of r < width_of k r = subst (IsWide r) e (wide_opens r ahead) in
-      rw (length-drop (width_of k r) r.columns) (omega (arith, wide, opens-some r ahead k e))
+      let wide : indent_of r < marker_width k r = subst (IsWide r) e (wide_opens r ahead) in
+      let more = marker-within k r in
+      rw (length-drop (width_of k r) r.columns) (omega (arith, wide, more, opens-some r ahead k e))
+
+  -- so it has behind the container's own marker
+  pub marker_len : (k : Container) (r : Row) (ahead : List Row) → opens options r ahead ≡ Nests k → length (without (marker_width k r) r).columns < length r.columns
+  marker_len k r ahead e =
+      let wide : indent_of r < marker_width k r = subst (IsWide r) e (wide_opens r ahead) in
+      rw (length-drop (marker_width k r) r.columns) (omega (arith, wide, opens-some r ahead k e))
 
   pub enter-lazy : (k : Container) (r : Row) → (enter k r).lazy ≡ r.lazy
   unfolding enter
@@ -377,7 +391,7 @@ module _ (options : Options) where
       go true q = cc
       go false q = let p : r ≡ s = cc in sym (ap (λ x. x.lazy) p)
   keep_as-lazy (Footnote label false size) r s e = wide-lazy 4 r s e
-  keep_as-lazy (Item mark number width) r s e = wide-lazy width r s e
+  keep_as-lazy (Item mark number width task) r s e = wide-lazy width r s e
 
   or_no : (x y : Bool) → (x || y) ≡ false → x ≡ false
   or_no true y e = e

@@ -178,7 +178,7 @@ module _ (options : Options) where
   inside_extends (Quote None) o first more inside h body = h body
   inside_extends (Footnote label old size) o first more inside h body = h body
   inside_extends (Quote (Some kind)) o first more inside h body = body
-  inside_extends (Item mark number width) o first more inside h body = h body
+  inside_extends (Item mark number width task) o first more inside h body = h body
 
   -- what a line begins, the blocks go on from
   begin_extends : (n : ℕ) (closed : Blocks) (behind : Place) (r : Row) (more : List Row) (all : Blocks) → length r.columns < n → over_blank behind ≡ over_blank (place_behind Apart closed) → Body options behind (r ∷ more) all → Extends (begin_in options n behind closed r (shown more)) more (join closed all)
@@ -190,7 +190,8 @@ module _ (options : Options) where
       starts (Quote None) = refl
       starts (Footnote label old size) = refl
       starts (Quote (Some kind)) = refl
-      starts (Item mark number width) = refl
+      starts (Item mark number width None) = refl
+      starts (Item mark number width (Some is_checked)) = refl
 
       begun : Opening → Open
       begun o = begin_as o (λ k. begin_in options n (place_in k) Nil (enter k r) (within k (is_bare_start k r) (shown more))) closed r

@@ -179,7 +179,7 @@ module _ (options : Options) where
   behind_tag (Quote None) r o ahead h = h
   behind_tag (Footnote label old size) r o ahead h = h
   behind_tag (Quote (Some kind)) r o ahead h = (refl, refl)
-  behind_tag (Item mark number width) r o ahead h = h
+  behind_tag (Item mark number width task) r o ahead h = h
 
   -- what a line begins
   begin_in_holds : (so : Place) (n : ℕ) (before : List Row) (closed : Blocks) (behind : Place) (r : Row) (ahead : List Row) → length r.columns < n → MayBegin options behind r → shown ahead ≡ ahead → over_blank behind ≡ over_blank (place_behind Apart closed) → Follows so before closed behind (r ∷ []) ahead → Holds so (before ++ r ∷ []) (begin_in options n behind closed r ahead) ahead
@@ -191,7 +191,8 @@ module _ (options : Options) where
       starts (Quote None) = refl
       starts (Footnote label old size) = refl
       starts (Quote (Some kind)) = refl
-      starts (Item mark number width) = refl
+      starts (Item mark number width None) = refl
+      starts (Item mark number width (Some is_checked)) = refl
 
       began : (o : Opening) → opens_at options behind r ahead ≡ o → Began so (before ++ r ∷ []) closed r [] ahead o
       began o e = record { before = before; behind = behind; cut = refl; follows = follows; begun = begun; opened = ap (opens_at options behind r) still ∙ e }

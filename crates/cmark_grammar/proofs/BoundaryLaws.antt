@@ -8,22 +8,24 @@ use Rattle.cmark_grammar.specs.Options.{Options}
 use Rattle.cmark_grammar.specs.Places.{Place, Apart, BehindTitle, over_blank}
 use Rattle.cmark_grammar.specs.Lines.{lines, ends_line, onto, content, is_content, line_feed, carriage_return}
 use Rattle.cmark_grammar.specs.Columns.{Column, tab, expand, tab_columns, to_tab_stop}
-use Rattle.cmark_grammar.specs.Rows.{Row, rows, rows_from, row_at, begin_of, past_of}
+use Rattle.cmark_grammar.specs.Rows.{Row, rows, rows_from, row_at, begin_of, past_of, without}
 use Rattle.cmark_grammar.specs.Containers.{Container, Quote, Item, Footnote, is_alert, unless_tag, enter, strips, is_bare_start, insides}
 use Rattle.cmark_grammar.specs.Openings.{Leaf, ThematicBreak as ThematicBreakLeaf, AtxHeading as AtxHeadingLeaf, IndentedCode as IndentedCodeLeaf, FencedCode as FencedCodeLeaf, HtmlBlock as HtmlBlockLeaf, LinkDefinition as LinkDefinitionLeaf, MetadataBlock as MetadataBlockLeaf, Table as TableLeaf}
 use Rattle.cmark_grammar.specs.Blocks.{Blocks, Nil as NoBlocks, BlankLine, Paragraph as ParagraphBlock, SetextHeading, LeafBlock, ContainerBlock, behind_leaf, place_in, Body}
 use Rattle.cmark_grammar.specs.Lists.{ListBefore, tight_behind, goes_on}
 use Rattle.cmark_grammar.specs.Tokens.{fenced_lines, lines_before}
 use Rattle.cmark_grammar.specs.BlockDocument.{ListItem, BlockNode, BlockDocument, Nil, Node, node}
-use Rattle.cmark_grammar.specs.Derivation.{leaf_then, item_then, document_of, Derives}
+use Rattle.cmark_grammar.specs.Derivation.{task_then, leaf_then, item_then, document_of, Derives}
 use Rattle.cmark_grammar.specs.Ranges.{AllAt}
 use Rattle.cmark_grammar.specs.Metadata.{ends_metadata}
 use Rattle.cmark_grammar.specs.Leaves.{closes_fence}
 use Rattle.cmark_grammar.proofs.BlockLaws.{at-nests, at-takes}
 use Rattle.cmark_grammar.proofs.RowPlaces.{Runs, expand-Runs, first_place-Runs}
-use Rattle.cmark_grammar.proofs.RowEdges.{is-ascii, AreGood, GoodRow, GoodRows, LeafFront, leaf-front, start-E, enter-good, strips-good, split-good}
+use Rattle.cmark_grammar.proofs.RowEdges.{marker-good, enter-begin, is-ascii, AreGood, GoodRow, GoodRows, LeafFront, leaf-front, start-E, enter-good, strips-good, split-good}
 use Rattle.cmark_grammar.proofs.TableRanges.{row_cells-edged, row_tokens-edged}
 use Rattle.cmark_grammar.proofs.TokenEdges.{paragraph-edged, heading-edged, code-edged, code_place-edge, before-good, html-edged}
+use Rattle.cmark_grammar.specs.TaskItems.{behind_box}
+use Rattle.cmark_grammar.proofs.TaskLaws.{task-edged}
 
 module _ (E : ℕ → Type 0) where
   past-edge : (first : Row) (more : List Row) → GoodRow E first → GoodRows E more → E (past_of first more)
@@ -95,13 +97,15 @@ module _ (E : ℕ → Type 0) where
         document-edged text options lookup false None (place_in (Footnote label old size)) (insides (Footnote label old size) first more) inside body.contents (insides-good (Footnote label old size) first more (enter-good E options (Footnote label old size) first _ (at-nests options behind first _ _ body.opened) c.0) s.0),
         document-edged text options lookup direct None Apart body.rest after body.after s.1,
       )
-  document-edged text options lookup direct before behind all (ContainerBlock (Item mark number width) first more inside after) body g =
+  document-edged text options lookup direct before behind all (ContainerBlock (Item mark number width task) first more inside after) body g =
       let c : GoodRows E (first ∷ (more ++ body.rest)) = subst (GoodRows E) body.cut g in
       let s = split-good E more body.rest c.1 in
       let tight = tight_behind before mark inside after in
-      item-edged (goes_on mark after) number tight (node ListItem (begin_of first) (past_of first more)) (document_of text options lookup tight None inside) (document_of text options lookup direct (Some (record { mark = mark; tight = tight })) after)
+      item-edged (goes_on mark after) number tight (node ListItem (begin_of first) (past_of first more)) (task_then task (begin_of (without width first)) (begin_of (without (behind_box task width) first)) (document_of text options lookup tight None inside)) (document_of text options lookup direct (Some (record { mark = mark; tight = tight })) after)
       c.0.begin (past-edge first more c.0 s.0)
-      (document-edged text options lookup tight None Apart (insides (Item mark number width) first more) inside body.contents (insides-good (Item mark number width) first more (enter-good E options (Item mark number width) first _ (at-nests options behind first _ _ body.opened) c.0) s.0))
+      (task-edged E task (begin_of (without width first)) (begin_of (without (behind_box task width) first)) (document_of text options lookup tight None inside)
+      (marker-good E options (Item mark number width task) first _ (at-nests options behind first _ _ body.opened) c.0).begin (enter-begin E options mark number width task first _ (at-nests options behind first _ _ body.opened) c.0)
+      (document-edged text options lookup tight None (place_in (Item mark number width task)) (insides (Item mark number width task) first more) inside body.contents (insides-good (Item mark number width task) first more (enter-good E options (Item mark number width task) first _ (at-nests options behind first _ _ body.opened) c.0) s.0)))
       (document-edged text options lookup direct (Some (record { mark = mark; tight = tight })) Apart body.rest after body.after s.1)
 
 -- the lines of a text

@@ -9,22 +9,24 @@ use Rattle.cmark_grammar.specs.Lines.{lines, ends_line, onto, content}
 use Rattle.cmark_grammar.specs.Columns.{Column, tab, expand, tab_columns, to_tab_stop, indent, without_indent, is_blank, is_blank_byte, drop_end}
 use Rattle.cmark_grammar.specs.Rows.{Row, rows, rows_from, without, place, first_place, begin_of, start_of, past_of, is_bare, is_blank_line, words_of}
 use Rattle.cmark_grammar.specs.Leaves.{closes_fence}
-use Rattle.cmark_grammar.specs.Containers.{Container, Quote, Item, Footnote, is_alert, unless_tag, keeps, strip_as, strip, strips, enter, width_of, is_bare_start, insides}
+use Rattle.cmark_grammar.specs.Containers.{marker_width, Container, Quote, Item, Footnote, is_alert, unless_tag, keeps, strip_as, strip, strips, enter, width_of, is_bare_start, insides}
 use Rattle.cmark_grammar.specs.Openings.{Leaf, ThematicBreak as ThematicBreakLeaf, AtxHeading as AtxHeadingLeaf, IndentedCode as IndentedCodeLeaf, FencedCode as FencedCodeLeaf, HtmlBlock as HtmlBlockLeaf, LinkDefinition as LinkDefinitionLeaf, MetadataBlock as MetadataBlockLeaf, Blank, Nests, Takes, Plain, opens, opens_at, Table as TableLeaf}
 use Rattle.cmark_grammar.specs.Blocks.{Blocks, Nil as NoBlocks, BlankLine, Paragraph as ParagraphBlock, SetextHeading, LeafBlock, ContainerBlock, MayBegin, Body, behind_leaf, place_in}
 use Rattle.cmark_grammar.specs.Lists.{ListBefore, tight_behind, goes_on}
 use Rattle.cmark_grammar.specs.BlockDocument.{ListItem, Text, OwnedText, Html, BlockNode, BlockDocument, Nil, Node, node}
-use Rattle.cmark_grammar.specs.Derivation.{leaf_then, item_then, paragraph_kind, document_of, Derives}
+use Rattle.cmark_grammar.specs.Derivation.{task_then, leaf_then, item_then, paragraph_kind, document_of, Derives}
 use Rattle.cmark_grammar.specs.Ranges.{count_nodes, count_table, count_tables}
 use Rattle.cmark_grammar.specs.Tokens.{Piece, texts_then, line_columns, words_end, stretch_then, stretches, paragraph_tokens, heading_columns, behind_hashes, heading_tokens, piece_if, plain_line, left_columns, spaces_if, verbatim_line, touches, merge, merge_all, code_columns, code_pieces, stop_at, fenced_lines, html_then, html_tokens, slice, end_place, lines_before}
 use Rattle.cmark_grammar.specs.Metadata.{ends_metadata}
-use Rattle.cmark_grammar.proofs.BlockLaws.{opens-whole, opens-words, at-whole, at-words, at-nests, at-takes, texts-words, IsWide, wide_opens}
+use Rattle.cmark_grammar.proofs.BlockLaws.{marker-within, opens-whole, opens-words, at-whole, at-words, at-nests, at-takes, texts-words, IsWide, wide_opens}
 use Rattle.cmark_grammar.proofs.RowPlaces.{Runs, Runs-le, first_place-Runs, drop-Runs, drop-mono, Lies, begin-start, start-Runs, start-stop, Lies-without, strip-Lies, kept-without, strip-past, Along, text-Along, Along-le}
 use Rattle.cmark_grammar.proofs.TokenRanges.{UpTo, end_place-Runs, line-UpTo, heading-UpTo}
 use Rattle.cmark_grammar.specs.TableRows.{count_missing, cells_start, cells_of}
 use Rattle.cmark_grammar.specs.TableTokens.{cells_then, row_cells, row_tokens}
 use Rattle.cmark_grammar.proofs.TableRanges.{words-places, row_cells-count, filled}
 use Rattle.cmark_grammar.proofs.TableCounts.{LeafFilled, opened-filled}
+use Rattle.cmark_grammar.specs.TaskItems.{behind_box}
+use Rattle.cmark_grammar.proofs.TaskLaws.{task-count, task-tables}
 
 -- a column in which no byte begins is of a tab
 abbrev AreTabs : List Column → Type 0
@@ -436,7 +438,9 @@ module _ (text : List ℕ) (options : Options) (lookup : Lookup) where
       let w : r.lazy ≡ false = opens-whole options r ahead (λ p. let q : Nests k ≡ Plain = sym o ∙ p in cc) in
       let e : is_blank_line r ≡ false = opens-words options r ahead w (λ b. let q : Nests k ≡ Blank = sym o ∙ b in cc) in
       let n = next-place from r s e in
-      let wide : indent r.columns < width_of k r = subst (IsWide options r) o (wide_opens options r ahead) in
+      let own : indent r.columns < marker_width k r = subst (IsWide options r) o (wide_opens options r ahead) in
+      let more = marker-within options k r in
+      let wide : indent r.columns < width_of k r = omega (arith, own, more) in
       let m = drop-mono (suc (indent r.columns)) (width_of k r) (begin_of r) r.columns r.stop wide s.0.1 in
       let l = Lies-without (width_of k r) from r s.0 in
       let a = from-start from r s.0 in
@@ -475,10 +479,10 @@ module _ (text : List ℕ) (options : Options) (lookup : Lookup) where
   list-first direct before mark (LeafBlock leaf first more after) e = absurd (true≢false (sym e))
   list-first direct before mark (ContainerBlock (Quote alert) first more inside after) e = absurd (true≢false (sym e))
   list-first direct before mark (ContainerBlock (Footnote label old size) first more inside after) e = absurd (true≢false (sym e))
-  list-first direct before mark (ContainerBlock (Item m number width) first more inside after) e =
+  list-first direct before mark (ContainerBlock (Item m number width task) first more inside after) e =
       go (goes_on m after) (document_of text options lookup direct (Some (record { mark = m; tight = tight_behind before m inside after })) after)
     where
-      go : (joins : Bool) (d : BlockDocument) → NoTableFirst (item_then joins number (tight_behind before m inside after) (node ListItem (begin_of first) (past_of first more)) (document_of text options lookup (tight_behind before m inside after) None inside) d)
+      go : (joins : Bool) (d : BlockDocument) → NoTableFirst (item_then joins number (tight_behind before m inside after) (node ListItem (begin_of first) (past_of first more)) (task_then task (begin_of (without width first)) (begin_of (without (behind_box task width) first)) (document_of text options lookup (tight_behind before m inside after) None inside)) d)
       go false d = refl
       go true Nil = refl
       go true (Node list items rest) = refl
@@ -537,15 +541,17 @@ module _ (text : List ℕ) (options : Options) (lookup : Lookup) where
       let i = document-count false None (place_in (Footnote label old size)) (suc from) (insides (Footnote label old size) first more) inside (past_of first more) body.contents (insides-fed (Footnote label old size) from first more _ (past_of first more) (at-nests options behind first _ _ body.opened) c.0 s.0) in
       let ih = document-count direct None Apart (past_of first more) body.rest after to body.after (fed-behind (past_of first more) body.rest to s.1) in
       omega (arith, i, ih)
-  document-count direct before behind from all (ContainerBlock (Item mark number width) first more inside after) to body f =
+  document-count direct before behind from all (ContainerBlock (Item mark number width task) first more inside after) to body f =
       let c : FedBehind from (first ∷ (more ++ body.rest)) to = subst (λ ls. FedBehind from ls to) body.cut f in
       let s = fed-split first more body.rest to c.1 in
       let tight = tight_behind before mark inside after in
-      let i = document-count tight None Apart (suc from) (insides (Item mark number width) first more) inside (past_of first more) body.contents (insides-fed (Item mark number width) from first more _ (past_of first more) (at-nests options behind first _ _ body.opened) c.0 s.0) in
+      let i = document-count tight None (place_in (Item mark number width task)) (suc from) (insides (Item mark number width task) first more) inside (past_of first more) body.contents (insides-fed (Item mark number width task) from first more _ (past_of first more) (at-nests options behind first _ _ body.opened) c.0 s.0) in
       let ih = document-count direct (Some (record { mark = mark; tight = tight })) Apart (past_of first more) body.rest after to body.after (fed-behind (past_of first more) body.rest to s.1) in
-      let n = item-count (goes_on mark after) number tight (node ListItem (begin_of first) (past_of first more)) (document_of text options lookup tight None inside) (document_of text options lookup direct (Some (record { mark = mark; tight = tight })) after) in
-      let t = item-tables (goes_on mark after) number tight (node ListItem (begin_of first) (past_of first more)) (document_of text options lookup tight None inside) (document_of text options lookup direct (Some (record { mark = mark; tight = tight })) after) refl (λ g. list-first direct (Some (record { mark = mark; tight = tight })) mark after g) in
-      omega (arith, i, ih, n, t)
+      let n = item-count (goes_on mark after) number tight (node ListItem (begin_of first) (past_of first more)) (task_then task (begin_of (without width first)) (begin_of (without (behind_box task width) first)) (document_of text options lookup tight None inside)) (document_of text options lookup direct (Some (record { mark = mark; tight = tight })) after) in
+      let t = item-tables (goes_on mark after) number tight (node ListItem (begin_of first) (past_of first more)) (task_then task (begin_of (without width first)) (begin_of (without (behind_box task width) first)) (document_of text options lookup tight None inside)) (document_of text options lookup direct (Some (record { mark = mark; tight = tight })) after) refl (λ g. list-first direct (Some (record { mark = mark; tight = tight })) mark after g) in
+      let a = task-count task (begin_of (without width first)) (begin_of (without (behind_box task width) first)) (document_of text options lookup tight None inside) in
+      let b = task-tables task (begin_of (without width first)) (begin_of (without (behind_box task width) first)) (document_of text options lookup tight None inside) in
+      omega (arith, i, ih, n, t, a, b)
 
   -- a table takes a byte
   pub document-tables : (direct : Bool) (before : Option ListBefore) (behind : Place) (from : ℕ) (all : List Row) (b : Blocks) (to : ℕ) → Body options behind all b → FedBehind from all to → from + count_tables (document_of text options lookup direct before b) ≤ to
@@ -604,14 +610,15 @@ module _ (text : List ℕ) (options : Options) (lookup : Lookup) where
       let i = document-tables false None (place_in (Footnote label old size)) (suc from) (insides (Footnote label old size) first more) inside (past_of first more) body.contents (insides-fed (Footnote label old size) from first more _ (past_of first more) (at-nests options behind first _ _ body.opened) c.0 s.0) in
       let ih = document-tables direct None Apart (past_of first more) body.rest after to body.after (fed-behind (past_of first more) body.rest to s.1) in
       omega (arith, i, ih)
-  document-tables direct before behind from all (ContainerBlock (Item mark number width) first more inside after) to body f =
+  document-tables direct before behind from all (ContainerBlock (Item mark number width task) first more inside after) to body f =
       let c : FedBehind from (first ∷ (more ++ body.rest)) to = subst (λ ls. FedBehind from ls to) body.cut f in
       let s = fed-split first more body.rest to c.1 in
       let tight = tight_behind before mark inside after in
-      let i = document-tables tight None Apart (suc from) (insides (Item mark number width) first more) inside (past_of first more) body.contents (insides-fed (Item mark number width) from first more _ (past_of first more) (at-nests options behind first _ _ body.opened) c.0 s.0) in
+      let i = document-tables tight None (place_in (Item mark number width task)) (suc from) (insides (Item mark number width task) first more) inside (past_of first more) body.contents (insides-fed (Item mark number width task) from first more _ (past_of first more) (at-nests options behind first _ _ body.opened) c.0 s.0) in
       let ih = document-tables direct (Some (record { mark = mark; tight = tight })) Apart (past_of first more) body.rest after to body.after (fed-behind (past_of first more) body.rest to s.1) in
-      let t = item-tables (goes_on mark after) number tight (node ListItem (begin_of first) (past_of first more)) (document_of text options lookup tight None inside) (document_of text options lookup direct (Some (record { mark = mark; tight = tight })) after) refl (λ g. list-first direct (Some (record { mark = mark; tight = tight })) mark after g) in
-      omega (arith, i, ih, t)
+      let t = item-tables (goes_on mark after) number tight (node ListItem (begin_of first) (past_of first more)) (task_then task (begin_of (without width first)) (begin_of (without (behind_box task width) first)) (document_of text options lookup tight None inside)) (document_of text options lookup direct (Some (record { mark = mark; tight = tight })) after) refl (λ g. list-first direct (Some (record { mark = mark; tight = tight })) mark after g) in
+      let b = task-tables task (begin_of (without width first)) (begin_of (without (behind_box task width) first)) (document_of text options lookup tight None inside) in
+      omega (arith, i, ih, t, b)
 
 -- each line of a text has a byte
 abbrev Full : List (List ℕ) → Type 0

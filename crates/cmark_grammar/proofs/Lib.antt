@@ -27,16 +27,21 @@ pub mod NotDerived
 pub mod QuoteSamples
 pub mod RangeLaws
 pub mod ReferenceLaws
+pub mod Fronts
 pub mod RowEdges
+pub mod TaskFronts
+pub mod TaskLaws
 pub mod RowPlaces
 pub mod ShorterRests
 pub mod SliceLaws
 pub mod SpanEntries
 pub mod SpanPlaces
 pub mod TableCounts
+pub mod TableLaws
 pub mod TableRanges
 mod TableSamples
 mod TableDocumentSamples
+mod TaskDocumentSamples
 pub mod TagSamples
 pub mod TaskSamples
 pub mod TightLaws

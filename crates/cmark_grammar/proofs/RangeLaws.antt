@@ -4,7 +4,7 @@ use Rattle.cmark_grammar.specs.Answers.{Lookup}
 use Rattle.cmark_grammar.specs.Options.{Options}
 use Rattle.cmark_grammar.specs.Places.{Place, Apart, BehindTitle, over_blank}
 use Rattle.cmark_grammar.specs.Columns.{indent}
-use Rattle.cmark_grammar.specs.Rows.{Row, rows, first_place, begin_of, start_of, past_of}
+use Rattle.cmark_grammar.specs.Rows.{Row, rows, first_place, begin_of, start_of, past_of, without}
 use Rattle.cmark_grammar.specs.BlockQuoteKind.{BlockQuoteKind}
 use Rattle.cmark_grammar.specs.Containers.{Container, Quote, Item, Footnote, is_alert, unless_tag, enter, quote_width, footnote_width, one_blank, strips, is_bare_start, insides}
 use Rattle.cmark_grammar.specs.Openings.{Leaf, ThematicBreak as ThematicBreakLeaf, AtxHeading as AtxHeadingLeaf, IndentedCode as IndentedCodeLeaf, FencedCode as FencedCodeLeaf, HtmlBlock as HtmlBlockLeaf, LinkDefinition as LinkDefinitionLeaf, MetadataBlock as MetadataBlockLeaf, Table as TableLeaf}
@@ -12,7 +12,7 @@ use Rattle.cmark_grammar.specs.Blocks.{Blocks, Nil as NoBlocks, BlankLine, Parag
 use Rattle.cmark_grammar.specs.Lists.{ListBefore, tight_behind, goes_on}
 use Rattle.cmark_grammar.specs.Tokens.{fenced_lines, paragraph_tokens, code_tokens, code_columns, lines_before}
 use Rattle.cmark_grammar.specs.BlockDocument.{ListItem, BlockNode, BlockDocument, Nil, Node, node}
-use Rattle.cmark_grammar.specs.Derivation.{leaf_then, item_then, document_of, Derives}
+use Rattle.cmark_grammar.specs.Derivation.{task_then, leaf_then, item_then, document_of, Derives}
 use Rattle.cmark_grammar.specs.Ranges.{InOrder}
 use Rattle.cmark_grammar.specs.Metadata.{ends_metadata}
 use Rattle.cmark_grammar.specs.Leaves.{closes_fence}
@@ -20,6 +20,8 @@ use Rattle.cmark_grammar.proofs.TableRanges.{row_cells-order, row_tokens-order}
 use Rattle.cmark_grammar.specs.TableTokens.{row_tokens}
 use Rattle.cmark_grammar.proofs.RowPlaces.{drop-mono, Lies, begin-start, start-stop, Lies-without, Along, Along-split, Along-le, strips-Along, text-Along}
 use Rattle.cmark_grammar.proofs.TokenRanges.{InOrder-lower, InOrder-upper, paragraph-order, heading-order, code-order, code_place, indented-order, before-Along, html-order}
+use Rattle.cmark_grammar.specs.TaskItems.{behind_box}
+use Rattle.cmark_grammar.proofs.TaskLaws.{task-order}
 
 -- what lines end at is not in front of the first line's end
 past-le : (first : Row) (more : List Row) → Along first.past more (past_of first more) → first.past ≤ past_of first more
@@ -101,6 +103,14 @@ Along-lower : (from mid : ℕ) (rs : List Row) (to : ℕ) → from ≤ mid → A
 Along-lower from mid [] to le a = omega (arith, le, a)
 Along-lower from mid (r ∷ rs) to le a = let l = a.0 in ((let b = l.0 in omega (arith, le, b), l.1, l.2), a.1)
 
+box-wider : (task : Option Bool) (width : ℕ) → width ≤ behind_box task width
+box-wider None width = omega arith
+box-wider (Some is_checked) width = omega arith
+
+box-Lies : (mark : ℕ) (number : Option ℕ) (width : ℕ) (task : Option Bool) (from : ℕ) (r : Row) → Lies from r → Lies (begin_of (without (behind_box task width) r)) (enter (Item mark number width task) r)
+unfolding enter
+box-Lies mark number width task from r h = let l = Lies-without (behind_box task width) from r h in (omega arith, l.1, l.2)
+
 insides-Along : (k : Container) (from : ℕ) (first : Row) (more : List Row) (to : ℕ) → Lies from (enter k first) → Along first.past more to → Along from (insides k first more) to
 insides-Along k from first more to l a = go (is_alert k)
   where
@@ -151,13 +161,17 @@ module _ (text : List ℕ) (options : Options) (lookup : Lookup) where
         document-order false None (place_in (Footnote label old size)) (start_of first) (insides (Footnote label old size) first more) inside (past_of first more) body.contents (insides-Along (Footnote label old size) (start_of first) first more (past_of first more) (footnote-Lies label old size from first c.0) s.0),
         document-order direct None Apart (past_of first more) body.rest after to body.after s.1,
       )
-  document-order direct before behind from all (ContainerBlock (Item mark number width) first more inside after) to body a =
+  document-order direct before behind from all (ContainerBlock (Item mark number width task) first more inside after) to body a =
       let c : Along from (first ∷ (more ++ body.rest)) to = subst (λ ls. Along from ls to) body.cut a in
       let s = Along-split first more body.rest to c.1 in
       let tight = tight_behind before mark inside after in
-      item-order from (goes_on mark after) number tight (node ListItem (begin_of first) (past_of first more)) (document_of text options lookup tight None inside) (document_of text options lookup direct (Some (record { mark = mark; tight = tight })) after) to
+      item-order from (goes_on mark after) number tight (node ListItem (begin_of first) (past_of first more)) (task_then task (begin_of (without width first)) (begin_of (without (behind_box task width) first)) (document_of text options lookup tight None inside)) (document_of text options lookup direct (Some (record { mark = mark; tight = tight })) after) to
       c.0.0
-      (document-order tight None Apart (begin_of first) (insides (Item mark number width) first more) inside (past_of first more) body.contents (insides-Along (Item mark number width) (begin_of first) first more (past_of first more) (enter-Lies (Item mark number width) from first c.0) s.0))
+      (task-order (begin_of first) task (begin_of (without width first)) (begin_of (without (behind_box task width) first)) (document_of text options lookup tight None inside) (past_of first more)
+      (Lies-without width from first c.0).0 (drop-mono width (behind_box task width) (begin_of first) first.columns first.stop (box-wider task width) c.0.1)
+      (document-order tight None (place_in (Item mark number width task)) (begin_of first) (insides (Item mark number width task) first more) inside (past_of first more) body.contents (insides-Along (Item mark number width task) (begin_of first) first more (past_of first more) (enter-Lies (Item mark number width task) from first c.0) s.0))
+      (document-order tight None (place_in (Item mark number width task)) (begin_of (without (behind_box task width) first)) (insides (Item mark number width task) first more) inside (past_of first more) body.contents
+      (insides-Along (Item mark number width task) (begin_of (without (behind_box task width) first)) first more (past_of first more) (box-Lies mark number width task from first c.0) s.0)))
       (document-order direct (Some (record { mark = mark; tight = tight })) Apart (past_of first more) body.rest after to body.after s.1)
 
 pub derived-order : (text : List ℕ) (options : Options) (lookup : Lookup) (d : BlockDocument) → Derives text options lookup d → InOrder 0 d (length text)

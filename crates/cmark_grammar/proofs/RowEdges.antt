@@ -12,37 +12,16 @@ use Rattle.cmark_grammar.specs.LinkDefinitions.{Found, Defined, definition_in, b
 use Rattle.cmark_grammar.specs.Metadata.{metadata_kind, metadata_further, holds_metadata}
 use Rattle.cmark_grammar.specs.MetadataBlockKind.{MetadataBlockKind}
 use Rattle.cmark_grammar.specs.BlockQuoteKind.{BlockQuoteKind}
-use Rattle.cmark_grammar.specs.Containers.{Container, Quote, Item, Footnote, Marker, is_bullet, is_digit, is_delimiter, digits, number_of, delimited, marker_of, behind_marker, padding, width_with, item_with, item_of, begins_with, is_quote, one_blank, quote_width, container_with, container_of, width_of, enter, keep_as, keeps, strip_as, strip, strips, footnote_width, footnote_with, footnote_of, footnote_or}
+use Rattle.cmark_grammar.specs.Containers.{marker_width, Container, Quote, Item, Footnote, Marker, is_bullet, is_digit, is_delimiter, digits, number_of, delimited, marker_of, behind_marker, padding, width_with, item_with, item_of, begins_with, is_quote, one_blank, quote_width, container_with, container_of, width_of, enter, keep_as, keeps, strip_as, strip, strips, footnote_width, footnote_with, footnote_of, footnote_or, with_task}
 use Rattle.cmark_grammar.specs.Openings.{Leaf, ThematicBreak, AtxHeading, IndentedCode, FencedCode, HtmlBlock, LinkDefinition, MetadataBlock, Opening, Blank, Nests, Takes, Plain, or_else, nests_if, fenced_if, metadata_begun, html_if, break_if, heading_if, text_lines, defined_if, definition_of, leaf_of, whole_opens, opens, Table, table_if, text_of, begins_no_link}
 use Rattle.cmark_grammar.specs.Alignment.{Alignment}
 use Rattle.cmark_grammar.specs.TableRows.{table_head}
 use Rattle.cmark_grammar.proofs.FootnoteMarkers.{IsAsciiAt, colon-ascii}
+use Rattle.cmark_grammar.specs.TaskItems.{task_in, behind_box}
+use Rattle.cmark_grammar.specs.TaskMarkers.{task_of}
+use Rattle.cmark_grammar.proofs.TaskFronts.{task-front}
+pub use Rattle.cmark_grammar.proofs.Fronts.{Front, front-less, front-add, prefix-front, IsAsciiByte}
 use Rattle.cmark_grammar.proofs.RowPlaces.{Runs, first_place-Runs, drop-Runs}
-
--- what holds of the first n elements, as far as there are any
-abbrev pub Front : {X : Type 0} → (X → Type 0) → ℕ → List X → Type 0
-Front Q n [] = Unit {0}
-Front Q zero (x ∷ xs) = Unit {0}
-Front Q (suc n) (x ∷ xs) = Q x × Front Q n xs
-
-pub front-less : {X : Type 0} (Q : X → Type 0) (m n : ℕ) (xs : List X) → m ≤ n → Front Q n xs → Front Q m xs
-front-less Q m n [] le f = tt
-front-less Q zero n (x ∷ xs) le f = tt
-front-less Q (suc m) zero (x ∷ xs) le f = absurd (omega (arith, le))
-front-less Q (suc m) (suc n) (x ∷ xs) le f = (f.0, front-less Q m n xs (omega (arith, le)) f.1)
-
-pub front-add : {X : Type 0} (Q : X → Type 0) (m n : ℕ) (xs : List X) → Front Q m xs → Front Q n (drop m xs) → Front Q (m + n) xs
-front-add Q zero n xs f g = subst (λ k. Front Q k xs) (let z : n ≡ 0 + n = omega arith in z) g
-front-add Q (suc m) n [] f g = tt
-front-add Q (suc m) n (x ∷ xs) f g = subst (λ k. Front Q k (x ∷ xs)) (let z : suc (m + n) ≡ suc m + n = omega arith in z) (f.0, front-add Q m n xs f.1 g)
-
-pub prefix-front : {X : Type 0} (p : X → Bool) (Q : X → Type 0) → ((x : X) → p x ≡ true → Q x) → (xs : List X) → Front Q (length (take_while p xs)) xs
-prefix-front p Q holds [] = tt
-prefix-front p Q holds (x ∷ xs) = subst (λ l. Front Q (length l) (x ∷ xs)) (sym (take_while-cons p x xs)) (go (p x) refl (prefix-front p Q holds xs))
-  where
-    go : (z : Bool) → p x ≡ z → Front Q (length (take_while p xs)) xs → Front Q (length (cond z (x ∷ take_while p xs) [])) (x ∷ xs)
-    go true e ih = (holds x e, ih)
-    go false e ih = tt
 
 either : (x y : Bool) → (x || y) ≡ true → (x ≡ true) ⊎ (y ≡ true)
 either true y e = inl refl
@@ -51,9 +30,6 @@ either false y e = inr e
 both : (x y : Bool) → (x && y) ≡ true → (x ≡ true) × (y ≡ true)
 both true y e = (refl, e)
 both false y e = absurd (true≢false (sym e))
-
-abbrev pub IsAsciiByte : ℕ → Type 0
-IsAsciiByte b = b < 128
 
 abbrev pub IsAsciiColumn : Column → Type 0
 IsAsciiColumn c = c.byte < 128
@@ -217,32 +193,48 @@ module _ (E : ℕ → Type 0) where
       let behind : Front IsAsciiColumn (padding (behind_marker size r)) (drop size (without_indent r.columns)) = subst (λ cs. Front IsAsciiColumn (padding (behind_marker size r)) cs) (sym (drop-drop size (indent r.columns) r.columns)) (padding-front (behind_marker size r)) in
       front-add IsAsciiColumn (indent r.columns) (size + padding (behind_marker size r)) r.columns (indent-front r.columns) (front-add IsAsciiColumn size (padding (behind_marker size r)) (without_indent r.columns) marked behind)
 
-  -- what a container's first line has in front is ASCII
-  abbrev SomeFront : Row → Option Container → Type 0
-  SomeFront r None = Unit {0}
-  SomeFront r (Some k) = Front IsAsciiColumn (width_of k r) r.columns
-
-  item-front : (r : Row) (m : Option Marker) → GoodRow r → MarkerFront m (words_of r) → SomeFront r (item_with r m)
-  item-front r None g f = tt
-  item-front r (Some m) g f = go (is_parted (drop m.size (words_of r)) && not (is_thematic_break (words_of r)))
-    where
-      go : (z : Bool) → SomeFront r (if z then Some (Item m.mark m.number (width_with m.size r)) else None)
-      go true = width-front m.size r g f
-      go false = tt
-
-  container-front : (o : Option Container) (q : Bool) (alert : Option BlockQuoteKind) (r : Row) → GoodRow r → is_quote r ≡ q → SomeFront r o → SomeFront r (container_with o q alert)
-  container-front (Some k) q alert r g e f = f
-  container-front None true alert r g e f = quote-front r g e
-  container-front None false alert r g e f = tt
-
   -- behind what a container's first line has in front no character is cut
+  abbrev MarkerGood : Container → Row → Type 0
+  MarkerGood k r = GoodRow (without (marker_width k r) r)
+
   abbrev SomeGood : Row → Option Container → Type 0
   SomeGood r None = Unit {0}
-  SomeGood r (Some k) = GoodRow (without (width_of k r) r)
+  SomeGood r (Some k) = MarkerGood k r × GoodRow (without (width_of k r) r)
 
-  behind-front : (r : Row) (o : Option Container) → GoodRow r → SomeFront r o → SomeGood r o
-  behind-front r None g f = tt
-  behind-front r (Some k) g f = without-good (width_of k r) r g f
+  -- nor between an item's marker and a task marker, and behind that
+  box-good : (options : Options) (r : Row) (is_checked : Bool) → task_in options r ≡ Some is_checked → GoodRow r → GoodRow (without 3 r)
+  box-good options r is_checked e g = go (options.tasklists) (indent_of r == 0) refl e
+    where
+      zero-is : (n : ℕ) → (n == 0) ≡ true → n ≡ 0
+      zero-is n q = grind (arith)
+
+      go : (x y : Bool) → (indent_of r == 0) ≡ y → (if x && y then task_of (words_of r) else None) ≡ Some is_checked → GoodRow (without 3 r)
+      go true true ey q =
+          without-good 3 r g
+          (subst (λ n. Front IsAsciiColumn 3 (drop n r.columns)) (zero-is (indent r.columns) ey)
+          (bytes-front 3 (without_indent r.columns) (drop-good (indent r.columns) r.columns g.good) (task-front (words_of r) is_checked q)))
+      go true false ey q = absurd (let p : None ≡ Some is_checked = q in cc)
+      go false y ey q = absurd (let p : None ≡ Some is_checked = q in cc)
+
+  item-good : (options : Options) (r : Row) (m : Option Marker) → GoodRow r → MarkerFront m (words_of r) → SomeGood r (with_task options r (item_with r m))
+  item-good options r None g f = tt
+  item-good options r (Some m) g f = go (is_parted (drop m.size (words_of r)) && not (is_thematic_break (words_of r)))
+    where
+      good : GoodRow (without (width_with m.size r) r)
+      good = without-good (width_with m.size r) r g (width-front m.size r g f)
+
+      behind : (o : Option Bool) → task_in options (without (width_with m.size r) r) ≡ o → GoodRow (without (behind_box o (width_with m.size r)) r)
+      behind None e = good
+      behind (Some is_checked) e = subst GoodRow (ap (λ cs. record r { columns = cs }) (drop-drop 3 (width_with m.size r) r.columns)) (box-good options (without (width_with m.size r) r) is_checked e good)
+
+      go : (z : Bool) → SomeGood r (with_task options r (if z then Some (Item m.mark m.number (width_with m.size r) None) else None))
+      go true = (good, behind (task_in options (without (width_with m.size r) r)) refl)
+      go false = tt
+
+  quote-good : (o : Option Container) (q : Bool) (alert : Option BlockQuoteKind) (r : Row) → GoodRow r → is_quote r ≡ q → SomeGood r o → SomeGood r (container_with o q alert)
+  quote-good (Some k) q alert r g e f = f
+  quote-good None true alert r g e f = let good = without-good (quote_width r) r g (quote-front r g e) in (good, good)
+  quote-good None false alert r g e f = tt
 
   none-over : (cs : List Column) → columns_over 0 cs ≡ 0
   none-over [] = refl
@@ -277,7 +269,8 @@ module _ (E : ℕ → Type 0) where
       } in
       let same : drop (indent (drop middle r.columns)) (drop middle r.columns) ≡ drop (footnote_width size r) r.columns =
       drop-drop (indent (drop middle r.columns)) middle r.columns ∙ ap (λ k. drop k r.columns) (let s : middle + indent (drop middle r.columns) ≡ footnote_width size r = omega arith in s) in
-      subst GoodRow (ap (λ cs. record r { columns = cs }) same) (without-good (indent (drop middle r.columns)) (without middle r) good (indent-front (drop middle r.columns)))
+      let behind = subst GoodRow (ap (λ cs. record r { columns = cs }) same) (without-good (indent (drop middle r.columns)) (without middle r) good (indent-front (drop middle r.columns))) in
+      (behind, behind)
 
   footnote_of-good : (f : Footnotes) (r : Row) → GoodRow r → SomeGood r (footnote_of f r)
   footnote_of-good Off r g = tt
@@ -291,7 +284,7 @@ module _ (E : ℕ → Type 0) where
   container_of-good : (options : Options) (r : Row) → GoodRow r → SomeGood r (container_of options r)
   container_of-good options r g =
       or-good (footnote_of (footnotes_in options) r) _ r (footnote_of-good (footnotes_in options) r g)
-      (behind-front r _ g (container-front (item_of r) (is_quote r) _ r g refl (item-front r (marker_of (words_of r)) g (marker-front (words_of r)))))
+      (quote-good (with_task options r (item_of r)) (is_quote r) _ r g refl (item-good options r (marker_of (words_of r)) g (marker-front (words_of r))))
 
   -- a heading's opening sequence is ASCII too
   abbrev pub LeafFront : Row → Leaf → Type 0
@@ -306,7 +299,7 @@ module _ (E : ℕ → Type 0) where
 
   abbrev OpeningFront : Row → Opening → Type 0
   OpeningFront r Blank = Unit {0}
-  OpeningFront r (Nests k) = GoodRow (without (width_of k r) r)
+  OpeningFront r (Nests k) = MarkerGood k r × GoodRow (without (width_of k r) r)
   OpeningFront r (Takes leaf n) = LeafFront r leaf
   OpeningFront r Plain = Unit {0}
 
@@ -381,7 +374,15 @@ module _ (E : ℕ → Type 0) where
 
   pub enter-good : (options : Options) (k : Container) (r : Row) (ahead : List Row) → opens options r ahead ≡ Nests k → GoodRow r → GoodRow (enter k r)
   unfolding enter
-  enter-good options k r ahead e g = subst (OpeningFront r) e (front_opens options r ahead g)
+  enter-good options k r ahead e g = (subst (OpeningFront r) e (front_opens options r ahead g)).1
+
+  -- nor behind an item's task marker
+  pub enter-begin : (options : Options) (mark : ℕ) (number : Option ℕ) (width : ℕ) (task : Option Bool) (r : Row) (ahead : List Row) → opens options r ahead ≡ Nests (Item mark number width task) → GoodRow r → E (begin_of (without (behind_box task width) r))
+  enter-begin options mark number width task r ahead e g = (subst (OpeningFront r) e (front_opens options r ahead g)).1.begin
+
+  -- nor behind a container's own marker
+  pub marker-good : (options : Options) (k : Container) (r : Row) (ahead : List Row) → opens options r ahead ≡ Nests k → GoodRow r → GoodRow (without (marker_width k r) r)
+  marker-good options k r ahead e g = (subst (OpeningFront r) e (front_opens options r ahead g)).0
 
   pub leaf-front : (options : Options) (r : Row) (ahead : List Row) (leaf : Leaf) (n : ℕ) → opens options r ahead ≡ Takes leaf n → GoodRow r → LeafFront r leaf
   leaf-front options r ahead leaf n e g = subst (OpeningFront r) e (front_opens options r ahead g)
@@ -413,7 +414,7 @@ module _ (E : ℕ → Type 0) where
       go true f = absurd (let p : None ≡ Some s = f in cc)
       go false f = let p : r ≡ s = cc in subst GoodRow p g
   keep_as-good (Footnote label false size) r s g e = wide-good 4 r s g e
-  keep_as-good (Item mark number width) r s g e = wide-good width r s g e
+  keep_as-good (Item mark number width task) r s g e = wide-good width r s g e
 
   keeps-good : (k : Container) (bare : Bool) (r s : Row) → GoodRow r → keeps k bare r ≡ Some s → GoodRow s
   unfolding keeps

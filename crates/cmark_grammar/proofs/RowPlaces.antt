@@ -112,7 +112,7 @@ kept_as-without (Footnote label true size) r s e = (0, go _ e)
     go true q = cc
     go false q = let p : r ≡ s = cc in p
 kept_as-without (Footnote label false size) r s e = (4, wide-without 4 r s e)
-kept_as-without (Item mark number width) r s e = (width, wide-without width r s e)
+kept_as-without (Item mark number width task) r s e = (width, wide-without width r s e)
 
 pub kept-without : (k : Container) (bare : Bool) (r s : Row) → keeps k bare r ≡ Some s → (n : ℕ) × (without n r ≡ s)
 unfolding keeps

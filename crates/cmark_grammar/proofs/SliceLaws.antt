@@ -4,18 +4,20 @@ use Rattle.std.specs.Prelude.{if◌then◌else◌, nat_lt}
 use Rattle.cmark_grammar.specs.Answers.{Lookup}
 use Rattle.cmark_grammar.specs.Options.{Options}
 use Rattle.cmark_grammar.specs.Columns.{Column, is_blank_byte, drop_end}
-use Rattle.cmark_grammar.specs.Rows.{Row, first_place, begin_of, start_of, words_of}
+use Rattle.cmark_grammar.specs.Rows.{Row, first_place, begin_of, start_of, words_of, without}
 use Rattle.cmark_grammar.specs.Containers.{Quote, Item, Footnote}
 use Rattle.cmark_grammar.specs.Openings.{Leaf, ThematicBreak as ThematicBreakLeaf, AtxHeading as AtxHeadingLeaf, IndentedCode as IndentedCodeLeaf, FencedCode as FencedCodeLeaf, HtmlBlock as HtmlBlockLeaf, LinkDefinition as LinkDefinitionLeaf, MetadataBlock as MetadataBlockLeaf, Table as TableLeaf}
 use Rattle.cmark_grammar.specs.Blocks.{Blocks, Nil as NoBlocks, BlankLine, Paragraph as ParagraphBlock, SetextHeading, LeafBlock, ContainerBlock}
 use Rattle.cmark_grammar.specs.Lists.{ListBefore, tight_behind, goes_on}
 use Rattle.cmark_grammar.specs.BlockDocument.{Text, OwnedText, Html, ListItem, BlockNode, BlockDocument, Nil, Node, node}
-use Rattle.cmark_grammar.specs.Derivation.{leaf_then, item_then, paragraph_kind, document_of, Derives}
+use Rattle.cmark_grammar.specs.Derivation.{task_then, leaf_then, item_then, paragraph_kind, document_of, Derives}
 use Rattle.cmark_grammar.specs.Ranges.{IsSlice, HasSlices}
 use Rattle.cmark_grammar.specs.Tokens.{slice, Piece, texts_then, end_place, words_end, stretch_then, stretches, paragraph_tokens, behind_hashes, heading_columns, piece_if, plain_line, left_columns, spaces_if, verbatim_line, touches, merge, merge_all, code_columns, code_pieces, fenced_lines, html_then, html_tokens, lines_before}
 use Rattle.cmark_grammar.specs.Metadata.{ends_metadata}
 use Rattle.cmark_grammar.specs.TableRows.{cells_start, cells_of}
 use Rattle.cmark_grammar.specs.TableTokens.{cells_then, row_cells, row_tokens}
+use Rattle.cmark_grammar.specs.TaskItems.{behind_box}
+use Rattle.cmark_grammar.proofs.TaskLaws.{task-sliced}
 
 both : (x y : Bool) → (x && y) ≡ true → (x ≡ true) × (y ≡ true)
 both true y e = (refl, e)
@@ -166,10 +168,10 @@ module _ (text : List ℕ) where
       (tt, document-sliced options lookup false None inside, document-sliced options lookup direct None after)
   document-sliced options lookup direct before (ContainerBlock (Footnote label old size) first more inside after) =
       (tt, document-sliced options lookup false None inside, document-sliced options lookup direct None after)
-  document-sliced options lookup direct before (ContainerBlock (Item mark number width) first more inside after) =
+  document-sliced options lookup direct before (ContainerBlock (Item mark number width task) first more inside after) =
       let tight = tight_behind before mark inside after in
-      item-sliced (goes_on mark after) number tight (node ListItem _ _) (document_of text options lookup tight None inside) (document_of text options lookup direct (Some (record { mark = mark; tight = tight })) after) tt
-      (document-sliced options lookup tight None inside) (document-sliced options lookup direct (Some (record { mark = mark; tight = tight })) after)
+      item-sliced (goes_on mark after) number tight (node ListItem _ _) (task_then task (begin_of (without width first)) (begin_of (without (behind_box task width) first)) (document_of text options lookup tight None inside)) (document_of text options lookup direct (Some (record { mark = mark; tight = tight })) after) tt
+      (task-sliced text task _ _ (document_of text options lookup tight None inside) (document-sliced options lookup tight None inside)) (document-sliced options lookup direct (Some (record { mark = mark; tight = tight })) after)
 
 pub derived-slices : (text : List ℕ) (options : Options) (lookup : Lookup) (d : BlockDocument) → Derives text options lookup d → HasSlices text d
 derived-slices text options lookup d h = subst (HasSlices text) (sym h.2) (document-sliced text options lookup false None h.0)

@@ -3,19 +3,21 @@ use Rattle.std.proofs.Common.{◌≡◌, ℕ, zero, suc, ◌+◌, Bool, true, fa
 use Rattle.std.specs.Prelude.{if◌then◌else◌}
 use Rattle.cmark_grammar.specs.Answers.{Lookup}
 use Rattle.cmark_grammar.specs.Options.{Options}
-use Rattle.cmark_grammar.specs.Rows.{Row, first_place, start_of, past_of, begin_of, words_of}
+use Rattle.cmark_grammar.specs.Rows.{Row, first_place, start_of, past_of, begin_of, words_of, without}
 use Rattle.cmark_grammar.specs.Containers.{Quote, Item, Footnote}
 use Rattle.cmark_grammar.specs.Openings.{Leaf, ThematicBreak as ThematicBreakLeaf, AtxHeading as AtxHeadingLeaf, IndentedCode as IndentedCodeLeaf, FencedCode as FencedCodeLeaf, HtmlBlock as HtmlBlockLeaf, LinkDefinition as LinkDefinitionLeaf, MetadataBlock as MetadataBlockLeaf, Table as TableLeaf}
 use Rattle.cmark_grammar.specs.Blocks.{Blocks, Nil as NoBlocks, BlankLine, Paragraph as ParagraphBlock, SetextHeading, LeafBlock, ContainerBlock}
 use Rattle.cmark_grammar.specs.Lists.{ListBefore, tight_behind, goes_on, is_tight}
 use Rattle.cmark_grammar.specs.Tokens.{Piece, end_place, piece_if, texts_then, words_end, stretch_then, stretches, paragraph_tokens, html_then, html_tokens, html_kind_of, verbatim_line, behind_hashes, heading_columns, code_pieces, fenced_lines, lines_before}
 use Rattle.cmark_grammar.specs.BlockDocument.{Text, OwnedText, BlockList, ListItem, BlockNode, BlockDocument, Nil, Node, node}
-use Rattle.cmark_grammar.specs.Derivation.{leaf_then, item_then, paragraph_kind, document_of, Derives}
+use Rattle.cmark_grammar.specs.Derivation.{task_then, leaf_then, item_then, paragraph_kind, document_of, Derives}
 use Rattle.cmark_grammar.specs.Tightness.{tight_within, IsElement, HasTightParagraphs}
 use Rattle.cmark_grammar.specs.Metadata.{ends_metadata}
 use Rattle.cmark_grammar.specs.Columns.{is_blank_byte, drop_end}
 use Rattle.cmark_grammar.specs.TableRows.{cells_start, cells_of}
 use Rattle.cmark_grammar.specs.TableTokens.{cells_then, row_cells, row_tokens}
+use Rattle.cmark_grammar.specs.TaskItems.{behind_box}
+use Rattle.cmark_grammar.proofs.TaskLaws.{task-tight}
 
 texts_tight : (tight : Bool) (ps : List Piece) (after : BlockDocument) → HasTightParagraphs tight after → HasTightParagraphs tight (texts_then ps after)
 texts_tight tight [] after h = h
@@ -110,9 +112,9 @@ module _ (text : List ℕ) (options : Options) (lookup : Lookup) where
   rest_of direct tight mark (LeafBlock leaf first more after) e = absurd (true≢false (sym e))
   rest_of direct tight mark (ContainerBlock (Quote alert) first more inside after) e = absurd (true≢false (sym e))
   rest_of direct tight mark (ContainerBlock (Footnote label old size) first more inside after) e = absurd (true≢false (sym e))
-  rest_of direct tight mark (ContainerBlock (Item m number width) first more inside after) e =
+  rest_of direct tight mark (ContainerBlock (Item m number width task) first more inside after) e =
       let t : tight_behind (Some (record { mark = mark; tight = tight })) m inside after ≡ tight = if_true (mark == m) tight (is_tight m inside after) (eqb_sym m mark e) in
-      subst (λ z. Rest z (document_of text options lookup direct (Some (record { mark = mark; tight = tight })) (ContainerBlock (Item m number width) first more inside after))) t
+      subst (λ z. Rest z (document_of text options lookup direct (Some (record { mark = mark; tight = tight })) (ContainerBlock (Item m number width task) first more inside after))) t
       (rest_of_item (goes_on m after) number (tight_behind (Some (record { mark = mark; tight = tight })) m inside after) _ _ _)
 
   item_tight : (direct joins : Bool) (number : Option ℕ) (tight : Bool) (item : BlockNode) (inside after : BlockDocument) → item.kind ≡ ListItem → (joins ≡ true → Rest tight after) → HasTightParagraphs tight inside → HasTightParagraphs direct after → HasTightParagraphs direct (item_then joins number tight item inside after)
@@ -135,10 +137,10 @@ module _ (text : List ℕ) (options : Options) (lookup : Lookup) where
   document-tight direct before (LeafBlock leaf first more after) = leaf_tight text options lookup direct leaf first more (document_of text options lookup direct None after) (document-tight direct None after)
   document-tight direct before (ContainerBlock (Quote alert) first more inside after) = (tt, document-tight false None inside, document-tight direct None after)
   document-tight direct before (ContainerBlock (Footnote label old size) first more inside after) = (tt, document-tight false None inside, document-tight direct None after)
-  document-tight direct before (ContainerBlock (Item mark number width) first more inside after) =
+  document-tight direct before (ContainerBlock (Item mark number width task) first more inside after) =
       let tight = tight_behind before mark inside after in
-      item_tight direct (goes_on mark after) number tight (node ListItem (begin_of first) (past_of first more)) (document_of text options lookup tight None inside) (document_of text options lookup direct (Some (record { mark = mark; tight = tight })) after) refl
-      (rest_of direct tight mark after) (document-tight tight None inside) (document-tight direct (Some (record { mark = mark; tight = tight })) after)
+      item_tight direct (goes_on mark after) number tight (node ListItem (begin_of first) (past_of first more)) (task_then task (begin_of (without width first)) (begin_of (without (behind_box task width) first)) (document_of text options lookup tight None inside)) (document_of text options lookup direct (Some (record { mark = mark; tight = tight })) after) refl
+      (rest_of direct tight mark after) (task-tight tight task _ _ (document_of text options lookup tight None inside) (document-tight tight None inside)) (document-tight direct (Some (record { mark = mark; tight = tight })) after)
 
 pub derived-tight : (text : List ℕ) (options : Options) (lookup : Lookup) (d : BlockDocument) → Derives text options lookup d → HasTightParagraphs false d
 derived-tight text options lookup d h = subst (HasTightParagraphs false) (sym h.2) (document-tight text options lookup false None h.0)

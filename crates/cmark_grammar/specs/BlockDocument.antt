@@ -17,7 +17,8 @@ pub record Reference : Type 0 where
 -- its attributes, a block quote its kind, if it is an alert, a list the number of its first item, if it is ordered, a table
 -- the alignments of its columns, a footnote definition its label's normal form. A text and an HTML line stand as they are in the text; an
 -- owned text is the spaces that are left of a tab. The texts of a
--- paragraph or heading are raw, with their line endings: what they say is for the inline pass to read
+-- paragraph or heading are raw, with their line endings: what they say is for the inline pass to read. A task marker stands before the
+-- paragraph or heading that it belongs to (GFM 5.3)
 pub data BlockKind : Type 0 where
   Paragraph : BlockKind
   TightParagraph : BlockKind
@@ -35,6 +36,7 @@ pub data BlockKind : Type 0 where
   BlockQuote : (alert : Option BlockQuoteKind) → BlockKind
   BlockList : (number : Option ℕ) → (tight : Bool) → BlockKind
   ListItem : BlockKind
+  TaskMarker : (is_checked : Bool) → BlockKind
   FootnoteDefinition : (label : List ℕ) → BlockKind
   Text : (bytes : List ℕ) → BlockKind
   OwnedText : (bytes : List ℕ) → BlockKind

@@ -5,7 +5,7 @@ use Rattle.cmark_grammar.specs.Leaves.{underlines}
 use Rattle.cmark_grammar.specs.Containers.{Container, Quote, Item, Footnote, keeps, is_bare_start, bare_after, insides}
 use Rattle.cmark_grammar.specs.Openings.{Leaf, ThematicBreak, AtxHeading, IndentedCode, FencedCode, HtmlBlock, LinkDefinition, MetadataBlock, Blank, Nests, Takes, Plain, opens_at, texts, lazily, Table}
 use Rattle.cmark_grammar.specs.Options.{Options}
-use Rattle.cmark_grammar.specs.Places.{Place, Apart, BehindLazy, BehindTitle, allows_lazy, over_blank}
+use Rattle.cmark_grammar.specs.Places.{Place, Apart, BehindLazy, BehindTask, BehindTitle, allows_lazy, over_blank}
 
 -- the blocks of some lines, in their order: each with its lines, behind the prefixes of the containers around it, and a
 -- container with what is inside it. List items stand side by side
@@ -41,7 +41,8 @@ behind_leaf (Table alignments) = Apart
 abbrev pub place_in : Container → Place
 place_in (Quote None) = Apart
 place_in (Quote (Some kind)) = BehindLazy
-place_in (Item mark number width) = Apart
+place_in (Item mark number width None) = Apart
+place_in (Item mark number width (Some is_checked)) = BehindTask
 place_in (Footnote label old size) = Apart
 
 -- where a line stands behind such a container

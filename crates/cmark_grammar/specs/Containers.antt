@@ -8,13 +8,14 @@ use Rattle.cmark_grammar.specs.Alerts.{alert_in}
 use Rattle.cmark_grammar.specs.Footnotes.{Footnotes, Off, Gfm, Old, footnotes_in, footnote_in, marker_columns}
 use Rattle.cmark_grammar.specs.LinkDefinitions.{Found}
 use Rattle.cmark_grammar.specs.Options.{Options}
+use Rattle.cmark_grammar.specs.TaskItems.{task_in, behind_box}
 
 -- a block quote, with its kind if it is an alert; a list item: its character (the bullet, or what stands behind the number), its number if it is
--- ordered, and the width of the prefix that its later lines have; or a footnote definition: the bytes of its label, whether it is read as such
+-- ordered, the width of the prefix that its later lines have, and whether its box is checked, if it has a task marker (GFM 5.3); or a footnote definition: the bytes of its label, whether it is read as such
 -- definitions were before, and how many columns its marker has, from `[^` to the colon (this profile's own)
 pub data Container : Type 0 where
   Quote : (alert : Option BlockQuoteKind) → Container
-  Item : (mark : ℕ) → (number : Option ℕ) → (width : ℕ) → Container
+  Item : (mark : ℕ) → (number : Option ℕ) → (width : ℕ) → (task : Option Bool) → Container
   Footnote : (label : List ℕ) → (old : Bool) → (size : ℕ) → Container
 
 abbrev pub is_bullet : ℕ → Bool
@@ -63,7 +64,7 @@ width_with size r = indent_of r + (size + padding (behind_marker size r))
 abbrev pub item_with : Row → Option Marker → Option Container
 item_with r None = None
 item_with r (Some m) =
-    if is_parted (drop m.size (words_of r)) && not (is_thematic_break (words_of r)) then Some (Item m.mark m.number (width_with m.size r)) else None
+    if is_parted (drop m.size (words_of r)) && not (is_thematic_break (words_of r)) then Some (Item m.mark m.number (width_with m.size r) None) else None
 
 abbrev pub item_of : Row → Option Container
 item_of r = item_with r (marker_of (words_of r))
@@ -104,25 +105,38 @@ abbrev pub footnote_or : Option Container → Option Container → Option Contai
 footnote_or (Some k) other = Some k
 footnote_or None other = other
 
+-- a task marker directly behind an item's own marker is the item's
+abbrev pub with_task : Options → Row → Option Container → Option Container
+with_task options r None = None
+with_task options r (Some (Quote alert)) = Some (Quote alert)
+with_task options r (Some (Item mark number width task)) = Some (Item mark number width (task_in options (without width r)))
+with_task options r (Some (Footnote label old size)) = Some (Footnote label old size)
+
 abbrev pub container_of : Options → Row → Option Container
-container_of options r = footnote_or (footnote_of (footnotes_in options) r) (container_with (item_of r) (is_quote r) (alert_in options (without (quote_width r) r)))
+container_of options r = footnote_or (footnote_of (footnotes_in options) r) (container_with (with_task options r (item_of r)) (is_quote r) (alert_in options (without (quote_width r) r)))
 
 abbrev pub is_alert : Container → Bool
 is_alert (Quote None) = false
 is_alert (Quote (Some kind)) = true
-is_alert (Item mark number width) = false
+is_alert (Item mark number width task) = false
 is_alert (Footnote label old size) = false
 
 -- the indent, the marker of a footnote definition and all blanks behind it
 abbrev pub footnote_width : (size : ℕ) → Row → ℕ
 footnote_width size r = indent_of r + (size + indent (behind_marker size r))
 
+-- how many columns of the first line a container's own marker takes, with what counts to it, and with an item's task marker
+abbrev pub marker_width : Container → Row → ℕ
+marker_width (Quote alert) r = quote_width r
+marker_width (Item mark number width task) r = width
+marker_width (Footnote label old size) r = footnote_width size r
+
 abbrev pub width_of : Container → Row → ℕ
 width_of (Quote alert) r = quote_width r
-width_of (Item mark number width) r = width
+width_of (Item mark number width task) r = behind_box task width
 width_of (Footnote label old size) r = footnote_width size r
 
--- a container's first line, behind the marker
+-- a container's first line, behind the marker, and behind an item's task marker
 unfoldable pub enter : Container → Row → Row
 enter k r = without (width_of k r) r
 
@@ -134,13 +148,13 @@ keep_footnote false r = if is_blank_line r || nat_le 4 (indent_of r) then Some (
 
 abbrev pub keep_as : Container → Row → Option Row
 keep_as (Quote alert) r = if is_quote r then Some (without (quote_width r) r) else None
-keep_as (Item mark number width) r = if is_blank_line r || nat_le width (indent_of r) then Some (without width r) else None
+keep_as (Item mark number width task) r = if is_blank_line r || nat_le width (indent_of r) then Some (without width r) else None
 keep_as (Footnote label old size) r = keep_footnote old r
 
 -- an item whose first line is blank behind the marker
 abbrev pub is_bare_start : Container → Row → Bool
 is_bare_start (Quote alert) first = false
-is_bare_start (Item mark number width) first = is_blank_line (enter (Item mark number width) first)
+is_bare_start (Item mark number width task) first = is_blank_line (enter (Item mark number width task) first)
 is_bare_start (Footnote label old size) first = false
 
 -- a later line behind the container's prefix, if it has the prefix. Bare: the line before was the blank first line of an

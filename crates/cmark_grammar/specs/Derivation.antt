@@ -1,11 +1,11 @@
 -- Which documents a text derives, by the block grammar: its lines are blocks, their lists are found and the text of their
 -- leaves is read.
-use Rattle.std.specs.Prelude.{◌≡◌, ℕ, Bool, true, false, if◌then◌else◌, List, [], ◌∷◌, length, Option, Some, None}
+use Rattle.std.specs.Prelude.{◌≡◌, ℕ, ◌+◌, Bool, true, false, if◌then◌else◌, List, [], ◌∷◌, length, Option, Some, None}
 use Rattle.cmark_grammar.specs.Answers.{Lookup}
 use Rattle.cmark_grammar.specs.Attributes.{no_attributes}
 use Rattle.cmark_grammar.specs.Options.{Options}
 use Rattle.cmark_grammar.specs.Places.{Apart}
-use Rattle.cmark_grammar.specs.Rows.{Row, rows, first_place, begin_of, start_of, past_of}
+use Rattle.cmark_grammar.specs.Rows.{Row, rows, without, first_place, begin_of, start_of, past_of}
 use Rattle.cmark_grammar.specs.Labels.{normal_form}
 use Rattle.cmark_grammar.specs.LinkDefinitions.{Definition}
 use Rattle.cmark_grammar.specs.Metadata.{ends_metadata}
@@ -15,8 +15,9 @@ use Rattle.cmark_grammar.specs.Blocks.{Blocks, Nil as NoBlocks, BlankLine, Parag
 use Rattle.cmark_grammar.specs.BlocksModel.{blocks}
 use Rattle.cmark_grammar.specs.Lists.{ListBefore, tight_behind, goes_on}
 use Rattle.cmark_grammar.specs.Tokens.{resolved, title_lines, paragraph_tokens, heading_tokens, heading_attributes, code_tokens, lines_before, fenced_lines, html_tokens, code_columns}
-use Rattle.cmark_grammar.specs.BlockDocument.{Reference, BlockKind, Paragraph, TightParagraph, Heading, ThematicBreak, IndentedCode, FencedCode, HtmlBlock, LinkDefinition, MetadataBlock, BlockQuote, BlockList, ListItem, FootnoteDefinition, BlockNode, BlockDocument, Nil, Node, node, Table}
+use Rattle.cmark_grammar.specs.BlockDocument.{Reference, BlockKind, Paragraph, TightParagraph, Heading, ThematicBreak, IndentedCode, FencedCode, HtmlBlock, LinkDefinition, MetadataBlock, BlockQuote, BlockList, ListItem, TaskMarker, FootnoteDefinition, BlockNode, BlockDocument, Nil, Node, node, Table}
 use Rattle.cmark_grammar.specs.TableTokens.{table_tokens}
+use Rattle.cmark_grammar.specs.TaskItems.{behind_box}
 
 -- where the last of these lines ends, without its line ending
 abbrev pub stop_of : Row → List Row → ℕ
@@ -63,6 +64,11 @@ item_then false number tight item inside after = new_list number tight item insi
 item_then true number tight item inside Nil = new_list number tight item inside Nil
 item_then true number tight item inside (Node list items after) = Node (node (BlockList number tight) item.start list.end) (Node item inside items) after
 
+-- a task marker, if an item has one, whose box stands between these places, before what else is inside the item
+abbrev pub task_then : Option Bool → (start end : ℕ) → BlockDocument → BlockDocument
+task_then None start end inside = inside
+task_then (Some is_checked) start end inside = Node (node (TaskMarker is_checked) start end) Nil inside
+
 abbrev pub paragraph_kind : (direct : Bool) → BlockKind
 paragraph_kind direct = if direct then TightParagraph else Paragraph
 
@@ -80,9 +86,10 @@ document_of text options lookup direct list (ContainerBlock (Quote alert) first 
     Node (node (BlockQuote alert) (start_of first) (past_of first more)) (document_of text options lookup false None inside) (document_of text options lookup direct None after)
 document_of text options lookup direct list (ContainerBlock (Footnote label old size) first more inside after) =
     Node (node (FootnoteDefinition (normal_form label)) (start_of first) (past_of first more)) (document_of text options lookup false None inside) (document_of text options lookup direct None after)
-document_of text options lookup direct list (ContainerBlock (Item mark number width) first more inside after) =
+document_of text options lookup direct list (ContainerBlock (Item mark number width task) first more inside after) =
     let tight = tight_behind list mark inside after in
-    item_then (goes_on mark after) number tight (node ListItem (begin_of first) (past_of first more)) (document_of text options lookup tight None inside)
+    item_then (goes_on mark after) number tight (node ListItem (begin_of first) (past_of first more))
+    (task_then task (begin_of (without width first)) (begin_of (without (behind_box task width) first)) (document_of text options lookup tight None inside))
     (document_of text options lookup direct (Some (record { mark = mark; tight = tight })) after)
 
 -- the text derives the document

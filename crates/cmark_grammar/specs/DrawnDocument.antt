@@ -1,7 +1,7 @@
 -- A document as a tree keeps it, and how much of it is read: link reference definitions stand in a table of their own, and whether
 -- a paragraph stands directly in an item of a tight list is seen from the list around it.
 use Rattle.std.specs.Prelude.{Bool, true, false, if◌then◌else◌}
-use Rattle.cmark_grammar.specs.BlockDocument.{BlockKind, Paragraph, TightParagraph, Heading, ThematicBreak, IndentedCode, FencedCode, HtmlBlock, LinkDefinition, MetadataBlock, BlockQuote, BlockList, ListItem, FootnoteDefinition, Text, OwnedText, Html, BlockNode, BlockDocument, Nil, Node, Table, TableHead, TableRow, TableCell}
+use Rattle.cmark_grammar.specs.BlockDocument.{BlockKind, Paragraph, TightParagraph, Heading, ThematicBreak, IndentedCode, FencedCode, HtmlBlock, LinkDefinition, MetadataBlock, BlockQuote, BlockList, ListItem, TaskMarker, FootnoteDefinition, Text, OwnedText, Html, BlockNode, BlockDocument, Nil, Node, Table, TableHead, TableRow, TableCell}
 use Rattle.cmark_grammar.specs.Tightness.{tight_within}
 
 abbrev pub is_definition : BlockKind → Bool
@@ -22,6 +22,7 @@ is_definition (BlockQuote alert) = false
 is_definition (FootnoteDefinition label) = false
 is_definition (BlockList number tight) = false
 is_definition ListItem = false
+is_definition (TaskMarker is_checked) = false
 is_definition (Text bytes) = false
 is_definition (OwnedText bytes) = false
 is_definition (Html bytes) = false
@@ -55,6 +56,7 @@ kind_within tight (BlockQuote alert) = BlockQuote alert
 kind_within tight (FootnoteDefinition label) = FootnoteDefinition label
 kind_within tight (BlockList number t) = BlockList number t
 kind_within tight ListItem = ListItem
+kind_within tight (TaskMarker is_checked) = TaskMarker is_checked
 kind_within tight (Text bytes) = Text bytes
 kind_within tight (OwnedText bytes) = OwnedText bytes
 kind_within tight (Html bytes) = Html bytes

@@ -13,7 +13,7 @@ ends_blank front so (SetextHeading level first more underline after) = ends_blan
 ends_blank front so (LeafBlock leaf first more after) = ends_blank false false after
 ends_blank front so (ContainerBlock (Quote alert) first more inside after) = ends_blank false false after
 ends_blank front so (ContainerBlock (Footnote label old size) first more inside after) = ends_blank false false after
-ends_blank front so (ContainerBlock (Item mark number width) first more inside after) = ends_blank false (ends_blank true false inside) after
+ends_blank front so (ContainerBlock (Item mark number width task) first more inside after) = ends_blank false (ends_blank true false inside) after
 
 -- what stands before a block in its container
 pub data Before : Type 0 where
@@ -41,7 +41,7 @@ parted before blank (SetextHeading level first more underline after) = blank || 
 parted before blank (LeafBlock leaf first more after) = blank || parted Other false after
 parted before blank (ContainerBlock (Quote alert) first more inside after) = blank || parted Other false after
 parted before blank (ContainerBlock (Footnote label old size) first more inside after) = blank || parted Other false after
-parted before blank (ContainerBlock (Item mark number width) first more inside after) =
+parted before blank (ContainerBlock (Item mark number width task) first more inside after) =
     (blank && not (is_list_of mark before)) || parted (ItemWith mark) (ends_blank true false inside) after
 
 -- whether an item contains two blocks with a blank line between them
@@ -57,7 +57,7 @@ loose_from mark blank (SetextHeading level first more underline after) = false
 loose_from mark blank (LeafBlock leaf first more after) = false
 loose_from mark blank (ContainerBlock (Quote alert) first more inside after) = false
 loose_from mark blank (ContainerBlock (Footnote label old size) first more inside after) = false
-loose_from mark blank (ContainerBlock (Item m number width) first more inside after) =
+loose_from mark blank (ContainerBlock (Item m number width task) first more inside after) =
     (m == mark) && (blank || (is_parted_item inside || loose_from mark (ends_blank true false inside) after))
 
 -- whether the list that begins with this item is tight: no blank line between two of its items, and none between two
@@ -74,7 +74,7 @@ goes_on mark (SetextHeading level first more underline after) = false
 goes_on mark (LeafBlock leaf first more after) = false
 goes_on mark (ContainerBlock (Quote alert) first more inside after) = false
 goes_on mark (ContainerBlock (Footnote label old size) first more inside after) = false
-goes_on mark (ContainerBlock (Item m number width) first more inside after) = m == mark
+goes_on mark (ContainerBlock (Item m number width task) first more inside after) = m == mark
 
 -- the list to which the item before belongs
 pub record ListBefore : Type 0 where

@@ -51,7 +51,7 @@ abbrev pub item_interrupts : (same : Bool) → Row → Option Container → Bool
 item_interrupts same r None = false
 item_interrupts same r (Some (Quote alert)) = false
 item_interrupts same r (Some (Footnote label old size)) = false
-item_interrupts same r (Some (Item mark number width)) = not same || (is_one number && not (is_blank_line (without width r)))
+item_interrupts same r (Some (Item mark number width task)) = not same || (is_one number && not (is_blank_line (without width r)))
 
 abbrev pub is_some_fence : Option Fence → Bool
 is_some_fence (Some fence) = true

@@ -1,7 +1,7 @@
 -- The ranges of a document's nodes.
 use Rattle.std.specs.Prelude.{◌≡◌, ℕ, suc, ◌+◌, ◌≤◌, List}
 use Rattle.cmark_grammar.specs.Tokens.{slice}
-use Rattle.cmark_grammar.specs.BlockDocument.{BlockKind, Paragraph, TightParagraph, Heading, ThematicBreak, IndentedCode, FencedCode, HtmlBlock, LinkDefinition, MetadataBlock, BlockQuote, BlockList, ListItem, FootnoteDefinition, Text, OwnedText, Html, BlockDocument, Nil, Node, Table, TableHead, TableRow, TableCell}
+use Rattle.cmark_grammar.specs.BlockDocument.{BlockKind, Paragraph, TightParagraph, Heading, ThematicBreak, IndentedCode, FencedCode, HtmlBlock, LinkDefinition, MetadataBlock, BlockQuote, BlockList, ListItem, TaskMarker, FootnoteDefinition, Text, OwnedText, Html, BlockDocument, Nil, Node, Table, TableHead, TableRow, TableCell}
 
 -- between these two places the nodes stand in order: none begins before the one before it has ended, and each holds what
 -- is inside it
@@ -47,6 +47,7 @@ IsSlice text (BlockQuote alert) start end = Unit {0}
 IsSlice text (FootnoteDefinition label) start end = Unit {0}
 IsSlice text (BlockList number tight) start end = Unit {0}
 IsSlice text ListItem start end = Unit {0}
+IsSlice text (TaskMarker is_checked) start end = Unit {0}
 IsSlice text (OwnedText bytes) start end = Unit {0}
 
 abbrev pub HasSlices : List ℕ → BlockDocument → Type 0

@@ -1,6 +1,6 @@
 -- The link reference definitions of a document: the first of each label counts (CommonMark 4.7).
 use Rattle.std.specs.Prelude.{ℕ, Bool, true, false, List, [], ◌∷◌, ◌++◌, bytes_eq, Option, Some, None, ◌≡◌}
-use Rattle.cmark_grammar.specs.BlockDocument.{Reference, BlockKind, Paragraph, TightParagraph, Heading, ThematicBreak, IndentedCode, FencedCode, HtmlBlock, LinkDefinition, MetadataBlock, BlockQuote, BlockList, ListItem, FootnoteDefinition, Text, OwnedText, Html, BlockDocument, Nil, Node, Table, TableHead, TableRow, TableCell}
+use Rattle.cmark_grammar.specs.BlockDocument.{Reference, BlockKind, Paragraph, TightParagraph, Heading, ThematicBreak, IndentedCode, FencedCode, HtmlBlock, LinkDefinition, MetadataBlock, BlockQuote, BlockList, ListItem, TaskMarker, FootnoteDefinition, Text, OwnedText, Html, BlockDocument, Nil, Node, Table, TableHead, TableRow, TableCell}
 
 abbrev pub reference_of_kind : BlockKind → List Reference
 reference_of_kind Paragraph = []
@@ -20,6 +20,7 @@ reference_of_kind (BlockQuote alert) = []
 reference_of_kind (FootnoteDefinition label) = []
 reference_of_kind (BlockList number tight) = []
 reference_of_kind ListItem = []
+reference_of_kind (TaskMarker is_checked) = []
 reference_of_kind (Text bytes) = []
 reference_of_kind (OwnedText bytes) = []
 reference_of_kind (Html bytes) = []

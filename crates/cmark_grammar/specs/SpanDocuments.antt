@@ -1,10 +1,11 @@
 -- The events that a text is read as: those of its blocks, with the spans of its leaves, and the questions that were put on the way.
-use Rattle.std.specs.Prelude.{◌≡◌, ℕ, Bool, true, false, ◌||◌, bytes_eq, if◌then◌else◌, List, [], ◌∷◌, ◌++◌}
+use Rattle.std.specs.Prelude.{◌≡◌, ℕ, Bool, true, false, ◌||◌, bytes_eq, if◌then◌else◌, List, [], ◌∷◌, ◌++◌, Option, Some, None}
 use Rattle.cmark_grammar.specs.Answers.{Lookup}
-use Rattle.cmark_grammar.specs.BlockDocument.{BlockKind, Paragraph, TightParagraph, Heading, TableCell, FootnoteDefinition, BlockNode, BlockDocument, Nil, Node}
-use Rattle.cmark_grammar.specs.BlockReading.{Reads, Around, Inside, Alone, Silent, read_as, over}
+use Rattle.cmark_grammar.specs.BlockDocument.{BlockKind, TableCell, FootnoteDefinition, BlockNode, BlockDocument, Nil, Node}
+pub use Rattle.cmark_grammar.specs.BlockReading.{is_leaf}
+use Rattle.cmark_grammar.specs.BlockReading.{Reads, Around, Inside, Alone, First, Silent, read_as, over, first_event, begins_element}
 use Rattle.cmark_grammar.specs.Derivation.{Derives}
-use Rattle.cmark_grammar.specs.Event.{Start, End, Ranged}
+use Rattle.cmark_grammar.specs.Event.{Event, Start, End, Ranged}
 use Rattle.cmark_grammar.specs.Labels.{fold}
 use Rattle.cmark_grammar.specs.LeafReading.{Between, ReadsLeaf}
 use Rattle.cmark_grammar.specs.LeafText.{Stretch, Leaf}
@@ -63,15 +64,6 @@ is_cell _ = false
 abbrev pub leaf_of : BlockKind → (content : BlockDocument) → Leaf
 leaf_of kind content = record { stretches = stretches_of content; is_cell = is_cell kind }
 
--- paragraphs, headings and the cells of tables are leaves that are read; all other text, as that of code and of HTML blocks, stands as
--- it is
-abbrev pub is_leaf : BlockKind → Bool
-is_leaf Paragraph = true
-is_leaf TightParagraph = true
-is_leaf (Heading level attributes) = true
-is_leaf TableCell = true
-is_leaf _ = false
-
 abbrev pub inside_of : BlockKind → (content : BlockDocument) → (others : List Segment) → List Segment
 inside_of kind content others = if is_leaf kind then Content (leaf_of kind content) ∷ [] else others
 
@@ -79,11 +71,23 @@ abbrev pub node_segments : Reads → BlockNode → List Segment → List Segment
 node_segments (Around tag) node inside = Given (over node (Start tag)) ∷ (inside ++ (Given (over node (End (end_of tag))) ∷ []))
 node_segments Inside node inside = inside
 node_segments (Alone event) node inside = Given (over node event) ∷ []
+node_segments (First event) node inside = []
 node_segments Silent node inside = []
+
+-- an event stands first in the paragraph or heading that begins behind it; where none does, as in a tight list, before the leaf
+abbrev pub first_of_segments : (element : Bool) → Segment → List Segment → List Segment
+first_of_segments true first (s ∷ others) = s ∷ (first ∷ others)
+first_of_segments true first [] = first ∷ []
+first_of_segments false first others = first ∷ others
+
+abbrev pub with_first_segment : Option Event → (element : Bool) → BlockNode → List Segment → List Segment
+with_first_segment None element node others = others
+with_first_segment (Some event) element node others = first_of_segments element (Given (over node event)) others
 
 abbrev pub segments : BlockDocument → List Segment
 segments Nil = []
-segments (Node node inside after) = node_segments (read_as node.kind) node (inside_of node.kind inside (segments inside)) ++ segments after
+segments (Node node inside after) =
+    with_first_segment (first_event (read_as node.kind)) (begins_element after) node (node_segments (read_as node.kind) node (inside_of node.kind inside (segments inside)) ++ segments after)
 
 -- the segments are read as these events, leaf after leaf, where the questions may get these answers
 abbrev pub ReadsAll : Reader → Saying → List Segment → (before : Between) → List Ranged → (after : Between) → Type 0

@@ -1,5 +1,5 @@
 -- Where a task marker stands: directly behind an item's own marker (GFM 5.3).
-use Rattle.std.specs.Prelude.{Bool, ◌==◌, ◌&&◌, if◌then◌else◌, Option, None}
+use Rattle.std.specs.Prelude.{ℕ, ◌+◌, Bool, ◌==◌, ◌&&◌, if◌then◌else◌, Option, Some, None}
 use Rattle.cmark_grammar.specs.Options.{Options}
 use Rattle.cmark_grammar.specs.Rows.{Row, indent_of, words_of}
 use Rattle.cmark_grammar.specs.TaskMarkers.{task_of}
@@ -7,3 +7,8 @@ use Rattle.cmark_grammar.specs.TaskMarkers.{task_of}
 -- whether the box is checked with which a line begins, where task markers are asked for; no blank stands in front of it
 abbrev pub task_in : Options → Row → Option Bool
 task_in options r = if options.tasklists && (indent_of r == 0) then task_of (words_of r) else None
+
+-- the width of an item's marker with the three columns of its task marker, if it has one
+abbrev pub behind_box : Option Bool → (width : ℕ) → ℕ
+behind_box None width = width
+behind_box (Some is_checked) width = width + 3

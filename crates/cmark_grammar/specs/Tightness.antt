@@ -1,11 +1,12 @@
 -- Paragraphs of tight lists (CommonMark 5.3).
 use Rattle.std.specs.Prelude.{◌≡◌, Bool, true, false}
-use Rattle.cmark_grammar.specs.BlockDocument.{BlockKind, Paragraph, TightParagraph, Heading, ThematicBreak, IndentedCode, FencedCode, HtmlBlock, LinkDefinition, MetadataBlock, BlockQuote, BlockList, ListItem, FootnoteDefinition, Text, OwnedText, Html, BlockDocument, Nil, Node, Table, TableHead, TableRow, TableCell}
+use Rattle.cmark_grammar.specs.BlockDocument.{BlockKind, Paragraph, TightParagraph, Heading, ThematicBreak, IndentedCode, FencedCode, HtmlBlock, LinkDefinition, MetadataBlock, BlockQuote, BlockList, ListItem, TaskMarker, FootnoteDefinition, Text, OwnedText, Html, BlockDocument, Nil, Node, Table, TableHead, TableRow, TableCell}
 
 -- whether what is inside such a node stands in items of a tight list, or directly in one
 abbrev pub tight_within : Bool → BlockKind → Bool
 tight_within tight (BlockList number t) = t
 tight_within tight ListItem = tight
+tight_within tight (TaskMarker is_checked) = false
 tight_within tight Paragraph = false
 tight_within tight TightParagraph = false
 tight_within tight (Heading level attributes) = false
@@ -44,6 +45,7 @@ IsElement tight (BlockQuote alert) = Unit {0}
 IsElement tight (FootnoteDefinition label) = Unit {0}
 IsElement tight (BlockList number t) = Unit {0}
 IsElement tight ListItem = Unit {0}
+IsElement tight (TaskMarker is_checked) = Unit {0}
 IsElement tight (Text bytes) = Unit {0}
 IsElement tight (OwnedText bytes) = Unit {0}
 IsElement tight (Html bytes) = Unit {0}

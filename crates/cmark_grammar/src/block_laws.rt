@@ -15,6 +15,7 @@ ghost use Rattle.cmark_grammar.specs.Places.{Apart};
 ghost use Rattle.cmark_grammar.specs.Ranges.{AllAt, HasSlices, InOrder, count_nodes, count_tables};
 ghost use Rattle.cmark_grammar.specs.References.{EachOnce, first_with, table};
 ghost use Rattle.cmark_grammar.specs.Rows.{rows};
+ghost use Rattle.cmark_grammar.specs.TableShape.{HasRectangularTables};
 ghost use Rattle.cmark_grammar.specs.Tightness.{HasTightParagraphs};
 
 /// The model's blocks are the blocks of the text's lines.
@@ -59,6 +60,12 @@ pub fn lines_give_the_blocks()
 pub fn tight_lists_have_tight_paragraphs()
     ensures { (text : List ℕ) (options : Options) (lookup : Lookup) (document : BlockDocument)
         → Derives text options lookup document → HasTightParagraphs false document }
+{}
+
+/// Each table has a head and rows, and each of these has as many cells as the table has alignments (GFM 4.10).
+pub fn tables_are_rectangular()
+    ensures { (text : List ℕ) (options : Options) (lookup : Lookup) (document : BlockDocument)
+        → Derives text options lookup document → HasRectangularTables document }
 {}
 
 /// The first definition of a folded label stays: the table answers for each label as the list of all definitions does.

@@ -16,38 +16,44 @@ moved_all-more : (w : Writing) (es : List GrammarEvent) (e : GrammarEvent) → m
 moved_all-more w [] e = refl
 moved_all-more w (x ∷ es) e = moved_all-more (moved w x) es e
 
+-- events of the grammar, and one more
+module _ (w : Writing) (es : List GrammarEvent) (e : GrammarEvent) (state : w ≡ moved_all at_line_start es) where
+  piece-on : pieces es ++ piece w e ≡ pieces (es ++ e ∷ [])
+  piece-on = ap (λ v. pieces es ++ piece v e) state ∙ sym (pieces_from-more at_line_start es e)
+
+  -- what is kept behind one event more
+  pub kept_on : (next : Writing) → next ≡ moved w e → next ≡ moved_all at_line_start (es ++ e ∷ [])
+  kept_on next is = is ∙ ap (λ v. moved v e) state ∙ sym (moved_all-more at_line_start es e)
+
+  -- the bytes then
+  pub written_on : (old mid new : List ℕ) → mid ≡ old ++ pieces es → new ≡ mid ++ piece w e → new ≡ old ++ pieces (es ++ e ∷ [])
+  written_on old mid new before more = more ∙ ap (λ l. l ++ piece w e) before ∙ append_assoc old (pieces es) (piece w e) ∙ ap (λ l. old ++ l) piece-on
+
+  -- the same, where only a beginning of its piece was appended
+  pub front_on : (old mid new : List ℕ) → mid ≡ old ++ pieces es → AppendsFront mid new (piece w e) → AppendsFront old new (pieces (es ++ e ∷ []))
+  front_on old mid new before front = subst (AppendsFront old new) piece-on (front_after old mid new (pieces es) (piece w e) before front)
+
+-- behind the last event
+module _ (w : Writing) (es : List GrammarEvent) (old mid new : List ℕ) (before : mid ≡ old ++ pieces es) (state : w ≡ moved_all at_line_start es) where
+  pub written_end : new ≡ mid ++ last_piece w.image → new ≡ old ++ html es
+  written_end more = more ∙ ap (λ l. l ++ last_piece w.image) before ∙ append_assoc old (pieces es) (last_piece w.image) ∙ ap (λ v. old ++ (pieces es ++ last_piece (Writing.image v))) state
+
+  pub front_end : AppendsFront mid new (last_piece w.image) → AppendsFront old new (html es)
+  front_end front = subst (λ v. AppendsFront old new (pieces es ++ last_piece (Writing.image v))) state (front_after old mid new (pieces es) (last_piece w.image) before front)
+
+-- the same of events as the code has them
 module _ (w : Writing) (es : List Event) (e : Event) where
   shown-more : map shown (es ++ e ∷ []) ≡ map shown es ++ shown e ∷ []
   shown-more = map_push shown es e
 
-  piece-same : w ≡ moved_all at_line_start (map shown es) → pieces (map shown es) ++ piece w (shown e) ≡ pieces (map shown (es ++ e ∷ []))
-  piece-same state =
-      ap (λ v. pieces (map shown es) ++ piece v (shown e)) state ∙ sym (pieces_from-more at_line_start (map shown es) (shown e)) ∙ ap pieces (sym shown-more)
-
-  -- what is kept behind one event more
   pub kept_more : (next : Writing) → w ≡ moved_all at_line_start (map shown es) → next ≡ moved w (shown e) → next ≡ moved_all at_line_start (map shown (es ++ e ∷ []))
-  kept_more next state is = is ∙ ap (λ v. moved v (shown e)) state ∙ sym (moved_all-more at_line_start (map shown es) (shown e)) ∙ ap (moved_all at_line_start) (sym shown-more)
+  kept_more next state is = kept_on w (map shown es) (shown e) state next is ∙ ap (moved_all at_line_start) (sym shown-more)
 
-  -- the bytes then
   pub written_more : (old mid new : List ℕ) → mid ≡ old ++ pieces (map shown es) → w ≡ moved_all at_line_start (map shown es) → new ≡ mid ++ piece w (shown e) → new ≡ old ++ pieces (map shown (es ++ e ∷ []))
-  written_more old mid new before state more =
-      more ∙ ap (λ l. l ++ piece w (shown e)) before ∙ append_assoc old (pieces (map shown es)) (piece w (shown e)) ∙ ap (λ l. old ++ l) (piece-same state)
+  written_more old mid new before state more = written_on w (map shown es) (shown e) state old mid new before more ∙ ap (λ l. old ++ pieces l) (sym shown-more)
 
-  -- the same, where only a beginning of its piece was appended
   pub front_more : (old mid new : List ℕ) → mid ≡ old ++ pieces (map shown es) → w ≡ moved_all at_line_start (map shown es) → AppendsFront mid new (piece w (shown e)) → AppendsFront old new (pieces (map shown (es ++ e ∷ [])))
-  front_more old mid new before state front = subst (AppendsFront old new) (piece-same state) (front_after old mid new (pieces (map shown es)) (piece w (shown e)) before front)
-
--- behind the last event
-module _ (w : Writing) (es : List Event) (old mid new : List ℕ) (before : mid ≡ old ++ pieces (map shown es)) (state : w ≡ moved_all at_line_start (map shown es)) where
-  pub written_all : new ≡ mid ++ last_piece w.image → new ≡ old ++ html (map shown es)
-  written_all more =
-      more ∙ ap (λ l. l ++ last_piece w.image) before ∙ append_assoc old (pieces (map shown es)) (last_piece w.image)
-      ∙ ap (λ v. old ++ (pieces (map shown es) ++ last_piece (Writing.image v))) state
-
-  pub front_last : AppendsFront mid new (last_piece w.image) → AppendsFront old new (html (map shown es))
-  front_last front =
-      subst (λ v. AppendsFront old new (pieces (map shown es) ++ last_piece (Writing.image v))) state
-      (front_after old mid new (pieces (map shown es)) (last_piece w.image) before front)
+  front_more old mid new before state front = subst (λ l. AppendsFront old new (pieces l)) (sym shown-more) (front_on w (map shown es) (shown e) state old mid new before front)
 
 -- the items given, with one event more
 pub given_more : {E : Type 0} (items : List (Result Event E)) (item : Result Event E) (es : List Event) (e : Event) → items ≡ map Ok es → item ≡ Ok e → items ++ item ∷ [] ≡ map Ok (es ++ e ∷ [])

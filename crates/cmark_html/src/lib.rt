@@ -18,8 +18,8 @@ mod state;
 mod table;
 mod writer;
 
-use crate::state::Writer;
-use crate::writer::{finish, write_event};
+pub use crate::state::Writer;
+pub use crate::writer::{finish, write_event, write_soft_break, write_text};
 use cmark_text::Event;
 use std::alloc::AllocError;
 

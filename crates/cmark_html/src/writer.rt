@@ -2,6 +2,7 @@
 
 ghost use Rattle.std.specs.Prelude.{◌≡◌, ◌++◌, true, IfOk, OnOk, OnErr, None, codes, is_some, option_map, string_bytes};
 ghost use Rattle.cmark_grammar.specs.Escapes.{escaped_body_text, escaped_html};
+ghost use Rattle.cmark_grammar.specs.Event.{SoftBreak, Text};
 ghost use Rattle.cmark_grammar.specs.Html.{piece, piece_outside, moved, moved_outside, metadata_after, table_after, table_after_start, names_after, names_after_start, names_after_inside, opened_by, opened_image, last_piece, line_start_after, line_start_after_html, ends_in_line_feed, task_list_marker};
 ghost use Rattle.cmark_text.specs.Appended.{AppendsFront};
 ghost use Rattle.cmark_text.specs.Shown.{shown, shown_tag};
@@ -15,7 +16,7 @@ use crate::start::{append_start, line_start_after_start};
 use crate::state::{OpenImage, Writer};
 use crate::table::TableState;
 use cmark_text::escape::escape_html_body_text;
-use cmark_text::{Event, Tag, TagEnd};
+use cmark_text::{CowStr, Event, Tag, TagEnd};
 use std::alloc::AllocError;
 
 /// Appends the piece of an event.
@@ -74,6 +75,43 @@ fn write_in_image<'a>(
     writer.image = write_inside(out, image, &writer.names, &event)?;
     writer.line_start = false;
     keep_inside(&mut writer.names, event)
+}
+
+/// Appends the piece of a text.
+#[inline(always)]
+pub fn write_text<'a>(
+    out: &mut String,
+    writer: &mut Writer<'a>,
+    text: &'a str,
+) -> Result<(), AllocError>
+    ensures ok { OnOk result (string_bytes out.new ≡ string_bytes out.old ++ piece (writing writer.old) (Text text.entry.now)) }
+    ensures state { OnOk result (writing writer.new ≡ moved (writing writer.old) (Text text.entry.now)) }
+    ensures err { OnErr result (AppendsFront (string_bytes out.old) (string_bytes out.new) (piece (writing writer.old) (Text text.entry.now))) }
+{
+    if writer.image.is_some() {
+        return write_in_image(out, writer, Event::Text(CowStr::Borrowed(text)));
+    }
+    if writer.in_metadata {
+        return Ok(());
+    }
+    escape_html_body_text(out, text)?;
+    writer.line_start = ends_in_line_feed(text);
+    Ok(())
+}
+
+/// Appends the piece of a soft line break.
+#[inline(always)]
+pub fn write_soft_break<'a>(out: &mut String, writer: &mut Writer<'a>) -> Result<(), AllocError>
+    ensures ok { OnOk result (string_bytes out.new ≡ string_bytes out.old ++ piece (writing writer.old) SoftBreak) }
+    ensures state { OnOk result (writing writer.new ≡ moved (writing writer.old) SoftBreak) }
+    ensures err { OnErr result (AppendsFront (string_bytes out.old) (string_bytes out.new) (piece (writing writer.old) SoftBreak)) }
+{
+    if writer.image.is_some() {
+        return write_in_image(out, writer, Event::SoftBreak);
+    }
+    append(out, "\n")?;
+    writer.line_start = true;
+    Ok(())
 }
 
 /// Keeps what an event inside of an image says.

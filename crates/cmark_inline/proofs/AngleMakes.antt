@@ -11,7 +11,7 @@ use Rattle.cmark_grammar.specs.Lines.{is_content}
 use Rattle.cmark_grammar.specs.Options.{Options}
 use Rattle.cmark_grammar.specs.Tags.{behind_tag, no_prefix}
 use Rattle.cmark_grammar.specs.Tokens.{slice}
-use Rattle.cmark_leaf_text.specs.Reads.{IsPart, text_of}
+use Rattle.cmark_leaf_text.specs.Reads.{IsPart, is_cell_of, text_of}
 use Rattle.cmark_leaf_text.specs.declared.leaf_text.LeafText.{LeafText}
 use Rattle.cmark_scan_parts.proofs.Endings.{tag-behind}
 use Rattle.cmark_inline.specs.FoundInSource.{IsTag, IsFound, FindsNone, ReadsLess}
@@ -46,6 +46,9 @@ module _ (text : List ℕ) (at end : ℕ) (le : end ≤ length text) (found : be
   tag-reads-on = read-on-content text end le tag-end.0 (ap (λ b. not (is_content b)) tag-end.1)
 
 module _ (o : Options) (l : Lookup) (leaf : LeafText) (here : Cursor) (old new : InlineState) (next : Cursor) where
+  abbrev cell : Bool
+  cell = is_cell_of leaf
+
   abbrev text : List ℕ
   text = text_of leaf
 
@@ -56,7 +59,7 @@ module _ (o : Options) (l : Lookup) (leaf : LeafText) (here : Cursor) (old new :
         → new ≡ record old { slots = new.slots; links = new.links }
         → ReadsLess o l leaf here old new next
     autolink-made end value part places slots link others = inr (inl (record {
-      token = less-autolink o l text here.at lt is end slash value part.within ∙ ap (λ e. item_at (Autolink (slice text (here.at + 1) (e - 1))) here.at e) (sym places.1);
+      token = less-autolink o l cell text here.at lt is end slash value part.within ∙ ap (λ e. item_at (Autolink (slice text (here.at + 1) (e - 1))) here.at e) (sym places.1);
       pending = places.0 ∙ sym places.1;
       slots = subst (λ e. PutsAutolink (length old.links.items) here.pending here.at e old.slots.items new.slots.items) (sym places.1) slots;
       parts = link.0;
@@ -72,7 +75,7 @@ module _ (o : Options) (l : Lookup) (leaf : LeafText) (here : Cursor) (old new :
           let end : ℕ = found.end in
           let some = part.some in
           let bytes : List ℕ = slice text here.at end in
-          let its : ItemKind = tag_kind (reading o l text) (whole text) bytes in
+          let its : ItemKind = tag_kind (reading o l text) (whole cell text) bytes in
           let closes : behind_tag no_prefix (drop here.at text) ≡ Some (drop end text) = sym (tag-find text here.at lt is tag.opens) ∙ tag.closes in
           let to : next.at ≡ end = at ∙ tag-reads-on text here.at end part.within closes in
           inr (inr (inl (record {
@@ -82,12 +85,12 @@ module _ (o : Options) (l : Lookup) (leaf : LeafText) (here : Cursor) (old new :
             behind = behind;
             before = omega arith;
             blanks = λ k le high. absurd (omega (arith, le, high));
-            token = less-html o l text here.at lt is slash none tag.opens end (sym closes) (let q : here.at ≤ end = omega (arith, some) in q) part.within ∙ ap (Stands (record { kind = its; start = here.at; end = end })) (sym to);
+            token = less-html o l cell text here.at lt is slash none tag.opens end (sym closes) (let q : here.at ≤ end = omega (arith, some) in q) part.within ∙ ap (Stands (record { kind = its; start = here.at; end = end })) (sym to);
             pending = pending;
             slots = slots;
             owned = [];
-            texts = no-texts o l text here old new next others;
-            is = record { start = refl; end = refl; says = subst (Says text new.texts.items here.at end its) (sym tag.kind_is) (html-says o l text here.at lt is new.texts.items end) };
+            texts = no-texts o l cell text here old new next others;
+            is = record { start = refl; end = refl; says = subst (Says cell text new.texts.items here.at end its) (sym tag.kind_is) (html-says o l cell text here.at lt is new.texts.items end) };
             others = slots-alone old new others;
           })))
 
@@ -111,8 +114,8 @@ module _ (o : Options) (l : Lookup) (leaf : LeafText) (here : Cursor) (old new :
             others = others;
           }))))
           by false e =
-              inr (inr (inl (own-appends o l text here old new next here.at end behind
-              (less-own o l text here.at lt is slash none e (sym (finds.tag e) ∙ tag-find text here.at lt is e) ∙ ap (item_at Own here.at) (sym is-next)) at pending slots others)))
+              inr (inr (inl (own-appends o l cell text here old new next here.at end behind
+              (less-own o l cell text here.at lt is slash none e (sym (finds.tag e) ∙ tag-find text here.at lt is e) ∙ ap (item_at Own here.at) (sym is-next)) at pending slots others)))
 
 -- ## In a text that is the leaf's
 module _ (o : Options) (l : Lookup) (leaf : LeafText) (here : Cursor) (old new : InlineState) (next : Cursor) where

@@ -49,67 +49,67 @@ module _ (bs : List ℕ) (none : opens_markup bs ≡ false) where
       ap (λ z. if z then behind_opened (opened_in (drop 2 (60 ∷ bs))) else if starts (codes "<?") (60 ∷ bs) then behind_first (codes "?>") (drop 2 (60 ∷ bs)) else behind_tag no_prefix (60 ∷ bs)) starts-one
       ∙ ap (λ z. if z then behind_first (codes "?>") (drop 2 (60 ∷ bs)) else behind_tag no_prefix (60 ∷ bs)) starts-two
 
-module _ (o : Options) (l : Lookup) (text : List ℕ) (at : ℕ) (lt : at < length text) (is : get_or text at 0 ≡ 60) where
+module _ (o : Options) (l : Lookup) (cell : Bool) (text : List ℕ) (at : ℕ) (lt : at < length text) (is : get_or text at 0 ≡ 60) where
   next-is : drop (suc at) text ≡ drop (at + 1) text
   next-is = ap (λ k. drop k text) (let q : suc at ≡ at + 1 = omega arith in q)
 
   abbrev others : Token
-  others = markup_or (reading o l text) (whole text) at (behind_markup (source_from (reading o l text) (whole text) at)) (tag_or_text (reading o l text) (whole text) at (behind_tag no_prefix (from (reading o l text) (whole text) at)))
+  others = markup_or (reading o l text) (whole cell text) at (behind_markup (source_from (reading o l text) (whole cell text) at)) (tag_or_text (reading o l text) (whole cell text) at (behind_tag no_prefix (from (reading o l text) (whole cell text) at)))
 
   abbrev by_slash : Bool → List ℕ → Token
-  by_slash z rest = if z then item_at Plain at (suc at) else autolink_or (reading o l text) (whole text) at (autolink_in rest) others
+  by_slash z rest = if z then item_at Plain at (suc at) else autolink_or (reading o l text) (whole cell text) at (autolink_in rest) others
 
-  less-begins : begins_at o l text at ≡ by_slash (first_is (λ c. c == 92) (drop (at + 1) text)) (drop (at + 1) text)
-  less-begins = begins-with o l text at 60 lt is ∙ ap (λ rest. by_slash (first_is (λ c. c == 92) rest) rest) next-is
+  less-begins : begins_at o l cell text at ≡ by_slash (first_is (λ c. c == 92) (drop (at + 1) text)) (drop (at + 1) text)
+  less-begins = begins-with o l cell text at 60 lt is ∙ ap (λ rest. by_slash (first_is (λ c. c == 92) rest) rest) next-is
 
   -- before a backslash
-  pub less-plain : first_is (λ c. c == 92) (drop (at + 1) text) ≡ true → begins_at o l text at ≡ item_at Plain at (at + 1)
+  pub less-plain : first_is (λ c. c == 92) (drop (at + 1) text) ≡ true → begins_at o l cell text at ≡ item_at Plain at (at + 1)
   less-plain e = less-begins ∙ ap (λ z. by_slash z (drop (at + 1) text)) e ∙ ap (item_at Plain at) (let q : suc at ≡ at + 1 = omega arith in q)
 
-  place-is : (end : ℕ) → end ≤ length text → place_of (reading o l text) (whole text) (drop end text) ≡ end
+  place-is : (end : ℕ) → end ≤ length text → place_of (reading o l text) (whole cell text) (drop end text) ≡ end
   place-is end le = let d = length-drop end text in let q : length text - length (drop end text) ≡ end = omega (arith, d, le) in q
 
   pub less-autolink : (end : ℕ) → first_is (λ c. c == 92) (drop (at + 1) text) ≡ false → Some (shown_autolink text at end) ≡ autolink_in (drop (at + 1) text) → end ≤ length text
-      → begins_at o l text at ≡ item_at (Autolink (slice text (at + 1) (end - 1))) at end
+      → begins_at o l cell text at ≡ item_at (Autolink (slice text (at + 1) (end - 1))) at end
   less-autolink end e found le =
-      less-begins ∙ ap (λ z. by_slash z (drop (at + 1) text)) e ∙ ap (λ m. autolink_or (reading o l text) (whole text) at m others) (sym found)
+      less-begins ∙ ap (λ z. by_slash z (drop (at + 1) text)) e ∙ ap (λ m. autolink_or (reading o l text) (whole cell text) at m others) (sym found)
       ∙ ap (item_at (Autolink (slice text (at + 1) (end - 1))) at) (place-is end le)
 
   module _ (slash : first_is (λ c. c == 92) (drop (at + 1) text) ≡ false) (link : None ≡ autolink_in (drop (at + 1) text)) (opens : opens_markup (drop (at + 1) text) ≡ false) where
-    source-is : source_from (reading o l text) (whole text) at ≡ 60 ∷ drop (suc at) text
-    source-is = ap (slice text at) (let q : length text - 0 ≡ length text = omega arith in q) ∙ rest_of text at ∙ front o l text at 60 lt is
+    source-is : source_from (reading o l text) (whole cell text) at ≡ 60 ∷ drop (suc at) text
+    source-is = ap (slice text at) (let q : length text - 0 ≡ length text = omega arith in q) ∙ rest_of text at ∙ front o l cell text at 60 lt is
 
     none-opens : opens_markup (drop (suc at) text) ≡ false
     none-opens = ap opens_markup next-is ∙ opens
 
-    less-tag : begins_at o l text at ≡ tag_or_text (reading o l text) (whole text) at (behind_tag no_prefix (drop at text))
+    less-tag : begins_at o l cell text at ≡ tag_or_text (reading o l text) (whole cell text) at (behind_tag no_prefix (drop at text))
     less-tag =
-        less-begins ∙ ap (λ z. by_slash z (drop (at + 1) text)) slash ∙ ap (λ m. autolink_or (reading o l text) (whole text) at m others) (sym link)
-        ∙ ap (λ m. markup_or (reading o l text) (whole text) at m (tag_or_text (reading o l text) (whole text) at (behind_tag no_prefix (from (reading o l text) (whole text) at)))) (ap behind_markup source-is ∙ no-markup (drop (suc at) text) none-opens)
-        ∙ ap (λ x. tag_or_text (reading o l text) (whole text) at (behind_tag no_prefix x)) (from-is o l text at)
+        less-begins ∙ ap (λ z. by_slash z (drop (at + 1) text)) slash ∙ ap (λ m. autolink_or (reading o l text) (whole cell text) at m others) (sym link)
+        ∙ ap (λ m. markup_or (reading o l text) (whole cell text) at m (tag_or_text (reading o l text) (whole cell text) at (behind_tag no_prefix (from (reading o l text) (whole cell text) at)))) (ap behind_markup source-is ∙ no-markup (drop (suc at) text) none-opens)
+        ∙ ap (λ x. tag_or_text (reading o l text) (whole cell text) at (behind_tag no_prefix x)) (from-is o l cell text at)
 
-    pub less-own : None ≡ behind_tag no_prefix (drop at text) → begins_at o l text at ≡ item_at Own at (at + 1)
-    less-own none = less-tag ∙ ap (tag_or_text (reading o l text) (whole text) at) (sym none) ∙ ap (item_at Own at) (let q : suc at ≡ at + 1 = omega arith in q)
+    pub less-own : None ≡ behind_tag no_prefix (drop at text) → begins_at o l cell text at ≡ item_at Own at (at + 1)
+    less-own none = less-tag ∙ ap (tag_or_text (reading o l text) (whole cell text) at) (sym none) ∙ ap (item_at Own at) (let q : suc at ≡ at + 1 = omega arith in q)
 
     pub less-html : (end : ℕ) → Some (drop end text) ≡ behind_tag no_prefix (drop at text) → at ≤ end → end ≤ length text
-        → begins_at o l text at ≡ item_at (tag_kind (reading o l text) (whole text) (slice text at end)) at end
+        → begins_at o l cell text at ≡ item_at (tag_kind (reading o l text) (whole cell text) (slice text at end)) at end
     less-html end found low le =
-        let a = ap length (from-is o l text at) in let b = length-drop at text in let d = length-drop end text in
-        less-tag ∙ ap (tag_or_text (reading o l text) (whole text) at) (sym found)
-        ∙ ap (λ x. item_at (tag_kind (reading o l text) (whole text) (take (size_to (reading o l text) (whole text) at (drop end text)) x)) at (place_of (reading o l text) (whole text) (drop end text))) (from-is o l text at)
-        ∙ ap (λ n. item_at (tag_kind (reading o l text) (whole text) (take n (drop at text))) at (place_of (reading o l text) (whole text) (drop end text))) (let q : size_to (reading o l text) (whole text) at (drop end text) ≡ end - at = omega (arith, a, b, d, low, le) in q)
-        ∙ ap (item_at (tag_kind (reading o l text) (whole text) (slice text at end)) at) (place-is end le)
+        let a = ap length (from-is o l cell text at) in let b = length-drop at text in let d = length-drop end text in
+        less-tag ∙ ap (tag_or_text (reading o l text) (whole cell text) at) (sym found)
+        ∙ ap (λ x. item_at (tag_kind (reading o l text) (whole cell text) (take (size_to (reading o l text) (whole cell text) at (drop end text)) x)) at (place_of (reading o l text) (whole cell text) (drop end text))) (from-is o l cell text at)
+        ∙ ap (λ n. item_at (tag_kind (reading o l text) (whole cell text) (take n (drop at text))) at (place_of (reading o l text) (whole cell text) (drop end text))) (let q : size_to (reading o l text) (whole cell text) at (drop end text) ≡ end - at = omega (arith, a, b, d, low, le) in q)
+        ∙ ap (item_at (tag_kind (reading o l text) (whole cell text) (slice text at end)) at) (place-is end le)
 
-  pub html-says : (texts : List CowStr) (end : ℕ) → Says text texts at end (tag_kind (reading o l text) (whole text) (slice text at end)) kind.InlineHtml
+  pub html-says : (texts : List CowStr) (end : ℕ) → Says cell text texts at end (tag_kind (reading o l text) (whole cell text) (slice text at end)) kind.InlineHtml
   html-says texts end = go (takes_lines (slice text at end))
     where
-      go : (z : Bool) → Says text texts at end (if z then OwnedHtml (slice text at end) else Html) kind.InlineHtml
+      go : (z : Bool) → Says cell text texts at end (if z then OwnedHtml (slice text at end) else Html) kind.InlineHtml
       go true = refl
       go false = tt
 
 -- the find of a tag where nothing else opens
 pub tag-find : (text : List ℕ) (at : ℕ) → at < length text → get_or text at 0 ≡ 60 → opens_markup (drop (at + 1) text) ≡ false → behind_inline_html (drop at text) ≡ behind_tag no_prefix (drop at text)
 tag-find text at lt is none =
-    let f : drop at text ≡ 60 ∷ drop (suc at) text = front no_options (λ name. None) text at 60 lt is in
+    let f : drop at text ≡ 60 ∷ drop (suc at) text = front no_options (λ name. None) false text at 60 lt is in
     let e : opens_markup (drop (suc at) text) ≡ false = ap (λ k. opens_markup (drop k text)) (let q : suc at ≡ at + 1 = omega arith in q) ∙ none in
     ap behind_inline_html f ∙ tag-alone (drop (suc at) text) e ∙ ap (behind_tag no_prefix) (sym f)

@@ -1,15 +1,16 @@
 -- Slots that stand for the item that begins where they were appended.
 use Rattle.std.specs.Prelude.{Option, Some, None, option_map, if◌then◌else◌, slice_get, encode_utf8}
-use Rattle.std.proofs.Common.{◌≡◌, ◌⊎◌, inl, inr, ℕ, suc, ◌+◌, ◌-◌, ◌<◌, ◌≤◌, ◌==◌, Bool, true, false, List, [], ◌∷◌, ◌++◌, length, drop, get_or, refl, sym, ap, subst, ◌∙◌, arith, length-drop, append_assoc, zero}
+use Rattle.std.proofs.Common.{◌≡◌, ◌⊎◌, inl, inr, ℕ, suc, ◌+◌, ◌-◌, ◌<◌, ◌≤◌, ◌==◌, ◌&&◌, Bool, true, false, List, [], ◌∷◌, ◌++◌, length, drop, get_or, refl, sym, ap, subst, ◌∙◌, arith, length-drop, append_assoc, zero}
 use Rattle.std.specs.List.{prefix_len}
 use Rattle.std.proofs.lemmas.List.{append-nil, length_push, get_or_push}
 use Rattle.std.proofs.lemmas.Option.{slice_get-get_or}
 use Rattle.cmark_grammar.specs.Answers.{Lookup}
 use Rattle.cmark_grammar.specs.CodeSpans.{is_backtick, backticks, code_in, code_text}
 use Rattle.cmark_grammar.specs.Columns.{is_blank_byte}
-use Rattle.cmark_grammar.specs.InlineTokens.{item_at, code_or, entity_or, place_of, break_or, escape_at, escaped_backtick}
+use Rattle.cmark_grammar.specs.InlineTokens.{as_in, item_at, code_or, entity_or, place_of, break_or, escape_at, escaped_backtick}
 use Rattle.cmark_grammar.specs.Items.{SoftBreak, HardBreak, Plain, Own, Code, Written, Item, Stands}
-use Rattle.cmark_grammar.specs.Letters.{first_is, behind_if, and_then}
+use Rattle.cmark_grammar.specs.LabelsOverLines.{piped}
+use Rattle.cmark_grammar.specs.Letters.{first_is, starts, behind_if, and_then}
 use Rattle.cmark_grammar.specs.LineBreaks.{ends_with_two_spaces, hard_break, backslash_break_in, line_break_in}
 use Rattle.cmark_grammar.specs.Options.{Options}
 use Rattle.cmark_grammar.specs.Tokens.{slice, Entity, entity_in, is_punctuation}
@@ -18,14 +19,14 @@ use Rattle.cmark_text.specs.declared.text.CowStr.{CowStr}
 use Rattle.cmark_finds.specs.Shown.{shown_break, shown_code, IsBreakAt, IsCodeAt}
 use Rattle.cmark_finds.specs.declared.breaks.LineBreak as find
 use Rattle.cmark_finds.specs.declared.code.CodeSpan.{CodeSpan}
-use Rattle.cmark_inline.specs.Tokens.{whole, reading, begins_at, read_on, Says, IsItem, Puts, Appends, Escapes, TakesEscaped, byte_slots}
+use Rattle.cmark_inline.specs.Tokens.{whole, reading, begins_at, read_on, Says, IsItem, Puts, Appends, Escapes, EscapesPipe, TakesEscaped, byte_slots}
 use Rattle.cmark_inline.specs.Stands.{PushesText}
 use Rattle.cmark_inline.specs.declared.slot.Slot.{Slot}
 use Rattle.cmark_inline.specs.declared.slot.SlotKind.{SlotKind}
 use Rattle.cmark_inline.specs.declared.slot.SlotKind.TheVariants as kind
 use Rattle.cmark_inline.specs.declared.state.InlineState.{InlineState}
 use Rattle.cmark_inline.specs.declared.step.Cursor.{Cursor}
-use Rattle.cmark_inline.proofs.TokenSteps.{line-token, found-at-ending, slash-begins, slash-break-behind, break-stands, code-begins, entity-begins, front, line-at-slash, slash-escapes, slash-run, some-ticks}
+use Rattle.cmark_inline.proofs.TokenSteps.{line-token, found-at-ending, slash-begins, slash-break-behind, break-stands, code-begins, entity-begins, front, line-at-slash, slash-escapes, slash-pipe, slash-run, some-ticks}
 
 -- what else a state holds stays
 pub kept : (old new between : InlineState) → new ≡ between → between ≡ record old { slots = new.slots; texts = between.texts } → new ≡ record old { slots = new.slots; texts = new.texts }
@@ -34,7 +35,7 @@ kept old new between e f = e ∙ f ∙ ap (λ (s : InlineState). record old { sl
 pub slots-alone : (old new : InlineState) → new ≡ record old { slots = new.slots } → new ≡ record old { slots = new.slots; texts = new.texts }
 slots-alone old new e = kept old new (record old { slots = new.slots }) e refl
 
-module _ (o : Options) (l : Lookup) (text : List ℕ) (here : Cursor) (old new : InlineState) (next : Cursor) where
+module _ (o : Options) (l : Lookup) (cell : Bool) (text : List ℕ) (here : Cursor) (old new : InlineState) (next : Cursor) where
   -- where only slots were appended
   pub no-texts : new ≡ record old { slots = new.slots } → new.texts.items ≡ old.texts.items ++ []
   no-texts e = ap (λ (s : InlineState). s.texts.items) e ∙ sym (append-nil old.texts.items)
@@ -42,16 +43,16 @@ module _ (o : Options) (l : Lookup) (text : List ℕ) (here : Cursor) (old new :
   -- ## Line breaks
   break-item : (texts : List CowStr) (slot : Slot) (hard : Bool) (stop at end : ℕ)
       → slot ≡ record { kind = if hard then kind.HardBreak else kind.SoftBreak; start = if hard then stop else at; end = end }
-      → IsItem text texts (record { kind = if hard then HardBreak else SoftBreak; start = if hard then stop else at; end = end }) slot
+      → IsItem cell text texts (record { kind = if hard then HardBreak else SoftBreak; start = if hard then stop else at; end = end }) slot
   break-item texts slot hard stop at end e = record {
     start = ap (λ (s : Slot). s.start) e;
     end = ap (λ (s : Slot). s.end) e;
     says = says hard (slot.kind) (ap (λ (s : Slot). s.kind) e);
   }
     where
-      says : (z : Bool) (k : SlotKind) → k ≡ (if z then kind.HardBreak else kind.SoftBreak) → Says text texts slot.start slot.end (if z then HardBreak else SoftBreak) k
-      says true k q = subst (Says text texts slot.start slot.end HardBreak) (sym q) tt
-      says false k q = subst (Says text texts slot.start slot.end SoftBreak) (sym q) tt
+      says : (z : Bool) (k : SlotKind) → k ≡ (if z then kind.HardBreak else kind.SoftBreak) → Says cell text texts slot.start slot.end (if z then HardBreak else SoftBreak) k
+      says true k q = subst (Says cell text texts slot.start slot.end HardBreak) (sym q) tt
+      says false k q = subst (Says cell text texts slot.start slot.end SoftBreak) (sym q) tt
 
   pub break-appends : (stop : ℕ) (found : find.LineBreak) (slot : Slot) (hard : Bool)
       → here.pending ≤ stop → stop ≤ here.at → here.at < length text
@@ -60,7 +61,7 @@ module _ (o : Options) (l : Lookup) (text : List ℕ) (here : Cursor) (old new :
       → hard ≡ ends_with_two_spaces (slice text stop here.at)
       → slot ≡ record { kind = if hard then kind.HardBreak else kind.SoftBreak; start = if hard then stop else here.at; end = found.end }
       → next.at ≡ read_on text slot.end → next.pending ≡ next.at → Puts here.pending stop slot old.slots.items new.slots.items → new ≡ record old { slots = new.slots }
-      → Appends o l text here old new next
+      → Appends o l cell text here old new next
   break-appends stop found slot hard behind before lt blanks ends value places is-hard is at pending slots others =
       let two : Bool = ends_with_two_spaces (slice text stop here.at) in
       let slot-is = ap (λ z. record { kind = if z then kind.HardBreak else kind.SoftBreak; start = if z then stop else here.at; end = found.end }) is-hard in
@@ -73,7 +74,7 @@ module _ (o : Options) (l : Lookup) (text : List ℕ) (here : Cursor) (old new :
         before = before;
         blanks = blanks;
         token =
-            line-token o l text stop here.at found.end before lt (let q : here.at ≤ found.end = omega (arith, a, b) in q) w blanks ends (found-at-ending text here.at lt found ends value)
+            line-token o l cell text stop here.at found.end before lt (let q : here.at ≤ found.end = omega (arith, a, b) in q) w blanks ends (found-at-ending text here.at lt found ends value)
             ∙ ap (Stands (record { kind = if two then HardBreak else SoftBreak; start = if two then stop else here.at; end = found.end })) (sym (at ∙ ap (λ (s : Slot). read_on text s.end) is));
         pending = pending;
         slots = slots;
@@ -89,7 +90,7 @@ module _ (o : Options) (l : Lookup) (text : List ℕ) (here : Cursor) (old new :
       → option_map (shown_break text here.at) (Some found) ≡ line_break_in (drop here.at text) → IsBreakAt text here.at found
       → slot ≡ record { kind = kind.HardBreak; start = here.at; end = found.end }
       → next.at ≡ read_on text slot.end → next.pending ≡ next.at → Puts here.pending here.at slot old.slots.items new.slots.items → new ≡ record old { slots = new.slots }
-      → Appends o l text here old new next
+      → Appends o l cell text here old new next
   slash-appends found slot behind lt byte value places is at pending slots others =
       let a = places.behind in let b = places.ordered in let w = places.ends.0 in
       let item : Item = record { kind = HardBreak; start = here.at; end = found.end } in
@@ -101,9 +102,9 @@ module _ (o : Options) (l : Lookup) (text : List ℕ) (here : Cursor) (old new :
         before = omega arith;
         blanks = λ k le high. absurd (omega (arith, le, high));
         token =
-            slash-begins o l text here.at lt byte
-            ∙ ap (λ x. break_or (reading o l text) (whole text) here.at x (escape_at (reading o l text) (whole text) here.at (drop (suc here.at) text))) (slash-break-behind text here.at lt byte found value)
-            ∙ break-stands o l text here.at found.end (hard_break (drop found.end text)) (escape_at (reading o l text) (whole text) here.at (drop (suc here.at) text)) (let q : here.at ≤ found.end = omega (arith, a, b) in q) w refl
+            slash-begins o l cell text here.at lt byte
+            ∙ ap (λ x. break_or (reading o l text) (whole cell text) here.at x (escape_at (reading o l text) (whole cell text) here.at (drop (suc here.at) text))) (slash-break-behind text here.at lt byte found value)
+            ∙ break-stands o l cell text here.at found.end (hard_break (drop found.end text)) (escape_at (reading o l text) (whole cell text) here.at (drop (suc here.at) text)) (let q : here.at ≤ found.end = omega (arith, a, b) in q) w refl
             ∙ ap (λ s. Stands (record { kind = HardBreak; start = s; end = found.end }) (read_on text found.end)) (let q : here.at + 0 ≡ here.at = omega arith in q)
             ∙ ap (Stands item) (sym (at ∙ ap (λ (s : Slot). read_on text s.end) is));
         pending = pending;
@@ -113,16 +114,16 @@ module _ (o : Options) (l : Lookup) (text : List ℕ) (here : Cursor) (old new :
         is = record {
           start = ap (λ (s : Slot). s.start) is;
           end = ap (λ (s : Slot). s.end) is;
-          says = subst (Says text new.texts.items slot.start slot.end HardBreak) (sym (ap (λ (s : Slot). s.kind) is)) tt;
+          says = subst (Says cell text new.texts.items slot.start slot.end HardBreak) (sym (ap (λ (s : Slot). s.kind) is)) tt;
         };
         others = slots-alone old new others;
       }
 
   -- ## Texts of their own
   pub own-appends : (start end : ℕ)
-      → here.pending ≤ here.at → begins_at o l text here.at ≡ item_at Own start end → next.at ≡ end → next.pending ≡ next.at
+      → here.pending ≤ here.at → begins_at o l cell text here.at ≡ item_at Own start end → next.at ≡ end → next.pending ≡ next.at
       → Puts here.pending here.at (record { kind = kind.Text; start = start; end = end }) old.slots.items new.slots.items → new ≡ record old { slots = new.slots }
-      → Appends o l text here old new next
+      → Appends o l cell text here old new next
   own-appends start end behind token at pending slots others = record {
     from = here.at;
     item = record { kind = Own; start = start; end = end };
@@ -140,16 +141,16 @@ module _ (o : Options) (l : Lookup) (text : List ℕ) (here : Cursor) (old new :
   }
 
   -- ## Code spans
-  code-ends : (span : CodeSpan) → IsCodeAt text here.at span → place_of (reading o l text) (whole text) (drop span.end text) ≡ span.end
+  code-ends : (span : CodeSpan) → IsCodeAt text here.at span → place_of (reading o l text) (whole cell text) (drop span.end text) ≡ span.end
   code-ends span is = let d = length-drop span.end text in let w = is.ends.0 in let q : length text - length (drop span.end text) ≡ span.end = omega (arith, d, w) in q
 
   pub code-appends : (span : CodeSpan)
       → here.pending ≤ here.at → here.at < length text → get_or text here.at 0 ≡ 96
       → option_map (shown_code text) (Some span) ≡ code_in (drop here.at text) → IsCodeAt text here.at span → next.at ≡ span.end → next.pending ≡ next.at
       → Puts here.pending here.at (record { kind = kind.Code span.content_start span.content_end; start = here.at; end = span.end }) old.slots.items new.slots.items → new ≡ record old { slots = new.slots }
-      → Appends o l text here old new next
+      → Appends o l cell text here old new next
   code-appends span behind lt byte value places at pending slots others =
-      let bytes : List ℕ = code_text (slice text span.content_start span.content_end) in
+      let bytes : List ℕ = code_text (as_in cell (slice text span.content_start span.content_end)) in
       record {
         from = here.at;
         item = record { kind = Code bytes; start = here.at; end = span.end };
@@ -158,8 +159,8 @@ module _ (o : Options) (l : Lookup) (text : List ℕ) (here : Cursor) (old new :
         before = omega arith;
         blanks = λ k le high. absurd (omega (arith, le, high));
         token =
-            code-begins o l text here.at lt byte
-            ∙ ap (code_or (reading o l text) (whole text) here.at (backticks (drop here.at text))) (sym value)
+            code-begins o l cell text here.at lt byte
+            ∙ ap (code_or (reading o l text) (whole cell text) here.at (backticks (drop here.at text))) (sym value)
             ∙ ap (item_at (Code bytes) here.at) (code-ends span places)
             ∙ ap (Stands (record { kind = Code bytes; start = here.at; end = span.end })) (sym at);
         pending = pending;
@@ -172,10 +173,10 @@ module _ (o : Options) (l : Lookup) (text : List ℕ) (here : Cursor) (old new :
 
   -- a run of backticks that opens none
   pub run-token : (end : ℕ) → here.at < length text → get_or text here.at 0 ≡ 96 → None ≡ code_in (drop here.at text) → end ≡ here.at + prefix_len (λ b. b == get_or text here.at 0) (drop here.at text)
-      → begins_at o l text here.at ≡ item_at Own here.at end
+      → begins_at o l cell text here.at ≡ item_at Own here.at end
   run-token end lt byte none is =
-      code-begins o l text here.at lt byte
-      ∙ ap (code_or (reading o l text) (whole text) here.at (backticks (drop here.at text))) (sym none)
+      code-begins o l cell text here.at lt byte
+      ∙ ap (code_or (reading o l text) (whole cell text) here.at (backticks (drop here.at text))) (sym none)
       ∙ ap (item_at Own here.at) (sym (is ∙ ap (λ c. here.at + prefix_len (λ b. b == c) (drop here.at text)) byte))
 
   -- ## Texts that the state owns
@@ -185,11 +186,11 @@ module _ (o : Options) (l : Lookup) (text : List ℕ) (here : Cursor) (old new :
       ap (λ l. slice_get l n) e ∙ slice_get-get_or (xs ++ (x ∷ [])) n x (let q : n < length (xs ++ (x ∷ [])) = omega (arith, m, is) in q) ∙ ap Some (get_or_push xs x x n (sym is))
 
   pub owned-appends : (bytes : List ℕ) (end index : ℕ) (text_is : CowStr)
-      → here.pending ≤ here.at → begins_at o l text here.at ≡ item_at (Written bytes) here.at end → next.at ≡ end → next.pending ≡ next.at
+      → here.pending ≤ here.at → begins_at o l cell text here.at ≡ item_at (Written bytes) here.at end → next.at ≡ end → next.pending ≡ next.at
       → Puts here.pending here.at (record { kind = kind.OwnedText index; start = here.at; end = end }) old.slots.items new.slots.items
       → new.texts.items ≡ old.texts.items ++ (text_is ∷ []) → index ≡ length old.texts.items → text_bytes text_is ≡ bytes
       → new ≡ record old { slots = new.slots; texts = new.texts }
-      → Appends o l text here old new next
+      → Appends o l cell text here old new next
   owned-appends bytes end index text_is behind token at pending slots texts place is others = record {
     from = here.at;
     item = record { kind = Written bytes; start = here.at; end = end };
@@ -208,9 +209,9 @@ module _ (o : Options) (l : Lookup) (text : List ℕ) (here : Cursor) (old new :
 
   -- a character that stands for some bytes
   pub character-appends : (bytes : List ℕ) (end character : ℕ)
-      → here.pending ≤ here.at → begins_at o l text here.at ≡ item_at (Written bytes) here.at end → next.at ≡ end → next.pending ≡ next.at
+      → here.pending ≤ here.at → begins_at o l cell text here.at ≡ item_at (Written bytes) here.at end → next.at ≡ end → next.pending ≡ next.at
       → Puts here.pending here.at (record { kind = kind.Character character; start = here.at; end = end }) old.slots.items new.slots.items → new ≡ record old { slots = new.slots } → encode_utf8 character ≡ bytes
-      → Appends o l text here old new next
+      → Appends o l cell text here old new next
   character-appends bytes end character behind token at pending slots others is = record {
     from = here.at;
     item = record { kind = Written bytes; start = here.at; end = end };
@@ -230,55 +231,75 @@ module _ (o : Options) (l : Lookup) (text : List ℕ) (here : Cursor) (old new :
   -- ## Entities
   pub entity-is : (bytes range : List ℕ) (found : Option Entity) → here.at < length text → get_or text here.at 0 ≡ 38 → bytes ≡ range → range ≡ drop here.at text
       → found ≡ and_then (behind_if (λ b. b == 38) bytes) (entity_in l) → entity_in l (drop (suc here.at) text) ≡ found
-  entity-is bytes range found lt is same cut e = sym (e ∙ ap (λ bs. and_then (behind_if (λ b. b == 38) bs) (entity_in l)) (same ∙ cut ∙ front o l text here.at 38 lt is))
+  entity-is bytes range found lt is same cut e = sym (e ∙ ap (λ bs. and_then (behind_if (λ b. b == 38) bs) (entity_in l)) (same ∙ cut ∙ front o l cell text here.at 38 lt is))
 
   pub entity-token : (entity : Entity) (end : ℕ) → here.at < length text → get_or text here.at 0 ≡ 38 → entity_in l (drop (suc here.at) text) ≡ Some entity → end ≡ here.at + entity.size
-      → begins_at o l text here.at ≡ item_at (Written entity.bytes) here.at end
-  entity-token entity end lt is e ends = entity-begins o l text here.at lt is ∙ ap (entity_or (reading o l text) (whole text) here.at) e ∙ ap (item_at (Written entity.bytes) here.at) (sym ends)
+      → begins_at o l cell text here.at ≡ item_at (Written entity.bytes) here.at end
+  entity-token entity end lt is e ends = entity-begins o l cell text here.at lt is ∙ ap (entity_or (reading o l text) (whole cell text) here.at) e ∙ ap (item_at (Written entity.bytes) here.at) (sym ends)
 
-  pub no-entity : here.at < length text → get_or text here.at 0 ≡ 38 → entity_in l (drop (suc here.at) text) ≡ None → next.at ≡ here.at + 1 → begins_at o l text here.at ≡ item_at Plain here.at next.at
+  pub no-entity : here.at < length text → get_or text here.at 0 ≡ 38 → entity_in l (drop (suc here.at) text) ≡ None → next.at ≡ here.at + 1 → begins_at o l cell text here.at ≡ item_at Plain here.at next.at
   no-entity lt is e at =
-      entity-begins o l text here.at lt is ∙ ap (entity_or (reading o l text) (whole text) here.at) e ∙ ap (item_at Plain here.at) (let q : suc here.at ≡ next.at = omega (arith, at) in q)
+      entity-begins o l cell text here.at lt is ∙ ap (entity_or (reading o l text) (whole cell text) here.at) e ∙ ap (item_at Plain here.at) (let q : suc here.at ≡ next.at = omega (arith, at) in q)
 
 -- ## Escapes
-module _ (o : Options) (l : Lookup) (text : List ℕ) (here : Cursor) (old new : InlineState) (escaped end : ℕ) where
+module _ (o : Options) (l : Lookup) (cell : Bool) (text : List ℕ) (here : Cursor) (old new : InlineState) (escaped end : ℕ) where
   pub slash-makes : here.at < length text → get_or text here.at 0 ≡ 92 → None ≡ line_break_in (drop here.at text) → true ≡ first_is is_punctuation (drop (here.at + 1) text)
-      → escaped ≡ here.at + 1 → end ≡ escaped + 1 → false ≡ (backticks (drop escaped text) == 1)
+      → escaped ≡ here.at + 1 → end ≡ escaped + 1 → false ≡ (backticks (drop escaped text) == 1) → (cell && starts piped (drop escaped text)) ≡ false
       → PushesText here.pending here.at old.slots.items new.slots.items → new ≡ record old { slots = new.slots }
-      → Escapes o l text here old new (record { pending = escaped; at = end })
-  slash-makes lt is none punctuation e f several slots others =
+      → Escapes o l cell text here old new (record { pending = escaped; at = end })
+  slash-makes lt is none punctuation e f several no-pipe slots others =
       let no-break : backslash_break_in (drop here.at text) ≡ None = sym (none ∙ line-at-slash text here.at lt is) in
       let two : end ≡ here.at + 2 = omega (arith, e, f) in
       record {
         pending = e;
         at = two;
-        token = λ t. slash-escapes o l text here.at lt is no-break t (sym punctuation) ∙ ap (λ s. item_at Plain s (here.at + 2)) (sym e) ∙ ap (item_at Plain escaped) (sym two);
+        token = λ t. slash-escapes o l cell text here.at lt is no-break t (ap (λ s. cell && starts piped (drop s text)) (sym e) ∙ no-pipe) (sym punctuation) ∙ ap (λ s. item_at Plain s (here.at + 2)) (sym e) ∙ ap (item_at Plain escaped) (sym two);
         run = λ t. (
-          slash-run o l text here.at lt is no-break t
-              ∙ ap (λ s. escaped_backtick (reading o l text) (whole text) s (backticks (drop s text)) (code_in (drop (here.at + 2) text))) (sym e)
-              ∙ ap (λ s. escaped_backtick (reading o l text) (whole text) escaped (backticks (drop escaped text)) (code_in (drop s text))) (sym two),
+          slash-run o l cell text here.at lt is no-break t
+              ∙ ap (λ s. escaped_backtick (reading o l text) (whole cell text) s (backticks (drop s text)) (code_in (drop (here.at + 2) text))) (sym e)
+              ∙ ap (λ s. escaped_backtick (reading o l text) (whole cell text) escaped (backticks (drop escaped text)) (code_in (drop s text))) (sym two),
           some-ticks (drop escaped text) (ap (λ s. first_is is_backtick (drop s text)) e ∙ t) (sym several),
         );
         slots = slots;
         others = others;
       }
 
+-- in the cell of a table, before another backslash and a pipe
+module _ (o : Options) (l : Lookup) (cell : Bool) (text : List ℕ) (here : Cursor) (old new : InlineState) (escaped end past : ℕ) where
+  pub pipe-makes : here.at < length text → get_or text here.at 0 ≡ 92 → None ≡ line_break_in (drop here.at text)
+      → escaped ≡ here.at + 1 → end ≡ escaped + 1 → past ≡ end + 1 → cell ≡ true → starts piped (drop escaped text) ≡ true
+      → PushesText here.pending here.at old.slots.items new.slots.items → new ≡ record old { slots = new.slots }
+      → EscapesPipe o l cell text here old new (record { pending = end; at = past })
+  pipe-makes lt is none e f g in-cell pipe slots others =
+      let two : end ≡ here.at + 2 = omega (arith, e, f) in
+      let three : past ≡ here.at + 3 = omega (arith, two, g) in
+      record {
+        cell = in-cell;
+        pending = two;
+        at = three;
+        token =
+            slash-pipe o l cell text here.at lt is (sym (none ∙ line-at-slash text here.at lt is)) in-cell (ap (λ s. starts piped (drop s text)) (sym e) ∙ pipe)
+            ∙ ap (λ s. item_at Plain s (here.at + 3)) (sym two) ∙ ap (item_at Plain end) (sym three);
+        slots = slots;
+        others = others;
+      }
+
 -- ## Runs of backticks that open no code span
-module _ (o : Options) (l : Lookup) (text : List ℕ) (here : Cursor) (old new : InlineState) (next : Cursor) where
+module _ (o : Options) (l : Lookup) (cell : Bool) (text : List ℕ) (here : Cursor) (old new : InlineState) (next : Cursor) where
   pub ticks-make : (start end : ℕ) → here.pending ≤ here.at → here.at < length text → get_or text here.at 0 ≡ 96 → None ≡ code_in (drop here.at text)
       → end ≡ here.at + prefix_len (λ b. b == get_or text here.at 0) (drop here.at text)
       → (start ≡ here.at) ⊎ ((start ≡ here.pending) × (here.pending + 1 ≡ here.at) × (get_or text here.pending 0 ≡ 96))
       → next.at ≡ end → next.pending ≡ next.at → Puts here.pending start (record { kind = kind.Text; start = start; end = end }) old.slots.items new.slots.items → new ≡ record old { slots = new.slots }
-      → Appends o l text here old new next ⊎ TakesEscaped o l text here old new next
+      → Appends o l cell text here old new next ⊎ TakesEscaped o l cell text here old new next
   ticks-make start end ordered lt is none ends (inl e) at pending slots others =
-      inl (own-appends o l text here old new next here.at end ordered (run-token o l text here old new next end lt is none ends) at pending
+      inl (own-appends o l cell text here old new next here.at end ordered (run-token o l cell text here old new next end lt is none ends) at pending
       (subst (λ (s : ℕ). Puts here.pending s (record { kind = kind.Text; start = s; end = end }) old.slots.items new.slots.items) e slots) others)
   ticks-make start end ordered lt is none ends (inr e) at pending slots others =
       let puts : Puts here.pending here.pending (record { kind = kind.Text; start = here.pending; end = end }) old.slots.items new.slots.items =
       subst (λ (s : ℕ). Puts here.pending s (record { kind = kind.Text; start = s; end = end }) old.slots.items new.slots.items) e.0 slots in
       inr (record {
         escaped = (e.1, e.2);
-        token = run-token o l text here old new next end lt is none ends ∙ ap (item_at Own here.at) (sym at);
+        token = run-token o l cell text here old new next end lt is none ends ∙ ap (item_at Own here.at) (sym at);
         pending = pending;
         slots =
             puts.slot_is ∙ ap (λ (ss : List Slot). ss ++ (record { kind = kind.Text; start = here.pending; end = end } ∷ [])) (puts.text.1 (omega arith))

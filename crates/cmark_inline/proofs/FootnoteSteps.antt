@@ -1,14 +1,17 @@
 -- Footnote references: their labels, and the slot of a `!` before one.
-use Rattle.std.specs.Prelude.{Option, Some, None, is_some, drop, if◌then◌else◌, not, ◌&&◌, ◌||◌}
-use Rattle.std.proofs.Common.{◌≡◌, ℕ, ◌+◌, ◌≤◌, ◌<◌, ◌==◌, Bool, true, false, true≢false, List, [], ◌∷◌, refl, sym, ap, ◌∙◌, arith}
+use Rattle.std.specs.Prelude.{Option, Some, None, is_some, option_map, drop, if◌then◌else◌, not, ◌&&◌, ◌||◌}
+use Rattle.std.proofs.Common.{◌≡◌, ℕ, ◌+◌, ◌≤◌, ◌<◌, ◌==◌, Bool, true, false, true≢false, List, [], ◌∷◌, refl, sym, ap, subst, ◌∙◌, arith}
 use Rattle.cmark_grammar.specs.BracketDecisions as decisions
 use Rattle.cmark_grammar.specs.InlineHtml.{takes_lines}
 use Rattle.cmark_grammar.specs.Lines.{is_content}
 use Rattle.cmark_grammar.specs.LinkTails.{is_bracketed_label, link_tail_in, reference_label_in}
 use Rattle.cmark_grammar.specs.Options.{Options}
 use Rattle.cmark_grammar.specs.Tokens.{slice}
+use Rattle.cmark_grammar.specs.Labels.{fold}
+use Rattle.cmark_items.specs.Footnotes.{Counts}
+use Rattle.cmark_items.specs.declared.footnotes.FootnoteDefs.{FootnoteDefs}
 use Rattle.cmark_leaf_text.specs.Reads.{IsPart}
-use Rattle.cmark_inline.specs.Footnoted.{fits_footnote, footnote_label, footnote_of, labels, no_leaf, reference_start, unless_footnote}
+use Rattle.cmark_inline.specs.Footnoted.{CountsOf, as_label, fits_footnote, footnote_behind, footnote_label, footnote_of, labels, no_leaf, reference_start, unless_footnote}
 use Rattle.cmark_inline.specs.Stands.{IsBracket, IsSlot}
 use Rattle.cmark_inline.specs.declared.bracket.Bracket.{Bracket}
 use Rattle.cmark_inline.specs.declared.slot.SlotKind.TheVariants as kind
@@ -40,13 +43,22 @@ label-off : (options : Options) (between : List ℕ) → options.footnotes ≡ f
 label-off options [] off = refl
 label-off options (b ∷ bs) off = ap (λ y. if y && ((b == 94) && fits_footnote options bs) then Some bs else None) off
 
-pub none-off : (options : Options) (is_shut : Bool) (text : List ℕ) (close : ℕ) (taken : Option Bracket) → options.footnotes ≡ false → footnote_of options is_shut text close taken ≡ None
-none-off options is_shut text close None off = refl
-none-off options is_shut text close (Some bracket) off = go (is_shut || (is_some (link_tail_in (drop (close + 1) text)) || is_some (unless_footnote options (reference_label_in (drop (close + 1) text)))))
+pub none-off : (options : Options) (is_cell is_shut : Bool) (text : List ℕ) (close : ℕ) (taken : Option Bracket) → options.footnotes ≡ false → footnote_of options is_cell is_shut text close taken ≡ None
+none-off options is_cell is_shut text close None off = refl
+none-off options is_cell is_shut text close (Some bracket) off = ap (option_map (as_label is_cell)) (go (is_shut || (is_some (link_tail_in (drop (close + 1) text)) || is_some (unless_footnote options (reference_label_in (drop (close + 1) text))))))
   where
     go : (z : Bool) → (if z then None else footnote_label options (slice text bracket.inside close)) ≡ None
     go true = refl
     go false = label-off options (slice text bracket.inside close) off
+
+-- a use is counted of the footnote of the label that was found
+pub counts-found : (options : Options) (is_cell cell is_shut shut : Bool) (text : List ℕ) (close : ℕ) (taken : Option Bracket) (bracket : Bracket) (written label : List ℕ) (old new : FootnoteDefs)
+    → taken ≡ Some bracket → shut ≡ is_shut → Some written ≡ footnote_behind options shut (slice text bracket.inside close) (drop (close + 1) text) → cell ≡ is_cell → label ≡ as_label cell written → Counts (fold label) old new
+    → CountsOf (footnote_of options is_cell is_shut text close taken) old new
+counts-found options is_cell cell is_shut shut text close taken bracket written label old new took shutting found celled is counts =
+    subst (λ t. CountsOf (footnote_of options is_cell is_shut text close t) old new) (sym took)
+    (subst (λ m. CountsOf (option_map (as_label is_cell) m) old new) (found ∙ ap (λ z. footnote_behind options z (slice text bracket.inside close) (drop (close + 1) text)) shutting)
+    (subst (λ l. Counts (fold l) old new) (is ∙ ap (λ z. as_label z written) celled) counts))
 
 -- ## The slots of a reference, and of the `!` before one
 

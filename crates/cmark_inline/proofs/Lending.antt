@@ -1,5 +1,5 @@
 -- Which texts of events are borrowed.
-use Rattle.std.proofs.Common.{◌≡◌, ◌≢◌, ◌⊎◌, inl, inr, ℕ, zero, suc, ◌+◌, ◌-◌, ◌≤◌, ◌<◌, List, [], ◌∷◌, length, drop, take, drop-drop, refl, sym, ap, ◌∙◌, arith}
+use Rattle.std.proofs.Common.{◌≡◌, ◌≢◌, ◌⊎◌, inl, inr, ℕ, zero, suc, ◌+◌, ◌-◌, ◌≤◌, ◌<◌, List, [], ◌∷◌, length, drop, take, drop-drop, refl, sym, ap, subst, ◌∙◌, arith}
 use Rattle.std.specs.Prelude.{IfOk, Result, Ok, Err}
 use Rattle.std.proofs.lemmas.List.{drop-take}
 use Rattle.cmark_grammar.specs.Tokens.{slice}
@@ -90,6 +90,21 @@ lent-made : (made : CowStr) (source : List ℕ) (first last : ℕ) → IsPart so
 lent-made (Boxed text) source first last part lent = tt
 lent-made (Borrowed text) source first last part lent = let some = part.some in record { start = first; end = last; ordered = omega (arith, some); within = part.within; are = lent }
 lent-made (Inlined text) source first last part lent = tt
+
+pub lent-part-of : (made : CowStr) (leaf : LeafText) (from to : ℕ) → IsRead leaf → IsPart (text_of leaf) from to → IsLentBy (bytes_over leaf from to) made → IsPartIfBorrowed (source_of leaf) made
+lent-part-of made leaf from to read part lent = lent-made made (source_of leaf) (place_of leaf from) (place_of leaf (to - 1) + 1) (there leaf from to read part) lent
+
+-- without its escaped pipes a text is the same, or one of its own
+pub escapes-part : {E : Type 0} (made : Result CowStr E) (written : CowStr) (source : List ℕ) → (made ≡ Ok written) ⊎ IfOk made IsBoxed → IsPartIfBorrowed source written → IfOk made (IsPartIfBorrowed source)
+escapes-part made written source (inl e) p = subst (λ r. IfOk r (IsPartIfBorrowed source)) (sym e) p
+escapes-part (Ok (Boxed text)) written source (inr own) p = tt
+escapes-part (Ok (Borrowed text)) written source (inr own) p = absurd own
+escapes-part (Ok (Inlined text)) written source (inr own) p = absurd own
+escapes-part (Err e) written source (inr own) p = tt
+
+pub lent-or-own : {E : Type 0} (content written : CowStr) (bytes : List ℕ) → (◌≡◌ {A = Result CowStr E} (Ok content) (Ok written)) ⊎ IsBoxed content → IsLentBy bytes written → IsLentBy bytes content ⊎ IsBoxed content
+lent-or-own content written bytes (inl e) lent = inl (subst (IsLentBy bytes) (let z : written ≡ content = cc in z) lent)
+lent-or-own content written bytes (inr own) lent = inr own
 
 pub lent-part : {E : Type 0} (made : Result CowStr E) (leaf : LeafText) (from to : ℕ) → IsRead leaf → IsPart (text_of leaf) from to → IfOk made (IsLentBy (bytes_over leaf from to)) → IfOk made (IsPartIfBorrowed (source_of leaf))
 lent-part (Ok made) leaf from to read part lent = lent-made made (source_of leaf) (place_of leaf from) (place_of leaf (to - 1) + 1) (there leaf from to read part) lent

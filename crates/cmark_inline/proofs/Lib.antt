@@ -3,6 +3,7 @@ pub mod Questions
 pub mod References
 pub mod Quotes
 pub mod Runs
+pub mod ShortSteps
 pub mod Steps
 pub mod Bytes
 pub mod TokenSteps

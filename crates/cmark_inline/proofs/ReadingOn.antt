@@ -17,20 +17,20 @@ module _ (text : List ℕ) (at : ℕ) (le : at ≤ length text) where
   abbrev r : Reader
   r = reading no_options (λ name. None) text
 
-  pub before-is : before r (whole text) at ≡ take at text
+  pub before-is : before r (whole false text) at ≡ take at text
   before-is = append-nil (slice text 0 (min at (length text))) ∙ ap (λ n. take n text) (let q : min at (length text) - 0 ≡ at = omega (arith, le) in q)
 
-  begins-is : 0 < at → line_begins r (whole text) at ≡ not (is_content (get_or text (at - 1) 0))
+  begins-is : 0 < at → line_begins r (whole false text) at ≡ not (is_content (get_or text (at - 1) 0))
   begins-is some = ap (λ bs. first_is (λ b. not (is_content b)) (reverse bs)) before-is ∙ last-before (λ b. not (is_content b)) text at some le
 
-  start-is : at ≡ 0 → line_begins r (whole text) at ≡ false
+  start-is : at ≡ 0 → line_begins r (whole false text) at ≡ false
   start-is e = ap (λ bs. first_is (λ b. not (is_content b)) (reverse bs)) (before-is ∙ ap (λ n. take n text) e)
 
   abbrev rest_by : Bool → List ℕ
-  rest_by z = if z then behind_blanks (from r (whole text) at) else from r (whole text) at
+  rest_by z = if z then behind_blanks (from r (whole false text) at) else from r (whole false text) at
 
   here-is : length text - length (rest_by false) ≡ at
-  here-is = let e = ap length (from-is no_options (λ name. None) text at) in let d = length-drop at text in let q : length text - length (from r (whole text) at) ≡ at = omega (arith, e, d, le) in q
+  here-is = let e = ap length (from-is no_options (λ name. None) false text at) in let d = length-drop at text in let q : length text - length (from r (whole false text) at) ≡ at = omega (arith, e, d, le) in q
 
   -- where no line begins
   pub read-on-start : at ≡ 0 → read_on text at ≡ at
@@ -44,6 +44,6 @@ module _ (text : List ℕ) (at : ℕ) (le : at ≤ length text) where
   read-on-words words some e is within =
       let d = length-drop words text in
       ap (λ z. length text - length (rest_by z)) (begins-is some ∙ e)
-      ∙ ap (λ bs. length text - length (behind_blanks bs)) (from-is no_options (λ name. None) text at)
+      ∙ ap (λ bs. length text - length (behind_blanks bs)) (from-is no_options (λ name. None) false text at)
       ∙ ap (λ bs. length text - length bs) (sym is)
       ∙ (let q : length text - length (drop words text) ≡ words = omega (arith, d, within) in q)

@@ -1,56 +1,66 @@
 -- What the calls read, as one of what may be read at a special byte.
-use Rattle.std.proofs.Common.{◌≡◌, ◌⊎◌, inl, inr, ℕ, List, subst}
+use Rattle.std.proofs.Common.{◌≡◌, ◌⊎◌, inl, inr, ℕ, Bool, List, subst}
 use Rattle.cmark_grammar.specs.Answers.{Lookup}
 use Rattle.cmark_grammar.specs.Options.{Options}
-use Rattle.cmark_leaf_text.specs.Reads.{text_of}
+use Rattle.cmark_leaf_text.specs.Reads.{is_cell_of, text_of}
 use Rattle.cmark_leaf_text.specs.declared.leaf_text.LeafText.{LeafText}
 use Rattle.cmark_inline.specs.SpecialReads.{ReadsSpecial}
-use Rattle.cmark_inline.specs.Tokens.{Passes, Appends, Escapes, TakesEscaped, AppendsRun, AppendsQuote, OpensBracket, PassesOver}
+use Rattle.cmark_inline.specs.Tokens.{Passes, Appends, Escapes, TakesEscaped, AppendsRun, AppendsQuote, OpensBracket, PassesOver, EscapesPipe}
 use Rattle.cmark_inline.specs.declared.state.InlineState.{InlineState}
 use Rattle.cmark_inline.specs.declared.step.Cursor.{Cursor}
 
 module _ (o : Options) (l : Lookup) (leaf : LeafText) (text : List ℕ) (same : text ≡ text_of leaf) (here : Cursor) (old new : InlineState) (next : Cursor) where
-  pub passes : Passes o l text here old new next → ReadsSpecial o l leaf here old new next
-  passes h = inl (inl (subst (λ t. Passes o l t here old new next) same h))
+  pub passes : Passes o l (is_cell_of leaf) text here old new next → ReadsSpecial o l leaf here old new next
+  passes h = inl (inl (subst (λ t. Passes o l (is_cell_of leaf) t here old new next) same h))
 
-  pub appends : Appends o l text here old new next → ReadsSpecial o l leaf here old new next
-  appends h = inl (inr (inr (inl (subst (λ t. Appends o l t here old new next) same h))))
+  pub appends : Appends o l (is_cell_of leaf) text here old new next → ReadsSpecial o l leaf here old new next
+  appends h = inl (inr (inr (inl (subst (λ t. Appends o l (is_cell_of leaf) t here old new next) same h))))
 
-  pub escapes : Escapes o l text here old new next → ReadsSpecial o l leaf here old new next
-  escapes h = inr (inl (subst (λ t. Escapes o l t here old new next) same h))
+  pub escapes : Escapes o l (is_cell_of leaf) text here old new next → ReadsSpecial o l leaf here old new next
+  escapes h = inr (inl (subst (λ t. Escapes o l (is_cell_of leaf) t here old new next) same h))
 
-  pub takes-escaped : TakesEscaped o l text here old new next → ReadsSpecial o l leaf here old new next
-  takes-escaped h = inr (inr (inl (subst (λ t. TakesEscaped o l t here old new next) same h)))
+  pub takes-escaped : TakesEscaped o l (is_cell_of leaf) text here old new next → ReadsSpecial o l leaf here old new next
+  takes-escaped h = inr (inr (inl (subst (λ t. TakesEscaped o l (is_cell_of leaf) t here old new next) same h)))
 
-  pub appends-run : AppendsRun o l text here old new next → ReadsSpecial o l leaf here old new next
-  appends-run h = inr (inr (inr (inl (subst (λ t. AppendsRun o l t here old new next) same h))))
+  pub appends-run : AppendsRun o l (is_cell_of leaf) text here old new next → ReadsSpecial o l leaf here old new next
+  appends-run h = inr (inr (inr (inl (subst (λ t. AppendsRun o l (is_cell_of leaf) t here old new next) same h))))
 
-  pub appends-quote : AppendsQuote o l text here old new next → ReadsSpecial o l leaf here old new next
-  appends-quote h = inr (inr (inr (inr (inl (subst (λ t. AppendsQuote o l t here old new next) same h)))))
+  pub appends-quote : AppendsQuote o l (is_cell_of leaf) text here old new next → ReadsSpecial o l leaf here old new next
+  appends-quote h = inr (inr (inr (inr (inl (subst (λ t. AppendsQuote o l (is_cell_of leaf) t here old new next) same h)))))
 
-  pub opens : OpensBracket o l text here old new next → ReadsSpecial o l leaf here old new next
-  opens h = inr (inr (inr (inr (inr (inl (subst (λ t. OpensBracket o l t here old new next) same h))))))
+  pub opens : OpensBracket o l (is_cell_of leaf) text here old new next → ReadsSpecial o l leaf here old new next
+  opens h = inr (inr (inr (inr (inr (inl (subst (λ t. OpensBracket o l (is_cell_of leaf) t here old new next) same h))))))
 
-  pub passes-over : PassesOver o l text here old new next → ReadsSpecial o l leaf here old new next
-  passes-over h = inr (inr (inr (inr (inr (inr (subst (λ t. PassesOver o l t here old new next) same h))))))
+  pub passes-over : PassesOver o l (is_cell_of leaf) text here old new next → ReadsSpecial o l leaf here old new next
+  passes-over h = inr (inr (inr (inr (inr (inr (inl (subst (λ t. PassesOver o l (is_cell_of leaf) t here old new next) same h)))))))
 
-  pub passes-or-appends : Passes o l text here old new next ⊎ Appends o l text here old new next → ReadsSpecial o l leaf here old new next
+  pub escapes-pipe : EscapesPipe o l (is_cell_of leaf) text here old new next → ReadsSpecial o l leaf here old new next
+  escapes-pipe h = inr (inr (inr (inr (inr (inr (inr (subst (λ t. EscapesPipe o l (is_cell_of leaf) t here old new next) same h)))))))
+
+  pub passes-or-appends : Passes o l (is_cell_of leaf) text here old new next ⊎ Appends o l (is_cell_of leaf) text here old new next → ReadsSpecial o l leaf here old new next
   passes-or-appends (inl h) = passes h
   passes-or-appends (inr h) = appends h
 
-  pub backslash-reads : Passes o l text here old new next ⊎ (Appends o l text here old new next ⊎ Escapes o l text here old new next) → ReadsSpecial o l leaf here old new next
-  backslash-reads (inl h) = passes h
-  backslash-reads (inr (inl h)) = appends h
-  backslash-reads (inr (inr h)) = escapes h
+  backslash-read : Passes o l (is_cell_of leaf) text here old new next ⊎ (Appends o l (is_cell_of leaf) text here old new next ⊎ (Escapes o l (is_cell_of leaf) text here old new next ⊎ EscapesPipe o l (is_cell_of leaf) text here old new next))
+      → ReadsSpecial o l leaf here old new next
+  backslash-read (inl h) = passes h
+  backslash-read (inr (inl h)) = appends h
+  backslash-read (inr (inr (inl h))) = escapes h
+  backslash-read (inr (inr (inr h))) = escapes-pipe h
 
-  pub backticks-read : Appends o l text here old new next ⊎ TakesEscaped o l text here old new next → ReadsSpecial o l leaf here old new next
+  pub backslash-reads : (cell : Bool) → cell ≡ is_cell_of leaf
+      → Passes o l cell text here old new next ⊎ (Appends o l cell text here old new next ⊎ (Escapes o l cell text here old new next ⊎ EscapesPipe o l cell text here old new next)) → ReadsSpecial o l leaf here old new next
+  backslash-reads cell in-leaf h =
+      backslash-read (subst (λ z. Passes o l z text here old new next ⊎ (Appends o l z text here old new next ⊎ (Escapes o l z text here old new next ⊎ EscapesPipe o l z text here old new next))) in-leaf h)
+
+  pub backticks-read : Appends o l (is_cell_of leaf) text here old new next ⊎ TakesEscaped o l (is_cell_of leaf) text here old new next → ReadsSpecial o l leaf here old new next
   backticks-read (inl h) = appends h
   backticks-read (inr h) = takes-escaped h
 
-  pub passes-or-opens : Passes o l text here old new next ⊎ OpensBracket o l text here old new next → ReadsSpecial o l leaf here old new next
+  pub passes-or-opens : Passes o l (is_cell_of leaf) text here old new next ⊎ OpensBracket o l (is_cell_of leaf) text here old new next → ReadsSpecial o l leaf here old new next
   passes-or-opens (inl h) = passes h
   passes-or-opens (inr h) = opens h
 
-  pub run-reads : Passes o l text here old new next ⊎ AppendsRun o l text here old new next → ReadsSpecial o l leaf here old new next
+  pub run-reads : Passes o l (is_cell_of leaf) text here old new next ⊎ AppendsRun o l (is_cell_of leaf) text here old new next → ReadsSpecial o l leaf here old new next
   run-reads (inl h) = passes h
   run-reads (inr h) = appends-run h

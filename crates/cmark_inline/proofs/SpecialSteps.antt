@@ -128,7 +128,7 @@ other-special o b uncalled e = or_cases (is_mark b) (is_other b) (others (or_cas
     others (inr h) = h
 
 -- ## Brackets, and bytes that stand for themselves
-module _ (o : Options) (l : Lookup) (text : List ℕ) (at : ℕ) (lt : at < length text) where
+module _ (o : Options) (l : Lookup) (cell : Bool) (text : List ℕ) (at : ℕ) (lt : at < length text) where
   one-more : suc at ≡ at + 1
   one-more = omega arith
 
@@ -138,46 +138,46 @@ module _ (o : Options) (l : Lookup) (text : List ℕ) (at : ℕ) (lt : at < leng
   abbrev by_bracket : List ℕ → Token
   by_bracket rest = if first_is (λ c. c == 91) rest then Opens (bracket true at (at + 2)) else item_at Plain at (suc at)
 
-  mark-begins : get_or text at 0 ≡ 33 → begins_at o l text at ≡ by_bracket (drop (at + 1) text)
-  mark-begins is = begins-with o l text at 33 lt is ∙ ap by_bracket next-is
+  mark-begins : get_or text at 0 ≡ 33 → begins_at o l cell text at ≡ by_bracket (drop (at + 1) text)
+  mark-begins is = begins-with o l cell text at 33 lt is ∙ ap by_bracket next-is
 
-  pub image-opens : get_or text at 0 ≡ 33 → first_is (λ c. c == 91) (drop (at + 1) text) ≡ true → begins_at o l text at ≡ Opens (bracket true at (at + 2))
+  pub image-opens : get_or text at 0 ≡ 33 → first_is (λ c. c == 91) (drop (at + 1) text) ≡ true → begins_at o l cell text at ≡ Opens (bracket true at (at + 2))
   image-opens is e = mark-begins is ∙ ap (λ z. if z then Opens (bracket true at (at + 2)) else item_at Plain at (suc at)) e
 
-  pub mark-stands : get_or text at 0 ≡ 33 → first_is (λ c. c == 91) (drop (at + 1) text) ≡ false → begins_at o l text at ≡ item_at Plain at (at + 1)
+  pub mark-stands : get_or text at 0 ≡ 33 → first_is (λ c. c == 91) (drop (at + 1) text) ≡ false → begins_at o l cell text at ≡ item_at Plain at (at + 1)
   mark-stands is e = mark-begins is ∙ ap (λ z. if z then Opens (bracket true at (at + 2)) else item_at Plain at (suc at)) e ∙ ap (item_at Plain at) one-more
 
-  pub link-opens : get_or text at 0 ≡ 91 → begins_at o l text at ≡ Opens (bracket false at (at + 1))
-  link-opens is = begins-with o l text at 91 lt is ∙ ap (λ e. Opens (bracket false at e)) one-more
+  pub link-opens : get_or text at 0 ≡ 91 → begins_at o l cell text at ≡ Opens (bracket false at (at + 1))
+  link-opens is = begins-with o l cell text at 91 lt is ∙ ap (λ e. Opens (bracket false at e)) one-more
 
-  pub bracket-closes : get_or text at 0 ≡ 93 → begins_at o l text at ≡ Closes (bracket false at (at + 1))
-  bracket-closes is = begins-with o l text at 93 lt is ∙ ap (λ e. Closes (bracket false at e)) one-more
+  pub bracket-closes : get_or text at 0 ≡ 93 → begins_at o l cell text at ≡ Closes (bracket false at (at + 1))
+  bracket-closes is = begins-with o l cell text at 93 lt is ∙ ap (λ e. Closes (bracket false at e)) one-more
 
   either-way : (z : Bool) → ◌≡◌ {A = Token} (if z then item_at Plain at (suc at) else item_at Plain at (suc at)) (item_at Plain at (at + 1))
   either-way true = ap (item_at Plain at) one-more
   either-way false = ap (item_at Plain at) one-more
 
   abbrev signed : Token
-  signed = dollar (reading o l text) (whole text) at (drop (suc at) text) (braces_behind false (before (reading o l text) (whole text) at) no_braces)
+  signed = dollar (reading o l text) (whole cell text) at (drop (suc at) text) (braces_behind false (before (reading o l text) (whole cell text) at) no_braces)
 
   no-sign : ◌≡◌ {A = Token} (if o.math && false then signed else if o.smart_punctuation then item_at Plain at (suc at) else item_at Plain at (suc at)) (item_at Plain at (at + 1))
   no-sign = unsigned o.math signed (if o.smart_punctuation then item_at Plain at (suc at) else item_at Plain at (suc at)) ∙ either-way o.smart_punctuation
 
-  other-stands : (b : ℕ) → get_or text at 0 ≡ b → is_other b ≡ true → begins_at o l text at ≡ item_at Plain at (at + 1)
+  other-stands : (b : ℕ) → get_or text at 0 ≡ b → is_other b ≡ true → begins_at o l cell text at ≡ item_at Plain at (at + 1)
   other-stands b is e = go (or_cases (b == 124) ((b == 123) || (b == 125)) e)
     where
-      more : ((b == 123) ≡ true) ⊎ ((b == 125) ≡ true) → begins_at o l text at ≡ item_at Plain at (at + 1)
-      more (inl h) = begins-with o l text at 123 lt (is ∙ eqb-true b 123 h) ∙ no-sign
-      more (inr h) = begins-with o l text at 125 lt (is ∙ eqb-true b 125 h) ∙ no-sign
+      more : ((b == 123) ≡ true) ⊎ ((b == 125) ≡ true) → begins_at o l cell text at ≡ item_at Plain at (at + 1)
+      more (inl h) = begins-with o l cell text at 123 lt (is ∙ eqb-true b 123 h) ∙ no-sign
+      more (inr h) = begins-with o l cell text at 125 lt (is ∙ eqb-true b 125 h) ∙ no-sign
 
-      go : ((b == 124) ≡ true) ⊎ (((b == 123) || (b == 125)) ≡ true) → begins_at o l text at ≡ item_at Plain at (at + 1)
-      go (inl h) = begins-with o l text at 124 lt (is ∙ eqb-true b 124 h) ∙ no-sign
+      go : ((b == 124) ≡ true) ⊎ (((b == 123) || (b == 125)) ≡ true) → begins_at o l cell text at ≡ item_at Plain at (at + 1)
+      go (inl h) = begins-with o l cell text at 124 lt (is ∙ eqb-true b 124 h) ∙ no-sign
       go (inr h) = more (or_cases (b == 123) (b == 125) h)
 
 -- each byte of a run of them
-pub others-stand : (o : Options) (l : Lookup) (text : List ℕ) (at b end : ℕ) → get_or text at 0 ≡ b → is_other b ≡ true → end ≡ at + prefix_len (λ c. c == get_or text at 0) (drop at text)
-    → (k : ℕ) → at ≤ k → k < end → begins_at o l text k ≡ item_at Plain k (k + 1)
-others-stand o l text at b end is e ends k low high =
+pub others-stand : (o : Options) (l : Lookup) (cell : Bool) (text : List ℕ) (at b end : ℕ) → get_or text at 0 ≡ b → is_other b ≡ true → end ≡ at + prefix_len (λ c. c == get_or text at 0) (drop at text)
+    → (k : ℕ) → at ≤ k → k < end → begins_at o l cell text k ≡ item_at Plain k (k + 1)
+others-stand o l cell text at b end is e ends k low high =
     let p : ℕ → Bool = λ c. c == get_or text at 0 in
     let n = prefix_len-le-length p (drop at text) in
     let d = length-drop at text in
@@ -185,7 +185,7 @@ others-stand o l text at b end is e ends k low high =
     let byte : get_or text k 0 ≡ b =
     ap (λ i. get_or text i 0) (let q : k ≡ at + (k - at) = omega (arith, low) in q) ∙ sym (get_or-drop at text (k - at) 0)
     ∙ eqb-true (get_or (drop at text) (k - at) 0) (get_or text at 0) (prefix_len_passes p (drop at text) (k - at) 0 inside) ∙ is in
-    other-stands o l text k (let q : k < length text = omega (arith, inside, n, d) in q) b byte e
+    other-stands o l cell text k (let q : k < length text = omega (arith, inside, n, d) in q) b byte e
 
 abbrev none : Flanking
 none = record { opens = false; closes = false }

@@ -4,14 +4,16 @@ use Rattle.std.specs.Option.{option_or}
 use Rattle.std.proofs.Common.{◌≡◌, ◌⊎◌, inl, inr, ℕ, zero, suc, ◌+◌, ◌-◌, ◌<◌, ◌≤◌, ◌==◌, ◌&&◌, Bool, true, false, List, [], ◌∷◌, length, take, drop, get_or, refl, sym, ap, subst, ◌∙◌, arith, cond, eqb-true, length-drop, drop-drop, true≢false}
 use Rattle.std.specs.List.{take_while}
 use Rattle.std.proofs.Math.Seq.{drop-cons}
-use Rattle.std.proofs.lemmas.Bool.{or_cases}
+use Rattle.std.proofs.lemmas.Bool.{or_cases, false_from_ne_true}
+use Rattle.std.proofs.lemmas.Slice.Eq.{bytes_eq-Decides}
 use Rattle.std.proofs.lemmas.List.{append-nil, get_or-drop, length-take-le}
 use Rattle.cmark_grammar.specs.Answers.{Lookup}
 use Rattle.cmark_grammar.specs.CodeSpans.{is_backtick, backticks, code_in, up_to_run, behind_run}
 use Rattle.cmark_grammar.specs.Columns.{is_blank_byte}
 use Rattle.cmark_grammar.specs.InlineTokens.{item_at, break_or, break_to, code_or, entity_or, escape_at, escaped_backtick, from, size_to, begins}
 use Rattle.cmark_grammar.specs.Items.{SoftBreak, HardBreak, Plain, Own, Token, Stands}
-use Rattle.cmark_grammar.specs.Letters.{first_is, behind_all, behind_if, and_then}
+use Rattle.cmark_grammar.specs.LabelsOverLines.{piped}
+use Rattle.cmark_grammar.specs.Letters.{first_is, starts, behind_all, behind_if, and_then}
 use Rattle.cmark_grammar.specs.LineBreaks.{LineBreak, hard_break, ends_with_two_spaces, blank_break, backslash_break_in, blank_break_in, line_break_in}
 use Rattle.cmark_grammar.specs.LinkDefinitions.{behind_blanks}
 use Rattle.cmark_grammar.specs.Options.{Options}
@@ -40,58 +42,58 @@ pub unsigned : {A : Type 0} (z : Bool) (x y : A) → (if z && false then x else 
 unsigned true x y = refl
 unsigned false x y = refl
 
-module _ (o : Options) (l : Lookup) (text : List ℕ) where
+module _ (o : Options) (l : Lookup) (cell : Bool) (text : List ℕ) where
   abbrev r : Reader
   r = reading o l text
 
-  pub from-is : (at : ℕ) → from r (whole text) at ≡ drop at text
+  pub from-is : (at : ℕ) → from r (whole cell text) at ≡ drop at text
   from-is at = append-nil (slice text (max at 0) (length text)) ∙ ap (λ m. slice text m (length text)) (let e : max at 0 ≡ at = omega arith in e) ∙ rest_of text at
 
   pub front : (at b : ℕ) → at < length text → get_or text at 0 ≡ b → drop at text ≡ b ∷ drop (suc at) text
   front at b lt is = drop-cons text at 0 lt ∙ ap (λ x. x ∷ drop (suc at) text) is
 
-  pub begins-with : (at b : ℕ) → at < length text → get_or text at 0 ≡ b → begins_at o l text at ≡ begins r (whole text) at (b ∷ drop (suc at) text)
-  begins-with at b lt is = ap (begins r (whole text) at) (from-is at ∙ front at b lt is)
+  pub begins-with : (at b : ℕ) → at < length text → get_or text at 0 ≡ b → begins_at o l cell text at ≡ begins r (whole cell text) at (b ∷ drop (suc at) text)
+  begins-with at b lt is = ap (begins r (whole cell text) at) (from-is at ∙ front at b lt is)
 
   -- ## Entities and code spans
-  pub entity-begins : (at : ℕ) → at < length text → get_or text at 0 ≡ 38 → begins_at o l text at ≡ entity_or r (whole text) at (entity_in l (drop (suc at) text))
+  pub entity-begins : (at : ℕ) → at < length text → get_or text at 0 ≡ 38 → begins_at o l cell text at ≡ entity_or r (whole cell text) at (entity_in l (drop (suc at) text))
   entity-begins at lt is = begins-with at 38 lt is
 
-  pub code-begins : (at : ℕ) → at < length text → get_or text at 0 ≡ 96 → begins_at o l text at ≡ code_or r (whole text) at (backticks (drop at text)) (code_in (drop at text))
-  code-begins at lt is = begins-with at 96 lt is ∙ ap (λ x. code_or r (whole text) at (backticks x) (code_in x)) (sym (front at 96 lt is))
+  pub code-begins : (at : ℕ) → at < length text → get_or text at 0 ≡ 96 → begins_at o l cell text at ≡ code_or r (whole cell text) at (backticks (drop at text)) (code_in (drop at text))
+  code-begins at lt is = begins-with at 96 lt is ∙ ap (λ x. code_or r (whole cell text) at (backticks x) (code_in x)) (sym (front at 96 lt is))
 
   -- ## Line breaks
-  break-begins : (at : ℕ) → at < length text → IsBreakByte (get_or text at 0) → begins_at o l text at ≡ break_or r (whole text) at (blank_break_in (drop at text)) (item_at Plain at (suc at))
-  break-begins at lt (inl is) = begins-with at 32 lt is ∙ ap (λ x. break_or r (whole text) at (blank_break_in x) (item_at Plain at (suc at))) (sym (front at 32 lt is))
-  break-begins at lt (inr (inl is)) = begins-with at 9 lt is ∙ ap (λ x. break_or r (whole text) at (blank_break_in x) (item_at Plain at (suc at))) (sym (front at 9 lt is))
-  break-begins at lt (inr (inr (inl is))) = begins-with at 10 lt is ∙ ap (λ x. break_or r (whole text) at (blank_break_in x) (item_at Plain at (suc at))) (sym (front at 10 lt is))
-  break-begins at lt (inr (inr (inr is))) = begins-with at 13 lt is ∙ ap (λ x. break_or r (whole text) at (blank_break_in x) (item_at Plain at (suc at))) (sym (front at 13 lt is))
+  break-begins : (at : ℕ) → at < length text → IsBreakByte (get_or text at 0) → begins_at o l cell text at ≡ break_or r (whole cell text) at (blank_break_in (drop at text)) (item_at Plain at (suc at))
+  break-begins at lt (inl is) = begins-with at 32 lt is ∙ ap (λ x. break_or r (whole cell text) at (blank_break_in x) (item_at Plain at (suc at))) (sym (front at 32 lt is))
+  break-begins at lt (inr (inl is)) = begins-with at 9 lt is ∙ ap (λ x. break_or r (whole cell text) at (blank_break_in x) (item_at Plain at (suc at))) (sym (front at 9 lt is))
+  break-begins at lt (inr (inr (inl is))) = begins-with at 10 lt is ∙ ap (λ x. break_or r (whole cell text) at (blank_break_in x) (item_at Plain at (suc at))) (sym (front at 10 lt is))
+  break-begins at lt (inr (inr (inr is))) = begins-with at 13 lt is ∙ ap (λ x. break_or r (whole cell text) at (blank_break_in x) (item_at Plain at (suc at))) (sym (front at 13 lt is))
 
-  pub slash-begins : (at : ℕ) → at < length text → get_or text at 0 ≡ 92 → begins_at o l text at ≡ break_or r (whole text) at (backslash_break_in (drop at text)) (escape_at r (whole text) at (drop (suc at) text))
-  slash-begins at lt is = begins-with at 92 lt is ∙ ap (λ x. break_or r (whole text) at (backslash_break_in x) (escape_at r (whole text) at (drop (suc at) text))) (sym (front at 92 lt is))
+  pub slash-begins : (at : ℕ) → at < length text → get_or text at 0 ≡ 92 → begins_at o l cell text at ≡ break_or r (whole cell text) at (backslash_break_in (drop at text)) (escape_at r (whole cell text) at (drop (suc at) text))
+  slash-begins at lt is = begins-with at 92 lt is ∙ ap (λ x. break_or r (whole cell text) at (backslash_break_in x) (escape_at r (whole cell text) at (drop (suc at) text))) (sym (front at 92 lt is))
 
   -- a break that was found ends where its line ending does
   pub break-stands : (at end : ℕ) (found : LineBreak) (other : Token) → at ≤ end → end ≤ length text → found.behind ≡ drop end text
-      → break_or r (whole text) at (Some found) other ≡ Stands (record { kind = if found.is_hard then HardBreak else SoftBreak; start = at + found.before; end = end }) (read_on text end)
+      → break_or r (whole cell text) at (Some found) other ≡ Stands (record { kind = if found.is_hard then HardBreak else SoftBreak; start = at + found.before; end = end }) (read_on text end)
   break-stands at end found other le within is =
       let a = ap length (from-is at) in
       let b = length-drop at text in
       let c = ap length is in
       let d = length-drop end text in
-      ap (break_to r (whole text) at found) (let e : at + size_to r (whole text) at found.behind ≡ end = omega (arith, a, b, c, d, le, within) in e)
+      ap (break_to r (whole cell text) at found) (let e : at + size_to r (whole cell text) at found.behind ≡ end = omega (arith, a, b, c, d, le, within) in e)
 
   -- at a line ending with the blanks before it from another place on
   pub line-token : (at place end : ℕ) → at ≤ place → place < length text → place ≤ end → end ≤ length text
       → ((k : ℕ) → at ≤ k → k < place → is_blank_byte (get_or text k 0) ≡ true) → (get_or text place 0 ≡ 10) ⊎ (get_or text place 0 ≡ 13)
       → behind_ending (drop place text) ≡ Some (drop end text)
-      → begins_at o l text at ≡ Stands (record {
+      → begins_at o l cell text at ≡ Stands (record {
         kind = if ends_with_two_spaces (slice text at place) then HardBreak else SoftBreak;
         start = if ends_with_two_spaces (slice text at place) then at else place;
         end = end;
       }) (read_on text end)
   line-token at place end le lt order within blanks ends behind =
       break-begins at (let q : at < length text = omega (arith, le, lt) in q) (first (places at place le))
-      ∙ ap (λ x. break_or r (whole text) at x (item_at Plain at (suc at))) found
+      ∙ ap (λ x. break_or r (whole cell text) at x (item_at Plain at (suc at))) found
       ∙ break-stands at end (blank_break (slice text at place) (drop end text)) (item_at Plain at (suc at)) (let q : at ≤ end = omega (arith, le, order) in q) within (by-behind (ends_with_two_spaces (slice text at place)))
       ∙ by-kind (ends_with_two_spaces (slice text at place))
     where
@@ -239,6 +241,23 @@ tick-first (b ∷ bs) e = go (b == 96) refl
     go false q = q
     go true q = absurd (true≢false (sym (ap is_punctuation (eqb-true b 96 q)) ∙ e))
 
+-- an escaped pipe begins with a backslash
+front-of-pipe : (bs : List ℕ) → starts piped bs ≡ true → get_or bs 0 0 ≡ 92
+front-of-pipe bs e = sym (get_or-take-first bs) ∙ ap (λ (l : List ℕ). get_or l 0 0) ((bytes_eq-Decides (take 2 bs) piped).0 e)
+  where
+    get_or-take-first : (bs : List ℕ) → get_or (take 2 bs) 0 0 ≡ get_or bs 0 0
+    get_or-take-first [] = refl
+    get_or-take-first (b ∷ bs) = refl
+
+pipe-no-tick : (bs : List ℕ) → starts piped bs ≡ true → first_is is_backtick bs ≡ false
+pipe-no-tick [] e = refl
+pipe-no-tick (b ∷ bs) e = ap is_backtick (front-of-pipe (b ∷ bs) e)
+
+pipe-first : (cell : Bool) (bs : List ℕ) → first_is is_punctuation bs ≡ false → (cell && starts piped bs) ≡ false
+pipe-first false bs e = refl
+pipe-first true [] e = refl
+pipe-first true (b ∷ bs) e = false_from_ne_true (starts piped (b ∷ bs)) (λ t. true≢false (sym (ap is_punctuation (front-of-pipe (b ∷ bs) t)) ∙ e))
+
 one-tick : (bs : List ℕ) → backticks bs ≡ 1 → (first_is is_backtick bs ≡ true) × (backticks (drop 1 bs) ≡ 0)
 one-tick [] e = absurd (omega (arith, e))
 one-tick (b ∷ bs) e = go (is_backtick b) refl
@@ -258,55 +277,65 @@ some-ticks (b ∷ bs) e f = go (backticks bs) refl
     go zero q = absurd (true≢false (sym (ap (λ m. m == 1) (size ∙ ap (λ m. 1 + m) q)) ∙ f))
     go (suc n) q = omega (arith, size, q)
 
-module _ (o : Options) (l : Lookup) (text : List ℕ) (at : ℕ) (lt : at < length text) (is : get_or text at 0 ≡ 92) where
+module _ (o : Options) (l : Lookup) (cell : Bool) (text : List ℕ) (at : ℕ) (lt : at < length text) (is : get_or text at 0 ≡ 92) where
   abbrev rest : List ℕ
   rest = drop (suc at) text
 
-  abbrev by_first : (tick punctuation : Bool) → Token
-  by_first tick punctuation =
-      if tick then escaped_backtick (reading o l text) (whole text) (suc at) (backticks rest) (code_in (drop 1 rest))
+  abbrev by_first : (tick pipe punctuation : Bool) → Token
+  by_first tick pipe punctuation =
+      if tick then escaped_backtick (reading o l text) (whole cell text) (suc at) (backticks rest) (code_in (drop 1 rest))
+      else if pipe then item_at Plain (at + 2) (at + 3)
       else if punctuation then item_at Plain (suc at) (at + 2)
       else item_at Plain at (suc at)
 
-  escaped : backslash_break_in (drop at text) ≡ None → begins_at o l text at ≡ by_first (first_is is_backtick rest) (first_is is_punctuation rest)
-  escaped none = slash-begins o l text at lt is ∙ ap (λ x. break_or (reading o l text) (whole text) at x (escape_at (reading o l text) (whole text) at rest)) none
+  escaped : backslash_break_in (drop at text) ≡ None → begins_at o l cell text at ≡ by_first (first_is is_backtick rest) (cell && starts piped rest) (first_is is_punctuation rest)
+  escaped none = slash-begins o l cell text at lt is ∙ ap (λ x. break_or (reading o l text) (whole cell text) at x (escape_at (reading o l text) (whole cell text) at rest)) none
 
   next-is : drop (at + 1) text ≡ rest
   next-is = ap (λ k. drop k text) (let e : at + 1 ≡ suc at = omega arith in e)
 
   -- a backslash that escapes nothing
-  pub slash-stands : backslash_break_in (drop at text) ≡ None → first_is is_punctuation (drop (at + 1) text) ≡ false → begins_at o l text at ≡ item_at Plain at (at + 1)
+  pub slash-stands : backslash_break_in (drop at text) ≡ None → first_is is_punctuation (drop (at + 1) text) ≡ false → begins_at o l cell text at ≡ item_at Plain at (at + 1)
   slash-stands none e =
       let p : first_is is_punctuation rest ≡ false = sym (ap (first_is is_punctuation) next-is) ∙ e in
-      escaped none ∙ ap (λ z. by_first z (first_is is_punctuation rest)) (tick-first rest p) ∙ ap (by_first false) p
+      escaped none ∙ ap (λ z. by_first z (cell && starts piped rest) (first_is is_punctuation rest)) (tick-first rest p)
+      ∙ ap (λ z. by_first false z (first_is is_punctuation rest)) (pipe-first cell rest p) ∙ ap (by_first false false) p
       ∙ ap (item_at Plain at) (let q : suc at ≡ at + 1 = omega arith in q)
 
-  -- one that escapes a byte that is no backtick
-  pub slash-escapes : backslash_break_in (drop at text) ≡ None → first_is is_backtick (drop (at + 1) text) ≡ false → first_is is_punctuation (drop (at + 1) text) ≡ true → begins_at o l text at ≡ item_at Plain (at + 1) (at + 2)
-  slash-escapes none t e =
+  -- one that escapes a byte that is no backtick, and in the cell of a table no backslash before a pipe
+  pub slash-escapes : backslash_break_in (drop at text) ≡ None → first_is is_backtick (drop (at + 1) text) ≡ false → (cell && starts piped (drop (at + 1) text)) ≡ false → first_is is_punctuation (drop (at + 1) text) ≡ true → begins_at o l cell text at ≡ item_at Plain (at + 1) (at + 2)
+  slash-escapes none t f e =
       let p : first_is is_punctuation rest ≡ true = sym (ap (first_is is_punctuation) next-is) ∙ e in
       let q : first_is is_backtick rest ≡ false = sym (ap (first_is is_backtick) next-is) ∙ t in
-      escaped none ∙ ap (λ z. by_first z (first_is is_punctuation rest)) q ∙ ap (by_first false) p
+      let n : (cell && starts piped rest) ≡ false = sym (ap (λ bs. cell && starts piped bs) next-is) ∙ f in
+      escaped none ∙ ap (λ z. by_first z (cell && starts piped rest) (first_is is_punctuation rest)) q ∙ ap (λ z. by_first false z (first_is is_punctuation rest)) n ∙ ap (by_first false false) p
       ∙ ap (λ s. item_at Plain s (at + 2)) (let n : suc at ≡ at + 1 = omega arith in n)
+
+  -- one before another and a pipe, in the cell of a table
+  pub slash-pipe : backslash_break_in (drop at text) ≡ None → cell ≡ true → starts piped (drop (at + 1) text) ≡ true → begins_at o l cell text at ≡ item_at Plain (at + 2) (at + 3)
+  slash-pipe none c e =
+      let p : starts piped rest ≡ true = sym (ap (starts piped) next-is) ∙ e in
+      escaped none ∙ ap (λ z. by_first z (cell && starts piped rest) (first_is is_punctuation rest)) (pipe-no-tick rest p)
+      ∙ ap (λ z. by_first false (z && starts piped rest) (first_is is_punctuation rest)) c ∙ ap (λ z. by_first false z (first_is is_punctuation rest)) p
 
   -- one that escapes a backtick of a run
   pub slash-run : backslash_break_in (drop at text) ≡ None → first_is is_backtick (drop (at + 1) text) ≡ true
-      → begins_at o l text at ≡ escaped_backtick (reading o l text) (whole text) (at + 1) (backticks (drop (at + 1) text)) (code_in (drop (at + 2) text))
+      → begins_at o l cell text at ≡ escaped_backtick (reading o l text) (whole cell text) (at + 1) (backticks (drop (at + 1) text)) (code_in (drop (at + 2) text))
   slash-run none t =
       let q : first_is is_backtick rest ≡ true = sym (ap (first_is is_backtick) next-is) ∙ t in
-      escaped none ∙ ap (λ z. by_first z (first_is is_punctuation rest)) q
-      ∙ ap (λ s. escaped_backtick (reading o l text) (whole text) s (backticks (drop s text)) (code_in (drop 1 (drop s text)))) (let n : suc at ≡ at + 1 = omega arith in n)
-      ∙ ap (λ x. escaped_backtick (reading o l text) (whole text) (at + 1) (backticks (drop (at + 1) text)) (code_in x))
+      escaped none ∙ ap (λ z. by_first z (cell && starts piped rest) (first_is is_punctuation rest)) q
+      ∙ ap (λ s. escaped_backtick (reading o l text) (whole cell text) s (backticks (drop s text)) (code_in (drop 1 (drop s text)))) (let n : suc at ≡ at + 1 = omega arith in n)
+      ∙ ap (λ x. escaped_backtick (reading o l text) (whole cell text) (at + 1) (backticks (drop (at + 1) text)) (code_in x))
       (drop-drop 1 (at + 1) text ∙ ap (λ k. drop k text) (let n : at + 1 + 1 ≡ at + 2 = omega arith in n))
 
   -- one that escapes a backtick that stands alone
-  pub slash-lone : backslash_break_in (drop at text) ≡ None → backticks (drop (at + 1) text) ≡ 1 → begins_at o l text at ≡ item_at Own (at + 1) (at + 2)
+  pub slash-lone : backslash_break_in (drop at text) ≡ None → backticks (drop (at + 1) text) ≡ 1 → begins_at o l cell text at ≡ item_at Own (at + 1) (at + 2)
   slash-lone none e =
       let one : backticks rest ≡ 1 = sym (ap backticks next-is) ∙ e in
       let t = one-tick rest one in
-      escaped none ∙ ap (λ z. by_first z (first_is is_punctuation rest)) t.0
-      ∙ ap (λ n. escaped_backtick (reading o l text) (whole text) (suc at) n (code_in (drop 1 rest))) one
-      ∙ ap (escaped_backtick (reading o l text) (whole text) (suc at) 1) (no-code t.1)
+      escaped none ∙ ap (λ z. by_first z (cell && starts piped rest) (first_is is_punctuation rest)) t.0
+      ∙ ap (λ n. escaped_backtick (reading o l text) (whole cell text) (suc at) n (code_in (drop 1 rest))) one
+      ∙ ap (escaped_backtick (reading o l text) (whole cell text) (suc at) 1) (no-code t.1)
       ∙ ap (λ s. item_at Own s (s + 1)) (let n : suc at ≡ at + 1 = omega arith in n)
       ∙ ap (item_at Own (at + 1)) (let n : at + 1 + 1 ≡ at + 2 = omega arith in n)
     where

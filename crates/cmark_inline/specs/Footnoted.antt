@@ -1,11 +1,11 @@
 -- Which closing brackets form footnote references, and what becomes of the slots and the footnotes (this profile's own).
-use Rattle.std.specs.Prelude.{◌≡◌, ℕ, ◌+◌, min, nat_lt, Bool, false, not, ◌&&◌, ◌||◌, if◌then◌else◌, List, [], ◌∷◌, ◌++◌, length, drop, set, Option, None, Some, is_some}
+use Rattle.std.specs.Prelude.{◌≡◌, ℕ, ◌+◌, min, nat_lt, Bool, false, not, ◌&&◌, ◌||◌, if◌then◌else◌, List, [], ◌∷◌, ◌++◌, length, drop, set, Option, None, Some, is_some, option_map}
 use Rattle.cmark_grammar.specs.BracketDecisions as decisions
 use Rattle.cmark_grammar.specs.Labels.{fold, normal_form}
 use Rattle.cmark_grammar.specs.LeafText.{Leaf}
 use Rattle.cmark_grammar.specs.LinkDefinitions.{Found}
 use Rattle.cmark_grammar.specs.LinkTails.{is_bracketed_label, link_tail_in, reference_label_in}
-use Rattle.cmark_grammar.specs.Options.{Options}
+use Rattle.cmark_grammar.specs.Options.{Options, no_options}
 use Rattle.cmark_grammar.specs.Readers.{Reader}
 use Rattle.cmark_grammar.specs.Tokens.{slice}
 use Rattle.cmark_items.specs.Footnotes.{footnote, Counts, Keeps}
@@ -33,6 +33,10 @@ labels options = record {
 abbrev pub no_leaf : Leaf
 no_leaf = record { stretches = []; is_cell = false }
 
+-- a label as it counts: in the cell of a table a pipe in it has no backslashes (GFM 4.10)
+abbrev pub as_label : (is_cell : Bool) → List ℕ → List ℕ
+as_label is_cell label = decisions.as_label (labels no_options) (record { stretches = []; is_cell = is_cell }) label
+
 abbrev pub is_footnote_label : Options → (between : List ℕ) → Bool
 is_footnote_label options between = decisions.is_footnote_label (labels options) no_leaf between
 
@@ -55,9 +59,9 @@ abbrev pub footnote_behind : Options → (is_shut : Bool) → (between behind : 
 footnote_behind options is_shut between behind =
     if is_shut || (is_some (link_tail_in behind) || is_some (unless_footnote options (reference_label_in behind))) then None else footnote_label options between
 
-abbrev pub footnote_of : Options → (is_shut : Bool) → (text : List ℕ) → (close : ℕ) → Option Bracket → Option (List ℕ)
-footnote_of options is_shut text close None = None
-footnote_of options is_shut text close (Some bracket) = footnote_behind options is_shut (slice text bracket.inside close) (drop (close + 1) text)
+abbrev pub footnote_of : Options → (is_cell is_shut : Bool) → (text : List ℕ) → (close : ℕ) → Option Bracket → Option (List ℕ)
+footnote_of options is_cell is_shut text close None = None
+footnote_of options is_cell is_shut text close (Some bracket) = option_map (as_label is_cell) (footnote_behind options is_shut (slice text bracket.inside close) (drop (close + 1) text))
 
 -- it needs a footnote but for old footnotes
 abbrev pub is_accepted : Options → FootnoteDefs → (label : List ℕ) → Bool

@@ -7,7 +7,7 @@ use Rattle.cmark_grammar.specs.Letters.{first_is, is_letter, starts}
 use Rattle.cmark_grammar.specs.Options.{Options}
 use Rattle.cmark_grammar.specs.Tokens.{slice}
 use Rattle.cmark_leaf_text.specs.declared.leaf_text.LeafText.{LeafText}
-use Rattle.cmark_leaf_text.specs.Reads.{IsFirstFrom, text_of, source_of, place_of}
+use Rattle.cmark_leaf_text.specs.Reads.{IsFirstFrom, is_cell_of, text_of, source_of, place_of}
 use Rattle.cmark_inline.specs.Tokens.{Passes, Puts, Appends, AppendsAutolink, opens_markup, read_on}
 use Rattle.cmark_inline.specs.declared.markup.FoundHtml.{FoundHtml}
 use Rattle.cmark_inline.specs.declared.markup.MarkupKind.{MarkupKind}
@@ -86,8 +86,8 @@ pub record AppendsUnclosed (leaf : LeafText) (here : Cursor) (old new : InlineSt
 
 abbrev pub ReadsLess : Options → Lookup → LeafText → (here : Cursor) → (old new : InlineState) → (next : Cursor) → Type 0
 ReadsLess options lookup leaf here old new next =
-    Passes options lookup (text_of leaf) here old new next
-    ⊎ (AppendsAutolink options lookup (text_of leaf) here old new next
-    ⊎ (Appends options lookup (text_of leaf) here old new next
+    Passes options lookup (is_cell_of leaf) (text_of leaf) here old new next
+    ⊎ (AppendsAutolink options lookup (is_cell_of leaf) (text_of leaf) here old new next
+    ⊎ (Appends options lookup (is_cell_of leaf) (text_of leaf) here old new next
     ⊎ (AppendsMarkup leaf here old new next
     ⊎ AppendsUnclosed leaf here old new next)))

@@ -6,6 +6,7 @@ pub mod FoundInSource
 pub mod Linked
 pub mod Opens
 pub mod Quoted
+pub mod Shorts
 pub mod SpecialReads
 pub mod Stands
 pub mod Tokens

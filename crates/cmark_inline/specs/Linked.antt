@@ -6,7 +6,8 @@ use Rattle.cmark_grammar.specs.LinkType as link
 use Rattle.cmark_text.specs.declared.kind.LinkType.{LinkType}
 use Rattle.cmark_grammar.specs.Answers.{Lookup}
 use Rattle.cmark_grammar.specs.Options.{Options}
-use Rattle.cmark_grammar.specs.Tokens.{resolved, slice}
+use Rattle.cmark_grammar.specs.Tokens.{slice}
+use Rattle.cmark_grammar.specs.Unescaped.{unescaped}
 use Rattle.cmark_items.specs.declared.definitions.LinkDef.{LinkDef}
 use Rattle.cmark_text.specs.Shown.{shown_link_type, text_bytes}
 use Rattle.cmark_text.specs.declared.text.CowStr.{CowStr}
@@ -112,16 +113,17 @@ pub record InlineLink : Type 0 where
   pub said : Said
   pub behind : List ℕ
 
-abbrev pub resolved_title : Lookup → Option (List ℕ) → List ℕ
-resolved_title lookup None = []
-resolved_title lookup (Some title) = resolved lookup (title_lines title)
+abbrev pub resolved_title : Lookup → (is_cell : Bool) → Option (List ℕ) → List ℕ
+resolved_title lookup is_cell None = []
+resolved_title lookup is_cell (Some title) = unescaped lookup is_cell (title_lines title)
 
--- its destination and its title with escapes and entities resolved (CommonMark 6.3)
-abbrev pub inline_link : Lookup → LinkTail → InlineLink
-inline_link lookup tail = record {
+-- its destination and its title with escapes and entities resolved (CommonMark 6.3); in the cell of a table `\\|` is `|` in them (this
+-- profile's own)
+abbrev pub inline_link : Lookup → (is_cell : Bool) → LinkTail → InlineLink
+inline_link lookup is_cell tail = record {
   form = link.Inline;
   id = [];
-  said = record { destination = resolved lookup tail.destination; title = resolved_title lookup tail.title };
+  said = record { destination = unescaped lookup is_cell tail.destination; title = resolved_title lookup is_cell tail.title };
   behind = tail.behind;
 }
 

@@ -1,11 +1,11 @@
 -- What begins at a place of a leaf's text, and the slots that stand for it. The text is read as a leaf of one stretch, so places are
--- those of the text.
+-- those of the text; it may be that of a cell of a table, where a backslash before a pipe means something else.
 use Rattle.std.specs.Prelude.{◌≡◌, ℕ, zero, suc, ◌+◌, ◌-◌, ◌≤◌, ◌<◌, Bool, true, false, ◌==◌, ◌||◌, List, [], ◌∷◌, ◌++◌, length, drop, encode_utf8, slice_index, slice_get, Some, None}
 use Rattle.cmark_grammar.specs.Answers.{Lookup}
 use Rattle.cmark_grammar.specs.CodeSpans.{is_backtick, backticks, code_in, code_text}
 use Rattle.cmark_grammar.specs.Columns.{is_blank_byte}
 use Rattle.cmark_grammar.specs.InlineTokens as tokens
-use Rattle.cmark_grammar.specs.InlineTokens.{item_at}
+use Rattle.cmark_grammar.specs.InlineTokens.{as_in, item_at}
 use Rattle.cmark_grammar.specs.Items.{ItemKind, Plain, Own, Written, Quoted, Delimiters, Code, InlineMath, DisplayMath, Autolink, Html, OwnedHtml, SoftBreak, HardBreak, Item, Token, Stands, Opens}
 use Rattle.cmark_grammar.specs.LeafText.{Leaf}
 use Rattle.cmark_grammar.specs.Letters.{first_is}
@@ -28,8 +28,8 @@ use Rattle.cmark_inline.specs.declared.slot.SlotKind.TheVariants as kind
 use Rattle.cmark_inline.specs.declared.state.InlineState.{InlineState}
 use Rattle.cmark_inline.specs.declared.step.Cursor.{Cursor}
 
-abbrev pub whole : (text : List ℕ) → Leaf
-whole text = record { stretches = record { start = 0; end = length text } ∷ []; is_cell = false }
+abbrev pub whole : (is_cell : Bool) → (text : List ℕ) → Leaf
+whole is_cell text = record { stretches = record { start = 0; end = length text } ∷ []; is_cell = is_cell }
 
 -- what it is read with
 abbrev pub reading : Options → Lookup → (text : List ℕ) → Reader
@@ -43,12 +43,12 @@ reading options lookup text = record {
 }
 
 -- what begins at a place, where each byte that stands for itself is an item
-abbrev pub begins_at : Options → Lookup → (text : List ℕ) → (at : ℕ) → Token
-begins_at options lookup text at = tokens.begins_at (reading options lookup text) (whole text) at
+abbrev pub begins_at : Options → Lookup → (is_cell : Bool) → (text : List ℕ) → (at : ℕ) → Token
+begins_at options lookup is_cell text at = tokens.begins_at (reading options lookup text) (whole is_cell text) at
 
 -- where the text is read on behind a break and behind inline HTML
 abbrev pub read_on : (text : List ℕ) → (at : ℕ) → ℕ
-read_on text at = tokens.read_on (reading no_options (λ name. None) text) (whole text) at
+read_on text at = tokens.read_on (reading no_options (λ name. None) text) (whole false text) at
 
 -- the URI of an autolink from its `<` to behind its `>`, and what is behind it
 abbrev pub shown_autolink : (text : List ℕ) → (at end : ℕ) → Found
@@ -59,24 +59,24 @@ abbrev pub opens_markup : (rest : List ℕ) → Bool
 opens_markup rest = first_is (λ b. (b == 33) || (b == 63)) rest
 
 -- a slot of these bytes stands for an item of this kind, where the state owns these texts
-abbrev pub Says : (text : List ℕ) → (texts : List CowStr) → (start end : ℕ) → ItemKind → SlotKind → Type 0
-Says text texts start end Plain kind.Text = Unit {0}
-Says text texts start end Own kind.Text = Unit {0}
-Says text texts start end (Written bytes) (kind.OwnedText index) = (owned : CowStr) × (slice_get texts index ≡ Some owned) × (text_bytes owned ≡ bytes)
-Says text texts start end (Written bytes) (kind.Character character) = encode_utf8 character ≡ bytes
-Says text texts start end (Code bytes) (kind.Code from to) = code_text (slice text from to) ≡ bytes
-Says text texts start end (InlineMath bytes) (kind.InlineMath from to) = slice text from to ≡ bytes
-Says text texts start end (DisplayMath bytes) (kind.DisplayMath from to) = slice text from to ≡ bytes
-Says text texts start end Html kind.InlineHtml = Unit {0}
-Says text texts start end (OwnedHtml bytes) kind.InlineHtml = slice text start end ≡ bytes
-Says text texts start end SoftBreak kind.SoftBreak = Unit {0}
-Says text texts start end HardBreak kind.HardBreak = Unit {0}
-Says text texts start end _ _ = ⊥
+abbrev pub Says : (is_cell : Bool) → (text : List ℕ) → (texts : List CowStr) → (start end : ℕ) → ItemKind → SlotKind → Type 0
+Says is_cell text texts start end Plain kind.Text = Unit {0}
+Says is_cell text texts start end Own kind.Text = Unit {0}
+Says is_cell text texts start end (Written bytes) (kind.OwnedText index) = (owned : CowStr) × (slice_get texts index ≡ Some owned) × (text_bytes owned ≡ bytes)
+Says is_cell text texts start end (Written bytes) (kind.Character character) = encode_utf8 character ≡ bytes
+Says is_cell text texts start end (Code bytes) (kind.Code from to) = code_text (as_in is_cell (slice text from to)) ≡ bytes
+Says is_cell text texts start end (InlineMath bytes) (kind.InlineMath from to) = as_in is_cell (slice text from to) ≡ bytes
+Says is_cell text texts start end (DisplayMath bytes) (kind.DisplayMath from to) = as_in is_cell (slice text from to) ≡ bytes
+Says is_cell text texts start end Html kind.InlineHtml = Unit {0}
+Says is_cell text texts start end (OwnedHtml bytes) kind.InlineHtml = slice text start end ≡ bytes
+Says is_cell text texts start end SoftBreak kind.SoftBreak = Unit {0}
+Says is_cell text texts start end HardBreak kind.HardBreak = Unit {0}
+Says is_cell text texts start end _ _ = ⊥
 
-pub record IsItem (text : List ℕ) (texts : List CowStr) (item : Item) (slot : Slot) : Type 0 where
+pub record IsItem (is_cell : Bool) (text : List ℕ) (texts : List CowStr) (item : Item) (slot : Slot) : Type 0 where
   pub start : slot.start ≡ item.start
   pub end : slot.end ≡ item.end
-  pub says : Says text texts slot.start slot.end item.kind slot.kind
+  pub says : Says is_cell text texts slot.start slot.end item.kind slot.kind
 
 -- a text up to a place, unless it is empty, and then a slot were appended
 pub record Puts (start stop : ℕ) (slot : Slot) (old new : List Slot) : Type 0 where
@@ -94,8 +94,8 @@ pub record PutsAutolink (index start at end : ℕ) (old new : List Slot) : Type 
       ++ (record { kind = kind.End; start = end - 1; end = end } ∷ [])
 
 -- nothing was appended: from the place that was reached to the next one the bytes are one item that stands for itself
-pub record Passes (options : Options) (lookup : Lookup) (text : List ℕ) (here : Cursor) (old new : InlineState) (next : Cursor) : Type 0 where
-  pub token : begins_at options lookup text here.at ≡ item_at Plain here.at next.at
+pub record Passes (options : Options) (lookup : Lookup) (is_cell : Bool) (text : List ℕ) (here : Cursor) (old new : InlineState) (next : Cursor) : Type 0 where
+  pub token : begins_at options lookup is_cell text here.at ≡ item_at Plain here.at next.at
   pub pending : next.pending ≡ here.pending
   pub same : new ≡ old
 
@@ -104,31 +104,31 @@ abbrev pub is_other : ℕ → Bool
 is_other b = (b == 124) || ((b == 123) || (b == 125))
 
 -- nothing was appended: from the place that was reached to the next one each byte is an item that stands for itself
-pub record PassesOver (options : Options) (lookup : Lookup) (text : List ℕ) (here : Cursor) (old new : InlineState) (next : Cursor) : Type 0 where
+pub record PassesOver (options : Options) (lookup : Lookup) (is_cell : Bool) (text : List ℕ) (here : Cursor) (old new : InlineState) (next : Cursor) : Type 0 where
   pub further : here.at < next.at
-  pub plain : (k : ℕ) → here.at ≤ k → k < next.at → begins_at options lookup text k ≡ item_at Plain k (k + 1)
+  pub plain : (k : ℕ) → here.at ≤ k → k < next.at → begins_at options lookup is_cell text k ≡ item_at Plain k (k + 1)
   pub pending : next.pending ≡ here.pending
   pub same : new ≡ old
 
 -- the text that was pending, and then a slot for the item that begins at the place that was reached, or at the blanks before it
-pub record Appends (options : Options) (lookup : Lookup) (text : List ℕ) (here : Cursor) (old new : InlineState) (next : Cursor) : Type 0 where
+pub record Appends (options : Options) (lookup : Lookup) (is_cell : Bool) (text : List ℕ) (here : Cursor) (old new : InlineState) (next : Cursor) : Type 0 where
   pub from : ℕ
   pub item : Item
   pub slot : Slot
   pub behind : here.pending ≤ from
   pub before : from ≤ here.at
   pub blanks : (k : ℕ) → from ≤ k → k < here.at → is_blank_byte (slice_index text k) ≡ true
-  pub token : begins_at options lookup text from ≡ Stands item next.at
+  pub token : begins_at options lookup is_cell text from ≡ Stands item next.at
   pub pending : next.pending ≡ next.at
   pub slots : Puts here.pending from slot old.slots.items new.slots.items
   pub owned : List CowStr
   pub texts : new.texts.items ≡ old.texts.items ++ owned
-  pub is : IsItem text new.texts.items item slot
+  pub is : IsItem is_cell text new.texts.items item slot
   pub others : new ≡ record old { slots = new.slots; texts = new.texts }
 
 -- the text that was pending, and then three slots for the autolink that begins at the place that was reached
-pub record AppendsAutolink (options : Options) (lookup : Lookup) (text : List ℕ) (here : Cursor) (old new : InlineState) (next : Cursor) : Type 0 where
-  pub token : begins_at options lookup text here.at ≡ item_at (Autolink (slice text (here.at + 1) (next.at - 1))) here.at next.at
+pub record AppendsAutolink (options : Options) (lookup : Lookup) (is_cell : Bool) (text : List ℕ) (here : Cursor) (old new : InlineState) (next : Cursor) : Type 0 where
+  pub token : begins_at options lookup is_cell text here.at ≡ item_at (Autolink (slice text (here.at + 1) (next.at - 1))) here.at next.at
   pub pending : next.pending ≡ next.at
   pub slots : PutsAutolink (length old.links.items) here.pending here.at next.at old.slots.items new.slots.items
   pub parts : LinkParts
@@ -138,20 +138,30 @@ pub record AppendsAutolink (options : Options) (lookup : Lookup) (text : List �
 
 -- the text that was pending; behind the backslash at the place that was reached a text begins with the byte that it escapes. A run
 -- of backticks is not settled there yet: its first one stands for itself where the rest of it opens a code span
-pub record Escapes (options : Options) (lookup : Lookup) (text : List ℕ) (here : Cursor) (old new : InlineState) (next : Cursor) : Type 0 where
+pub record Escapes (options : Options) (lookup : Lookup) (is_cell : Bool) (text : List ℕ) (here : Cursor) (old new : InlineState) (next : Cursor) : Type 0 where
   pub pending : next.pending ≡ here.at + 1
   pub at : next.at ≡ here.at + 2
-  pub token : first_is is_backtick (drop (here.at + 1) text) ≡ false → begins_at options lookup text here.at ≡ item_at Plain next.pending next.at
+  pub token : first_is is_backtick (drop (here.at + 1) text) ≡ false → begins_at options lookup is_cell text here.at ≡ item_at Plain next.pending next.at
   pub run : first_is is_backtick (drop (here.at + 1) text) ≡ true
-      → (begins_at options lookup text here.at ≡ tokens.escaped_backtick (reading options lookup text) (whole text) next.pending (backticks (drop next.pending text)) (code_in (drop next.at text)))
+      → (begins_at options lookup is_cell text here.at ≡ tokens.escaped_backtick (reading options lookup text) (whole is_cell text) next.pending (backticks (drop next.pending text)) (code_in (drop next.at text)))
       × (1 < backticks (drop next.pending text))
   pub slots : PushesText here.pending here.at old.slots.items new.slots.items
   pub others : new ≡ record old { slots = new.slots }
 
+-- in the cell of a table: the text that was pending; behind the backslash at the place that was reached stand another one and a pipe,
+-- with which a text begins
+pub record EscapesPipe (options : Options) (lookup : Lookup) (is_cell : Bool) (text : List ℕ) (here : Cursor) (old new : InlineState) (next : Cursor) : Type 0 where
+  pub cell : is_cell ≡ true
+  pub pending : next.pending ≡ here.at + 2
+  pub at : next.at ≡ here.at + 3
+  pub token : begins_at options lookup is_cell text here.at ≡ item_at Plain next.pending next.at
+  pub slots : PushesText here.pending here.at old.slots.items new.slots.items
+  pub others : new ≡ record old { slots = new.slots }
+
 -- the run of backticks that was reached is a text together with the escaped backtick before it
-pub record TakesEscaped (options : Options) (lookup : Lookup) (text : List ℕ) (here : Cursor) (old new : InlineState) (next : Cursor) : Type 0 where
+pub record TakesEscaped (options : Options) (lookup : Lookup) (is_cell : Bool) (text : List ℕ) (here : Cursor) (old new : InlineState) (next : Cursor) : Type 0 where
   pub escaped : (here.pending + 1 ≡ here.at) × (slice_index text here.pending ≡ 96)
-  pub token : begins_at options lookup text here.at ≡ item_at Own here.at next.at
+  pub token : begins_at options lookup is_cell text here.at ≡ item_at Own here.at next.at
   pub pending : next.pending ≡ next.at
   pub slots : new.slots.items ≡ old.slots.items ++ (record { kind = kind.Text; start = here.pending; end = next.at } ∷ [])
   pub others : new ≡ record old { slots = new.slots }
@@ -159,9 +169,9 @@ pub record TakesEscaped (options : Options) (lookup : Lookup) (text : List ℕ) 
 -- ## Quotes and delimiter runs, which are settled among their siblings
 
 -- the text that was pending, and then a slot for the quote that begins at the place that was reached
-pub record AppendsQuote (options : Options) (lookup : Lookup) (text : List ℕ) (here : Cursor) (old new : InlineState) (next : Cursor) : Type 0 where
+pub record AppendsQuote (options : Options) (lookup : Lookup) (is_cell : Bool) (text : List ℕ) (here : Cursor) (old new : InlineState) (next : Cursor) : Type 0 where
   pub quote : Quote
-  pub token : begins_at options lookup text here.at ≡ item_at (Quoted (shown_quote quote)) here.at next.at
+  pub token : begins_at options lookup is_cell text here.at ≡ item_at (Quoted (shown_quote quote)) here.at next.at
   pub pending : next.pending ≡ next.at
   pub before : List Slot
   pub text_is : PushesText here.pending here.at old.slots.items before
@@ -178,9 +188,9 @@ byte_slots start zero = []
 byte_slots start (suc size) = record { kind = kind.Text; start = start; end = start + 1 } ∷ byte_slots (start + 1) size
 
 -- the text that was pending, and then a slot for each byte of the delimiter run that begins at the place that was reached
-pub record AppendsRun (options : Options) (lookup : Lookup) (text : List ℕ) (here : Cursor) (old new : InlineState) (next : Cursor) : Type 0 where
+pub record AppendsRun (options : Options) (lookup : Lookup) (is_cell : Bool) (text : List ℕ) (here : Cursor) (old new : InlineState) (next : Cursor) : Type 0 where
   pub run : Run
-  pub token : begins_at options lookup text here.at ≡ item_at (Delimiters (shown_run run)) here.at next.at
+  pub token : begins_at options lookup is_cell text here.at ≡ item_at (Delimiters (shown_run run)) here.at next.at
   pub pending : next.pending ≡ next.at
   pub before : List Slot
   pub text_is : PushesText here.pending here.at old.slots.items before
@@ -204,8 +214,8 @@ pub record PutsBracket (is_image : Bool) (start at inside : ℕ) (old new : Inli
   pub others : new ≡ record old { slots = new.slots; brackets = new.brackets; doubled = new.doubled }
 
 -- the opening bracket that begins at the place that was reached
-pub record OpensBracket (options : Options) (lookup : Lookup) (text : List ℕ) (here : Cursor) (old new : InlineState) (next : Cursor) : Type 0 where
+pub record OpensBracket (options : Options) (lookup : Lookup) (is_cell : Bool) (text : List ℕ) (here : Cursor) (old new : InlineState) (next : Cursor) : Type 0 where
   pub is_image : Bool
-  pub token : begins_at options lookup text here.at ≡ Opens (tokens.bracket is_image here.at next.at)
+  pub token : begins_at options lookup is_cell text here.at ≡ Opens (tokens.bracket is_image here.at next.at)
   pub pending : next.pending ≡ next.at
   pub puts : PutsBracket is_image here.pending here.at next.at old new

@@ -8,13 +8,14 @@ ghost use Rattle.cmark_grammar.specs.Labels.{fold, normal_form};
 ghost use Rattle.cmark_grammar.specs.LinkTails.{reference_label_in};
 ghost use Rattle.cmark_grammar.specs.Tokens.{slice};
 ghost use Rattle.cmark_items.specs.Footnotes.{Counts};
-ghost use Rattle.cmark_leaf_text.specs.Reads.{IsPart};
+ghost use Rattle.cmark_leaf_text.specs.Reads.{IsPart, is_cell_of};
 ghost use Rattle.cmark_text.specs.Shown.{shown_options, text_bytes};
 ghost use Rattle.cmark_inline.specs.Doubled.{DropsBehind};
 ghost use Rattle.cmark_inline.specs.Footnoted.{CountsOf, KeepsLabel, PutsReference, SameFootnotes, fits_footnote, footnote_behind, footnote_label, footnote_of, forms_footnote, is_accepted, is_footnote_label, reference_as, reference_slot, reference_start, unless_footnote, with_mark};
 ghost use Rattle.cmark_inline.specs.Stands.{AreSlots, IsBracket, IsSlot, Moves, NoNewLink, Stands, begins_link};
 
 use crate::bracket::Bracket;
+use crate::link::label_text;
 use crate::slot::{Slot, SlotKind, hide, put_slot, replace_slot};
 use crate::state::InlineState;
 use crate::step::Cursor;
@@ -22,6 +23,7 @@ use bitflags::Flags;
 use cmark_definitions::behind_byte;
 use cmark_finds::{Label, has_line_ending, is_bracketed_label, link_tail, reference_label};
 use cmark_items::FootnoteDefs;
+use cmark_leaf_text::LeafText;
 use cmark_text::{CowStr, FootnoteLabel, Options};
 use std::alloc::{AllocError, Global};
 
@@ -155,6 +157,7 @@ impl<'a> InlineState<'a> {
     // counted.
     pub(crate) fn footnote(
         &mut self,
+        leaf: &LeafText<'a>,
         options: Options,
         footnotes: &mut FootnoteDefs,
         text: &str,
@@ -164,15 +167,15 @@ impl<'a> InlineState<'a> {
         requires stands { Stands text.now close self.old }
         requires bracket { IfSome taken (IsBracket text.now close) }
         requires close { IsPart text.now close (close + 1) }
-        ensures forms { IfOk result (λ next. is_some next ≡ forms_footnote (shown_options options) footnotes.old (footnote_of (shown_options options) (is_there close self.old.shut_close) text.now close taken)) }
+        ensures forms { IfOk result (λ next. is_some next ≡ forms_footnote (shown_options options) footnotes.old (footnote_of (shown_options options) (is_cell_of leaf.now) (is_there close self.old.shut_close) text.now close taken)) }
         ensures next { IfOk result (λ next. IfSome next (λ next. (next.pending ≡ close + 1) × (next.at ≡ close + 1))) }
         ensures moves { IfOk result (λ next. IfSome next (Moves text.now close self.new)) }
         ensures others { IfOk result (λ next. next ≡ None → self.new ≡ self.old) }
         ensures off { (shown_options options).footnotes ≡ false → (self.new ≡ self.old) × (footnotes.new ≡ footnotes.old) }
-        ensures counts { OnOk result (CountsOf (footnote_of (shown_options options) (is_there close self.old.shut_close) text.now close taken) footnotes.old footnotes.new) }
+        ensures counts { OnOk result (CountsOf (footnote_of (shown_options options) (is_cell_of leaf.now) (is_there close self.old.shut_close) text.now close taken) footnotes.old footnotes.new) }
         ensures same { SameFootnotes footnotes.old footnotes.new }
         ensures expansion { self.new.expansion ≡ self.old.expansion }
-        ensures label { IfOk result (λ next. IfSome next (λ next. IfSome (footnote_of (shown_options options) (is_there close self.old.shut_close) text.now close taken) (λ label. KeepsLabel label self.old.texts.items self.new.texts.items))) }
+        ensures label { IfOk result (λ next. IfSome next (λ next. IfSome (footnote_of (shown_options options) (is_cell_of leaf.now) (is_there close self.old.shut_close) text.now close taken) (λ label. KeepsLabel label self.old.texts.items self.new.texts.items))) }
     {
         if !options.contains(Options::ENABLE_FOOTNOTES) {
             return Ok(None);
@@ -181,13 +184,14 @@ impl<'a> InlineState<'a> {
             return Ok(None);
         };
         let is_shut = self.is_shut(close);
-        let Some(label) = footnote_at(options, text, bracket, close, is_shut) else {
+        let Some(written) = footnote_at(options, text, bracket, close, is_shut) else {
             return Ok(None);
         };
-        if !count(options, footnotes, label)? {
+        let label = label_text(self.alloc, leaf.is_cell(), written)?;
+        if !count(options, footnotes, label.as_str())? {
             return Ok(None);
         }
-        let name = name_of(self.alloc, label)?;
+        let name = name_of(self.alloc, label.as_str())?;
         self.form_footnote(text, bracket, close, name)?;
         Ok(Some(Cursor {
             pending: close + 1,

@@ -1,6 +1,6 @@
 //! Formulas between dollar signs (this profile's own).
 
-ghost use Rattle.std.specs.Prelude.{◌≡◌, ◌<◌, ◌≤◌, ◌+◌, ◌++◌, ◌∷◌, true, false, if◌then◌else◌, ℕ, List, [], length, slice_index, IfOk, OnOk, IfSome};
+ghost use Rattle.std.specs.Prelude.{◌≡◌, ◌<◌, ◌≤◌, ◌+◌, ◌++◌, ◌∷◌, true, false, if◌then◌else◌, ℕ, Bool, List, [], length, slice_index, IfOk, OnOk, IfSome};
 ghost use Rattle.std.specs.Str.{IsCharBoundary};
 ghost use Rattle.cmark_grammar.specs.Answers.{Lookup};
 ghost use Rattle.cmark_grammar.specs.Options.{Options};
@@ -32,7 +32,7 @@ impl<'a> InlineState<'a> {
         ensures dollars { AreDollarsOf text.now dollars.new }
         ensures expansion { self.new.expansion ≡ self.old.expansion }
         ensures moves { IfOk result (Moves text.now here.at self.new) }
-        ensures token { (options : Options) (lookup : Lookup) → options.math ≡ true → IfOk result (Appends options lookup text.now here self.old self.new) }
+        ensures token { (options : Options) (lookup : Lookup) (is_cell : Bool) → options.math ≡ true → IfOk result (Appends options lookup is_cell text.now here self.old self.new) }
     {
         if let Some(formula) = dollars.formula(text, here.at)? {
             let slot = Slot {

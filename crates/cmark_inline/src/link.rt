@@ -2,12 +2,13 @@
 
 ghost use Rattle.std.specs.Prelude.{◌≡◌, ◌<◌, ◌≤◌, ◌+◌, List, ℕ, drop, IfOk, IfSome, length, option_copied, option_map};
 ghost use Rattle.std.specs.Str.{IsCharBoundary};
-ghost use Rattle.cmark_leaf_text.specs.Reads.{IsRead, IsPart, text_of};
+ghost use Rattle.cmark_leaf_text.specs.Reads.{IsRead, IsPart, is_cell_of, text_of};
 ghost use Rattle.cmark_grammar.specs.Labels.{fold};
 ghost use Rattle.cmark_grammar.specs.LinkTails.{link_tail_in};
 ghost use Rattle.cmark_grammar.specs.Tokens.{slice};
 ghost use Rattle.cmark_text.specs.Shown.{shown_options, text_bytes};
 ghost use Rattle.cmark_items.specs.Definitions.{definition};
+ghost use Rattle.cmark_inline.specs.Footnoted.{as_label};
 ghost use Rattle.cmark_inline.specs.Linked.{by_own_label, inline_link, reference_behind, resolved_title, said_by, shown_asked, shown_destination, shown_target};
 ghost use Rattle.cmark_inline.specs.Stands.{IsAsked, IsBracket, IsTarget};
 
@@ -16,7 +17,7 @@ use crate::footnote::{full_label, is_footnote_label};
 use cmark_finds::{collapsed_end, is_bracketed_label, link_tail, title_text};
 use cmark_items::RefDefs;
 use cmark_leaf_text::LeafText;
-use cmark_scan_parts::unescape;
+use cmark_scan_parts::{unescape, with_literal_pipes};
 use cmark_text::{CowStr, EntityLookup, LinkType, Options};
 use std::alloc::{AllocError, Global};
 
@@ -51,22 +52,23 @@ pub struct Target<'a> {
     pub past: usize,
 }
 
-/// An inline link behind its closing bracket, whose texts stand in the text `text`.
+/// An inline link behind its closing bracket, whose texts stand in the text `text`, perhaps that of a cell of a table.
 fn inline_in<'t, E: EntityLookup>(
     alloc: Global,
     text: &'t str,
     at: usize,
+    is_cell: bool,
     entities: &E,
 ) -> Result<Option<Target<'t>>, AllocError>
     requires { IsCharBoundary text.now at }
-    ensures value { IfOk result (λ found. option_map (shown_target text.entry.now) found ≡ option_map (inline_link (E.replacement entities.now)) (link_tail_in (drop at text.entry.now))) }
+    ensures value { IfOk result (λ found. option_map (shown_target text.entry.now) found ≡ option_map (inline_link (E.replacement entities.now) is_cell) (link_tail_in (drop at text.entry.now))) }
     ensures target { IfOk result (λ found. IfSome found (IsTarget text.entry.now at)) }
 {
     let Some(tail) = link_tail(text, at) else {
         return Ok(None);
     };
-    let dest_url = unescape(alloc, CowStr::Borrowed(tail.destination), false, entities)?;
-    let title = resolved_title(alloc, tail.title, entities)?;
+    let dest_url = unescape(alloc, CowStr::Borrowed(tail.destination), is_cell, entities)?;
+    let title = resolved_title(alloc, tail.title, is_cell, entities)?;
     Ok(Some(Target {
         parts: LinkParts {
             link_type: LinkType::Inline,
@@ -83,12 +85,13 @@ fn inline_in<'t, E: EntityLookup>(
 fn resolved_title<'t, E: EntityLookup>(
     alloc: Global,
     title: Option<&'t str>,
+    is_cell: bool,
     entities: &E,
 ) -> Result<CowStr<'t>, AllocError>
-    ensures { IfOk result (λ made. text_bytes made ≡ resolved_title (E.replacement entities.now) (option_copied title.entry)) }
+    ensures { IfOk result (λ made. text_bytes made ≡ resolved_title (E.replacement entities.now) is_cell (option_copied title.entry)) }
 {
     match title {
-        Some(title) => title_text(alloc, title, entities),
+        Some(title) => title_text(alloc, title, is_cell, entities),
         None => Ok(CowStr::Borrowed("")),
     }
 }
@@ -131,14 +134,15 @@ pub fn inline_target<'a, E: EntityLookup>(
     requires read { IsRead leaf.now }
     requires same { text.now ≡ text_of leaf.now }
     requires place { IsCharBoundary text.now at }
-    ensures value { IfOk result (λ found. option_map (shown_target text.now) found ≡ option_map (inline_link (E.replacement entities.now)) (link_tail_in (drop at text.now))) }
+    ensures value { IfOk result (λ found. option_map (shown_target text.now) found ≡ option_map (inline_link (E.replacement entities.now) (is_cell_of leaf.now)) (link_tail_in (drop at text.now))) }
     ensures target { IfOk result (λ found. IfSome found (IsTarget text.now at)) }
 {
+    let is_cell = leaf.is_cell();
     if let Some(source) = leaf.as_source() {
-        let found = inline_in(alloc, source, at, entities)?;
+        let found = inline_in(alloc, source, at, is_cell, entities)?;
         return Ok(found);
     }
-    match inline_in(alloc, text, at, entities)? {
+    match inline_in(alloc, text, at, is_cell, entities)? {
         Some(target) => Ok(Some(own_target(alloc, target)?)),
         None => Ok(None),
     }
@@ -214,6 +218,21 @@ fn own_label_at<'t>(
         end,
         past: end,
     })
+}
+
+/// A label as it counts: in the cell of a table `|` stands in it for each `\|` (GFM 4.10) and each `\\|` (this profile's own). It is the
+/// very text where there is none; fails only where memory is refused.
+pub fn label_text<'t>(
+    alloc: Global,
+    is_cell: bool,
+    label: &'t str,
+) -> Result<CowStr<'t>, AllocError>
+    ensures { IfOk result (λ text. text_bytes text ≡ as_label is_cell label.entry.now) }
+{
+    if is_cell {
+        return with_literal_pipes(alloc, CowStr::Borrowed(label));
+    }
+    Ok(CowStr::Borrowed(label))
 }
 
 /// Where a reference leads, and its title.

@@ -7,7 +7,8 @@ ghost use Rattle.cmark_grammar.specs.Autolinks.{autolink_in};
 ghost use Rattle.cmark_grammar.specs.CodeSpans.{backticks};
 ghost use Rattle.cmark_grammar.specs.Columns.{is_blank_byte};
 ghost use Rattle.cmark_grammar.specs.InlineTokens.{first_of};
-ghost use Rattle.cmark_grammar.specs.Letters.{first_is};
+ghost use Rattle.cmark_grammar.specs.LabelsOverLines.{piped};
+ghost use Rattle.cmark_grammar.specs.Letters.{first_is, starts};
 ghost use Rattle.cmark_grammar.specs.LinkDefinitions.{behind_blanks};
 ghost use Rattle.cmark_grammar.specs.Tokens.{is_punctuation};
 ghost use Rattle.cmark_leaf_text.specs.Reads.{IsRead, IsPart, text_of};
@@ -223,6 +224,18 @@ pub(crate) fn is_followed_by(text: &str, at: usize, byte: u8) -> bool
         return false;
     }
     bytes[at + 1] == byte
+}
+
+// Whether a backslash directly before a pipe stands at this place.
+pub(crate) fn is_pipe_escape(text: &str, at: usize) -> bool
+    ensures value { result ≡ starts piped (drop at text.now) }
+    ensures within { result ≡ true → at + 1 < length text.now }
+    ensures ascii { result ≡ true → slice_index text.now (at + 1) < 128 }
+{
+    match text.as_bytes().get(at..).unwrap_or(&[]) {
+        [b'\\', b'|', ..] => true,
+        _ => false,
+    }
 }
 
 // Whether a run of one backtick stands at this place.

@@ -1,8 +1,8 @@
 //! Brackets, and the links and images that they form (CommonMark 6.3 and 6.4).
 
-ghost use Rattle.std.specs.Prelude.{◌≡◌, ◌⊎◌, true, false, ◌<◌, ◌≤◌, ◌+◌, ◌-◌, ◌++◌, ◌∷◌, ℕ, List, [], length, slice_index, IfOk, OnOk, IfSome, None, Some};
+ghost use Rattle.std.specs.Prelude.{◌≡◌, ◌⊎◌, true, false, ◌<◌, ◌≤◌, ◌+◌, ◌-◌, ◌++◌, ◌∷◌, ℕ, Bool, List, [], length, slice_index, IfOk, OnOk, IfSome, None, Some};
 ghost use Rattle.std.specs.Str.{IsCharBoundary};
-ghost use Rattle.cmark_leaf_text.specs.Reads.{IsRead, IsPart, place_of, text_of};
+ghost use Rattle.cmark_leaf_text.specs.Reads.{IsRead, IsPart, is_cell_of, place_of, text_of};
 ghost use Rattle.cmark_grammar.specs.Labels.{fold, normal_form};
 ghost use Rattle.cmark_items.specs.Definitions.{definition};
 ghost use Rattle.cmark_text.specs.Labelled.{link_text};
@@ -12,13 +12,15 @@ ghost use Rattle.cmark_grammar.specs.Options.{Options as Extensions};
 ghost use Rattle.cmark_text.specs.Shown.{shown_options};
 ghost use Rattle.cmark_inline.specs.Asking.{AsksOnce};
 ghost use Rattle.cmark_inline.specs.Doubled.{DropsBehind, doubles};
-ghost use Rattle.cmark_inline.specs.Footnoted.{SameFootnotes};
+ghost use Rattle.cmark_inline.specs.Footnoted.{SameFootnotes, as_label};
 ghost use Rattle.cmark_inline.specs.Tokens.{OpensBracket, Passes, PutsBracket};
 ghost use Rattle.cmark_inline.specs.Stands.{HoldNoLink, IsEnd, NoNewLink, AreSlots, AreBrackets, IsBracket, IsCursor, IsSlot, IsTarget, Moves, SameSpans, Stands, bytes_of};
 
 use crate::bracket::Bracket;
 use crate::callback::{BrokenLink, BrokenLinkCallback};
-use crate::link::{Asked, Destination, LinkParts, Target, asked_at, defined, inline_target};
+use crate::link::{
+    Asked, Destination, LinkParts, Target, asked_at, defined, inline_target, label_text,
+};
 use crate::place::{behind, is_followed_by, pass};
 use crate::read::Reader;
 use crate::slot::{Element, Slot, SlotKind, begin, push_slot};
@@ -44,7 +46,7 @@ impl<'a> InlineState<'a> {
         requires ascii { slice_index text.now here.at < 128 }
         ensures expansion { self.new.expansion ≡ self.old.expansion }
         ensures moves { IfOk result (Moves text.now here.at self.new) }
-        ensures token { (options : Extensions) (lookup : Lookup) → slice_index text.now here.at ≡ 33 → IfOk result (λ next. Passes options lookup text.now here self.old self.new next ⊎ OpensBracket options lookup text.now here self.old self.new next) }
+        ensures token { (options : Extensions) (lookup : Lookup) (is_cell : Bool) → slice_index text.now here.at ≡ 33 → IfOk result (λ next. Passes options lookup is_cell text.now here self.old self.new next ⊎ OpensBracket options lookup is_cell text.now here self.old self.new next) }
     {
         if is_followed_by(text, here.at, b'[') {
             let inside = behind(text, behind(text, here.at));
@@ -118,7 +120,7 @@ impl<'a> InlineState<'a> {
         if let Some(next) = self.wikilink(leaf, reader.options, text, here.at)? {
             return Ok(next);
         }
-        if let Some(next) = self.footnote(reader.options, footnotes, text, taken, here.at)? {
+        if let Some(next) = self.footnote(leaf, reader.options, footnotes, text, taken, here.at)? {
             return Ok(next);
         }
         if let Some(next) = self.link(leaf, reader, callback, text, taken, here.at)? {
@@ -235,14 +237,15 @@ impl<'a> InlineState<'a> {
         requires read { IsRead leaf.now }
         requires same { text.now ≡ text_of leaf.now }
         ensures asks { AsksOnce F.answers callback.old callback.new }
-        ensures refers { IfOk result (λ found. Refers F.answers (definition reader.now.references.now (fold asked.entry.label.now)) asked.entry.link_type (normal_form asked.entry.label.now)
+        ensures refers { IfOk result (λ found. Refers F.answers (definition reader.now.references.now (fold (as_label (is_cell_of leaf.now) asked.entry.label.now))) asked.entry.link_type (normal_form (as_label (is_cell_of leaf.now) asked.entry.label.now))
             (place_of leaf.now start) (place_of leaf.now (asked.entry.end - 1) + 1) callback.old callback.new found) }
         ensures expansion { IfOk result (λ found. self.new.expansion ≡ left_behind self.old.expansion found) }
         ensures same { SameSpans self.old self.new }
         ensures target { IfOk result (λ found. IfSome found (λ target. (target.end ≡ asked.entry.end) × (target.past ≡ asked.entry.past))) }
     {
-        let label = LinkLabel::new(self.alloc, asked.label)?;
-        if let Some(found) = defined(self.alloc, reader.references, asked.label)? {
+        let written = label_text(self.alloc, leaf.is_cell(), asked.label)?;
+        let label = LinkLabel::new(self.alloc, written.as_str())?;
+        if let Some(found) = defined(self.alloc, reader.references, written.as_str())? {
             let id = CowStr::Borrowed(label.as_str()).into_static(self.alloc)?;
             return Ok(Some(self.resolved(found, asked.link_type, id, asked)));
         }

@@ -1,6 +1,6 @@
 //! Delimiter runs where they stand (CommonMark 6.2).
 
-ghost use Rattle.std.specs.Prelude.{◌≡◌, ◌⊎◌, true, ◌<◌, ◌≤◌, ◌+◌, ◌-◌, ◌++◌, ℕ, List, [], length, slice_index, IfOk, OnOk, IfSome};
+ghost use Rattle.std.specs.Prelude.{◌≡◌, ◌⊎◌, true, ◌<◌, ◌≤◌, ◌+◌, ◌-◌, ◌++◌, ℕ, Bool, List, [], length, slice_index, IfOk, OnOk, IfSome};
 ghost use Rattle.std.specs.Str.{IsCharBoundary};
 ghost use Rattle.cmark_grammar.specs.Answers.{Lookup};
 ghost use Rattle.cmark_text.specs.Shown.{shown_options};
@@ -30,8 +30,8 @@ impl<'a> InlineState<'a> {
         requires ascii { slice_index text.now here.at < 128 }
         ensures expansion { self.new.expansion ≡ self.old.expansion }
         ensures moves { IfOk result (Moves text.now here.at self.new) }
-        ensures token { (lookup : Lookup) → slice_index text.now here.at ≡ mark → is_mark mark ≡ true → IfOk result (λ next. Passes (shown_options options) lookup text.now here self.old self.new next ⊎ AppendsRun (shown_options options) lookup text.now here self.old self.new next) }
-        ensures others { (lookup : Lookup) → slice_index text.now here.at ≡ mark → is_other mark ≡ true → IfOk result (PassesOver (shown_options options) lookup text.now here self.old self.new) }
+        ensures token { (lookup : Lookup) (is_cell : Bool) → slice_index text.now here.at ≡ mark → is_mark mark ≡ true → IfOk result (λ next. Passes (shown_options options) lookup is_cell text.now here self.old self.new next ⊎ AppendsRun (shown_options options) lookup is_cell text.now here self.old self.new next) }
+        ensures others { (lookup : Lookup) (is_cell : Bool) → slice_index text.now here.at ≡ mark → is_other mark ≡ true → IfOk result (PassesOver (shown_options options) lookup is_cell text.now here self.old self.new) }
     {
         let end = run_end(text, here.at);
         let before = character_before(text, here.at);

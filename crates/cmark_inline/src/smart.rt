@@ -1,6 +1,6 @@
 //! Typographic punctuation: dots, hyphens and quotes (this profile's own).
 
-ghost use Rattle.std.specs.Prelude.{◌≡◌, ◌⊎◌, true, ◌<◌, ◌≤◌, ◌+◌, ◌-◌, ◌*◌, ◌++◌, string_bytes, ℕ, List, [], length, slice_index, IfOk, OnOk, IfSome};
+ghost use Rattle.std.specs.Prelude.{◌≡◌, ◌⊎◌, true, ◌<◌, ◌≤◌, ◌+◌, ◌-◌, ◌*◌, ◌++◌, string_bytes, ℕ, Bool, List, [], length, slice_index, IfOk, OnOk, IfSome};
 ghost use Rattle.std.specs.Str.{IsCharBoundary};
 ghost use Rattle.cmark_grammar.specs.Answers.{Lookup};
 ghost use Rattle.cmark_grammar.specs.Dashes as grammar;
@@ -25,7 +25,7 @@ impl<'a> InlineState<'a> {
         requires ascii { slice_index text.now here.at < 128 }
         ensures expansion { self.new.expansion ≡ self.old.expansion }
         ensures moves { IfOk result (Moves text.now here.at self.new) }
-        ensures token { (options : Options) (lookup : Lookup) → options.smart_punctuation ≡ true → slice_index text.now here.at ≡ 46 → IfOk result (λ next. Passes options lookup text.now here self.old self.new next ⊎ Appends options lookup text.now here self.old self.new next) }
+        ensures token { (options : Options) (lookup : Lookup) (is_cell : Bool) → options.smart_punctuation ≡ true → slice_index text.now here.at ≡ 46 → IfOk result (λ next. Passes options lookup is_cell text.now here self.old self.new next ⊎ Appends options lookup is_cell text.now here self.old self.new next) }
     {
         if !text[here.at..].starts_with("...") {
             return Ok(pass(text, here));
@@ -47,7 +47,7 @@ impl<'a> InlineState<'a> {
         requires ascii { slice_index text.now here.at < 128 }
         ensures expansion { self.new.expansion ≡ self.old.expansion }
         ensures moves { IfOk result (Moves text.now here.at self.new) }
-        ensures token { (options : Options) (lookup : Lookup) → options.smart_punctuation ≡ true → slice_index text.now here.at ≡ 45 → IfOk result (λ next. Passes options lookup text.now here self.old self.new next ⊎ Appends options lookup text.now here self.old self.new next) }
+        ensures token { (options : Options) (lookup : Lookup) (is_cell : Bool) → options.smart_punctuation ≡ true → slice_index text.now here.at ≡ 45 → IfOk result (λ next. Passes options lookup is_cell text.now here self.old self.new next ⊎ Appends options lookup is_cell text.now here self.old self.new next) }
     {
         let end = run_end(text, here.at);
         let size = end - here.at;
@@ -74,7 +74,7 @@ impl<'a> InlineState<'a> {
         requires ascii { slice_index text.now here.at < 128 }
         ensures expansion { self.new.expansion ≡ self.old.expansion }
         ensures moves { IfOk result (Moves text.now here.at self.new) }
-        ensures token { (options : Options) (lookup : Lookup) → options.smart_punctuation ≡ true → (slice_index text.now here.at ≡ 34) ⊎ (slice_index text.now here.at ≡ 39) → IfOk result (AppendsQuote options lookup text.now here self.old self.new) }
+        ensures token { (options : Options) (lookup : Lookup) (is_cell : Bool) → options.smart_punctuation ≡ true → (slice_index text.now here.at ≡ 34) ⊎ (slice_index text.now here.at ≡ 39) → IfOk result (AppendsQuote options lookup is_cell text.now here self.old self.new) }
     {
         let end = behind(text, here.at);
         let before = character_before(text, here.at);

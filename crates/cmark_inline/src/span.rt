@@ -1,6 +1,6 @@
 //! Code spans, autolinks and inline HTML (CommonMark 6.1, 6.5 and 6.6).
 
-ghost use Rattle.std.specs.Prelude.{◌≡◌, ◌⊎◌, true, ◌<◌, ◌≤◌, ◌+◌, ◌-◌, ◌++◌, ◌∷◌, ℕ, List, [], length, slice_index, IfOk, OnOk, IfSome};
+ghost use Rattle.std.specs.Prelude.{◌≡◌, ◌⊎◌, true, ◌<◌, ◌≤◌, ◌+◌, ◌-◌, ◌++◌, ◌∷◌, ℕ, List, [], length, slice_index, Bool, IfOk, OnOk, IfSome};
 ghost use Rattle.std.specs.Str.{IsCharBoundary};
 ghost use Rattle.cmark_grammar.specs.Answers.{Lookup};
 ghost use Rattle.cmark_grammar.specs.Options.{Options};
@@ -40,7 +40,7 @@ impl<'a> InlineState<'a> {
         ensures runs { AreRunsOf text.now runs.new }
         ensures expansion { self.new.expansion ≡ self.old.expansion }
         ensures moves { IfOk result (Moves text.now here.at self.new) }
-        ensures token { (options : Options) (lookup : Lookup) → slice_index text.now here.at ≡ 96 → IfOk result (λ next. Appends options lookup text.now here self.old self.new next ⊎ TakesEscaped options lookup text.now here self.old self.new next) }
+        ensures token { (options : Options) (lookup : Lookup) (is_cell : Bool) → slice_index text.now here.at ≡ 96 → IfOk result (λ next. Appends options lookup is_cell text.now here self.old self.new next ⊎ TakesEscaped options lookup is_cell text.now here self.old self.new next) }
     {
         if let Some(span) = runs.code_span(text, here.at)? {
             let slot = Slot {

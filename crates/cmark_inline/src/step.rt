@@ -154,7 +154,7 @@ impl<'a> InlineState<'a> {
     {
         match text.as_bytes()[here.at] {
             b'\n' | b'\r' => self.line_end(text, here),
-            b'\\' => self.backslash(text, here),
+            b'\\' => self.backslash(leaf.is_cell(), text, here),
             b'&' => self.entity(text, reader.entities, here),
             b'`' => self.backticks(&mut sought.runs, text, here),
             b'<' => self.less_than(&mut sought.unclosed, leaf, text, here),

@@ -1,16 +1,17 @@
 //! Line breaks, escapes and entities (CommonMark 2.4, 2.5, 6.7 and 6.8).
 
-ghost use Rattle.std.specs.Prelude.{◌≡◌, ◌⊎◌, true, false, ◌<◌, ◌≤◌, ◌+◌, ◌-◌, ◌++◌, if◌then◌else◌, ℕ, List, [], length, slice_index, IfOk, OnOk, IfSome};
+ghost use Rattle.std.specs.Prelude.{◌≡◌, ◌⊎◌, true, false, ◌<◌, ◌≤◌, ◌+◌, ◌-◌, ◌++◌, if◌then◌else◌, ℕ, Bool, List, [], length, slice_index, IfOk, OnOk, IfSome};
 ghost use Rattle.std.specs.Str.{IsCharBoundary};
 ghost use Rattle.cmark_grammar.specs.Answers.{Lookup};
 ghost use Rattle.cmark_grammar.specs.LineBreaks.{ends_with_two_spaces};
 ghost use Rattle.cmark_grammar.specs.Options.{Options};
 ghost use Rattle.cmark_inline.specs.Stands.{AreSlots, AreBrackets, IsBracket, IsCursor, IsSlot, IsTarget, Moves, SameSpans, Stands, begins_link, bytes_of};
-ghost use Rattle.cmark_inline.specs.Tokens.{Appends, Escapes, Passes, Puts, read_on};
+ghost use Rattle.cmark_inline.specs.Tokens.{Appends, Escapes, EscapesPipe, Passes, Puts, read_on};
 ghost use Rattle.cmark_inline.specs.declared.slot.SlotKind.TheVariants as slot_kind;
 
 use crate::place::{
-    before_blanks, behind, end_behind, is_escape, is_lone_backtick, pass, words_from,
+    before_blanks, behind, end_behind, is_escape, is_lone_backtick, is_pipe_escape, pass,
+    words_from,
 };
 use crate::slot::{Slot, SlotKind};
 use crate::state::InlineState;
@@ -30,7 +31,7 @@ impl<'a> InlineState<'a> {
         requires ascii { slice_index text.now here.at < 128 }
         ensures expansion { self.new.expansion ≡ self.old.expansion }
         ensures moves { IfOk result (Moves text.now here.at self.new) }
-        ensures token { (options : Options) (lookup : Lookup) → (slice_index text.now here.at ≡ 10) ⊎ (slice_index text.now here.at ≡ 13) → IfOk result (Appends options lookup text.now here self.old self.new) }
+        ensures token { (options : Options) (lookup : Lookup) (is_cell : Bool) → (slice_index text.now here.at ≡ 10) ⊎ (slice_index text.now here.at ≡ 13) → IfOk result (Appends options lookup is_cell text.now here self.old self.new) }
     {
         let stop = before_blanks(text, here);
         let Some(found) = line_break(text, here.at) else {
@@ -75,16 +76,22 @@ impl<'a> InlineState<'a> {
         })
     }
 
-    // A backslash: a hard break before a line end (CommonMark 6.7), or an escape (CommonMark 2.4).
+    // A backslash: a hard break before a line end (CommonMark 6.7), or an escape (CommonMark 2.4). In the cell of a table it escapes a
+    // backslash before a pipe together with the pipe (this profile's own).
     #[tactic(auto, using(std::proofs::lemmas::Str::lead_after_ascii))]
-    pub(crate) fn backslash(&mut self, text: &str, here: Cursor) -> Result<Cursor, AllocError>
+    pub(crate) fn backslash(
+        &mut self,
+        is_cell: bool,
+        text: &str,
+        here: Cursor,
+    ) -> Result<Cursor, AllocError>
         requires stands { Stands text.now here.pending self.old }
         requires cursor { IsCursor text.now here }
         requires here { here.at < length text.now }
         requires ascii { slice_index text.now here.at < 128 }
         ensures expansion { self.new.expansion ≡ self.old.expansion }
         ensures moves { IfOk result (Moves text.now here.at self.new) }
-        ensures token { (options : Options) (lookup : Lookup) → slice_index text.now here.at ≡ 92 → IfOk result (λ next. Passes options lookup text.now here self.old self.new next ⊎ (Appends options lookup text.now here self.old self.new next ⊎ Escapes options lookup text.now here self.old self.new next)) }
+        ensures token { (options : Options) (lookup : Lookup) → slice_index text.now here.at ≡ 92 → IfOk result (λ next. Passes options lookup is_cell text.now here self.old self.new next ⊎ (Appends options lookup is_cell text.now here self.old self.new next ⊎ (Escapes options lookup is_cell text.now here self.old self.new next ⊎ EscapesPipe options lookup is_cell text.now here self.old self.new next))) }
     {
         if let Some(found) = line_break(text, here.at) {
             let slot = Slot {
@@ -110,6 +117,12 @@ impl<'a> InlineState<'a> {
             return Ok(next);
         }
         self.flush(text, here, here.at)?;
+        if is_cell && is_pipe_escape(text, escaped) {
+            return Ok(Cursor {
+                pending: end,
+                at: behind(text, end),
+            });
+        }
         Ok(Cursor {
             pending: escaped,
             at: end,
@@ -129,7 +142,7 @@ impl<'a> InlineState<'a> {
         requires ascii { slice_index text.now here.at < 128 }
         ensures expansion { self.new.expansion ≡ self.old.expansion }
         ensures moves { IfOk result (Moves text.now here.at self.new) }
-        ensures token { (options : Options) → slice_index text.now here.at ≡ 38 → IfOk result (λ next. Passes options (E.replacement entities.now) text.now here self.old self.new next ⊎ Appends options (E.replacement entities.now) text.now here self.old self.new next) }
+        ensures token { (options : Options) (is_cell : Bool) → slice_index text.now here.at ≡ 38 → IfOk result (λ next. Passes options (E.replacement entities.now) is_cell text.now here self.old self.new next ⊎ Appends options (E.replacement entities.now) is_cell text.now here self.old self.new next) }
     {
         let Some(entity) = scan_entity(text[here.at..].as_bytes(), entities) else {
             return Ok(pass(text, here));

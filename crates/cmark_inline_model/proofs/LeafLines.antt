@@ -3,10 +3,12 @@ use Rattle.std.specs.Prelude.{◌-◌, ◌==◌, nat_lt, if◌then◌else◌, ge
 use Rattle.std.proofs.Common.{◌≡◌, ◌⊎◌, inl, inr, ⊎_elim, ℕ, zero, suc, ◌+◌, ◌<◌, Bool, true, false, not, ◌&&◌, ◌||◌, List, [], ◌∷◌, ◌++◌, length, drop, refl, sym, ap, ◌∙◌, subst, arith, append_assoc, Option, Some, None, true≢false, length-append, get_or-append-add}
 use Rattle.cmark_grammar.specs.Answers.{Lookup}
 use Rattle.cmark_grammar.specs.BlockDocument.{BlockKind, ListItem, Text, OwnedText, Html, BlockNode, BlockDocument, Nil, Node, node}
-use Rattle.cmark_grammar.specs.BlockReading.{Reads, Around, Inside, Alone, Silent, read_as}
+use Rattle.cmark_grammar.specs.BlockReading.{Reads, Around, Inside, Alone, First, Silent, begins_element, over, first_event, read_as}
 use Rattle.cmark_grammar.specs.Blocks.{Blocks, Nil as NoBlocks, BlankLine, Paragraph as ParagraphBlock, SetextHeading, LeafBlock, ContainerBlock, behind_leaf, place_in, Body}
 use Rattle.cmark_grammar.specs.Containers.{Container, Quote, Item, Footnote, is_alert, unless_tag, enter, strips, is_bare_start, insides}
-use Rattle.cmark_grammar.specs.Derivation.{leaf_then, item_then, document_of, Derives}
+use Rattle.cmark_grammar.specs.Derivation.{leaf_then, item_then, task_then, document_of, Derives}
+use Rattle.cmark_grammar.specs.Event.{Ranged}
+use Rattle.cmark_grammar.specs.TaskItems.{behind_box}
 use Rattle.cmark_grammar.specs.Lines.{lines, ends_line, onto, is_content, line_feed, carriage_return, begins_with_line_feed}
 use Rattle.cmark_grammar.specs.Columns.{is_blank_byte, drop_end}
 use Rattle.cmark_grammar.specs.TableRows.{cells_start, cells_of}
@@ -16,8 +18,8 @@ use Rattle.cmark_grammar.specs.Metadata.{ends_metadata}
 use Rattle.cmark_grammar.specs.Openings.{Leaf, ThematicBreak as ThematicBreakLeaf, AtxHeading as AtxHeadingLeaf, IndentedCode as IndentedCodeLeaf, FencedCode as FencedCodeLeaf, HtmlBlock as HtmlBlockLeaf, LinkDefinition as LinkDefinitionLeaf, MetadataBlock as MetadataBlockLeaf, Table as TableLeaf}
 use Rattle.cmark_grammar.specs.Options.{Options}
 use Rattle.cmark_grammar.specs.Places.{Place, Apart, BehindTitle, over_blank}
-use Rattle.cmark_grammar.specs.Rows.{Row, rows, rows_from, first_place, begin_of, start_of, past_of, words_of}
-use Rattle.cmark_grammar.specs.SpanDocuments.{Segment, Given, Content, stretches_of, leaf_of, is_leaf, inside_of, node_segments, segments}
+use Rattle.cmark_grammar.specs.Rows.{Row, rows, rows_from, without, first_place, begin_of, start_of, past_of, words_of}
+use Rattle.cmark_grammar.specs.SpanDocuments.{Segment, Given, Content, stretches_of, leaf_of, is_leaf, inside_of, node_segments, first_of_segments, with_first_segment, segments}
 use Rattle.cmark_grammar.specs.Tokens.{texts_then, Piece, text_kind_of, html_kind_of, html_then, code_tokens, html_tokens, fenced_lines, lines_before, piece_if, stretch_then, stretches, end_place, words_end, paragraph_tokens, heading_tokens, behind_hashes, heading_columns, slice}
 use Rattle.cmark_grammar.proofs.BoundaryLaws.{joined}
 use Rattle.cmark_grammar.proofs.RowPlaces.{strip-past}
@@ -239,6 +241,10 @@ item_of_lines text false number tight item inside after e i a = (no_leaf text (N
 item_of_lines text true number tight item inside Nil e i a = (no_leaf text (Node item inside Nil), ((λ f. absurd (true≢false (sym f ∙ e))), i, tt), tt)
 item_of_lines text true number tight item inside (Node list items after) e i a = (no_leaf text (Node item inside items), ((λ f. absurd (true≢false (sym f ∙ e))), i, a.1), a.2)
 
+task_of_lines : (text : List ℕ) (task : Option Bool) (start end : ℕ) (inside : BlockDocument) → AreOfLines text inside → AreOfLines text (task_then task start end inside)
+task_of_lines text None start end inside h = h
+task_of_lines text (Some is_checked) start end inside h = (λ e. absurd (true≢false (sym e)), tt, h)
+
 document_of_lines : (text : List ℕ) (options : Options) (lookup : Lookup) (direct : Bool) (before : Option ListBefore) (behind : Place) (all : List Row) (b : Blocks) → Body options behind all b → RowsEnd text all
     → AreOfLines text (document_of text options lookup direct before b)
 document_of_lines text options lookup direct before behind all NoBlocks body g = tt
@@ -277,13 +283,15 @@ document_of_lines text options lookup direct before behind all (ContainerBlock (
       document_of_lines text options lookup false None (place_in (Footnote label old size)) (insides (Footnote label old size) first more) inside body.contents (rows_inside text (Footnote label old size) first more s.0),
       document_of_lines text options lookup direct None Apart body.rest after body.after s.1,
     )
-document_of_lines text options lookup direct before behind all (ContainerBlock (Item mark number width) first more inside after) body g =
+document_of_lines text options lookup direct before behind all (ContainerBlock (Item mark number width task) first more inside after) body g =
     let c : RowsEnd text ((first ∷ more) ++ body.rest) = subst (RowsEnd text) body.cut g in
     let s = rows_split text (first ∷ more) body.rest c in
     let tight = tight_behind before mark inside after in
-    item_of_lines text (goes_on mark after) number tight (node ListItem (begin_of first) (past_of first more)) (document_of text options lookup tight None inside)
+    item_of_lines text (goes_on mark after) number tight (node ListItem (begin_of first) (past_of first more))
+    (task_then task (begin_of (without width first)) (begin_of (without (behind_box task width) first)) (document_of text options lookup tight None inside))
     (document_of text options lookup direct (Some (record { mark = mark; tight = tight })) after) refl
-    (document_of_lines text options lookup tight None Apart (insides (Item mark number width) first more) inside body.contents (rows_inside text (Item mark number width) first more s.0))
+    (task_of_lines text task (begin_of (without width first)) (begin_of (without (behind_box task width) first)) (document_of text options lookup tight None inside)
+    (document_of_lines text options lookup tight None (place_in (Item mark number width task)) (insides (Item mark number width task) first more) inside body.contents (rows_inside text (Item mark number width task) first more s.0)))
     (document_of_lines text options lookup direct (Some (record { mark = mark; tight = tight })) Apart body.rest after body.after s.1)
 
 -- ## Leaves
@@ -310,15 +318,30 @@ node_lines : (text : List ℕ) (reads : Reads) (node : BlockNode) (inside : List
 node_lines text (Around tag) node inside h = lines_append text inside (Given _ ∷ []) h tt
 node_lines text Inside node inside h = h
 node_lines text (Alone event) node inside h = tt
+node_lines text (First event) node inside h = tt
 node_lines text Silent node inside h = tt
+
+first_lines : (text : List ℕ) (element : Bool) (r : Ranged) (others : List Segment) → AreLeavesOfLines text others → AreLeavesOfLines text (first_of_segments element (Given r) others)
+first_lines text true r [] h = tt
+first_lines text true r (Given x ∷ others) h = h
+first_lines text true r (Content leaf ∷ others) h = h
+first_lines text false r others h = h
+
+with_lines : (text : List ℕ) (reads : Reads) (element : Bool) (at : BlockNode) (others : List Segment) → AreLeavesOfLines text others → AreLeavesOfLines text (with_first_segment (first_event reads) element at others)
+with_lines text (Around tag) element at others h = h
+with_lines text Inside element at others h = h
+with_lines text (Alone event) element at others h = h
+with_lines text (First event) element at others h = first_lines text element (over at event) others h
+with_lines text Silent element at others h = h
 
 segments_lines : (text : List ℕ) (document : BlockDocument) → AreOfLines text document → AreLeavesOfLines text (segments document)
 segments_lines text Nil h = tt
 segments_lines text (Node node inside after) h =
     let own = inside_of node.kind inside (segments inside) in
-    lines_append text (node_segments (read_as node.kind) node own) (segments after)
+    with_lines text (read_as node.kind) (begins_element after) node (node_segments (read_as node.kind) node own ++ segments after)
+    (lines_append text (node_segments (read_as node.kind) node own) (segments after)
     (node_lines text (read_as node.kind) node own (inside_lines text node.kind inside (segments inside) h.0 (segments_lines text inside h.1)))
-    (segments_lines text after h.2)
+    (segments_lines text after h.2))
 
 pub derived-lines : (text : List ℕ) (options : Options) (lookup : Lookup) (document : BlockDocument) → Derives text options lookup document → AreLeavesOfLines text (segments document)
 derived-lines text options lookup document h =

@@ -1,11 +1,12 @@
 -- The events of a reading are balanced: each start has its end, with the same bytes.
-use Rattle.std.specs.Prelude.{map}
-use Rattle.std.proofs.Common.{◌≡◌, ℕ, List, [], ◌∷◌, ◌++◌, refl, sym, ap, subst, ◌∙◌}
+use Rattle.cmark_inline_model.proofs.DocumentLeaves.{begins-start}
+use Rattle.std.specs.Prelude.{map, if◌then◌else◌}
+use Rattle.std.proofs.Common.{◌≡◌, ℕ, List, [], ◌∷◌, ◌++◌, refl, sym, ap, subst, ◌∙◌, Bool, true, false}
 use Rattle.std.proofs.lemmas.List.{append_assoc, map-append}
 use Rattle.cmark_grammar.specs.Balance as balance
 use Rattle.cmark_grammar.specs.Balance.{IsSingle, Balanced}
-use Rattle.cmark_grammar.specs.BlockDocument.{BlockKind, Paragraph, TightParagraph, Heading, ThematicBreak, IndentedCode, FencedCode, HtmlBlock, LinkDefinition, MetadataBlock, BlockQuote, BlockList, ListItem, FootnoteDefinition, Text, OwnedText, Html, BlockNode, BlockDocument, Nil, Node, Table, TableHead, TableRow, TableCell}
-use Rattle.cmark_grammar.specs.BlockReading.{Reads, Around, Inside, Alone, Silent, read_as, over}
+use Rattle.cmark_grammar.specs.BlockDocument.{BlockKind, Paragraph, TightParagraph, Heading, ThematicBreak, IndentedCode, FencedCode, HtmlBlock, LinkDefinition, MetadataBlock, BlockQuote, BlockList, ListItem, TaskMarker, FootnoteDefinition, Text, OwnedText, Html, BlockNode, BlockDocument, Nil, Node, Table, TableHead, TableRow, TableCell}
+use Rattle.cmark_grammar.specs.BlockReading.{Reads, Around, Inside, Alone, First, Silent, first_event, read_as, over, begins_element}
 use Rattle.cmark_grammar.specs.Event.{Start, End, Ranged}
 use Rattle.cmark_grammar.specs.InlineReading.{event_of, inline_events}
 use Rattle.cmark_grammar.specs.Items.{ItemKind, Plain, Own, Written, Quoted, Delimiters, Code, InlineMath, DisplayMath, Autolink, Html as InlineHtml, OwnedHtml, FootnoteReference, SoftBreak, HardBreak, Item}
@@ -14,10 +15,15 @@ use Rattle.cmark_grammar.specs.LeafText.{Leaf}
 use Rattle.cmark_grammar.specs.Questions.{Saying}
 use Rattle.cmark_grammar.specs.Readers.{Reader}
 use Rattle.cmark_grammar.specs.Siblings.{Inline, Nil as NoSpans, Single as SingleItem, Around as Element_around}
-use Rattle.cmark_grammar.specs.SpanDocuments.{Segment, Given, Content, inside_of, node_segments, segments, ReadsAll}
+use Rattle.cmark_grammar.specs.SpanDocuments.{Segment, Given, Content, inside_of, node_segments, first_of_segments, with_first_segment, segments, ReadsAll}
 use Rattle.cmark_grammar.specs.TagEnd.{end_of}
 use Rattle.cmark_grammar.proofs.BalanceLaws.{IsFit, fit}
 use Rattle.cmark_inline_model.specs.ReadingRanges.{ranged, Matched, NoMore, Alone as AloneEvent, Pair}
+
+-- an event of its own directly behind the first one
+pub matched-second : (r x : Ranged) (rest : List Ranged) → IsSingle r.event → Matched (x ∷ rest) → Matched (x ∷ (r ∷ rest))
+matched-second r _ _ fits (AloneEvent x after single b) = AloneEvent x (r ∷ after) single (AloneEvent r after fits b)
+matched-second r _ _ fits (Pair tag start end inside after i a) = Pair tag start end (r ∷ inside) after (AloneEvent r inside fits i) a
 
 pub matched-append : (first second : List Ranged) → Matched first → Matched second → Matched (first ++ second)
 matched-append _ second NoMore b = b
@@ -113,6 +119,7 @@ module _ (reader : Reader) (Says : Saying) where
   inside_matches (FootnoteDefinition label) content others k = k
   inside_matches (BlockList number tight) content others k = k
   inside_matches ListItem content others k = k
+  inside_matches (TaskMarker is_checked) content others k = k
   inside_matches (Text bytes) content others k = k
   inside_matches (OwnedText bytes) content others k = k
   inside_matches (Html bytes) content others k = k
@@ -127,11 +134,27 @@ module _ (reader : Reader) (Says : Saying) where
   node_matches Inside node inside fits k = k
   node_matches (Alone event) node inside fits k = λ before after events h.
       subst Matched (sym (h.2 ∙ ap (λ l. over node event ∷ l) h.1.0)) (AloneEvent (over node event) [] fits NoMore)
+  node_matches (First event) node inside fits k = λ before after events h. subst Matched (sym h.0) NoMore
   node_matches Silent node inside fits k = λ before after events h. subst Matched (sym h.0) NoMore
+
+  first_matches : (element : Bool) (r : Ranged) (others : List Segment) → IsSingle r.event → (element ≡ true → (x : Ranged) × (more : List Segment) × (others ≡ Given x ∷ more)) → Balances others → Balances (first_of_segments element (Given r) others)
+  first_matches false r others fits begins k = λ before after events h. subst Matched (sym h.2) (AloneEvent r h.0 fits (k before after h.0 h.1))
+  first_matches true r [] fits begins k = λ before after events h. subst Matched (sym h.2) (AloneEvent r h.0 fits (k before after h.0 h.1))
+  first_matches true r (Given x ∷ others) fits begins k = λ before after events h. subst Matched (sym (h.2 ∙ ap (λ l. x ∷ l) h.1.2)) (matched-second r x h.1.0 fits (k before after (x ∷ h.1.0) (h.1.0, h.1.1, refl)))
+  first_matches true r (Content leaf ∷ others) fits begins k = absurd (let b = begins refl in let q : Content leaf ∷ others ≡ Given b.0 ∷ b.1 = b.2 in cc)
+
+  with_matches : (reads : Reads) (node : BlockNode) (inside : List Segment) (behind : BlockDocument) → IsFit reads → Balances (node_segments reads node inside ++ segments behind)
+      → Balances (with_first_segment (first_event reads) (begins_element behind) node (node_segments reads node inside ++ segments behind))
+  with_matches (Around tag) node inside behind fits k = k
+  with_matches Inside node inside behind fits k = k
+  with_matches (Alone event) node inside behind fits k = k
+  with_matches (First event) node inside behind fits k = first_matches (begins_element behind) (over node event) (segments behind) fits (λ e. let b = begins-start behind e in (b.0, b.1, b.2)) k
+  with_matches Silent node inside behind fits k = k
 
   pub document-matched : (document : BlockDocument) → Balances (segments document)
   document-matched Nil = λ before after events h. subst Matched (sym h.0) NoMore
   document-matched (Node node inside after) =
       let own = inside_of node.kind inside (segments inside) in
-      append_matches (node_segments (read_as node.kind) node own) (segments after)
-      (node_matches (read_as node.kind) node own (fit node.kind) (inside_matches node.kind inside (segments inside) (document-matched inside))) (document-matched after)
+      with_matches (read_as node.kind) node own after (fit node.kind)
+      (append_matches (node_segments (read_as node.kind) node own) (segments after)
+      (node_matches (read_as node.kind) node own (fit node.kind) (inside_matches node.kind inside (segments inside) (document-matched inside))) (document-matched after))

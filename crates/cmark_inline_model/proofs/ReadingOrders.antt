@@ -1,13 +1,14 @@
 -- The events of a reading stand in order in the text, each element around what is inside it, but for what the pipe of a wikilink cuts.
 use Rattle.std.specs.Prelude.{zero, suc, ◌-◌, get_or}
-use Rattle.std.proofs.Common.{◌≡◌, inl, inr, ℕ, ◌<◌, ◌≤◌, true≢false, List, [], ◌∷◌, ◌++◌, length, refl, sym, ap, subst, arith, ◌∙◌, append_assoc, append-nil}
+use Rattle.std.proofs.Common.{◌≡◌, ◌⊎◌, ⊎_elim, Bool, true, false, inl, inr, ℕ, ◌<◌, ◌≤◌, true≢false, List, [], ◌∷◌, ◌++◌, length, refl, sym, ap, subst, arith, ◌∙◌, append_assoc, append-nil}
 use Rattle.std.proofs.lemmas.Bool.{eq-eqb}
-use Rattle.cmark_grammar.specs.BlockDocument.{BlockKind, Paragraph, TightParagraph, Heading, ThematicBreak, IndentedCode, FencedCode, HtmlBlock, LinkDefinition, MetadataBlock, BlockQuote, BlockList, ListItem, FootnoteDefinition, Text, OwnedText, Html, BlockNode, BlockDocument, Nil, Node, Table, TableHead, TableRow, TableCell}
-use Rattle.cmark_grammar.specs.BlockReading.{Reads as ReadsAs, Around, Inside, Alone, Silent, read_as, over}
+use Rattle.cmark_grammar.specs.BlockDocument.{BlockKind, Paragraph, TightParagraph, Heading, ThematicBreak, IndentedCode, FencedCode, HtmlBlock, LinkDefinition, MetadataBlock, BlockQuote, BlockList, ListItem, TaskMarker, FootnoteDefinition, Text, OwnedText, Html, BlockNode, BlockDocument, Nil, Node, Table, TableHead, TableRow, TableCell}
+use Rattle.cmark_grammar.specs.BlockReading.{Reads as ReadsAs, Around, Inside, Alone, First, Silent, first_event, read_as, over, begins_element}
 use Rattle.cmark_grammar.specs.BracketDecisions.{decide}
 use Rattle.cmark_grammar.specs.BracketReading.{Reads}
 use Rattle.cmark_grammar.specs.BracketStates.{State, Decision}
-use Rattle.cmark_grammar.specs.Event.{Start, End, Ranged}
+use Rattle.cmark_grammar.specs.Balance.{IsSingle}
+use Rattle.cmark_grammar.specs.Event.{Event, Start, End, Ranged}
 use Rattle.cmark_grammar.specs.InlineReading.{event_of, inline_events}
 use Rattle.cmark_grammar.specs.InlineTokens.{token}
 use Rattle.cmark_grammar.specs.Items.{Bracket, Token, Ends}
@@ -20,16 +21,16 @@ use Rattle.cmark_grammar.specs.Ranges.{InOrder}
 use Rattle.cmark_grammar.specs.Readers.{Reader}
 use Rattle.cmark_grammar.specs.Siblings.{Inline, Nil as NoSpans, Single as SingleItem, Around as SpanAround}
 use Rattle.cmark_grammar.specs.SiblingsModel.{spans_in}
-use Rattle.cmark_grammar.specs.SpanDocuments.{Segment, Given, Content, stretches_of, leaf_of, inside_of, node_segments, segments, ReadsAll, Profile, reader_of, at_start, IsReading}
+use Rattle.cmark_grammar.specs.SpanDocuments.{Segment, Given, Content, stretches_of, leaf_of, inside_of, node_segments, first_of_segments, with_first_segment, segments, ReadsAll, Profile, reader_of, at_start, IsReading}
 use Rattle.cmark_grammar.specs.Tag.{Tag}
 use Rattle.cmark_grammar.specs.TagEnd as tag_end
 use Rattle.cmark_grammar.proofs.BalanceLaws.{IsFit, fit}
 use Rattle.cmark_grammar.proofs.RangeLaws.{derived-order}
 use Rattle.cmark_inline_model.specs.LeafModel.{HaveLineEnds, AreLeavesOfLines}
 use Rattle.cmark_inline_model.specs.ReadingRanges as plain
-use Rattle.cmark_inline_model.specs.CutRanges.{IsBehindPipe, BeginsAt, InPlaceButCut, Nothing, Single, Element}
+use Rattle.cmark_inline_model.specs.CutRanges.{IsBehindPipe, IsTask, BeginsWithTask, HasNoTasks, BeginsAt, InPlaceButCut, Nothing, Single, Element}
 use Rattle.cmark_inline_model.specs.ReadingRanges.{HasNo, HasNoDisplays, ranged, InPlace, LieWithin}
-use Rattle.cmark_inline_model.proofs.DocumentLeaves.{order-up, stretches-turn}
+use Rattle.cmark_inline_model.proofs.DocumentLeaves.{order-up, stretches-turn, begins-start}
 use Rattle.cmark_inline_model.proofs.ForwardLaws.{leaf-forward, leaf-ranges}
 use Rattle.cmark_inline_model.proofs.LeafLines.{lines-split, derived-lines}
 use Rattle.cmark_inline_model.proofs.LeafPlaces.{lower, end-within, leaf-up}
@@ -64,7 +65,7 @@ module _ (options : Options) (text : List ℕ) where
   inline_placed source from (SingleItem x after) to h =
       Single from to (ranged (event_of source x x.kind) x.start x.end) (inline_events source after) (item-single source x x.kind) h.0 h.1 (inline_placed source x.end after to h.2)
   inline_placed source from (SpanAround tag start end inside after) to h =
-      Element from to tag h.0 start end (inline_events source inside) (inline_events source after) h.1 h.2 h.3 (inline_placed source h.0 inside end h.4) (inline_placed source end after to h.5)
+      Element from to tag h.0 start end (inline_events source inside) (inline_events source after) h.1 (⊎_elim (λ e. inl e) (λ c. inr (inl c)) h.2) h.3 (inline_placed source h.0 inside end h.4) (inline_placed source end after to h.5)
 
 -- where nothing begins there are no parts
 pub no-parts : (token : ℕ → Token) (decide : State → (closer : Bracket) → Decision) (Says : Saying) → ((at : ℕ) → token at ≡ Ends) → (s : State) (parts : Parts) (t : State)
@@ -83,6 +84,23 @@ wider Pipe from (s ∷ more) to at spans turn w none h =
     let x = turn.0 in
     let e = end-within (s ∷ more) to (lower from 0 (s ∷ more) to (omega arith) turn) in
     inline-wide Pipe from s.start spans at to x (omega arith) h
+
+module _ (options : Options) (text : List ℕ) where
+  -- a task marker stands before these events, or as the first in the element that begins with them
+  task_before : (from : ℕ) (m : Ranged) (events : List Ranged) (to : ℕ) → IsSingle m.event → from ≤ m.start → m.start ≤ m.end → Places options text m.end events to → Places options text from (m ∷ events) to
+  task_before from m events to single a b k = Single from to m events single a b k
+
+  task_inside : (from : ℕ) (m x : Ranged) (rest : List Ranged) (to : ℕ) → IsTask m.event → IsSingle m.event → (tag : Tag) → x.event ≡ Start tag → from ≤ m.start → m.start ≤ m.end → Places options text m.end (x ∷ rest) to → Places options text from (x ∷ (m ∷ rest)) to
+  task_inside from m _ _ _ task single t s a b (Single before to x after other c d k) = absurd (subst IsSingle s other)
+  task_inside from m _ _ _ task single t s a b (Element before to tag written start end inside after c w d i k) =
+      let begun : written ≤ start = begins-up tag inside written start w in
+      Element from to tag m.start start end (m ∷ inside) after a (inr (inr (omega arith, task))) d
+      (Single m.start end m inside single (let z : m.start ≤ m.start = omega arith in z) b (placed_lower options text m.end written inside end c i)) k
+    where
+      begins-up : (tag : Tag) (inside : List Ranged) (written start : ℕ) → BeginsAt options text tag inside written start → written ≤ start
+      begins-up tag inside written start (inl e) = omega (arith, e)
+      begins-up tag inside written start (inr (inl h)) = let q : written < start = h.1 in omega (arith, q)
+      begins-up tag inside written start (inr (inr h)) = h.0
 
 module _ (reader : Reader) (Says : Saying) where
   abbrev Stand : (from : ℕ) → List Ranged → (to : ℕ) → Type 0
@@ -144,6 +162,7 @@ module _ (reader : Reader) (Says : Saying) where
   inside_placed (FootnoteDefinition label) content from to o k = k
   inside_placed (BlockList number tight) content from to o k = k
   inside_placed ListItem content from to o k = k
+  inside_placed (TaskMarker is_checked) content from to o k = k
   inside_placed (Text bytes) content from to o k = k
   inside_placed (OwnedText bytes) content from to o k = k
   inside_placed (Html bytes) content from to o k = k
@@ -159,21 +178,78 @@ module _ (reader : Reader) (Says : Saying) where
   node_placed Inside node inside from fits a b k = λ bound lines before after events h. placed_lower reader.options reader.source from node.start events node.end a (k bound lines before after events h)
   node_placed (Alone event) node inside from fits a b k = λ bound lines before after events h.
       subst (λ es. Stand from es node.end) (sym (h.2 ∙ ap (λ l. over node event ∷ l) h.1.0)) (Single from node.end (over node event) [] fits a b (Nothing node.end node.end (omega arith)))
+  node_placed (First event) node inside from fits a b k = λ bound lines before after events h. subst (λ es. Stand from es node.end) (sym h.0) (Nothing from node.end (omega arith))
   node_placed Silent node inside from fits a b k = λ bound lines before after events h. subst (λ es. Stand from es node.end) (sym h.0) (Nothing from node.end (omega arith))
+
+  -- a task marker and what is read behind it
+  first_placed : (m : Ranged) (document : BlockDocument) (from to : ℕ) → IsTask m.event → IsSingle m.event → from ≤ m.start → m.start ≤ m.end → Placed m.end to (segments document) → Placed from to (first_of_segments (begins_element document) (Given m) (segments document))
+  first_placed m document from to task single a b k = go (begins_element document) refl
+    where
+      before_all : Placed from to (Given m ∷ segments document)
+      before_all bound lines before after events h = subst (λ es. Stand from es to) (sym h.2) (task_before reader.options reader.source from m h.0 to single a b (k bound lines before after h.0 h.1))
+
+      second : (x : Ranged) (others : List Segment) (tag : Tag) → x.event ≡ Start tag → Placed m.end to (Given x ∷ others) → Placed from to (Given x ∷ (Given m ∷ others))
+      second x others tag e l bound lines before after events h =
+          subst (λ es. Stand from es to) (sym (h.2 ∙ ap (λ l. x ∷ l) h.1.2))
+          (task_inside reader.options reader.source from m x h.1.0 to task single tag e a b (l bound lines before after (x ∷ h.1.0) (h.1.0, h.1.1, refl)))
+
+      go : (z : Bool) → begins_element document ≡ z → Placed from to (first_of_segments z (Given m) (segments document))
+      go false e = before_all
+      go true e =
+          let b = begins-start document e in
+          subst (λ l. Placed from to (first_of_segments true (Given m) l)) (sym b.2) (second b.0 b.1 b.3 b.4 (subst (λ l. Placed m.end to l) b.2 k))
+
+  -- a node and those behind it
+  both_placed : (first second : List Segment) (from mid to : ℕ) → mid ≤ to → Placed from mid first → Placed mid to second → Placed from to (first ++ second)
+  both_placed first second from mid to on k l = λ bound lines before last events h.
+      let cut = lines-split reader.source first second lines in
+      let s = split reader Says first second before events last h in
+      subst (λ es. Stand from es to) (sym s.joined)
+      (placed_both reader.options reader.source from mid s.first s.second to (k (omega arith) cut.0 before s.between s.first s.reads_first) (l bound cut.1 s.between last s.second s.reads_second))
+
+  abbrev IsTaskFirst : ReadsAs → Type 0
+  IsTaskFirst (First event) = IsTask event
+  IsTaskFirst _ = Unit {0}
+
+  task_first : (kind : BlockKind) → IsTaskFirst (read_as kind)
+  task_first Paragraph = tt
+  task_first TightParagraph = tt
+  task_first (Heading level attributes) = tt
+  task_first ThematicBreak = tt
+  task_first IndentedCode = tt
+  task_first (FencedCode info) = tt
+  task_first HtmlBlock = tt
+  task_first (MetadataBlock kind) = tt
+  task_first (Table alignments) = tt
+  task_first TableHead = tt
+  task_first TableRow = tt
+  task_first TableCell = tt
+  task_first (LinkDefinition reference) = tt
+  task_first (BlockQuote alert) = tt
+  task_first (FootnoteDefinition label) = tt
+  task_first (BlockList number tight) = tt
+  task_first ListItem = tt
+  task_first (TaskMarker is_checked) = tt
+  task_first (Text bytes) = tt
+  task_first (OwnedText bytes) = tt
+  task_first (Html bytes) = tt
+
+  with_placed : (reads : ReadsAs) (node : BlockNode) (from to : ℕ) → IsFit reads → IsTaskFirst reads → from ≤ node.start → node.start ≤ node.end → node.end ≤ to → (inside : List Segment) (behind : BlockDocument)
+      → Placed from node.end (node_segments reads node inside) → Placed node.end to (segments behind) → Placed from to (with_first_segment (first_event reads) (begins_element behind) node (node_segments reads node inside ++ segments behind))
+  with_placed (Around tag) node from to fits first a b on inside behind k l = both_placed (node_segments (Around tag) node inside) (segments behind) from node.end to on k l
+  with_placed Inside node from to fits first a b on inside behind k l = both_placed inside (segments behind) from node.end to on k l
+  with_placed (Alone event) node from to fits first a b on inside behind k l = both_placed (Given (over node event) ∷ []) (segments behind) from node.end to on k l
+  with_placed (First event) node from to fits first a b on inside behind k l = first_placed (over node event) behind from to first fits a b l
+  with_placed Silent node from to fits first a b on inside behind k l = both_placed [] (segments behind) from node.end to on k l
 
   document_placed : (document : BlockDocument) (from to : ℕ) → InOrder from document to → Placed from to (segments document)
   document_placed Nil from to o = λ bound lines before after events h. subst (λ es. Stand from es to) (sym h.0) (Nothing from to o)
-  document_placed (Node node inside after) from to o = λ bound lines before last events h.
-      let own = inside_of node.kind inside (segments inside) in
-      let cut = lines-split reader.source (node_segments (read_as node.kind) node own) (segments after) lines in
-      let on = order-up node.end after to o.2 in
-      let s = split reader Says (node_segments (read_as node.kind) node own) (segments after) before events last h in
-      let up = order-up node.start inside node.end o.1 in
-      let first =
-      node_placed (read_as node.kind) node own from (fit node.kind) o.0 up (inside_placed node.kind inside node.start node.end o.1 (document_placed inside node.start node.end o.1))
-      (omega arith) cut.0 before s.between s.first s.reads_first in
-      let second = document_placed after node.end to o.2 bound cut.1 s.between last s.second s.reads_second in
-      subst (λ es. Stand from es to) (sym s.joined) (placed_both reader.options reader.source from node.end s.first s.second to first second)
+  document_placed (Node node inside after) from to o =
+      with_placed (read_as node.kind) node from to (fit node.kind) (task_first node.kind) o.0 (order-up node.start inside node.end o.1) (order-up node.end after to o.2)
+      (inside_of node.kind inside (segments inside)) after
+      (node_placed (read_as node.kind) node (inside_of node.kind inside (segments inside)) from (fit node.kind) o.0 (order-up node.start inside node.end o.1)
+      (inside_placed node.kind inside node.start node.end o.1 (document_placed inside node.start node.end o.1)))
+      (document_placed after node.end to o.2)
 
 pub reading-placed : (text : List ℕ) (profile : Profile) (exchanges : List Exchange) (events : List Ranged) → IsReading text profile exchanges events
     → InPlaceButCut profile.options text 0 events (length text)
@@ -196,16 +272,26 @@ module _ (options : Options) (text : List ℕ) (none : HasNoDisplays options tex
       go (inl off) = true≢false (sym h.wikilinks ∙ off)
       go (inr k) = no_byte 124 text (at - 1) k (omega arith) h.pipe
 
-  uncut_begin : (tag : Tag) (written start : ℕ) → BeginsAt options text tag written start → start ≡ written
-  uncut_begin tag written start (inl e) = e
-  uncut_begin tag written start (inr h) = absurd (no_pipe start h.2)
+  no_task : (inside : List Ranged) → HasNoTasks inside → BeginsWithTask inside → ⊥
+  no_task [] n h = h
+  no_task (r ∷ others) n h = n.0 h
 
-  pub uncut : (from : ℕ) (events : List Ranged) (to : ℕ) → InPlaceButCut options text from events to → InPlace from events to
-  uncut _ _ _ (Nothing from to h) = plain.Nothing from to h
-  uncut _ _ _ (Single from to r after single a b k) = plain.Single from to r after single a b (uncut r.end after to k)
-  uncut _ _ _ (Element from to tag written start end inside after a w b i k) =
-      let e = uncut_begin tag written start w in
-      plain.Element from to tag start end inside after (omega arith) (subst (λ n. InPlace n inside end) (sym e) (uncut written inside end i)) (uncut end after to k)
+  uncut_begin : (tag : Tag) (inside : List Ranged) (written start : ℕ) → HasNoTasks inside → BeginsAt options text tag inside written start → start ≡ written
+  uncut_begin tag inside written start n (inl e) = e
+  uncut_begin tag inside written start n (inr (inl h)) = absurd (no_pipe start h.2)
+  uncut_begin tag inside written start n (inr (inr h)) = absurd (no_task inside n h.1)
+
+  tasks_split : (first second : List Ranged) → HasNoTasks (first ++ second) → HasNoTasks first × HasNoTasks second
+  tasks_split [] second n = (tt, n)
+  tasks_split (r ∷ first) second n = let k = tasks_split first second n.1 in ((n.0, k.0), k.1)
+
+  pub uncut : (from : ℕ) (events : List Ranged) (to : ℕ) → HasNoTasks events → InPlaceButCut options text from events to → InPlace from events to
+  uncut _ _ _ n (Nothing from to h) = plain.Nothing from to h
+  uncut _ _ _ n (Single from to r after single a b k) = plain.Single from to r after single a b (uncut r.end after to n.1 k)
+  uncut _ _ _ n (Element from to tag written start end inside after a w b i k) =
+      let s = tasks_split inside (ranged (End (tag_end.end_of tag)) start end ∷ after) n.1 in
+      let e = uncut_begin tag inside written start s.0 w in
+      plain.Element from to tag start end inside after (omega arith) (subst (λ n. InPlace n inside end) (sym e) (uncut written inside end s.0 i)) (uncut end after to s.1.1 k)
 
 -- ## Within the text
 

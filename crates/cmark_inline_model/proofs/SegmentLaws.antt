@@ -1,12 +1,12 @@
 -- The segments of a document: its blocks are no links and need no option of spans, and its leaves stand one behind the other.
-use Rattle.std.proofs.Common.{◌≡◌, ℕ, ◌≤◌, List, [], ◌∷◌, ◌++◌, refl, arith}
-use Rattle.cmark_grammar.specs.BlockDocument.{BlockKind, Paragraph, TightParagraph, Heading, ThematicBreak, IndentedCode, FencedCode, HtmlBlock, LinkDefinition, MetadataBlock, BlockQuote, BlockList, ListItem, FootnoteDefinition, Text, OwnedText, Html, BlockNode, BlockDocument, Nil, Node, Table, TableHead, TableRow, TableCell}
-use Rattle.cmark_grammar.specs.BlockReading.{Reads, Around, Inside, Alone, Silent, read_as, over}
-use Rattle.cmark_grammar.specs.Event.{Event, Start, End}
+use Rattle.std.proofs.Common.{Bool, true, false, ◌≡◌, ℕ, ◌≤◌, List, [], ◌∷◌, ◌++◌, refl, arith}
+use Rattle.cmark_grammar.specs.BlockDocument.{BlockKind, Paragraph, TightParagraph, Heading, ThematicBreak, IndentedCode, FencedCode, HtmlBlock, LinkDefinition, MetadataBlock, BlockQuote, BlockList, ListItem, TaskMarker, FootnoteDefinition, Text, OwnedText, Html, BlockNode, BlockDocument, Nil, Node, Table, TableHead, TableRow, TableCell}
+use Rattle.cmark_grammar.specs.BlockReading.{Reads, Around, Inside, Alone, First, Silent, begins_element, first_event, read_as, over}
+use Rattle.cmark_grammar.specs.Event.{Event, Start, End, Ranged}
 use Rattle.cmark_grammar.specs.LeafText.{Stretch, InTurn}
 use Rattle.cmark_grammar.specs.Options.{Options}
 use Rattle.cmark_grammar.specs.Ranges.{InOrder}
-use Rattle.cmark_grammar.specs.SpanDocuments.{Segment, Given, Content, leaf_of, inside_of, node_segments, segments}
+use Rattle.cmark_grammar.specs.SpanDocuments.{Segment, Given, Content, leaf_of, inside_of, node_segments, first_of_segments, with_first_segment, segments}
 use Rattle.cmark_grammar.specs.TagEnd.{end_of}
 use Rattle.cmark_inline_model.specs.OptionRules.{IsGiven}
 use Rattle.cmark_inline_model.specs.ReadingLinks.{Neither, link_event}
@@ -24,6 +24,7 @@ abbrev GivenBy : (Event → Type 0) → Reads → Type 0
 GivenBy Holds (Around tag) = Holds (Start tag) × Holds (End (end_of tag))
 GivenBy Holds Inside = Unit {0}
 GivenBy Holds (Alone event) = Holds event
+GivenBy Holds (First event) = Holds event
 GivenBy Holds Silent = Unit {0}
 
 given_append : (Holds : Event → Type 0) (a b : List Segment) → AllGiven Holds a → AllGiven Holds b → AllGiven Holds (a ++ b)
@@ -49,6 +50,7 @@ inside_given Holds (BlockQuote alert) content others k = k
 inside_given Holds (FootnoteDefinition label) content others k = k
 inside_given Holds (BlockList number tight) content others k = k
 inside_given Holds ListItem content others k = k
+inside_given Holds (TaskMarker is_checked) content others k = k
 inside_given Holds (Text bytes) content others k = k
 inside_given Holds (OwnedText bytes) content others k = k
 inside_given Holds (Html bytes) content others k = k
@@ -57,15 +59,30 @@ node_given : (Holds : Event → Type 0) (reads : Reads) (node : BlockNode) (insi
 node_given Holds (Around tag) node inside h k = (h.0, given_append Holds inside (Given (over node (End (end_of tag))) ∷ []) k (h.1, tt))
 node_given Holds Inside node inside h k = k
 node_given Holds (Alone event) node inside h k = (h, tt)
+node_given Holds (First event) node inside h k = tt
 node_given Holds Silent node inside h k = tt
+
+first_given : (Holds : Event → Type 0) (element : Bool) (r : Ranged) (others : List Segment) → Holds r.event → AllGiven Holds others → AllGiven Holds (first_of_segments element (Given r) others)
+first_given Holds true r [] h k = (h, tt)
+first_given Holds true r (Given x ∷ others) h k = (k.0, (h, k.1))
+first_given Holds true r (Content leaf ∷ others) h k = (h, k)
+first_given Holds false r others h k = (h, k)
+
+with_given : (Holds : Event → Type 0) (reads : Reads) (element : Bool) (node : BlockNode) (others : List Segment) → GivenBy Holds reads → AllGiven Holds others → AllGiven Holds (with_first_segment (first_event reads) element node others)
+with_given Holds (Around tag) element node others h k = k
+with_given Holds Inside element node others h k = k
+with_given Holds (Alone event) element node others h k = k
+with_given Holds (First event) element node others h k = first_given Holds element (over node event) others h k
+with_given Holds Silent element node others h k = k
 
 segments_given : (Holds : Event → Type 0) → ((kind : BlockKind) → GivenBy Holds (read_as kind)) → (document : BlockDocument) → AllGiven Holds (segments document)
 segments_given Holds kinds Nil = tt
 segments_given Holds kinds (Node node inside after) =
     let own = inside_of node.kind inside (segments inside) in
-    given_append Holds (node_segments (read_as node.kind) node own) (segments after)
+    with_given Holds (read_as node.kind) (begins_element after) node (node_segments (read_as node.kind) node own ++ segments after) (kinds node.kind)
+    (given_append Holds (node_segments (read_as node.kind) node own) (segments after)
     (node_given Holds (read_as node.kind) node own (kinds node.kind) (inside_given Holds node.kind inside (segments inside) (segments_given Holds kinds inside)))
-    (segments_given Holds kinds after)
+    (segments_given Holds kinds after))
 
 -- none of them begins or ends a link
 abbrev pub AreNeither : List Segment → Type 0
@@ -89,6 +106,7 @@ kind_neither (BlockQuote alert) = (refl, refl)
 kind_neither (FootnoteDefinition label) = (refl, refl)
 kind_neither (BlockList number tight) = (refl, refl)
 kind_neither ListItem = (refl, refl)
+kind_neither (TaskMarker is_checked) = refl
 kind_neither (Text bytes) = refl
 kind_neither (OwnedText bytes) = refl
 kind_neither (Html bytes) = refl
@@ -115,6 +133,7 @@ kind_optionless options (BlockQuote alert) = (tt, tt)
 kind_optionless options (FootnoteDefinition label) = (tt, tt)
 kind_optionless options (BlockList number tight) = (tt, tt)
 kind_optionless options ListItem = (tt, tt)
+kind_optionless options (TaskMarker is_checked) = tt
 kind_optionless options (Text bytes) = tt
 kind_optionless options (OwnedText bytes) = tt
 kind_optionless options (Html bytes) = tt
@@ -165,6 +184,7 @@ inside_rise from to (BlockQuote alert) content others h k = k
 inside_rise from to (FootnoteDefinition label) content others h k = k
 inside_rise from to (BlockList number tight) content others h k = k
 inside_rise from to ListItem content others h k = k
+inside_rise from to (TaskMarker is_checked) content others h k = k
 inside_rise from to (Text bytes) content others h k = k
 inside_rise from to (OwnedText bytes) content others h k = k
 inside_rise from to (Html bytes) content others h k = k
@@ -173,14 +193,29 @@ node_rise : (from to : ℕ) (reads : Reads) (node : BlockNode) (inside : List Se
 node_rise from to (Around tag) node inside e h = rise_append from to to inside (Given _ ∷ []) h (let x : to ≤ to = omega arith in x)
 node_rise from to Inside node inside e h = h
 node_rise from to (Alone event) node inside e h = e
+node_rise from to (First event) node inside e h = e
 node_rise from to Silent node inside e h = e
+
+first_rise : (from to : ℕ) (element : Bool) (r : Ranged) (others : List Segment) → LeavesRise from others to → LeavesRise from (first_of_segments element (Given r) others) to
+first_rise from to true r [] h = h
+first_rise from to true r (Given x ∷ others) h = h
+first_rise from to true r (Content leaf ∷ others) h = h
+first_rise from to false r others h = h
+
+with_rise : (from to : ℕ) (reads : Reads) (element : Bool) (node : BlockNode) (others : List Segment) → LeavesRise from others to → LeavesRise from (with_first_segment (first_event reads) element node others) to
+with_rise from to (Around tag) element node others h = h
+with_rise from to Inside element node others h = h
+with_rise from to (Alone event) element node others h = h
+with_rise from to (First event) element node others h = first_rise from to element (over node event) others h
+with_rise from to Silent element node others h = h
 
 pub segments-rise : (from : ℕ) (document : BlockDocument) (to : ℕ) → InOrder from document to → LeavesRise from (segments document) to
 segments-rise from Nil to h = h
 segments-rise from (Node node inside after) to h =
     let own = inside_of node.kind inside (segments inside) in
     let up = order-up node.start inside node.end h.1 in
-    rise_append from node.end to (node_segments (read_as node.kind) node own) (segments after)
+    with_rise from to (read_as node.kind) (begins_element after) node (node_segments (read_as node.kind) node own ++ segments after)
+    (rise_append from node.end to (node_segments (read_as node.kind) node own) (segments after)
     (rise_from from node.start (node_segments (read_as node.kind) node own) node.end h.0
     (node_rise node.start node.end (read_as node.kind) node own up (inside_rise node.start node.end node.kind inside (segments inside) h.1 (segments-rise node.start inside node.end h.1))))
-    (segments-rise node.end after to h.2)
+    (segments-rise node.end after to h.2))

@@ -1,11 +1,12 @@
 -- What a walk gives is balanced, with ranges that cut no character.
-use Rattle.std.specs.Prelude.{IsUtf8, IsCharBoundary}
-use Rattle.std.proofs.Common.{◌≡◌, ℕ, List, [], ◌∷◌, ◌++◌, refl, sym, ap, subst, ◌∙◌}
+use Rattle.cmark_inline_model.proofs.DocumentLeaves.{begins-start}
+use Rattle.std.specs.Prelude.{IsUtf8, IsCharBoundary, if◌then◌else◌}
+use Rattle.std.proofs.Common.{◌≡◌, ℕ, List, [], ◌∷◌, ◌++◌, refl, sym, ap, subst, ◌∙◌, Bool, true, false}
 use Rattle.std.proofs.lemmas.List.{append_assoc}
 use Rattle.cmark_grammar.specs.Answers.{Lookup}
 use Rattle.cmark_grammar.specs.Balance.{IsSingle}
-use Rattle.cmark_grammar.specs.BlockDocument.{BlockKind, Paragraph, TightParagraph, Heading, ThematicBreak, IndentedCode, FencedCode, HtmlBlock, LinkDefinition, MetadataBlock, BlockQuote, BlockList, ListItem, FootnoteDefinition, Text, OwnedText, Html, BlockNode, BlockDocument, Nil, Node, Table, TableHead, TableRow, TableCell}
-use Rattle.cmark_grammar.specs.BlockReading.{Reads, Around, Inside, Alone, Silent, read_as, over}
+use Rattle.cmark_grammar.specs.BlockDocument.{BlockKind, Paragraph, TightParagraph, Heading, ThematicBreak, IndentedCode, FencedCode, HtmlBlock, LinkDefinition, MetadataBlock, BlockQuote, BlockList, ListItem, TaskMarker, FootnoteDefinition, Text, OwnedText, Html, BlockNode, BlockDocument, Nil, Node, Table, TableHead, TableRow, TableCell}
+use Rattle.cmark_grammar.specs.BlockReading.{Reads, Around, Inside, Alone, First, Silent, first_event, read_as, over, begins_element}
 use Rattle.cmark_grammar.specs.Derivation.{Derives}
 use Rattle.cmark_grammar.specs.Event.{Event, Start, End, Text as TextEvent, Code, InlineHtml, SoftBreak, HardBreak, Ranged}
 use Rattle.cmark_grammar.specs.Event as event
@@ -13,13 +14,13 @@ use Rattle.cmark_grammar.specs.LeafSpans.{IsInline, Nested, Nothing, Single, Ele
 use Rattle.cmark_grammar.specs.LeafText.{Leaf}
 use Rattle.cmark_grammar.specs.Options.{Options}
 use Rattle.cmark_grammar.specs.Ranges.{AllAt}
-use Rattle.cmark_grammar.specs.SpanDocuments.{Segment, Given, Content, inside_of, node_segments, segments}
+use Rattle.cmark_grammar.specs.SpanDocuments.{Segment, Given, Content, inside_of, node_segments, first_of_segments, with_first_segment, segments}
 use Rattle.cmark_grammar.specs.TagEnd.{end_of}
 use Rattle.cmark_grammar.proofs.BalanceLaws.{IsFit, fit}
 use Rattle.cmark_grammar.proofs.BoundaryLaws.{derived-boundaries}
 use Rattle.cmark_inline_model.specs.CharacterRanges.{CutNoCharacter}
 use Rattle.cmark_inline_model.specs.ReadingRanges.{ranged, Matched, NoMore, Alone as AloneEvent, Pair}
-use Rattle.cmark_inline_model.proofs.ReadingBalanced.{matched-append}
+use Rattle.cmark_inline_model.proofs.ReadingBalanced.{matched-second, matched-append}
 
 inline_single : (e : Event) → IsInline e → IsSingle e
 inline_single (TextEvent text) h = tt
@@ -104,6 +105,7 @@ module _ (text : List ℕ) where
   inside_matches (FootnoteDefinition label) content others k = k
   inside_matches (BlockList number tight) content others k = k
   inside_matches ListItem content others k = k
+  inside_matches (TaskMarker is_checked) content others k = k
   inside_matches (Text bytes) content others k = k
   inside_matches (OwnedText bytes) content others k = k
   inside_matches (Html bytes) content others k = k
@@ -117,14 +119,30 @@ module _ (text : List ℕ) where
       (Pair tag node.start node.end s.first [] (k s.first s.gives_first) NoMore)
   node_matches Inside node inside fits k = k
   node_matches (Alone event) node inside fits k = λ events h. subst Matched (sym (h.1 ∙ ap (λ l. over node event ∷ l) h.2)) (AloneEvent (over node event) [] fits NoMore)
+  node_matches (First event) node inside fits k = λ events h. subst Matched (sym h) NoMore
   node_matches Silent node inside fits k = λ events h. subst Matched (sym h) NoMore
+
+  first_matches : (element : Bool) (r : Ranged) (others : List Segment) → IsSingle r.event → (element ≡ true → (x : Ranged) × (more : List Segment) × (others ≡ Given x ∷ more)) → Balances others → Balances (first_of_segments element (Given r) others)
+  first_matches false r others fits begins k = λ events h. subst Matched (sym h.1) (AloneEvent r h.0 fits (k h.0 h.2))
+  first_matches true r [] fits begins k = λ events h. subst Matched (sym h.1) (AloneEvent r h.0 fits (k h.0 h.2))
+  first_matches true r (Given x ∷ others) fits begins k = λ events h. subst Matched (sym (h.1 ∙ ap (λ l. x ∷ l) h.2.1)) (matched-second r x h.2.0 fits (k (x ∷ h.2.0) (h.2.0, refl, h.2.2)))
+  first_matches true r (Content leaf ∷ others) fits begins k = absurd (let b = begins refl in let q : Content leaf ∷ others ≡ Given b.0 ∷ b.1 = b.2 in cc)
+
+  with_matches : (reads : Reads) (node : BlockNode) (inside : List Segment) (after : BlockDocument) → IsFit reads → Balances (node_segments reads node inside ++ segments after)
+      → Balances (with_first_segment (first_event reads) (begins_element after) node (node_segments reads node inside ++ segments after))
+  with_matches (Around tag) node inside after fits k = k
+  with_matches Inside node inside after fits k = k
+  with_matches (Alone event) node inside after fits k = k
+  with_matches (First event) node inside after fits k = first_matches (begins_element after) (over node event) (segments after) fits (λ e. let b = begins-start after e in (b.0, b.1, b.2)) k
+  with_matches Silent node inside after fits k = k
 
   pub walk-matched : (document : BlockDocument) (events : List Ranged) → AreGiven text (segments document) events → Matched events
   walk-matched Nil = λ events h. subst Matched (sym h) NoMore
   walk-matched (Node node inside after) =
       let own = inside_of node.kind inside (segments inside) in
-      append_matches (node_segments (read_as node.kind) node own) (segments after)
-      (node_matches (read_as node.kind) node own (fit node.kind) (inside_matches node.kind inside (segments inside) (walk-matched inside))) (walk-matched after)
+      with_matches (read_as node.kind) node own after (fit node.kind)
+      (append_matches (node_segments (read_as node.kind) node own) (segments after)
+      (node_matches (read_as node.kind) node own (fit node.kind) (inside_matches node.kind inside (segments inside) (walk-matched inside))) (walk-matched after))
 
   -- ## Characters
 
@@ -160,6 +178,7 @@ module _ (text : List ℕ) where
   inside_edges (FootnoteDefinition label) content others k = k
   inside_edges (BlockList number tight) content others k = k
   inside_edges ListItem content others k = k
+  inside_edges (TaskMarker is_checked) content others k = k
   inside_edges (Text bytes) content others k = k
   inside_edges (OwnedText bytes) content others k = k
   inside_edges (Html bytes) content others k = k
@@ -168,14 +187,29 @@ module _ (text : List ℕ) where
   node_edges (Around tag) node inside a b k = (a, b, edges_append inside (Given (over node (End (end_of tag))) ∷ []) k (a, b, tt))
   node_edges Inside node inside a b k = k
   node_edges (Alone event) node inside a b k = (a, b, tt)
+  node_edges (First event) node inside a b k = tt
   node_edges Silent node inside a b k = tt
+
+  first_edges : (element : Bool) (r : Ranged) (others : List Segment) → Edge r.start → Edge r.end → EdgesGiven others → EdgesGiven (first_of_segments element (Given r) others)
+  first_edges true r [] a b k = (a, b, k)
+  first_edges true r (Given x ∷ others) a b k = (k.0, k.1, (a, b, k.2))
+  first_edges true r (Content leaf ∷ others) a b k = (a, b, k)
+  first_edges false r others a b k = (a, b, k)
+
+  with_edges : (reads : Reads) (element : Bool) (node : BlockNode) (others : List Segment) → Edge node.start → Edge node.end → EdgesGiven others → EdgesGiven (with_first_segment (first_event reads) element node others)
+  with_edges (Around tag) element node others a b k = k
+  with_edges Inside element node others a b k = k
+  with_edges (Alone event) element node others a b k = k
+  with_edges (First event) element node others a b k = first_edges element (over node event) others a b k
+  with_edges Silent element node others a b k = k
 
   segments_edges : (document : BlockDocument) → AllAt Edge document → EdgesGiven (segments document)
   segments_edges Nil h = tt
   segments_edges (Node node inside after) h =
       let own = inside_of node.kind inside (segments inside) in
-      edges_append (node_segments (read_as node.kind) node own) (segments after)
-      (node_edges (read_as node.kind) node own h.0 h.1 (inside_edges node.kind inside (segments inside) (segments_edges inside h.2))) (segments_edges after h.3)
+      with_edges (read_as node.kind) (begins_element after) node (node_segments (read_as node.kind) node own ++ segments after) h.0 h.1
+      (edges_append (node_segments (read_as node.kind) node own) (segments after)
+      (node_edges (read_as node.kind) node own h.0 h.1 (inside_edges node.kind inside (segments inside) (segments_edges inside h.2))) (segments_edges after h.3))
 
   given_cut : (others : List Segment) (events : List Ranged) → EdgesGiven others → AreGiven text others events → CutNoCharacter text events
   given_cut [] events e h = subst (CutNoCharacter text) (sym h) tt

@@ -1,7 +1,7 @@
 -- Where the events of a text stand in it, and what the pipe of a wikilink cuts there (this profile's own).
 use Rattle.std.specs.Prelude.{◌≡◌, ◌⊎◌, ℕ, ◌-◌, ◌≤◌, ◌<◌, true, List, [], ◌∷◌, ◌++◌, get_or}
 use Rattle.cmark_grammar.specs.Balance.{IsSingle}
-use Rattle.cmark_grammar.specs.Event.{Start, End, Ranged}
+use Rattle.cmark_grammar.specs.Event.{Event, Start, End, TaskListMarker, Ranged}
 use Rattle.cmark_grammar.specs.Options.{Options}
 use Rattle.cmark_grammar.specs.Tag.{Tag, Link, Image}
 use Rattle.cmark_grammar.specs.TagEnd.{end_of}
@@ -18,16 +18,33 @@ IsLinkOrImage (Link linked) = Unit {0}
 IsLinkOrImage (Image linked) = Unit {0}
 IsLinkOrImage _ = ⊥
 
--- an element begins where it is written to begin; but a link or an image that a pipe cuts begins directly behind the pipe
-abbrev pub BeginsAt : Options → (text : List ℕ) → Tag → (written start : ℕ) → Type 0
-BeginsAt options text tag written start = (start ≡ written) ⊎ (IsLinkOrImage tag × (written < start) × IsBehindPipe options text start)
+abbrev pub IsTask : Event → Type 0
+IsTask (TaskListMarker is_checked) = Unit {0}
+IsTask _ = ⊥
+
+-- the first event is a task marker
+abbrev pub BeginsWithTask : List Ranged → Type 0
+BeginsWithTask [] = ⊥
+BeginsWithTask (r ∷ others) = IsTask r.event
+
+-- none is
+abbrev pub HasNoTasks : List Ranged → Type 0
+HasNoTasks [] = Unit {0}
+HasNoTasks (r ∷ others) = (IsTask r.event → ⊥) × HasNoTasks others
+
+-- an element begins where it is written to begin; but a link or an image that a pipe cuts begins directly behind the pipe, and a paragraph
+-- or a heading behind its task marker (GFM 5.3)
+abbrev pub BeginsAt : Options → (text : List ℕ) → Tag → List Ranged → (written start : ℕ) → Type 0
+BeginsAt options text tag inside written start =
+    (start ≡ written) ⊎ ((IsLinkOrImage tag × (written < start) × IsBehindPipe options text start) ⊎ ((written ≤ start) × BeginsWithTask inside))
 
 -- from one place to another the events stand one behind the other, and each element around what is inside it, but for what a pipe
--- cuts: the inside of such an element begins where the element is written to begin, which is behind all events before it
+-- cuts and for task markers: the inside of such an element begins where the element is written to begin, which is behind all events before
+-- it, or with the task marker
 pub data InPlaceButCut (options : Options) (text : List ℕ) : (from : ℕ) → List Ranged → (to : ℕ) → Type 0 where
   Nothing : (from to : ℕ) → from ≤ to → InPlaceButCut options text from [] to
   Single : (from to : ℕ) (r : Ranged) (after : List Ranged) → IsSingle r.event → from ≤ r.start → r.start ≤ r.end → InPlaceButCut options text r.end after to
       → InPlaceButCut options text from (r ∷ after) to
-  Element : (from to : ℕ) (tag : Tag) (written start end : ℕ) (inside after : List Ranged) → from ≤ written → BeginsAt options text tag written start → start ≤ end
+  Element : (from to : ℕ) (tag : Tag) (written start end : ℕ) (inside after : List Ranged) → from ≤ written → BeginsAt options text tag inside written start → start ≤ end
       → InPlaceButCut options text written inside end → InPlaceButCut options text end after to
       → InPlaceButCut options text from (ranged (Start tag) start end ∷ (inside ++ (ranged (End (end_of tag)) start end ∷ after))) to

@@ -16,7 +16,7 @@ ghost use Rattle.cmark_grammar.specs.Parts.{Parts};
 ghost use Rattle.cmark_grammar.specs.Questions.{AnyAnswer, Exchange, IsNext};
 ghost use Rattle.cmark_grammar.specs.Readers.{Reader};
 ghost use Rattle.cmark_grammar.specs.SpanDocuments.{IsReading, Profile, ReadsAll, Segment, at_start, reader_of, segments};
-ghost use Rattle.cmark_inline_model.specs.CutRanges.{InPlaceButCut};
+ghost use Rattle.cmark_inline_model.specs.CutRanges.{InPlaceButCut, HasNoTasks};
 ghost use Rattle.cmark_inline_model.specs.LinkRules.{IsQuestion};
 ghost use Rattle.cmark_inline_model.specs.OptionRules.{AllItems, AreGiven, IsRead};
 ghost use Rattle.cmark_inline_model.specs.ReadingLinks.{AreLed, LinksApart, reference_costs};
@@ -53,15 +53,16 @@ pub fn questions_are_put_below_the_limit()
 
 /// The ranges of events lie in the text (`within`), one behind the other, and the range of each element around those of what is inside
 /// it (`cut`). What a wikilink shows behind its pipe may begin inside a link or an image: that one begins behind the pipe, and what is
-/// inside it where it would begin without the pipe. No other element does (`uncut`): where a text is read without wikilinks, or has no
-/// `|`, the inside of each lies in its range.
+/// inside it where it would begin without the pipe. A paragraph or heading that a task marker begins may begin behind the marker. No other
+/// element does (`uncut`): where a text is read without wikilinks, or has no `|`, and gives no task marker, the inside of each lies in its
+/// range.
 pub fn ranges_stand_in_order()
     ensures within { (text : List ℕ) (profile : Profile) (exchanges : List Exchange) (events : List Ranged)
         → IsReading text profile exchanges events → LieWithin (length text) events }
     ensures cut { (text : List ℕ) (profile : Profile) (exchanges : List Exchange) (events : List Ranged)
         → IsReading text profile exchanges events → InPlaceButCut profile.options text 0 events (length text) }
     ensures uncut { (text : List ℕ) (profile : Profile) (exchanges : List Exchange) (events : List Ranged)
-        → HasNoDisplays profile.options text → IsReading text profile exchanges events → InPlace 0 events (length text) }
+        → HasNoDisplays profile.options text → HasNoTasks events → IsReading text profile exchanges events → InPlace 0 events (length text) }
 {}
 
 /// What belongs to an option is read only where it is on. Of the items of a leaf: quotes with smart punctuation, formulas with math, runs

@@ -60,6 +60,7 @@ shape body.TableCell = Element document.TableCell
 shape (body.BlockQuote kind) = Element (document.BlockQuote (option_map shown_block_quote_kind kind))
 shape (body.List flags mark number) = Element (document.BlockList (list_number mark number) (is_tight flags))
 shape (body.ListItem width) = Element document.ListItem
+shape (body.TaskListMarker is_checked) = Element (document.TaskMarker is_checked)
 shape (body.FootnoteDefinition index) = Spelt document.FootnoteDefinition index.0
 shape (body.Text backslash_escaped) = TextSlice
 shape (body.SynthesizeText index) = Spelt document.OwnedText index.0

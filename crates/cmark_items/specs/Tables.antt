@@ -21,6 +21,14 @@ pub record Tables : Type 0 where
 abbrev pub tables : Allocations → Tables
 tables a = record { texts = a.texts.items; links = a.links.items; alignments = map (λ row. row.items) a.alignments.items; references = a.refdefs; footnotes = a.footdefs }
 
+-- the definitions in the tables
+pub record Defined : Type 0 where
+  pub references : RefDefs
+  pub footnotes : FootnoteDefs
+
+abbrev pub defined : Tables → Defined
+defined t = record { references = t.references; footnotes = t.footnotes }
+
 abbrev pub with_text : CowStr → Tables → Tables
 with_text text t = record t { texts = t.texts ++ text ∷ [] }
 

@@ -24,6 +24,10 @@ pub struct LinkIndex(usize);
 #[derive(Clone, Copy, Debug, PartialEq, Eq)]
 pub struct AlignmentIndex(usize);
 
+/// Where the words between the braces of a heading's attributes stand in the table of texts.
+#[derive(Clone, Copy, Debug, PartialEq, Eq)]
+pub struct HeadingIndex(usize);
+
 /// What a link or an image says of itself (CommonMark 6.3, 6.4).
 #[derive(Debug, Drop)]
 pub struct Link<'a> {
@@ -120,6 +124,18 @@ impl<'a> Allocations<'a> {
         Ok(AlignmentIndex(index))
     }
 
+    /// Keeps the words between the braces of a heading's attributes as a text, which `HeadingAttributes::read` reads. Where memory
+    /// is refused nothing changes, and the words are dropped.
+    pub fn allocate_heading(&mut self, words: CowStr<'a>) -> Result<HeadingIndex, AllocError>
+        ensures index { IfOk result (λ index. index.0 ≡ length (tables self.old).texts) }
+        ensures kept { OnOk result (tables self.new ≡ with_text words.entry (tables self.old)) }
+        ensures refused { OnErr result (tables self.new ≡ tables self.old) }
+    {
+        let index = self.texts.len();
+        self.texts.push(words)?;
+        Ok(HeadingIndex(index))
+    }
+
     /// Takes a text out. An empty one is left.
     pub fn take_cow(&mut self, index: CowIndex) -> CowStr<'a>
         requires { index.0 < length (tables self.old).texts }
@@ -166,6 +182,18 @@ impl<'a> Index<CowIndex> for Allocations<'a> {
 
     fn index(&self, index: CowIndex) -> &CowStr<'a> {
         &self.texts[index.0]
+    }
+}
+
+impl<'a> Index<HeadingIndex> for Allocations<'a> {
+    type Output = CowStr<'a>;
+
+    ghost can_index = { λ a index. index.0 < length (tables a).texts };
+
+    ghost index_gives = { λ a index words. slice_get (tables a).texts index.0 ≡ Some words };
+
+    fn index(&self, heading: HeadingIndex) -> &CowStr<'a> {
+        &self.texts[heading.0]
     }
 }
 

@@ -2,7 +2,7 @@
 
 ghost use Rattle.cmark_items.specs.Spans.{spans};
 
-use crate::allocations::{CowIndex, LinkIndex};
+use crate::allocations::{CowIndex, HeadingIndex, LinkIndex};
 use crate::list_flags::ListFlags;
 use cmark_text::{BlockQuoteKind, HeadingLevel, MetadataBlockKind};
 use cmark_tree::TreeSpan;
@@ -116,7 +116,7 @@ pub enum ItemBody {
     /// A thematic break (CommonMark 4.1).
     Rule,
     /// A heading (CommonMark 4.2, 4.3), and the words between the braces of its attributes.
-    Heading(HeadingLevel, Option<CowIndex>),
+    Heading(HeadingLevel, Option<HeadingIndex>),
     /// A fenced code block (CommonMark 4.5), and its info string.
     FencedCodeBlock(CowIndex),
     /// An indented code block (CommonMark 4.4).

@@ -8,7 +8,7 @@ mod heading;
 mod item;
 mod list_flags;
 
-pub use allocations::{AlignmentIndex, Allocations, CowIndex, Link, LinkIndex};
+pub use allocations::{AlignmentIndex, Allocations, CowIndex, HeadingIndex, Link, LinkIndex};
 pub use definitions::{LinkDef, RefDefs, RefDefsIter};
 pub use footnotes::{FootnoteDef, FootnoteDefs};
 pub use heading::HeadingAttributes;

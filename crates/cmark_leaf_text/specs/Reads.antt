@@ -1,16 +1,21 @@
 -- The text of a leaf.
-use Rattle.std.specs.Prelude.{◌≡◌, ℕ, ◌≤◌, ◌<◌, List, length, string_bytes}
+use Rattle.std.specs.Prelude.{◌≡◌, ℕ, ◌≤◌, ◌<◌, Bool, List, length, string_bytes}
 use Rattle.std.specs.Str.{IsCharBoundary}
 use Rattle.cmark_leaf_text.specs.declared.leaf_text.LeafText.{LeafText}
 use Rattle.cmark_leaf_text.specs.Stretches.{AreStretches, joined, place_in}
 
--- the text, the source, and where in it a byte of the text stands
+-- the text, and the source
 abbrev pub text_of : LeafText → List ℕ
 text_of leaf = joined leaf.source.now leaf.stretches.items
 
 abbrev pub source_of : LeafText → List ℕ
 source_of leaf = leaf.source.now
 
+-- whether the text is that of a cell of a table
+abbrev pub is_cell_of : LeafText → Bool
+is_cell_of leaf = leaf.is_cell
+
+-- where in the source a byte of the text stands
 abbrev pub place_of : LeafText → ℕ → ℕ
 place_of leaf at = place_in leaf.stretches.items at
 

@@ -2,7 +2,7 @@
 
 ghost use Rattle.std.specs.Prelude.{◌≡◌, ◌<◌, ◌≤◌, ◌+◌, ◌-◌, ◌++◌, ◌≢◌, [], length, OnOk, IfOk, IfSome, None, ◌∷◌, string_bytes};
 ghost use Rattle.cmark_grammar.specs.Tokens.{slice};
-ghost use Rattle.cmark_leaf_text.specs.Reads.{IsRead, IsPart, IsFirstFrom, text_of, source_of, place_of};
+ghost use Rattle.cmark_leaf_text.specs.Reads.{IsRead, IsPart, IsFirstFrom, is_cell_of, text_of, source_of, place_of};
 ghost use Rattle.std.specs.Str.{IsCharBoundary};
 ghost use Rattle.cmark_leaf_text.specs.Stretches.{AreLines, AreStretches, IsOpen, IsLine, joined, leaf_bytes, line_end, FindsStretch};
 
@@ -20,6 +20,8 @@ pub struct LeafText<'a> {
     source: &'a str,
     stretches: Vec<Stretch>,
     copied: String,
+    /// Whether it is the text of a cell of a table.
+    is_cell: bool,
 }
 
 impl<'a> LeafText<'a> {
@@ -33,16 +35,18 @@ impl<'a> LeafText<'a> {
             source,
             stretches: Vec::new(alloc),
             copied: String::new(alloc),
+            is_cell: false,
         }
     }
 
-    /// Takes these lines of the source, in its order, for its text. Where memory is refused, there is no text until the next call
-    /// succeeds.
-    pub fn read(&mut self, lines: &[LeafLine]) -> Result<(), AllocError>
+    /// Takes these lines of the source, in its order, for its text, which may be that of a cell of a table (GFM 4.10). Where memory is
+    /// refused, there is no text until the next call succeeds.
+    pub fn read(&mut self, lines: &[LeafLine], is_cell: bool) -> Result<(), AllocError>
         requires { AreLines (source_of self.old) 0 lines.now }
         ensures read { OnOk result (IsRead self.new) }
         ensures text { OnOk result (text_of self.new ≡ leaf_bytes (source_of self.old) lines.now) }
         ensures source { source_of self.new ≡ source_of self.old }
+        ensures cell { OnOk result (is_cell_of self.new ≡ is_cell) }
     {
         self.stretches.clear();
         self.push_lines(lines)?;
@@ -50,6 +54,7 @@ impl<'a> LeafText<'a> {
         if self.stretches.len() > 1 {
             copy_stretches(&mut self.copied, self.source, &self.stretches)?;
         }
+        self.is_cell = is_cell;
         Ok(())
     }
 
@@ -62,6 +67,14 @@ impl<'a> LeafText<'a> {
             Some(text) => text,
             None => self.copied.as_str(),
         }
+    }
+
+    /// Whether the text is that of a cell of a table (GFM 4.10).
+    #[inline(always)]
+    pub fn is_cell(&self) -> bool
+        ensures { result ≡ is_cell_of self.now }
+    {
+        self.is_cell
     }
 
     /// The text as a part of the source, where its lines touch there.

@@ -3,7 +3,7 @@
 
 ghost use Rattle.std.specs.Prelude.{◌≡◌, ℕ, List, OnOk};
 ghost use Rattle.cmark_tree.specs.Building.{IsPlaced};
-ghost use Rattle.cmark_items.specs.Tables.{tables};
+ghost use Rattle.cmark_items.specs.Tables.{tables, defined};
 ghost use Rattle.cmark_grammar.specs.BlockDocument.{Nil};
 ghost use Rattle.cmark_grammar.specs.Tokens.{words_end, stretch_then};
 ghost use Rattle.cmark_block_model.specs.Drawing.{Drawing, drawn};
@@ -35,7 +35,7 @@ pub fn draw_last_lines(
     ensures placed { IsPlaced builder.new.tree }
     ensures drawn { OnOk result ((text : List ℕ) (d : Drawing) → Draws text builder.old d
         → Draws text builder.new (drawn (stretch_then text from (words_end (row_of last.entry)) Nil) d)) }
-    ensures references { (tables builder.new.allocations).references ≡ (tables builder.old.allocations).references }
+    ensures definitions { defined (tables builder.new.allocations) ≡ defined (tables builder.old.allocations) }
 {
     draw_words(builder, from, words_end(last))
 }
@@ -52,7 +52,7 @@ pub fn draw_lines(
     ensures placed { IsPlaced builder.new.tree }
     ensures drawn { OnOk result ((text : List ℕ) (d : Drawing) → Draws text builder.old d
         → Draws text builder.new (drawn (stretch_then text from (row_of last.entry).past Nil) d)) }
-    ensures references { (tables builder.new.allocations).references ≡ (tables builder.old.allocations).references }
+    ensures definitions { defined (tables builder.new.allocations) ≡ defined (tables builder.old.allocations) }
 {
     draw_words(builder, from, last.past())
 }

@@ -2,7 +2,7 @@
 
 ghost use Rattle.std.specs.Prelude.{◌≡◌, ◌≤◌, ◌+◌, ◌-◌, ℕ, suc, List, length, IfOk, OnOk};
 ghost use Rattle.cmark_tree.specs.Building.{IsPlaced};
-ghost use Rattle.cmark_items.specs.Tables.{tables};
+ghost use Rattle.cmark_items.specs.Tables.{tables, defined};
 ghost use Rattle.cmark_grammar.specs.BlockDocument.{TableHead, TableRow, TableCell, Node, Nil, node};
 ghost use Rattle.cmark_grammar.specs.Rows.{start_of};
 ghost use Rattle.cmark_grammar.specs.TableTokens.{cell_tokens, cells_then, row_cells};
@@ -27,7 +27,7 @@ fn draw_cell(builder: &mut Builder<'_>, at: usize, cell: &[u8]) -> Result<(), Al
     ensures placed { IsPlaced builder.new.tree }
     ensures drawn { OnOk result ((text : List ℕ) (d : Drawing) → Draws text builder.old d
         → Draws text builder.new (drawn (Node (node TableCell at (at + length cell.now)) (cell_tokens text at cell.now) Nil) d)) }
-    ensures references { (tables builder.new.allocations).references ≡ (tables builder.old.allocations).references }
+    ensures definitions { defined (tables builder.new.allocations) ≡ defined (tables builder.old.allocations) }
 {
     builder.open(at, ItemBody::TableCell)?;
     let start = at + count_blanks(cell);
@@ -51,7 +51,7 @@ fn draw_next_cell<'a>(
     ensures within { IfOk result (λ behind. length behind.now ≤ stop) }
     ensures drawn { IfOk result (λ behind. (text : List ℕ) (left : ℕ) (d : Drawing) → Draws text builder.old d → (e : Drawing) × Draws text builder.new e
         × (drawn (cells_then text (suc left) (stop - length cells.now) past (cells_behind cells.now)) d ≡ drawn (cells_then text left (stop - length behind.now) past (cells_behind behind.now)) e)) }
-    ensures references { (tables builder.new.allocations).references ≡ (tables builder.old.allocations).references }
+    ensures definitions { defined (tables builder.new.allocations) ≡ defined (tables builder.old.allocations) }
 {
     match next_cell(cells) {
         Some((size, behind)) => {
@@ -75,7 +75,7 @@ fn draw_cells(
     ensures placed { IsPlaced builder.new.tree }
     ensures drawn { OnOk result ((text : List ℕ) (d : Drawing) → Draws text builder.old d
         → Draws text builder.new (drawn (row_cells text columns (row_of rest.entry)) d)) }
-    ensures references { (tables builder.new.allocations).references ≡ (tables builder.old.allocations).references }
+    ensures definitions { defined (tables builder.new.allocations) ≡ defined (tables builder.old.allocations) }
 {
     let stop = rest.stop();
     let past = rest.past();
@@ -98,7 +98,7 @@ pub fn draw_head(
     ensures placed { IsPlaced builder.new.tree }
     ensures drawn { OnOk result ((text : List ℕ) (d : Drawing) → Draws text builder.old d
         → Draws text builder.new (drawn (Node (node TableHead (start_of (row_of rest.entry)) (row_of rest.entry).past) (row_cells text columns (row_of rest.entry)) Nil) d)) }
-    ensures references { (tables builder.new.allocations).references ≡ (tables builder.old.allocations).references }
+    ensures definitions { defined (tables builder.new.allocations) ≡ defined (tables builder.old.allocations) }
 {
     builder.open(rest.words_begin(), ItemBody::TableHead)?;
     draw_cells(builder, rest, columns)?;
@@ -116,7 +116,7 @@ pub fn draw_row(
     ensures placed { IsPlaced builder.new.tree }
     ensures drawn { OnOk result ((text : List ℕ) (d : Drawing) → Draws text builder.old d
         → Draws text builder.new (drawn (Node (node TableRow (start_of (row_of rest.entry)) (row_of rest.entry).past) (row_cells text columns (row_of rest.entry)) Nil) d)) }
-    ensures references { (tables builder.new.allocations).references ≡ (tables builder.old.allocations).references }
+    ensures definitions { defined (tables builder.new.allocations) ≡ defined (tables builder.old.allocations) }
 {
     builder.open(rest.words_begin(), ItemBody::TableRow)?;
     draw_cells(builder, rest, columns)?;

@@ -36,15 +36,15 @@ shows-quote s k is h = by k (subst (λ x. Shows x k) is h)
   where
     by : (k : grammar.Container) → Shows kept.Quote k → (alert : Option BlockQuoteKind) × (k ≡ grammar.Quote alert)
     by (grammar.Quote alert) p = (alert, refl)
-    by (grammar.Item mark number width) p = absurd p
+    by (grammar.Item mark number width task) p = absurd p
     by (grammar.Footnote label old size) p = absurd p
 
-pub shows-item : (s : Container) (w : ℕ) (k : grammar.Container) → s ≡ kept.Item w → Shows s k → (mark : ℕ) × ((number : Option ℕ) × (k ≡ grammar.Item mark number w))
+pub shows-item : (s : Container) (w : ℕ) (k : grammar.Container) → s ≡ kept.Item w → Shows s k → (mark : ℕ) × ((number : Option ℕ) × ((task : Option Bool) × (k ≡ grammar.Item mark number w task)))
 shows-item s w k is h = by k (subst (λ x. Shows x k) is h)
   where
-    by : (k : grammar.Container) → Shows (kept.Item w) k → (mark : ℕ) × ((number : Option ℕ) × (k ≡ grammar.Item mark number w))
+    by : (k : grammar.Container) → Shows (kept.Item w) k → (mark : ℕ) × ((number : Option ℕ) × ((task : Option Bool) × (k ≡ grammar.Item mark number w task)))
     by (grammar.Quote alert) p = absurd p
-    by (grammar.Item mark number width) p = (mark, (number, ap (grammar.Item mark number) (sym p)))
+    by (grammar.Item mark number width task) p = (mark, (number, (task, ap (λ n. grammar.Item mark number n task) (sym p))))
     by (grammar.Footnote label old size) p = absurd p
 
 pub shows-footnote : (s : Container) (old : Bool) (k : grammar.Container) → s ≡ kept.Footnote old → Shows s k → (label : List ℕ) × ((size : ℕ) × (k ≡ grammar.Footnote label old size))
@@ -52,11 +52,11 @@ shows-footnote s old k is h = by k (subst (λ x. Shows x k) is h)
   where
     by : (k : grammar.Container) → Shows (kept.Footnote old) k → (label : List ℕ) × ((size : ℕ) × (k ≡ grammar.Footnote label old size))
     by (grammar.Quote alert) p = absurd p
-    by (grammar.Item mark number width) p = absurd p
+    by (grammar.Item mark number width task) p = absurd p
     by (grammar.Footnote label o size) p = (label, (size, ap (λ z. grammar.Footnote label z size) (sym p)))
 
 -- a footnote definition keeps a line as an item of four columns does
-pub footnote-keeps : (label : List ℕ) (size : ℕ) (r : Row) → keeps (grammar.Item 0 None 4) false r ≡ keeps (grammar.Footnote label false size) false r
+pub footnote-keeps : (label : List ℕ) (size : ℕ) (r : Row) → keeps (grammar.Item 0 None 4 None) false r ≡ keeps (grammar.Footnote label false size) false r
 unfolding keeps
 footnote-keeps label size r = refl
 

@@ -4,7 +4,7 @@ use Rattle.std.specs.Prelude.{if◌then◌else◌, nat_le}
 use Rattle.std.proofs.lemmas.Bool.{leb-true, leb-false}
 use Rattle.cmark_grammar.specs.Alerts.{alert_in}
 use Rattle.cmark_grammar.specs.Columns.{indent}
-use Rattle.cmark_grammar.specs.Containers.{Container, Footnote, footnote_width, footnote_of, footnote_or, container_with, container_of, item_of, is_quote, quote_width, enter}
+use Rattle.cmark_grammar.specs.Containers.{Container, Footnote, footnote_width, footnote_of, footnote_or, container_with, container_of, item_of, is_quote, quote_width, enter, with_task, marker_width}
 use Rattle.cmark_grammar.specs.Footnotes.{footnotes_in, footnote_in, columns_over, marker_columns}
 use Rattle.cmark_grammar.specs.LinkDefinitions.{Found}
 use Rattle.cmark_grammar.specs.Options.{Options}
@@ -80,19 +80,23 @@ module _ (r s : Row) (size : ℕ) (is : s ≡ shallow r) (found : Some (marked (
   pub label-closed : IsClosed (words_of s) size → IsClosed (words_of r) size
   label-closed closed = subst (λ l. IsClosed l size) words-same closed
 
-  pub label-entered : (old : Bool) → behind_footnote (footnote_at s) s ≡ enter (shown_footnote r size old) r
+  label-entered : (old : Bool) → behind_footnote (footnote_at s) s ≡ enter (shown_footnote r size old) r
   label-entered old =
       ap (λ x. behind_footnote (footnote_at x) x) is
       ∙ ap (λ o. behind_footnote o (shallow r)) (sym at_shallow)
       ∙ enters r is_shallow (marked (words_of (shallow r)) size).bytes old
       ∙ ap (λ l. let label = (marked l size).bytes in enter (Footnote label old (marker_columns label r.columns)) r) (same-words r is_shallow)
 
+  pub label-behind : (old : Bool) → behind_footnote (footnote_at s) s ≡ without (marker_width (shown_footnote r size old) r) r
+  unfolding enter
+  label-behind old = label-entered old
+
 -- a footnote definition comes first
 begun-either : (options : Options) (r : Row) → begun_container options r ≡ footnote_or (begun_footnote options r) (begun_marked options r)
 begun-either options r = go (nat_le (indent_of r) 3)
   where
     go : (z : Bool) → (if z then container_of options r else None)
-        ≡ footnote_or (if z then footnote_of (footnotes_in options) r else None) (if z then container_with (item_of r) (is_quote r) (alert_in options (without (quote_width r) r)) else None)
+        ≡ footnote_or (if z then footnote_of (footnotes_in options) r else None) (if z then container_with (with_task options r (item_of r)) (is_quote r) (alert_in options (without (quote_width r) r)) else None)
     go true = refl
     go false = refl
 

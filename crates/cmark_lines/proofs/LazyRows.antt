@@ -29,7 +29,7 @@ lazy-item-interrupts : (same : Bool) (r : Row) (o : Option Container) → item_i
 lazy-item-interrupts same r None = refl
 lazy-item-interrupts same r (Some (Quote alert)) = refl
 lazy-item-interrupts same r (Some (Footnote label old size)) = refl
-lazy-item-interrupts same r (Some (Item mark number width)) = refl
+lazy-item-interrupts same r (Some (Item mark number width task)) = refl
 
 module _ (options : Options) (r : Row) (ahead : List Row) where
   -- whether a line interrupts does not depend on the prefixes that it lacks

@@ -11,13 +11,13 @@ use Rattle.cmark_grammar.specs.HtmlBlocks.{html_kind}
 use Rattle.cmark_grammar.specs.LinkDefinitions.{label_in, with_label, definition_in, further_bytes, bytes_over}
 use Rattle.cmark_grammar.specs.BlockQuoteKind.{BlockQuoteKind}
 use Rattle.cmark_grammar.specs.Alerts.{alert_in}
-use Rattle.cmark_grammar.specs.Containers.{Container, Quote, Item, begins_with, is_quote, quote_width, item_of, container_with, container_of, enter}
+use Rattle.cmark_grammar.specs.Containers.{Container, Quote, Item, begins_with, is_quote, quote_width, item_of, container_with, container_of, enter, with_task, marker_width}
 use Rattle.cmark_grammar.specs.Openings.{Opening, Blank, Nests, Takes, Plain, AtxHeading, IndentedCode, or_else, nests_if, is_one, item_interrupts, fenced_if, html_if, break_if, heading_if, defined_if, metadata_begun, begins_no_link, text_lines, definition_of, table_if, text_of, leaf_of, whole_opens, opens}
 use Rattle.cmark_grammar.specs.Metadata.{metadata_kind}
 use Rattle.cmark_grammar.specs.TableRows.{table_head}
 use Rattle.cmark_grammar.specs.MetadataBlockKind.{MetadataBlockKind}
-use Rattle.cmark_grammar.proofs.BlockLaws.{enter_len}
-use Rattle.cmark_grammar.proofs.RowEdges.{enter-good}
+use Rattle.cmark_grammar.proofs.BlockLaws.{marker_len}
+use Rattle.cmark_grammar.proofs.RowEdges.{marker-good}
 use Rattle.cmark_scan.specs.LeafLines.{atx_level}
 use Rattle.cmark_lines.specs.Rests.{row_of, IsIn}
 use Rattle.cmark_lines.specs.Opened.{bracket_of}
@@ -148,18 +148,14 @@ pub none_ahead : (o : Option MetadataBlockKind) (other : Opening) → or_else (m
 none_ahead None other = refl
 none_ahead (Some kind) other = refl
 
-entered-past : (k : Container) (r : Row) → (enter k r).past ≡ r.past
-unfolding enter
-entered-past k r = refl
-
 -- the line inside a container that a line of a text begins stands in the text
-pub begun-in : (options : Options) (text : List ℕ) (rest inside : LineRest) (k : Container) → opens options (row_of rest) [] ≡ Nests k → row_of inside ≡ enter k (row_of rest) → IsIn text rest → IsIn text inside
+pub begun-in : (options : Options) (text : List ℕ) (rest inside : LineRest) (k : Container) → opens options (row_of rest) [] ≡ Nests k → row_of inside ≡ without (marker_width k (row_of rest)) (row_of rest) → IsIn text rest → IsIn text inside
 begun-in options text rest inside k opened is h =
-    in-moved text rest inside (enter k (row_of rest)) is (entered-past k (row_of rest)) (enter-good (IsCharBoundary text) options k (row_of rest) [] opened h.good) h
+    in-moved text rest inside (without (marker_width k (row_of rest)) (row_of rest)) is refl (marker-good (IsCharBoundary text) options k (row_of rest) [] opened h.good) h
 
 -- and it has fewer columns
-pub begun-shorter : (options : Options) (rest inside : LineRest) (k : Container) → opens options (row_of rest) [] ≡ Nests k → row_of inside ≡ enter k (row_of rest) → length (row_of inside).columns < length (row_of rest).columns
-begun-shorter options rest inside k opened is = subst (λ x. length x.columns < length (row_of rest).columns) (sym is) (enter_len options k (row_of rest) [] opened)
+pub begun-shorter : (options : Options) (rest inside : LineRest) (k : Container) → opens options (row_of rest) [] ≡ Nests k → row_of inside ≡ without (marker_width k (row_of rest)) (row_of rest) → length (row_of inside).columns < length (row_of rest).columns
+begun-shorter options rest inside k opened is = subst (λ x. length x.columns < length (row_of rest).columns) (sym is) (marker_len options k (row_of rest) [] opened)
 
 -- a line that begins no item, and shows a block quote's marker, begins a block quote: the line behind the marker tells whether it is an alert
 pub quote-begun : (options : Options) (r s : Row) → None ≡ begun_item r → Some s ≡ quote_entered r → Some (Quote (alert_in options s)) ≡ begun_marked options r
@@ -169,15 +165,14 @@ quote-begun options r s none is = go (nat_le (indent_of r) 3) (begins_with 62 (w
     behind = without (quote_width r) r
 
     go : (shallow marked : Bool) → None ≡ (if shallow then item_of r else None) → Some s ≡ (if shallow && marked then Some (without (quote_width r) r) else None)
-        → Some (Quote (alert_in options s)) ≡ (if shallow then container_with (item_of r) (shallow && marked) (alert_in options (without (quote_width r) r)) else None)
+        → Some (Quote (alert_in options s)) ≡ (if shallow then container_with (with_task options r (item_of r)) (shallow && marked) (alert_in options (without (quote_width r) r)) else None)
     go true true n e =
         let same : s ≡ behind = cc in
-        ap (λ x. Some (Quote (alert_in options x))) same ∙ ap (λ o. container_with o true (alert_in options behind)) n
+        ap (λ x. Some (Quote (alert_in options x))) same ∙ ap (λ o. container_with (with_task options r o) true (alert_in options behind)) n
     go true false n e = absurd (let q : Some s ≡ None = e in cc)
     go false marked n e = absurd (let q : Some s ≡ None = e in cc)
 
-pub quote-inside : (r s : Row) (alert : Option BlockQuoteKind) → Some s ≡ quote_entered r → s ≡ enter (Quote alert) r
-unfolding enter
+pub quote-inside : (r s : Row) (alert : Option BlockQuoteKind) → Some s ≡ quote_entered r → s ≡ without (marker_width (Quote alert) r) r
 quote-inside r s alert is = go (is_quote r) is
   where
     go : (z : Bool) → Some s ≡ (if z then Some (without (quote_width r) r) else None) → s ≡ without (quote_width r) r
@@ -185,8 +180,7 @@ quote-inside r s alert is = go (is_quote r) is
     go false e = absurd (let q : Some s ≡ None = e in cc)
 
 -- an item of number 1, or a bullet, interrupts a paragraph of its own container where it is not blank behind its marker
-pub item-goes : (r s : Row) (same : Bool) (mark : ℕ) (number : Option ℕ) (width : ℕ) → same ≡ true → is_one number ≡ true → s ≡ enter (Item mark number width) r → not (is_blank_line s) ≡ item_interrupts same r (Some (Item mark number width))
-unfolding enter
+pub item-goes : (r s : Row) (same : Bool) (mark : ℕ) (number : Option ℕ) (width : ℕ) → same ≡ true → is_one number ≡ true → s ≡ without width r → not (is_blank_line s) ≡ item_interrupts same r (Some (Item mark number width None))
 item-goes r s same mark number width is_same one is =
     ap (λ x. not (is_blank_line x)) is ∙ ap (λ z. z && not (is_blank_line (without width r))) (sym one)
     ∙ ap (λ z. not z || (is_one number && not (is_blank_line (without width r)))) (sym is_same)

@@ -9,7 +9,7 @@ use Rattle.cmark_grammar.specs.Rows.{Row, without, is_bare, indent_of, words_of}
 use Rattle.cmark_grammar.specs.Leaves.{all_pass, are_blank, is_parted, run, is_break_of, is_thematic_break, is_atx_heading, fence_of, fence_with, is_run_of, underline_of, underlines}
 use Rattle.cmark_grammar.specs.Letters.{is_letter, first_is}
 use Rattle.cmark_grammar.specs.HtmlBlocks.{html_kind, kind_behind}
-use Rattle.cmark_grammar.specs.Containers.{is_bullet, is_digit, digits, delimited, marker_of, item_with, begins_with, quote_width, container_with}
+use Rattle.cmark_grammar.specs.Containers.{is_bullet, is_digit, digits, delimited, marker_of, item_with, begins_with, quote_width, container_with, with_task}
 use Rattle.cmark_grammar.specs.BlockQuoteKind.{BlockQuoteKind}
 use Rattle.cmark_grammar.specs.Alerts.{alert_in}
 use Rattle.cmark_grammar.specs.Footnotes.{Footnotes, footnotes_in, do_interrupt, footnote_in, behind_caret, is_label_found}
@@ -63,7 +63,7 @@ neither (b ∷ bs) e = go (is_bullet b) (is_digit b) (b == 62) refl refl refl e
 pub no-container : (options : Options) (r : Row) → first_is begins_marker (words_of r) ≡ false → begun_marked options r ≡ None
 no-container options r e =
     let nothing = neither (words_of r) e in
-    ap (λ m. if nat_le (indent_of r) 3 then container_with (item_with r m) (nat_le (indent_of r) 3 && begins_with 62 (words_of r)) alert else None) nothing.0
+    ap (λ m. if nat_le (indent_of r) 3 then container_with (with_task options r (item_with r m)) (nat_le (indent_of r) 3 && begins_with 62 (words_of r)) alert else None) nothing.0
     ∙ ap (λ z. if nat_le (indent_of r) 3 then container_with None (nat_le (indent_of r) 3 && z) alert else None) nothing.1
     ∙ go (nat_le (indent_of r) 3)
   where

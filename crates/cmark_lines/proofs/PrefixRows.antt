@@ -72,14 +72,14 @@ triple a b c x y z e = (ap (λ o. (all o).0) e, ap (λ o. (all o).1) e, ap (λ o
     all (Some t) = t
 
 -- an item's numbers tell the item
-item-read : (r : Row) → indent_of r ≤ 3 → (mark number width : ℕ) → Some (mark, number, width) ≡ item_numbers 0 (item_of r) → item_of r ≡ Some (Item mark (number_by mark number) width)
+item-read : (r : Row) → indent_of r ≤ 3 → (mark number width : ℕ) → Some (mark, number, width) ≡ item_numbers 0 (item_of r) → item_of r ≡ Some (Item mark (number_by mark number) width None)
 item-read r le mark number width is = go (marker_of (words_of r)) (marker-short (words_of r)) is
   where
-    go : (o : Option Marker) → IsShort o → Some (mark, number, width) ≡ item_numbers 0 (item_with r o) → item_with r o ≡ Some (Item mark (number_by mark number) width)
+    go : (o : Option Marker) → IsShort o → Some (mark, number, width) ≡ item_numbers 0 (item_with r o) → item_with r o ≡ Some (Item mark (number_by mark number) width None)
     go None short e = absurd (let q : Some (mark, number, width) ≡ None = e in cc)
     go (Some m) short e = test (is_parted (drop m.size (words_of r)) && not (is_thematic_break (words_of r))) e
       where
-        test : (z : Bool) → Some (mark, number, width) ≡ item_numbers 0 (if z then Some (Item m.mark m.number (width_with m.size r)) else None) → (if z then Some (Item m.mark m.number (width_with m.size r)) else None) ≡ Some (Item mark (number_by mark number) width)
+        test : (z : Bool) → Some (mark, number, width) ≡ item_numbers 0 (if z then Some (Item m.mark m.number (width_with m.size r) None) else None) → (if z then Some (Item m.mark m.number (width_with m.size r) None) else None) ≡ Some (Item mark (number_by mark number) width None)
         test false q = absurd (let p : Some (mark, number, width) ≡ None = q in cc)
         test true q =
             let p = triple mark number width m.mark (unwrap_or m.number 0) (min (0 + width_with m.size r) (2 ^ 64 - 1)) q in
@@ -88,16 +88,16 @@ item-read r le mark number width is = go (marker_of (words_of r)) (marker-short 
             let w : width ≡ min (0 + width_with m.size r) (2 ^ 64 - 1) = p.2 in
             let few = padding-few (behind_marker m.size r) in
             let s : width_with m.size r ≡ width = omega (arith, w, few, le, short.1) in
-            ap (λ n. Some (Item m.mark n (width_with m.size r))) short.0 ∙ ap (λ x. Some (Item x (number_by x (unwrap_or m.number 0)) (width_with m.size r))) (sym a)
-            ∙ ap (λ n. Some (Item mark (number_by mark n) (width_with m.size r))) (sym b) ∙ ap (λ n. Some (Item mark (number_by mark number) n)) s
+            ap (λ n. Some (Item m.mark n (width_with m.size r) None)) short.0 ∙ ap (λ x. Some (Item x (number_by x (unwrap_or m.number 0)) (width_with m.size r) None)) (sym a)
+            ∙ ap (λ n. Some (Item mark (number_by mark n) (width_with m.size r) None)) (sym b) ∙ ap (λ n. Some (Item mark (number_by mark number) n None)) s
 
 pub numbers-is : (r s : Row) (n : ℕ) → n ≡ min 3 (indent_of r) → s ≡ without n r → item_numbers n (item_in s) ≡ item_numbers (min 3 (indent_of r)) (item_in (shallow r))
 numbers-is r s n count is = ap (λ x. item_numbers n (item_in x)) (shallow-is r s n count is) ∙ ap (λ m. item_numbers m (item_in (shallow r))) count
 
-pub item-found : (r : Row) (mark number width : ℕ) → Some (mark, number, width) ≡ item_numbers (min 3 (indent_of r)) (item_in (shallow r)) → (indent_of r ≤ 3) × (item_of r ≡ Some (Item mark (number_by mark number) width))
+pub item-found : (r : Row) (mark number width : ℕ) → Some (mark, number, width) ≡ item_numbers (min 3 (indent_of r)) (item_in (shallow r)) → (indent_of r ≤ 3) × (item_of r ≡ Some (Item mark (number_by mark number) width None))
 item-found r mark number width is = go (nat_le (indent_of r) 3) refl
   where
-    go : (z : Bool) → nat_le (indent_of r) 3 ≡ z → (indent_of r ≤ 3) × (item_of r ≡ Some (Item mark (number_by mark number) width))
+    go : (z : Bool) → nat_le (indent_of r) 3 ≡ z → (indent_of r ≤ 3) × (item_of r ≡ Some (Item mark (number_by mark number) width None))
     go true e = let le = leb-true (indent_of r) 3 e in (le, item-read r le mark number width (is ∙ item-seen r le))
     go false e = absurd (let p : Some (mark, number, width) ≡ None = is ∙ ap (item_numbers (min 3 (indent_of r))) (item-unseen r (leb-false (indent_of r) 3 e)) in cc)
 
@@ -107,11 +107,12 @@ begun-all r le = ap (λ z. if z then item_of r else None) (test (indent_of r) le
     test : (n : ℕ) → n ≤ 3 → nat_le n 3 ≡ true
     test n le = grind (arith)
 
-pub item-some : (r : Row) (mark number width : ℕ) → Some (mark, number, width) ≡ item_numbers (min 3 (indent_of r)) (item_in (shallow r)) → Some (Item mark (number_by mark number) width) ≡ begun_item r
+pub item-some : (r : Row) (mark number width : ℕ) → Some (mark, number, width) ≡ item_numbers (min 3 (indent_of r)) (item_in (shallow r)) → Some (Item mark (number_by mark number) width None) ≡ begun_item r
 item-some r mark number width is = let h = item-found r mark number width is in sym (begun-all r h.0 ∙ h.1)
 
-pub item-inside : (r s : Row) (mark number width : ℕ) → Some (mark, number, width) ≡ item_numbers (min 3 (indent_of r)) (item_in (shallow r)) → s ≡ entered (item_in (shallow r)) (shallow r) → s ≡ enter (Item mark (number_by mark number) width) r
-item-inside r s mark number width is e = let h = item-found r mark number width is in e ∙ item-entered r h.0 (Item mark (number_by mark number) width) h.1
+pub item-inside : (r s : Row) (mark number width : ℕ) → Some (mark, number, width) ≡ item_numbers (min 3 (indent_of r)) (item_in (shallow r)) → s ≡ entered (item_in (shallow r)) (shallow r) → s ≡ without width r
+unfolding enter
+item-inside r s mark number width is e = let h = item-found r mark number width is in e ∙ item-entered r h.0 (Item mark (number_by mark number) width None) h.1
 
 pub item-none : (r : Row) → None ≡ item_numbers (min 3 (indent_of r)) (item_in (shallow r)) → None ≡ begun_item r
 item-none r is = go (nat_le (indent_of r) 3) refl
@@ -127,7 +128,7 @@ item-none r is = go (nat_le (indent_of r) 3) refl
             quote_item None x = cc
             quote_item (Some m) x = test (is_parted (drop m.size (words_of r)) && not (is_thematic_break (words_of r))) x
               where
-                test : (z : Bool) → Some (Quote alert) ≡ (if z then Some (Item m.mark m.number (width_with m.size r)) else None) → ⊥
+                test : (z : Bool) → Some (Quote alert) ≡ (if z then Some (Item m.mark m.number (width_with m.size r) None) else None) → ⊥
                 test true y = cc
                 test false y = cc
     by (Some (Footnote label old size)) q e = absurd (never q)
@@ -139,10 +140,10 @@ item-none r is = go (nat_le (indent_of r) 3) refl
             footnote_item None x = cc
             footnote_item (Some m) x = test (is_parted (drop m.size (words_of r)) && not (is_thematic_break (words_of r))) x
               where
-                test : (z : Bool) → Some (Footnote label old size) ≡ (if z then Some (Item m.mark m.number (width_with m.size r)) else None) → ⊥
+                test : (z : Bool) → Some (Footnote label old size) ≡ (if z then Some (Item m.mark m.number (width_with m.size r) None) else None) → ⊥
                 test true y = cc
                 test false y = cc
-    by (Some (Item mark number width)) q e = absurd (let p : None ≡ Some (mark, unwrap_or number 0, min (0 + width) (2 ^ 64 - 1)) = e in cc)
+    by (Some (Item mark number width task)) q e = absurd (let p : None ≡ Some (mark, unwrap_or number 0, min (0 + width) (2 ^ 64 - 1)) = e in cc)
 
     go : (z : Bool) → nat_le (indent_of r) 3 ≡ z → None ≡ (if z then item_of r else None)
     go true e = by (item_of r) refl (is ∙ item-seen r (leb-true (indent_of r) 3 e))
@@ -164,8 +165,8 @@ module _ (r s : Row) (width : ℕ) (whole : r.lazy ≡ false) (is : s ≡ withou
   tested : (z : Bool) → (nat_le width (indent_of r) || is_bare s.columns) ≡ z → (nat_le width (indent_of r) || is_bare (without (min width (indent_of r)) r).columns) ≡ z
   tested z e = ap (λ x. nat_le width (indent_of r) || is_bare x.columns) (sym is) ∙ e
 
-  pub width-kept : (nat_le width (indent_of r) || is_bare s.columns) ≡ true → (mark : ℕ) (number : Option ℕ) → Some s ≡ keeps (Item mark number width) false r
-  width-kept e mark number = ap Some is ∙ ap kept_if (sym (tested true e)) ∙ sym (item-kept r mark number width whole)
+  pub width-kept : (nat_le width (indent_of r) || is_bare s.columns) ≡ true → (mark : ℕ) (number : Option ℕ) (task : Option Bool) → Some s ≡ keeps (Item mark number width task) false r
+  width-kept e mark number task = ap Some is ∙ ap kept_if (sym (tested true e)) ∙ sym (item-kept r mark number width task whole)
 
-  pub width-lacked : (nat_le width (indent_of r) || is_bare s.columns) ≡ false → (mark : ℕ) (number : Option ℕ) → None ≡ keeps (Item mark number width) false r
-  width-lacked e mark number = ap kept_if (sym (tested false e)) ∙ sym (item-kept r mark number width whole)
+  pub width-lacked : (nat_le width (indent_of r) || is_bare s.columns) ≡ false → (mark : ℕ) (number : Option ℕ) (task : Option Bool) → None ≡ keeps (Item mark number width task) false r
+  width-lacked e mark number task = ap kept_if (sym (tested false e)) ∙ sym (item-kept r mark number width task whole)

@@ -1,11 +1,12 @@
 -- Containers as this crate knows them, seen as those of the grammar.
 use Rattle.std.specs.Prelude.{◌≡◌, ℕ, Bool, ◌==◌, ◌||◌, nat_le, if◌then◌else◌, Option, Some, None}
 use Rattle.cmark_grammar.specs.Containers as grammar
-use Rattle.cmark_grammar.specs.Containers.{item_of, container_of, container_with, footnote_of, is_quote, quote_width, enter}
+use Rattle.cmark_grammar.specs.Containers.{item_of, with_task, marker_width, container_of, container_with, footnote_of, is_quote, quote_width, enter}
 use Rattle.cmark_grammar.specs.Footnotes.{footnotes_in, footnote_in, marker_columns}
 use Rattle.cmark_grammar.specs.LinkDefinitions.{Found}
 use Rattle.cmark_scan_parts.specs.Footnotes.{marked, IsClosed}
 use Rattle.cmark_grammar.specs.Alerts.{alert_in}
+use Rattle.cmark_grammar.specs.TaskItems.{task_in}
 use Rattle.cmark_grammar.specs.Options.{Options}
 use Rattle.cmark_grammar.specs.Rows.{Row, without, indent_of, words_of}
 use Rattle.cmark_lines.specs.Rests.{row_of}
@@ -19,26 +20,27 @@ use Rattle.cmark_lines.specs.declared.container.ContainerStart.TheVariants as be
 -- a container of the grammar keeps the lines that this one keeps: what else an item or a footnote definition is does not matter to its later lines
 abbrev pub Shows : Container → grammar.Container → Type 0
 Shows kept.Quote (grammar.Quote alert) = Unit {0}
-Shows kept.Quote (grammar.Item mark number width) = ⊥
+Shows kept.Quote (grammar.Item mark number width task) = ⊥
 Shows kept.Quote (grammar.Footnote label old size) = ⊥
 Shows (kept.Item w) (grammar.Quote alert) = ⊥
-Shows (kept.Item w) (grammar.Item mark number width) = w ≡ width
+Shows (kept.Item w) (grammar.Item mark number width task) = w ≡ width
 Shows (kept.Item w) (grammar.Footnote label old size) = ⊥
 Shows (kept.Footnote o) (grammar.Quote alert) = ⊥
-Shows (kept.Footnote o) (grammar.Item mark number width) = ⊥
+Shows (kept.Footnote o) (grammar.Item mark number width task) = ⊥
 Shows (kept.Footnote o) (grammar.Footnote label old size) = o ≡ old
 
 abbrev pub shown_item : ItemStart → grammar.Container
-shown_item item = grammar.Item item.mark item.number item.width
+shown_item item = grammar.Item item.mark item.number item.width None
 
 -- the footnote definition whose label has so many bytes
 abbrev pub shown_footnote : Row → (label_size : ℕ) → (old : Bool) → grammar.Container
 shown_footnote r label_size old = let label = (marked (words_of r) label_size).bytes in grammar.Footnote label old (marker_columns label r.columns)
 
--- the container that begins, and the line behind its marker: that line tells whether a block quote is an alert
+-- the container that begins, and the line behind its marker: that line tells whether a block quote is an alert, and whether an item has a
+-- task marker
 abbrev pub shown_start : Options → Row → ContainerStart → grammar.Container
 shown_start options r (begun.Quote inside) = grammar.Quote (alert_in options (row_of inside))
-shown_start options r (begun.Item item inside) = shown_item item
+shown_start options r (begun.Item item inside) = grammar.Item item.mark item.number item.width (task_in options (row_of inside))
 shown_start options r (begun.Footnote footnote inside) = shown_footnote r footnote.label_size footnote.old
 
 abbrev pub inside_of : ContainerStart → LineRest
@@ -46,8 +48,9 @@ inside_of (begun.Quote inside) = inside
 inside_of (begun.Item item inside) = inside
 inside_of (begun.Footnote footnote inside) = inside
 
+-- the line is the one behind the container's own marker
 abbrev pub Enters : Row → ContainerStart → Type 0
-Enters r start = (options : Options) → row_of (inside_of start) ≡ enter (shown_start options r start) r
+Enters r start = (options : Options) → row_of (inside_of start) ≡ without (marker_width (shown_start options r start) r) r
 
 -- the label of a footnote definition stands between brackets
 abbrev pub HasMarker : Row → ContainerStart → Type 0
@@ -68,7 +71,7 @@ abbrev pub begun_footnote : Options → Row → Option grammar.Container
 begun_footnote options r = if nat_le (indent_of r) 3 then footnote_of (footnotes_in options) r else None
 
 abbrev pub begun_marked : Options → Row → Option grammar.Container
-begun_marked options r = if nat_le (indent_of r) 3 then container_with (item_of r) (is_quote r) (alert_in options (without (quote_width r) r)) else None
+begun_marked options r = if nat_le (indent_of r) 3 then container_with (with_task options r (item_of r)) (is_quote r) (alert_in options (without (quote_width r) r)) else None
 
 -- the label of the footnote definition, and what stands behind its marker
 abbrev pub begun_label : Row → Option Found
@@ -78,7 +81,7 @@ abbrev pub label_shown : Row → ℕ × LineRest → Found
 label_shown r begun = marked (words_of r) begun.0
 
 abbrev pub EntersFootnote : Row → ℕ × LineRest → Type 0
-EntersFootnote r begun = (old : Bool) → row_of begun.1 ≡ enter (shown_footnote r begun.0 old) r
+EntersFootnote r begun = (old : Bool) → row_of begun.1 ≡ without (marker_width (shown_footnote r begun.0 old) r) r
 
 abbrev pub IsMarkerClosed : Row → ℕ × LineRest → Type 0
 IsMarkerClosed r begun = IsClosed (words_of r) begun.0
@@ -94,7 +97,7 @@ abbrev pub shown_begun : ItemStart × LineRest → grammar.Container
 shown_begun begun = shown_item begun.0
 
 abbrev pub EntersItem : Row → ItemStart × LineRest → Type 0
-EntersItem r begun = row_of begun.1 ≡ enter (shown_item begun.0) r
+EntersItem r begun = row_of begun.1 ≡ without begun.0.width r
 
 -- the first line of a block quote behind its marker
 abbrev pub quote_entered : Row → Option Row

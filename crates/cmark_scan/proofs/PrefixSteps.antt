@@ -79,7 +79,7 @@ abbrev pub widened : ℕ → Option Container → Option Container
 widened k None = None
 widened k (Some (Quote alert)) = Some (Quote alert)
 widened k (Some (Footnote label old size)) = Some (Footnote label old size)
-widened k (Some (Item mark number width)) = Some (Item mark number (k + width))
+widened k (Some (Item mark number width task)) = Some (Item mark number (k + width) task)
 
 module _ (r : Row) (le : indent_of r ≤ 3) where
   width-widened : (size : ℕ) → width_with size r ≡ indent_of r + width_with size (shallow r)
@@ -98,11 +98,11 @@ module _ (r : Row) (le : indent_of r ≤ 3) where
       by : (o : Option Marker) → item_with r o ≡ widened (indent_of r) (item_with (shallow r) o)
       by None = refl
       by (Some m) =
-          ap (λ w. if is_parted (drop m.size (words_of r)) && not (is_thematic_break (words_of r)) then Some (Item m.mark m.number w) else None) (width-widened m.size)
-          ∙ ap (λ l. if is_parted (drop m.size l) && not (is_thematic_break l) then Some (Item m.mark m.number (indent_of r + width_with m.size (shallow r))) else None) (sym (same-words r le))
+          ap (λ w. if is_parted (drop m.size (words_of r)) && not (is_thematic_break (words_of r)) then Some (Item m.mark m.number w None) else None) (width-widened m.size)
+          ∙ ap (λ l. if is_parted (drop m.size l) && not (is_thematic_break l) then Some (Item m.mark m.number (indent_of r + width_with m.size (shallow r)) None) else None) (sym (same-words r le))
           ∙ test (is_parted (drop m.size (words_of (shallow r))) && not (is_thematic_break (words_of (shallow r))))
         where
-          test : (z : Bool) → (if z then Some (Item m.mark m.number (indent_of r + width_with m.size (shallow r))) else None) ≡ widened (indent_of r) (if z then Some (Item m.mark m.number (width_with m.size (shallow r))) else None)
+          test : (z : Bool) → (if z then Some (Item m.mark m.number (indent_of r + width_with m.size (shallow r)) None) else None) ≡ widened (indent_of r) (if z then Some (Item m.mark m.number (width_with m.size (shallow r)) None) else None)
           test true = refl
           test false = refl
 
@@ -114,12 +114,12 @@ module _ (r : Row) (le : indent_of r ≤ 3) where
       by None = refl
       by (Some (Quote alert)) = refl
       by (Some (Footnote label old size)) = refl
-      by (Some (Item mark number width)) = ap (λ n. Some (mark, unwrap_or number 0, min n (2 ^ 64 - 1))) (let s : indent_of r + width ≡ 0 + (indent_of r + width) = omega arith in s)
+      by (Some (Item mark number width task)) = ap (λ n. Some (mark, unwrap_or number 0, min n (2 ^ 64 - 1))) (let s : indent_of r + width ≡ 0 + (indent_of r + width) = omega arith in s)
 
   no_quote_item : (alert : Option BlockQuoteKind) → item_in (shallow r) ≡ Some (Quote alert) → ⊥
   no_quote_item alert e = go (is_flush (shallow r)) (marker_of (words_of (shallow r))) e
     where
-      test : (z : Bool) (mark : ℕ) (number : Option ℕ) (width : ℕ) → (if z then Some (Item mark number width) else None) ≡ Some (Quote alert) → ⊥
+      test : (z : Bool) (mark : ℕ) (number : Option ℕ) (width : ℕ) → (if z then Some (Item mark number width None) else None) ≡ Some (Quote alert) → ⊥
       test true mark number width q = cc
       test false mark number width q = cc
 
@@ -131,7 +131,7 @@ module _ (r : Row) (le : indent_of r ≤ 3) where
   no_footnote_item : (label : List ℕ) (old : Bool) (size : ℕ) → item_in (shallow r) ≡ Some (Footnote label old size) → ⊥
   no_footnote_item label old size e = go (is_flush (shallow r)) (marker_of (words_of (shallow r))) e
     where
-      test : (z : Bool) (mark : ℕ) (number : Option ℕ) (width : ℕ) → (if z then Some (Item mark number width) else None) ≡ Some (Footnote label old size) → ⊥
+      test : (z : Bool) (mark : ℕ) (number : Option ℕ) (width : ℕ) → (if z then Some (Item mark number width None) else None) ≡ Some (Footnote label old size) → ⊥
       test true mark number width q = cc
       test false mark number width q = cc
 
@@ -149,21 +149,25 @@ module _ (r : Row) (le : indent_of r ≤ 3) where
       by None e q = let z : None ≡ Some k = q in absurd (cc)
       by (Some (Quote alert)) e q = absurd (no_quote_item alert e)
       by (Some (Footnote label old size)) e q = absurd (no_footnote_item label old size e)
-      by (Some (Item mark number width)) e q =
-          let z : Item mark number (indent_of r + width) ≡ k = cc in
+      by (Some (Item mark number width None)) e q =
+          let z : Item mark number (indent_of r + width) None ≡ k = cc in
           ap (λ cs. record r { columns = cs }) (drop-drop width (min 3 (indent_of r)) r.columns) ∙ ap (λ n. without (n + width) r) (taken-all r le) ∙ ap (λ c. enter c r) z
+      by (Some (Item mark number width (Some is_checked))) e q =
+          let z : Item mark number (indent_of r + width) (Some is_checked) ≡ k = cc in
+          ap (λ cs. record r { columns = cs }) (drop-drop (width + 3) (min 3 (indent_of r)) r.columns) ∙ ap (λ n. without (n + (width + 3)) r) (taken-all r le)
+          ∙ ap (λ n. without n r) (let s : indent_of r + (width + 3) ≡ indent_of r + width + 3 = omega arith in s) ∙ ap (λ c. enter c r) z
 
 -- where four columns or more of blanks stand in front, no item is seen
 pub item-unseen : (r : Row) → 3 < indent_of r → item_in (shallow r) ≡ None
 item-unseen r lt = ap (λ t. if t then item_of (shallow r) else None) (deep r lt)
 
 -- a later line of an item: its width of blanks, or nothing behind fewer
-pub item-kept : (r : Row) (mark : ℕ) (number : Option ℕ) (width : ℕ) → r.lazy ≡ false
-    → keeps (Item mark number width) false r
+pub item-kept : (r : Row) (mark : ℕ) (number : Option ℕ) (width : ℕ) (task : Option Bool) → r.lazy ≡ false
+    → keeps (Item mark number width task) false r
     ≡ (if nat_le width (indent_of r) || is_bare (without (min width (indent_of r)) r).columns then Some (without (min width (indent_of r)) r) else None)
 unfolding keeps
-item-kept r mark number width whole =
-    ap (λ t. if t || (false && is_blank_line r) then None else keep_as (Item mark number width) r) whole ∙ go (nat_le width (indent_of r)) refl
+item-kept r mark number width task whole =
+    ap (λ t. if t || (false && is_blank_line r) then None else keep_as (Item mark number width task) r) whole ∙ go (nat_le width (indent_of r)) refl
   where
     go : (z : Bool) → nat_le width (indent_of r) ≡ z → (if is_blank_line r || nat_le width (indent_of r) then Some (without width r) else None) ≡ (if nat_le width (indent_of r) || is_bare (without (min width (indent_of r)) r).columns then Some (without (min width (indent_of r)) r) else None)
     go true e =

@@ -94,7 +94,7 @@ marker-front (b ∷ bs) m e = go (is_blank_byte b) refl
 
 -- the item that a marker in front begins
 abbrev pub item_at : Row → Marker → Container
-item_at r m = Item m.mark m.number (m.size + padding (drop m.size r.columns))
+item_at r m = Item m.mark m.number (m.size + padding (drop m.size r.columns)) None
 
 module _ (r : Row) (bs : List ℕ) (words : is_flush r ≡ true → words_of r ≡ bs) (blank : is_flush r ≡ false → is_parted bs ≡ true) where
   pub found-is : {A : Type 0} (f : List ℕ → Option A) → ((cs : List ℕ) → is_parted cs ≡ true → f cs ≡ None) → flush r (f (words_of r)) ≡ f bs
@@ -128,8 +128,8 @@ module _ (r : Row) (bs : List ℕ) (words : is_flush r ≡ true → words_of r �
       by e None = refl
       by e (Some m) = test (is_parted (drop m.size (words_of r)) && not (is_thematic_break (words_of r)))
         where
-          test : (z : Bool) → (if z then Some (Item m.mark m.number (width_with m.size r)) else None) ≡ option_map (item_at r) (if z then Some m else None)
-          test true = ap (λ w. Some (Item m.mark m.number w)) (width-is m.size e)
+          test : (z : Bool) → (if z then Some (Item m.mark m.number (width_with m.size r) None) else None) ≡ option_map (item_at r) (if z then Some m else None)
+          test true = ap (λ w. Some (Item m.mark m.number w None)) (width-is m.size e)
           test false = refl
 
       go : (z : Bool) → is_flush r ≡ z → (if z then item_of r else None) ≡ option_map (item_at r) (begun_in bs)
@@ -138,7 +138,7 @@ module _ (r : Row) (bs : List ℕ) (words : is_flush r ≡ true → words_of r �
 
 -- the line behind a container's marker
 pub entered-is : (r r1 r2 : Row) (mark : ℕ) (number : Option ℕ) (size p : ℕ) → r1 ≡ without size r → p ≡ padding r1.columns → r2 ≡ without p r1
-    → r2 ≡ entered (Some (Item mark number (size + padding (drop size r.columns)))) r
+    → r2 ≡ entered (Some (Item mark number (size + padding (drop size r.columns)) None)) r
 unfolding enter
 entered-is r r1 r2 mark number size p first pad second =
     second ∙ ap (without p) first ∙ ap (λ cs. record r { columns = cs }) (drop-drop p size r.columns) ∙ ap (λ n. without (size + n) r) (pad ∙ ap (λ x. padding x.columns) first)

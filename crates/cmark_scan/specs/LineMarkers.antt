@@ -47,7 +47,7 @@ abbrev pub item_numbers : (indent : ℕ) → Option Container → Option (ℕ ×
 item_numbers indent None = None
 item_numbers indent (Some (Quote alert)) = None
 item_numbers indent (Some (Footnote label old size)) = None
-item_numbers indent (Some (Item mark number width)) = Some (mark, unwrap_or number 0, sum_up_to_most indent width)
+item_numbers indent (Some (Item mark number width task)) = Some (mark, unwrap_or number 0, sum_up_to_most indent width)
 
 -- the width of a definition's prefix, and its first line behind the marker
 abbrev pub definition_in : Row → Option ℕ

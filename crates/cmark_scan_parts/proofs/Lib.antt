@@ -8,6 +8,7 @@ pub mod Links
 pub mod Lists
 pub mod OwnedSteps
 pub mod PartSteps
+pub mod PipeEscapes
 pub mod PipeSteps
 pub mod TagSteps
 pub mod TagTexts

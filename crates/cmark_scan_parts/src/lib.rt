@@ -24,4 +24,5 @@ pub use inline_html::{HtmlFind, scan_inline_html_comment, scan_inline_html_proce
 pub use label::{LinkLabelRest, scan_link_label_rest};
 pub use link::{Cut, scan_autolink, scan_wikilink_pipe};
 pub use owned::{HtmlTag, scan_html_block_inner};
+pub use pipes::{with_literal_pipes, without_pipe_escapes};
 pub use tag::scan_tag;

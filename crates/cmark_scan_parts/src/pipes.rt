@@ -1,11 +1,12 @@
 //! Literal pipes in cells of tables (GFM 4.10).
 
-ghost use Rattle.std.specs.Prelude.{◌≡◌, ◌<◌, ◌++◌, Ok, string_bytes, IfOk, OnOk, MatchOption};
+ghost use Rattle.std.specs.Prelude.{◌≡◌, ◌⊎◌, ◌<◌, ◌++◌, Ok, string_bytes, IfOk, OnOk, MatchOption};
 ghost use Rattle.std.specs.Str.{IsCharBoundary};
 ghost use Rattle.memchr.specs.Find.{FindsNeedle};
+ghost use Rattle.cmark_grammar.specs.InlineTokens.{without_pipe_escapes};
 ghost use Rattle.cmark_grammar.specs.LabelsOverLines.{piped, with_literal_pipes};
-ghost use Rattle.cmark_text.specs.Shown.{text_bytes};
-ghost use Rattle.cmark_scan_parts.specs.Pipes.{Drops};
+ghost use Rattle.cmark_text.specs.Shown.{IsBoxed, text_bytes};
+ghost use Rattle.cmark_scan_parts.specs.Pipes.{Drops, LeavesOut};
 
 use cmark_text::CowStr;
 use memchr::memmem;
@@ -61,4 +62,39 @@ pub fn with_literal_pipes<'a>(alloc: Global, text: CowStr<'a>) -> Result<CowStr<
     let mut out = String::new(alloc);
     push_with_literal_pipes(&mut out, text.as_str())?;
     CowStr::from_string(out)
+}
+
+/// Where the first backslash stands that a pipe follows directly.
+fn find_pipe_escape(text: &str) -> Option<usize>
+    ensures { MatchOption result (without_pipe_escapes text.now ≡ text.now) (LeavesOut text.now) }
+{
+    memmem::find(text.as_bytes(), b"\\|")
+}
+
+/// Appends the text without each backslash that a pipe follows directly.
+fn push_without_pipe_escapes(out: &mut String, text: &str) -> Result<(), AllocError>
+    ensures { OnOk result (string_bytes out.new ≡ string_bytes out.old ++ without_pipe_escapes text.now) }
+{
+    let mut rest = text;
+    while let Some(backslash) = find_pipe_escape(rest) {
+        out.push_str(&rest[..backslash])?;
+        rest = &rest[backslash + 1..];
+    }
+    out.push_str(rest)?;
+    Ok(())
+}
+
+/// What code and formulas in the cell of a table hold (GFM 4.10): the text with `|` in the place of each `\|`, which is a text of its own;
+/// the very text where there is none. Of `\\|` one backslash stays.
+pub fn without_pipe_escapes<'a>(alloc: Global, text: CowStr<'a>) -> Result<CowStr<'a>, AllocError>
+    ensures value { IfOk result (λ made. text_bytes made ≡ without_pipe_escapes (text_bytes text.entry)) }
+    ensures kept { without_pipe_escapes (text_bytes text.entry) ≡ text_bytes text.entry → result ≡ Ok text.entry }
+    ensures own { (result ≡ Ok text.entry) ⊎ IfOk result IsBoxed }
+{
+    if find_pipe_escape(text.as_str()).is_none() {
+        return Ok(text);
+    }
+    let mut out = String::new(alloc);
+    push_without_pipe_escapes(&mut out, text.as_str())?;
+    Ok(CowStr::Boxed(out.into_boxed_str()))
 }

@@ -139,10 +139,12 @@ fn no_link_tails(rt: HostRuntime) -> Result<(), Fail> {
 
 #[test]
 fn titles(rt: HostRuntime) -> Result<(), Fail> {
-    let text = title_text(rt.alloc(), "a\r\n\\\"b&quot;\rc", &BasicEntities)?;
+    let text = title_text(rt.alloc(), "a\r\n\\\"b&quot;\rc", false, &BasicEntities)?;
     assert_eq!(rt; text.as_str(), "a\n\"b\"\nc");
-    let text = title_text(rt.alloc(), "title", &BasicEntities)?;
+    let text = title_text(rt.alloc(), "title", false, &BasicEntities)?;
     assert!(rt; matches!(text, CowStr::Borrowed("title")));
+    let text = title_text(rt.alloc(), "a\\\\|b", true, &BasicEntities)?;
+    assert_eq!(rt; text.as_str(), "a|b");
     Ok(())
 }
 

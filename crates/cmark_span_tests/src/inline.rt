@@ -42,7 +42,7 @@ pub fn whole<'a>(alloc: Global, source: &'a str) -> Result<Option<LeafText<'a>>,
         return Ok(None);
     }
     let mut leaf = LeafText::new(alloc, source);
-    leaf.read(&[line])?;
+    leaf.read(&[line], false)?;
     Ok(Some(leaf))
 }
 
@@ -68,7 +68,7 @@ fn quoted<'a>(
         return Ok(None);
     }
     let mut leaf = LeafText::new(alloc, source);
-    leaf.read(&[first, last])?;
+    leaf.read(&[first, last], false)?;
     Ok(Some(leaf))
 }
 

@@ -11,18 +11,21 @@ use Rattle.cmark_inline.specs.declared.event.Opened.{Opened}
 use Rattle.cmark_inline.specs.declared.slot.Slot.{Slot}
 use Rattle.cmark_inline.specs.declared.state.InlineState.{InlineState}
 use Rattle.cmark_inline.specs.Footnoted.{SameFootnotes}
-use Rattle.cmark_inline.specs.Opens.{Follows}
+use Rattle.cmark_inline.specs.Opens.{Follows, shown_given}
+use Rattle.cmark_inline.specs.declared.short.Short.{Short}
+use Rattle.cmark_inline.specs.Shorts.{GivesShort as LeafShort}
 use Rattle.cmark_inline.specs.Stands.{AreOpened, AreSlots}
 use Rattle.cmark_leaf_text.specs.declared.leaf_text.LeafText.{LeafText}
 use Rattle.cmark_leaf_text.specs.declared.stretch.LeafLine.{LeafLine}
-use Rattle.cmark_leaf_text.specs.Reads.{IsRead, text_of}
+use Rattle.cmark_leaf_text.specs.Reads.{IsRead, is_cell_of, text_of}
+use Rattle.cmark_leaf_text.specs.Stretches.{leaf_bytes}
 use Rattle.cmark_walk.specs.declared.reading.Ranged.{Ranged as Given}
 use Rattle.cmark_walk.specs.declared.walk.Walk.{Walk}
 use Rattle.cmark_walk.specs.Walking as walking
-use Rattle.cmark_walk.specs.Walking.{AreLinesOf, shown_ranged}
+use Rattle.cmark_walk.specs.Walking.{AreLinesOf, lines_of, shown_ranged}
 use Rattle.cmark_walk.proofs.OneRemainder.{one-remainder}
 use Rattle.cmark_span_walk.specs.declared.span_walk.SpanWalk.{SpanWalk}
-use Rattle.cmark_span_walk.specs.Walking.{BeforeLeaf, BlocksLeft, Completes, EntersLeaf, Gives, LeftIn, Remains, Stands, StandsIn, StandsInLeaf, definitions_of, events_left, footnotes_of, opened_of, source_of}
+use Rattle.cmark_span_walk.specs.Walking.{BeforeLeaf, BlocksLeft, Completes, EntersLeaf, Gives, GivesShort, LeftIn, Remains, Stands, StandsIn, StandsInLeaf, definitions_of, events_left, footnotes_of, opened_of, source_of}
 use Rattle.cmark_span_walk.proofs.Completing.{can-close, completes-nested}
 
 none-opened : (source : List ℕ) (opened : List Opened) → opened ≡ [] → AreOpened source opened
@@ -107,6 +110,16 @@ module _ {E F : Type 0} where
         are = inside-left walk s.0 (r ∷ events) inside (r ∷ h.0, h.1, ap (λ l. r ∷ l) h.2, (inline.walk.opened.items, follows, h.3), subst (λ l. AreGiven (source_of walk) l h.1) same h.4);
       }
 
+  -- a text or a soft break, handed on without an event
+  pub spanned-short : (walk : SpanWalk E F) (inline : InlineState) (short : Short) → Stands walk → walk.in_leaf ≡ true → LeafShort (source_of walk) (opened_of walk) short inline.walk.opened.items
+      → GivesShort walk short (record walk { inline = inline })
+  spanned-short walk inline short s inside h = record {
+    given = record { event = h.given.event; range = h.given.range };
+    is = h.is;
+    gives = spanned-gives walk inline (shown_given h.given) s inside h.follows;
+    lent = h.lent;
+  }
+
   -- a leaf has no more spans
   abbrev pub closed : SpanWalk E F → InlineState → SpanWalk E F
   closed walk inline = record walk { inline = inline; in_leaf = false }
@@ -120,14 +133,17 @@ module _ {E F : Type 0} where
       record { left = s.0; stands = s.1; are = inside-left walk s.0 events inside ([], events, refl, none, subst (λ l. AreGiven (source_of walk) l events) same m.are) }
 
   -- into a leaf
-  pub enters : (old : SpanWalk E F) (leaf : LeafText) (inline : InlineState) (footnotes : FootnoteDefs) (callback : F) → IsRead leaf → leaf.source.now ≡ source_of old → AreSlots (text_of leaf) (length (text_of leaf)) inline.slots.items → inline.walk.opened.items ≡ []
-      → (one : Leaf) (others : List Segment) → BeforeLeaf old one others → EntersLeaf others (record old { leaf = leaf; inline = inline; footnotes = footnotes; in_leaf = true; callback = callback })
-  enters old leaf inline footnotes callback read source slots none one others before =
+  pub enters : (old : SpanWalk E F) (leaf : LeafText) (inline : InlineState) (footnotes : FootnoteDefs) (callback : F) (is_cell : Bool) → IsRead leaf → leaf.source.now ≡ source_of old
+      → text_of leaf ≡ leaf_bytes (source_of old) old.lines.items → is_cell_of leaf ≡ is_cell → AreSlots (text_of leaf) (length (text_of leaf)) inline.slots.items → inline.walk.opened.items ≡ []
+      → (one : Leaf) (others : List Segment) → BeforeLeaf old is_cell one others → EntersLeaf one others (record old { leaf = leaf; inline = inline; footnotes = footnotes; in_leaf = true; callback = callback })
+  enters old leaf inline footnotes callback is_cell read source text cell slots none one others before =
       let new : SpanWalk E F = record old { leaf = leaf; inline = inline; footnotes = footnotes; in_leaf = true; callback = callback } in
       record {
         stands = record { blocks = left-same old new others refl refl source before.blocks; leaf = record { read = read; slots = slots; opened = none-opened leaf.source.now inline.walk.opened.items none } };
         inside = refl;
         none_open = none;
+        text = text ∙ ap (leaf_bytes (source_of old)) before.lines.are ∙ ap (λ (s : List ℕ). leaf_bytes s (lines_of one.stretches)) (sym source);
+        cell = cell ∙ before.cell;
       }
 
   -- before the first span of a leaf that was counted
@@ -188,11 +204,11 @@ module _ {E F : Type 0} where
         ([], record { blocks = record { remains = r; few = (let q : 0 < mid.budget = omega (arith, f) in q); same_text = text-same }; leaf = outside (met-by mid.budget) out })
 
     -- a leaf
-    pub before-leaf : (budget : ℕ) (leaf : Leaf) (others : List Segment) → s.0 ≡ Content leaf ∷ others → AreLinesOf (walking.text_of walk) leaf lines.items → walking.Remains walk others
-        → budget ≡ mid.budget - 1 → BeforeLeaf (met-by budget) leaf others
-    before-leaf budget leaf others e are remains less = record { lines = subst (λ t. AreLinesOf t leaf lines.items) text-same are; blocks = blocks-behind budget (Content leaf) others e remains less }
+    pub before-leaf : (is_cell : Bool) (budget : ℕ) (leaf : Leaf) (others : List Segment) → s.0 ≡ Content leaf ∷ others → AreLinesOf (walking.text_of walk) leaf lines.items → walking.Remains walk others
+        → is_cell ≡ leaf.is_cell → budget ≡ mid.budget - 1 → BeforeLeaf (met-by budget) is_cell leaf others
+    before-leaf is_cell budget leaf others e are remains cell less = record { cell = cell; lines = subst (λ t. AreLinesOf t leaf lines.items) text-same are; blocks = blocks-behind budget (Content leaf) others e remains less }
 
-    pub leaf-back : (leaf : Leaf) (others : List Segment) → s.0 ≡ Content leaf ∷ others → (new : SpanWalk E F) → EntersLeaf others new → source_of new ≡ source_of mid → (events : List Ranged) → Remains new events → Remains mid events
+    pub leaf-back : (leaf : Leaf) (others : List Segment) → s.0 ≡ Content leaf ∷ others → (new : SpanWalk E F) → EntersLeaf leaf others new → source_of new ≡ source_of mid → (events : List Ranged) → Remains new events → Remains mid events
     leaf-back leaf others e new enters source events m =
         let h = left-inside new m.left events enters.inside m.are in
         let same = one-left new m.left others m.stands.blocks enters.stands.blocks in
@@ -207,7 +223,7 @@ module _ {E F : Type 0} where
     -- behind the lines of a leaf, which is entered
     pub lasts-leaf : (old head new : SpanWalk E F) (leaf : Leaf) (others : List Segment) → Lasts old head → mid.budget ≡ head.budget
         → ((events : List Ranged) → Remains mid events → Remains head events) → definitions_of new ≡ definitions_of head → SameFootnotes (footnotes_of head) (footnotes_of new) → source_of mid ≡ source_of head
-        → s.0 ≡ Content leaf ∷ others → EntersLeaf others new → source_of new ≡ source_of mid → new.budget ≡ mid.budget - 1 → Lasts old new
+        → s.0 ≡ Content leaf ∷ others → EntersLeaf leaf others new → source_of new ≡ source_of mid → new.budget ≡ mid.budget - 1 → Lasts old new
     lasts-leaf old head new leaf others l same back definitions footnotes kept e enters source spent =
         let some = not-spent (Content leaf) others e in
         let le = l.budget in

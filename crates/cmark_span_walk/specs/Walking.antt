@@ -7,15 +7,18 @@ use Rattle.cmark_grammar.specs.SpanDocuments.{Segment}
 use Rattle.cmark_items.specs.declared.definitions.RefDefs.{RefDefs}
 use Rattle.cmark_items.specs.declared.footnotes.FootnoteDefs.{FootnoteDefs}
 use Rattle.cmark_inline.specs.declared.event.Opened.{Opened}
+use Rattle.cmark_inline.specs.declared.short.Short.{Short}
 use Rattle.cmark_inline.specs.Opens as opens
 use Rattle.cmark_inline.specs.Opens.{Follows}
+use Rattle.cmark_inline.specs.Shorts.{event_of}
 use Rattle.cmark_inline.specs.Stands.{AreOpened, AreSlots}
 use Rattle.cmark_leaf_text.specs.Reads as reads
-use Rattle.cmark_leaf_text.specs.Reads.{IsRead, text_of}
+use Rattle.cmark_leaf_text.specs.Reads.{IsRead, is_cell_of, text_of}
+use Rattle.cmark_leaf_text.specs.Stretches.{leaf_bytes}
 use Rattle.cmark_text.specs.ZeroCopy.{IsZeroCopy}
 use Rattle.cmark_walk.specs.declared.reading.Ranged.{Ranged as Given}
 use Rattle.cmark_walk.specs.Walking as walking
-use Rattle.cmark_walk.specs.Walking.{AreLinesOf, shown_ranged}
+use Rattle.cmark_walk.specs.Walking.{AreLinesOf, lines_of, shown_ranged}
 use Rattle.cmark_span_walk.specs.declared.span_walk.SpanWalk.{SpanWalk}
 
 -- events that end all open elements, the last opened first, and elements of their own between
@@ -82,6 +85,13 @@ module _ {E F : Type 0} where
   Gives old None new = Remains old []
   Gives old (Some given) new = (events : List Ranged) → Remains new events → Remains old (shown_ranged given ∷ events)
 
+  -- the event that such an answer stands for, with some range, is the first of those that are left
+  pub record GivesShort (old : SpanWalk E F) (short : Short) (new : SpanWalk E F) : Type 0 where
+    pub given : Given
+    pub is : given.event ≡ event_of short
+    pub gives : Gives old (Some given) new
+    pub lent : GivesZeroCopy (source_of old) given
+
   -- a call gives the first of the events that are left, in a leaf; or the walk then stands in no leaf, and before the same events
   abbrev pub GivesSpan : SpanWalk E F → Option Given → SpanWalk E F → Type 0
   GivesSpan old None new = (new.in_leaf ≡ false) × ((events : List Ranged) → Remains new events → Remains old events)
@@ -91,13 +101,16 @@ module _ {E F : Type 0} where
   abbrev pub events_left : SpanWalk E F → ℕ
   events_left walk = walk.budget * 73786976294838206464 + opens.events_left walk.inline
 
-  -- the lines of a leaf were met, before these events and leaves of the document
-  pub record BeforeLeaf (walk : SpanWalk E F) (leaf : Leaf) (others : List Segment) : Type 0 where
+  -- the lines of a leaf were met, before these events and leaves of the document, and whether it is the cell of a table
+  pub record BeforeLeaf (walk : SpanWalk E F) (is_cell : Bool) (leaf : Leaf) (others : List Segment) : Type 0 where
     pub lines : AreLinesOf (source_of walk) leaf walk.lines.items
+    pub cell : is_cell ≡ leaf.is_cell
     pub blocks : BlocksLeft walk others
 
-  -- the walk stands in the leaf, before its first span
-  pub record EntersLeaf (others : List Segment) (walk : SpanWalk E F) : Type 0 where
+  -- the walk stands in the leaf, before its first span: what is read is the text of its lines, as that of a cell where it is one
+  pub record EntersLeaf (leaf : Leaf) (others : List Segment) (walk : SpanWalk E F) : Type 0 where
+    pub text : text_of walk.leaf ≡ leaf_bytes (source_of walk) (lines_of leaf.stretches)
+    pub cell : is_cell_of walk.leaf ≡ leaf.is_cell
     pub stands : StandsAt walk others
     pub inside : walk.in_leaf ≡ true
     pub none_open : opened_of walk ≡ []

@@ -1,6 +1,6 @@
 //! The walk over a document's events with the spans of its leaves.
 
-ghost use Rattle.std.specs.Prelude.{◌≡◌, ◌<◌, ◌≤◌, ℕ, true, false, List, [], length, IfOk, IfSome, OnOk, OnSome};
+ghost use Rattle.std.specs.Prelude.{◌≡◌, ◌<◌, ◌≤◌, ℕ, true, false, List, [], None, length, IfOk, IfSome, OnOk, OnSome};
 ghost use Rattle.cmark_grammar.specs.Event.{Ranged as Shown};
 ghost use Rattle.cmark_grammar.specs.LeafSpans.{AreGiven};
 ghost use Rattle.cmark_grammar.specs.LeafText.{Leaf};
@@ -10,7 +10,9 @@ ghost use Rattle.cmark_inline.specs.Opens.{shown_given, GivesZeroCopy as SpanZer
 ghost use Rattle.cmark_walk.specs.Walking.{Remains as BlocksRemain, definitions_of as block_definitions, shown_ranged, text_of};
 ghost use Rattle.cmark_span_walk.specs.Walking.{GivesZeroCopy};
 
-use cmark_inline::{BrokenLinkCallback, Given, InlineState, Reader, SpecialBytes, special_bytes};
+use cmark_inline::{
+    BrokenLinkCallback, Given, InlineState, Reader, Short, SpecialBytes, special_bytes,
+};
 use cmark_items::{FootnoteDefs, RefDefs};
 use cmark_leaf_text::{LeafLine, LeafText};
 use cmark_text::{EntityLookup, Options};
@@ -36,7 +38,7 @@ pub struct SpanWalk<'input, 'e, E, F> {
 }
 
 impl<'input, 'e, E: EntityLookup, F: BrokenLinkCallback<'input> + Drop> SpanWalk<'input, 'e, E, F> {
-    ghost use Rattle.cmark_span_walk.specs.Walking.{definitions_of, footnotes_of, source_of, events_left, Stands, Remains, Gives, GivesSpan, BeforeLeaf, EntersLeaf};
+    ghost use Rattle.cmark_span_walk.specs.Walking.{definitions_of, footnotes_of, source_of, events_left, Stands, Remains, Gives, GivesShort, GivesSpan, BeforeLeaf, EntersLeaf};
 
     /// A walk over what this walk over the text meets, which are fewer events and leaves than `budget`. `entities` says what the
     /// entity names stand for; `footnotes` are those that the text defines, of which each counts its references; `callback` is asked
@@ -108,13 +110,32 @@ impl<'input, 'e, E: EntityLookup, F: BrokenLinkCallback<'input> + Drop> SpanWalk
                     self.budget -= 1;
                     return Ok(Some(given));
                 }
-                Met::Leaf => {
+                Met::Leaf { is_cell } => {
                     self.budget -= 1;
-                    self.enter_leaf()?;
+                    self.enter_leaf(is_cell)?;
                 }
                 Met::Over => return Ok(None),
             }
         }
+    }
+
+    /// What `next` would give, where that is a text of a leaf that stands in the source, or a soft line break: it then counts as
+    /// given. Else there is no answer, and nothing changes.
+    #[inline(always)]
+    pub fn next_short(&mut self) -> Option<Short<'input>>
+        requires { Stands self.old }
+        ensures stands { Stands self.new }
+        ensures given { IfSome result (λ short. GivesShort self.old short self.new) }
+        ensures none { result ≡ None → self.new ≡ self.old }
+        ensures fewer { OnSome result (events_left self.new < events_left self.old) }
+        ensures definitions { definitions_of self.new ≡ definitions_of self.old }
+        ensures footnotes { footnotes_of self.new ≡ footnotes_of self.old }
+        ensures source { source_of self.new ≡ source_of self.old }
+    {
+        if !self.in_leaf {
+            return None;
+        }
+        self.inline.next_short(&self.leaf)
     }
 
     // The next event of the leaf at hand; `None` where there is no leaf or it has no more, and the walk then stands in none.
@@ -145,16 +166,16 @@ impl<'input, 'e, E: EntityLookup, F: BrokenLinkCallback<'input> + Drop> SpanWalk
         }
     }
 
-    // Into the leaf whose lines were met.
-    fn enter_leaf(&mut self) -> Result<(), AllocError>
-        requires { (leaf : Leaf) × (others : List Segment) × BeforeLeaf self.old leaf others }
-        ensures enters { OnOk result ((leaf : Leaf) (others : List Segment) → BeforeLeaf self.old leaf others → EntersLeaf others self.new) }
+    // Into the leaf whose lines were met, perhaps the cell of a table.
+    fn enter_leaf(&mut self, is_cell: bool) -> Result<(), AllocError>
+        requires { (leaf : Leaf) × (others : List Segment) × BeforeLeaf self.old is_cell leaf others }
+        ensures enters { OnOk result ((leaf : Leaf) (others : List Segment) → BeforeLeaf self.old is_cell leaf others → EntersLeaf leaf others self.new) }
         ensures source { source_of self.new ≡ source_of self.old }
         ensures budget { self.new.budget ≡ self.old.budget }
         ensures definitions { definitions_of self.new ≡ definitions_of self.old }
         ensures footnotes { SameFootnotes (footnotes_of self.old) (footnotes_of self.new) }
     {
-        self.leaf.read(self.lines.as_slice())?;
+        self.leaf.read(self.lines.as_slice(), is_cell)?;
         let reader = Reader {
             entities: self.entities,
             references: self.walk.definitions(),

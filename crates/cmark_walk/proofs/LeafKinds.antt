@@ -1,7 +1,7 @@
 -- Which nodes are leaves, and what is inside them.
 use Rattle.std.proofs.Common.{◌≡◌, Bool, true, false, if◌then◌else◌, List, [], ◌∷◌, refl, ap, ◌∙◌}
-use Rattle.cmark_grammar.specs.BlockDocument.{BlockKind, Paragraph, TightParagraph, Heading, ThematicBreak, IndentedCode, FencedCode, HtmlBlock, LinkDefinition, MetadataBlock, BlockQuote, BlockList, ListItem, FootnoteDefinition, Text, OwnedText, Html, BlockDocument, Nil, Node, Table, TableHead, TableRow, TableCell}
-use Rattle.cmark_grammar.specs.BlockReading.{Around, Inside, Alone, Silent, read_as}
+use Rattle.cmark_grammar.specs.BlockDocument.{BlockKind, Paragraph, TightParagraph, Heading, ThematicBreak, IndentedCode, FencedCode, HtmlBlock, LinkDefinition, MetadataBlock, BlockQuote, BlockList, ListItem, TaskMarker, FootnoteDefinition, Text, OwnedText, Html, BlockDocument, Nil, Node, Table, TableHead, TableRow, TableCell}
+use Rattle.cmark_grammar.specs.BlockReading.{Around, Inside, Alone, First, Silent, read_as}
 use Rattle.cmark_grammar.specs.DrawnDocument.{kind_within, settled}
 use Rattle.cmark_grammar.specs.LeafText.{Stretch, Leaf}
 use Rattle.cmark_grammar.specs.SpanDocuments.{Segment, Content, is_leaf, is_cell, leaf_of, stretches_of, inside_of}
@@ -26,6 +26,7 @@ leaf-within tight (BlockQuote alert) = refl
 leaf-within tight (FootnoteDefinition label) = refl
 leaf-within tight (BlockList number t) = refl
 leaf-within tight ListItem = refl
+leaf-within tight (TaskMarker is_checked) = refl
 leaf-within tight (Text bytes) = refl
 leaf-within tight (OwnedText bytes) = refl
 leaf-within tight (Html bytes) = refl
@@ -55,6 +56,7 @@ only-leaves-inside (BlockQuote alert) e = absurd (let q : Inside ≡ Around _ = 
 only-leaves-inside (FootnoteDefinition label) e = absurd (let q : Inside ≡ Around _ = e in cc)
 only-leaves-inside (BlockList number tight) e = absurd (let q : Inside ≡ Around _ = e in cc)
 only-leaves-inside ListItem e = absurd (let q : Inside ≡ Around _ = e in cc)
+only-leaves-inside (TaskMarker is_checked) e = absurd (let q : Inside ≡ First _ = e in cc)
 only-leaves-inside (Text bytes) e = absurd (let q : Inside ≡ Alone _ = e in cc)
 only-leaves-inside (OwnedText bytes) e = absurd (let q : Inside ≡ Alone _ = e in cc)
 only-leaves-inside (Html bytes) e = absurd (let q : Inside ≡ Alone _ = e in cc)
@@ -83,6 +85,7 @@ cell-within tight (LinkDefinition reference) = refl
 cell-within tight (BlockQuote alert) = refl
 cell-within tight (BlockList number t) = refl
 cell-within tight ListItem = refl
+cell-within tight (TaskMarker is_checked) = refl
 cell-within tight (FootnoteDefinition label) = refl
 cell-within tight (Text bytes) = refl
 cell-within tight (OwnedText bytes) = refl

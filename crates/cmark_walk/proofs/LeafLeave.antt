@@ -1,5 +1,5 @@
 -- A step of a walk over the lines of a leaf, and out of the leaf.
-use Rattle.std.proofs.Common.{◌≡◌, List, ◌∷◌, ◌++◌, Some, None, refl, sym, ap, ◌∙◌, subst, append_assoc}
+use Rattle.std.proofs.Common.{◌≡◌, ℕ, Bool, List, ◌∷◌, ◌++◌, Some, None, refl, sym, ap, ◌∙◌, subst, append_assoc}
 use Rattle.cmark_tree.specs.declared.tree.Tree.{Tree}
 use Rattle.cmark_tree.specs.declared.tree_index.TreeIndex.{TreeIndex}
 use Rattle.cmark_tree.specs.Forest.{join}
@@ -8,23 +8,27 @@ use Rattle.cmark_tree.specs.Tree.{Holds, IsAtSibling}
 use Rattle.cmark_text.specs.declared.event.Event.TheVariants as text_event
 use Rattle.cmark_text.specs.declared.event.TagEnd.{TagEnd as TextEnd}
 use Rattle.cmark_text.specs.Shown.{shown_end}
+use Rattle.cmark_text.specs.declared.text.CowStr.{CowStr}
 use Rattle.cmark_grammar.specs.Event as event
+use Rattle.cmark_grammar.specs.BlockDocument.{BlockNode}
 use Rattle.cmark_grammar.specs.BlockReading.{read_as}
 use Rattle.cmark_grammar.specs.DrawnDocument.{kind_within, settled}
-use Rattle.cmark_grammar.specs.SpanDocuments.{Segment, Given, segments}
+use Rattle.cmark_grammar.specs.SpanDocuments.{Segment, Given, is_cell, segments}
 use Rattle.cmark_items.specs.declared.item.Item.{Item}
 use Rattle.cmark_leaf_text.specs.declared.stretch.LeafLine.{LeafLine}
 use Rattle.cmark_walk.specs.declared.walk.Walk.{Walk}
 use Rattle.cmark_walk.specs.declared.reading.Met.TheVariants as met
 use Rattle.cmark_walk.specs.declared.reading.Stage.TheVariants as stage
 use Rattle.cmark_walk.specs.declared.reading.Step.{Step}
-use Rattle.cmark_walk.specs.Walking.{Gives, GivesStep, GivesRanged, Goes, HoldsLines, IsStaged, Remains, leaf_at, left_above, left_behind, left_from, leaving, texts_of, tight_below}
+use Rattle.cmark_walk.specs.Walking.{Drawn, Gives, GivesStep, GivesRanged, Goes, HoldsLines, IsStaged, Remains, leaf_at, left_above, left_behind, left_from, leaving, texts_of, tight_below}
 use Rattle.cmark_walk.proofs.WalkSteps.{Focus, IsFocusAt, IsItem, at-item, beyond, gives-step, left-staged, moved, over-range, passed, remains-before, staged}
 use Rattle.cmark_walk.proofs.LeaveSteps.{EndsAs, leaving-none, leaving-some}
 
 -- the lines of the leaf are met, and what stands behind them is left
-pub meets-leaf : (walk : Walk) (lines : List LeafLine) → walk.stage ≡ stage.Lines → HoldsLines walk lines → (left : List Segment) → Remains walk left → Gives left met.Leaf lines (staged walk stage.Behind)
-meets-leaf walk lines now holds left r = (
+pub meets-leaf : (walk : Walk) (item : Item) (ix : TreeIndex) (cell : Bool) (lines : List LeafLine) → IsFocusAt walk ix → IsItem walk.tree ix item
+    → ((text : List ℕ) (texts : List CowStr) (node : BlockNode) → Drawn text texts item node → cell ≡ is_cell node.kind) → walk.stage ≡ stage.Lines → HoldsLines walk lines
+    → (left : List Segment) → Remains walk left → Gives left (met.Leaf cell) lines (staged walk stage.Behind)
+meets-leaf walk item ix cell lines at is in-cell now holds left r = (
   leaf_at r.here,
   left_from stage.Behind r.here r.above,
   left-staged walk stage.Lines left now r,
@@ -37,6 +41,7 @@ meets-leaf walk lines now holds left r = (
     staged = subst (λ k. IsStaged k r.here) now r.staged;
     are = refl;
   },
+  (let f = at-item walk item ix at is r.z r.here r.above r.stands in in-cell walk.text.now (texts_of walk) f.node f.drawn ∙ sym (ap (λ h. (leaf_at h).is_cell) f.here_is)),
 )
 
 module _ (walk : Walk) (item : Item) (ix : TreeIndex) (at : IsFocusAt walk ix) (is : IsItem walk.tree ix item) where

@@ -79,6 +79,7 @@ behind walk ix z here above s n p =
 -- behind the last of the siblings the walk is in no leaf
 stage-none : (now : Stage) (here : BlockDocument) → here ≡ document.Nil → IsStaged now here → now ≡ stage.Before
 stage-none stage.Before here e s = refl
+stage-none (stage.Marked is_checked start end) here e s = absurd (subst (IsStaged (stage.Marked is_checked start end)) e s)
 stage-none stage.Lines here e s = absurd (subst (IsStaged stage.Lines) e s)
 stage-none stage.Behind here e s = absurd (subst (IsStaged stage.Behind) e s)
 
@@ -87,12 +88,14 @@ pub leaving-some : (end : TagEnd) (R : Reads) (node : BlockNode) → Some end �
 leaving-some end (reads.Around tag) node e = ap (λ x. Given (over node (event.End x)) ∷ []) (sym (same_Some end (end_of tag) e))
 leaving-some end reads.Inside node e = absurd (let q : Some end ≡ None = e in cc)
 leaving-some end (reads.Alone ev) node e = absurd (let q : Some end ≡ None = e in cc)
+leaving-some end (reads.First ev) node e = absurd (let q : Some end ≡ None = e in cc)
 leaving-some end reads.Silent node e = absurd (let q : Some end ≡ None = e in cc)
 
 pub leaving-none : (R : Reads) (node : BlockNode) → None ≡ end_in R → leaving R node ≡ []
 leaving-none (reads.Around tag) node e = absurd (let q : None ≡ Some (end_of tag) = e in cc)
 leaving-none reads.Inside node e = refl
 leaving-none (reads.Alone ev) node e = refl
+leaving-none (reads.First ev) node e = refl
 leaving-none reads.Silent node e = refl
 
 abbrev pub EndsAs : Walk → Item → Option TagEnd → Type 0

@@ -3,6 +3,7 @@ pub mod LeafKinds
 pub mod LeafLeave
 pub mod LeaveSteps
 pub mod LineSteps
+pub mod MarkerSteps
 pub mod NewSteps
 pub mod OneRemainder
 pub mod Paths

@@ -128,7 +128,7 @@ kind-within text texts start end tight (body.OwnedInlineHtml x0) kind e = absurd
 kind-within text texts start end tight (body.SynthesizeText x0) kind e = ap (tight_within tight) (sym (spelt-kind document.OwnedText (text_at texts x0.0) kind e).1)
 kind-within text texts start end tight (body.Link x0) kind e = absurd (let q : None ≡ Some kind = e in cc)
 kind-within text texts start end tight (body.Image x0) kind e = absurd (let q : None ≡ Some kind = e in cc)
-kind-within text texts start end tight (body.TaskListMarker x0) kind e = absurd (let q : None ≡ Some kind = e in cc)
+kind-within text texts start end tight (body.TaskListMarker x0) kind e = ap (tight_within tight) (sym (same_Some (document.TaskMarker x0) kind e))
 kind-within text texts start end tight body.InlineHtml kind e = absurd (let q : None ≡ Some kind = e in cc)
 kind-within text texts start end tight (body.SynthesizeChar x0) kind e = ap (tight_within tight) (sym (same_Some (document.OwnedText (encode_utf8 x0)) kind e))
 kind-within text texts start end tight body.Html kind e = ap (tight_within tight) (sym (same_Some (document.Html (slice text start end)) kind e))

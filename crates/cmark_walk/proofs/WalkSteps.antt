@@ -20,9 +20,9 @@ use Rattle.cmark_grammar.specs.Event as event
 use Rattle.cmark_grammar.specs.BlockDocument as document
 use Rattle.cmark_grammar.specs.BlockDocument.{BlockKind, BlockNode, BlockDocument}
 use Rattle.cmark_grammar.specs.BlockReading as reads
-use Rattle.cmark_grammar.specs.BlockReading.{Reads, read_as, over}
+use Rattle.cmark_grammar.specs.BlockReading.{Reads, read_as, over, first_event, begins_element}
 use Rattle.cmark_grammar.specs.DrawnDocument.{kind_within, settled}
-use Rattle.cmark_grammar.specs.SpanDocuments.{Segment, Given, Content, is_leaf, leaf_of, inside_of, node_segments, segments}
+use Rattle.cmark_grammar.specs.SpanDocuments.{Segment, Given, Content, is_leaf, leaf_of, inside_of, node_segments, first_of_segments, with_first_segment, segments}
 use Rattle.cmark_grammar.specs.Tightness.{tight_within}
 use Rattle.cmark_items.specs.declared.item.Item.{Item}
 use Rattle.cmark_items.specs.ItemNodes.{ranged, kind_over, shape}
@@ -103,23 +103,29 @@ focus-split walk item ix z (Node p f g) (document.Node node inside after) r st d
 pub focus : (walk : Walk) (item : Item) (ix : TreeIndex) (z : Zip Item) (here : BlockDocument) (above : List Outer) → StandsAt walk z here above → focus_of z.right ≡ Some ix → IsItem walk.tree ix item → Focus walk item ix z here
 focus walk item ix z here above s f i = focus-split walk item ix z z.right here refl (in_right walk.tree.nodes walk.tree.first z s.below.holds.forest) s.draws f i
 
-abbrev as_kind : BlockKind → BlockNode → BlockNode
+abbrev pub as_kind : BlockKind → BlockNode → BlockNode
 as_kind kind node = record node { kind = kind }
 
 -- what is read at a node, and then
+abbrev pub read_with : Reads → (element : Bool) → BlockNode → (I A : List Segment) → List Segment
+read_with R z node I A = with_first_segment (first_event R) z node (node_segments R node I ++ A)
+
 read-around : (tag : _) (k : BlockKind) (node : BlockNode) (I A L : List Segment) → (node_segments (reads.Around tag) (as_kind k node) I ++ A) ++ L ≡ Given (over node (event.Start tag)) ∷ (I ++ (leaving (reads.Around tag) node ++ (A ++ L)))
 read-around tag k node I A L =
     ap (λ l. Given (over node (event.Start tag)) ∷ l) (append_assoc (I ++ (Given (over node (event.End (end_of tag))) ∷ [])) A L ∙ append_assoc I (Given (over node (event.End (end_of tag))) ∷ []) (A ++ L))
 
-pub left-around : (tag : _) (R : Reads) (k : BlockKind) (node : BlockNode) (I A L : List Segment) → reads.Around tag ≡ R
-    → (node_segments R (as_kind k node) I ++ A) ++ L ≡ Given (over node (event.Start tag)) ∷ (I ++ (leaving R node ++ (A ++ L)))
-left-around tag R k node I A L e = subst (λ r. (node_segments r (as_kind k node) I ++ A) ++ L ≡ Given (over node (event.Start tag)) ∷ (I ++ (leaving r node ++ (A ++ L)))) e (read-around tag k node I A L)
+pub left-around : (tag : _) (R : Reads) (z : Bool) (k : BlockKind) (node : BlockNode) (I A L : List Segment) → reads.Around tag ≡ R
+    → read_with R z (as_kind k node) I A ++ L ≡ Given (over node (event.Start tag)) ∷ (I ++ (leaving R node ++ (A ++ L)))
+left-around tag R z k node I A L e = subst (λ r. read_with r z (as_kind k node) I A ++ L ≡ Given (over node (event.Start tag)) ∷ (I ++ (leaving r node ++ (A ++ L)))) e (read-around tag k node I A L)
 
-pub left-inside : (R : Reads) (k : BlockKind) (node : BlockNode) (I A L : List Segment) → reads.Inside ≡ R → (node_segments R (as_kind k node) I ++ A) ++ L ≡ I ++ (leaving R node ++ (A ++ L))
-left-inside R k node I A L e = subst (λ r. (node_segments r (as_kind k node) I ++ A) ++ L ≡ I ++ (leaving r node ++ (A ++ L))) e (append_assoc I A L)
+pub left-inside : (R : Reads) (z : Bool) (k : BlockKind) (node : BlockNode) (I A L : List Segment) → reads.Inside ≡ R → read_with R z (as_kind k node) I A ++ L ≡ I ++ (leaving R node ++ (A ++ L))
+left-inside R z k node I A L e = subst (λ r. read_with r z (as_kind k node) I A ++ L ≡ I ++ (leaving r node ++ (A ++ L))) e (append_assoc I A L)
 
-pub left-alone : (ev : event.Event) (R : Reads) (k : BlockKind) (node : BlockNode) (I A L : List Segment) → reads.Alone ev ≡ R → (node_segments R (as_kind k node) I ++ A) ++ L ≡ Given (over node ev) ∷ (A ++ L)
-left-alone ev R k node I A L e = subst (λ r. (node_segments r (as_kind k node) I ++ A) ++ L ≡ Given (over node ev) ∷ (A ++ L)) e refl
+pub left-alone : (ev : event.Event) (R : Reads) (z : Bool) (k : BlockKind) (node : BlockNode) (I A L : List Segment) → reads.Alone ev ≡ R → read_with R z (as_kind k node) I A ++ L ≡ Given (over node ev) ∷ (A ++ L)
+left-alone ev R z k node I A L e = subst (λ r. read_with r z (as_kind k node) I A ++ L ≡ Given (over node ev) ∷ (A ++ L)) e refl
+
+pub left-first : (ev : event.Event) (R : Reads) (z : Bool) (k : BlockKind) (node : BlockNode) (I A L : List Segment) → reads.First ev ≡ R → read_with R z (as_kind k node) I A ++ L ≡ first_of_segments z (Given (over node ev)) A ++ L
+left-first ev R z k node I A L e = subst (λ r. read_with r z (as_kind k node) I A ++ L ≡ first_of_segments z (Given (over node ev)) A ++ L) e refl
 
 module _ (walk : Walk) (item : Item) (ix : TreeIndex) (t : Tree Item) where
   abbrev pub down : (z : Zip Item) (here : BlockDocument) → Focus walk item ix z here → Zip Item
@@ -152,13 +158,13 @@ module _ (walk : Walk) (item : Item) (ix : TreeIndex) (t : Tree Item) where
 pub gives-step : (e : TextEvent) (item : Item) (s : Step) (lines : List LeafLine) (left others : List Segment) (walk : Walk) → GivesRanged e item s → left ≡ Given (at_range (shown e) item) ∷ others
     → Remains walk others → GivesStep left s lines walk
 gives-step e item (step.Event given) lines left others walk g eq r = (others, eq ∙ ap (λ x. Given x ∷ others) (sym g), r)
-gives-step e item step.Leaf lines left others walk g eq r = absurd g
+gives-step e item (step.Leaf is_cell) lines left others walk g eq r = absurd g
 gives-step e item step.Silent lines left others walk g eq r = absurd g
 gives-step e item step.Over lines left others walk g eq r = absurd g
 
 pub goes-after : (left : List Segment) (s : Step) (lines : List LeafLine) (walk : Walk) → GivesStep left s lines walk → Goes walk
 goes-after left (step.Event given) lines walk g = (g.0, g.2)
-goes-after left step.Leaf lines walk g = (g.1, g.4)
+goes-after left (step.Leaf is_cell) lines walk g = (g.1, g.4)
 goes-after left step.Silent lines walk g = (left, g)
 goes-after left step.Over lines walk g = ([], g.1)
 
@@ -188,29 +194,32 @@ abbrev pub Leaf-at : Walk → Item → Bool → Type 0
 Leaf-at walk item b = (text : List ℕ) (texts : List CowStr) (node : BlockNode) → Drawn text texts item node → b ≡ is_leaf node.kind
 
 module _ (walk : Walk) (item : Item) (ix : TreeIndex) (t : Tree Item) (at : IsFocusAt walk ix) (is : IsItem walk.tree ix item) (before : walk.stage ≡ stage.Before) where
-  at-focus : (z : Zip Item) (here : BlockDocument) (above : List Outer) → StandsAt walk z here above → Focus walk item ix z here
+  pub at-focus : (z : Zip Item) (here : BlockDocument) (above : List Outer) → StandsAt walk z here above → Focus walk item ix z here
   at-focus z here above s = focus walk item ix z here above s (at z s.below.holds) is
 
   -- the parts of what is left at the node
   abbrev kind_at : (above : List Outer) → BlockNode → BlockKind
   kind_at above node = kind_within (tight_below above) node.kind
 
-  abbrev inside_at : (above : List Outer) → BlockNode → BlockDocument → List Segment
+  abbrev pub inside_at : (above : List Outer) → BlockNode → BlockDocument → List Segment
   inside_at above node inside =
       inside_of (kind_at above node) (settled (tight_within (tight_below above) node.kind) inside) (segments (settled (tight_within (tight_below above) node.kind) inside))
 
   abbrev after_at : (above : List Outer) → BlockDocument → List Segment
   after_at above after = segments (settled (tight_below above) after)
 
-  before-node : (left : List Segment) (r : Remains walk left) (f : Focus walk item ix r.z r.here)
-      → left ≡ (node_segments (read_as (kind_at r.above f.node)) (as_kind (kind_at r.above f.node) f.node) (inside_at r.above f.node f.inside) ++ after_at r.above f.after) ++ left_above r.above
+  abbrev pub element_at : (above : List Outer) → BlockDocument → Bool
+  element_at above after = begins_element (settled (tight_below above) after)
+
+  pub before-node : (left : List Segment) (r : Remains walk left) (f : Focus walk item ix r.z r.here)
+      → left ≡ read_with (read_as (kind_at r.above f.node)) (element_at r.above f.after) (as_kind (kind_at r.above f.node) f.node) (inside_at r.above f.node f.inside) (after_at r.above f.after) ++ left_above r.above
   before-node left r f = left-staged walk stage.Before left before r ∙ ap (λ h. left_from stage.Before h r.above) f.here_is
 
   no-leaf-inside : (above : List Outer) (node : BlockNode) (inside : BlockDocument) → is_leaf node.kind ≡ false → inside_at above node inside ≡ segments (settled (tight_within (tight_below above) node.kind) inside)
   no-leaf-inside above node inside e =
       inside-block (kind_at above node) (settled (tight_within (tight_below above) node.kind) inside) (segments (settled (tight_within (tight_below above) node.kind) inside)) (leaf-within (tight_below above) node.kind ∙ e)
 
-  leaf-inside : (above : List Outer) (node : BlockNode) (inside : BlockDocument) → is_leaf node.kind ≡ true → inside_at above node inside ≡ Content (leaf_of node.kind inside) ∷ []
+  pub leaf-inside : (above : List Outer) (node : BlockNode) (inside : BlockDocument) → is_leaf node.kind ≡ true → inside_at above node inside ≡ Content (leaf_of node.kind inside) ∷ []
   leaf-inside above node inside e =
       inside-leaf (kind_at above node) (settled (tight_within (tight_below above) node.kind) inside) (segments (settled (tight_within (tight_below above) node.kind) inside)) (leaf-within (tight_below above) node.kind ∙ e)
       ∙ ap (λ leaf. Content leaf ∷ []) (settled-leaf (tight_below above) node.kind (tight_within (tight_below above) node.kind) inside)
@@ -225,7 +234,7 @@ module _ (walk : Walk) (item : Item) (ix : TreeIndex) (t : Tree Item) (at : IsFo
       let rest : List Segment = leaving (read_as (kind_at r.above f.node)) f.node ++ (after_at r.above f.after ++ left_above r.above) in
       gives-step (text_event.Start tag) item s lines left (left_from stage.Before f.inside below) (moved walk t) g
       (before-node left r f
-      ∙ left-around (shown_tag tag) (read_as (kind_at r.above f.node)) (kind_at r.above f.node) f.node (inside_at r.above f.node f.inside) (after_at r.above f.after) (left_above r.above) at-node
+      ∙ left-around (shown_tag tag) (read_as (kind_at r.above f.node)) (element_at r.above f.after) (kind_at r.above f.node) f.node (inside_at r.above f.node f.inside) (after_at r.above f.after) (left_above r.above) at-node
       ∙ ap (λ I. Given (over f.node (event.Start (shown_tag tag))) ∷ (I ++ rest)) (no-leaf-inside r.above f.node f.inside (sym (leaf walk.text.now (texts_of walk) f.node f.drawn)))
       ∙ ap (λ x. Given x ∷ left_from stage.Before f.inside below) (over-range walk.text.now (texts_of walk) item f.node (event.Start (shown_tag tag)) f.drawn))
       (remains-before (moved walk t) (left_from stage.Before f.inside below) (down walk item ix t r.z r.here f) f.inside below before (into walk item ix t r.z r.here r.above r.stands is f push) refl)
@@ -241,7 +250,7 @@ module _ (walk : Walk) (item : Item) (ix : TreeIndex) (t : Tree Item) (at : IsFo
     are = refl;
   }
 
-  lines-left : (left : List Segment) (r : Remains walk left) (f : Focus walk item ix r.z r.here)
+  pub lines-left : (left : List Segment) (r : Remains walk left) (f : Focus walk item ix r.z r.here)
       → Content (leaf_of f.node.kind f.inside) ∷ (leaving (read_as (kind_at r.above f.node)) f.node ++ (after_at r.above f.after ++ left_above r.above)) ≡ left_from stage.Lines r.here r.above
   lines-left left r f =
       ap (λ l. Content (leaf_of f.node.kind f.inside) ∷ l) (sym (append_assoc (leaving (read_as (kind_at r.above f.node)) f.node) (after_at r.above f.after) (left_above r.above)))
@@ -256,7 +265,7 @@ module _ (walk : Walk) (item : Item) (ix : TreeIndex) (t : Tree Item) (at : IsFo
       let rest : List Segment = leaving (read_as (kind_at r.above f.node)) f.node ++ (after_at r.above f.after ++ left_above r.above) in
       gives-step (text_event.Start tag) item s lines left (left_from stage.Lines r.here r.above) (staged walk stage.Lines) g
       (before-node left r f
-      ∙ left-around (shown_tag tag) (read_as (kind_at r.above f.node)) (kind_at r.above f.node) f.node (inside_at r.above f.node f.inside) (after_at r.above f.after) (left_above r.above) at-node
+      ∙ left-around (shown_tag tag) (read_as (kind_at r.above f.node)) (element_at r.above f.after) (kind_at r.above f.node) f.node (inside_at r.above f.node f.inside) (after_at r.above f.after) (left_above r.above) at-node
       ∙ ap (λ I. Given (over f.node (event.Start (shown_tag tag))) ∷ (I ++ rest)) (leaf-inside r.above f.node f.inside is-leaf)
       ∙ ap (λ l. Given (over f.node (event.Start (shown_tag tag))) ∷ l) (lines-left left r f)
       ∙ ap (λ x. Given x ∷ left_from stage.Lines r.here r.above) (over-range walk.text.now (texts_of walk) item f.node (event.Start (shown_tag tag)) f.drawn))
@@ -270,7 +279,7 @@ module _ (walk : Walk) (item : Item) (ix : TreeIndex) (t : Tree Item) (at : IsFo
       let rest : List Segment = leaving (read_as (kind_at r.above f.node)) f.node ++ (after_at r.above f.after ++ left_above r.above) in
       subst (Remains (staged walk stage.Lines))
       (sym
-      (before-node left r f ∙ left-inside (read_as (kind_at r.above f.node)) (kind_at r.above f.node) f.node (inside_at r.above f.node f.inside) (after_at r.above f.after) (left_above r.above) at-node
+      (before-node left r f ∙ left-inside (read_as (kind_at r.above f.node)) (element_at r.above f.after) (kind_at r.above f.node) f.node (inside_at r.above f.node f.inside) (after_at r.above f.after) (left_above r.above) at-node
       ∙ ap (λ I. I ++ rest) (leaf-inside r.above f.node f.inside is-leaf) ∙ lines-left left r f))
       (at-lines left r f is-leaf)
 
@@ -280,7 +289,7 @@ module _ (walk : Walk) (item : Item) (ix : TreeIndex) (t : Tree Item) (at : IsFo
       let f = at-focus r.z r.here r.above r.stands in
       let at-node = read r.z r.above f.node r.stands.below f.drawn in
       gives-step e item s lines left (left_from stage.Before f.after r.above) (moved walk t) g
-      (before-node left r f ∙ left-alone (shown e) (read_as (kind_at r.above f.node)) (kind_at r.above f.node) f.node (inside_at r.above f.node f.inside) (after_at r.above f.after) (left_above r.above) at-node
+      (before-node left r f ∙ left-alone (shown e) (read_as (kind_at r.above f.node)) (element_at r.above f.after) (kind_at r.above f.node) f.node (inside_at r.above f.node f.inside) (after_at r.above f.after) (left_above r.above) at-node
       ∙ ap (λ x. Given x ∷ left_from stage.Before f.after r.above) (over-range walk.text.now (texts_of walk) item f.node (shown e) f.drawn))
       (remains-before (moved walk t) (left_from stage.Before f.after r.above) (beyond walk item ix t r.z r.here f) f.after r.above before (passed walk item ix t r.z r.here r.above r.stands f next) refl)
 
@@ -323,6 +332,7 @@ pub tag-around : (tag : _) (R : Reads) → Some tag ≡ tag_in R → reads.Aroun
 tag-around tag (reads.Around t) e = ap reads.Around (same_Some tag t e)
 tag-around tag reads.Inside e = absurd (let q : Some tag ≡ None = e in cc)
 tag-around tag (reads.Alone ev) e = absurd (let q : Some tag ≡ None = e in cc)
+tag-around tag (reads.First ev) e = absurd (let q : Some tag ≡ None = e in cc)
 tag-around tag reads.Silent e = absurd (let q : Some tag ≡ None = e in cc)
 
 -- what lasts while steps give nothing

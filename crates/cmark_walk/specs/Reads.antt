@@ -14,6 +14,7 @@ abbrev pub event_in : Reads → Option Event
 event_in (reads.Around tag) = None
 event_in reads.Inside = None
 event_in (reads.Alone event) = Some event
+event_in (reads.First event) = None
 event_in reads.Silent = None
 
 -- the tag of an element
@@ -21,6 +22,7 @@ abbrev pub tag_in : Reads → Option Tag
 tag_in (reads.Around tag) = Some tag
 tag_in reads.Inside = None
 tag_in (reads.Alone event) = None
+tag_in (reads.First event) = None
 tag_in reads.Silent = None
 
 -- the end of an element

@@ -1,5 +1,5 @@
 -- Where a walk stands in its document, and what it still has to give.
-use Rattle.std.specs.Prelude.{◌≡◌, ℕ, ◌≤◌, Bool, true, false, List, [], ◌∷◌, ◌++◌, length, Some, None}
+use Rattle.std.specs.Prelude.{◌≡◌, ℕ, ◌≤◌, Bool, true, false, List, [], ◌∷◌, ◌++◌, length, Option, Some, None}
 use Rattle.std.specs.Str.{IsCharBoundary}
 use Rattle.cmark_text.specs.declared.text.CowStr.{CowStr}
 use Rattle.cmark_text.specs.declared.event.Event.{Event as TextEvent}
@@ -7,17 +7,17 @@ use Rattle.cmark_text.specs.Shown.{shown}
 use Rattle.cmark_text.specs.ZeroCopy.{IsZeroCopy}
 use Rattle.cmark_tree.specs.Forest as forest
 use Rattle.cmark_tree.specs.Forest.{Forest}
-use Rattle.cmark_tree.specs.Arena.{Placed}
+use Rattle.cmark_tree.specs.Arena.{Entry, Placed}
 use Rattle.cmark_tree.specs.Zip.{Level, Zip}
 use Rattle.cmark_tree.specs.declared.tree_index.TreeIndex.{TreeIndex}
-use Rattle.cmark_tree.specs.Tree.{Holds, focus_of}
+use Rattle.cmark_tree.specs.Tree.{Holds, focus_of, entry_at}
 use Rattle.cmark_grammar.specs.TagEnd.{end_of}
 use Rattle.cmark_grammar.specs.Event as event
 use Rattle.cmark_grammar.specs.Event.{Event}
 use Rattle.cmark_grammar.specs.BlockDocument as document
 use Rattle.cmark_grammar.specs.BlockDocument.{BlockNode, BlockDocument}
 use Rattle.cmark_grammar.specs.BlockReading as reads
-use Rattle.cmark_grammar.specs.BlockReading.{Reads, read_as, over}
+use Rattle.cmark_grammar.specs.BlockReading.{Reads, read_as, over, begins_element}
 use Rattle.cmark_grammar.specs.DrawnDocument.{kind_within, settled}
 use Rattle.cmark_grammar.specs.LeafText.{Stretch, Leaf}
 use Rattle.cmark_grammar.specs.Ranges.{InOrder}
@@ -25,6 +25,10 @@ use Rattle.cmark_grammar.specs.SpanDocuments.{Segment, Given, Content, is_leaf, 
 use Rattle.cmark_grammar.specs.Tightness.{tight_within}
 use Rattle.cmark_items.specs.declared.definitions.RefDefs.{RefDefs}
 use Rattle.cmark_items.specs.declared.item.Item.{Item}
+use Rattle.cmark_items.specs.declared.item.ItemBody.{ItemBody}
+use Rattle.cmark_items.specs.declared.item.ItemBody.TheVariants as body
+use Rattle.cmark_text.specs.declared.event.Tag.{Tag as TextTag}
+use Rattle.cmark_text.specs.Shown.{shown_tag}
 use Rattle.cmark_items.specs.ItemNodes.{shown_item}
 use Rattle.cmark_items.specs.Tables.{tables}
 use Rattle.cmark_leaf_text.specs.declared.stretch.LeafLine.{LeafLine}
@@ -77,6 +81,7 @@ abbrev pub leaving : Reads → BlockNode → List Segment
 leaving (reads.Around tag) node = Given (over node (event.End (end_of tag))) ∷ []
 leaving reads.Inside node = []
 leaving (reads.Alone event) node = []
+leaving (reads.First event) node = []
 leaving reads.Silent node = []
 
 -- what is left after the siblings at hand
@@ -100,10 +105,11 @@ abbrev pub left_behind : BlockDocument → List Outer → List Segment
 left_behind document.Nil above = []
 left_behind (document.Node node inside after) above = leaving (read_as (kind_within (tight_below above) node.kind)) node ++ segments (settled (tight_below above) after)
 
--- what is left of the siblings at hand, from the focus on: the events and leaves of the settled document from there; in a leaf its
--- lines, if they were not met yet, and what stands behind them
+-- what is left of the siblings at hand, from the focus on: the events and leaves of the settled document from there; in a leaf its task
+-- marker and its lines, if they were not met yet, and what stands behind them
 abbrev pub left_at : Stage → BlockDocument → List Outer → List Segment
 left_at stage.Before here above = segments (settled (tight_below above) here)
+left_at (stage.Marked is_checked start end) here above = Given (record { event = event.TaskListMarker is_checked; start = start; end = end }) ∷ (Content (leaf_at here) ∷ left_behind here above)
 left_at stage.Lines here above = Content (leaf_at here) ∷ left_behind here above
 left_at stage.Behind here above = left_behind here above
 
@@ -118,6 +124,7 @@ BeginsWithLeaf (document.Node node inside after) = is_leaf node.kind ≡ true
 -- a walk is in a leaf only where the focus is one
 abbrev pub IsStaged : Stage → BlockDocument → Type 0
 IsStaged stage.Before here = Unit {0}
+IsStaged (stage.Marked is_checked start end) here = BeginsWithLeaf here
 IsStaged stage.Lines here = BeginsWithLeaf here
 IsStaged stage.Behind here = BeginsWithLeaf here
 
@@ -186,12 +193,12 @@ pub record AreLinesOf (text : List ℕ) (leaf : Leaf) (lines : List LeafLine) : 
 -- a call gives the first of these events and leaves, and the others remain; or there is none
 abbrev pub Gives : List Segment → Met → List LeafLine → Walk → Type 0
 Gives left (met.Event given) lines walk = (others : List Segment) × (left ≡ Given (shown_ranged given) ∷ others) × Remains walk others
-Gives left met.Leaf lines walk = (leaf : Leaf) × (others : List Segment) × (left ≡ Content leaf ∷ others) × AreLinesOf walk.text.now leaf lines × Remains walk others
+Gives left (met.Leaf is_cell) lines walk = (leaf : Leaf) × (others : List Segment) × (left ≡ Content leaf ∷ others) × AreLinesOf walk.text.now leaf lines × Remains walk others × (is_cell ≡ leaf.is_cell)
 Gives left met.Over lines walk = (left ≡ []) × Remains walk []
 
 abbrev pub GivesStep : List Segment → Step → List LeafLine → Walk → Type 0
 GivesStep left (step.Event given) lines walk = Gives left (met.Event given) lines walk
-GivesStep left step.Leaf lines walk = Gives left met.Leaf lines walk
+GivesStep left (step.Leaf is_cell) lines walk = Gives left (met.Leaf is_cell) lines walk
 GivesStep left step.Silent lines walk = Remains walk left
 GivesStep left step.Over lines walk = Gives left met.Over lines walk
 
@@ -199,10 +206,51 @@ GivesStep left step.Over lines walk = Gives left met.Over lines walk
 abbrev pub HoldsLines : Walk → List LeafLine → Type 0
 HoldsLines walk lines = (z : Zip Item) (here : BlockDocument) (above : List Outer) → StandsAt walk z here above → AreLinesOf walk.text.now (leaf_at here) lines
 
+-- an element with a text of its own: a heading with attributes, fenced code, a table or a footnote's definition
+abbrev pub has_texts : ItemBody → Bool
+has_texts (body.Heading level (Some index)) = true
+has_texts (body.FencedCodeBlock index) = true
+has_texts (body.Table index) = true
+has_texts (body.FootnoteDefinition index) = true
+has_texts _ = false
+
+-- a text that is written nowhere in the source
+abbrev pub is_synthesized : ItemBody → Bool
+is_synthesized (body.SynthesizeText index) = true
+is_synthesized (body.SynthesizeChar c) = true
+is_synthesized _ = false
+
+-- whether the box of a task marker is checked, if an item is one
+abbrev pub task_body : ItemBody → Option Bool
+task_body (body.TaskListMarker is_checked) = Some is_checked
+task_body _ = None
+
+abbrev pub IsTaskAt : Walk → TreeIndex → Bool → Type 0
+IsTaskAt walk ix is_checked = (e : Entry Item) → entry_at walk.tree ix.ix ≡ Some e → task_body e.item.body ≡ Some is_checked
+
+-- the nodes behind the first of these
+abbrev pub behind_first : BlockDocument → BlockDocument
+behind_first document.Nil = document.Nil
+behind_first (document.Node node inside after) = after
+
+-- these nodes begin with a paragraph or a heading that has this tag and this item
+abbrev pub BeginsAs : Walk → List Outer → TextTag → Item → BlockDocument → Type 0
+BeginsAs walk above tag item document.Nil = ⊥
+BeginsAs walk above tag item (document.Node node inside after) =
+    Drawn walk.text.now (texts_of walk) item node × (is_leaf node.kind ≡ true) × (reads.Around (shown_tag tag) ≡ read_as (kind_within (tight_below above) node.kind))
+
+-- a paragraph or a heading begins behind the focus, with this tag and this item, or none does
+abbrev pub BeginsBehind : Walk → List Outer → Option (TextTag × Item) → BlockDocument → Type 0
+BeginsBehind walk above None after = begins_element (settled (tight_below above) after) ≡ false
+BeginsBehind walk above (Some begun) after = BeginsAs walk above begun.0 begun.1 after
+
+abbrev pub IsLeafBehind : Walk → TreeIndex → Option (TextTag × Item) → Type 0
+IsLeafBehind walk ix found = (z : Zip Item) (here : BlockDocument) (above : List Outer) → StandsAt walk z here above → BeginsBehind walk above found (behind_first here)
+
 -- this event with the item's range
 abbrev pub GivesRanged : TextEvent → Item → Step → Type 0
 GivesRanged event item (step.Event given) = shown_ranged given ≡ record { event = shown event; start = item.start; end = item.end }
-GivesRanged event item step.Leaf = ⊥
+GivesRanged event item (step.Leaf is_cell) = ⊥
 GivesRanged event item step.Silent = ⊥
 GivesRanged event item step.Over = ⊥
 
@@ -214,11 +262,11 @@ ReadsZeroCopy text item reading.Inside = Unit {0}
 
 abbrev pub MeetsZeroCopy : List ℕ → Met → Type 0
 MeetsZeroCopy text (met.Event given) = IsZeroCopy text given.event given.range.start given.range.end
-MeetsZeroCopy text met.Leaf = Unit {0}
+MeetsZeroCopy text (met.Leaf is_cell) = Unit {0}
 MeetsZeroCopy text met.Over = Unit {0}
 
 abbrev pub StepsZeroCopy : List ℕ → Step → Type 0
 StepsZeroCopy text (step.Event given) = IsZeroCopy text given.event given.range.start given.range.end
-StepsZeroCopy text step.Leaf = Unit {0}
+StepsZeroCopy text (step.Leaf is_cell) = Unit {0}
 StepsZeroCopy text step.Silent = Unit {0}
 StepsZeroCopy text step.Over = Unit {0}

@@ -18,7 +18,10 @@ pub enum Met<'a> {
     /// An event of the blocks.
     Event(Ranged<'a>),
     /// The content of a leaf, whose lines are handed over beside this.
-    Leaf,
+    Leaf {
+        /// Whether it is the cell of a table.
+        is_cell: bool,
+    },
     /// Nothing: the document is over.
     Over,
 }
@@ -29,6 +32,15 @@ pub enum Met<'a> {
 pub(crate) enum Stage {
     /// Before it.
     Before,
+    /// In it, a paragraph or a heading, before its task marker and its lines (GFM 5.3).
+    Marked {
+        /// Whether the marker's box is checked.
+        is_checked: bool,
+        /// The byte offset at which the marker begins.
+        start: usize,
+        /// The byte offset behind it.
+        end: usize,
+    },
     /// In it, a leaf, before its lines.
     Lines,
     /// In it, a leaf, behind its lines.
@@ -52,7 +64,10 @@ pub(crate) enum Step<'a> {
     /// An event.
     Event(Ranged<'a>),
     /// The lines of a leaf.
-    Leaf,
+    Leaf {
+        /// Whether it is the cell of a table.
+        is_cell: bool,
+    },
     /// Neither: a paragraph of a tight list begins or ends.
     Silent,
     /// Neither, and nothing is left.

@@ -1,6 +1,6 @@
 //! The walk over a document's tree.
 
-ghost use Rattle.std.specs.Prelude.{◌≡◌, ℕ, false, List, [], length, option_map, IfOk, IfSome, OnOk, OnErr};
+ghost use Rattle.std.specs.Prelude.{◌≡◌, ℕ, false, true, None, Some, List, [], length, option_map, IfOk, IfSome, OnOk, OnErr};
 ghost use Rattle.std.specs.Str.{IsCharBoundary};
 ghost use Rattle.cmark_tree.specs.Forest.{Forest};
 ghost use Rattle.cmark_tree.specs.Building.{Is};
@@ -9,7 +9,7 @@ ghost use Rattle.cmark_grammar.specs.BlockDocument.{BlockDocument, BlockNode};
 ghost use Rattle.cmark_grammar.specs.BlockReading.{read_as};
 ghost use Rattle.cmark_grammar.specs.DrawnDocument.{settled, kind_within};
 ghost use Rattle.cmark_grammar.specs.Ranges.{InOrder, AllAt};
-ghost use Rattle.cmark_grammar.specs.SpanDocuments.{Segment, segments, is_leaf};
+ghost use Rattle.cmark_grammar.specs.SpanDocuments.{Segment, segments, is_cell, is_leaf};
 ghost use Rattle.cmark_grammar.specs.Event as event;
 ghost use Rattle.cmark_grammar.specs.Tokens.{slice};
 ghost use Rattle.cmark_items.specs.ItemNodes.{shown_forest, nodes_of, list_number, columns_of};
@@ -24,7 +24,7 @@ ghost use Rattle.cmark_leaf_text.specs.declared.stretch.LeafLine.{LeafLine};
 ghost use Rattle.cmark_text.specs.declared.text.CowStr.{CowStr};
 ghost use Rattle.cmark_walk.specs.declared.reading.Met.TheVariants as met;
 ghost use Rattle.cmark_walk.specs.declared.reading.Stage.TheVariants as stage;
-ghost use Rattle.cmark_walk.specs.Walking.{Drawn, IsDrawn, Outer, StandsBelow, IsBelow, tight_below, Remains, Goes, Gives, GivesStep, HoldsLines, definitions_of, text_of, IsAt, IsPast, GivesRanged, texts_of, ReadsZeroCopy, StepsZeroCopy, MeetsZeroCopy};
+ghost use Rattle.cmark_walk.specs.Walking.{Drawn, IsDrawn, Outer, StandsBelow, IsBelow, tight_below, Remains, Goes, Gives, GivesStep, HoldsLines, definitions_of, text_of, IsAt, IsPast, GivesRanged, texts_of, ReadsZeroCopy, StepsZeroCopy, MeetsZeroCopy, IsTaskAt, IsLeafBehind, has_texts, is_synthesized, task_body};
 
 use crate::reading::{Met, Ranged, Reading, Stage, Step};
 use bitflags::Flags;
@@ -103,7 +103,7 @@ impl<'a> Walk<'a> {
         for _ in 0..u64::MAX {
             match self.step(lines)? {
                 Step::Event(given) => return Ok(Met::Event(given)),
-                Step::Leaf => return Ok(Met::Leaf),
+                Step::Leaf { is_cell } => return Ok(Met::Leaf { is_cell }),
                 Step::Silent => {}
                 Step::Over => return Ok(Met::Over),
             }
@@ -127,9 +127,14 @@ impl<'a> Walk<'a> {
         };
         match self.stage {
             Stage::Before => self.enter(ix),
+            Stage::Marked {
+                is_checked,
+                start,
+                end,
+            } => Ok(self.meet_marker(is_checked, start, end)),
             Stage::Lines => {
-                self.meet_leaf(ix, lines)?;
-                Ok(Step::Leaf)
+                let is_cell = self.meet_leaf(ix, lines)?;
+                Ok(Step::Leaf { is_cell })
             }
             Stage::Behind => Ok(self.leave_leaf(ix)),
         }
@@ -148,6 +153,9 @@ impl<'a> Walk<'a> {
         ensures text { text_of self.new ≡ text_of self.old }
     {
         let item = *self.tree.item(ix);
+        if let Some(is_checked) = task_of(item) {
+            return self.pass_marker(ix, is_checked);
+        }
         match self.read(item)? {
             Reading::Around(tag) => {
                 if is_leaf(item) {
@@ -168,20 +176,87 @@ impl<'a> Walk<'a> {
         }
     }
 
-    // The lines of the leaf in the focus, and behind them.
+    // Past a task marker: to the lines of the paragraph or heading behind it, where one begins, whose first event the marker is (GFM 5.3).
     #[inline(always)]
-    fn meet_leaf(&mut self, ix: TreeIndex, lines: &mut Vec<LeafLine>) -> Result<(), AllocError>
+    fn pass_marker(&mut self, ix: TreeIndex, is_checked: bool) -> Result<Step<'a>, AllocError>
+        requires at { IsAt self.old ix }
+        requires before { self.old.stage ≡ stage.Before }
+        requires task { IsTaskAt self.old ix is_checked }
+        ensures given { IfOk result (λ step. (left : List Segment) (lines : List LeafLine) → Remains self.old left → GivesStep left step lines self.new) }
+        ensures lent { IfOk result (StepsZeroCopy (text_of self.old)) }
+        ensures refused { OnErr result ((left : List Segment) → Remains self.old left → Remains self.new left) }
+        ensures goes { Goes self.new }
+        ensures definitions { definitions_of self.new ≡ definitions_of self.old }
+        ensures text { text_of self.new ≡ text_of self.old }
+    {
+        let item = *self.tree.item(ix);
+        let behind = self.leaf_behind(ix)?;
+        self.tree.next_sibling(ix);
+        match behind {
+            Some((tag, leaf)) => {
+                self.stage = Stage::Marked {
+                    is_checked,
+                    start: item.start,
+                    end: item.end,
+                };
+                Ok(given(Event::Start(tag), leaf))
+            }
+            None => Ok(given(Event::TaskListMarker(is_checked), item)),
+        }
+    }
+
+    // The tag of the paragraph or heading behind a node, and its item, where one begins there.
+    #[inline(never)]
+    fn leaf_behind(&self, ix: TreeIndex) -> Result<Option<(Tag<'a>, Item)>, AllocError>
+        requires { IsAt self.now ix }
+        ensures { IfOk result (IsLeafBehind self.now ix) }
+    {
+        let Some(next) = self.tree.next(ix) else {
+            return Ok(None);
+        };
+        let item = *self.tree.item(next);
+        if !is_leaf(item) {
+            return Ok(None);
+        }
+        match self.tag(item)? {
+            Some(tag) => Ok(Some((tag, item))),
+            None => Ok(None),
+        }
+    }
+
+    // The task marker of the leaf in the focus, which stands between these byte offsets, and then before its lines.
+    #[inline(always)]
+    fn meet_marker(&mut self, is_checked: bool, start: usize, end: usize) -> Step<'a>
+        requires goes { Goes self.old }
+        requires marked { self.old.stage ≡ stage.Marked is_checked start end }
+        ensures given { (left : List Segment) (lines : List LeafLine) → Remains self.old left → GivesStep left result lines self.new }
+        ensures lent { StepsZeroCopy (text_of self.old) result }
+        ensures goes { Goes self.new }
+        ensures definitions { definitions_of self.new ≡ definitions_of self.old }
+        ensures text { text_of self.new ≡ text_of self.old }
+    {
+        self.stage = Stage::Lines;
+        Step::Event(Ranged {
+            event: Event::TaskListMarker(is_checked),
+            range: start..end,
+        })
+    }
+
+    // The lines of the leaf in the focus, and behind them. Whether it is the cell of a table.
+    #[inline(always)]
+    fn meet_leaf(&mut self, ix: TreeIndex, lines: &mut Vec<LeafLine>) -> Result<bool, AllocError>
         requires at { IsAt self.old ix }
         requires before { self.old.stage ≡ stage.Lines }
-        ensures given { OnOk result ((left : List Segment) → Remains self.old left → Gives left met.Leaf lines.new.items self.new) }
+        ensures given { IfOk result (λ is_cell. (left : List Segment) → Remains self.old left → Gives left (met.Leaf is_cell) lines.new.items self.new) }
         ensures refused { OnErr result ((left : List Segment) → Remains self.old left → Remains self.new left) }
         ensures goes { Goes self.new }
         ensures definitions { definitions_of self.new ≡ definitions_of self.old }
         ensures text { text_of self.new ≡ text_of self.old }
     {
         self.gather(ix, lines)?;
+        let is_cell = is_cell(*self.tree.item(ix));
         self.stage = Stage::Behind;
-        Ok(())
+        Ok(is_cell)
     }
 
     // The lines of the leaf in the focus.
@@ -255,6 +330,7 @@ impl<'a> Walk<'a> {
     fn read(&self, item: Item) -> Result<Reading<'a>, AllocError>
         requires below { IsBelow self.now }
         requires drawn { IsDrawn self.now item }
+        requires unmarked { task_body item.body ≡ None }
         ensures value { IfOk result (λ reading. (z : Zip Item) (above : List Outer) (node : BlockNode) → StandsBelow self.now z above → Drawn self.now.text.now (texts_of self.now) item node
             → shown_reading reading ≡ read_as (kind_within (tight_below above) node.kind)) }
         ensures lent { IfOk result (ReadsZeroCopy (text_of self.now) item) }
@@ -279,13 +355,8 @@ impl<'a> Walk<'a> {
         match item.body {
             ItemBody::Text { .. } => Ok(Some(Event::Text(self.slice(item)))),
             ItemBody::Html => Ok(Some(Event::Html(self.slice(item)))),
-            ItemBody::SynthesizeText(index) => {
-                let text = self.allocations[index].clone(self.alloc)?;
-                let event = self.written(text, item)?;
-                Ok(Some(event))
-            }
-            ItemBody::SynthesizeChar(c) => {
-                let event = self.written(CowStr::from(c), item)?;
+            ItemBody::SynthesizeText(_) | ItemBody::SynthesizeChar(_) => {
+                let event = self.synthesized(item)?;
                 Ok(Some(event))
             }
             ItemBody::Rule => Ok(Some(Event::Rule)),
@@ -305,11 +376,19 @@ impl<'a> Walk<'a> {
 
     // The event of a text that is written nowhere, such as the spaces that are left of a tab.
     #[inline(never)]
-    fn written(&self, text: CowStr<'a>, item: Item) -> Result<Event<'a>, AllocError>
-        requires { IsDrawn self.now item }
-        ensures value { IfOk result (λ made. shown made ≡ event.Text (text_bytes text.entry)) }
+    fn synthesized(&self, item: Item) -> Result<Event<'a>, AllocError>
+        requires drawn { IsDrawn self.now item }
+        requires synthesized { is_synthesized item.body ≡ true }
+        ensures value { IfOk result (λ made. (node : BlockNode) → Drawn self.now.text.now (texts_of self.now) item node
+            → Some (shown made) ≡ event_in (read_as node.kind)) }
         ensures lent { IfOk result (λ made. IsZeroCopy (text_of self.now) made item.start item.end) }
     {
+        let text = match item.body {
+            ItemBody::SynthesizeText(index) => self.allocations[index].clone(self.alloc)?,
+            ItemBody::SynthesizeChar(c) => CowStr::from(c),
+            // The caller asks for no other item.
+            _ => CowStr::Borrowed(""),
+        };
         let part = &self.text[item.start..item.end];
         Ok(Event::Text(text.lent_by(self.alloc, part)?))
     }
@@ -334,20 +413,8 @@ impl<'a> Walk<'a> {
                 classes: Vec::new(self.alloc),
                 attrs: Vec::new(self.alloc),
             })),
-            ItemBody::Heading(level, Some(index)) => {
-                let words = self.allocations[index].as_str();
-                Ok(Some(heading(self.alloc, level, words)?))
-            }
             ItemBody::IndentCodeBlock => Ok(Some(Tag::CodeBlock(CodeBlockKind::Indented))),
-            ItemBody::FencedCodeBlock(index) => {
-                let info = self.allocations[index].clone(self.alloc)?;
-                Ok(Some(Tag::CodeBlock(CodeBlockKind::Fenced(info))))
-            }
             ItemBody::HtmlBlock => Ok(Some(Tag::HtmlBlock)),
-            ItemBody::Table(index) => {
-                let row = self.allocations[index].as_str();
-                Ok(Some(table(self.alloc, row)?))
-            }
             ItemBody::TableHead => Ok(Some(Tag::TableHead)),
             ItemBody::TableRow => Ok(Some(Tag::TableRow)),
             ItemBody::TableCell => Ok(Some(Tag::TableCell)),
@@ -355,11 +422,45 @@ impl<'a> Walk<'a> {
             ItemBody::BlockQuote(kind) => Ok(Some(Tag::BlockQuote(kind))),
             ItemBody::List(_, mark, number) => Ok(Some(Tag::List(first_number(mark, number)))),
             ItemBody::ListItem(_) => Ok(Some(Tag::Item)),
-            ItemBody::FootnoteDefinition(index) => {
-                let label = self.allocations[index].clone(self.alloc)?;
-                Ok(Some(Tag::FootnoteDefinition(label)))
+            ItemBody::Heading(_, Some(_))
+            | ItemBody::FencedCodeBlock(_)
+            | ItemBody::Table(_)
+            | ItemBody::FootnoteDefinition(_) => {
+                let tag = self.tag_with_texts(item)?;
+                Ok(Some(tag))
             }
             _ => Ok(None),
+        }
+    }
+
+    // The tag of an element that has a text of its own. It is made apart, so that no other tag waits for the room that it takes.
+    #[inline(never)]
+    fn tag_with_texts(&self, item: Item) -> Result<Tag<'a>, AllocError>
+        requires below { IsBelow self.now }
+        requires drawn { IsDrawn self.now item }
+        requires texts { has_texts item.body ≡ true }
+        ensures { IfOk result (λ tag. (z : Zip Item) (above : List Outer) (node : BlockNode) → StandsBelow self.now z above → Drawn self.now.text.now (texts_of self.now) item node
+            → Some (shown_tag tag) ≡ tag_in (read_as (kind_within (tight_below above) node.kind))) }
+    {
+        match item.body {
+            ItemBody::Heading(level, Some(index)) => {
+                let words = self.allocations[index].as_str();
+                heading(self.alloc, level, words)
+            }
+            ItemBody::FencedCodeBlock(index) => {
+                let info = self.allocations[index].clone(self.alloc)?;
+                Ok(Tag::CodeBlock(CodeBlockKind::Fenced(info)))
+            }
+            ItemBody::Table(index) => {
+                let row = self.allocations[index].as_str();
+                table(self.alloc, row)
+            }
+            ItemBody::FootnoteDefinition(index) => {
+                let label = self.allocations[index].clone(self.alloc)?;
+                Ok(Tag::FootnoteDefinition(label))
+            }
+            // The caller asks for no other item.
+            _ => Ok(Tag::Paragraph),
         }
     }
 
@@ -415,6 +516,17 @@ impl<'a> Walk<'a> {
     }
 }
 
+// Whether the box of a task marker is checked, if an item is one (GFM 5.3).
+#[inline(always)]
+fn task_of(item: Item) -> Option<bool>
+    ensures { result ≡ task_body item.body }
+{
+    match item.body {
+        ItemBody::TaskListMarker(is_checked) => Some(is_checked),
+        _ => None,
+    }
+}
+
 // Whether an item is a leaf, whose lines have spans (CommonMark 4.2, 4.3 and 4.8, GFM 4.10).
 #[inline(always)]
 fn is_leaf(item: Item) -> bool
@@ -424,6 +536,17 @@ fn is_leaf(item: Item) -> bool
         ItemBody::Paragraph => true,
         ItemBody::TightParagraph => true,
         ItemBody::Heading(_, _) => true,
+        ItemBody::TableCell => true,
+        _ => false,
+    }
+}
+
+// Whether an item is the cell of a table (GFM 4.10).
+#[inline(always)]
+fn is_cell(item: Item) -> bool
+    ensures { (text : List ℕ) (texts : List CowStr) (node : BlockNode) → Drawn text texts item node → result ≡ is_cell node.kind }
+{
+    match item.body {
         ItemBody::TableCell => true,
         _ => false,
     }

@@ -37,7 +37,7 @@ pub static FLAGS: [LineFlag; 15] = [
     LineFlag {
         name: "tasklists",
         option: Options::ENABLE_TASKLISTS,
-        help: "Task list items: - [x] a (no effect yet)",
+        help: "Task list items: - [x] a",
     },
     LineFlag {
         name: "smart-punctuation",

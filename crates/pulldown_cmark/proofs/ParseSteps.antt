@@ -1,4 +1,5 @@
 -- Steps of a walk.
+use Rattle.std.specs.Prelude.{IfSome, OnSome, Option}
 use Rattle.std.proofs.Common.{◌≡◌, ◌+◌, ◌*◌, ◌<◌, ℕ, suc, true, false, if◌then◌else◌, List, [], ◌∷◌, length, None, Some, Ok, inl, inr, refl, sym, ap, ◌∙◌, subst, arith}
 use Rattle.cmark_block_model.proofs.Drawings.{derived}
 use Rattle.cmark_block_model.proofs.LeafDrawings.{segments-bounded}
@@ -9,13 +10,15 @@ use Rattle.cmark_grammar.specs.LeafSpans.{AreGiven}
 use Rattle.cmark_grammar.specs.Options.{Options}
 use Rattle.cmark_grammar.specs.SpanDocuments.{Segment, segments}
 use Rattle.cmark_grammar.proofs.LeafSpanLaws.{some-given}
+use Rattle.cmark_inline.specs.Footnoted.{SameFootnotes}
+use Rattle.cmark_inline.specs.declared.short.Short.{Short}
 use Rattle.cmark_span_walk.specs.Walking as walking
 use Rattle.cmark_span_walk.proofs.Walks.{some-left}
 use Rattle.cmark_walk.specs.declared.reading.Ranged.{Ranged as Item}
 use Rattle.cmark_walk.specs.Walking.{shown_ranged}
 use Rattle.pulldown_cmark.specs.declared.parse.Parser.{Parser}
 use Rattle.pulldown_cmark.specs.Walking.{GoesOn}
-use Rattle.pulldown_cmark.specs.Parsing.{CanGo, IsOver, GivesStep, Left, Reads, Remains, definitions, events_left, text_of}
+use Rattle.pulldown_cmark.specs.Parsing.{CanGo, IsOver, GivesShort, GivesStep, Left, Reads, Remains, definitions, footnotes, events_left, text_of}
 
 module _ {E F : Type 0} where
   -- the walk of a parser that is not over
@@ -31,8 +34,8 @@ module _ {E F : Type 0} where
 
   -- an event is given, and the others are left
   pub gives-some : (old new : Parser E F) (item : Item) → old.is_over ≡ false → new.is_over ≡ false → walking.Stands new.spans → walking.Gives old.spans (Some item) new.spans
-      → walking.GivesZeroCopy (text_of old) item → walking.events_left new.spans < walking.events_left old.spans → text_of new ≡ text_of old → definitions new ≡ definitions old → GivesStep old (Some (Ok item)) new
-  gives-some old new item e n stands gives lent less text same = record {
+      → walking.GivesZeroCopy (text_of old) item → walking.events_left new.spans < walking.events_left old.spans → text_of new ≡ text_of old → definitions new ≡ definitions old → SameFootnotes (footnotes old) (footnotes new) → GivesStep old (Some (Ok item)) new
+  gives-some old new item e n stands gives lent less text same known = record {
     next = record {
       first = (shown_ranged item, record { is = refl; lent = lent }, back);
       goes_on = goes new n stands;
@@ -40,6 +43,7 @@ module _ {E F : Type 0} where
     };
     text = text;
     definitions = same;
+    footnotes = known;
     fewer = let a = left-of old e in let b = left-of new n in omega (arith, a, b, less);
   }
     where
@@ -49,9 +53,15 @@ module _ {E F : Type 0} where
       back : (events : List Ranged) → Remains new events → Remains old (shown_ranged item ∷ events)
       back events r = subst (λ b. Left b old (shown_ranged item ∷ events)) (sym e) (gives events (subst (λ b. Left b new events) n r))
 
+  -- a text or a soft break is handed on without an event
+  pub gives-short : (old new : Parser E F) (o : Option Short) → old.is_over ≡ false → new.is_over ≡ false → walking.Stands new.spans → IfSome o (λ short. walking.GivesShort old.spans short new.spans)
+      → OnSome o (walking.events_left new.spans < walking.events_left old.spans) → text_of new ≡ text_of old → definitions new ≡ definitions old → SameFootnotes (footnotes old) (footnotes new) → IfSome o (λ short. GivesShort old short new)
+  gives-short old new None e n stands h less text same known = tt
+  gives-short old new (Some short) e n stands h less text same known = record { given = h.given; is = h.is; gives = gives-some old new h.given e n stands h.gives h.lent less text same known }
+
   -- no event was left
-  pub gives-none : (old new : Parser E F) → old.is_over ≡ false → new.is_over ≡ true → walking.Gives old.spans None new.spans → text_of new ≡ text_of old → definitions new ≡ definitions old → GivesStep old None new
-  gives-none old new e n gives text same = record {
+  pub gives-none : (old new : Parser E F) → old.is_over ≡ false → new.is_over ≡ true → walking.Gives old.spans None new.spans → text_of new ≡ text_of old → definitions new ≡ definitions old → SameFootnotes (footnotes old) (footnotes new) → GivesStep old None new
+  gives-none old new e n gives text same known = record {
     next = record {
       first = (subst (λ b. Left b old []) (sym e) gives, n);
       goes_on = inl n;
@@ -59,6 +69,7 @@ module _ {E F : Type 0} where
     };
     text = text;
     definitions = same;
+    footnotes = known;
     fewer = tt;
   }
 

@@ -1,7 +1,8 @@
--- What a parser still has to give, and the definitions that it found.
-use Rattle.std.specs.Prelude.{◌≡◌, ◌<◌, ℕ, suc, Bool, true, false, if◌then◌else◌, List, [], ◌∷◌, OnSome, Option, option_map, Result}
+-- What a parser still has to give, and the definitions of links and of footnotes that it found.
+use Rattle.std.specs.Prelude.{◌≡◌, ◌<◌, ℕ, suc, Bool, true, false, if◌then◌else◌, List, [], ◌∷◌, OnSome, Option, Some, option_map, Result, Ok}
 use Rattle.std.specs.declared.alloc.AllocError.{AllocError}
 use Rattle.std.specs.declared.ops.Range.{Range}
+use Rattle.cmark_blocks.specs.Footnotes.{HasLabels}
 use Rattle.cmark_blocks.specs.Runs.{shown_reference}
 use Rattle.cmark_grammar.specs.Answers.{Lookup}
 use Rattle.cmark_grammar.specs.BlockDocument.{BlockDocument}
@@ -10,8 +11,13 @@ use Rattle.cmark_grammar.specs.Event.{Ranged}
 use Rattle.cmark_grammar.specs.Labels.{fold}
 use Rattle.cmark_grammar.specs.Options.{Options}
 use Rattle.cmark_grammar.specs.References.{first_with, references}
+use Rattle.cmark_grammar.specs.SpanDocuments.{footnote_labels}
+use Rattle.cmark_inline.specs.Footnoted.{SameFootnotes}
+use Rattle.cmark_inline.specs.Shorts.{event_of}
+use Rattle.cmark_inline.specs.declared.short.Short.{Short}
 use Rattle.cmark_items.specs.Definitions.{definition, shown_definition}
 use Rattle.cmark_items.specs.declared.definitions.RefDefs.{RefDefs}
+use Rattle.cmark_items.specs.declared.footnotes.FootnoteDefs.{FootnoteDefs}
 use Rattle.cmark_span_walk.specs.Walking as walking
 use Rattle.cmark_text.specs.declared.event.Event.{Event}
 use Rattle.cmark_text.specs.Shown.{shown}
@@ -56,6 +62,10 @@ module _ {E F : Type 0} where
   abbrev pub definitions : Parser E F → RefDefs
   definitions parser = walking.definitions_of parser.spans
 
+  -- the footnotes that the spans are read with
+  abbrev pub footnotes : Parser E F → FootnoteDefs
+  footnotes parser = walking.footnotes_of parser.spans
+
   -- nothing is given any more
   abbrev pub IsOver : Parser E F → Type 0
   IsOver parser = parser.is_over ≡ true
@@ -72,17 +82,25 @@ module _ {E F : Type 0} where
   pub record CanGo (parser : Parser E F) : Type 0 where
     pub goes : GoesOn Remains IsOver parser
 
-  -- one call: the first event of what was left, of the same text, and the same definitions
+  -- one call: the first event of what was left, of the same text, the same definitions, and footnotes of the same labels
   pub record Gives (old : Parser E F) (given : Option (Result Event AllocError)) (new : Parser E F) : Type 0 where
     pub next : GivesNext Remains IsOver (Shows (text_of old)) old given new
     pub text : text_of new ≡ text_of old
     pub definitions : definitions new ≡ definitions old
+    pub footnotes : SameFootnotes (footnotes old) (footnotes new)
 
   pub record GivesStep (old : Parser E F) (given : Option (Result Given AllocError)) (new : Parser E F) : Type 0 where
     pub next : GivesNext Remains IsOver (ShowsStep (text_of old)) old given new
     pub text : text_of new ≡ text_of old
     pub definitions : definitions new ≡ definitions old
+    pub footnotes : SameFootnotes (footnotes old) (footnotes new)
     pub fewer : OnSome given (events_left new < events_left old)
+
+  -- the event that such an answer stands for, with some range, is given
+  pub record GivesShort (old : Parser E F) (short : Short) (new : Parser E F) : Type 0 where
+    pub given : Given
+    pub is : given.event ≡ event_of short
+    pub gives : GivesStep old (Some (Ok given)) new
 
   -- the parser is at the start of a walk over a document that the text derives
   abbrev pub Reads : List ℕ → Options → Lookup → Parser E F → Type 0
@@ -97,6 +115,11 @@ module _ {E F : Type 0} where
   abbrev pub Defines : List ℕ → Options → Lookup → Parser E F → Type 0
   Defines text options lookup parser = (document : BlockDocument) → Derives text options lookup document → DefinesAs document parser
 
+  -- its footnotes have exactly the labels of those that each document defines which the text derives, and none was used
+  abbrev pub DefinesFootnotes : List ℕ → Options → Lookup → Parser E F → Type 0
+  DefinesFootnotes text options lookup parser =
+      (document : BlockDocument) → Derives text options lookup document → HasLabels (footnote_labels document) (footnotes parser)
+
   -- the same of a walk that gives ranges
   abbrev pub walk_of : OffsetIter E F → Parser E F
   walk_of iter = iter.parser
@@ -106,6 +129,9 @@ module _ {E F : Type 0} where
 
   abbrev pub ranged_definitions : OffsetIter E F → RefDefs
   ranged_definitions iter = definitions iter.parser
+
+  abbrev pub ranged_footnotes : OffsetIter E F → FootnoteDefs
+  ranged_footnotes iter = footnotes iter.parser
 
   abbrev pub ranged_text : OffsetIter E F → List ℕ
   ranged_text iter = text_of iter.parser
@@ -123,3 +149,4 @@ module _ {E F : Type 0} where
     pub next : GivesNext RemainsRanged IsRangedOver (ShowsRanged (ranged_text old)) old given new
     pub text : ranged_text new ≡ ranged_text old
     pub definitions : ranged_definitions new ≡ ranged_definitions old
+    pub footnotes : SameFootnotes (ranged_footnotes old) (ranged_footnotes new)

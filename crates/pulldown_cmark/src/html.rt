@@ -1,11 +1,18 @@
 //! The HTML of events, and of a text.
 
-ghost use Rattle.std.specs.Prelude.{IfOk, string_bytes};
-ghost use Rattle.cmark_text.specs.Shown.{shown_options};
-ghost use Rattle.pulldown_cmark.specs.Rendering.{IsHtmlOf};
+ghost use Rattle.std.specs.Prelude.{◌≡◌, ◌++◌, List, IfOk, OnOk, string_bytes};
+ghost use Rattle.cmark_grammar.specs.Event.{Ranged};
+ghost use Rattle.cmark_grammar.specs.Html.{html, piece, moved};
+ghost use Rattle.cmark_html.specs.Writer.{writing};
+ghost use Rattle.cmark_inline.specs.Shorts.{event_of};
+ghost use Rattle.cmark_text.specs.Shown.{shown, shown_options};
+ghost use Rattle.pulldown_cmark.specs.Parsing.{CanGo, Remains};
+ghost use Rattle.pulldown_cmark.specs.Rendering.{IsHtmlOf, events_of};
 
 use crate::parse::Parser;
 pub use cmark_html::push_html;
+use cmark_html::{Writer, finish, write_event, write_soft_break, write_text};
+use cmark_inline::{BrokenLinkCallback, Short};
 use cmark_text::{EntityLookup, Options};
 use std::alloc::{AllocError, Global};
 
@@ -26,6 +33,46 @@ pub fn to_html<E: EntityLookup>(
     // There is room at once for the HTML of most texts, which are longer by their elements: a string that grows is there twice.
     let room = text.len().saturating_add(text.len() / 8);
     let mut html = String::with_capacity(alloc, room)?;
-    push_html(&mut html, parser)?;
+    let mut parser = parser;
+    render(&mut html, &mut parser)?;
     Ok(html)
+}
+
+// Appends the HTML of the events that a parser still has to give. Most of them are texts and soft line breaks, of which no event is
+// made.
+fn render<'a, E: EntityLookup, F: BrokenLinkCallback<'a> + Drop>(
+    out: &mut String,
+    parser: &mut Parser<'a, E, F>,
+) -> Result<(), AllocError>
+    requires { CanGo parser.old }
+    ensures { OnOk result ((events : List Ranged) × Remains parser.old events
+        × (string_bytes out.new ≡ string_bytes out.old ++ html (events_of events))) }
+{
+    let mut writer = Writer::new(*out.allocator());
+    loop {
+        if let Some(short) = parser.next_short() {
+            write_short(out, &mut writer, short)?;
+            continue;
+        }
+        match parser.advance() {
+            Some(given) => write_event(out, &mut writer, given?.event)?,
+            None => return finish(out, &writer),
+        }
+    }
+}
+
+// Appends the piece of a text or of a soft line break.
+#[inline(always)]
+fn write_short<'a>(
+    out: &mut String,
+    writer: &mut Writer<'a>,
+    short: Short<'a>,
+) -> Result<(), AllocError>
+    ensures ok { OnOk result (string_bytes out.new ≡ string_bytes out.old ++ piece (writing writer.old) (shown (event_of short.entry))) }
+    ensures state { OnOk result (writing writer.new ≡ moved (writing writer.old) (shown (event_of short.entry))) }
+{
+    match short {
+        Short::Text(text) => write_text(out, writer, text),
+        Short::SoftBreak => write_soft_break(out, writer),
+    }
 }

@@ -1,13 +1,13 @@
 //! The parser: iterators over the events of a text's document.
 
-ghost use Rattle.std.specs.Prelude.{◌≡◌, IfOk};
+ghost use Rattle.std.specs.Prelude.{◌≡◌, None, IfOk, IfSome};
 ghost use Rattle.std.specs.Iterator.{at_most};
 ghost use Rattle.cmark_grammar.specs.Options.{no_options};
 ghost use Rattle.cmark_text.specs.Shown.{shown_options};
 
 use bitflags::Flags;
 use cmark_blocks::{FirstPass, run_first_pass};
-use cmark_inline::{BrokenLinkCallback, DefaultBrokenLinkCallback};
+use cmark_inline::{BrokenLinkCallback, DefaultBrokenLinkCallback, Short};
 use cmark_items::{FootnoteDefs, RefDefs};
 use cmark_span_walk::{OptionalCallback, SpanWalk};
 use cmark_text::{EntityLookup, Event, Options};
@@ -38,7 +38,7 @@ pub struct Parser<'input, E, F = DefaultBrokenLinkCallback> {
 const EVENTS_A_BYTE: u128 = 786_444;
 
 impl<'input, E: EntityLookup> Parser<'input, E> {
-    ghost use Rattle.pulldown_cmark.specs.Parsing.{Reads, Defines, CanGo, text_of};
+    ghost use Rattle.pulldown_cmark.specs.Parsing.{Reads, Defines, DefinesFootnotes, CanGo, text_of};
 
     /// A parser of `text`, with no extension. `entities` says what the entity names stand for. Where memory is refused
     /// there is no parser.
@@ -50,15 +50,16 @@ impl<'input, E: EntityLookup> Parser<'input, E> {
         ensures text { IfOk result (λ parser. text_of parser ≡ text.entry.now) }
         ensures reads { IfOk result (Reads text.entry.now no_options (E.replacement entities.entry.now)) }
         ensures definitions { IfOk result (Defines text.entry.now no_options (E.replacement entities.entry.now)) }
+        ensures footnotes { IfOk result (DefinesFootnotes text.entry.now no_options (E.replacement entities.entry.now)) }
         ensures goes { IfOk result CanGo }
     {
         let parser = Parser::new_ext(alloc, text, Options::empty(), entities)?;
         Ok(parser)
     }
 
-    /// A parser of `text` with these options. Those for strikethrough, superscript, subscript, smart punctuation and footnotes have an
-    /// effect, on spans, those for metadata blocks on blocks, and that for heading attributes on ATX headings; the others are read
-    /// from the day on which the grammar has their rules.
+    /// A parser of `text` with these options. An option that is off changes nothing; that for definition lists has no effect yet, and
+    /// that for heading attributes none on setext headings. `entities` says what the entity names stand for. Where memory is refused
+    /// there is no parser.
     pub fn new_ext(
         alloc: Global,
         text: &'input str,
@@ -68,6 +69,7 @@ impl<'input, E: EntityLookup> Parser<'input, E> {
         ensures text { IfOk result (λ parser. text_of parser ≡ text.entry.now) }
         ensures reads { IfOk result (Reads text.entry.now (shown_options options) (E.replacement entities.entry.now)) }
         ensures definitions { IfOk result (Defines text.entry.now (shown_options options) (E.replacement entities.entry.now)) }
+        ensures footnotes { IfOk result (DefinesFootnotes text.entry.now (shown_options options) (E.replacement entities.entry.now)) }
         ensures goes { IfOk result CanGo }
     {
         let parser = Parser::new_with_broken_link_callback(alloc, text, options, entities, None)?;
@@ -76,7 +78,7 @@ impl<'input, E: EntityLookup> Parser<'input, E> {
 }
 
 impl<'input, E: EntityLookup, F: BrokenLinkCallback<'input> + Drop> Parser<'input, E, F> {
-    ghost use Rattle.pulldown_cmark.specs.Parsing.{Reads, Defines, CanGo, CanGoRanged, GivesStep, definitions, text_of, walk_of};
+    ghost use Rattle.pulldown_cmark.specs.Parsing.{Reads, Defines, DefinesFootnotes, CanGo, CanGoRanged, GivesShort, GivesStep, definitions, text_of, walk_of};
 
     /// A parser of `text` with these options, which asks the callback, if there is one, for each reference without a
     /// definition. The callback is asked while the events are given.
@@ -90,6 +92,7 @@ impl<'input, E: EntityLookup, F: BrokenLinkCallback<'input> + Drop> Parser<'inpu
         ensures text { IfOk result (λ parser. text_of parser ≡ text.entry.now) }
         ensures reads { IfOk result (Reads text.entry.now (shown_options options) (E.replacement entities.entry.now)) }
         ensures definitions { IfOk result (Defines text.entry.now (shown_options options) (E.replacement entities.entry.now)) }
+        ensures footnotes { IfOk result (DefinesFootnotes text.entry.now (shown_options options) (E.replacement entities.entry.now)) }
         ensures goes { IfOk result CanGo }
     {
         let FirstPass {
@@ -125,9 +128,23 @@ impl<'input, E: EntityLookup, F: BrokenLinkCallback<'input> + Drop> Parser<'inpu
         OffsetIter { parser: self }
     }
 
+    // What `next` would give, where that is a text that stands in the source, or a soft line break: it then counts as given. Else
+    // there is no answer, and nothing changes.
+    #[inline(always)]
+    pub(crate) fn next_short(&mut self) -> Option<Short<'input>>
+        requires { CanGo self.old }
+        ensures given { IfSome result (λ short. GivesShort self.old short self.new) }
+        ensures none { result ≡ None → self.new ≡ self.old }
+    {
+        if !self.is_over {
+            return self.spans.next_short();
+        }
+        None
+    }
+
     // The next event with its range. Where memory is refused, this is the last item.
     #[inline(always)]
-    fn advance(&mut self) -> Option<Result<Ranged<'input>, AllocError>>
+    pub(crate) fn advance(&mut self) -> Option<Result<Ranged<'input>, AllocError>>
         requires { CanGo self.old }
         ensures { GivesStep self.old result self.new }
     {

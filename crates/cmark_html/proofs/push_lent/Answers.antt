@@ -1,10 +1,11 @@
-use Rattle.std.proofs.Common.{[], ◌∷◌, ◌++◌, Some, inl, inr, string_bytes, subst}
+use Rattle.std.proofs.Common.{[], ◌∷◌, ◌++◌, Some, inl, inr, map, string_bytes, subst}
 use Rattle.std.proofs.lemmas.Result.{on_ok_weaker, on_err_weaker}
 use Rattle.std.proofs.iter.Next.{Yields-more}
 use Rattle.std.specs.Iterator.{Yields}
 use Rattle.cmark_html.specs.Writer.{writing}
+use Rattle.cmark_text.specs.Shown.{shown}
 use Rattle.cmark_html.proofs.FrontSteps.{on_err, front_all}
-use Rattle.cmark_html.proofs.HtmlSteps.{written_more, kept_more, front_more, written_all, front_last, given_more}
+use Rattle.cmark_html.proofs.HtmlSteps.{written_more, kept_more, front_more, written_end, front_end, given_more}
 use Rattle.cmark_html.proofs.push_lent.Goals as goal
 
 pub loop-event-preserved : goal.loop-event-preserved
@@ -36,13 +37,13 @@ pub returns-clause-ok : goal.returns-clause-ok
 returns-clause-ok g c =
     let i = c.loop-event.invariant.so_far in
     let given = subst (λ items. Yields g.I.Iterator.next_gives c.args.iter.now items c.loop-event.iter) i.1 c.loop-event.yielded_by in
-    on_ok_weaker c.finish.result (λ more. (i.0, (c.loop-event.iter, given, c.in_default.ensures.steps), written_all (writing c.loop-event.writer) i.0 (string_bytes c.args.out.now) (string_bytes c.loop-event.out) (string_bytes c.finish.new.out) i.2 i.3 more)) c.finish.ensures.ok
+    on_ok_weaker c.finish.result (λ more. (i.0, (c.loop-event.iter, given, c.in_default.ensures.steps), written_end (writing c.loop-event.writer) (map shown i.0) (string_bytes c.args.out.now) (string_bytes c.loop-event.out) (string_bytes c.finish.new.out) i.2 i.3 more)) c.finish.ensures.ok
 
 pub returns-clause-err : goal.returns-clause-err
 returns-clause-err g c =
     let i = c.loop-event.invariant.so_far in
     let given = subst (λ items. Yields g.I.Iterator.next_gives c.args.iter.now items c.loop-event.iter) i.1 c.loop-event.yielded_by in
-    on_err_weaker c.finish.result (λ front. (i.0, inr ((c.loop-event.iter, given, c.in_default.ensures.steps), front_last (writing c.loop-event.writer) i.0 _ _ _ i.2 i.3 front))) c.finish.ensures.err
+    on_err_weaker c.finish.result (λ front. (i.0, inr ((c.loop-event.iter, given, c.in_default.ensures.steps), front_end (writing c.loop-event.writer) (map shown i.0) _ _ _ i.2 i.3 front))) c.finish.ensures.err
 
 pub returns-in_err-event-clause-err : goal.returns-in_err-event-clause-err
 returns-in_err-event-clause-err g c =

@@ -1,6 +1,6 @@
 //! The prefixes of containers in front of a line (CommonMark 5).
 
-ghost use Rattle.std.specs.Prelude.{◌≡◌, ℕ, List, Option, false, option_map, IfSome};
+ghost use Rattle.std.specs.Prelude.{◌≡◌, ℕ, Bool, List, Option, false, option_map, IfSome};
 ghost use Rattle.cmark_grammar.specs.Containers.{keeps, Item, Footnote};
 ghost use Rattle.cmark_grammar.specs.Alerts.{alert_in};
 ghost use Rattle.cmark_grammar.specs.Options.{Options};
@@ -60,7 +60,7 @@ impl<'a> LineRest<'a> {
     /// The line behind so many columns of spaces and tabs, or behind fewer if nothing follows them.
     #[inline]
     pub(crate) fn behind_width(self, width: usize) -> Option<LineRest<'a>>
-        ensures { (mark : ℕ) (number : Option ℕ) → option_map row_of result ≡ keeps (Item mark number width) false (row_of self.entry) }
+        ensures { (mark : ℕ) (number : Option ℕ) (task : Option Bool) → option_map row_of result ≡ keeps (Item mark number width task) false (row_of self.entry) }
     {
         let mut front = self.front;
         if !front.scan_space(width) && !front.is_at_eol() {

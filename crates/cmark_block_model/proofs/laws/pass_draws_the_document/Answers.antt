@@ -9,3 +9,6 @@ returns-clause-closed c text options lookup = (pass-draws text options lookup).1
 
 pub returns-clause-referred : goal.returns-clause-referred
 returns-clause-referred c text options lookup = (pass-draws text options lookup).2
+
+pub returns-clause-labelled : goal.returns-clause-labelled
+returns-clause-labelled c text options lookup = (pass-draws text options lookup).3

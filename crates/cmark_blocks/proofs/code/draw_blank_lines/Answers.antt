@@ -12,5 +12,5 @@ loop-line-preserved c = record {
       (rows-more c.args.lines.now c.loop-line.line-index c.line-item.result (omega (arith, c.loop-line-test.true, c.loop-line.auto.line-index-end)) c.line-item.is)
       (draws-line text (row_of c.line-item.result) c.args.builder.now c.loop-line.builder c.draw_code_line.new.builder _ c.args.waits c.loop-line.left c.in_ok-left.left
       (c.loop-line.invariant.lines text) (c.in_ok-left.ensures.drawn text) (c.in_ok-left.ensures.waits text));
-  references = c.in_ok-left.ensures.references ∙ c.loop-line.invariant.references;
+  definitions = c.in_ok-left.ensures.definitions ∙ c.loop-line.invariant.definitions;
 }

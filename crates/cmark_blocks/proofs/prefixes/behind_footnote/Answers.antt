@@ -1,4 +1,4 @@
-use Rattle.std.proofs.Common.{◌≡◌, refl, [], true, false, ap, ◌∙◌, sym, None}
+use Rattle.std.proofs.Common.{refl, [], false, ap, ◌∙◌, sym, None}
 use Rattle.cmark_grammar.specs.Rows.{is_bare}
 use Rattle.cmark_grammar.specs.Containers.{keeps, Footnote}
 use Rattle.cmark_scan.specs.LineStart.{row_from}
@@ -8,7 +8,7 @@ use Rattle.cmark_blocks.proofs.prefixes.behind_footnote.Goals as goal
 pub returns-then-not-old : goal.returns-then-not-old
 returns-then-not-old c at past =
     let row = row_from at past c.args.line in
-    c.behind_width.ensures at past 0 None ∙ footnote-keeps [] 0 row ∙ ap (λ o. keeps (Footnote [] o 0) false row) (sym c.if-not-old.true)
+    c.behind_width.ensures at past 0 None None ∙ footnote-keeps [] 0 row ∙ ap (λ o. keeps (Footnote [] o 0) false row) (sym c.if-not-old.true)
 
 pub returns-then-is_at_eol : goal.returns-then-is_at_eol
 returns-then-is_at_eol c at past =

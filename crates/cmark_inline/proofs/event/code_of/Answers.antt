@@ -10,4 +10,4 @@ returns-in-Some-clause-part c =
     code-part c.code_text.result c.in-Some.content.now c.args.leaf.now c.args.from c.args.to c.requires.read part c.in-Some.ensures.source c.code_text.ensures.part
 
 pub returns-in-Some-clause-lent : goal.returns-in-Some-clause-lent
-returns-in-Some-clause-lent c = λ same none. c.code_text.ensures.lent (ap takes_lines c.in-Some.ensures.text ∙ none)
+returns-in-Some-clause-lent c = λ same none plain. c.code_text.ensures.lent (ap takes_lines c.in-Some.ensures.text ∙ none)

@@ -1,9 +1,15 @@
 use Rattle.std.proofs.Common.{rules}
-use Rattle.cmark_leaf_text.specs.Reads.{IsPart, text_of}
-use Rattle.cmark_inline.proofs.Lending.{lent-part}
+use Rattle.cmark_leaf_text.specs.Reads.{IsPart, source_of, text_of}
+use Rattle.cmark_inline.proofs.Lending.{escapes-part, lent-part-of}
 use Rattle.cmark_inline.proofs.event.formula_of.Goals as goal
+
+pub returns-then-is_cell-clause-part : goal.returns-then-is_cell-clause-part
+returns-then-is_cell-clause-part c =
+    let part : IsPart (text_of c.args.leaf.now) c.args.from c.args.to = search rules in
+    escapes-part c.without_pipe_escapes.result c.in_ok-text.text (source_of c.args.leaf.now) c.without_pipe_escapes.ensures.own
+    (lent-part-of c.in_ok-text.text c.args.leaf.now c.args.from c.args.to c.requires.read part c.in_ok-text.ensures.source)
 
 pub returns-clause-part : goal.returns-clause-part
 returns-clause-part c =
     let part : IsPart (text_of c.args.leaf.now) c.args.from c.args.to = search rules in
-    lent-part c.text_between.result c.args.leaf.now c.args.from c.args.to c.requires.read part c.text_between.ensures.source
+    lent-part-of c.in_ok-text.text c.args.leaf.now c.args.from c.args.to c.requires.read part c.in_ok-text.ensures.source

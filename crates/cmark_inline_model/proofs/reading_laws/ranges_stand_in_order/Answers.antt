@@ -9,4 +9,4 @@ pub returns-clause-cut : goal.returns-clause-cut
 returns-clause-cut c = reading-placed
 
 pub returns-clause-uncut : goal.returns-clause-uncut
-returns-clause-uncut c text profile exchanges events none h = uncut profile.options text none 0 events (length text) (reading-placed text profile exchanges events h)
+returns-clause-uncut c text profile exchanges events none tasks h = uncut profile.options text none 0 events (length text) tasks (reading-placed text profile exchanges events h)

@@ -23,7 +23,7 @@ loop-left-init c =
         draws,
         ap (λ cells. drawn cells d) (cells-of-line text c.args.columns row cells stop c.past-past.result (c.cells_in_row-cells.ensures.cells ∙ ap cells_of c.words.ensures) begins.1 c.past-past.ensures.place),
       );
-      references = refl;
+      definitions = refl;
     }
 
 pub loop-left-preserved : goal.loop-left-preserved
@@ -43,7 +43,7 @@ loop-left-preserved c =
             next.1,
             so_far.2 ∙ ap (λ n. drawn (cells_then text n (stop - length cells) c.past-past.result (cells_behind cells)) so_far.0) one ∙ next.2,
           );
-      references = c.in_ok-cells.ensures.references ∙ before.references;
+      definitions = c.in_ok-cells.ensures.definitions ∙ before.definitions;
     }
 
 pub returns-clause-drawn : goal.returns-clause-drawn

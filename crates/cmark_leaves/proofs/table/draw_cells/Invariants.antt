@@ -1,6 +1,6 @@
 use Rattle.std.proofs.Common.{◌≡◌, ◌-◌, ◌≤◌, ℕ, List, length}
 use Rattle.cmark_tree.specs.Building.{IsPlaced}
-use Rattle.cmark_items.specs.Tables.{tables}
+use Rattle.cmark_items.specs.Tables.{tables, defined}
 use Rattle.cmark_grammar.specs.TableTokens.{cells_then, row_cells}
 use Rattle.cmark_scan.specs.TableCells.{cells_behind}
 use Rattle.cmark_block_model.specs.Drawing.{Drawing, drawn}
@@ -14,7 +14,7 @@ invariant-loop-left l = record {
   within : length l.cells ≤ l.stop;
   drawn : (text : List ℕ) (d : Drawing) → Draws text l.fn.builder d → (e : Drawing) × Draws text l.builder e
       × (drawn (row_cells text l.fn.columns (row_of l.fn.rest)) d ≡ drawn (cells_then text l.left (l.stop - length l.cells) l.past (cells_behind l.cells)) e);
-  references : (tables l.builder.allocations).references ≡ (tables l.fn.builder.allocations).references;
+  definitions : defined (tables l.builder.allocations) ≡ defined (tables l.fn.builder.allocations);
 }
 
 abbrev pub decreases-loop-left : goal.decreases-loop-left

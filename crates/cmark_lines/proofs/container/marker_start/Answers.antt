@@ -1,4 +1,4 @@
-use Rattle.std.proofs.Common.{sym, ap, ◌∙◌}
+use Rattle.std.proofs.Common.{None, sym, ap, ◌∙◌}
 use Rattle.cmark_grammar.specs.Letters.{first_is}
 use Rattle.cmark_lines.specs.Rests.{row_of}
 use Rattle.cmark_lines.specs.Starts.{begins_marker}
@@ -14,4 +14,4 @@ pub returns-clause-container : goal.returns-clause-container
 returns-clause-container c options = quote-begun options (row_of c.args.rest) (row_of c.in_ok-inside.inside) c.in_default.ensures.item c.in_ok-inside.ensures
 
 pub returns-clause-inside : goal.returns-clause-inside
-returns-clause-inside c options = quote-inside (row_of c.args.rest) (row_of c.in_ok-inside.inside) _ c.in_ok-inside.ensures
+returns-clause-inside c options = quote-inside (row_of c.args.rest) (row_of c.in_ok-inside.inside) None c.in_ok-inside.ensures

@@ -26,5 +26,5 @@ returns-clause-runs g c text options lookup m runs =
     subst (λ p. Runs replacement text options lookup p (record before { builder = new; leaf = leaf.Indented c.in_ok-left.left c.past.result; blank_lines = c.clear.new.self }))
     (sym (indented-goes-on text options lookup row (lines_at text row.past) m waits c.args.end blank is c.requires.goes_on))
     (runs-waiting replacement text options lookup _ _ (leaf.Indented c.in_ok-left.left c.past.result) c.clear.new.self (model.InIndented (waits_behind text rows waits) row.past [])
-    (runs-builder replacement text options lookup m before new (lines_drawn text rows waits m.drawing) runs (lines.draws m.drawing runs.drawing) (c.in_ok-left.ensures.references ∙ c.in_ok-waits.ensures.references))
+    (runs-builder replacement text options lookup m before new (lines_drawn text rows waits m.drawing) runs (lines.draws m.drawing runs.drawing) (c.in_ok-left.ensures.definitions ∙ c.in_ok-waits.ensures.definitions))
     (indented-shown text c.in_ok-left.left (waits_behind text rows waits) c.past.result row.past c.clear.new.self.items [] lines.left_is c.past.ensures.place (ap (map row_of) c.clear.ensures.items)))

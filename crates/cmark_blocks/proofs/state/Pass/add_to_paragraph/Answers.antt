@@ -33,5 +33,5 @@ returns-clause-runs g c text options lookup m runs =
     subst (λ p. Runs replacement text options lookup p (record before { builder = new; leaf = leaf_open }))
     (sym (line-apart text options lookup row m c.args.from last (λ e. c.if-begin-past.false (c.begin-begin.ensures.place ∙ e ∙ sym c.past.ensures.place))))
     (runs-leaf replacement text options lookup _ _ leaf_open (model.InParagraph (begin_of row) row)
-    (runs-builder replacement text options lookup m before new (drawn (stretch_then text c.args.from last.past Nil) m.drawing) runs lines c.in_ok-draw_lines.ensures.references)
+    (runs-builder replacement text options lookup m before new (drawn (stretch_then text c.args.from last.past Nil) m.drawing) runs lines c.in_ok-draw_lines.ensures.definitions)
     (ap (λ from. model.InParagraph from row) (sym c.begin-begin.ensures.place), none_behind_paragraph replacement text options lookup m before c.args.from c.args.last c.requires.is runs))

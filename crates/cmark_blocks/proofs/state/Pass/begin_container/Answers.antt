@@ -1,15 +1,19 @@
-use Rattle.std.proofs.Common.{◌≡◌, true, false, option_map, refl, sym, subst, ap, ◌∙◌}
-use Rattle.cmark_grammar.specs.Containers.{Container, Quote, is_alert}
+use Rattle.std.proofs.Common.{◌≡◌, true, false, Some, None, option_map, refl, sym, subst, ap, ◌∙◌}
+use Rattle.std.specs.Prelude.{IfSome}
+use Rattle.cmark_grammar.specs.Containers.{Container, Item}
 use Rattle.cmark_grammar.specs.Options.{Options}
 use Rattle.cmark_text.specs.Shown.{shown_block_quote_kind}
 use Rattle.cmark_block_model.specs.BlockPass.{container_begun, quote_begun, item_begun_in, is_item}
 use Rattle.cmark_block_model.specs.OpenBlocks as model
+use Rattle.cmark_lines.specs.Boxes.{is_checked, IsBehindBox}
 use Rattle.cmark_lines.specs.Rests.{row_of}
-use Rattle.cmark_lines.specs.Starts.{shown_start}
+use Rattle.cmark_lines.specs.Starts.{shown_start, Enters}
 use Rattle.cmark_blocks.specs.declared.state.OpenLeaf.TheVariants as leaf
+use Rattle.cmark_blocks.specs.Entered.{takes_line, line_taken}
 use Rattle.cmark_blocks.specs.Runs.{Runs}
 use Rattle.cmark_blocks.proofs.LineSteps.{quote-told, alert-told}
 use Rattle.cmark_blocks.proofs.RunSteps.{runs-leaf, none_behind_closed}
+use Rattle.cmark_blocks.proofs.TaskSteps.{item-alone, item-taken}
 use Rattle.cmark_blocks.proofs.state.Pass.begin_container.Goals as goal
 
 pub returns-then-is_some-clause-runs : goal.returns-then-is_some-clause-runs
@@ -22,8 +26,8 @@ returns-then-is_some-clause-runs g c text options lookup m runs =
     let begun = subst (λ at. Runs replacement text options lookup (quote_begun alert at m) c.begin_quote.new.self) c.words_begin.ensures.place (c.in_ok-begin_quote-in-Quote.ensures.runs text options lookup m runs) in
     let closed = none_behind_closed replacement text options lookup _ c.begin_quote.new.self (c.in_ok-begin_quote-in-Quote.ensures.leaf ∙ c.requires.closed) begun in
     let tagged = runs-leaf replacement text options lookup _ c.begin_quote.new.self leaf.BehindTag model.BehindTag begun (refl, closed) in (
-      subst (λ k. is_alert k ≡ true) (sym same) (alert-told c.alert_kind-alert.result true (sym c.is_some.ensures ∙ c.if-is_some.true)),
-      subst (λ (k : Container). Runs replacement text options lookup (record (container_begun k row m) { leaf = model.BehindTag }) (record c.begin_quote.new.self { leaf = leaf.BehindTag })) (sym same) tagged,
+      subst (λ k. takes_line k ≡ true) (sym same) (alert-told c.alert_kind-alert.result true (sym c.is_some.ensures ∙ c.if-is_some.true)),
+      subst (λ (k : Container). Runs replacement text options lookup (line_taken text options lookup k row (container_begun k row m)) (record c.begin_quote.new.self { leaf = leaf.BehindTag })) (sym same) tagged,
     )
 
 pub returns-else-is_some-clause-runs : goal.returns-else-is_some-clause-runs
@@ -34,20 +38,42 @@ returns-else-is_some-clause-runs g c text options lookup m runs =
     let told = c.alert_kind-alert.ensures options (ap (λ (o : Options). o.gfm) (sym runs.options_is) ∙ sym c.reads_alerts.ensures) in
     let same = quote-told options row c.args.start c.in-Quote.inside alert c.in-Quote.is told in
     let begun = subst (λ at. Runs replacement text options lookup (quote_begun alert at m) c.begin_quote.new.self) c.words_begin.ensures.place (c.in_ok-begin_quote-in-Quote.ensures.runs text options lookup m runs) in (
-      subst (λ k. is_alert k ≡ false) (sym same) (alert-told c.alert_kind-alert.result false (sym c.is_some.ensures ∙ c.if-is_some.false)),
+      subst (λ k. takes_line k ≡ false) (sym same) (alert-told c.alert_kind-alert.result false (sym c.is_some.ensures ∙ c.if-is_some.false)),
       ap is_item (sym same),
       subst (λ (k : Container). Runs replacement text options lookup (container_begun k row m) c.begin_quote.new.self) (sym same) begun,
     )
 
-pub returns-in_ok-begin_item-in-Item-clause-runs : goal.returns-in_ok-begin_item-in-Item-clause-runs
-returns-in_ok-begin_item-in-Item-clause-runs g c text options lookup m runs =
+pub returns-in-Some-clause-runs : goal.returns-in-Some-clause-runs
+returns-in-Some-clause-runs g c text options lookup m runs =
     let replacement = g.E.EntityLookup.replacement in
+    let row = row_of c.args.rest in
     let item = c.in-Item.item in
-    let same = ap (shown_start options (row_of c.args.rest)) c.in-Item.is in (
-      ap is_alert same,
+    let inside = row_of c.in-Item.inside in
+    let checked = c.in-Some.is_checked in
+    let read = sym (c.task_marker-task.ensures.task options (ap (λ (o : Options). o.tasklists) (sym runs.options_is) ∙ sym c.reads_tasklists.ensures)) ∙ ap (option_map is_checked) c.in-Some.is in
+    let same = ap (shown_start options row) c.in-Item.is ∙ ap (Item item.mark item.number item.width) read in
+    let is_inside = subst (λ s. Enters row s) c.in-Item.is c.requires.enters options in
+    let is_behind = subst (λ o. IfSome o (IsBehindBox inside)) c.in-Some.is c.task_marker-task.ensures.behind in
+    let begun = c.in_ok-begin_task-in-Item.ensures.runs text options lookup _ (c.in_ok-begin_item-in-Item.ensures.runs (Some checked) text options lookup m runs) in (
+      ap takes_line same,
+      subst (λ (k : Container). Runs replacement text options lookup (line_taken text options lookup k row (container_begun k row m)) c.begin_task.new.self) (sym same)
+          (subst (λ p. Runs replacement text options lookup p c.begin_task.new.self)
+          (item-taken text options lookup m row inside (row_of c.in-Some.behind) item.mark item.number item.width checked c.begin.result c.begin-in-Some.result is_inside is_behind c.begin.ensures.place c.begin-in-Some.ensures.place)
+          begun),
+    )
+
+pub returns-in_default-clause-runs : goal.returns-in_default-clause-runs
+returns-in_default-clause-runs g c text options lookup m runs =
+    let replacement = g.E.EntityLookup.replacement in
+    let row = row_of c.args.rest in
+    let item = c.in-Item.item in
+    let read = sym (c.task_marker-task.ensures.task options (ap (λ (o : Options). o.tasklists) (sym runs.options_is) ∙ sym c.reads_tasklists.ensures)) ∙ ap (option_map is_checked) c.in_default.is in
+    let same = ap (shown_start options row) c.in-Item.is ∙ ap (Item item.mark item.number item.width) read in (
+      ap takes_line same,
       ap is_item (sym same),
-      subst (λ s. Runs replacement text options lookup (container_begun (shown_start options (row_of c.args.rest) s) (row_of c.args.rest) m) c.begin_item.new.self) (sym c.in-Item.is)
-          (subst (λ at. Runs replacement text options lookup (item_begun_in item.mark item.number item.width at m) c.begin_item.new.self) c.begin.ensures.place (c.in_ok-begin_item-in-Item.ensures.runs text options lookup m runs)),
+      subst (λ (k : Container). Runs replacement text options lookup (container_begun k row m) c.begin_item.new.self) (sym same)
+          (subst (λ p. Runs replacement text options lookup p c.begin_item.new.self) (sym (item-alone row m item.mark item.number item.width))
+          (subst (λ at. Runs replacement text options lookup (item_begun_in item.mark item.number item.width None at m) c.begin_item.new.self) c.begin.ensures.place (c.in_ok-begin_item-in-Item.ensures.runs None text options lookup m runs))),
     )
 
 pub returns-in_ok-begin_footnote-in-Footnote-clause-runs : goal.returns-in_ok-begin_footnote-in-Footnote-clause-runs
@@ -55,7 +81,7 @@ returns-in_ok-begin_footnote-in-Footnote-clause-runs g c text options lookup m r
     let replacement = g.E.EntityLookup.replacement in
     let row = row_of c.args.rest in
     let same = ap (shown_start options row) c.in-Footnote.is in (
-      ap is_alert same,
+      ap takes_line same,
       ap is_item (sym same),
       subst (λ s. Runs replacement text options lookup (container_begun (shown_start options row s) row m) c.begin_footnote.new.self) (sym c.in-Footnote.is) (c.in_ok-begin_footnote-in-Footnote.ensures.runs text options lookup m runs),
     )

@@ -1,4 +1,5 @@
 use Rattle.std.proofs.Common.{subst}
+use Rattle.cmark_grammar.specs.Blocks.{place_in}
 use Rattle.cmark_grammar.specs.Containers.{is_alert, enter}
 use Rattle.cmark_grammar.specs.Leaves.{counted}
 use Rattle.cmark_grammar.specs.Metadata.{metadata_further}
@@ -10,7 +11,7 @@ use Rattle.cmark_lines.proofs.RestSteps.{whole}
 use Rattle.cmark_blocks.specs.Ahead.{lines_at}
 use Rattle.cmark_blocks.specs.Entered.{OpensAs}
 use Rattle.cmark_blocks.specs.Runs.{Runs}
-use Rattle.cmark_blocks.proofs.LineSteps.{start-numbered, start-marked, container-begins, container-read, leaf-begins, metadata-begins}
+use Rattle.cmark_blocks.proofs.LineSteps.{start-numbered, start-marked, start-enters, container-begins, container-read, leaf-begins, metadata-begins}
 use Rattle.cmark_blocks.proofs.state.Pass.begin_first.Goals as goal
 
 pub begin_container-requires-clause-number : goal.begin_container-requires-clause-number
@@ -18,6 +19,9 @@ begin_container-requires-clause-number g c = start-numbered (shown_options c.arg
 
 pub begin_container-requires-clause-marker : goal.begin_container-requires-clause-marker
 begin_container-requires-clause-marker g c = start-marked (row_of c.args.rest) c.what_opens-opening.result c.in-Nests.start c.in-Nests.is c.what_opens-opening.ensures.marker
+
+pub begin_container-requires-clause-enters : goal.begin_container-requires-clause-enters
+begin_container-requires-clause-enters g c = start-enters (row_of c.args.rest) c.what_opens-opening.result c.in-Nests.start c.in-Nests.is c.what_opens-opening.ensures.inside
 
 pub returns-in-Nests-clause-runs : goal.returns-in-Nests-clause-runs
 returns-in-Nests-clause-runs g c =
@@ -31,7 +35,7 @@ returns-in-Nests-clause-line g c =
     (c.what_opens-opening.ensures.placed text c.requires.line.placed) c.requires.line.told
 
 pub returns-in-Some-clause-runs : goal.returns-in-Some-clause-runs
-returns-in-Some-clause-runs g c text options lookup columns m runs =
+returns-in-Some-clause-runs g c text options lookup columns m le runs =
     let row = row_of c.args.rest in
     let ahead = ahead_in text options lookup m.outer (lines_at text row.past) in
     let kind = shown_metadata_block_kind c.in-Some.kind in
@@ -43,12 +47,12 @@ returns-in-Some-clause-runs g c text options lookup columns m runs =
 pub returns : goal.returns
 returns g c = record {
   good = c.begin_leaf.ensures.good;
-  runs = λ text options lookup columns m runs.
+  runs = λ text options lookup columns m le runs.
       let row = row_of c.args.rest in
       let next = lines_at text row.past in
       subst (λ p. Runs g.E.EntityLookup.replacement text options lookup p c.begin_leaf.new.self)
       (leaf-begins text options lookup row next columns c.args.bare m c.what_opens-opening.result (subst (λ o. OpensAs o c.what_opens-opening.result row) runs.options_is c.what_opens-opening.ensures.opens) (c.in_default.ensures text options lookup m runs))
-      (c.in_ok-begin_leaf.ensures.runs text options lookup m (λ k. inside_begun (is_alert k) (container_begun k row m) (begin_in text options lookup columns (enter k row) next (is_item k) (container_begun k row m))) runs);
+      (c.in_ok-begin_leaf.ensures.runs text options lookup m (λ k. inside_begun (is_alert k) (container_begun k row m) (begin_in text options lookup columns (place_in k) (enter k row) next (is_item k) (container_begun k row m))) runs);
   line = tt;
   shorter = tt;
   text = c.begin_leaf.ensures.text;

@@ -10,8 +10,7 @@ use Rattle.cmark_block_model.specs.BlockPass.{block_begun}
 use Rattle.cmark_block_model.specs.Drawing.{opened}
 use Rattle.cmark_builder.specs.Drawn.{Draws}
 use Rattle.cmark_blocks.specs.Footnotes.{KeepsText, Notes}
-use Rattle.cmark_blocks.proofs.FootnoteSteps.{draws-footnote}
-use Rattle.cmark_blocks.proofs.RunSteps.{runs-builder}
+use Rattle.cmark_blocks.proofs.FootnoteSteps.{draws-footnote, runs-footnote}
 use Rattle.cmark_blocks.proofs.state.Pass.begin_footnote.Goals as goal
 
 pub returns-clause-noted : goal.returns-clause-noted
@@ -37,5 +36,7 @@ returns-clause-runs g c text options lookup m runs =
     let draws = subst (λ start. Draws text c.open.new.self (opened start kind d)) c.words_begin.ensures.place
     (draws-footnote text before.builder c.open.new.self c.keep_label.new.allocations c.in_ok-index.index c.words_begin.result (normal_form label) d c.in_ok-index.ensures.index keeps c.in_ok-open.ensures.ok c.in_ok-open.ensures.tables r.drawing) in
     c.in_ok-enter.ensures.runs (shown_footnote row c.args.footnote.label_size c.args.footnote.old) refl text options lookup _
-    (runs-builder replacement text options lookup (block_begun m) before c.open.new.self (opened (start_of row) kind d) r draws
-    (ap (λ a. (tables a).references) c.in_ok-open.ensures.tables ∙ c.in_ok-index.ensures.references))
+    (runs-footnote replacement text options lookup (block_begun m) before label c.open.new.self (opened (start_of row) kind d) r draws
+    (ap (λ a. (tables a).references) c.in_ok-open.ensures.tables ∙ c.in_ok-index.ensures.references)
+    (subst (λ a. Notes label (tables before.builder.allocations).footnotes (tables a).footnotes) (sym c.in_ok-open.ensures.tables)
+    (subst (λ l. Notes l (tables before.builder.allocations).footnotes (tables c.keep_label.new.allocations).footnotes) c.label_in-label.ensures c.in_ok-index.ensures.noted)))

@@ -6,13 +6,14 @@ use Rattle.cmark_block_model.specs.Drawing.{opened}
 use Rattle.cmark_builder.proofs.DrawnSteps.{draws-open}
 use Rattle.cmark_blocks.proofs.RunSteps.{runs-builder}
 use Rattle.cmark_blocks.proofs.state.Pass.begin_item.Goals as goal
+use Rattle.cmark_items.specs.Tables.{tables, defined}
 
 pub returns-clause-runs : goal.returns-clause-runs
-returns-clause-runs g c text options lookup m runs =
+returns-clause-runs g c task text options lookup m runs =
     let item = c.args.item in
     let before = c.join_list.new.self in
     let p = item_begun item.mark item.number c.args.start m m.inner.list in
     let r = c.in_ok-join_list.ensures.runs text options lookup m runs in
     let draws = draws-open text before.builder c.open.new.self c.args.start _ ListItem p.drawing c.in_ok-open.ensures.ok c.in_ok-open.ensures.tables refl r.drawing in
-    c.in_ok-enter.ensures.runs (Item item.mark item.number item.width) refl text options lookup _
-    (runs-builder g.E.EntityLookup.replacement text options lookup p before c.open.new.self (opened c.args.start ListItem p.drawing) r draws (ap (λ a. a.refdefs) c.in_ok-open.ensures.tables))
+    c.in_ok-enter.ensures.runs (Item item.mark item.number item.width task) refl text options lookup _
+    (runs-builder g.E.EntityLookup.replacement text options lookup p before c.open.new.self (opened c.args.start ListItem p.drawing) r draws (ap (λ a. defined (tables a)) c.in_ok-open.ensures.tables))

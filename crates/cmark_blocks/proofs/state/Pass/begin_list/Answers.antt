@@ -7,6 +7,7 @@ use Rattle.cmark_block_model.specs.OpenBlocks as model
 use Rattle.cmark_builder.proofs.DrawnSteps.{draws-open}
 use Rattle.cmark_blocks.proofs.RunSteps.{runs-builder, runs-inner}
 use Rattle.cmark_blocks.proofs.state.Pass.begin_list.Goals as goal
+use Rattle.cmark_items.specs.Tables.{tables, defined}
 
 pub returns-clause-runs : goal.returns-clause-runs
 returns-clause-runs g c text options lookup m runs =
@@ -20,6 +21,6 @@ returns-clause-runs g c text options lookup m runs =
     (ap (λ n. Some (node (BlockList n (is_tight c.list_flags.result)) start start)) number ∙ ap (λ t. Some (node (BlockList item.number t) start start)) c.list_flags.ensures)
     r.drawing in
     runs-inner replacement text options lookup _ _ _ _
-    (runs-builder replacement text options lookup (block_begun m) before c.open.new.self (opened start (BlockList item.number false) (block_begun m).drawing) r draws (ap (λ a. a.refdefs) c.in_ok-open.ensures.tables))
+    (runs-builder replacement text options lookup (block_begun m) before c.open.new.self (opened start (BlockList item.number false) (block_begun m).drawing) r draws (ap (λ a. defined (tables a)) c.in_ok-open.ensures.tables))
     (ap {A = model.Siblings} {B = model.Siblings} (λ s. record s { list = Some (record { mark = item.mark; number = list_number item.mark c.unwrap_or-number.result; loose = false; end = start }) }) r.inner
     ∙ ap {A = Option ℕ} {B = model.Siblings} (λ n. record (block_begun m).inner { list = Some (record { mark = item.mark; number = n; loose = false; end = start }) }) number)

@@ -7,6 +7,7 @@ use Rattle.cmark_builder.proofs.DrawnSteps.{draws-close_as}
 use Rattle.cmark_blocks.specs.Shown.{shown_list}
 use Rattle.cmark_blocks.proofs.RunSteps.{runs-builder, list_is}
 use Rattle.cmark_blocks.proofs.state.Pass.close_list.Goals as goal
+use Rattle.cmark_items.specs.Tables.{tables, defined}
 
 pub returns-in-Some-clause-runs : goal.returns-in-Some-clause-runs
 returns-in-Some-clause-runs g c text options lookup m runs =
@@ -15,4 +16,4 @@ returns-in-Some-clause-runs g c text options lookup m runs =
     runs-builder g.E.EntityLookup.replacement text options lookup m c.args.self.now c.close_as.new.self (list_closed m.inner.list m.drawing) runs
     (subst (λ o. Draws text c.close_as.new.self (list_closed o m.drawing)) there
     (draws-close_as text c.args.self.now.builder c.close_as.new.self l.end _ (document.BlockList (list_number l.mark l.number) (not l.loose)) m.drawing c.close_as.ensures.closed c.close_as.ensures.none c.close_as.ensures.tables (ap (λ t. Some (document.BlockList (list_number l.mark l.number) t)) c.list_flags.ensures) runs.drawing))
-    (ap (λ a. a.refdefs) c.close_as.ensures.tables)
+    (ap (λ a. defined (tables a)) c.close_as.ensures.tables)

@@ -16,7 +16,7 @@ loop-row-preserved g c =
       rows = λ text options lookup m runs.
           let so_far = before.rows text options lookup m runs in
           one-row-more g.E.EntityLookup.replacement text options lookup m c.args.columns (row_of c.args.delimiter) c.loop-row.left c.loop-row.count c.count_missing-left.result (row_of c.loop-row.last) (row_of c.in-Some.row) c.loop-row.self c.draw_row.new.builder so_far
-          (c.in-Some.ensures.next text options lookup _ so_far.runs) c.count_missing-left.ensures (λ d draws. c.in_ok-draw_row.ensures.drawn text d draws) c.in_ok-draw_row.ensures.references;
+          (c.in-Some.ensures.next text options lookup _ so_far.runs) c.count_missing-left.ensures (λ d draws. c.in_ok-draw_row.ensures.drawn text d draws) c.in_ok-draw_row.ensures.definitions;
     }
 
 pub returns-clause-runs : goal.returns-clause-runs

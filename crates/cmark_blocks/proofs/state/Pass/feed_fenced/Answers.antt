@@ -12,6 +12,7 @@ use Rattle.cmark_blocks.specs.declared.state.OpenLeaf.TheVariants as leaf
 use Rattle.cmark_blocks.proofs.CodeSteps.{fence-closes, fence-goes-on}
 use Rattle.cmark_blocks.proofs.RunSteps.{runs-builder, runs-leaf}
 use Rattle.cmark_blocks.proofs.state.Pass.feed_fenced.Goals as goal
+use Rattle.cmark_items.specs.Tables.{tables, defined}
 
 pub returns-in-Closes-clause-runs : goal.returns-in-Closes-clause-runs
 returns-in-Closes-clause-runs g c text options lookup m runs =
@@ -26,7 +27,7 @@ returns-in-Closes-clause-runs g c text options lookup m runs =
     let fed = fence-closes text options lookup shows.0 waits row (lines_at text row.past) m c.further.result c.args.mark c.args.size c.args.indent shows.1 shows.2 c.further.ensures c.in-Closes.is in
     subst (λ p. Runs replacement text options lookup p (record before { builder = c.close.new.self; leaf = leaf.Closed })) (sym fed)
     (runs-leaf replacement text options lookup _ _ leaf.Closed model.Closed
-    (runs-builder replacement text options lookup m before c.close.new.self (closed_at row.past d) runs draws (ap (λ a. a.refdefs) c.close.ensures.tables ∙ c.in_ok-draw_stretch.ensures.references))
+    (runs-builder replacement text options lookup m before c.close.new.self (closed_at row.past d) runs draws (ap (λ a. defined (tables a)) c.close.ensures.tables ∙ c.in_ok-draw_stretch.ensures.definitions))
     (refl, shows.3))
 
 pub returns-clause-runs : goal.returns-clause-runs
@@ -41,5 +42,5 @@ returns-clause-runs g c text options lookup m runs =
     let fed = fence-goes-on text options lookup shows.0 waits row (lines_at text row.past) m c.further.result c.args.mark c.args.size c.args.indent shows.1 shows.2 c.further.ensures c.in_default.not-Closes in
     subst (λ p. Runs replacement text options lookup p (record before { builder = new; leaf = leaf.Fenced c.args.mark c.args.size c.args.indent c.in_ok-left.left })) (sym fed)
     (runs-leaf replacement text options lookup _ _ (leaf.Fenced c.args.mark c.args.size c.args.indent c.in_ok-left.left) (model.InFenced shows.0 run.waits)
-    (runs-builder replacement text options lookup m before new (drawn (texts_of run.done) m.drawing) runs (c.in_ok-left.ensures.drawn text m.drawing runs.drawing) c.in_ok-left.ensures.references)
+    (runs-builder replacement text options lookup m before new (drawn (texts_of run.done) m.drawing) runs (c.in_ok-left.ensures.drawn text m.drawing runs.drawing) c.in_ok-left.ensures.definitions)
     (shows.0, shows.1, ap (model.InFenced shows.0) (sym (c.in_ok-left.ensures.waits text)), shows.3))

@@ -13,6 +13,7 @@ use Rattle.cmark_blocks.specs.declared.state.OpenLeaf.TheVariants as leaf
 use Rattle.cmark_blocks.proofs.HtmlSteps.{html-goes-on, html-closes, html-stops}
 use Rattle.cmark_blocks.proofs.RunSteps.{runs-builder, runs-leaf}
 use Rattle.cmark_blocks.proofs.state.Pass.feed_html.Goals as goal
+use Rattle.cmark_items.specs.Tables.{tables, defined}
 
 pub returns-in_default-further-clause-runs : goal.returns-in_default-further-clause-runs
 returns-in_default-further-clause-runs g c text options lookup m runs =
@@ -24,7 +25,7 @@ returns-in_default-further-clause-runs g c text options lookup m runs =
     let line : Drawing = drawn (html_then (verbatim_line text row.columns row) Nil) m.drawing in
     let fed = html-goes-on text options lookup (kind_number c.args.kind) row (lines_at text row.past) m c.further-further.result shows.0 (c.further-further.ensures []) c.in_default.not-Stops c.in_default-further.not-Closes in
     subst (λ p. Runs replacement text options lookup p (record before { builder = new })) (sym fed)
-    (runs-builder replacement text options lookup m before new line runs (c.in_ok-draw_html_line.ensures.drawn text m.drawing runs.drawing) c.in_ok-draw_html_line.ensures.references)
+    (runs-builder replacement text options lookup m before new line runs (c.in_ok-draw_html_line.ensures.drawn text m.drawing runs.drawing) c.in_ok-draw_html_line.ensures.definitions)
 
 pub returns-in-Closes-clause-runs : goal.returns-in-Closes-clause-runs
 returns-in-Closes-clause-runs g c text options lookup m runs =
@@ -39,7 +40,7 @@ returns-in-Closes-clause-runs g c text options lookup m runs =
     subst (λ p. Runs replacement text options lookup p (record before { builder = c.close.new.self; leaf = leaf.Closed })) (sym fed)
     (runs-leaf replacement text options lookup _ _ leaf.Closed model.Closed
     (runs-builder replacement text options lookup m before c.close.new.self (closed_at row.past line) runs draws
-    (ap (λ a. a.refdefs) c.close.ensures.tables ∙ c.in_ok-draw_html_line.ensures.references))
+    (ap (λ a. defined (tables a)) c.close.ensures.tables ∙ c.in_ok-draw_html_line.ensures.definitions))
     (refl, shows.1))
 
 pub returns-in-Stops-clause-runs : goal.returns-in-Stops-clause-runs

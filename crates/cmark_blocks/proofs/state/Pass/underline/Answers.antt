@@ -11,6 +11,7 @@ use Rattle.cmark_builder.proofs.DrawnSteps.{draws-close_as}
 use Rattle.cmark_blocks.specs.declared.state.OpenLeaf.TheVariants as leaf
 use Rattle.cmark_blocks.proofs.RunSteps.{runs-builder, runs-leaf, none_behind_paragraph}
 use Rattle.cmark_blocks.proofs.state.Pass.underline.Goals as goal
+use Rattle.cmark_items.specs.Tables.{tables, defined}
 
 pub returns-clause-runs : goal.returns-clause-runs
 returns-clause-runs g c text options lookup m runs =
@@ -23,5 +24,5 @@ returns-clause-runs g c text options lookup m runs =
     let draws = subst (λ past. Draws text c.close_as.new.self (closed_as kind past d)) c.past.ensures.place
     (draws-close_as text built c.close_as.new.self c.past.result _ kind d c.close_as.ensures.closed c.close_as.ensures.none c.close_as.ensures.tables refl line) in
     runs-leaf replacement text options lookup _ _ leaf.Closed model.Closed
-    (runs-builder replacement text options lookup m before c.close_as.new.self (closed_as kind (row_of c.args.rest).past d) runs draws (ap (λ a. a.refdefs) c.close_as.ensures.tables ∙ c.in_ok-draw_last_lines.ensures.references))
+    (runs-builder replacement text options lookup m before c.close_as.new.self (closed_as kind (row_of c.args.rest).past d) runs draws (ap (λ a. defined (tables a)) c.close_as.ensures.tables ∙ c.in_ok-draw_last_lines.ensures.definitions))
     (refl, none_behind_paragraph replacement text options lookup m before c.args.from c.args.last c.requires.is runs)

@@ -9,17 +9,17 @@ use Rattle.cmark_inline.proofs.FormulaSteps.{formula-appends, sign-appends}
 use Rattle.cmark_inline.proofs.state.InlineState.dollar.Goals as goal
 
 pub returns-in-Some-clause-token : goal.returns-in-Some-clause-token
-returns-in-Some-clause-token c = λ o l math.
+returns-in-Some-clause-token c = λ o l cell math.
     let next = c.in_ok-next.ensures in
-    formula-appends o l c.args.text.now c.args.here c.args.self.now c.put.new.self c.in_ok-next.next c.in-Some.formula c.kind_of.result c.requires.cursor.ordered c.requires.here c.requires.dollar math
+    formula-appends o l cell c.args.text.now c.args.here c.args.self.now c.put.new.self c.in_ok-next.next c.in-Some.formula c.kind_of.result c.requires.cursor.ordered c.requires.here c.requires.dollar math
     (ap (option_map (shown_formula c.args.text.now)) (sym c.in-Some.is) ∙ c.in_ok-formula.ensures.value)
     (subst (λ r. IfSome r (λ (f : Formula). f.is_display ≡ first_is is_dollar (drop (c.args.here.at + 1) c.args.text.now))) c.in-Some.is c.in_ok-formula.ensures.kind)
     (subst (λ r. IfSome r (IsFormulaAt c.args.text.now c.args.here.at)) c.in-Some.is c.in_ok-formula.ensures.places)
     c.kind_of.ensures.value next.at (next.end ∙ sym next.at) next.slots next.others
 
 pub returns-clause-token : goal.returns-clause-token
-returns-clause-token c = λ o l math.
+returns-clause-token c = λ o l cell math.
     let next = c.in_ok-next-2.ensures in
-    sign-appends o l c.args.text.now c.args.here c.args.self.now c.put-2.new.self c.in_ok-next-2.next c.behind.result c.requires.cursor.ordered c.requires.here c.requires.dollar math
+    sign-appends o l cell c.args.text.now c.args.here c.args.self.now c.put-2.new.self c.in_ok-next-2.next c.behind.result c.requires.cursor.ordered c.requires.here c.requires.dollar math
     (ap (option_map (shown_formula c.args.text.now)) (sym c.in_default.is) ∙ c.in_ok-formula.ensures.value) c.behind.ensures.value
     next.at (next.end ∙ sym next.at) next.slots next.others

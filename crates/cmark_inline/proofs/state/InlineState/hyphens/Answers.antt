@@ -7,17 +7,17 @@ use Rattle.cmark_inline.proofs.MarkSteps.{many-hyphens, one-hyphen}
 use Rattle.cmark_inline.proofs.state.InlineState.hyphens.Goals as goal
 
 pub returns-then-size-lt2-clause-token : goal.returns-then-size-lt2-clause-token
-returns-then-size-lt2-clause-token c = λ o l smart is.
+returns-then-size-lt2-clause-token c = λ o l cell smart is.
     inl (record {
-      token = one-hyphen o l c.args.text.now c.args.here.at c.requires.here smart c.run_end-end.result _ is c.run_end-end.ensures.value refl c.run_end-end.ensures.further c.if-size-lt2.true ∙ ap (item_at Plain c.args.here.at) (sym c.pass.ensures.at);
+      token = one-hyphen o l cell c.args.text.now c.args.here.at c.requires.here smart c.run_end-end.result _ is c.run_end-end.ensures.value refl c.run_end-end.ensures.further c.if-size-lt2.true ∙ ap (item_at Plain c.args.here.at) (sym c.pass.ensures.at);
       pending = c.pass.ensures.pending;
       same = refl;
     })
 
 pub returns-clause-token : goal.returns-clause-token
-returns-clause-token c = λ o l smart is.
+returns-clause-token c = λ o l cell smart is.
     let next = c.in_ok-next.ensures in
-    inr (owned-appends o l c.args.text.now c.args.here c.args.self.now c.put.new.self c.in_ok-next.next _ c.run_end-end.result c.len.result c.in_ok-owned.owned c.requires.cursor.ordered
-    (many-hyphens o l c.args.text.now c.args.here.at c.requires.here smart c.run_end-end.result _ is c.run_end-end.ensures.value refl c.if-size-lt2.false)
+    inr (owned-appends o l cell c.args.text.now c.args.here c.args.self.now c.put.new.self c.in_ok-next.next _ c.run_end-end.result c.len.result c.in_ok-owned.owned c.requires.cursor.ordered
+    (many-hyphens o l cell c.args.text.now c.args.here.at c.requires.here smart c.run_end-end.result _ is c.run_end-end.ensures.value refl c.if-size-lt2.false)
     next.at (next.end ∙ sym next.at) next.slots (ap (λ (s : InlineState). s.texts.items) next.others ∙ c.in_ok-push.ensures.items) (let q : c.len.result ≡ length c.args.self.now.texts.items = search rules in q)
     (c.in_ok-owned.ensures.value ∙ c.in_ok-dash_text.ensures) (kept c.args.self.now c.put.new.self _ next.others refl))

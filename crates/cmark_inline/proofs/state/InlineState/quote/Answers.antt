@@ -12,7 +12,7 @@ made : (old new between : InlineState) → new ≡ between → between ≡ recor
 made old new between e f = e ∙ f ∙ ap (λ (s : InlineState). record old { slots = new.slots; quotes = s.quotes }) (sym e)
 
 pub returns-clause-token : goal.returns-clause-token
-returns-clause-token c = λ o l smart is.
+returns-clause-token c = λ o l cell smart is.
     let text : List ℕ = c.args.text.now in
     let at : ℕ = c.args.here.at in
     let end = c.behind-end.ensures.value in
@@ -20,7 +20,7 @@ returns-clause-token c = λ o l smart is.
     record {
       quote = c.quote_of-quote.result;
       token =
-          quote-begins o l text at c.requires.here smart (get_or text at 0) c.character_before-before.result c.character_at-after.result refl is c.character_before-before.ensures (c.character_at-after.ensures ∙ ap (λ (k : ℕ). first_of (chars (drop k text))) end)
+          quote-begins o l cell text at c.requires.here smart (get_or text at 0) c.character_before-before.result c.character_at-after.result refl is c.character_before-before.ensures (c.character_at-after.ensures ∙ ap (λ (k : ℕ). first_of (chars (drop k text))) end)
           ∙ ap (λ q. item_at (Quoted q) at (at + 1)) (ap (λ (bs : List ℕ). quote_beside (get_or bs at 0 == 34) c.character_before-before.result c.character_at-after.result) (sym c.as_bytes.ensures.value) ∙ sym c.quote_of-quote.ensures)
           ∙ ap (item_at (Quoted _) at) (sym end);
       pending = refl;

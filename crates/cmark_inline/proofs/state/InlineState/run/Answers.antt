@@ -12,9 +12,9 @@ use Rattle.cmark_inline.proofs.state.InlineState.run.Goals as goal
 use Rattle.cmark_inline.proofs.state.InlineState.run.Goals.{else-not-flanking-via-then-not-flanking+else-not-flanking-2, else-not-flanking-via-else-not-flanking}
 
 pub returns-then-not-flanking-2-clause-token : goal.returns-then-not-flanking-2-clause-token
-returns-then-not-flanking-2-clause-token c = λ l is mark.
+returns-then-not-flanking-2-clause-token c = λ l cell is mark.
     inl (record {
-      token = run-stays (shown_options c.args.options) l c.args.text.now c.args.here.at c.requires.here c.args.mark c.run_end-end.result (c.run_end-end.result - c.args.here.at) c.character_before-before.result c.character_at-after.result
+      token = run-stays (shown_options c.args.options) l cell c.args.text.now c.args.here.at c.requires.here c.args.mark c.run_end-end.result (c.run_end-end.result - c.args.here.at) c.character_before-before.result c.character_at-after.result
           (shown_flanking c.flanking_of-flanking.result)
           (record {
             byte = is;
@@ -35,7 +35,7 @@ not-no true e = refl
 not-no false e = absurd (true≢false e)
 
 pub returns-clause-token : goal.returns-clause-token
-returns-clause-token c = λ l is mark.
+returns-clause-token c = λ l cell is mark.
     let some : (c.flanking_of-flanking.result.opens || c.flanking_of-flanking.result.closes) ≡ true = elim c.else-not-flanking.branch [
       | else-not-flanking-via-then-not-flanking+else-not-flanking-2 w ↦ or_right c.flanking_of-flanking.result.opens c.flanking_of-flanking.result.closes (not-no c.flanking_of-flanking.result.closes w.if-not-flanking-2.false)
       | else-not-flanking-via-else-not-flanking w ↦ or_left c.flanking_of-flanking.result.opens c.flanking_of-flanking.result.closes (not-no c.flanking_of-flanking.result.opens w.if-not-flanking.false)
@@ -44,7 +44,7 @@ returns-clause-token c = λ l is mark.
     let run : Run = record { mark = c.args.mark; size = c.run_end-end.result - c.args.here.at; at = 0; left = c.run_end-end.result - c.args.here.at; opens = c.flanking_of-flanking.result.opens; closes = c.flanking_of-flanking.result.closes } in
     inr (record {
       run = run;
-      token = run-begins-there (shown_options c.args.options) l c.args.text.now c.args.here.at c.requires.here c.args.mark c.run_end-end.result (c.run_end-end.result - c.args.here.at) c.character_before-before.result c.character_at-after.result
+      token = run-begins-there (shown_options c.args.options) l cell c.args.text.now c.args.here.at c.requires.here c.args.mark c.run_end-end.result (c.run_end-end.result - c.args.here.at) c.character_before-before.result c.character_at-after.result
           (shown_flanking c.flanking_of-flanking.result)
           (record {
             byte = is;
@@ -68,16 +68,16 @@ returns-clause-token c = λ l is mark.
     })
 
 pub returns-then-not-flanking-2-clause-others : goal.returns-then-not-flanking-2-clause-others
-returns-then-not-flanking-2-clause-others c = λ l is other.
+returns-then-not-flanking-2-clause-others c = λ l cell is other.
     record {
       further = c.run_end-end.ensures.further;
-      plain = others-stand (shown_options c.args.options) l c.args.text.now c.args.here.at c.args.mark c.run_end-end.result is other c.run_end-end.ensures.value;
+      plain = others-stand (shown_options c.args.options) l cell c.args.text.now c.args.here.at c.args.mark c.run_end-end.result is other c.run_end-end.ensures.value;
       pending = refl;
       same = refl;
     }
 
 pub returns-clause-others : goal.returns-clause-others
-returns-clause-others c = λ l is other.
+returns-clause-others c = λ l cell is other.
     let none = c.flanking_of-flanking.ensures ∙ others-flank (shown_options c.args.options) c.args.mark (c.run_end-end.result - c.args.here.at) c.character_before-before.result c.character_at-after.result other in
     let opens : c.flanking_of-flanking.result.opens ≡ false = ap (λ (f : Flanking). f.opens) none in
     let closes : c.flanking_of-flanking.result.closes ≡ false = ap (λ (f : Flanking). f.closes) none in

@@ -3,6 +3,7 @@ use Rattle.std.proofs.lemmas.Result.{IfOk-weaker}
 use Rattle.cmark_grammar.specs.Answers.{Lookup}
 use Rattle.cmark_grammar.specs.Options.{Options}
 use Rattle.cmark_grammar.specs.SpecialBytes.{is_special}
+use Rattle.cmark_leaf_text.specs.Reads.{is_cell_of}
 use Rattle.cmark_text.specs.Shown.{shown_options}
 use Rattle.cmark_inline.proofs.SpanReads.{appends, appends-quote, backslash-reads, backticks-read, passes-or-appends, passes-or-opens, passes-over, run-reads}
 use Rattle.cmark_inline.proofs.SpecialSteps.{has_call, other-special, smart-special, math-special}
@@ -13,13 +14,13 @@ returns-in-10-clause-token g c = λ special other.
     let o : Options = shown_options c.args.reader.now.options in
     let l : Lookup = g.E.EntityLookup.replacement c.args.reader.now.entities.now in
     IfOk-weaker c.line_end.result _ _ (appends o l c.args.leaf.now c.args.text.now c.requires.same c.args.here c.args.self.now c.line_end.new.self)
-    (c.line_end.ensures.token o l (subst (λ (bs : List ℕ). (get_or bs c.args.here.at 0 ≡ 10) ⊎ (get_or bs c.args.here.at 0 ≡ 13)) c.as_bytes.ensures.value c.in-10.is))
+    (c.line_end.ensures.token o l (is_cell_of c.args.leaf.now) (subst (λ (bs : List ℕ). (get_or bs c.args.here.at 0 ≡ 10) ⊎ (get_or bs c.args.here.at 0 ≡ 13)) c.as_bytes.ensures.value c.in-10.is))
 
 pub returns-in-92-clause-token : goal.returns-in-92-clause-token
 returns-in-92-clause-token g c = λ special other.
     let o : Options = shown_options c.args.reader.now.options in
     let l : Lookup = g.E.EntityLookup.replacement c.args.reader.now.entities.now in
-    IfOk-weaker c.backslash.result _ _ (backslash-reads o l c.args.leaf.now c.args.text.now c.requires.same c.args.here c.args.self.now c.backslash.new.self)
+    IfOk-weaker c.backslash.result _ _ (λ next. backslash-reads o l c.args.leaf.now c.args.text.now c.requires.same c.args.here c.args.self.now c.backslash.new.self next c.is_cell.result c.is_cell.ensures)
     (c.backslash.ensures.token o l (subst (λ (bs : List ℕ). get_or bs c.args.here.at 0 ≡ 92) c.as_bytes.ensures.value c.in-92.is))
 
 pub returns-in-38-clause-token : goal.returns-in-38-clause-token
@@ -27,14 +28,14 @@ returns-in-38-clause-token g c = λ special other.
     let o : Options = shown_options c.args.reader.now.options in
     let l : Lookup = g.E.EntityLookup.replacement c.args.reader.now.entities.now in
     IfOk-weaker c.entity.result _ _ (passes-or-appends o l c.args.leaf.now c.args.text.now c.requires.same c.args.here c.args.self.now c.entity.new.self)
-    (c.entity.ensures.token o (subst (λ (bs : List ℕ). get_or bs c.args.here.at 0 ≡ 38) c.as_bytes.ensures.value c.in-38.is))
+    (c.entity.ensures.token o (is_cell_of c.args.leaf.now) (subst (λ (bs : List ℕ). get_or bs c.args.here.at 0 ≡ 38) c.as_bytes.ensures.value c.in-38.is))
 
 pub returns-in-96-clause-token : goal.returns-in-96-clause-token
 returns-in-96-clause-token g c = λ special other.
     let o : Options = shown_options c.args.reader.now.options in
     let l : Lookup = g.E.EntityLookup.replacement c.args.reader.now.entities.now in
     IfOk-weaker c.backticks.result _ _ (backticks-read o l c.args.leaf.now c.args.text.now c.requires.same c.args.here c.args.self.now c.backticks.new.self)
-    (c.backticks.ensures.token o l (subst (λ (bs : List ℕ). get_or bs c.args.here.at 0 ≡ 96) c.as_bytes.ensures.value c.in-96.is))
+    (c.backticks.ensures.token o l (is_cell_of c.args.leaf.now) (subst (λ (bs : List ℕ). get_or bs c.args.here.at 0 ≡ 96) c.as_bytes.ensures.value c.in-96.is))
 
 pub returns-in-60-clause-token : goal.returns-in-60-clause-token
 returns-in-60-clause-token g c = λ special other.
@@ -48,7 +49,7 @@ returns-in-33-clause-token g c = λ special other.
     let o : Options = shown_options c.args.reader.now.options in
     let l : Lookup = g.E.EntityLookup.replacement c.args.reader.now.entities.now in
     IfOk-weaker c.exclamation.result _ _ (passes-or-opens o l c.args.leaf.now c.args.text.now c.requires.same c.args.here c.args.self.now c.exclamation.new.self)
-    (c.exclamation.ensures.token o l (subst (λ (bs : List ℕ). get_or bs c.args.here.at 0 ≡ 33) c.as_bytes.ensures.value c.in-33.is))
+    (c.exclamation.ensures.token o l (is_cell_of c.args.leaf.now) (subst (λ (bs : List ℕ). get_or bs c.args.here.at 0 ≡ 33) c.as_bytes.ensures.value c.in-33.is))
 
 pub returns-in-36-clause-token : goal.returns-in-36-clause-token
 returns-in-36-clause-token g c = λ special other.
@@ -56,7 +57,7 @@ returns-in-36-clause-token g c = λ special other.
     let l : Lookup = g.E.EntityLookup.replacement c.args.reader.now.entities.now in
     let is = subst (λ (bs : List ℕ). get_or bs c.args.here.at 0 ≡ 36) c.as_bytes.ensures.value c.in-36.is in
     IfOk-weaker c.dollar.result _ _ (appends o l c.args.leaf.now c.args.text.now c.requires.same c.args.here c.args.self.now c.dollar.new.self)
-    (c.dollar.ensures.token o l (math-special o (get_or c.args.text.now c.args.here.at 0) is special))
+    (c.dollar.ensures.token o l (is_cell_of c.args.leaf.now) (math-special o (get_or c.args.text.now c.args.here.at 0) is special))
 
 pub returns-in-46-clause-token : goal.returns-in-46-clause-token
 returns-in-46-clause-token g c = λ special other.
@@ -64,7 +65,7 @@ returns-in-46-clause-token g c = λ special other.
     let l : Lookup = g.E.EntityLookup.replacement c.args.reader.now.entities.now in
     let is = subst (λ (bs : List ℕ). get_or bs c.args.here.at 0 ≡ 46) c.as_bytes.ensures.value c.in-46.is in
     IfOk-weaker c.dots.result _ _ (passes-or-appends o l c.args.leaf.now c.args.text.now c.requires.same c.args.here c.args.self.now c.dots.new.self)
-    (c.dots.ensures.token o l (smart-special o (get_or c.args.text.now c.args.here.at 0) (inl is) special) is)
+    (c.dots.ensures.token o l (is_cell_of c.args.leaf.now) (smart-special o (get_or c.args.text.now c.args.here.at 0) (inl is) special) is)
 
 pub returns-in-45-clause-token : goal.returns-in-45-clause-token
 returns-in-45-clause-token g c = λ special other.
@@ -72,7 +73,7 @@ returns-in-45-clause-token g c = λ special other.
     let l : Lookup = g.E.EntityLookup.replacement c.args.reader.now.entities.now in
     let is = subst (λ (bs : List ℕ). get_or bs c.args.here.at 0 ≡ 45) c.as_bytes.ensures.value c.in-45.is in
     IfOk-weaker c.hyphens.result _ _ (passes-or-appends o l c.args.leaf.now c.args.text.now c.requires.same c.args.here c.args.self.now c.hyphens.new.self)
-    (c.hyphens.ensures.token o l (smart-special o (get_or c.args.text.now c.args.here.at 0) (inr (inl is)) special) is)
+    (c.hyphens.ensures.token o l (is_cell_of c.args.leaf.now) (smart-special o (get_or c.args.text.now c.args.here.at 0) (inr (inl is)) special) is)
 
 pub returns-in-34-clause-token : goal.returns-in-34-clause-token
 returns-in-34-clause-token g c = λ special other.
@@ -80,7 +81,7 @@ returns-in-34-clause-token g c = λ special other.
     let l : Lookup = g.E.EntityLookup.replacement c.args.reader.now.entities.now in
     let is = subst (λ (bs : List ℕ). (get_or bs c.args.here.at 0 ≡ 34) ⊎ (get_or bs c.args.here.at 0 ≡ 39)) c.as_bytes.ensures.value c.in-34.is in
     IfOk-weaker c.quote.result _ _ (appends-quote o l c.args.leaf.now c.args.text.now c.requires.same c.args.here c.args.self.now c.quote.new.self)
-    (c.quote.ensures.token o l (smart-special o (get_or c.args.text.now c.args.here.at 0) (inr (inr is)) special) is)
+    (c.quote.ensures.token o l (is_cell_of c.args.leaf.now) (smart-special o (get_or c.args.text.now c.args.here.at 0) (inr (inr is)) special) is)
 
 pub returns-in_default-clause-token : goal.returns-in_default-clause-token
 returns-in_default-clause-token g c = λ special other.
@@ -90,6 +91,6 @@ returns-in_default-clause-token g c = λ special other.
     let same : get_or c.args.text.now c.args.here.at 0 ≡ b = sym (ap (λ (bs : List ℕ). get_or bs c.args.here.at 0) c.as_bytes.ensures.value) in
     let uncalled : has_call b ≡ false = search (c.in_default, same, other, rules) in
     ⊎_elim
-    (λ m. IfOk-weaker c.run.result _ _ (run-reads o l c.args.leaf.now c.args.text.now c.requires.same c.args.here c.args.self.now c.run.new.self) (c.run.ensures.token l same m))
-    (λ m. IfOk-weaker c.run.result _ _ (passes-over o l c.args.leaf.now c.args.text.now c.requires.same c.args.here c.args.self.now c.run.new.self) (c.run.ensures.others l same m))
+    (λ m. IfOk-weaker c.run.result _ _ (run-reads o l c.args.leaf.now c.args.text.now c.requires.same c.args.here c.args.self.now c.run.new.self) (c.run.ensures.token l (is_cell_of c.args.leaf.now) same m))
+    (λ m. IfOk-weaker c.run.result _ _ (passes-over o l c.args.leaf.now c.args.text.now c.requires.same c.args.here c.args.self.now c.run.new.self) (c.run.ensures.others l (is_cell_of c.args.leaf.now) same m))
     (other-special o b uncalled (sym (ap (is_special o) same) ∙ special))

@@ -38,10 +38,10 @@ returns-in-Item-clause-row c k shows =
     ]
     in
     let item = shows-item c.args.self c.in-Item.width k c.in-Item.is shows in
-    c.behind_width.ensures item.0 item.1.0 ∙ bare-kept (grammar.Item item.0 item.1.0 c.in-Item.width) c.args.bare r test ∙ ap (λ x. keeps x c.args.bare r) (sym item.1.1)
+    c.behind_width.ensures item.0 item.1.0 item.1.1.0 ∙ bare-kept (grammar.Item item.0 item.1.0 c.in-Item.width item.1.1.0) c.args.bare r test ∙ ap (λ x. keeps x c.args.bare r) (sym item.1.1.1)
 
 pub returns-in-Item-clause-placed : goal.returns-in-Item-clause-placed
-returns-in-Item-clause-placed c text = kept-in text c.args.rest (grammar.Item 0 None c.in-Item.width) c.behind_width.result (c.behind_width.ensures 0 None)
+returns-in-Item-clause-placed c text = kept-in text c.args.rest (grammar.Item 0 None c.in-Item.width None) c.behind_width.result (c.behind_width.ensures 0 None None)
 
 pub returns-in-Footnote-clause-row : goal.returns-in-Footnote-clause-row
 returns-in-Footnote-clause-row c k shows =

@@ -7,7 +7,7 @@ use Rattle.cmark_lines.proofs.line_rest.LineRest.behind_footnote.Goals as goal
 
 pub returns-then-not-old : goal.returns-then-not-old
 returns-then-not-old c label size =
-    c.behind_width.ensures 0 None ∙ footnote-keeps label size (row_of c.args.self)
+    c.behind_width.ensures 0 None None ∙ footnote-keeps label size (row_of c.args.self)
     ∙ ap (λ o. keeps (Footnote label o size) false (row_of c.args.self)) (sym c.if-not-old.true)
 
 pub returns-then-is_blank : goal.returns-then-is_blank

@@ -5,7 +5,7 @@ use Rattle.cmark_scan.specs.LineStart.{row_from}
 use Rattle.cmark_lines.specs.Rests.{row_of}
 use Rattle.cmark_lines.specs.Starts.{label_shown}
 use Rattle.cmark_lines.proofs.PrefixRows.{shallow-is}
-use Rattle.cmark_lines.proofs.FootnoteStarts.{label-seen, stop-behind, label-found, label-closed, label-entered}
+use Rattle.cmark_lines.proofs.FootnoteStarts.{label-seen, stop-behind, label-found, label-closed, label-behind}
 use Rattle.cmark_lines.proofs.line_rest.LineRest.behind_footnote_marker.Goals as goal
 
 pub returns-in_err-size-clause-label : goal.returns-in_err-size-clause-label
@@ -35,7 +35,7 @@ returns-clause-inside c old =
     let rest = c.args.self in
     let s = row_from rest.start rest.past c.scan_space_upto.new.self in
     let is = shallow-is (row_of rest) s c.scan_space_upto.result (c.scan_space_upto.ensures.count rest.start) (c.scan_space_upto.ensures.rest rest.start rest.past) in
-    c.with_front.ensures ∙ c.scan_footnote_marker.ensures.rest rest.start rest.past ∙ label-entered (row_of rest) s c.in_ok-size.size is (c.in_ok-size.ensures.found rest.start rest.past) old
+    c.with_front.ensures ∙ c.scan_footnote_marker.ensures.rest rest.start rest.past ∙ label-behind (row_of rest) s c.in_ok-size.size is (c.in_ok-size.ensures.found rest.start rest.past) old
 
 pub returns-clause-closed : goal.returns-clause-closed
 unfolding row_of

@@ -1,4 +1,4 @@
-use Rattle.std.proofs.Common.{ap, ◌∙◌, sym, Some}
+use Rattle.std.proofs.Common.{ap, ◌∙◌, sym, Some, None}
 use Rattle.std.specs.Prelude.{option_map}
 use Rattle.cmark_grammar.specs.Containers.{Item, enter}
 use Rattle.cmark_scan.specs.LineMarkers.{item_in, entered}
@@ -30,7 +30,7 @@ unfolding row_of
 returns-clause-item c =
     let rest = c.args.self in
     let step = c.scan_space_upto-indent in
-    ap (λ n. Some (Item c.in_ok-mark.mark n c.in_ok-mark.width)) c.item_number-number.ensures
+    ap (λ n. Some (Item c.in_ok-mark.mark n c.in_ok-mark.width None)) c.item_number-number.ensures
     ∙ item-some (row_of rest) c.in_ok-mark.mark c.in_ok-mark.number c.in_ok-mark.width
     (c.in_ok-mark.ensures.found rest.start rest.past
     ∙ numbers-is (row_of rest) (row_from rest.start rest.past step.new.self) step.result (step.ensures.count rest.start) (step.ensures.rest rest.start rest.past))
@@ -45,4 +45,3 @@ returns-clause-inside c =
     ∙ numbers-is (row_of rest) (row_from rest.start rest.past step.new.self) step.result (step.ensures.count rest.start) (step.ensures.rest rest.start rest.past))
     (c.with_front.ensures ∙ c.scan_list_marker_with_indent.ensures.rest rest.start rest.past
     ∙ ap (λ r. entered (item_in r) r) (shallow-is (row_of rest) (row_from rest.start rest.past step.new.self) step.result (step.ensures.count rest.start) (step.ensures.rest rest.start rest.past)))
-    ∙ ap (λ n. enter (Item c.in_ok-mark.mark n c.in_ok-mark.width) (row_of rest)) (sym c.item_number-number.ensures)

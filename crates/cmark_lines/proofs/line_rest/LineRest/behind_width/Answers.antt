@@ -33,4 +33,4 @@ returns c =
       | else-not-scan_space-via-else-not-scan_space w ↦ ap (λ z. z || is_bare after.columns) (sym enough ∙ w.if-not-scan_space.false)
     ]
     in
-    λ mark number. ap Some c.with_front.ensures ∙ width-kept (row_of rest) after c.args.width refl (c.scan_space.ensures.rest rest.start rest.past) test mark number
+    λ mark number task. ap Some c.with_front.ensures ∙ width-kept (row_of rest) after c.args.width refl (c.scan_space.ensures.rest rest.start rest.past) test mark number task

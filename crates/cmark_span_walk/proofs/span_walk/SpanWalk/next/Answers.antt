@@ -32,7 +32,7 @@ enter_leaf-requires g c κs =
     let s = c.in_ok-given.ensures.stands in
     let none = subst (λ o. GivesSpan c.loop-given.self o mid) c.in_default.is c.in_ok-given.ensures.given in
     let gives = subst (λ m. walking.Gives s.0 m c.next.new.lines.items c.next.new.self) c.in-Leaf.is (c.in_ok-given-2.ensures.given s.0 s.1.blocks.remains) in
-    ((refl, tt), (gives.0, gives.1, before-leaf mid c.next.new.self c.next.new.lines s none.0 c.in_ok-given-2.ensures.text _ gives.0 gives.1 gives.2 gives.3 gives.4 refl))
+    ((refl, tt), (gives.0, gives.1, before-leaf mid c.next.new.self c.next.new.lines s none.0 c.in_ok-given-2.ensures.text c.in-Leaf.is_cell _ gives.0 gives.1 gives.2 gives.3 gives.4 gives.5 refl))
 
 pub loop-given-preserved : goal.loop-given-preserved
 loop-given-preserved g c =
@@ -41,7 +41,7 @@ loop-given-preserved g c =
     let e = c.in_ok-enter_leaf-in-Leaf.ensures in
     let none = subst (λ o. GivesSpan c.loop-given.self o mid) c.in_default.is c.in_ok-given.ensures.given in
     let gives = subst (λ m. walking.Gives s.0 m c.next.new.lines.items c.next.new.self) c.in-Leaf.is (c.in_ok-given-2.ensures.given s.0 s.1.blocks.remains) in
-    let before = before-leaf mid c.next.new.self c.next.new.lines s none.0 c.in_ok-given-2.ensures.text _ gives.0 gives.1 gives.2 gives.3 gives.4 refl in
+    let before = before-leaf mid c.next.new.self c.next.new.lines s none.0 c.in_ok-given-2.ensures.text c.in-Leaf.is_cell _ gives.0 gives.1 gives.2 gives.3 gives.4 gives.5 refl in
     lasts-leaf mid c.next.new.self c.next.new.lines s none.0 c.in_ok-given-2.ensures.text c.args.self.now c.loop-given.self c.enter_leaf.new.self gives.0 gives.1 c.loop-given.invariant c.in_ok-given.ensures.budget none.1
     (e.definitions ∙ c.in_ok-given-2.ensures.definitions ∙ c.in_ok-given.ensures.definitions)
     (λ folded. e.footnotes folded ∙ ap (λ t. is_some (footnote t folded)) c.in_ok-given.ensures.footnotes) c.in_ok-given.ensures.source gives.2 (e.enters gives.0 gives.1 before) e.source e.budget

@@ -12,8 +12,8 @@ returns-in-Ok-Some g c =
     gives-some c.args.self.now _ c.in-Ok-Some.given c.if-self.false c.if-self.false c.in-Ok-Some.ensures.stands
     (subst (λ o. Gives c.args.self.now.spans o c.next.new.self) c.in-Ok-Some.field-0-is c.in-Ok-Some.ensures.given)
     (subst (λ o. IfSome o (GivesZeroCopy (source_of c.args.self.now.spans))) c.in-Ok-Some.field-0-is c.in-Ok-Some.ensures.lent)
-    (subst (λ o. OnSome o (events_left c.next.new.self < events_left c.args.self.now.spans)) c.in-Ok-Some.field-0-is c.in-Ok-Some.ensures.fewer) c.in-Ok-Some.ensures.source c.in-Ok-Some.ensures.definitions
+    (subst (λ o. OnSome o (events_left c.next.new.self < events_left c.args.self.now.spans)) c.in-Ok-Some.field-0-is c.in-Ok-Some.ensures.fewer) c.in-Ok-Some.ensures.source c.in-Ok-Some.ensures.definitions c.in-Ok-Some.ensures.footnotes
 
 pub returns-in-Ok-None : goal.returns-in-Ok-None
 returns-in-Ok-None g c =
-    gives-none c.args.self.now _ c.if-self.false refl (subst (λ o. Gives c.args.self.now.spans o c.next.new.self) c.in-Ok-None.field-0-is c.in-Ok-None.ensures.given) c.in-Ok-None.ensures.source c.in-Ok-None.ensures.definitions
+    gives-none c.args.self.now _ c.if-self.false refl (subst (λ o. Gives c.args.self.now.spans o c.next.new.self) c.in-Ok-None.field-0-is c.in-Ok-None.ensures.given) c.in-Ok-None.ensures.source c.in-Ok-None.ensures.definitions c.in-Ok-None.ensures.footnotes

@@ -7,11 +7,14 @@ use Rattle.cmark_grammar.specs.Derivation.{document}
 use Rattle.cmark_grammar.specs.BlockDocument.{BlockDocument}
 use Rattle.cmark_grammar.specs.Labels.{fold}
 use Rattle.cmark_grammar.specs.References.{first_with, references}
-use Rattle.cmark_grammar.specs.SpanDocuments.{segments}
+use Rattle.cmark_grammar.specs.SpanDocuments.{segments, footnote_labels, has_label}
 use Rattle.cmark_grammar.proofs.BlockDocumentOne.{document-only}
+use Rattle.cmark_blocks.specs.Footnotes.{unused_if}
 use Rattle.cmark_blocks.specs.Runs.{shown_reference}
 use Rattle.cmark_items.specs.Definitions.{definition, shown_definition}
 use Rattle.cmark_items.specs.declared.definitions.RefDefs.{RefDefs}
+use Rattle.cmark_items.specs.declared.footnotes.FootnoteDefs.{FootnoteDefs}
+use Rattle.cmark_items.specs.Footnotes.{footnote}
 use Rattle.cmark_walk.specs.Walking.{Remains}
 use Rattle.pulldown_cmark.proofs.ParseSteps.{begin-few, reads-from, can-begin}
 use Rattle.pulldown_cmark.proofs.parse.Parser.new_with_broken_link_callback.Goals as goal
@@ -36,6 +39,13 @@ returns-clause-definitions g c = λ d derives folded.
     ap (λ (r : RefDefs). option_map shown_definition (definition r folded)) (c.new.ensures.definitions ∙ c.new-walk.ensures.definitions)
     ∙ c.in_ok-tree.ensures.document.references folded
     ∙ ap (λ (e : BlockDocument). option_map shown_reference (first_with fold folded (references e)))
+    (sym (document-only c.args.text.now (shown_options c.args.options) (g.E.EntityLookup.replacement c.args.entities.now) d derives))
+
+pub returns-clause-footnotes : goal.returns-clause-footnotes
+returns-clause-footnotes g c = λ d derives folded.
+    ap (λ (f : FootnoteDefs). footnote f folded) (c.new.ensures.footnotes ∙ c.replace-footnotes.ensures.value)
+    ∙ c.in_ok-tree.ensures.document.footnotes folded
+    ∙ ap (λ (e : BlockDocument). unused_if (has_label folded (footnote_labels e)))
     (sym (document-only c.args.text.now (shown_options c.args.options) (g.E.EntityLookup.replacement c.args.entities.now) d derives))
 
 pub returns-clause-goes : goal.returns-clause-goes

@@ -1,0 +1,87 @@
+-- The labels of footnotes that closed blocks leave are those of their document.
+use Rattle.std.proofs.Common.{◌≡◌, ◌==◌, ℕ, Bool, true, false, List, length, [], ◌∷◌, ◌++◌, refl, ap, ◌∙◌, sym, append_assoc, append-nil, Option, Some, None}
+use Rattle.cmark_grammar.specs.Options.{Options}
+use Rattle.cmark_grammar.specs.Answers.{Lookup}
+use Rattle.cmark_grammar.specs.Labels.{normal_form}
+use Rattle.cmark_grammar.specs.Rows.{Row, past_of, begin_of, start_of}
+use Rattle.cmark_grammar.specs.Containers.{Quote, Item, Footnote}
+use Rattle.cmark_grammar.specs.Openings.{Leaf, ThematicBreak, AtxHeading, IndentedCode, FencedCode, HtmlBlock, LinkDefinition, MetadataBlock, Table}
+use Rattle.cmark_grammar.specs.Blocks.{Blocks, Nil as NoBlocks, BlankLine, Paragraph, SetextHeading, LeafBlock, ContainerBlock}
+use Rattle.cmark_grammar.specs.Lists.{ListBefore, tight_behind, goes_on}
+use Rattle.cmark_grammar.specs.Tokens.{fenced_lines, lines_before}
+use Rattle.cmark_grammar.specs.Derivation.{paragraph_kind, leaf_then, item_then, document_of}
+use Rattle.cmark_grammar.specs.BlockDocument as document
+use Rattle.cmark_grammar.specs.BlockDocument.{BlockDocument, Node, node}
+use Rattle.cmark_grammar.specs.SpanDocuments.{footnote_labels}
+use Rattle.cmark_grammar.specs.Metadata.{ends_metadata}
+use Rattle.cmark_block_model.specs.OpenBlocks.{OpenList}
+use Rattle.cmark_block_model.proofs.PlainTokens.{IsPlain, paragraph_plain, heading_plain, code_plain, table_plain, html_tokens_plain}
+use Rattle.cmark_block_model.proofs.Split.{Split, split}
+use Rattle.cmark_block_model.proofs.Settles.{Joins, settles}
+use Rattle.cmark_block_model.proofs.Replay.{Noted, Level, marked, standing, entered, left_by, item_if, item_level, leaf_noted, leaf_level, paragraph_level, heading_level, blank_level, replay}
+
+paragraph-labels : (direct : Bool) (start end : ℕ) (t d : BlockDocument) → IsPlain t → footnote_labels (Node (node (paragraph_kind direct) start end) t d) ≡ footnote_labels d
+paragraph-labels true start end t d h = ap (λ r. r ++ footnote_labels d) h.labels
+paragraph-labels false start end t d h = ap (λ r. r ++ footnote_labels d) h.labels
+
+item-labels : (joins direct tight : Bool) (number : Option ℕ) (start past : ℕ) (inner : BlockDocument) (s : Split) (d : BlockDocument) → Joins joins direct tight s d → footnote_labels (item_then joins number tight (node document.ListItem start past) inner d) ≡ (footnote_labels inner ++ footnote_labels d)
+item-labels false direct tight number start past inner s d j = ap (λ r. r ++ footnote_labels d) (append-nil (footnote_labels inner))
+item-labels true direct tight number start past inner s d j =
+    ap (λ x. footnote_labels (item_then true number tight (node document.ListItem start past) inner x)) j.is
+    ∙ append_assoc (footnote_labels inner) (footnote_labels j.items) (footnote_labels j.after) ∙ ap (λ x. footnote_labels inner ++ footnote_labels x) (sym j.is)
+
+marked-labels : (task : Option Bool) (width : ℕ) (first : Row) (d : BlockDocument) → footnote_labels d ≡ footnote_labels (marked task width first d)
+marked-labels None width first d = refl
+marked-labels (Some is_checked) width first d = refl
+
+item-keeps : (mark : ℕ) (number : Option ℕ) (start : ℕ) (l : Level) (o : Option OpenList) → (item_level mark number start l o).noted.footnotes ≡ l.noted.footnotes
+item-keeps mark number start l None = refl
+item-keeps mark number start l (Some o) = go (o.mark == mark)
+  where
+    go : (z : Bool) → (item_if z mark number start o l).noted.footnotes ≡ l.noted.footnotes
+    go true = refl
+    go false = refl
+
+module _ (text : List ℕ) (options : Options) (lookup : Lookup) where
+  leaf-labels : (leaf : Leaf) (first : Row) (more : List Row) (n : Noted) (d : BlockDocument) → ((leaf_noted text options lookup leaf first more n).footnotes ++ footnote_labels d) ≡ (n.footnotes ++ footnote_labels (leaf_then text options lookup leaf first more d))
+  leaf-labels ThematicBreak first more n d = refl
+  leaf-labels (AtxHeading level) first more n d = ap (λ r. n.footnotes ++ (r ++ footnote_labels d)) (sym (heading_plain text options.heading_attributes level first).labels)
+  leaf-labels IndentedCode first more n d = ap (λ r. n.footnotes ++ (r ++ footnote_labels d)) (sym (code_plain text 4 (first ∷ more)).labels)
+  leaf-labels (FencedCode fence) first more n d = ap (λ r. n.footnotes ++ (r ++ footnote_labels d)) (sym (code_plain text fence.indented (fenced_lines fence more)).labels)
+  leaf-labels (HtmlBlock kind) first more n d = ap (λ r. n.footnotes ++ (r ++ footnote_labels d)) (sym (html_tokens_plain text (first ∷ more)).labels)
+  leaf-labels (LinkDefinition definition) first more n d = refl
+  leaf-labels (MetadataBlock kind) first more n d = ap (λ r. n.footnotes ++ (r ++ footnote_labels d)) (sym (code_plain text 0 (lines_before (ends_metadata kind) more)).labels)
+  leaf-labels (Table alignments) first more n d = ap (λ r. n.footnotes ++ (r ++ footnote_labels d)) (sym (table_plain text (length alignments) first more).labels)
+
+  pub labels : (b : Blocks) (direct : Bool) (before : Option ListBefore) (l : Level) → (replay text options lookup b l).noted.footnotes ≡ (l.noted.footnotes ++ footnote_labels (document_of text options lookup direct before b))
+  labels NoBlocks direct before l = sym (append-nil l.noted.footnotes)
+  labels (BlankLine line after) direct before l = labels after direct before (blank_level l)
+  labels (Paragraph first more after) direct before l =
+      labels after direct None (paragraph_level text options lookup first more l)
+      ∙ ap (λ r. l.noted.footnotes ++ r) (sym (paragraph-labels direct (start_of first) (past_of first more) _ (document_of text options lookup direct None after) (paragraph_plain text first more)))
+  labels (SetextHeading level first more underline after) direct before l =
+      labels after direct None (heading_level text options lookup level first more underline l)
+      ∙ ap (λ r. l.noted.footnotes ++ (r ++ footnote_labels (document_of text options lookup direct None after))) (sym (paragraph_plain text first more).labels)
+  labels (LeafBlock leaf first more after) direct before l =
+      labels after direct None (leaf_level text options lookup leaf first more l) ∙ leaf-labels leaf first more l.noted (document_of text options lookup direct None after)
+  labels (ContainerBlock (Quote alert) first more inside after) direct before l =
+      labels after direct None (left_by (Quote alert) (standing (Quote alert) first l).inner (past_of first more) (replay text options lookup inside (entered (Quote alert) first l)))
+      ∙ ap (λ r. r ++ footnote_labels (document_of text options lookup direct None after)) (labels inside false None (entered (Quote alert) first l))
+      ∙ append_assoc l.noted.footnotes (footnote_labels (document_of text options lookup false None inside)) (footnote_labels (document_of text options lookup direct None after))
+  labels (ContainerBlock (Footnote label old size) first more inside after) direct before l =
+      let inner = footnote_labels (document_of text options lookup false None inside) in
+      let behind = footnote_labels (document_of text options lookup direct None after) in
+      labels after direct None (left_by (Footnote label old size) (standing (Footnote label old size) first l).inner (past_of first more) (replay text options lookup inside (entered (Footnote label old size) first l)))
+      ∙ ap (λ r. r ++ behind) (labels inside false None (entered (Footnote label old size) first l))
+      ∙ append_assoc (l.noted.footnotes ++ normal_form label ∷ []) inner behind
+      ∙ append_assoc l.noted.footnotes (normal_form label ∷ []) (inner ++ behind)
+  labels (ContainerBlock (Item mark number width task) first more inside after) direct before l =
+      let k = Item mark number width task in
+      let t = tight_behind before mark inside after in
+      let d = document_of text options lookup direct (Some (record { mark = mark; tight = t })) after in
+      let j = document_of text options lookup t None inside in
+      let i = marked task width first j in
+      labels after direct (Some (record { mark = mark; tight = t })) (left_by k (standing k first l).inner (past_of first more) (replay text options lookup inside (entered k first l)))
+      ∙ ap (λ r. r ++ footnote_labels d) (labels inside t None (entered k first l) ∙ ap (λ r. (entered k first l).noted.footnotes ++ r) (marked-labels task width first j) ∙ ap (λ r. r ++ footnote_labels i) (item-keeps mark number (begin_of first) l l.inner.list))
+      ∙ append_assoc l.noted.footnotes (footnote_labels i) (footnote_labels d)
+      ∙ ap (λ r. l.noted.footnotes ++ r) (sym (item-labels (goes_on mark after) direct t number (begin_of first) (past_of first more) i (split text options lookup (Some mark) after) d (settles text options lookup after direct (Some (record { mark = mark; tight = t })))))

@@ -1,0 +1,32 @@
+-- What holds of the first elements of a list.
+use Rattle.std.proofs.Common.{◌≡◌, ℕ, zero, suc, ◌+◌, ◌≤◌, ◌<◌, Bool, true, false, List, [], ◌∷◌, length, drop, take_while, refl, sym, subst, arith}
+use Rattle.std.proofs.lemmas.List.Sums.{take_while-cons}
+use Rattle.std.specs.Prelude.{cond}
+
+-- what holds of the first n elements, as far as there are any
+abbrev pub Front : {X : Type 0} → (X → Type 0) → ℕ → List X → Type 0
+Front Q n [] = Unit {0}
+Front Q zero (x ∷ xs) = Unit {0}
+Front Q (suc n) (x ∷ xs) = Q x × Front Q n xs
+
+pub front-less : {X : Type 0} (Q : X → Type 0) (m n : ℕ) (xs : List X) → m ≤ n → Front Q n xs → Front Q m xs
+front-less Q m n [] le f = tt
+front-less Q zero n (x ∷ xs) le f = tt
+front-less Q (suc m) zero (x ∷ xs) le f = absurd (omega (arith, le))
+front-less Q (suc m) (suc n) (x ∷ xs) le f = (f.0, front-less Q m n xs (omega (arith, le)) f.1)
+
+pub front-add : {X : Type 0} (Q : X → Type 0) (m n : ℕ) (xs : List X) → Front Q m xs → Front Q n (drop m xs) → Front Q (m + n) xs
+front-add Q zero n xs f g = subst (λ k. Front Q k xs) (let z : n ≡ 0 + n = omega arith in z) g
+front-add Q (suc m) n [] f g = tt
+front-add Q (suc m) n (x ∷ xs) f g = subst (λ k. Front Q k (x ∷ xs)) (let z : suc (m + n) ≡ suc m + n = omega arith in z) (f.0, front-add Q m n xs f.1 g)
+
+pub prefix-front : {X : Type 0} (p : X → Bool) (Q : X → Type 0) → ((x : X) → p x ≡ true → Q x) → (xs : List X) → Front Q (length (take_while p xs)) xs
+prefix-front p Q holds [] = tt
+prefix-front p Q holds (x ∷ xs) = subst (λ l. Front Q (length l) (x ∷ xs)) (sym (take_while-cons p x xs)) (go (p x) refl (prefix-front p Q holds xs))
+  where
+    go : (z : Bool) → p x ≡ z → Front Q (length (take_while p xs)) xs → Front Q (length (cond z (x ∷ take_while p xs) [])) (x ∷ xs)
+    go true e ih = (holds x e, ih)
+    go false e ih = tt
+
+abbrev pub IsAsciiByte : ℕ → Type 0
+IsAsciiByte b = b < 128
