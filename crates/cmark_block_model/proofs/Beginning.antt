@@ -1,23 +1,26 @@
 -- What a line begins: the pass begins what the model does.
-use Rattle.std.proofs.Common.{◌≡◌, ℕ, zero, suc, ◌≤◌, ◌<◌, ◌==◌, ◌&&◌, not, Bool, true, false, List, [], ◌∷◌, ◌++◌, length, take, refl, ap, ◌∙◌, sym, append_assoc, append-nil, Option, Some, None, arith, true≢false}
+use Rattle.std.proofs.Common.{◌≡◌, ℕ, zero, suc, ◌≤◌, ◌<◌, ◌==◌, ◌&&◌, Bool, true, false, List, [], ◌∷◌, ◌++◌, length, take, refl, ap, ◌∙◌, sym, append_assoc, append-nil, Option, Some, None, arith, true≢false, subst}
 use Rattle.std.specs.Prelude.{nat_le, if◌then◌else◌}
 use Rattle.cmark_grammar.specs.Answers.{Lookup}
 use Rattle.cmark_grammar.specs.Options.{Options}
 use Rattle.cmark_grammar.specs.Rows.{Row, start_of, begin_of, words_of, is_blank_line, shown}
 use Rattle.cmark_grammar.specs.HtmlBlocks.{holds_end}
-use Rattle.cmark_grammar.specs.Containers.{Container, Quote, Item, Footnote, is_alert, enter, strips, is_bare_start}
-use Rattle.cmark_grammar.specs.Openings.{Leaf, ThematicBreak, AtxHeading, IndentedCode, FencedCode, HtmlBlock, LinkDefinition, Opening, Blank, Nests, Takes, Plain, opens, opens_at, text_begun, MetadataBlock, Table}
+use Rattle.cmark_grammar.specs.Containers.{Container, Quote, Item, Footnote, ListDefinition, is_alert, enter, strips, is_bare_start}
+use Rattle.cmark_grammar.specs.Openings.{Leaf, ThematicBreak, AtxHeading, IndentedCode, FencedCode, HtmlBlock, LinkDefinition, Opening, Blank, Nests, Takes, Plain, opens, opens_at, MetadataBlock, Table}
 use Rattle.cmark_grammar.specs.Blocks.{Blocks, Nil as NoBlocks, BlankLine, Paragraph, SetextHeading, LeafBlock, ContainerBlock, join as join_blocks, behind_leaf, behind_container, place_in}
-use Rattle.cmark_grammar.specs.Places.{Place, Apart, BehindLazy, BehindTask, BehindTitle, is_behind_task, over_blank}
+use Rattle.cmark_grammar.specs.Places.{Place, Apart, BehindLazy, BehindTask, BehindTitle, is_behind_task, over_blank, is_behind_title}
 use Rattle.cmark_grammar.specs.BlocksModel.{within, place_behind}
 use Rattle.cmark_grammar.specs.BlocksByLine.{OpenLines, Between, InContainer, html_begun as html_lines_begun, leaf_begun as leaf_lines_begun, lines_inside_begun, lines_begin_as, lines_begin_in, lines_begin_at, lines_begin}
 use Rattle.cmark_grammar.specs.BlockDocument as document
-use Rattle.cmark_grammar.proofs.BlockLaws.{no_metadata, enter-lazy, at-enter, at-len, at-plain, blank-at}
-use Rattle.cmark_block_model.specs.OpenBlocks.{OpenList, OpenContainer, Closed, BehindTag as BehindTagLeaf, InParagraph as InParagraphLeaf, Pass}
-use Rattle.cmark_block_model.specs.BlockPass.{with_drawn, inside_begun as inside_or_tag, item_begun, list_begun, list_goes_on, container_begun, inside_of, node_opened, is_item, ahead_in, html_begun, leaf_begun, begin_as, begin_in, begin}
-use Rattle.cmark_block_model.proofs.Replay.{Level, marked, begun, item_if, item_level, level_opened, entered, leaf_level, replay, replay-join}
+use Rattle.cmark_grammar.proofs.BlockLaws.{no_metadata, enter-lazy, at-enter, at-len, blank-at, at-same}
+use Rattle.cmark_block_model.specs.OpenBlocks.{OpenList, OpenContainer, Closed, BehindTag as BehindTagLeaf, InParagraph as InParagraphLeaf, Pass, no_siblings, Title, Siblings}
+use Rattle.cmark_block_model.specs.BlockPass.{with_drawn, inside_begun as inside_or_tag, item_begun, list_begun, list_goes_on, container_begun, inside_of, node_opened, is_item, ahead_in, html_begun, leaf_begun, begin_as, begin_in, begin, definitions_in, place_with, place_of, title_made, definition_behind}
+use Rattle.cmark_block_model.proofs.Replay.{Level, marked, begun, item_if, item_level, level_opened, entered, leaf_level, replay, replay-join, title_level, definition_level}
 use Rattle.cmark_block_model.proofs.Tells.{Tells, tells-at}
 use Rattle.cmark_block_model.proofs.Mirror.{whole, whole-same, pass_with, bare_at, Fits, inner_at, leaf_at, container_at, containers_at, pass_at, paragraph_open}
+use Rattle.cmark_grammar.specs.Lists.{definition_mark}
+use Rattle.cmark_block_model.proofs.Marks.{Unmarked}
+use Rattle.cmark_block_model.proofs.Places.{IsTidy, place-replay}
 
 module _ (text : List ℕ) (options : Options) (lookup : Lookup) where
   -- the lines ahead inside one more container
@@ -31,14 +34,35 @@ module _ (text : List ℕ) (options : Options) (lookup : Lookup) where
   container-begins (Item mark number width task) r l outer n = ap (with_drawn (marked task width r document.Nil)) (go l.inner.list)
     where
       same : (z : Bool) (o : OpenList) → inside_of (Item mark number width task) (node_opened (begin_of r) document.ListItem (if z then list_goes_on o (pass_with l outer false Closed n) else list_begun mark number (begin_of r) (pass_with l outer false Closed n)))
-          ≡ pass_with (record (level_opened (begin_of r) document.ListItem (item_if z mark number (begin_of r) o l)) { inner = record { has_block = false; blank = false; parted = false; list = None } }) (outer ++ record { container = Item mark number width task; around = (item_if z mark number (begin_of r) o l).inner } ∷ []) false Closed n
+          ≡ pass_with (record (level_opened (begin_of r) document.ListItem (item_if z mark number (begin_of r) o l)) { inner = no_siblings }) (outer ++ record { container = Item mark number width task; around = (item_if z mark number (begin_of r) o l).inner } ∷ []) false Closed n
       same true o = refl
       same false o = refl
 
       go : (o : Option OpenList) → inside_of (Item mark number width task) (node_opened (begin_of r) document.ListItem (item_begun mark number (begin_of r) (pass_with l outer false Closed n) o))
-          ≡ pass_with (record (level_opened (begin_of r) document.ListItem (item_level mark number (begin_of r) l o)) { inner = record { has_block = false; blank = false; parted = false; list = None } }) (outer ++ record { container = Item mark number width task; around = (item_level mark number (begin_of r) l o).inner } ∷ []) false Closed n
+          ≡ pass_with (record (level_opened (begin_of r) document.ListItem (item_level mark number (begin_of r) l o)) { inner = no_siblings }) (outer ++ record { container = Item mark number width task; around = (item_level mark number (begin_of r) l o).inner } ∷ []) false Closed n
       go None = refl
       go (Some o) = same (o.mark == mark) o
+  container-begins (ListDefinition width) r l outer n = title l.inner.title
+    where
+      same : (z : Bool) (o : OpenList) → inside_of (ListDefinition width) (node_opened (begin_of r) document.DefinitionListDefinition (if z then list_goes_on o (pass_with l outer false Closed n) else list_begun definition_mark None (begin_of r) (pass_with l outer false Closed n)))
+          ≡ pass_with (record (level_opened (begin_of r) document.DefinitionListDefinition (item_if z definition_mark None (begin_of r) o l)) { inner = no_siblings }) (outer ++ record { container = ListDefinition width; around = (item_if z definition_mark None (begin_of r) o l).inner } ∷ []) false Closed n
+      same true o = refl
+      same false o = refl
+
+      list : (o : Option OpenList) → inside_of (ListDefinition width) (node_opened (begin_of r) document.DefinitionListDefinition (item_begun definition_mark None (begin_of r) (pass_with l outer false Closed n) o))
+          ≡ pass_with (record (level_opened (begin_of r) document.DefinitionListDefinition (item_level definition_mark None (begin_of r) l o)) { inner = no_siblings }) (outer ++ record { container = ListDefinition width; around = (item_level definition_mark None (begin_of r) l o).inner } ∷ []) false Closed n
+      list None = refl
+      list (Some o) = same (o.mark == definition_mark) o
+
+      made : (o : Option OpenList) (parted : Bool) → inside_of (ListDefinition width) (node_opened (begin_of r) document.DefinitionListDefinition (title_made o parted (begin_of r) (pass_with l outer false Closed n)))
+          ≡ pass_with (record (level_opened (begin_of r) document.DefinitionListDefinition (title_level o parted (begin_of r) l)) { inner = no_siblings }) (outer ++ record { container = ListDefinition width; around = (title_level o parted (begin_of r) l).inner } ∷ []) false Closed n
+      made None parted = refl
+      made (Some o) parted = refl
+
+      title : (t : Option Title) → inside_of (ListDefinition width) (node_opened (begin_of r) document.DefinitionListDefinition (definition_behind t (begin_of r) (pass_with l outer false Closed n)))
+          ≡ pass_with (record (level_opened (begin_of r) document.DefinitionListDefinition (definition_level t (begin_of r) l)) { inner = no_siblings }) (outer ++ record { container = ListDefinition width; around = (definition_level t (begin_of r) l).inner } ∷ []) false Closed n
+      title None = list l.inner.list
+      title (Some t) = made t.list t.parted
 
   -- a blank line begins nothing, whatever is ahead
   opens-blank : (r : Row) (ahead : List Row) → r.lazy ≡ false → is_blank_line r ≡ true → opens options r ahead ≡ Blank
@@ -52,16 +76,19 @@ module _ (text : List ℕ) (options : Options) (lookup : Lookup) where
   bare-start (Quote alert) r e = absurd (true≢false (sym e))
   bare-start (Footnote label old size) r e = absurd (true≢false (sym e))
   bare-start (Item mark number width task) r e = e
+  bare-start (ListDefinition width) r e = e
 
   bare-item : (k : Container) (r : Row) → is_bare_start k r ≡ true → is_item k ≡ true
   bare-item (Quote alert) r e = absurd (true≢false (sym e))
   bare-item (Footnote label old size) r e = absurd (true≢false (sym e))
   bare-item (Item mark number width task) r e = refl
+  bare-item (ListDefinition width) r e = refl
 
   bare-none : (k : Container) (r : Row) → is_bare_start k r ≡ false → is_blank_line (enter k r) ≡ true → is_item k ≡ false
   bare-none (Quote alert) r e b = refl
   bare-none (Footnote label old size) r e b = refl
   bare-none (Item mark number width task) r e b = absurd (true≢false (sym b ∙ e))
+  bare-none (ListDefinition width) r e b = absurd (true≢false (sym b ∙ e))
 
   pub enter-past : (k : Container) (r : Row) → (enter k r).past ≡ r.past
   unfolding enter
@@ -130,6 +157,7 @@ module _ (text : List ℕ) (options : Options) (lookup : Lookup) where
   alert-whole (Quote alert) r e = refl
   alert-whole (Footnote label old size) r e = refl
   alert-whole (Item mark number width task) r e = absurd (true≢false (sym e))
+  alert-whole (ListDefinition width) r e = absurd (true≢false (sym e))
 
   bare-begins : (m : ℕ) (k : Container) (r : Row) (ahead : List Row) → is_bare_start k r ≡ false → bare_at (is_item k) (inside_begun (suc m) k r ahead) ≡ bare_at false (inside_begun (suc m) k r ahead)
   bare-begins m k r ahead e = go (opens_at options (place_in k) (enter k r) ahead) (tells-at options (place_in k) (enter k r) ahead)
@@ -160,19 +188,15 @@ module _ (text : List ℕ) (options : Options) (lookup : Lookup) where
           ap (λ z. pass_with (inner_at text options lookup o (within k false ahead) l) (outer ++ containers_at text options lookup o l) z (leaf_at text options lookup o) n) (bare-begins m k r (within k false ahead) b)
           ∙ ap (λ z. pass_at text options lookup (inside_begun (suc m) k r (within k z ahead)) (within k z ahead) l outer z n) (sym b)
 
-  -- whether a line stands behind a task marker is all that its place says of what it begins
-  at-same : (a b : Place) (r : Row) (ahead : List Row) → is_behind_task a ≡ is_behind_task b → opens_at options a r ahead ≡ opens_at options b r ahead
-  at-same a b r ahead e = ap (λ z. if z && not r.lazy then text_begun r else opens options r ahead) e
-
-  pub begins : (m : ℕ) (at place : Place) (closed : Blocks) (r : Row) (next ahead : List Row) (l : Level) (outer : List OpenContainer) (b : Bool) (n : ℕ) → is_behind_task at ≡ is_behind_task place → r.lazy ≡ false → length r.columns < m → ahead_in text options lookup outer next ≡ ahead
+  pub begins : (m : ℕ) (at place : Place) (closed : Blocks) (r : Row) (next ahead : List Row) (l : Level) (outer : List OpenContainer) (b : Bool) (n : ℕ) → is_behind_task at ≡ is_behind_task place → is_behind_title at ≡ is_behind_title place → r.lazy ≡ false → length r.columns < m → ahead_in text options lookup outer next ≡ ahead
       → begin_in text options lookup m at r next b (pass_with (replay text options lookup closed l) outer false Closed n) ≡ pass_at text options lookup (lines_begin_in options m place closed r ahead) ahead l outer b n
-  begins zero at place closed r next ahead l outer b n s e f a = absurd (omega (arith, f))
-  begins (suc m) at place closed r next ahead l outer b n s e f a =
+  begins zero at place closed r next ahead l outer b n s s1 e f a = absurd (omega (arith, f))
+  begins (suc m) at place closed r next ahead l outer b n s s1 e f a =
       ap (λ x. begin_as text options lookup (opens_at options at r x) (λ k. inside_or_tag (is_alert k) (container_begun k r p) (begin_in text options lookup m (place_in k) (enter k r) next (is_item k) (container_begun k r p))) r x b p) a
-      ∙ ap (λ o. begin_as text options lookup o (λ k. inside_or_tag (is_alert k) (container_begun k r p) (begin_in text options lookup m (place_in k) (enter k r) next (is_item k) (container_begun k r p))) r ahead b p) (at-same at place r ahead s)
+      ∙ ap (λ o. begin_as text options lookup o (λ k. inside_or_tag (is_alert k) (container_begun k r p) (begin_in text options lookup m (place_in k) (enter k r) next (is_item k) (container_begun k r p))) r ahead b p) (at-same options at place r ahead s s1)
       ∙ go (opens_at options place r ahead) refl (tells-at options place r ahead)
       (λ k o. let le : length (enter k r).columns < length r.columns = at-enter options place k r ahead o in
-      begins m (place_in k) (place_in k) NoBlocks (enter k r) next (within k false ahead) (entered k r c) (outer ++ container_at text options lookup k r c ∷ []) (is_item k) n refl (enter-lazy options k r ∙ e) (omega (arith, f, le))
+      begins m (place_in k) (place_in k) NoBlocks (enter k r) next (within k false ahead) (entered k r c) (outer ++ container_at text options lookup k r c ∷ []) (is_item k) n refl refl (enter-lazy options k r ∙ e) (omega (arith, f, le))
       (ahead-inside outer (container_at text options lookup k r c) next ∙ ap (within k false) a))
     where
       c : Level
@@ -286,22 +310,43 @@ module _ (text : List ℕ) (options : Options) (lookup : Lookup) where
       behind (LinkDefinition definition) = refl
       behind (MetadataBlock kind) = refl
       behind (Table alignments) = refl
-  not-task place (ContainerBlock k first more inside after) e = not-task (behind_container k) after refl
+  not-task place (ContainerBlock k first more inside after) e = not-task (behind_container k) after (behind k)
+    where
+      behind : (k : Container) → is_behind_task (behind_container k) ≡ false
+      behind (Quote alert) = refl
+      behind (Item mark number width task) = refl
+      behind (Footnote label old size) = refl
+      behind (ListDefinition width) = refl
+
+  not-task-with : (s : Siblings) → is_behind_task (place_of s) ≡ false
+  not-task-with s = go s.title (definitions_in s.list)
+    where
+      go : (t : Option Title) (o : Option OpenList) → is_behind_task (place_with t o) ≡ false
+      go (Some t) o = refl
+      go None (Some o) = refl
+      go None None = refl
+
+  -- a level with no siblings yet
+  abbrev pub IsFresh : Level → Type 0
+  IsFresh l = l.inner ≡ no_siblings
 
   -- at a place behind closed blocks
-  starts-at : (place : Place) (closed : Blocks) (r : Row) (next ahead : List Row) (l : Level) (outer : List OpenContainer) (n : ℕ) → is_behind_task place ≡ false → r.lazy ≡ false → ahead_in text options lookup outer next ≡ ahead
+  starts-at : (place : Place) (closed : Blocks) (r : Row) (next ahead : List Row) (l : Level) (outer : List OpenContainer) (n : ℕ) → is_behind_task place ≡ false → is_behind_title (place_of (replay text options lookup closed l).inner) ≡ is_behind_title place → r.lazy ≡ false → ahead_in text options lookup outer next ≡ ahead
       → begin text options lookup r next (pass_with (replay text options lookup closed l) outer false Closed n) ≡ pass_at text options lookup (lines_begin_at options place closed r ahead) ahead l outer false n
-  starts-at place closed r next ahead l outer n s e a = begins (suc (length r.columns)) Apart place closed r next ahead l outer false n (sym s) e (omega arith) a
+  starts-at place closed r next ahead l outer n s t e a =
+      begins (suc (length r.columns)) (place_of (replay text options lookup closed l).inner) place closed r next ahead l outer false n (not-task-with (replay text options lookup closed l).inner ∙ sym s) t e (omega arith) a
 
-  pub starts : (closed : Blocks) (r : Row) (next ahead : List Row) (l : Level) (outer : List OpenContainer) (n : ℕ) → r.lazy ≡ false → ahead_in text options lookup outer next ≡ ahead
+  pub starts : (closed : Blocks) (r : Row) (next ahead : List Row) (l : Level) (outer : List OpenContainer) (n : ℕ) → IsFresh l → Unmarked closed → r.lazy ≡ false → ahead_in text options lookup outer next ≡ ahead
       → begin text options lookup r next (pass_with (replay text options lookup closed l) outer false Closed n) ≡ pass_at text options lookup (lines_begin options closed r ahead) ahead l outer false n
   unfolding lines_begin
-  starts closed r next ahead l outer n e a = starts-at (place_behind Apart closed) closed r next ahead l outer n (not-task Apart closed refl) e a
+  starts closed r next ahead l outer n h u e a =
+      starts-at (place_behind Apart closed) closed r next ahead l outer n (not-task Apart closed refl)
+      (place-replay text options lookup closed Apart l u (subst (λ s. IsTidy s.title s.list) (sym h) tt) (ap (λ s. is_behind_title (place_of s)) h)) e a
 
   -- directly behind an alert's tag
-  pub starts-behind-tag : (r : Row) (next ahead : List Row) (l : Level) (outer : List OpenContainer) (n : ℕ) → r.lazy ≡ false → ahead_in text options lookup outer next ≡ ahead
+  pub starts-behind-tag : (r : Row) (next ahead : List Row) (l : Level) (outer : List OpenContainer) (n : ℕ) → IsFresh l → r.lazy ≡ false → ahead_in text options lookup outer next ≡ ahead
       → begin text options lookup r next (pass_with l outer false Closed n) ≡ pass_at text options lookup (lines_begin_at options BehindLazy NoBlocks r ahead) ahead l outer false n
-  starts-behind-tag r next ahead l outer n e a = starts-at BehindLazy NoBlocks r next ahead l outer n refl e a
+  starts-behind-tag r next ahead l outer n h e a = starts-at BehindLazy NoBlocks r next ahead l outer n refl (ap (λ s. is_behind_title (place_of s)) h) e a
 
   pub starts-fit-at : (place : Place) (closed : Blocks) (r : Row) (ahead : List Row) → r.lazy ≡ false → Fits false (lines_begin_at options place closed r ahead) ahead r.past
   starts-fit-at place closed r ahead e = begins-fit (suc (length r.columns)) place closed r ahead false r.past e (omega arith) (λ never. absurd (true≢false (sym never))) refl

@@ -15,7 +15,7 @@ use Rattle.cmark_grammar.specs.Metadata.{ends_metadata}
 use Rattle.cmark_block_model.specs.OpenBlocks.{OpenContainer, Closed}
 use Rattle.cmark_block_model.specs.BlockPass.{close_leaf, is_some, containers_closed, container_closed}
 use Rattle.cmark_block_model.proofs.CodeRuns.{run-tokens}
-use Rattle.cmark_block_model.proofs.Replay.{Level, begun, level_drawn, standing, entered, leaf_level, left_by, blank_level, replay, replay-join}
+use Rattle.cmark_block_model.proofs.Replay.{Level, begun, paragraph_begun, level_drawn, standing, entered, leaf_level, left_by, blank_level, replay, replay-join}
 use Rattle.cmark_block_model.proofs.Mirror.{last_of, last_begin, pass_with, leaf_left, AreBefore, FitsVerbatim, Fits, lines_drawn, drawn-tokens, verbatim_level, verbatim_leaf, inner_at, leaf_at, container_at, containers_at}
 
 pub take-none : (n : ℕ) → take {A = Row} n [] ≡ []
@@ -99,8 +99,8 @@ module _ (text : List ℕ) (options : Options) (lookup : Lookup) where
   leaf-closes BehindTag b n l outer bare f = refl
   leaf-closes (InParagraph closed first more) b n l outer bare f =
       let c = replay text options lookup closed l in
-      ap (λ p. pass_with (noded document.Paragraph (start_of first) p (join (lines_drawn text options lookup (start_of first) first more) (stretch_then text (last_begin (start_of first) first more) (words_end (last_of first more)) Nil)) (begun c)) outer bare Closed n) (sym f.1)
-      ∙ ap (λ t. pass_with (noded document.Paragraph (start_of first) (past_of first more) t (begun c)) outer bare Closed n) (sym (drawn-tokens text options lookup (start_of first) first more))
+      ap (λ p. pass_with (noded document.Paragraph (start_of first) p (join (lines_drawn text options lookup (start_of first) first more) (stretch_then text (last_begin (start_of first) first more) (words_end (last_of first more)) Nil)) (paragraph_begun c)) outer bare Closed n) (sym f.1)
+      ∙ ap (λ t. pass_with (noded document.Paragraph (start_of first) (past_of first more) t (paragraph_begun c)) outer bare Closed n) (sym (drawn-tokens text options lookup (start_of first) first more))
       ∙ ap (λ q. pass_with q outer bare Closed n) (sym (replay-join text options lookup closed (Paragraph first more NoBlocks) l))
   leaf-closes (InLeaf closed leaf first had left) b n l outer bare f =
       leaf-left leaf left (leaf_level text options lookup leaf first (had ++ take left []) (replay text options lookup closed l)) outer bare n

@@ -1,33 +1,45 @@
 -- The references of closed blocks are the definitions of their document.
-use Rattle.std.proofs.Common.{◌≡◌, ◌==◌, ℕ, Bool, true, false, List, length, [], ◌∷◌, ◌++◌, refl, ap, ◌∙◌, sym, append_assoc, append-nil, Option, Some, None}
+use Rattle.std.proofs.Common.{◌≡◌, ◌==◌, ℕ, Bool, true, false, List, length, [], ◌∷◌, ◌++◌, refl, ap, ◌∙◌, sym, append_assoc, append-nil, Option, Some, None, subst}
 use Rattle.cmark_grammar.specs.Options.{Options}
 use Rattle.cmark_grammar.specs.Answers.{Lookup}
 use Rattle.cmark_grammar.specs.Rows.{Row, past_of, begin_of, start_of}
-use Rattle.cmark_grammar.specs.Containers.{Quote, Item, Footnote}
+use Rattle.cmark_grammar.specs.Containers.{Quote, Item, Footnote, ListDefinition}
 use Rattle.cmark_grammar.specs.Openings.{Leaf, ThematicBreak, AtxHeading, IndentedCode, FencedCode, HtmlBlock, LinkDefinition, MetadataBlock, Table}
 use Rattle.cmark_grammar.specs.Blocks.{Blocks, Nil as NoBlocks, BlankLine, Paragraph, SetextHeading, LeafBlock, ContainerBlock}
-use Rattle.cmark_grammar.specs.Lists.{ListBefore, tight_behind, goes_on}
-use Rattle.cmark_grammar.specs.Tokens.{fenced_lines, lines_before}
-use Rattle.cmark_grammar.specs.Derivation.{paragraph_kind, leaf_then, item_then, document_of, reference_of, stop_of}
+use Rattle.cmark_grammar.specs.Lists.{ListBefore, tight_behind, goes_on, definition_mark, is_title, title_tight_behind}
+use Rattle.cmark_grammar.specs.Tokens.{fenced_lines, lines_before, paragraph_tokens}
+use Rattle.cmark_grammar.specs.Derivation.{paragraph_kind, leaf_then, item_then, document_of, reference_of, stop_of, list_kind}
 use Rattle.cmark_grammar.specs.BlockDocument as document
-use Rattle.cmark_grammar.specs.BlockDocument.{Reference, BlockDocument, Node, node}
-use Rattle.cmark_grammar.specs.References.{references}
+use Rattle.cmark_grammar.specs.BlockDocument.{Reference, BlockDocument, Node, node, BlockKind}
+use Rattle.cmark_grammar.specs.References.{references, reference_of_kind}
 use Rattle.cmark_grammar.specs.Metadata.{ends_metadata}
-use Rattle.cmark_block_model.specs.OpenBlocks.{OpenList}
+use Rattle.cmark_block_model.specs.OpenBlocks.{OpenList, Title}
 use Rattle.cmark_block_model.proofs.PlainTokens.{IsPlain, paragraph_plain, heading_plain, code_plain, table_plain, html_tokens_plain}
 use Rattle.cmark_block_model.proofs.Split.{Split, split}
 use Rattle.cmark_block_model.proofs.Settles.{Joins, settles}
-use Rattle.cmark_block_model.proofs.Replay.{Noted, Level, marked, standing, entered, left_by, item_if, item_level, leaf_noted, leaf_level, paragraph_level, heading_level, blank_level, replay}
+use Rattle.cmark_block_model.proofs.Replay.{Noted, Level, marked, standing, entered, left_by, item_if, item_level, leaf_noted, leaf_level, paragraph_level, heading_level, blank_level, replay, title_level, definition_level}
+use Rattle.std.specs.Prelude.{if◌then◌else◌}
+use Rattle.cmark_grammar.proofs.TightLaws.{title_goes_on}
 
 paragraph-references : (direct : Bool) (start end : ℕ) (t d : BlockDocument) → IsPlain t → references (Node (node (paragraph_kind direct) start end) t d) ≡ references d
 paragraph-references true start end t d h = ap (λ r. r ++ references d) h.defines
 paragraph-references false start end t d h = ap (λ r. r ++ references d) h.defines
 
-item-references : (joins direct tight : Bool) (number : Option ℕ) (start past : ℕ) (inner : BlockDocument) (s : Split) (d : BlockDocument) → Joins joins direct tight s d → references (item_then joins number tight (node document.ListItem start past) inner d) ≡ (references inner ++ references d)
-item-references false direct tight number start past inner s d j = ap (λ r. r ++ references d) (append-nil (references inner))
-item-references true direct tight number start past inner s d j =
-    ap (λ x. references (item_then true number tight (node document.ListItem start past) inner x)) j.is
-    ∙ append_assoc (references inner) (references j.items) (references j.after) ∙ ap (λ x. references inner ++ references x) (sym j.is)
+-- a list of any kind is none
+list-silent : (mark : ℕ) (number : Option ℕ) (tight : Bool) → reference_of_kind (list_kind mark number tight) ≡ []
+list-silent mark number tight = go (mark == definition_mark)
+  where
+    go : (z : Bool) → reference_of_kind (if z then document.DefinitionList tight else document.BlockList number tight) ≡ []
+    go true = refl
+    go false = refl
+
+item-references : (joins direct tight : Bool) (list kind : BlockKind) (start past : ℕ) (inner : BlockDocument) (s : Split) (d : BlockDocument) → reference_of_kind list ≡ [] → reference_of_kind kind ≡ [] → Joins joins direct tight s d → references (item_then joins list (node kind start past) inner d) ≡ (references inner ++ references d)
+item-references false direct tight list kind start past inner s d l k j =
+    ap (λ a. a ++ ((reference_of_kind kind ++ (references inner ++ [])) ++ references d)) l ∙ ap (λ a. (a ++ (references inner ++ [])) ++ references d) k ∙ ap (λ r. r ++ references d) (append-nil (references inner))
+item-references true direct tight list kind start past inner s d l k j =
+    ap (λ x. references (item_then true list (node kind start past) inner x)) j.is
+    ∙ ap (λ a. a ++ ((reference_of_kind kind ++ (references inner ++ references j.items)) ++ references j.after)) l ∙ ap (λ a. (a ++ (references inner ++ references j.items)) ++ references j.after) k
+    ∙ append_assoc (references inner) (references j.items) (references j.after) ∙ ap (λ a. references inner ++ (a ++ (references j.items ++ references j.after))) (sym j.silent) ∙ ap (λ x. references inner ++ references x) (sym j.is)
 
 marked-references : (task : Option Bool) (width : ℕ) (first : Row) (d : BlockDocument) → references d ≡ references (marked task width first d)
 marked-references None width first d = refl
@@ -40,6 +52,15 @@ item-keeps mark number start l (Some o) = go (o.mark == mark)
     go : (z : Bool) → (item_if z mark number start o l).noted.references ≡ l.noted.references
     go true = refl
     go false = refl
+
+-- a definition changes none of them
+definition-keeps : (o : Option Title) (start : ℕ) (l : Level) → (definition_level o start l).noted.references ≡ l.noted.references
+definition-keeps None start l = item-keeps definition_mark None start l l.inner.list
+definition-keeps (Some t) start l = go t.list
+  where
+    go : (o : Option OpenList) → (title_level o t.parted start l).noted.references ≡ l.noted.references
+    go None = refl
+    go (Some o) = refl
 
 module _ (text : List ℕ) (options : Options) (lookup : Lookup) where
   leaf-references : (leaf : Leaf) (first : Row) (more : List Row) (n : Noted) (d : BlockDocument) → ((leaf_noted text options lookup leaf first more n).references ++ references d) ≡ (n.references ++ references (leaf_then text options lookup leaf first more d))
@@ -55,9 +76,22 @@ module _ (text : List ℕ) (options : Options) (lookup : Lookup) where
   pub defines : (b : Blocks) (direct : Bool) (before : Option ListBefore) (l : Level) → (replay text options lookup b l).noted.references ≡ (l.noted.references ++ references (document_of text options lookup direct before b))
   defines NoBlocks direct before l = sym (append-nil l.noted.references)
   defines (BlankLine line after) direct before l = defines after direct before (blank_level l)
-  defines (Paragraph first more after) direct before l =
-      defines after direct None (paragraph_level text options lookup first more l)
-      ∙ ap (λ r. l.noted.references ++ r) (sym (paragraph-references direct (start_of first) (past_of first more) _ (document_of text options lookup direct None after) (paragraph_plain text first more)))
+  defines (Paragraph first more after) direct before l = go (is_title after) refl (λ b. defines after direct b (paragraph_level text options lookup first more l))
+    where
+      tight : Bool
+      tight = title_tight_behind before after
+
+      go : (z : Bool) → is_title after ≡ z → ((b : Option ListBefore) → (replay text options lookup (Paragraph first more after) l).noted.references ≡ (l.noted.references ++ references (document_of text options lookup direct b after)))
+          → (replay text options lookup (Paragraph first more after) l).noted.references ≡ (l.noted.references ++ references (if z then item_then true (document.DefinitionList tight) (node document.DefinitionListTitle (start_of first) (past_of first more)) (paragraph_tokens text first more) (document_of text options lookup direct (Some (record { mark = definition_mark; tight = tight })) after)
+          else Node (node (paragraph_kind direct) (start_of first) (past_of first more)) (paragraph_tokens text first more) (document_of text options lookup direct None after)))
+      go true e h =
+          let d = document_of text options lookup direct (Some (record { mark = definition_mark; tight = tight })) after in
+          h (Some (record { mark = definition_mark; tight = tight }))
+          ∙ ap (λ r. l.noted.references ++ (r ++ references d)) (sym (paragraph_plain text first more).defines)
+          ∙ ap (λ r. l.noted.references ++ r) (sym (item-references true direct tight (document.DefinitionList tight) document.DefinitionListTitle (start_of first) (past_of first more) (paragraph_tokens text first more) (split text options lookup (Some definition_mark) after) d refl refl
+          (subst (λ z. Joins z direct tight (split text options lookup (Some definition_mark) after) d) (title_goes_on text options lookup after e) (settles text options lookup after direct (Some (record { mark = definition_mark; tight = tight }))))))
+      go false e h =
+          h None ∙ ap (λ r. l.noted.references ++ r) (sym (paragraph-references direct (start_of first) (past_of first more) _ (document_of text options lookup direct None after) (paragraph_plain text first more)))
   defines (SetextHeading level first more underline after) direct before l =
       defines after direct None (heading_level text options lookup level first more underline l)
       ∙ ap (λ r. l.noted.references ++ (r ++ references (document_of text options lookup direct None after))) (sym (paragraph_plain text first more).defines)
@@ -80,4 +114,13 @@ module _ (text : List ℕ) (options : Options) (lookup : Lookup) where
       defines after direct (Some (record { mark = mark; tight = t })) (left_by k (standing k first l).inner (past_of first more) (replay text options lookup inside (entered k first l)))
       ∙ ap (λ r. r ++ references d) (defines inside t None (entered k first l) ∙ ap (λ r. (entered k first l).noted.references ++ r) (marked-references task width first j) ∙ ap (λ r. r ++ references i) (item-keeps mark number (begin_of first) l l.inner.list))
       ∙ append_assoc l.noted.references (references i) (references d)
-      ∙ ap (λ r. l.noted.references ++ r) (sym (item-references (goes_on mark after) direct t number (begin_of first) (past_of first more) i (split text options lookup (Some mark) after) d (settles text options lookup after direct (Some (record { mark = mark; tight = t })))))
+      ∙ ap (λ r. l.noted.references ++ r) (sym (item-references (goes_on mark after) direct t (list_kind mark number t) document.ListItem (begin_of first) (past_of first more) i (split text options lookup (Some mark) after) d (list-silent mark number t) refl (settles text options lookup after direct (Some (record { mark = mark; tight = t })))))
+  defines (ContainerBlock (ListDefinition width) first more inside after) direct before l =
+      let k = ListDefinition width in
+      let t = tight_behind before definition_mark inside after in
+      let d = document_of text options lookup direct (Some (record { mark = definition_mark; tight = t })) after in
+      let j = document_of text options lookup t None inside in
+      defines after direct (Some (record { mark = definition_mark; tight = t })) (left_by k (standing k first l).inner (past_of first more) (replay text options lookup inside (entered k first l)))
+      ∙ ap (λ r. r ++ references d) (defines inside t None (entered k first l) ∙ ap (λ r. r ++ references j) (definition-keeps l.inner.title (begin_of first) l))
+      ∙ append_assoc l.noted.references (references j) (references d)
+      ∙ ap (λ r. l.noted.references ++ r) (sym (item-references (goes_on definition_mark after) direct t (document.DefinitionList t) document.DefinitionListDefinition (begin_of first) (past_of first more) j (split text options lookup (Some definition_mark) after) d refl refl (settles text options lookup after direct (Some (record { mark = definition_mark; tight = t })))))

@@ -1,12 +1,12 @@
 -- What is drawn is read as the document is, and its ranges lie as those of the document do.
-use Rattle.std.proofs.Common.{◌≡◌, ℕ, ◌+◌, ◌*◌, ◌≤◌, Bool, true, false, List, [], ◌∷◌, ◌++◌, length, refl, ap, ◌∙◌, sym, subst, arith, length-append}
+use Rattle.std.proofs.Common.{◌≡◌, ℕ, ◌+◌, ◌*◌, ◌≤◌, Bool, true, false, List, [], ◌∷◌, ◌++◌, length, refl, ap, ◌∙◌, sym, subst, arith, length-append, zero, suc}
 use Rattle.std.specs.Str.{IsCharBoundary, IsUtf8}
 use Rattle.cmark_grammar.specs.Answers.{Lookup}
 use Rattle.cmark_grammar.specs.Options.{Options}
 use Rattle.cmark_grammar.specs.Event.{End, Ranged}
 use Rattle.cmark_grammar.specs.TagEnd.{end_of}
-use Rattle.cmark_grammar.specs.BlockDocument.{BlockKind, Paragraph, TightParagraph, Heading, ThematicBreak, IndentedCode, FencedCode, HtmlBlock, LinkDefinition, MetadataBlock, BlockQuote, BlockList, ListItem, TaskMarker, FootnoteDefinition, Text, OwnedText, Html, BlockNode, BlockDocument, Nil, Node, Table, TableHead, TableRow, TableCell}
-use Rattle.cmark_grammar.specs.BlockReading.{Reads, Around, Inside, Alone, First, Silent, read_as, over, node_events, is_leaf, begins_as, begins_element, first_event, first_in, with_first, block_reading}
+use Rattle.cmark_grammar.specs.BlockDocument.{BlockKind, Paragraph, TightParagraph, Heading, ThematicBreak, IndentedCode, FencedCode, HtmlBlock, LinkDefinition, MetadataBlock, BlockQuote, BlockList, ListItem, TaskMarker, FootnoteDefinition, DefinitionList, DefinitionListTitle, DefinitionListDefinition, Text, OwnedText, Html, BlockNode, BlockDocument, Nil, Node, Table, TableHead, TableRow, TableCell}
+use Rattle.cmark_grammar.specs.BlockReading.{Reads, Around, Inside, Alone, First, Silent, read_as, over, node_events, starts_of, starts_as, starts_before, first_event, first_in, with_first, block_reading, is_title, title_as, begins_title}
 use Rattle.cmark_grammar.specs.Derivation.{Derives, document}
 use Rattle.cmark_grammar.specs.DrawnDocument.{is_definition, node_unless, settled, without_definitions}
 use Rattle.cmark_grammar.specs.Tightness.{tight_within}
@@ -37,6 +37,9 @@ silent TableRow e = absurd (let q : false ≡ true = e in cc)
 silent TableCell e = absurd (let q : false ≡ true = e in cc)
 silent (BlockQuote alert) e = absurd (let q : false ≡ true = e in cc)
 silent (FootnoteDefinition label) e = absurd (let q : false ≡ true = e in cc)
+silent (DefinitionList tight) e = absurd (let q : false ≡ true = e in cc)
+silent DefinitionListTitle e = absurd (let q : false ≡ true = e in cc)
+silent DefinitionListDefinition e = absurd (let q : false ≡ true = e in cc)
 silent (BlockList number tight) e = absurd (let q : false ≡ true = e in cc)
 silent (TaskMarker is_checked) e = absurd (let q : false ≡ true = e in cc)
 silent ListItem e = absurd (let q : false ≡ true = e in cc)
@@ -44,15 +47,27 @@ silent (Text bytes) e = absurd (let q : false ≡ true = e in cc)
 silent (OwnedText bytes) e = absurd (let q : false ≡ true = e in cc)
 silent (Html bytes) e = absurd (let q : false ≡ true = e in cc)
 
--- so an element begins behind definitions where one begins without them
-pub whole-begins : (d : BlockDocument) → begins_element (without_definitions d) ≡ begins_element d
+-- so a title is first behind definitions where it is first without them
+whole-titled : (d : BlockDocument) → begins_title (without_definitions d) ≡ begins_title d
+whole-titled Nil = refl
+whole-titled (Node n inside after) = go (is_definition n.kind) refl (whole-titled after)
+  where
+    go : (b : Bool) → is_definition n.kind ≡ b → begins_title (without_definitions after) ≡ begins_title after
+        → begins_title (node_unless b n (without_definitions inside) (without_definitions after)) ≡ title_as (is_title n.kind) (read_as n.kind) (begins_title after)
+    go true e a = a ∙ ap (λ r. title_as (is_title n.kind) r (begins_title after)) (sym (silent n.kind e))
+    go false e a = ap (title_as (is_title n.kind) (read_as n.kind)) a
+
+-- and as many starts stand in front
+pub whole-begins : (d : BlockDocument) → starts_before (without_definitions d) ≡ starts_before d
 whole-begins Nil = refl
 whole-begins (Node n inside after) = go (is_definition n.kind) refl (whole-begins after)
   where
-    go : (b : Bool) → is_definition n.kind ≡ b → begins_element (without_definitions after) ≡ begins_element after
-        → begins_element (node_unless b n (without_definitions inside) (without_definitions after)) ≡ begins_as (is_leaf n.kind) (read_as n.kind) (begins_element after)
-    go true e a = a ∙ ap (λ r. begins_as (is_leaf n.kind) r (begins_element after)) (sym (silent n.kind e))
-    go false e a = ap (begins_as (is_leaf n.kind) (read_as n.kind)) a
+    go : (b : Bool) → is_definition n.kind ≡ b → starts_before (without_definitions after) ≡ starts_before after
+        → starts_before (node_unless b n (without_definitions inside) (without_definitions after)) ≡ starts_as (starts_of n.kind (begins_title inside)) (read_as n.kind) (starts_before after)
+    go true e a = a ∙ ap (λ r. starts_as (starts_of n.kind (begins_title inside)) r (starts_before after)) (sym (silent n.kind e))
+    go false e a =
+        ap (λ z. starts_as (starts_of n.kind z) (read_as n.kind) (starts_before (without_definitions after))) (whole-titled inside)
+        ∙ ap (starts_as (starts_of n.kind (begins_title inside)) (read_as n.kind)) a
 
 -- and a document without its definitions is read as the document is
 pub whole-read : (d : BlockDocument) → block_reading (without_definitions d) ≡ block_reading d
@@ -60,12 +75,12 @@ whole-read Nil = refl
 whole-read (Node n inside after) = go (is_definition n.kind) refl (whole-read inside) (whole-read after)
   where
     go : (b : Bool) → is_definition n.kind ≡ b → block_reading (without_definitions inside) ≡ block_reading inside → block_reading (without_definitions after) ≡ block_reading after
-        → block_reading (node_unless b n (without_definitions inside) (without_definitions after)) ≡ with_first (first_event (read_as n.kind)) (begins_element after) n (node_events (read_as n.kind) n (block_reading inside) ++ block_reading after)
-    go true e i a = a ∙ ap (λ r. with_first (first_event r) (begins_element after) n (node_events r n (block_reading inside) ++ block_reading after)) (sym (silent n.kind e))
+        → block_reading (node_unless b n (without_definitions inside) (without_definitions after)) ≡ with_first (first_event (read_as n.kind)) (starts_before after) n (node_events (read_as n.kind) n (block_reading inside) ++ block_reading after)
+    go true e i a = a ∙ ap (λ r. with_first (first_event r) (starts_before after) n (node_events r n (block_reading inside) ++ block_reading after)) (sym (silent n.kind e))
     go false e i a =
         ap (λ z. with_first (first_event (read_as n.kind)) z n (node_events (read_as n.kind) n (block_reading (without_definitions inside)) ++ block_reading (without_definitions after))) (whole-begins after)
-        ∙ ap (λ l. with_first (first_event (read_as n.kind)) (begins_element after) n (node_events (read_as n.kind) n l ++ block_reading (without_definitions after))) i
-        ∙ ap (λ l. with_first (first_event (read_as n.kind)) (begins_element after) n (node_events (read_as n.kind) n (block_reading inside) ++ l)) a
+        ∙ ap (λ l. with_first (first_event (read_as n.kind)) (starts_before after) n (node_events (read_as n.kind) n l ++ block_reading (without_definitions after))) i
+        ∙ ap (λ l. with_first (first_event (read_as n.kind)) (starts_before after) n (node_events (read_as n.kind) n (block_reading inside) ++ l)) a
 
 order-le : (from : ℕ) (d : BlockDocument) (to : ℕ) → InOrder from d to → from ≤ to
 order-le from Nil to h = h
@@ -106,12 +121,12 @@ node-few (First event) n l = omega arith
 node-few Silent n l = omega arith
 
 -- a further one stands first in what is behind it
-first-few : (element : Bool) (e : Ranged) (others : List Ranged) → length (first_in element e others) ≤ 1 + length others
-first-few true e [] = omega arith
-first-few true e (r ∷ others) = omega arith
-first-few false e others = omega arith
+first-few : (starts : ℕ) (e : Ranged) (others : List Ranged) → length (first_in starts e others) ≤ 1 + length others
+first-few zero e others = omega arith
+first-few (suc starts) e [] = omega arith
+first-few (suc starts) e (r ∷ others) = let f = first-few starts e others in omega (arith, f)
 
-with-few : (r : Reads) (element : Bool) (n : BlockNode) (l others : List Ranged) → length (with_first (first_event r) element n (node_events r n l ++ others)) ≤ 2 + (length l + length others)
+with-few : (r : Reads) (element : ℕ) (n : BlockNode) (l others : List Ranged) → length (with_first (first_event r) element n (node_events r n l ++ others)) ≤ 2 + (length l + length others)
 with-few (Around tag) element n l others = let e = length-append (node_events (Around tag) n l) others in let f = node-few (Around tag) n l in omega (arith, e, f)
 with-few Inside element n l others = let e = length-append l others in omega (arith, e)
 with-few (Alone event) element n l others = omega arith
@@ -121,7 +136,7 @@ with-few Silent element n l others = omega arith
 read-few : (d : BlockDocument) → length (block_reading d) ≤ 2 * count_nodes d
 read-few Nil = omega arith
 read-few (Node n inside after) =
-    let f = with-few (read_as n.kind) (begins_element after) n (block_reading inside) (block_reading after) in
+    let f = with-few (read_as n.kind) (starts_before after) n (block_reading inside) (block_reading after) in
     let i = read-few inside in
     let a = read-few after in
     omega (arith, f, i, a)

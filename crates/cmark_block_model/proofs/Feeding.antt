@@ -14,10 +14,11 @@ use Rattle.cmark_grammar.specs.BlockDocument as document
 use Rattle.cmark_grammar.specs.BlockDocument.{BlockDocument, Nil, join}
 use Rattle.cmark_block_model.specs.OpenBlocks.{OpenContainer, OpenLeaf, Closed, InParagraph as InParagraphLeaf, InDefinition, InTable, Pass}
 use Rattle.cmark_block_model.specs.BlockPass.{ahead_in, begin, leaf_closed, leaf_fed, underlined_or, heading_made, paragraph_line}
-use Rattle.cmark_block_model.proofs.Replay.{Level, begun, level_opened, level_drawn, leaf_level, replay, replay-join}
+use Rattle.cmark_block_model.proofs.Replay.{Level, paragraph_begun, untitled, level_opened, level_drawn, leaf_level, replay, replay-join}
 use Rattle.cmark_block_model.proofs.Mirror.{whole, whole-same, last_of, last_push, last_begin, begin_push, pass_with, leaf_left, is_looked_up, Fits, lines_drawn, drawn-tokens, one_more, drawn-push, paragraph_open, paragraph_leaf, inner_at, leaf_at, pass_at}
 use Rattle.cmark_block_model.proofs.Closing.{noded, leaf-closes}
-use Rattle.cmark_block_model.proofs.Beginning.{starts}
+use Rattle.cmark_block_model.proofs.Beginning.{IsFresh, starts}
+use Rattle.cmark_block_model.proofs.Marks.{Unmarked, unmarked-join}
 
 module _ (text : List ℕ) (options : Options) (lookup : Lookup) where
   -- a paragraph goes on
@@ -41,17 +42,17 @@ module _ (text : List ℕ) (options : Options) (lookup : Lookup) where
       before = lines_drawn text options lookup (start_of first) first more
 
       goes : BlockDocument → ℕ → Row → Pass
-      goes d at x = pass_with (level_drawn d (level_opened (start_of first) document.Paragraph (begun l))) outer false (InParagraphLeaf at (whole x)) n
+      goes d at x = pass_with (level_drawn d (level_opened (start_of first) document.Paragraph (paragraph_begun l))) outer false (InParagraphLeaf at (whole x)) n
 
       go : (z : Bool) → (if z then goes before from s else goes (join before (stretch_then text from past Nil)) (begin_of s) s) ≡ goes (one_more text options lookup z from past before) (if z then from else begin_of s) s
       go true = refl
       go false = refl
 
   pub paragraph-feeds : (closed : Blocks) (first : Row) (more : List Row) (r : Row) (next ahead : List Row) (l : Level) (outer : List OpenContainer) (b : Bool) (n : ℕ) → r.lazy ≡ false → ahead_in text options lookup outer next ≡ ahead
-      → Fits b (InParagraph closed first more) (r ∷ ahead) n
+      → IsFresh text options lookup l → Unmarked closed → Fits b (InParagraph closed first more) (r ∷ ahead) n
       → leaf_fed text options lookup (leaf_at text options lookup (InParagraph closed first more)) r next (pass_with (inner_at text options lookup (InParagraph closed first more) (r ∷ ahead) l) outer false (leaf_at text options lookup (InParagraph closed first more)) n)
       ≡ pass_at text options lookup (lines_feed options (InParagraph closed first more) r ahead) ahead l outer false n
-  paragraph-feeds closed first more r next ahead l outer b n e a f = go (underlines r)
+  paragraph-feeds closed first more r next ahead l outer b n e a h u f = go (underlines r)
     where
       c : Level
       c = replay text options lookup closed l
@@ -70,12 +71,12 @@ module _ (text : List ℕ) (options : Options) (lookup : Lookup) where
       text-goes true = paragraph-goes first more r r c outer (paragraph_leaf text options lookup first more) n (whole-same r e) ∙ end outer (paragraph_open text options lookup first (more ++ r ∷ []) c) (paragraph_leaf text options lookup first (more ++ r ∷ []))
       text-goes false =
           ap (begin text options lookup r next) (leaf-closes text options lookup (InParagraph closed first more) b n l outer false f)
-          ∙ starts text options lookup (join_blocks closed (Paragraph first more NoBlocks)) r next ahead l outer n e a
+          ∙ starts text options lookup (join_blocks closed (Paragraph first more NoBlocks)) r next ahead l outer n h (unmarked-join closed (Paragraph first more NoBlocks) u tt) e a
 
       go : (u : Option ℕ) → underlined_or text options lookup u (λ level. heading_made text options lookup level from (whole (last_of first more)) r p) (if texts options r (ahead_in text options lookup outer next) then paragraph_line text options lookup from (whole (last_of first more)) r p else begin text options lookup r next (leaf_closed text options lookup p))
           ≡ pass_at text options lookup (lines_underline_or u (λ level. Between (join_blocks closed (SetextHeading level first more r NoBlocks))) (lines_go_on_or (texts options r ahead) (InParagraph closed first (more ++ r ∷ [])) (lines_begin options (join_blocks closed (Paragraph first more NoBlocks)) r ahead))) ahead l outer false n
       go (Some level) =
-          ap (λ t. pass_with (noded text options lookup (document.Heading level no_attributes) (start_of first) r.past t (begun c)) outer false Closed n) (sym (drawn-tokens text options lookup (start_of first) first more))
+          ap (λ t. pass_with (untitled (noded text options lookup (document.Heading level no_attributes) (start_of first) r.past t (paragraph_begun c))) outer false Closed n) (sym (drawn-tokens text options lookup (start_of first) first more))
           ∙ ap (λ q. pass_with q outer false Closed n) (sym (replay-join text options lookup closed (SetextHeading level first more r NoBlocks) l))
           ∙ end outer (replay text options lookup (join_blocks closed (SetextHeading level first more r NoBlocks)) l) Closed
       go None =
@@ -83,14 +84,14 @@ module _ (text : List ℕ) (options : Options) (lookup : Lookup) where
           ∙ text-goes (texts options r ahead)
 
   pub leaf-feeds : (closed : Blocks) (leaf : Leaf) (first : Row) (had : List Row) (left : ℕ) (r : Row) (next ahead : List Row) (l : Level) (outer : List OpenContainer) (b : Bool) (n : ℕ) → r.lazy ≡ false → ahead_in text options lookup outer next ≡ ahead
-      → Fits b (InLeaf closed leaf first had left) (r ∷ ahead) n
+      → IsFresh text options lookup l → Unmarked closed → Fits b (InLeaf closed leaf first had left) (r ∷ ahead) n
       → leaf_fed text options lookup (leaf_left leaf left) r next (pass_with (inner_at text options lookup (InLeaf closed leaf first had left) (r ∷ ahead) l) outer false (leaf_left leaf left) n)
       ≡ pass_at text options lookup (lines_feed options (InLeaf closed leaf first had left) r ahead) ahead l outer false n
-  leaf-feeds closed leaf first had zero r next ahead l outer b n e a f =
+  leaf-feeds closed leaf first had zero r next ahead l outer b n e a h u f =
       done leaf (leaf_level text options lookup leaf first (had ++ []) (replay text options lookup closed l))
       ∙ ap (λ h. begin text options lookup r next (pass_with (leaf_level text options lookup leaf first h (replay text options lookup closed l)) outer false Closed n)) (append-nil had)
       ∙ ap (λ q. begin text options lookup r next (pass_with q outer false Closed n)) (sym (replay-join text options lookup closed (LeafBlock leaf first had NoBlocks) l))
-      ∙ starts text options lookup (join_blocks closed (LeafBlock leaf first had NoBlocks)) r next ahead l outer n e a
+      ∙ starts text options lookup (join_blocks closed (LeafBlock leaf first had NoBlocks)) r next ahead l outer n h (unmarked-join closed (LeafBlock leaf first had NoBlocks) u tt) e a
     where
       done : (leaf : Leaf) (q : Level) → leaf_fed text options lookup (leaf_left leaf zero) r next (pass_with q outer false (leaf_left leaf zero) n) ≡ begin text options lookup r next (pass_with q outer false Closed n)
       done ThematicBreak q = refl
@@ -101,7 +102,7 @@ module _ (text : List ℕ) (options : Options) (lookup : Lookup) where
       done (LinkDefinition definition) q = refl
       done (MetadataBlock kind) q = refl
       done (Table alignments) q = refl
-  leaf-feeds closed leaf first had (suc left) r next ahead l outer b n e a f = go leaf f.2
+  leaf-feeds closed leaf first had (suc left) r next ahead l outer b n e a h u f = go leaf f.2
     where
       none : {A : Type 0} → suc left ≡ 0 → A
       none q = absurd (omega (arith, q))

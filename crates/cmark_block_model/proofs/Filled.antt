@@ -5,7 +5,7 @@ use Rattle.std.proofs.lemmas.List.Sums.{take_while-cons}
 use Rattle.cmark_grammar.specs.Options.{Options}
 use Rattle.cmark_grammar.specs.Columns.{Column, is_blank, indent, without_indent}
 use Rattle.cmark_grammar.specs.Rows.{Row, rows, shown, is_bare, is_blank_line, indent_of, without}
-use Rattle.cmark_grammar.specs.Containers.{Container, Quote, Item, Footnote, enter, keeps, strip, strip_as, strips, is_bare_start, insides}
+use Rattle.cmark_grammar.specs.Containers.{Container, Quote, Item, Footnote, ListDefinition, enter, keeps, strip, strip_as, strips, is_bare_start, insides}
 use Rattle.cmark_grammar.specs.Openings.{opens_at, Blank}
 use Rattle.cmark_grammar.specs.Blocks.{Blocks, Nil, BlankLine, Paragraph, SetextHeading, LeafBlock, ContainerBlock, behind_leaf, place_in, Body}
 use Rattle.cmark_grammar.specs.Places.{Place, Apart, BehindTitle, over_blank}
@@ -25,51 +25,56 @@ still-blank (suc n) (d ∷ cs) le e =
     go true f ih = ih (omega (arith, f))
     go false f ih = absurd (omega (arith, f))
 
-two-blanks : (mark : ℕ) (number : Option ℕ) (width : ℕ) (task : Option Bool) (r : Row) → (strip (Item mark number width task) true r).lazy ≡ false → is_blank_line (strip (Item mark number width task) true r) ≡ true → ⊥
+wide-blanks : (width : ℕ) (r : Row) (a b : Bool) → is_blank_line r ≡ b → (c : Bool) → nat_le width (indent_of r) ≡ c
+    → (strip_as (if a || (true && b) then None else if b || c then Some (without width r) else None) r).lazy ≡ false
+    → is_blank_line (strip_as (if a || (true && b) then None else if b || c then Some (without width r) else None) r) ≡ true → ⊥
+wide-blanks width r true b e c f l h = true≢false l
+wide-blanks width r false true e c f l h = true≢false l
+wide-blanks width r false false e false f l h = true≢false l
+wide-blanks width r false false e true f l h = let le : width ≤ indent_of r = grind (arith) in true≢false (sym (still-blank width r.columns le h) ∙ e)
+
+-- behind a blank first line no blank line goes on
+abbrev pub EndsBare : Container → Type 0
+EndsBare k = (r : Row) → (strip k true r).lazy ≡ false → is_blank_line (strip k true r) ≡ true → ⊥
+
+item-bare : (mark : ℕ) (number : Option ℕ) (width : ℕ) (task : Option Bool) → EndsBare (Item mark number width task)
 unfolding keeps
-two-blanks mark number width task r = go r.lazy (is_blank_line r) refl (nat_le width (indent_of r)) refl
-  where
-    go : (a b : Bool) → is_blank_line r ≡ b → (c : Bool) → nat_le width (indent_of r) ≡ c
-        → (strip_as (if a || (true && b) then None else if b || c then Some (without width r) else None) r).lazy ≡ false
-        → is_blank_line (strip_as (if a || (true && b) then None else if b || c then Some (without width r) else None) r) ≡ true → ⊥
-    go true b e c f l h = true≢false l
-    go false true e c f l h = true≢false l
-    go false false e false f l h = true≢false l
-    go false false e true f l h = let le : width ≤ indent_of r = grind (arith) in true≢false (sym (still-blank width r.columns le h) ∙ e)
+item-bare mark number width task r = wide-blanks width r r.lazy (is_blank_line r) refl (nat_le width (indent_of r)) refl
+
+definition-bare : (width : ℕ) → EndsBare (ListDefinition width)
+unfolding keeps
+definition-bare width r = wide-blanks width r r.lazy (is_blank_line r) refl (nat_le width (indent_of r)) refl
 
 module _ (options : Options) where
   blank-tells : (place : Place) (r : Row) (ahead : List Row) → opens_at options place r ahead ≡ Blank → (r.lazy ≡ false) × (is_blank_line r ≡ true)
   blank-tells place r ahead e = subst (Tells r) e (tells-at options place r ahead)
 
-  nearly : (place : Place) (mark : ℕ) (number : Option ℕ) (width : ℕ) (task : Option Bool) (first : Row) (more : List Row) (inside : Blocks) → Body options place (insides (Item mark number width task) first more) inside → IsNearlyFilled inside
-  nearly place mark number width task first more Nil h = tt
-  nearly place mark number width task first more (Paragraph a b c) h = tt
-  nearly place mark number width task first more (SetextHeading l a b u c) h = tt
-  nearly place mark number width task first more (LeafBlock l a b c) h = tt
-  nearly place mark number width task first more (ContainerBlock k a b i c) h = tt
-  nearly place mark number width task first more (BlankLine line Nil) h = tt
-  nearly place mark number width task first more (BlankLine line (Paragraph a b c)) h = tt
-  nearly place mark number width task first more (BlankLine line (SetextHeading l a b u c)) h = tt
-  nearly place mark number width task first more (BlankLine line (LeafBlock l a b c)) h = tt
-  nearly place mark number width task first more (BlankLine line (ContainerBlock k a b i c)) h = tt
-  nearly place mark number width task first more (BlankLine line (BlankLine other after)) h = go more h.rest (rest-is h.cut) (line-is h.cut) h.after
+  nearly : (place : Place) (k : Container) (first : Row) (more : List Row) (inside : Blocks) → EndsBare k → insides k first more ≡ enter k first ∷ strips k (is_bare_start k first) more → is_bare_start k first ≡ is_blank_line (enter k first) → Body options place (insides k first more) inside → IsNearlyFilled inside
+  nearly place k first more Nil bare all begins h = tt
+  nearly place k first more (Paragraph a b c) bare all begins h = tt
+  nearly place k first more (SetextHeading l a b u c) bare all begins h = tt
+  nearly place k first more (LeafBlock l a b c) bare all begins h = tt
+  nearly place k first more (ContainerBlock j a b i c) bare all begins h = tt
+  nearly place k first more (BlankLine line Nil) bare all begins h = tt
+  nearly place k first more (BlankLine line (Paragraph a b c)) bare all begins h = tt
+  nearly place k first more (BlankLine line (SetextHeading l a b u c)) bare all begins h = tt
+  nearly place k first more (BlankLine line (LeafBlock l a b c)) bare all begins h = tt
+  nearly place k first more (BlankLine line (ContainerBlock j a b i c)) bare all begins h = tt
+  nearly place k first more (BlankLine line (BlankLine other after)) bare all begins h = go more h.rest (rest-is h.cut) (line-is h.cut) h.after
     where
-      k : Container
-      k = Item mark number width task
-
       rest-is : insides k first more ≡ line ∷ h.rest → strips k (is_bare_start k first) more ≡ h.rest
-      rest-is e = cc
+      rest-is e = let q : enter k first ∷ strips k (is_bare_start k first) more ≡ line ∷ h.rest = sym all ∙ e in cc
 
       line-is : insides k first more ≡ line ∷ h.rest → enter k first ≡ line
-      line-is e = cc
+      line-is e = let q : enter k first ∷ strips k (is_bare_start k first) more ≡ line ∷ h.rest = sym all ∙ e in cc
 
       go : (more : List Row) (rest : List Row) → strips k (is_bare_start k first) more ≡ rest → enter k first ≡ line → Body options (over_blank place) rest (BlankLine other after) → ⊥
       go [] rest e f b = absurd (let q : [] ≡ other ∷ b.rest = e ∙ b.cut in cc)
       go (r ∷ more) rest e f b =
-          let bare : is_bare_start k first ≡ true = ap is_blank_line f ∙ (blank-tells place line (shown h.rest) h.opened).1 in
-          let same : strip k true r ≡ other = let q : strip k (is_bare_start k first) r ∷ strips k false more ≡ other ∷ b.rest = e ∙ b.cut in ap (λ z. strip k z r) (sym bare) ∙ cc in
+          let is_bare : is_bare_start k first ≡ true = begins ∙ ap is_blank_line f ∙ (blank-tells place line (shown h.rest) h.opened).1 in
+          let same : strip k true r ≡ other = let q : strip k (is_bare_start k first) r ∷ strips k false more ≡ other ∷ b.rest = e ∙ b.cut in ap (λ z. strip k z r) (sym is_bare) ∙ cc in
           let t = blank-tells (over_blank place) other (shown b.rest) b.opened in
-          two-blanks mark number width task r (ap (λ s. s.lazy) same ∙ t.0) (ap is_blank_line same ∙ t.1)
+          bare r (ap (λ s. s.lazy) same ∙ t.0) (ap is_blank_line same ∙ t.1)
 
   filled : (b : Blocks) (behind : Place) (all : List Row) → Body options behind all b → HasFilledItems b
   filled Nil behind all h = tt
@@ -80,7 +85,9 @@ module _ (options : Options) where
   filled (ContainerBlock (Quote alert) first more inside after) behind all h = (filled inside (place_in (Quote alert)) (insides (Quote alert) first more) h.contents, filled after Apart h.rest h.after)
   filled (ContainerBlock (Footnote label old size) first more inside after) behind all h = (filled inside (place_in (Footnote label old size)) (insides (Footnote label old size) first more) h.contents, filled after Apart h.rest h.after)
   filled (ContainerBlock (Item mark number width task) first more inside after) behind all h =
-      (nearly (place_in (Item mark number width task)) mark number width task first more inside h.contents, filled inside (place_in (Item mark number width task)) (insides (Item mark number width task) first more) h.contents, filled after Apart h.rest h.after)
+      (nearly (place_in (Item mark number width task)) (Item mark number width task) first more inside (item-bare mark number width task) refl refl h.contents, filled inside (place_in (Item mark number width task)) (insides (Item mark number width task) first more) h.contents, filled after Apart h.rest h.after)
+  filled (ContainerBlock (ListDefinition width) first more inside after) behind all h =
+      (nearly (place_in (ListDefinition width)) (ListDefinition width) first more inside (definition-bare width) refl refl h.contents, filled inside (place_in (ListDefinition width)) (insides (ListDefinition width) first more) h.contents, filled after BehindTitle h.rest h.after)
 
   pub blocks-filled : (text : List ℕ) → HasFilledItems (blocks options text)
   blocks-filled text = filled (blocks options text) Apart (rows text) (blocks-body options text)

@@ -1,18 +1,20 @@
 -- What is known of the siblings at hand, as of the blocks that stand there.
-use Rattle.std.proofs.Common.{◌≡◌, ℕ, Bool, true, false, ◌==◌, ◌||◌, ◌&&◌, not, List, refl, ap, ◌∙◌, sym, Option, arith}
+use Rattle.std.proofs.Common.{◌≡◌, ℕ, Bool, true, false, ◌==◌, ◌||◌, ◌&&◌, not, List, refl, ap, ◌∙◌, sym, Option, arith, Some, None}
 use Rattle.cmark_grammar.specs.Options.{Options}
 use Rattle.cmark_grammar.specs.Answers.{Lookup}
-use Rattle.cmark_grammar.specs.Rows.{past_of, begin_of}
-use Rattle.cmark_grammar.specs.Containers.{Quote, Item, Footnote}
+use Rattle.cmark_grammar.specs.Rows.{past_of, begin_of, Row}
+use Rattle.cmark_grammar.specs.Containers.{Quote, Item, Footnote, ListDefinition}
 use Rattle.cmark_grammar.specs.Blocks.{Blocks, Nil, BlankLine, Paragraph, SetextHeading, LeafBlock, ContainerBlock}
-use Rattle.cmark_grammar.specs.Lists.{ends_blank, ItemWith, parted}
+use Rattle.cmark_grammar.specs.Lists.{ends_blank, ItemWith, parted, definition_mark, is_title, Other}
 use Rattle.cmark_grammar.specs.BlockDocument as document
-use Rattle.cmark_grammar.specs.BlockDocument.{BlockDocument}
-use Rattle.cmark_block_model.specs.Drawing.{Drawing, drawn, opened, closed_at}
+use Rattle.cmark_grammar.specs.BlockDocument.{BlockDocument, BlockKind}
+use Rattle.cmark_block_model.specs.Drawing.{Drawing, drawn, opened, closed_at, enclosed, retitled}
 use Rattle.cmark_block_model.specs.OpenBlocks.{OpenList, no_siblings}
 use Rattle.cmark_block_model.proofs.Replay.{Noted, Level, item_if, level_opened, level_drawn, marked, left_by, replay}
-use Rattle.cmark_block_model.proofs.Standing.{Stand, First, FirstBlank, Behind, InList, front_of, list_of, before_of, level_of, IsFilledBehind, HasFilledItems}
-use Rattle.cmark_block_model.specs.BlockPass.{list_closed}
+use Rattle.cmark_block_model.proofs.Standing.{Stand, First, FirstBlank, Behind, InList, front_of, before_of, level_of, IsFilledBehind, HasFilledItems, titled, with_colon, colon, IsNearlyFilled}
+use Rattle.cmark_block_model.specs.BlockPass.{list_closed, ended, released_from}
+use Rattle.std.specs.Prelude.{if◌then◌else◌}
+use Rattle.cmark_grammar.specs.Derivation.{list_kind}
 
 pub or-false : (a : Bool) → (a || false) ≡ a
 or-false true = refl
@@ -36,6 +38,9 @@ or-and p a c = or-assoc p a c ∙ ap (λ z. p || (z || c)) (sym (and-true a))
 pub same-mark : (a b : ℕ) → (a == b) ≡ true → a ≡ b
 same-mark a b e = grind (arith)
 
+pub colon-same : (o : OpenList) → (o.mark == definition_mark) ≡ true → o ≡ with_colon o
+colon-same o e = ap (λ m. record { mark = m; number = o.number; loose = o.loose; end = o.end }) (same-mark o.mark definition_mark e)
+
 -- a list that an item begins, and one that an item goes on with
 abbrev pub fresh : (mark : ℕ) → Option ℕ → (start : ℕ) → OpenList
 fresh mark number start = record { mark = mark; number = number; loose = false; end = start }
@@ -49,79 +54,188 @@ item_list o parted past = record o { loose = o.loose || parted; end = past }
 
 module _ (text : List ℕ) (options : Options) (lookup : Lookup) where
   -- the level inside an item that stands in this list, and the level behind the item
-  abbrev pub in_item : (start : ℕ) → (marker : BlockDocument) → Drawing → Noted → Level
-  in_item start marker d rs = level_of First (drawn marker (opened start document.ListItem d)) false false rs
+  abbrev pub in_item : (kind : BlockKind) → (start : ℕ) → (marker : BlockDocument) → Drawing → Noted → Level
+  in_item kind start marker d rs = level_of First (drawn marker (opened start kind d)) false false rs
 
-  abbrev pub behind_item : (start past : ℕ) (marker : BlockDocument) (inside : Blocks) → OpenList → Drawing → (parted : Bool) → Noted → Level
-  behind_item start past marker inside o d p rs =
-      let i = replay text options lookup inside (in_item start marker d rs) in
-      level_of (InList (item_list o i.inner.parted past)) (closed_at past (list_closed i.inner.list i.drawing)) i.inner.blank p i.noted
+  abbrev pub behind_item : (kind : BlockKind) → (start past : ℕ) (marker : BlockDocument) (inside : Blocks) → OpenList → Drawing → (parted : Bool) → Noted → Level
+  behind_item kind start past marker inside o d p rs =
+      let i = replay text options lookup inside (in_item kind start marker d rs) in
+      level_of (InList (item_list o i.inner.parted past)) (closed_at past (ended i.inner i.drawing)) i.inner.blank p i.noted
+
+  -- behind a definition that has no marker drawn in it
+  abbrev pub in_definition : (start : ℕ) → Drawing → Noted → Level
+  in_definition start d rs = level_of First (opened start document.DefinitionListDefinition d) false false rs
+
+  abbrev pub behind_definition : (start past : ℕ) (inside : Blocks) → OpenList → Drawing → (parted : Bool) → Noted → Level
+  behind_definition start past inside o d p rs =
+      let i = replay text options lookup inside (in_definition start d rs) in
+      level_of (InList (item_list o i.inner.parted past)) (closed_at past (ended i.inner i.drawing)) i.inner.blank p i.noted
+
+  -- what is known of the blank lines behind these blocks, and of those between them, wherever they stand, and behind a paragraph
+  abbrev pub KnowsBlank : Blocks → Type 0
+  KnowsBlank b =
+      ((s : Stand) → IsFilledBehind s b → (d : Drawing) (blank p : Bool) (rs : Noted) → (replay text options lookup b (level_of s d blank p rs)).inner.blank ≡ ends_blank (front_of s) blank b)
+      × ((o : Option OpenList) (d : Drawing) (blank p q : Bool) (rs : Noted) → (replay text options lookup b (titled o d blank p q rs)).inner.blank ≡ ends_blank false blank b)
+
+  -- a definition behind a title, or behind another one, or behind neither
+  definition-blank : (first : Row) (more : List Row) (inside after : Blocks) (width : ℕ) → IsNearlyFilled inside → KnowsBlank inside → KnowsBlank after → KnowsBlank (ContainerBlock (ListDefinition width) first more inside after)
+  definition-blank first more inside after width n i a = (λ s f d blank p rs. at s d blank p rs, behind)
+    where
+      one : (o1 : OpenList) (d1 : Drawing) (p1 : Bool) (rs1 : Noted) → (replay text options lookup after (behind_definition (begin_of first) (past_of first more) inside o1 d1 p1 rs1)).inner.blank ≡ ends_blank false (ends_blank true false inside) after
+      one o1 d1 p1 rs1 = a.0 (InList _) tt _ _ p1 _ ∙ ap (λ z. ends_blank false z after) (i.0 First n _ false false rs1)
+
+      behind : (o : Option OpenList) (d : Drawing) (blank p q : Bool) (rs : Noted) → (replay text options lookup (ContainerBlock (ListDefinition width) first more inside after) (titled o d blank p q rs)).inner.blank ≡ ends_blank false (ends_blank true false inside) after
+      behind None d blank p q rs = one (record { mark = definition_mark; number = None; loose = blank; end = begin_of first }) (enclosed (document.DefinitionList false) document.DefinitionListTitle d) p rs
+      behind (Some o) d blank p q rs = one (longer o blank) (retitled document.DefinitionListTitle d) q rs
+
+      same : (z : Bool) (o : OpenList) (d : Drawing) (blank p : Bool) (rs : Noted) → (replay text options lookup after (left_by (ListDefinition width) (item_if z definition_mark None (begin_of first) o (level_of (InList o) d blank p rs)).inner (past_of first more)
+          (replay text options lookup inside (record (level_opened (begin_of first) document.DefinitionListDefinition (item_if z definition_mark None (begin_of first) o (level_of (InList o) d blank p rs))) { inner = no_siblings })))).inner.blank ≡ ends_blank false (ends_blank true false inside) after
+      same true o d blank p rs = one (longer o blank) d p rs
+      same false o d blank p rs = one (fresh definition_mark None (begin_of first)) (opened (begin_of first) (list_kind definition_mark None false) (list_closed (Some o) d)) (p || blank) rs
+
+      at : (s : Stand) (d : Drawing) (blank p : Bool) (rs : Noted) → (replay text options lookup (ContainerBlock (ListDefinition width) first more inside after) (level_of s d blank p rs)).inner.blank ≡ ends_blank false (ends_blank true false inside) after
+      at First d blank p rs = one (fresh definition_mark None (begin_of first)) (opened (begin_of first) (list_kind definition_mark None false) d) (p || blank) rs
+      at FirstBlank d blank p rs = one (fresh definition_mark None (begin_of first)) (opened (begin_of first) (list_kind definition_mark None false) d) (p || blank) rs
+      at Behind d blank p rs = one (fresh definition_mark None (begin_of first)) (opened (begin_of first) (list_kind definition_mark None false) d) (p || blank) rs
+      at (InList o) d blank p rs = same (o.mark == definition_mark) o d blank p rs
+
+  item-blank : (first : Row) (more : List Row) (inside after : Blocks) (mark : ℕ) (number : Option ℕ) (width : ℕ) (task : Option Bool) → IsNearlyFilled inside → KnowsBlank inside → KnowsBlank after → KnowsBlank (ContainerBlock (Item mark number width task) first more inside after)
+  item-blank first more inside after mark number width task n i a = (λ s f d blank p rs. at s d blank p rs, behind)
+    where
+      one : (o1 : OpenList) (d1 : Drawing) (p1 : Bool) (rs1 : Noted) → (replay text options lookup after (behind_item document.ListItem (begin_of first) (past_of first more) (marked task width first document.Nil) inside o1 d1 p1 rs1)).inner.blank ≡ ends_blank false (ends_blank true false inside) after
+      one o1 d1 p1 rs1 = a.0 (InList _) tt _ _ p1 _ ∙ ap (λ z. ends_blank false z after) (i.0 First n _ false false rs1)
+
+      behind : (o : Option OpenList) (d : Drawing) (blank p q : Bool) (rs : Noted) → (replay text options lookup (ContainerBlock (Item mark number width task) first more inside after) (titled o d blank p q rs)).inner.blank ≡ ends_blank false (ends_blank true false inside) after
+      behind o d blank p q rs = one (fresh mark number (begin_of first)) (opened (begin_of first) (list_kind mark number false) (released_from o d)) (p || blank) rs
+
+      same : (z : Bool) (o : OpenList) (d : Drawing) (blank p : Bool) (rs : Noted) → (replay text options lookup after (left_by (Item mark number width task) (item_if z mark number (begin_of first) o (level_of (InList o) d blank p rs)).inner (past_of first more)
+          (replay text options lookup inside (record (level_drawn (marked task width first document.Nil) (level_opened (begin_of first) document.ListItem (item_if z mark number (begin_of first) o (level_of (InList o) d blank p rs)))) { inner = no_siblings })))).inner.blank ≡ ends_blank false (ends_blank true false inside) after
+      same true o d blank p rs = one (longer o blank) d p rs
+      same false o d blank p rs = one (fresh mark number (begin_of first)) (opened (begin_of first) (list_kind mark number false) (list_closed (Some o) d)) (p || blank) rs
+
+      at : (s : Stand) (d : Drawing) (blank p : Bool) (rs : Noted) → (replay text options lookup (ContainerBlock (Item mark number width task) first more inside after) (level_of s d blank p rs)).inner.blank ≡ ends_blank false (ends_blank true false inside) after
+      at First d blank p rs = one (fresh mark number (begin_of first)) (opened (begin_of first) (list_kind mark number false) d) (p || blank) rs
+      at FirstBlank d blank p rs = one (fresh mark number (begin_of first)) (opened (begin_of first) (list_kind mark number false) d) (p || blank) rs
+      at Behind d blank p rs = one (fresh mark number (begin_of first)) (opened (begin_of first) (list_kind mark number false) d) (p || blank) rs
+      at (InList o) d blank p rs = same (o.mark == mark) o d blank p rs
 
   -- a blank line stands behind
-  pub blank_behind : (b : Blocks) → HasFilledItems b → (s : Stand) → IsFilledBehind s b → (d : Drawing) (blank p : Bool) (rs : Noted) → (replay text options lookup b (level_of s d blank p rs)).inner.blank ≡ ends_blank (front_of s) blank b
-  blank_behind Nil h s f d blank p rs = refl
-  blank_behind (BlankLine line after) h First f d blank p rs = blank_behind after h FirstBlank f d false p rs
-  blank_behind (BlankLine line after) h FirstBlank f d blank p rs = absurd f
-  blank_behind (BlankLine line after) h Behind f d blank p rs = blank_behind after h Behind tt d true p rs
-  blank_behind (BlankLine line after) h (InList o) f d blank p rs = blank_behind after h (InList o) tt d true p rs
-  blank_behind (Paragraph first more after) h s f d blank p rs = blank_behind after h Behind tt _ false (p || blank) rs
-  blank_behind (SetextHeading level first more underline after) h s f d blank p rs = blank_behind after h Behind tt _ false (p || blank) rs
-  blank_behind (LeafBlock leaf first more after) h s f d blank p rs = blank_behind after h Behind tt _ false (p || blank) _
-  blank_behind (ContainerBlock (Quote alert) first more inside after) h s f d blank p rs = blank_behind after h.1 Behind tt _ false (p || blank) _
-  blank_behind (ContainerBlock (Footnote label old size) first more inside after) h s f d blank p rs = blank_behind after h.1 Behind tt _ false (p || blank) _
-  blank_behind (ContainerBlock (Item mark number width task) first more inside after) h s f d blank p rs =
-      go s (λ d1 rs1. blank_behind inside h.1 First h.0 d1 false false rs1) (λ o1 d1 b1 p1 rs1. blank_behind after h.2 (InList o1) tt d1 b1 p1 rs1)
+  pub blank_behind : (b : Blocks) → HasFilledItems b → KnowsBlank b
+  blank_behind Nil h = (λ s f d blank p rs. refl, λ o d blank p q rs. refl)
+  blank_behind (BlankLine line after) h = let a = blank_behind after h in (λ s f d blank p rs. at a.0 s f d blank p rs, λ o d blank p q rs. a.1 o d true p q rs)
     where
-      one : ((d1 : Drawing) (rs1 : Noted) → (replay text options lookup inside (level_of First d1 false false rs1)).inner.blank ≡ ends_blank true false inside)
-          → ((o1 : OpenList) (d1 : Drawing) (b1 p1 : Bool) (rs1 : Noted) → (replay text options lookup after (level_of (InList o1) d1 b1 p1 rs1)).inner.blank ≡ ends_blank false b1 after)
-          → (o1 : OpenList) (d1 : Drawing) (p1 : Bool) (rs1 : Noted) → (replay text options lookup after (behind_item (begin_of first) (past_of first more) (marked task width first document.Nil) inside o1 d1 p1 rs1)).inner.blank ≡ ends_blank false (ends_blank true false inside) after
-      one i a o1 d1 p1 rs1 = a _ _ _ p1 _ ∙ ap (λ z. ends_blank false z after) (i _ rs1)
+      at : ((s : Stand) → IsFilledBehind s after → (d : Drawing) (blank p : Bool) (rs : Noted) → (replay text options lookup after (level_of s d blank p rs)).inner.blank ≡ ends_blank (front_of s) blank after)
+          → (s : Stand) → IsFilledBehind s (BlankLine line after) → (d : Drawing) (blank p : Bool) (rs : Noted) → (replay text options lookup (BlankLine line after) (level_of s d blank p rs)).inner.blank ≡ ends_blank (front_of s) blank (BlankLine line after)
+      at a First f d blank p rs = a FirstBlank f d false p rs
+      at a FirstBlank f d blank p rs = absurd f
+      at a Behind f d blank p rs = a Behind tt d true p rs
+      at a (InList o) f d blank p rs = a (InList o) tt d true p rs
+  blank_behind (Paragraph first more after) h = let a = blank_behind after h in (λ s f d blank p rs. a.1 _ _ false _ _ rs, λ o d blank p q rs. a.1 _ _ false _ _ rs)
+  blank_behind (SetextHeading level first more underline after) h = let a = blank_behind after h in (λ s f d blank p rs. a.0 Behind tt _ false (p || blank) rs, λ o d blank p q rs. a.0 Behind tt _ false (p || blank) rs)
+  blank_behind (LeafBlock leaf first more after) h = let a = blank_behind after h in (λ s f d blank p rs. a.0 Behind tt _ false (p || blank) _, λ o d blank p q rs. a.0 Behind tt _ false (p || blank) _)
+  blank_behind (ContainerBlock (Quote alert) first more inside after) h = let a = blank_behind after h.1 in (λ s f d blank p rs. a.0 Behind tt _ false (p || blank) _, λ o d blank p q rs. a.0 Behind tt _ false (p || blank) _)
+  blank_behind (ContainerBlock (Footnote label old size) first more inside after) h = let a = blank_behind after h.1 in (λ s f d blank p rs. a.0 Behind tt _ false (p || blank) _, λ o d blank p q rs. a.0 Behind tt _ false (p || blank) _)
+  blank_behind (ContainerBlock (Item mark number width task) first more inside after) h = item-blank first more inside after mark number width task h.0 (blank_behind inside h.1) (blank_behind after h.2)
+  blank_behind (ContainerBlock (ListDefinition width) first more inside after) h = definition-blank first more inside after width h.0 (blank_behind inside h.1) (blank_behind after h.2)
 
-      same : ((d1 : Drawing) (rs1 : Noted) → (replay text options lookup inside (level_of First d1 false false rs1)).inner.blank ≡ ends_blank true false inside)
-          → ((o1 : OpenList) (d1 : Drawing) (b1 p1 : Bool) (rs1 : Noted) → (replay text options lookup after (level_of (InList o1) d1 b1 p1 rs1)).inner.blank ≡ ends_blank false b1 after)
-          → (z : Bool) (o : OpenList) → (replay text options lookup after (left_by (Item mark number width task) (item_if z mark number (begin_of first) o (level_of (InList o) d blank p rs)).inner (past_of first more)
-          (replay text options lookup inside (record (level_drawn (marked task width first document.Nil) (level_opened (begin_of first) document.ListItem (item_if z mark number (begin_of first) o (level_of (InList o) d blank p rs)))) { inner = no_siblings })))).inner.blank ≡ ends_blank false (ends_blank true false inside) after
-      same i a true o = one i a (longer o blank) d p rs
-      same i a false o = one i a (fresh mark number (begin_of first)) (opened (begin_of first) (document.BlockList number false) (list_closed (list_of (InList o)) d)) (p || blank) rs
+  -- a paragraph's own flag, and that of a title, which forgets the blank line before it where it goes on with a list
+  abbrev pub parted_before : Option OpenList → (p q : Bool) → Bool
+  parted_before None p q = p
+  parted_before (Some o) p q = q
 
-      go : (s : Stand) → ((d1 : Drawing) (rs1 : Noted) → (replay text options lookup inside (level_of First d1 false false rs1)).inner.blank ≡ ends_blank true false inside)
-          → ((o1 : OpenList) (d1 : Drawing) (b1 p1 : Bool) (rs1 : Noted) → (replay text options lookup after (level_of (InList o1) d1 b1 p1 rs1)).inner.blank ≡ ends_blank false b1 after)
-          → (replay text options lookup (ContainerBlock (Item mark number width task) first more inside after) (level_of s d blank p rs)).inner.blank ≡ ends_blank false (ends_blank true false inside) after
-      go First i a = one i a (fresh mark number (begin_of first)) (opened (begin_of first) (document.BlockList number false) (list_closed (list_of First) d)) (p || blank) rs
-      go FirstBlank i a = one i a (fresh mark number (begin_of first)) (opened (begin_of first) (document.BlockList number false) (list_closed (list_of FirstBlank) d)) (p || blank) rs
-      go Behind i a = one i a (fresh mark number (begin_of first)) (opened (begin_of first) (document.BlockList number false) (list_closed (list_of Behind) d)) (p || blank) rs
-      go (InList o) i a = same i a (o.mark == mark) o
+  abbrev pub title_parted : Option OpenList → (blank p q : Bool) → Blocks → Bool
+  title_parted o blank p q b = if is_title b then parted_before o p q || parted (ItemWith definition_mark) blank b else p || parted Other blank b
+
+  abbrev pub KnowsParted : Blocks → Type 0
+  KnowsParted b =
+      ((s : Stand) (d : Drawing) (blank p : Bool) (rs : Noted) → (replay text options lookup b (level_of s d blank p rs)).inner.parted ≡ (p || parted (before_of s) blank b))
+      × ((o : Option OpenList) (d : Drawing) (blank p q : Bool) (rs : Noted) → (replay text options lookup b (titled (colon o) d blank p q rs)).inner.parted ≡ title_parted o blank p q b)
+
+  definition-parted : (first : Row) (more : List Row) (inside after : Blocks) (width : ℕ) → HasFilledItems inside → IsNearlyFilled inside → KnowsParted after → KnowsParted (ContainerBlock (ListDefinition width) first more inside after)
+  definition-parted first more inside after width h n a = (at, behind)
+    where
+      one : (o1 : OpenList) (d1 : Drawing) (p1 : Bool) (rs1 : Noted) → (replay text options lookup after (behind_definition (begin_of first) (past_of first more) inside o1 d1 p1 rs1)).inner.parted ≡ (p1 || parted (ItemWith o1.mark) (ends_blank true false inside) after)
+      one o1 d1 p1 rs1 = a.0 (InList _) _ _ p1 _ ∙ ap (λ z. p1 || parted (ItemWith o1.mark) z after) ((blank_behind inside h).0 First n _ false false rs1)
+
+      forget : (p blank c : Bool) → (p || c) ≡ (p || ((blank && false) || c))
+      forget p blank c = ap (λ z. p || (z || c)) (sym (and-false blank))
+
+      behind : (o : Option OpenList) (d : Drawing) (blank p q : Bool) (rs : Noted) → (replay text options lookup (ContainerBlock (ListDefinition width) first more inside after) (titled (colon o) d blank p q rs)).inner.parted
+          ≡ (parted_before o p q || ((blank && false) || parted (ItemWith definition_mark) (ends_blank true false inside) after))
+      behind None d blank p q rs = one (record { mark = definition_mark; number = None; loose = blank; end = begin_of first }) (enclosed (document.DefinitionList false) document.DefinitionListTitle d) p rs ∙ forget p blank _
+      behind (Some o) d blank p q rs = one (longer (with_colon o) blank) (retitled document.DefinitionListTitle d) q rs ∙ forget q blank _
+
+      same : (z : Bool) (o : OpenList) (d : Drawing) (blank p : Bool) (rs : Noted) → (o.mark == definition_mark) ≡ z → (replay text options lookup after (left_by (ListDefinition width) (item_if z definition_mark None (begin_of first) o (level_of (InList o) d blank p rs)).inner (past_of first more)
+          (replay text options lookup inside (record (level_opened (begin_of first) document.DefinitionListDefinition (item_if z definition_mark None (begin_of first) o (level_of (InList o) d blank p rs))) { inner = no_siblings })))).inner.parted ≡ (p || ((blank && not z) || parted (ItemWith definition_mark) (ends_blank true false inside) after))
+      same true o d blank p rs e = one (longer o blank) d p rs ∙ ap (λ m. p || parted (ItemWith m) (ends_blank true false inside) after) (same-mark o.mark definition_mark e) ∙ forget p blank _
+      same false o d blank p rs e = one (fresh definition_mark None (begin_of first)) (opened (begin_of first) (list_kind definition_mark None false) (list_closed (Some o) d)) (p || blank) rs ∙ or-and p blank _
+
+      at : (s : Stand) (d : Drawing) (blank p : Bool) (rs : Noted) → (replay text options lookup (ContainerBlock (ListDefinition width) first more inside after) (level_of s d blank p rs)).inner.parted ≡ (p || parted (before_of s) blank (ContainerBlock (ListDefinition width) first more inside after))
+      at First d blank p rs = one (fresh definition_mark None (begin_of first)) (opened (begin_of first) (list_kind definition_mark None false) d) (p || blank) rs ∙ or-and p blank _
+      at FirstBlank d blank p rs = one (fresh definition_mark None (begin_of first)) (opened (begin_of first) (list_kind definition_mark None false) d) (p || blank) rs ∙ or-and p blank _
+      at Behind d blank p rs = one (fresh definition_mark None (begin_of first)) (opened (begin_of first) (list_kind definition_mark None false) d) (p || blank) rs ∙ or-and p blank _
+      at (InList o) d blank p rs = same (o.mark == definition_mark) o d blank p rs refl
+
+  item-parted : (first : Row) (more : List Row) (inside after : Blocks) (mark : ℕ) (number : Option ℕ) (width : ℕ) (task : Option Bool) → HasFilledItems inside → IsNearlyFilled inside → KnowsParted after → KnowsParted (ContainerBlock (Item mark number width task) first more inside after)
+  item-parted first more inside after mark number width task h n a = (at, λ o d blank p q rs. one (fresh mark number (begin_of first)) (opened (begin_of first) (list_kind mark number false) (released_from (colon o) d)) (p || blank) rs ∙ or-and p blank _)
+    where
+      one : (o1 : OpenList) (d1 : Drawing) (p1 : Bool) (rs1 : Noted) → (replay text options lookup after (behind_item document.ListItem (begin_of first) (past_of first more) (marked task width first document.Nil) inside o1 d1 p1 rs1)).inner.parted ≡ (p1 || parted (ItemWith o1.mark) (ends_blank true false inside) after)
+      one o1 d1 p1 rs1 = a.0 (InList _) _ _ p1 _ ∙ ap (λ z. p1 || parted (ItemWith o1.mark) z after) ((blank_behind inside h).0 First n _ false false rs1)
+
+      same : (z : Bool) (o : OpenList) (d : Drawing) (blank p : Bool) (rs : Noted) → (o.mark == mark) ≡ z → (replay text options lookup after (left_by (Item mark number width task) (item_if z mark number (begin_of first) o (level_of (InList o) d blank p rs)).inner (past_of first more)
+          (replay text options lookup inside (record (level_drawn (marked task width first document.Nil) (level_opened (begin_of first) document.ListItem (item_if z mark number (begin_of first) o (level_of (InList o) d blank p rs)))) { inner = no_siblings })))).inner.parted ≡ (p || ((blank && not z) || parted (ItemWith mark) (ends_blank true false inside) after))
+      same true o d blank p rs e =
+          one (longer o blank) d p rs ∙ ap (λ m. p || parted (ItemWith m) (ends_blank true false inside) after) (same-mark o.mark mark e)
+          ∙ ap (λ z. p || (z || parted (ItemWith mark) (ends_blank true false inside) after)) (sym (and-false blank))
+      same false o d blank p rs e = one (fresh mark number (begin_of first)) (opened (begin_of first) (list_kind mark number false) (list_closed (Some o) d)) (p || blank) rs ∙ or-and p blank _
+
+      at : (s : Stand) (d : Drawing) (blank p : Bool) (rs : Noted) → (replay text options lookup (ContainerBlock (Item mark number width task) first more inside after) (level_of s d blank p rs)).inner.parted ≡ (p || parted (before_of s) blank (ContainerBlock (Item mark number width task) first more inside after))
+      at First d blank p rs = one (fresh mark number (begin_of first)) (opened (begin_of first) (list_kind mark number false) d) (p || blank) rs ∙ or-and p blank _
+      at FirstBlank d blank p rs = one (fresh mark number (begin_of first)) (opened (begin_of first) (list_kind mark number false) d) (p || blank) rs ∙ or-and p blank _
+      at Behind d blank p rs = one (fresh mark number (begin_of first)) (opened (begin_of first) (list_kind mark number false) d) (p || blank) rs ∙ or-and p blank _
+      at (InList o) d blank p rs = same (o.mark == mark) o d blank p rs refl
+
+  paragraph-parted : (first : Row) (more : List Row) (after : Blocks) → KnowsParted after → KnowsParted (Paragraph first more after)
+  paragraph-parted first more after a = (at, λ o d blank p q rs. a.1 None _ false (p || blank) p rs ∙ other (is_title after) blank p)
+    where
+      -- where no list is open that a title goes on with
+      other : (z blank p : Bool) → (if z then (p || blank) || parted (ItemWith definition_mark) false after else (p || blank) || parted Other false after) ≡ (p || (if z then (blank && true) || parted (ItemWith definition_mark) false after else blank || parted Other false after))
+      other true blank p = or-and p blank _
+      other false blank p = or-assoc p blank _
+
+      joins : (z m blank p : Bool) → m ≡ true → (if z then p || parted (ItemWith definition_mark) false after else (p || blank) || parted Other false after) ≡ (p || (if z then (blank && not m) || parted (ItemWith definition_mark) false after else blank || parted Other false after))
+      joins true m blank p e = ap (λ z. p || (z || parted (ItemWith definition_mark) false after)) (sym (and-false blank) ∙ ap (λ z. blank && not z) (sym e))
+      joins false m blank p e = or-assoc p blank _
+
+      apart : (z m blank p : Bool) → m ≡ false → (if z then (p || blank) || parted (ItemWith definition_mark) false after else (p || blank) || parted Other false after) ≡ (p || (if z then (blank && not m) || parted (ItemWith definition_mark) false after else blank || parted Other false after))
+      apart z m blank p e = other z blank p ∙ ap (λ y. p || (if z then (blank && not y) || parted (ItemWith definition_mark) false after else blank || parted Other false after)) (sym e)
+
+      list : (z : Bool) (o : OpenList) (d : Drawing) (blank p : Bool) (rs : Noted) → (o.mark == definition_mark) ≡ z
+          → (replay text options lookup after (titled (if z then Some o else None) d false (p || blank) p rs)).inner.parted ≡ (p || parted (ItemWith o.mark) blank (Paragraph first more after))
+      list true o d blank p rs e = ap (λ x. (replay text options lookup after (titled (Some x) d false (p || blank) p rs)).inner.parted) (colon-same o e) ∙ a.1 (Some o) d false (p || blank) p rs ∙ joins (is_title after) (o.mark == definition_mark) blank p e
+      list false o d blank p rs e = a.1 None d false (p || blank) p rs ∙ apart (is_title after) (o.mark == definition_mark) blank p e
+
+      at : (s : Stand) (d : Drawing) (blank p : Bool) (rs : Noted) → (replay text options lookup (Paragraph first more after) (level_of s d blank p rs)).inner.parted ≡ (p || parted (before_of s) blank (Paragraph first more after))
+      at First d blank p rs = a.1 None _ false (p || blank) p rs ∙ other (is_title after) blank p
+      at FirstBlank d blank p rs = a.1 None _ false (p || blank) p rs ∙ other (is_title after) blank p
+      at Behind d blank p rs = a.1 None _ false (p || blank) p rs ∙ other (is_title after) blank p
+      at (InList o) d blank p rs = list (o.mark == definition_mark) o _ blank p rs refl
 
   -- a blank line stands between two
-  pub parted_behind : (b : Blocks) → HasFilledItems b → (s : Stand) (d : Drawing) (blank p : Bool) (rs : Noted) → (replay text options lookup b (level_of s d blank p rs)).inner.parted ≡ (p || parted (before_of s) blank b)
-  parted_behind Nil h s d blank p rs = sym (or-false p)
-  parted_behind (BlankLine line after) h First d blank p rs = parted_behind after h First d false p rs
-  parted_behind (BlankLine line after) h FirstBlank d blank p rs = parted_behind after h FirstBlank d false p rs
-  parted_behind (BlankLine line after) h Behind d blank p rs = parted_behind after h Behind d true p rs
-  parted_behind (BlankLine line after) h (InList o) d blank p rs = parted_behind after h (InList o) d true p rs
-  parted_behind (Paragraph first more after) h s d blank p rs = parted_behind after h Behind _ false (p || blank) rs ∙ or-assoc p blank _
-  parted_behind (SetextHeading level first more underline after) h s d blank p rs = parted_behind after h Behind _ false (p || blank) rs ∙ or-assoc p blank _
-  parted_behind (LeafBlock leaf first more after) h s d blank p rs = parted_behind after h Behind _ false (p || blank) _ ∙ or-assoc p blank _
-  parted_behind (ContainerBlock (Quote alert) first more inside after) h s d blank p rs = parted_behind after h.1 Behind _ false (p || blank) _ ∙ or-assoc p blank _
-  parted_behind (ContainerBlock (Footnote label old size) first more inside after) h s d blank p rs = parted_behind after h.1 Behind _ false (p || blank) _ ∙ or-assoc p blank _
-  parted_behind (ContainerBlock (Item mark number width task) first more inside after) h s d blank p rs =
-      go s (λ o1 d1 b1 p1 rs1. parted_behind after h.2 (InList o1) d1 b1 p1 rs1)
+  pub parted_behind : (b : Blocks) → HasFilledItems b → KnowsParted b
+  parted_behind Nil h = (λ s d blank p rs. sym (or-false p), λ o d blank p q rs. sym (or-false p))
+  parted_behind (BlankLine line after) h = let a = parted_behind after h in (at a.0, λ o d blank p q rs. a.1 o d true p q rs)
     where
-      one : ((o1 : OpenList) (d1 : Drawing) (b1 p1 : Bool) (rs1 : Noted) → (replay text options lookup after (level_of (InList o1) d1 b1 p1 rs1)).inner.parted ≡ (p1 || parted (ItemWith o1.mark) b1 after))
-          → (o1 : OpenList) (d1 : Drawing) (p1 : Bool) (rs1 : Noted) → (replay text options lookup after (behind_item (begin_of first) (past_of first more) (marked task width first document.Nil) inside o1 d1 p1 rs1)).inner.parted ≡ (p1 || parted (ItemWith o1.mark) (ends_blank true false inside) after)
-      one a o1 d1 p1 rs1 = a _ _ _ p1 _ ∙ ap (λ z. p1 || parted (ItemWith o1.mark) z after) (blank_behind inside h.1 First h.0 _ false false rs1)
-
-      same : ((o1 : OpenList) (d1 : Drawing) (b1 p1 : Bool) (rs1 : Noted) → (replay text options lookup after (level_of (InList o1) d1 b1 p1 rs1)).inner.parted ≡ (p1 || parted (ItemWith o1.mark) b1 after))
-          → (z : Bool) (o : OpenList) → (o.mark == mark) ≡ z → (replay text options lookup after (left_by (Item mark number width task) (item_if z mark number (begin_of first) o (level_of (InList o) d blank p rs)).inner (past_of first more)
-          (replay text options lookup inside (record (level_drawn (marked task width first document.Nil) (level_opened (begin_of first) document.ListItem (item_if z mark number (begin_of first) o (level_of (InList o) d blank p rs)))) { inner = no_siblings })))).inner.parted ≡ (p || ((blank && not z) || parted (ItemWith mark) (ends_blank true false inside) after))
-      same a true o e =
-          one a (longer o blank) d p rs ∙ ap (λ m. p || parted (ItemWith m) (ends_blank true false inside) after) (same-mark o.mark mark e)
-          ∙ ap (λ z. p || (z || parted (ItemWith mark) (ends_blank true false inside) after)) (sym (and-false blank))
-      same a false o e = one a (fresh mark number (begin_of first)) (opened (begin_of first) (document.BlockList number false) (list_closed (list_of (InList o)) d)) (p || blank) rs ∙ or-and p blank _
-
-      go : (s : Stand) → ((o1 : OpenList) (d1 : Drawing) (b1 p1 : Bool) (rs1 : Noted) → (replay text options lookup after (level_of (InList o1) d1 b1 p1 rs1)).inner.parted ≡ (p1 || parted (ItemWith o1.mark) b1 after))
-          → (replay text options lookup (ContainerBlock (Item mark number width task) first more inside after) (level_of s d blank p rs)).inner.parted ≡ (p || parted (before_of s) blank (ContainerBlock (Item mark number width task) first more inside after))
-      go First a = one a (fresh mark number (begin_of first)) (opened (begin_of first) (document.BlockList number false) (list_closed (list_of First) d)) (p || blank) rs ∙ or-and p blank _
-      go FirstBlank a = one a (fresh mark number (begin_of first)) (opened (begin_of first) (document.BlockList number false) (list_closed (list_of FirstBlank) d)) (p || blank) rs ∙ or-and p blank _
-      go Behind a = one a (fresh mark number (begin_of first)) (opened (begin_of first) (document.BlockList number false) (list_closed (list_of Behind) d)) (p || blank) rs ∙ or-and p blank _
-      go (InList o) a = same a (o.mark == mark) o refl
+      at : ((s : Stand) (d : Drawing) (blank p : Bool) (rs : Noted) → (replay text options lookup after (level_of s d blank p rs)).inner.parted ≡ (p || parted (before_of s) blank after))
+          → (s : Stand) (d : Drawing) (blank p : Bool) (rs : Noted) → (replay text options lookup (BlankLine line after) (level_of s d blank p rs)).inner.parted ≡ (p || parted (before_of s) blank (BlankLine line after))
+      at a First d blank p rs = a First d false p rs
+      at a FirstBlank d blank p rs = a FirstBlank d false p rs
+      at a Behind d blank p rs = a Behind d true p rs
+      at a (InList o) d blank p rs = a (InList o) d true p rs
+  parted_behind (Paragraph first more after) h = paragraph-parted first more after (parted_behind after h)
+  parted_behind (SetextHeading level first more underline after) h = let a = parted_behind after h in (λ s d blank p rs. a.0 Behind _ false (p || blank) rs ∙ or-assoc p blank _, λ o d blank p q rs. a.0 Behind _ false (p || blank) rs ∙ or-assoc p blank _)
+  parted_behind (LeafBlock leaf first more after) h = let a = parted_behind after h in (λ s d blank p rs. a.0 Behind _ false (p || blank) _ ∙ or-assoc p blank _, λ o d blank p q rs. a.0 Behind _ false (p || blank) _ ∙ or-assoc p blank _)
+  parted_behind (ContainerBlock (Quote alert) first more inside after) h = let a = parted_behind after h.1 in (λ s d blank p rs. a.0 Behind _ false (p || blank) _ ∙ or-assoc p blank _, λ o d blank p q rs. a.0 Behind _ false (p || blank) _ ∙ or-assoc p blank _)
+  parted_behind (ContainerBlock (Footnote label old size) first more inside after) h = let a = parted_behind after h.1 in (λ s d blank p rs. a.0 Behind _ false (p || blank) _ ∙ or-assoc p blank _, λ o d blank p q rs. a.0 Behind _ false (p || blank) _ ∙ or-assoc p blank _)
+  parted_behind (ContainerBlock (Item mark number width task) first more inside after) h = item-parted first more inside after mark number width task h.1 h.0 (parted_behind after h.2)
+  parted_behind (ContainerBlock (ListDefinition width) first more inside after) h = definition-parted first more inside after width h.1 h.0 (parted_behind after h.2)

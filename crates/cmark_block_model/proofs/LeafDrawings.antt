@@ -5,17 +5,17 @@ use Rattle.cmark_grammar.specs.Options.{Options}
 use Rattle.cmark_grammar.specs.Event.{End}
 use Rattle.cmark_grammar.specs.TagEnd.{end_of}
 use Rattle.cmark_grammar.specs.Rows.{Row, without, first_place, begin_of, start_of, past_of, words_of}
-use Rattle.cmark_grammar.specs.Containers.{Quote, Item, Footnote}
+use Rattle.cmark_grammar.specs.Containers.{Quote, Item, Footnote, ListDefinition}
 use Rattle.cmark_grammar.specs.Openings.{Leaf, ThematicBreak as ThematicBreakLeaf, AtxHeading as AtxHeadingLeaf, IndentedCode as IndentedCodeLeaf, FencedCode as FencedCodeLeaf, HtmlBlock as HtmlBlockLeaf, LinkDefinition as LinkDefinitionLeaf, MetadataBlock as MetadataBlockLeaf, Table as TableLeaf}
 use Rattle.cmark_grammar.specs.Blocks.{Blocks, Nil as NoBlocks, BlankLine, Paragraph as ParagraphBlock, SetextHeading, LeafBlock, ContainerBlock}
-use Rattle.cmark_grammar.specs.Lists.{ListBefore, tight_behind, goes_on}
-use Rattle.cmark_grammar.specs.Tokens.{Piece, end_place, piece_if, texts_then, words_end, stretch_then, stretches, html_then, html_tokens, verbatim_line, behind_hashes, heading_columns, code_pieces, fenced_lines, lines_before}
+use Rattle.cmark_grammar.specs.Lists.{ListBefore, tight_behind, goes_on, definition_mark, is_title, title_tight_behind}
+use Rattle.cmark_grammar.specs.Tokens.{Piece, end_place, piece_if, texts_then, words_end, stretch_then, stretches, html_then, html_tokens, verbatim_line, behind_hashes, heading_columns, code_pieces, fenced_lines, lines_before, paragraph_tokens}
 use Rattle.cmark_grammar.specs.Columns.{is_blank_byte, drop_end}
 use Rattle.cmark_grammar.specs.TableRows.{cells_start, cells_of}
 use Rattle.cmark_grammar.specs.TableTokens.{cells_then, row_cells, row_tokens}
-use Rattle.cmark_grammar.specs.BlockDocument.{Text, OwnedText, ListItem, BlockKind, BlockNode, BlockDocument, Nil, Node, node}
-use Rattle.cmark_grammar.specs.BlockReading.{Reads, Around, Inside, Alone, First, Silent, read_as, over, first_event, begins_element}
-use Rattle.cmark_grammar.specs.Derivation.{Derives, leaf_then, item_then, task_then, document_of, document}
+use Rattle.cmark_grammar.specs.BlockDocument.{Text, OwnedText, ListItem, BlockKind, BlockNode, BlockDocument, Nil, Node, node, BlockList, DefinitionList, DefinitionListTitle, DefinitionListDefinition}
+use Rattle.cmark_grammar.specs.BlockReading.{Reads, Around, Inside, Alone, First, Silent, read_as, over, first_event, starts_before}
+use Rattle.cmark_grammar.specs.Derivation.{Derives, leaf_then, item_then, task_then, document_of, document, list_kind, paragraph_kind}
 use Rattle.cmark_grammar.specs.DrawnDocument.{is_definition, node_unless, settled, without_definitions}
 use Rattle.cmark_grammar.specs.LeafText.{Stretch}
 use Rattle.cmark_grammar.specs.Ranges.{count_nodes, count_tables}
@@ -115,11 +115,24 @@ leaf-whole text options lookup (MetadataBlockLeaf kind) first more after h =
 leaf-whole text options lookup (TableLeaf alignments) first more after h =
     (λ e. no-leaf false refl _ e, ((λ e. no-leaf false refl _ e), row-whole text (length alignments) first, rows-whole text (length alignments) (drop 1 more)), h)
 
-item-whole : (joins : Bool) (number : Option ℕ) (tight : Bool) (start end : ℕ) (inside after : BlockDocument) → HasWholeLeaves inside → HasWholeLeaves after
-    → HasWholeLeaves (item_then joins number tight (node ListItem start end) inside after)
-item-whole false number tight start end inside after i a = (λ e. no-leaf false refl _ e, (λ e. no-leaf false refl _ e, i, tt), a)
-item-whole true number tight start end inside Nil i a = (λ e. no-leaf false refl _ e, (λ e. no-leaf false refl _ e, i, tt), tt)
-item-whole true number tight start end inside (Node list items after) i a = (λ e. no-leaf false refl _ e, (λ e. no-leaf false refl _ e, i, a.1), a.2)
+item-whole : (joins : Bool) (list : BlockKind) (item : BlockNode) (inside after : BlockDocument) → is_leaf list ≡ false → (is_leaf item.kind ≡ true → AreNoDefinitions inside) → HasWholeLeaves inside → HasWholeLeaves after
+    → HasWholeLeaves (item_then joins list item inside after)
+item-whole false list item inside after l k i a = (λ e. no-leaf _ l _ e, (k, i, tt), a)
+item-whole true list item inside Nil l k i a = (λ e. no-leaf _ l _ e, (k, i, tt), tt)
+item-whole true list item inside (Node others items after) l k i a = (λ e. no-leaf _ l _ e, (k, i, a.1), a.2)
+
+list-no-leaf : (mark : ℕ) (number : Option ℕ) (tight : Bool) → is_leaf (list_kind mark number tight) ≡ false
+list-no-leaf mark number tight = go (mark == definition_mark)
+  where
+    go : (z : Bool) → is_leaf (if z then DefinitionList tight else BlockList number tight) ≡ false
+    go true = refl
+    go false = refl
+
+-- a paragraph, as a title or as itself
+title-whole : (is_title tight : Bool) (other : BlockKind) (start end : ℕ) (inside after behind : BlockDocument) → AreNoDefinitions inside → HasWholeLeaves inside → HasWholeLeaves after → HasWholeLeaves behind
+    → HasWholeLeaves (if is_title then item_then true (DefinitionList tight) (node DefinitionListTitle start end) inside after else Node (node other start end) inside behind)
+title-whole true tight other start end inside after behind f i a b = item-whole true (DefinitionList tight) (node DefinitionListTitle start end) inside after refl (λ e. f) i a
+title-whole false tight other start end inside after behind f i a b = (λ e. f, i, b)
 
 task-whole : (task : Option Bool) (start end : ℕ) (inside : BlockDocument) → HasWholeLeaves inside → HasWholeLeaves (task_then task start end inside)
 task-whole None start end inside h = h
@@ -128,7 +141,12 @@ task-whole (Some is_checked) start end inside h = (λ e. no-leaf false refl _ e,
 document-whole : (text : List ℕ) (options : Options) (lookup : Lookup) (direct : Bool) (before : Option ListBefore) (b : Blocks) → HasWholeLeaves (document_of text options lookup direct before b)
 document-whole text options lookup direct before NoBlocks = tt
 document-whole text options lookup direct before (BlankLine line after) = document-whole text options lookup direct before after
-document-whole text options lookup direct before (ParagraphBlock first more after) = (λ e. stretches-free text (start_of first) first more, stretches-whole text (start_of first) first more, document-whole text options lookup direct None after)
+document-whole text options lookup direct before (ParagraphBlock first more after) =
+    let tight = title_tight_behind before after in
+    title-whole (is_title after) tight (paragraph_kind direct) (start_of first) (past_of first more) (paragraph_tokens text first more)
+    (document_of text options lookup direct (Some (record { mark = definition_mark; tight = tight })) after) (document_of text options lookup direct None after)
+    (stretches-free text (start_of first) first more) (stretches-whole text (start_of first) first more)
+    (document-whole text options lookup direct (Some (record { mark = definition_mark; tight = tight })) after) (document-whole text options lookup direct None after)
 document-whole text options lookup direct before (SetextHeading level first more underline after) =
     (λ e. stretches-free text (start_of first) first more, stretches-whole text (start_of first) first more, document-whole text options lookup direct None after)
 document-whole text options lookup direct before (LeafBlock leaf first more after) = leaf-whole text options lookup leaf first more (document_of text options lookup direct None after) (document-whole text options lookup direct None after)
@@ -136,8 +154,12 @@ document-whole text options lookup direct before (ContainerBlock (Quote alert) f
 document-whole text options lookup direct before (ContainerBlock (Footnote label old size) first more inside after) = (λ e. no-leaf false refl _ e, document-whole text options lookup false None inside, document-whole text options lookup direct None after)
 document-whole text options lookup direct before (ContainerBlock (Item mark number width task) first more inside after) =
     let tight = tight_behind before mark inside after in
-    item-whole (goes_on mark after) number tight (begin_of first) (past_of first more) (task_then task (begin_of (without width first)) (begin_of (without (behind_box task width) first)) (document_of text options lookup tight None inside)) (document_of text options lookup direct (Some (record { mark = mark; tight = tight })) after)
+    item-whole (goes_on mark after) (list_kind mark number tight) (node ListItem (begin_of first) (past_of first more)) (task_then task (begin_of (without width first)) (begin_of (without (behind_box task width) first)) (document_of text options lookup tight None inside)) (document_of text options lookup direct (Some (record { mark = mark; tight = tight })) after) (list-no-leaf mark number tight) (λ e. no-leaf false refl _ e)
     (task-whole task _ _ (document_of text options lookup tight None inside) (document-whole text options lookup tight None inside)) (document-whole text options lookup direct (Some (record { mark = mark; tight = tight })) after)
+document-whole text options lookup direct before (ContainerBlock (ListDefinition width) first more inside after) =
+    let tight = tight_behind before definition_mark inside after in
+    item-whole (goes_on definition_mark after) (DefinitionList tight) (node DefinitionListDefinition (begin_of first) (past_of first more)) (document_of text options lookup tight None inside) (document_of text options lookup direct (Some (record { mark = definition_mark; tight = tight })) after) refl (λ e. no-leaf false refl _ e)
+    (document-whole text options lookup tight None inside) (document-whole text options lookup direct (Some (record { mark = definition_mark; tight = tight })) after)
 
 derived-whole : (text : List ℕ) (options : Options) (lookup : Lookup) (d : BlockDocument) → Derives text options lookup d → HasWholeLeaves d
 derived-whole text options lookup d h = subst HasWholeLeaves (sym h.2) (document-whole text options lookup false None h.0)
@@ -159,12 +181,12 @@ whole-segments Nil h = refl
 whole-segments (Node n inside after) h = go (is_definition n.kind) refl (whole-segments inside h.1) (whole-segments after h.2)
   where
     go : (b : Bool) → is_definition n.kind ≡ b → segments (without_definitions inside) ≡ segments inside → segments (without_definitions after) ≡ segments after
-        → segments (node_unless b n (without_definitions inside) (without_definitions after)) ≡ with_first_segment (first_event (read_as n.kind)) (begins_element after) n (node_segments (read_as n.kind) n (inside_of n.kind inside (segments inside)) ++ segments after)
-    go true e i a = a ∙ ap (λ r. with_first_segment (first_event r) (begins_element after) n (node_segments r n (inside_of n.kind inside (segments inside)) ++ segments after)) (sym (silent n.kind e))
+        → segments (node_unless b n (without_definitions inside) (without_definitions after)) ≡ with_first_segment (first_event (read_as n.kind)) (starts_before after) n (node_segments (read_as n.kind) n (inside_of n.kind inside (segments inside)) ++ segments after)
+    go true e i a = a ∙ ap (λ r. with_first_segment (first_event r) (starts_before after) n (node_segments r n (inside_of n.kind inside (segments inside)) ++ segments after)) (sym (silent n.kind e))
     go false e i a =
         ap (λ z. with_first_segment (first_event (read_as n.kind)) z n (node_segments (read_as n.kind) n (inside_of n.kind (without_definitions inside) (segments (without_definitions inside))) ++ segments (without_definitions after))) (whole-begins after)
-        ∙ ap (λ l. with_first_segment (first_event (read_as n.kind)) (begins_element after) n (node_segments (read_as n.kind) n l ++ segments (without_definitions after))) (same-inside n.kind (is_leaf n.kind) inside (segments (without_definitions inside)) (segments inside) h.0 i)
-        ∙ ap (λ l. with_first_segment (first_event (read_as n.kind)) (begins_element after) n (node_segments (read_as n.kind) n (inside_of n.kind inside (segments inside)) ++ l)) a
+        ∙ ap (λ l. with_first_segment (first_event (read_as n.kind)) (starts_before after) n (node_segments (read_as n.kind) n l ++ segments (without_definitions after))) (same-inside n.kind (is_leaf n.kind) inside (segments (without_definitions inside)) (segments inside) h.0 i)
+        ∙ ap (λ l. with_first_segment (first_event (read_as n.kind)) (starts_before after) n (node_segments (read_as n.kind) n (inside_of n.kind inside (segments inside)) ++ l)) a
 
 -- a node gives three at most
 node-few : (r : Reads) (n : BlockNode) (l : List Segment) → length (node_segments r n l) ≤ 2 + length l
@@ -175,12 +197,12 @@ node-few (First event) n l = omega arith
 node-few Silent n l = omega arith
 
 -- a further one stands first in what is behind it
-first-few : (element : Bool) (e : Segment) (others : List Segment) → length (first_of_segments element e others) ≤ 1 + length others
-first-few true e [] = omega arith
-first-few true e (s ∷ others) = omega arith
-first-few false e others = omega arith
+first-few : (starts : ℕ) (e : Segment) (others : List Segment) → length (first_of_segments starts e others) ≤ 1 + length others
+first-few zero e others = omega arith
+first-few (suc starts) e [] = omega arith
+first-few (suc starts) e (s ∷ others) = let f = first-few starts e others in omega (arith, f)
 
-with-few : (r : Reads) (element : Bool) (n : BlockNode) (l others : List Segment) → length (with_first_segment (first_event r) element n (node_segments r n l ++ others)) ≤ 2 + (length l + length others)
+with-few : (r : Reads) (element : ℕ) (n : BlockNode) (l others : List Segment) → length (with_first_segment (first_event r) element n (node_segments r n l ++ others)) ≤ 2 + (length l + length others)
 with-few (Around tag) element n l others = let e = length-append (node_segments (Around tag) n l) others in let f = node-few (Around tag) n l in omega (arith, e, f)
 with-few Inside element n l others = let e = length-append l others in omega (arith, e)
 with-few (Alone event) element n l others = omega arith
@@ -195,7 +217,7 @@ segments-count : (d : BlockDocument) → length (segments d) ≤ 3 * count_nodes
 segments-count Nil = omega arith
 segments-count (Node n inside after) =
     let own = inside_of n.kind inside (segments inside) in
-    let f = with-few (read_as n.kind) (begins_element after) n own (segments after) in
+    let f = with-few (read_as n.kind) (starts_before after) n own (segments after) in
     let g = inside-few n.kind (is_leaf n.kind) inside (segments inside) in
     let i = segments-count inside in
     let a = segments-count after in

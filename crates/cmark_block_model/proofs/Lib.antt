@@ -11,7 +11,10 @@ pub mod FootnoteLabels
 pub mod Keeping
 pub mod LazyLines
 pub mod LeafDrawings
+pub mod Marks
+pub mod MarksKept
 pub mod Mirror
+pub mod Places
 pub mod PassSamples
 pub mod PlainTokens
 pub mod Replay

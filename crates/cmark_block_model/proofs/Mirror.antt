@@ -17,7 +17,7 @@ use Rattle.cmark_block_model.specs.CodeLines.{no_run, texts_of}
 use Rattle.cmark_block_model.specs.OpenBlocks.{OpenContainer, OpenLeaf, Closed, BehindTag as BehindTagLeaf, InParagraph as InParagraphLeaf, InDefinition, InIndented, InFenced, InHtml, Pass, InMetadata, InTable}
 use Rattle.cmark_block_model.proofs.PlainTokens.{stretch-join, html-join}
 use Rattle.cmark_block_model.proofs.CodeRuns.{code_run}
-use Rattle.cmark_block_model.proofs.Replay.{Level, begun, level_opened, level_drawn, standing, entered, leaf_level, replay}
+use Rattle.cmark_block_model.proofs.Replay.{Level, begun, paragraph_begun, level_opened, level_drawn, standing, entered, leaf_level, replay}
 
 -- a line that lacks no prefix
 abbrev pub whole : Row → Row
@@ -164,7 +164,7 @@ module _ (text : List ℕ) (options : Options) (lookup : Lookup) where
       ∙ sym (html-join (verbatim_line text s.columns s) (html_tokens text rs) (html_then (verbatim_line text r.columns r) Nil))
 
   abbrev pub paragraph_open : Row → List Row → Level → Level
-  paragraph_open first more l = level_drawn (lines_drawn (start_of first) first more) (level_opened (start_of first) document.Paragraph (begun l))
+  paragraph_open first more l = level_drawn (lines_drawn (start_of first) first more) (level_opened (start_of first) document.Paragraph (paragraph_begun l))
 
   abbrev pub verbatim_level : Verbatim → Row → List Row → Level → Level
   verbatim_level Indented first had l =

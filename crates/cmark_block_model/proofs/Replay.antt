@@ -1,22 +1,23 @@
 -- What closed blocks leave of a level: what is drawn there, its siblings' flags, the references and the labels of footnotes, block
 -- by block.
-use Rattle.std.specs.Prelude.{ℕ, ◌+◌, Bool, true, false, ◌==◌, ◌||◌, List, [], ◌∷◌, ◌++◌, Option, Some, None}
+use Rattle.std.specs.Prelude.{ℕ, Bool, true, false, ◌==◌, ◌||◌, List, [], ◌∷◌, ◌++◌, Option, Some, None}
 use Rattle.cmark_grammar.specs.Options.{Options}
 use Rattle.cmark_grammar.specs.Answers.{Lookup}
 use Rattle.cmark_grammar.specs.Attributes.{no_attributes}
 use Rattle.cmark_grammar.specs.Rows.{Row, without, start_of, begin_of, past_of}
 use Rattle.cmark_grammar.specs.Labels.{normal_form}
-use Rattle.cmark_grammar.specs.Containers.{Container, Quote, Item, Footnote}
+use Rattle.cmark_grammar.specs.Containers.{Container, Quote, Item, Footnote, ListDefinition}
 use Rattle.cmark_grammar.specs.Openings.{Leaf, ThematicBreak, AtxHeading, IndentedCode, FencedCode, HtmlBlock, LinkDefinition, MetadataBlock, Table}
 use Rattle.cmark_grammar.specs.Blocks.{Blocks, Nil, BlankLine, Paragraph, SetextHeading, LeafBlock, ContainerBlock, join}
 use Rattle.cmark_grammar.specs.Tokens.{paragraph_tokens}
 use Rattle.cmark_grammar.specs.TaskItems.{behind_box}
-use Rattle.cmark_grammar.specs.Derivation.{stop_of, reference_of, leaf_then, task_then}
+use Rattle.cmark_grammar.specs.Derivation.{stop_of, reference_of, leaf_then, task_then, list_kind}
+use Rattle.cmark_grammar.specs.Lists.{definition_mark}
 use Rattle.cmark_grammar.specs.BlockDocument as document
 use Rattle.cmark_grammar.specs.BlockDocument.{BlockDocument, BlockKind, Reference, Node, node}
-use Rattle.cmark_block_model.specs.Drawing.{Drawing, drawn, opened, closed_at}
-use Rattle.cmark_block_model.specs.OpenBlocks.{OpenList, Siblings, no_siblings}
-use Rattle.cmark_block_model.specs.BlockPass.{list_closed, behind_container}
+use Rattle.cmark_block_model.specs.Drawing.{Drawing, drawn, opened, closed_at, retitled, enclosed}
+use Rattle.cmark_block_model.specs.OpenBlocks.{OpenList, Title, Siblings, no_siblings}
+use Rattle.cmark_block_model.specs.BlockPass.{ended, ended_but, title_released, definitions_in, siblings_with_block, siblings_with_paragraph, behind_container}
 use Rattle.std.proofs.Common.{◌≡◌, refl}
 
 -- the link reference definitions, and the labels of the footnote definitions
@@ -32,14 +33,19 @@ pub record Level : Type 0 where
 
 -- a block begins that is no item
 abbrev pub begun : Level → Level
-begun l = record l {
-  drawing = list_closed l.inner.list l.drawing;
-  inner = record { has_block = true; blank = false; parted = l.inner.parted || l.inner.blank; list = None };
-}
+begun l = record l { drawing = ended l.inner l.drawing; inner = siblings_with_block l.inner }
+
+-- a paragraph begins
+abbrev pub paragraph_begun : Level → Level
+paragraph_begun l = record l { drawing = ended_but (definitions_in l.inner.list) l.inner l.drawing; inner = siblings_with_paragraph l.inner }
+
+-- a paragraph turned out to be none
+abbrev pub untitled : Level → Level
+untitled l = record l { drawing = title_released l.inner.title l.drawing; inner = record l.inner { title = None } }
 
 abbrev pub list_level : (mark : ℕ) → Option ℕ → (start : ℕ) → Level → Level
 list_level mark number start l = let q = begun l in record q {
-  drawing = opened start (document.BlockList number false) q.drawing;
+  drawing = opened start (list_kind mark number false) q.drawing;
   inner = record q.inner { list = Some (record { mark = mark; number = number; loose = false; end = start }) };
 }
 
@@ -53,6 +59,21 @@ item_if false mark number start o l = list_level mark number start l
 abbrev pub item_level : (mark : ℕ) → Option ℕ → (start : ℕ) → Level → Option OpenList → Level
 item_level mark number start l None = list_level mark number start l
 item_level mark number start l (Some o) = item_if (o.mark == mark) mark number start o l
+
+-- a definition begins behind a title
+abbrev pub title_level : Option OpenList → (parted : Bool) → (start : ℕ) → Level → Level
+title_level None parted start l = record l {
+  drawing = enclosed (document.DefinitionList false) document.DefinitionListTitle l.drawing;
+  inner = record l.inner { blank = false; list = Some (record { mark = definition_mark; number = None; loose = l.inner.blank; end = start }); title = None };
+}
+title_level (Some o) parted start l = record l {
+  drawing = retitled document.DefinitionListTitle l.drawing;
+  inner = record l.inner { blank = false; parted = parted; list = Some (record o { loose = o.loose || l.inner.blank }); title = None };
+}
+
+abbrev pub definition_level : Option Title → (start : ℕ) → Level → Level
+definition_level None start l = item_level definition_mark None start l l.inner.list
+definition_level (Some t) start l = title_level t.list t.parted start l
 
 abbrev pub level_opened : (start : ℕ) → BlockKind → Level → Level
 level_opened start kind l = record l { drawing = opened start kind l.drawing }
@@ -73,6 +94,7 @@ abbrev pub standing : Container → Row → Level → Level
 standing (Quote alert) r l = level_opened (start_of r) (document.BlockQuote alert) (begun l)
 standing (Footnote label old size) r l = level_opened (start_of r) (document.FootnoteDefinition (normal_form label)) (footnote_level label (begun l))
 standing (Item mark number width task) r l = level_drawn (marked task width r document.Nil) (level_opened (begin_of r) document.ListItem (item_level mark number (begin_of r) l l.inner.list))
+standing (ListDefinition width) r l = level_opened (begin_of r) document.DefinitionListDefinition (definition_level l.inner.title (begin_of r) l)
 
 abbrev pub entered : Container → Row → Level → Level
 entered k r l = record (standing k r l) { inner = no_siblings }
@@ -80,7 +102,7 @@ entered k r l = record (standing k r l) { inner = no_siblings }
 -- the container closed
 abbrev pub left_by : Container → (around : Siblings) → (end : ℕ) → Level → Level
 left_by k around end l = record l {
-  drawing = closed_at end (list_closed l.inner.list l.drawing);
+  drawing = closed_at end (ended l.inner l.drawing);
   inner = behind_container k end l.inner around;
 }
 
@@ -90,11 +112,11 @@ blank_level l = record l { inner = record l.inner { blank = l.inner.has_block } 
 module _ (text : List ℕ) (options : Options) (lookup : Lookup) where
   abbrev pub paragraph_level : Row → List Row → Level → Level
   paragraph_level first more l =
-      level_drawn (Node (node document.Paragraph (start_of first) (past_of first more)) (paragraph_tokens text first more) document.Nil) (begun l)
+      level_drawn (Node (node document.Paragraph (start_of first) (past_of first more)) (paragraph_tokens text first more) document.Nil) (paragraph_begun l)
 
   abbrev pub heading_level : (level : ℕ) → Row → List Row → Row → Level → Level
   heading_level level first more underline l =
-      level_drawn (Node (node (document.Heading level no_attributes) (start_of first) underline.past) (paragraph_tokens text first more) document.Nil) (begun l)
+      untitled (level_drawn (Node (node (document.Heading level no_attributes) (start_of first) underline.past) (paragraph_tokens text first more) document.Nil) (paragraph_begun l))
 
   abbrev pub leaf_drawing : Leaf → Row → List Row → Drawing → Drawing
   leaf_drawing ThematicBreak first more d = drawn (leaf_then text options lookup ThematicBreak first more document.Nil) d

@@ -1,34 +1,41 @@
 -- The drawn document, settled, is the document of the grammar without its definitions; the references are its definitions.
-use Rattle.std.proofs.Common.{◌≡◌, ℕ, Bool, true, false, ◌==◌, List, ◌∷◌, length, refl, ap, ◌∙◌, sym, subst, Option, Some, None}
+use Rattle.std.proofs.Common.{◌≡◌, ℕ, Bool, true, false, ◌==◌, List, ◌∷◌, length, refl, ap, ◌∙◌, sym, subst, Option, Some, None, [], ◌&&◌, not}
 use Rattle.std.specs.Prelude.{if◌then◌else◌}
 use Rattle.cmark_grammar.specs.Options.{Options}
 use Rattle.cmark_grammar.specs.Answers.{Lookup}
 use Rattle.cmark_grammar.specs.Attributes.{no_attributes}
 use Rattle.cmark_grammar.specs.Rows.{Row, past_of, begin_of, start_of}
 use Rattle.cmark_grammar.specs.Labels.{normal_form}
-use Rattle.cmark_grammar.specs.Containers.{Quote, Item, Footnote}
+use Rattle.cmark_grammar.specs.Containers.{Quote, Item, Footnote, ListDefinition}
 use Rattle.cmark_grammar.specs.Openings.{Leaf, ThematicBreak, AtxHeading, IndentedCode, FencedCode, HtmlBlock, LinkDefinition, MetadataBlock, Table}
 use Rattle.cmark_grammar.specs.Blocks.{Blocks, Nil as NoBlocks, BlankLine, Paragraph, SetextHeading, LeafBlock, ContainerBlock}
-use Rattle.cmark_grammar.specs.Lists.{ListBefore, is_tight, tight_behind, goes_on}
+use Rattle.cmark_grammar.specs.Lists.{ListBefore, is_tight, tight_behind, goes_on, definition_mark, is_title, loose_from, title_tight_behind}
 use Rattle.cmark_grammar.specs.Tokens.{paragraph_tokens, heading_attributes, fenced_lines, lines_before}
-use Rattle.cmark_grammar.specs.Derivation.{paragraph_kind, leaf_then, item_then, document_of}
+use Rattle.cmark_grammar.specs.Derivation.{paragraph_kind, leaf_then, item_then, document_of, list_kind}
 use Rattle.cmark_grammar.specs.BlockDocument as document
-use Rattle.cmark_grammar.specs.BlockDocument.{join, BlockNode, BlockDocument, Nil, Node, node}
-use Rattle.cmark_grammar.specs.DrawnDocument.{settled, without_definitions}
+use Rattle.cmark_grammar.specs.BlockDocument.{join, BlockNode, BlockDocument, Nil, Node, node, BlockKind}
+use Rattle.cmark_grammar.specs.DrawnDocument.{settled, without_definitions, is_definition, node_unless, kind_within}
 use Rattle.cmark_grammar.specs.Metadata.{ends_metadata}
 use Rattle.cmark_block_model.proofs.PlainTokens.{IsPlain, paragraph_plain, heading_plain, code_plain, html_tokens_plain, table_plain}
-use Rattle.cmark_block_model.proofs.Split.{Split, end_or, lone, item_split, leaf_raw, split}
+use Rattle.cmark_block_model.proofs.Split.{Split, end_or, lone, item_split, leaf_raw, split, is_mark, title_split}
 use Rattle.cmark_block_model.proofs.Draws.{other-mark}
 use Rattle.cmark_block_model.proofs.Replay.{marked}
+use Rattle.cmark_grammar.specs.Tightness.{tight_within}
+use Rattle.cmark_grammar.specs.References.{reference_of_kind}
+use Rattle.cmark_grammar.specs.SpanDocuments.{footnote_label}
+use Rattle.cmark_grammar.proofs.TightLaws.{title_goes_on}
+use Rattle.cmark_block_model.proofs.Flags.{and-true, and-false}
 
 -- what goes on with the list before: the document begins with it
 pub record GoesOn (direct tight : Bool) (s : Split) (d : BlockDocument) : Type 0 where
-  pub number : Option ℕ
+  pub list : BlockKind
   pub start : ℕ
   pub end : ℕ
   pub items : BlockDocument
   pub after : BlockDocument
-  pub is : d ≡ Node (node (document.BlockList number tight) start end) items after
+  pub silent : reference_of_kind list ≡ []
+  pub unlabelled : footnote_label list ≡ []
+  pub is : d ≡ Node (node list start end) items after
   pub same_items : settled tight s.items ≡ without_definitions items
   pub same_after : settled direct s.after ≡ without_definitions after
   pub ends : s.end ≡ Some end
@@ -56,6 +63,97 @@ marked-settles : (tight : Bool) (task : Option Bool) (width : ℕ) (first : Row)
 marked-settles tight None width first x d e = e
 marked-settles tight (Some is_checked) width first x d e = node-same _ refl e
 
+-- a list that is that tight
+pub record IsList (list : BlockKind) (tight : Bool) : Type 0 where
+  pub within : (z : Bool) → tight_within z list ≡ tight
+  pub same : (z : Bool) → kind_within z list ≡ list
+  pub read : is_definition list ≡ false
+  pub silent : reference_of_kind list ≡ []
+  pub unlabelled : footnote_label list ≡ []
+
+list-is : (mark : ℕ) (number : Option ℕ) (tight : Bool) → IsList (list_kind mark number tight) tight
+list-is mark number tight = go (mark == definition_mark)
+  where
+    go : (z : Bool) → IsList (if z then document.DefinitionList tight else document.BlockList number tight) tight
+    go true = record { within = λ z. refl; same = λ z. refl; read = refl; silent = refl; unlabelled = refl }
+    go false = record { within = λ z. refl; same = λ z. refl; read = refl; silent = refl; unlabelled = refl }
+
+definitions-is : (tight : Bool) → IsList (document.DefinitionList tight) tight
+definitions-is tight = record { within = λ z. refl; same = λ z. refl; read = refl; silent = refl; unlabelled = refl }
+
+-- what is inside an item is settled so
+abbrev pub Opens : (tight : Bool) (kind : BlockKind) (start past : ℕ) (raw inside : BlockDocument) → Type 0
+Opens tight kind start past raw inside = (x : BlockDocument) → settled tight (Node (node kind start past) raw x) ≡ Node (node kind start past) inside (settled tight x)
+
+-- an item, a title or a definition, and what goes on with it
+pub record IsWhole (direct tight : Bool) (list kind : BlockKind) (start past : ℕ) (inside : BlockDocument) (s : Split) (d : BlockDocument) : Type 0 where
+  pub end : ℕ
+  pub items : BlockDocument
+  pub after : BlockDocument
+  pub is : d ≡ Node (node list start end) items after
+  pub same_items : Node (node kind start past) inside (settled tight s.items) ≡ without_definitions items
+  pub same_after : settled direct s.after ≡ without_definitions after
+  pub ends : end_or past s.end ≡ end
+
+item-whole : (joins direct tight : Bool) (list kind : BlockKind) (start past : ℕ) (inside inner : BlockDocument) (s : Split) (d : BlockDocument) → is_definition kind ≡ false → inside ≡ without_definitions inner → Joins joins direct tight s d → IsWhole direct tight list kind start past inside s (item_then joins list (node kind start past) inner d)
+item-whole true direct tight list kind start past inside inner s d k e j = record {
+  end = j.end;
+  items = Node (node kind start past) inner j.items;
+  after = j.after;
+  is = ap (item_then true list (node kind start past) inner) j.is;
+  same_items = node-same (node kind start past) e j.same_items ∙ ap (λ z. node_unless z (node kind start past) (without_definitions inner) (without_definitions j.items)) (sym k);
+  same_after = j.same_after;
+  ends = ap (end_or past) j.ends;
+}
+item-whole false direct tight list kind start past inside inner s d k e j = record {
+  end = past;
+  items = Node (node kind start past) inner Nil;
+  after = d;
+  is = refl;
+  same_items = node-same (node kind start past) e (ap (settled tight) j.0) ∙ ap (λ z. node_unless z (node kind start past) (without_definitions inner) Nil) (sym k);
+  same_after = j.2;
+  ends = ap (end_or past) j.1;
+}
+
+whole-settles : (direct tight : Bool) (list kind : BlockKind) (start past : ℕ) (raw inside : BlockDocument) (s : Split) (d : BlockDocument) → IsList list tight → Opens tight kind start past raw inside → IsWhole direct tight list kind start past inside s d → settled direct (item_split false list kind start past raw s).after ≡ without_definitions d
+whole-settles direct tight list kind start past raw inside s d l o w =
+    ap (λ k. Node (node k start (end_or past s.end)) (settled (tight_within direct list) (Node (node kind start past) raw s.items)) (settled direct s.after)) (l.same direct)
+    ∙ ap (λ z. Node (node list start (end_or past s.end)) (settled z (Node (node kind start past) raw s.items)) (settled direct s.after)) (l.within direct)
+    ∙ ap (λ e. Node (node list start e) (settled tight (Node (node kind start past) raw s.items)) (settled direct s.after)) w.ends
+    ∙ node-same (node list start w.end) (o s.items ∙ w.same_items) w.same_after
+    ∙ ap (λ z. node_unless z (node list start w.end) (without_definitions w.items) (without_definitions w.after)) (sym l.read)
+    ∙ ap without_definitions (sym w.is)
+
+-- as tight as the list before, or else as this one is
+abbrev pub tight_or : Option ListBefore → (mark : ℕ) → (own : Bool) → Bool
+tight_or None mark own = own
+tight_or (Some before) mark own = if before.mark == mark then before.tight else own
+
+joined : (joins direct own : Bool) (before : Option ListBefore) (mark : ℕ) (list : Bool → BlockKind) (kind : BlockKind) (start past : ℕ) (raw : BlockDocument) (inside inner : Bool → BlockDocument) (s : Split) (d : Bool → BlockDocument)
+    → ((t : Bool) → IsList (list t) t) → is_definition kind ≡ false → ((t : Bool) → Opens t kind start past raw (inside t)) → ((t : Bool) → inside t ≡ without_definitions (inner t)) → ((t : Bool) → Joins joins direct t s (d t))
+    → Settles direct before (λ m. mark == m) (λ m. item_split (is_mark m mark) (list own) kind start past raw s) (item_then joins (list (tight_or before mark own)) (node kind start past) (inner (tight_or before mark own)) (d (tight_or before mark own)))
+joined joins direct own before mark list kind start past raw inside inner s d l k o e j = go before
+  where
+    D : Bool → BlockDocument
+    D t = item_then joins (list t) (node kind start past) (inner t) (d t)
+
+    whole : (t : Bool) → IsWhole direct t (list t) kind start past (inside t) s (D t)
+    whole t = item-whole joins direct t (list t) kind start past (inside t) (inner t) s (d t) k (e t) (j t)
+
+    same : (z : Bool) (b : ListBefore) → Joins z direct b.tight (item_split z (list own) kind start past raw s) (D (if z then b.tight else own))
+    same true b =
+        let w = whole b.tight in
+        record { list = list b.tight; start = start; end = w.end; items = w.items; after = w.after; silent = (l b.tight).silent; unlabelled = (l b.tight).unlabelled; is = w.is; same_items = o b.tight s.items ∙ w.same_items; same_after = w.same_after; ends = ap Some w.ends }
+    same false b = (refl, refl, whole-settles direct own (list own) kind start past raw (inside own) s (D own) (l own) (o own) (whole own))
+
+    go : (before : Option ListBefore) → Settles direct before (λ m. mark == m) (λ m. item_split (is_mark m mark) (list own) kind start past raw s) (D (tight_or before mark own))
+    go None = whole-settles direct own (list own) kind start past raw (inside own) s (D own) (l own) (o own) (whole own)
+    go (Some b) = subst (λ z. Joins z direct b.tight (item_split (b.mark == mark) (list own) kind start past raw s) (D (tight_or (Some b) mark own))) (sym (other-mark b.mark mark (b.mark == mark) refl)) (same (b.mark == mark) b)
+
+joins-same : (direct : Bool) (before : Option ListBefore) (f g : ℕ → Bool) (s : Option ℕ → Split) (d : BlockDocument) → ((m : ℕ) → f m ≡ g m) → Settles direct before f s d → Settles direct before g s d
+joins-same direct None f g s d e h = h
+joins-same direct (Some b) f g s d e h = subst (λ z. Joins z direct b.tight (s (Some b.mark)) d) (e b.mark) h
+
 module _ (text : List ℕ) (options : Options) (lookup : Lookup) where
   leaf-settles : (leaf : Leaf) (first : Row) (more : List Row) (direct : Bool) (x d : BlockDocument) → settled direct x ≡ without_definitions d → settled direct (leaf_raw text options lookup leaf first more x) ≡ without_definitions (leaf_then text options lookup leaf first more d)
   leaf-settles ThematicBreak first more direct x d e = ap (Node (node document.ThematicBreak (start_of first) (past_of first more)) Nil) e
@@ -67,48 +165,92 @@ module _ (text : List ℕ) (options : Options) (lookup : Lookup) where
   leaf-settles (MetadataBlock kind) first more direct x d e = let h = code_plain text 0 (lines_before (ends_metadata kind) more) in node-same _ (h.still false ∙ sym h.whole) e
   leaf-settles (Table alignments) first more direct x d e = let h = table_plain text (length alignments) first more in node-same _ (h.still false ∙ sym h.whole) e
 
-  -- an item and what goes on with it
-  pub record IsWhole (direct tight : Bool) (number : Option ℕ) (start past : ℕ) (inside : BlockDocument) (s : Split) (d : BlockDocument) : Type 0 where
-    pub end : ℕ
-    pub items : BlockDocument
-    pub after : BlockDocument
-    pub is : d ≡ Node (node (document.BlockList number tight) start end) items after
-    pub same_items : settled tight (Node (node document.ListItem start past) inside s.items) ≡ without_definitions items
-    pub same_after : settled direct s.after ≡ without_definitions after
-    pub ends : end_or past s.end ≡ end
+  -- a paragraph, as a title or as itself
+  title-settles : (z direct : Bool) (before : Option ListBefore) (first : Row) (more : List Row) (after : Blocks) → is_title after ≡ z
+      → ((t : Bool) → Joins (goes_on definition_mark after) direct t (split text options lookup (Some definition_mark) after) (document_of text options lookup direct (Some (record { mark = definition_mark; tight = t })) after))
+      → settled direct (split text options lookup None after).after ≡ without_definitions (document_of text options lookup direct None after)
+      → Settles direct before (λ m. (definition_mark == m) && z)
+      (λ m. title_split z (is_mark m definition_mark) (document.DefinitionList (not (loose_from definition_mark false after))) (start_of first) (past_of first more) (paragraph_tokens text first more) (split text options lookup (Some definition_mark) after) (split text options lookup None after).after)
+      (if z then item_then true (document.DefinitionList (title_tight_behind before after)) (node document.DefinitionListTitle (start_of first) (past_of first more)) (paragraph_tokens text first more) (document_of text options lookup direct (Some (record { mark = definition_mark; tight = title_tight_behind before after })) after)
+      else Node (node (paragraph_kind direct) (start_of first) (past_of first more)) (paragraph_tokens text first more) (document_of text options lookup direct None after))
+  title-settles false direct before first more after e j n =
+      joins-same direct before (λ m. false) (λ m. (definition_mark == m) && false) _ _ (λ m. sym (and-false (definition_mark == m)))
+      (stands direct before _ _ (paragraph-settles direct (start_of first) (past_of first more) (paragraph_tokens text first more) (split text options lookup None after).after (document_of text options lookup direct None after) (paragraph_plain text first more) n))
+  title-settles true direct before first more after e j n =
+      joins-same direct before (λ m. definition_mark == m) (λ m. (definition_mark == m) && true) _ _ (λ m. sym (and-true (definition_mark == m))) (go before)
+    where
+      own : Bool
+      own = not (loose_from definition_mark false after)
 
-  item-whole : (joins direct tight : Bool) (number : Option ℕ) (start past : ℕ) (inside inner : BlockDocument) (s : Split) (d : BlockDocument) → settled tight inside ≡ without_definitions inner → Joins joins direct tight s d → IsWhole direct tight number start past inside s (item_then joins number tight (node document.ListItem start past) inner d)
-  item-whole true direct tight number start past inside inner s d e j = record {
-    end = j.end;
-    items = Node (node document.ListItem start past) inner j.items;
-    after = j.after;
-    is = ap (item_then true number tight (node document.ListItem start past) inner) j.is;
-    same_items = node-same (node document.ListItem start past) e j.same_items;
-    same_after = j.same_after;
-    ends = ap (end_or past) j.ends;
-  }
-  item-whole false direct tight number start past inside inner s d e j = record {
-    end = past;
-    items = Node (node document.ListItem start past) inner Nil;
-    after = d;
-    is = refl;
-    same_items = node-same (node document.ListItem start past) e (ap (settled tight) j.0);
-    same_after = j.2;
-    ends = ap (end_or past) j.1;
-  }
+      h : IsPlain (paragraph_tokens text first more)
+      h = paragraph_plain text first more
 
-  whole-settles : (direct tight : Bool) (number : Option ℕ) (start past : ℕ) (inside : BlockDocument) (s : Split) (d : BlockDocument) → IsWhole direct tight number start past inside s d → settled direct (item_split false number tight start past inside s).after ≡ without_definitions d
-  whole-settles direct tight number start past inside s d w =
-      ap (λ e. Node (node (document.BlockList number tight) start e) (settled tight (Node (node document.ListItem start past) inside s.items)) (settled direct s.after)) w.ends
-      ∙ node-same (node (document.BlockList number tight) start w.end) w.same_items w.same_after
-      ∙ ap without_definitions (sym w.is)
+      D : Bool → BlockDocument
+      D t = item_then true (document.DefinitionList t) (node document.DefinitionListTitle (start_of first) (past_of first more)) (paragraph_tokens text first more) (document_of text options lookup direct (Some (record { mark = definition_mark; tight = t })) after)
+
+      both : Settles direct before (λ m. definition_mark == m) (λ m. item_split (is_mark m definition_mark) (document.DefinitionList own) document.DefinitionListTitle (start_of first) (past_of first more) (paragraph_tokens text first more) (split text options lookup (Some definition_mark) after)) (D (tight_or before definition_mark own))
+      both =
+          joined true direct own before definition_mark (λ t. document.DefinitionList t) document.DefinitionListTitle (start_of first) (past_of first more) (paragraph_tokens text first more) (λ t. settled false (paragraph_tokens text first more)) (λ t. paragraph_tokens text first more)
+          (split text options lookup (Some definition_mark) after) (λ t. document_of text options lookup direct (Some (record { mark = definition_mark; tight = t })) after)
+          definitions-is refl (λ t x. refl) (λ t. h.still false ∙ sym h.whole)
+          (λ t. subst (λ z. Joins z direct t (split text options lookup (Some definition_mark) after) (document_of text options lookup direct (Some (record { mark = definition_mark; tight = t })) after)) (title_goes_on text options lookup after e) (j t))
+
+      tight-same : (before : Option ListBefore) → tight_or before definition_mark own ≡ title_tight_behind before after
+      tight-same None = refl
+      tight-same (Some b) = refl
+
+      go : (b : Option ListBefore) → Settles direct before (λ m. definition_mark == m) (λ m. item_split (is_mark m definition_mark) (document.DefinitionList own) document.DefinitionListTitle (start_of first) (past_of first more) (paragraph_tokens text first more) (split text options lookup (Some definition_mark) after)) (D (title_tight_behind before after))
+      go b = subst (λ t. Settles direct before (λ m. definition_mark == m) (λ m. item_split (is_mark m definition_mark) (document.DefinitionList own) document.DefinitionListTitle (start_of first) (past_of first more) (paragraph_tokens text first more) (split text options lookup (Some definition_mark) after)) (D t)) (tight-same before) both
+
+  item-settles : (direct : Bool) (before : Option ListBefore) (mark : ℕ) (number : Option ℕ) (width : ℕ) (task : Option Bool) (first : Row) (more : List Row) (inside after : Blocks)
+      → ((t : Bool) → settled t (split text options lookup None inside).after ≡ without_definitions (document_of text options lookup t None inside))
+      → ((t : Bool) → Joins (goes_on mark after) direct t (split text options lookup (Some mark) after) (document_of text options lookup direct (Some (record { mark = mark; tight = t })) after))
+      → Settles direct before (λ m. mark == m) (λ m. split text options lookup m (ContainerBlock (Item mark number width task) first more inside after)) (document_of text options lookup direct before (ContainerBlock (Item mark number width task) first more inside after))
+  item-settles direct before mark number width task first more inside after i j = subst (λ t. Settles direct before (λ m. mark == m) (λ m. split text options lookup m (ContainerBlock (Item mark number width task) first more inside after)) (D t)) (tight-same before) both
+    where
+      raw : BlockDocument
+      raw = join (marked task width first Nil) (split text options lookup None inside).after
+
+      D : Bool → BlockDocument
+      D t = item_then (goes_on mark after) (list_kind mark number t) (node document.ListItem (begin_of first) (past_of first more)) (marked task width first (document_of text options lookup t None inside)) (document_of text options lookup direct (Some (record { mark = mark; tight = t })) after)
+
+      both : Settles direct before (λ m. mark == m) (λ m. split text options lookup m (ContainerBlock (Item mark number width task) first more inside after)) (D (tight_or before mark (is_tight mark inside after)))
+      both =
+          joined (goes_on mark after) direct (is_tight mark inside after) before mark (λ t. list_kind mark number t) document.ListItem (begin_of first) (past_of first more) raw (λ t. settled t raw) (λ t. marked task width first (document_of text options lookup t None inside))
+          (split text options lookup (Some mark) after) (λ t. document_of text options lookup direct (Some (record { mark = mark; tight = t })) after)
+          (λ t. list-is mark number t) refl (λ t x. refl) (λ t. marked-settles t task width first (split text options lookup None inside).after (document_of text options lookup t None inside) (i t)) j
+
+      tight-same : (before : Option ListBefore) → tight_or before mark (is_tight mark inside after) ≡ tight_behind before mark inside after
+      tight-same None = refl
+      tight-same (Some b) = refl
+
+  definition-settles : (direct : Bool) (before : Option ListBefore) (width : ℕ) (first : Row) (more : List Row) (inside after : Blocks)
+      → ((t : Bool) → settled t (split text options lookup None inside).after ≡ without_definitions (document_of text options lookup t None inside))
+      → ((t : Bool) → Joins (goes_on definition_mark after) direct t (split text options lookup (Some definition_mark) after) (document_of text options lookup direct (Some (record { mark = definition_mark; tight = t })) after))
+      → Settles direct before (λ m. definition_mark == m) (λ m. split text options lookup m (ContainerBlock (ListDefinition width) first more inside after)) (document_of text options lookup direct before (ContainerBlock (ListDefinition width) first more inside after))
+  definition-settles direct before width first more inside after i j = subst (λ t. Settles direct before (λ m. definition_mark == m) (λ m. split text options lookup m (ContainerBlock (ListDefinition width) first more inside after)) (D t)) (tight-same before) both
+    where
+      raw : BlockDocument
+      raw = (split text options lookup None inside).after
+
+      D : Bool → BlockDocument
+      D t = item_then (goes_on definition_mark after) (document.DefinitionList t) (node document.DefinitionListDefinition (begin_of first) (past_of first more)) (document_of text options lookup t None inside) (document_of text options lookup direct (Some (record { mark = definition_mark; tight = t })) after)
+
+      both : Settles direct before (λ m. definition_mark == m) (λ m. split text options lookup m (ContainerBlock (ListDefinition width) first more inside after)) (D (tight_or before definition_mark (is_tight definition_mark inside after)))
+      both =
+          joined (goes_on definition_mark after) direct (is_tight definition_mark inside after) before definition_mark (λ t. document.DefinitionList t) document.DefinitionListDefinition (begin_of first) (past_of first more) raw (λ t. settled t raw) (λ t. document_of text options lookup t None inside)
+          (split text options lookup (Some definition_mark) after) (λ t. document_of text options lookup direct (Some (record { mark = definition_mark; tight = t })) after)
+          definitions-is refl (λ t x. refl) i j
+
+      tight-same : (before : Option ListBefore) → tight_or before definition_mark (is_tight definition_mark inside after) ≡ tight_behind before definition_mark inside after
+      tight-same None = refl
+      tight-same (Some b) = refl
 
   pub settles : (b : Blocks) (direct : Bool) (before : Option ListBefore) → Settles direct before (λ mark. goes_on mark b) (λ mark. split text options lookup mark b) (document_of text options lookup direct before b)
   settles NoBlocks direct before = stands direct before Nil Nil refl
   settles (BlankLine line after) direct None = settles after direct None
   settles (BlankLine line after) direct (Some before) = settles after direct (Some before)
-  settles (Paragraph first more after) direct before =
-      stands direct before _ _ (paragraph-settles direct (start_of first) (past_of first more) (paragraph_tokens text first more) (split text options lookup None after).after (document_of text options lookup direct None after) (paragraph_plain text first more) (settles after direct None))
+  settles (Paragraph first more after) direct before = title-settles (is_title after) direct before first more after refl (λ t. settles after direct (Some (record { mark = definition_mark; tight = t }))) (settles after direct None)
   settles (SetextHeading level first more underline after) direct before =
       let h = paragraph_plain text first more in
       stands direct before _ _ (node-same (node (document.Heading level no_attributes) (start_of first) underline.past) (h.still false ∙ sym h.whole) (settles after direct None))
@@ -119,29 +261,6 @@ module _ (text : List ℕ) (options : Options) (lookup : Lookup) where
   settles (ContainerBlock (Footnote label old size) first more inside after) direct before =
       stands direct before _ _ (node-same (node (document.FootnoteDefinition (normal_form label)) (start_of first) (past_of first more)) (settles inside false None) (settles after direct None))
   settles (ContainerBlock (Item mark number width task) first more inside after) direct before =
-      go before (λ t. marked-settles t task width first (split text options lookup None inside).after (document_of text options lookup t None inside) (settles inside t None)) (λ t. settles after direct (Some (record { mark = mark; tight = t })))
-    where
-      Inside : Bool → Type 0
-      Inside t = settled t (join (marked task width first Nil) (split text options lookup None inside).after) ≡ without_definitions (marked task width first (document_of text options lookup t None inside))
-
-      After : Bool → Type 0
-      After t = Joins (goes_on mark after) direct t (split text options lookup (Some mark) after) (document_of text options lookup direct (Some (record { mark = mark; tight = t })) after)
-
-      D : Bool → BlockDocument
-      D t = item_then (goes_on mark after) number t (node document.ListItem (begin_of first) (past_of first more)) (marked task width first (document_of text options lookup t None inside)) (document_of text options lookup direct (Some (record { mark = mark; tight = t })) after)
-
-      whole : (t : Bool) → Inside t → After t → IsWhole direct t number (begin_of first) (past_of first more) (join (marked task width first Nil) (split text options lookup None inside).after) (split text options lookup (Some mark) after) (D t)
-      whole t i a = item-whole (goes_on mark after) direct t number (begin_of first) (past_of first more) (join (marked task width first Nil) (split text options lookup None inside).after) (marked task width first (document_of text options lookup t None inside)) (split text options lookup (Some mark) after) (document_of text options lookup direct (Some (record { mark = mark; tight = t })) after) i a
-
-      same : (z : Bool) (l : ListBefore) → ((t : Bool) → Inside t) → ((t : Bool) → After t) → Joins z direct l.tight (item_split z number (is_tight mark inside after) (begin_of first) (past_of first more) (join (marked task width first Nil) (split text options lookup None inside).after) (split text options lookup (Some mark) after)) (D (if z then l.tight else is_tight mark inside after))
-      same true l i a =
-          let w = whole l.tight (i l.tight) (a l.tight) in
-          record { number = number; start = begin_of first; end = w.end; items = w.items; after = w.after; is = w.is; same_items = w.same_items; same_after = w.same_after; ends = ap Some w.ends }
-      same false l i a =
-          (refl, refl, whole-settles direct (is_tight mark inside after) number (begin_of first) (past_of first more) (join (marked task width first Nil) (split text options lookup None inside).after) (split text options lookup (Some mark) after) (D (is_tight mark inside after)) (whole (is_tight mark inside after) (i (is_tight mark inside after)) (a (is_tight mark inside after))))
-
-      go : (before : Option ListBefore) → ((t : Bool) → Inside t) → ((t : Bool) → After t) → Settles direct before (λ m. mark == m) (λ m. split text options lookup m (ContainerBlock (Item mark number width task) first more inside after)) (D (tight_behind before mark inside after))
-      go None i a = whole-settles direct (is_tight mark inside after) number (begin_of first) (past_of first more) (join (marked task width first Nil) (split text options lookup None inside).after) (split text options lookup (Some mark) after) (D (is_tight mark inside after)) (whole (is_tight mark inside after) (i (is_tight mark inside after)) (a (is_tight mark inside after)))
-      go (Some l) i a =
-          subst (λ z. Joins z direct l.tight (item_split (l.mark == mark) number (is_tight mark inside after) (begin_of first) (past_of first more) (join (marked task width first Nil) (split text options lookup None inside).after) (split text options lookup (Some mark) after)) (D (tight_behind (Some l) mark inside after)))
-          (sym (other-mark l.mark mark (l.mark == mark) refl)) (same (l.mark == mark) l i a)
+      item-settles direct before mark number width task first more inside after (λ t. settles inside t None) (λ t. settles after direct (Some (record { mark = mark; tight = t })))
+  settles (ContainerBlock (ListDefinition width) first more inside after) direct before =
+      definition-settles direct before width first more inside after (λ t. settles inside t None) (λ t. settles after direct (Some (record { mark = definition_mark; tight = t })))

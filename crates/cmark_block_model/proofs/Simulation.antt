@@ -18,11 +18,13 @@ use Rattle.cmark_block_model.proofs.Replay.{Level, entered, replay}
 use Rattle.cmark_block_model.proofs.Mirror.{pass_with, leaf_left, verbatim_leaf, Fits, inner_at, leaf_at, container_at, containers_at, pass_at, bare_at}
 use Rattle.cmark_block_model.proofs.Flags.{and-true, and-false}
 use Rattle.cmark_block_model.proofs.Closing.{leaf-closes, containers-close}
-use Rattle.cmark_block_model.proofs.Beginning.{ahead-inside, starts, starts-behind-tag}
+use Rattle.cmark_block_model.proofs.Beginning.{ahead-inside, IsFresh, starts, starts-behind-tag}
 use Rattle.cmark_block_model.proofs.Feeding.{paragraph-feeds, leaf-feeds}
 use Rattle.cmark_block_model.proofs.VerbatimLines.{verbatim-feeds}
 use Rattle.cmark_block_model.proofs.LazyLines.{container-goes, lazy-feeds}
 use Rattle.cmark_block_model.proofs.Keeping.{kept-ahead, off-ahead}
+use Rattle.cmark_block_model.proofs.Marks.{unmarked-join}
+use Rattle.cmark_block_model.proofs.MarksKept.{OpenUnmarked}
 
 module _ (text : List ℕ) (options : Options) (lookup : Lookup) where
   takes-lazy : (o : OpenLines) → takes_lazy (leaf_at text options lookup o) ≡ lines_take_lazy o
@@ -61,30 +63,30 @@ module _ (text : List ℕ) (options : Options) (lookup : Lookup) where
   abbrev pub fed : Kept text options lookup → List Row → Pass → Pass
   fed w next p = line_with text options lookup w.missed w.kept w.left next p
 
-  pub simulates : (o : OpenLines) (b : Bool) (r : Row) (next ahead : List Row) (l : Level) (outer : List OpenContainer) (n : ℕ) → r.lazy ≡ false → ahead_in text options lookup outer next ≡ ahead → Fits b o (r ∷ ahead) n
+  pub simulates : (o : OpenLines) (b : Bool) (r : Row) (next ahead : List Row) (l : Level) (outer : List OpenContainer) (n : ℕ) → IsFresh text options lookup l → OpenUnmarked o → r.lazy ≡ false → ahead_in text options lookup outer next ≡ ahead → Fits b o (r ∷ ahead) n
       → fed (kept_by text options lookup outer (containers_at text options lookup o l) (bare_at b o) r) next (pass_with (inner_at text options lookup o (r ∷ ahead) l) (outer ++ containers_at text options lookup o l) false (leaf_at text options lookup o) n)
       ≡ pass_at text options lookup (lines_feed options o r ahead) ahead l outer false n
-  simulates (Between closed) b r next ahead l outer n e a f =
-      ap (λ o. begin text options lookup r next (pass_with (replay text options lookup closed l) o false Closed n)) (append-nil outer) ∙ starts text options lookup closed r next ahead l outer n e a
-  simulates BehindTag b r next ahead l outer n e a f =
-      ap (λ o. begin text options lookup r next (pass_with l o false Closed n)) (append-nil outer) ∙ starts-behind-tag text options lookup r next ahead l outer n e a
-  simulates (InParagraph closed first more) b r next ahead l outer n e a f =
+  simulates (Between closed) b r next ahead l outer n h u e a f =
+      ap (λ o. begin text options lookup r next (pass_with (replay text options lookup closed l) o false Closed n)) (append-nil outer) ∙ starts text options lookup closed r next ahead l outer n h u e a
+  simulates BehindTag b r next ahead l outer n h u e a f =
+      ap (λ o. begin text options lookup r next (pass_with l o false Closed n)) (append-nil outer) ∙ starts-behind-tag text options lookup r next ahead l outer n h e a
+  simulates (InParagraph closed first more) b r next ahead l outer n h u e a f =
       let i = InParagraph closed first more in
       ap (λ o. leaf_fed text options lookup (leaf_at text options lookup i) r next (pass_with (inner_at text options lookup i (r ∷ ahead) l) o false (leaf_at text options lookup i) n)) (append-nil outer)
-      ∙ paragraph-feeds text options lookup closed first more r next ahead l outer b n e a f
-  simulates (InLeaf closed leaf first had left) b r next ahead l outer n e a f =
+      ∙ paragraph-feeds text options lookup closed first more r next ahead l outer b n e a h u f
+  simulates (InLeaf closed leaf first had left) b r next ahead l outer n h u e a f =
       let i = InLeaf closed leaf first had left in
       ap (λ o. leaf_fed text options lookup (leaf_at text options lookup i) r next (pass_with (inner_at text options lookup i (r ∷ ahead) l) o false (leaf_at text options lookup i) n)) (append-nil outer)
-      ∙ leaf-feeds text options lookup closed leaf first had left r next ahead l outer b n e a f
-  simulates (InVerbatim closed v first had waiting) b r next ahead l outer n e a f =
+      ∙ leaf-feeds text options lookup closed leaf first had left r next ahead l outer b n e a h u f
+  simulates (InVerbatim closed v first had waiting) b r next ahead l outer n h u e a f =
       let i = InVerbatim closed v first had waiting in
       ap (λ o. leaf_fed text options lookup (leaf_at text options lookup i) r next (pass_with (inner_at text options lookup i (r ∷ ahead) l) o false (leaf_at text options lookup i) n)) (append-nil outer)
-      ∙ verbatim-feeds text options lookup v closed first had waiting r next ahead l outer b n e a f
+      ∙ verbatim-feeds text options lookup v closed first had waiting r next ahead l outer b n e a h u f
       ∙ ap (λ z. pass_at text options lookup (verbatim_line (further_if z v r) closed v first had waiting r (lines_begin options (close_lines i) r ahead)) ahead l outer false n) (sym e)
-  simulates (InContainer closed k first more inside) b r next ahead l outer n e a f =
+  simulates (InContainer closed k first more inside) b r next ahead l outer n h u e a f =
       ap (λ z. fed (kept_if text options lookup (keeps k z r) (λ s. kept_by text options lookup (outer ++ v ∷ []) cs (bare_at bare inside) s) (record { kept = outer; missed = v ∷ cs; left = r })) next p)
       (bare-flag inside bare (within k bare (r ∷ ahead)) n (entered k first c) f.2)
-      ∙ go (keeps k bare r) refl (λ s q. simulates inside bare (strip k bare r) next (within k false ahead) (entered k first c) (outer ++ v ∷ []) n (strip_whole options k bare r s q)
+      ∙ go (keeps k bare r) refl (λ s q. simulates inside bare (strip k bare r) next (within k false ahead) (entered k first c) (outer ++ v ∷ []) n refl u.2 (strip_whole options k bare r s q)
       (ahead-inside text options lookup outer v next ∙ ap (within k false) a) (subst (λ x. Fits bare inside x n) (kept-ahead options k bare r s ahead e q) inner))
     where
       bare : Bool
@@ -131,7 +133,7 @@ module _ (text : List ℕ) (options : Options) (lookup : Lookup) where
           ap (λ x. begin text options lookup r next (containers_closed text options lookup outer (v ∷ cs) (leaf_closed text options lookup (seen x)))) (off-ahead options k bare r ahead q)
           ∙ ap (λ x. begin text options lookup r next (containers_closed text options lookup outer (v ∷ cs) x)) (leaf-closes text options lookup inside bare n (entered k first c) (outer ++ v ∷ cs) false g)
           ∙ ap (begin text options lookup r next) (containers-close text options lookup (InContainer closed k first more inside) b n l outer false (f.0, f.1, g))
-          ∙ starts text options lookup (join_blocks closed (ContainerBlock k first more (close_lines inside) NoBlocks)) r next ahead l outer n e a
+          ∙ starts text options lookup (join_blocks closed (ContainerBlock k first more (close_lines inside) NoBlocks)) r next ahead l outer n h (unmarked-join closed (ContainerBlock k first more (close_lines inside) NoBlocks) u.0 (u.1, tt)) e a
 
       go : (o : Option Row) → keeps k bare r ≡ o
           → ((s : Row) → keeps k bare r ≡ Some s → fed (kept_by text options lookup (outer ++ v ∷ []) cs (bare_at bare inside) (strip k bare r)) next (pass_with (inner_at text options lookup inside (strip k bare r ∷ within k false ahead) (entered k first (replay text options lookup closed l))) ((outer ++ v ∷ []) ++ cs) false (leaf_at text options lookup inside) n)

@@ -1,19 +1,19 @@
 -- The document of blocks before its paragraphs are settled, without definitions: what goes on with the list before, and what
 -- stands behind that.
-use Rattle.std.specs.Prelude.{ℕ, Bool, true, false, ◌==◌, List, Option, Some, None}
+use Rattle.std.specs.Prelude.{ℕ, Bool, true, false, ◌==◌, List, Option, Some, None, not}
 use Rattle.cmark_grammar.specs.Options.{Options}
 use Rattle.cmark_grammar.specs.Answers.{Lookup}
 use Rattle.cmark_grammar.specs.Attributes.{no_attributes}
 use Rattle.cmark_grammar.specs.Rows.{Row, start_of, begin_of, past_of}
 use Rattle.cmark_grammar.specs.Labels.{normal_form}
-use Rattle.cmark_grammar.specs.Containers.{Quote, Item, Footnote}
+use Rattle.cmark_grammar.specs.Containers.{Quote, Item, Footnote, ListDefinition}
 use Rattle.cmark_grammar.specs.Openings.{Leaf, ThematicBreak, AtxHeading, IndentedCode, FencedCode, HtmlBlock, LinkDefinition, MetadataBlock, Table}
 use Rattle.cmark_grammar.specs.Blocks.{Blocks, Nil as NoBlocks, BlankLine, Paragraph, SetextHeading, LeafBlock, ContainerBlock}
-use Rattle.cmark_grammar.specs.Lists.{is_tight}
+use Rattle.cmark_grammar.specs.Lists.{definition_mark, is_title, loose_from, is_tight}
 use Rattle.cmark_grammar.specs.Tokens.{paragraph_tokens}
-use Rattle.cmark_grammar.specs.Derivation.{leaf_then}
+use Rattle.cmark_grammar.specs.Derivation.{leaf_then, list_kind}
 use Rattle.cmark_grammar.specs.BlockDocument as document
-use Rattle.cmark_grammar.specs.BlockDocument.{BlockDocument, Nil, Node, node, join}
+use Rattle.cmark_grammar.specs.BlockDocument.{BlockKind, BlockNode, BlockDocument, Nil, Node, node, join}
 use Rattle.cmark_block_model.proofs.Replay.{marked}
 
 -- the items that go on with a list, where the last one ends, and the document behind them
@@ -33,11 +33,14 @@ is_mark (Some other) mark = other == mark
 abbrev pub lone : BlockDocument → Split
 lone d = record { items = Nil; end = None; after = d }
 
-abbrev pub item_split : (joins : Bool) → Option ℕ → (tight : Bool) → (start past : ℕ) → (inside : BlockDocument) → Split → Split
-item_split true number tight start past inside s =
-    record { items = Node (node document.ListItem start past) inside s.items; end = Some (end_or past s.end); after = s.after }
-item_split false number tight start past inside s =
-    lone (Node (node (document.BlockList number tight) start (end_or past s.end)) (Node (node document.ListItem start past) inside s.items) s.after)
+abbrev pub item_split : (joins : Bool) → (list kind : BlockKind) → (start past : ℕ) → (inside : BlockDocument) → Split → Split
+item_split true list kind start past inside s = record { items = Node (node kind start past) inside s.items; end = Some (end_or past s.end); after = s.after }
+item_split false list kind start past inside s = lone (Node (node list start (end_or past s.end)) (Node (node kind start past) inside s.items) s.after)
+
+-- a paragraph, as a title or as itself, before what goes on with its list, and before what stands there without one
+abbrev pub title_split : (is_title joins : Bool) → (list : BlockKind) → (start past : ℕ) → (inside : BlockDocument) → Split → (after : BlockDocument) → Split
+title_split true joins list start past inside s after = item_split joins list document.DefinitionListTitle start past inside s
+title_split false joins list start past inside s after = lone (Node (node document.Paragraph start past) inside after)
 
 module _ (text : List ℕ) (options : Options) (lookup : Lookup) where
   abbrev pub leaf_raw : Leaf → Row → List Row → BlockDocument → BlockDocument
@@ -54,7 +57,8 @@ module _ (text : List ℕ) (options : Options) (lookup : Lookup) where
   split mark NoBlocks = lone Nil
   split mark (BlankLine line after) = split mark after
   split mark (Paragraph first more after) =
-      lone (Node (node document.Paragraph (start_of first) (past_of first more)) (paragraph_tokens text first more) (split None after).after)
+      title_split (is_title after) (is_mark mark definition_mark) (document.DefinitionList (not (loose_from definition_mark false after))) (start_of first) (past_of first more) (paragraph_tokens text first more)
+      (split (Some definition_mark) after) (split None after).after
   split mark (SetextHeading level first more underline after) =
       lone (Node (node (document.Heading level no_attributes) (start_of first) underline.past) (paragraph_tokens text first more) (split None after).after)
   split mark (LeafBlock leaf first more after) = lone (leaf_raw leaf first more (split None after).after)
@@ -63,4 +67,6 @@ module _ (text : List ℕ) (options : Options) (lookup : Lookup) where
   split mark (ContainerBlock (Footnote label old size) first more inside after) =
       lone (Node (node (document.FootnoteDefinition (normal_form label)) (start_of first) (past_of first more)) (split None inside).after (split None after).after)
   split mark (ContainerBlock (Item m number width task) first more inside after) =
-      item_split (is_mark mark m) number (is_tight m inside after) (begin_of first) (past_of first more) (join (marked task width first Nil) (split None inside).after) (split (Some m) after)
+      item_split (is_mark mark m) (list_kind m number (is_tight m inside after)) document.ListItem (begin_of first) (past_of first more) (join (marked task width first Nil) (split None inside).after) (split (Some m) after)
+  split mark (ContainerBlock (ListDefinition width) first more inside after) =
+      item_split (is_mark mark definition_mark) (document.DefinitionList (is_tight definition_mark inside after)) document.DefinitionListDefinition (begin_of first) (past_of first more) (split None inside).after (split (Some definition_mark) after)

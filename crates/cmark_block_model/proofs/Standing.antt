@@ -1,8 +1,8 @@
 -- A level behind no block, behind a blank line alone, behind a block that is no item, or behind an item of a list that is open.
 use Rattle.std.specs.Prelude.{ℕ, Bool, true, false, List, Option, Some, None}
 use Rattle.cmark_grammar.specs.Blocks.{Blocks, Nil, BlankLine, Paragraph, SetextHeading, LeafBlock, ContainerBlock}
-use Rattle.cmark_grammar.specs.Containers.{Quote, Item, Footnote}
-use Rattle.cmark_grammar.specs.Lists.{Before, NoBlock, Other, ItemWith}
+use Rattle.cmark_grammar.specs.Containers.{Quote, Item, Footnote, ListDefinition}
+use Rattle.cmark_grammar.specs.Lists.{Before, NoBlock, Other, ItemWith, definition_mark}
 use Rattle.cmark_block_model.specs.Drawing.{Drawing}
 use Rattle.cmark_block_model.specs.OpenBlocks.{OpenList}
 use Rattle.cmark_block_model.proofs.Replay.{Noted, Level}
@@ -46,9 +46,25 @@ mark_of (InList o) = Some o.mark
 abbrev pub level_of : Stand → Drawing → (blank parted : Bool) → Noted → Level
 level_of stand d blank parted noted = record {
   drawing = d;
-  inner = record { has_block = has_of stand; blank = blank; parted = parted; list = list_of stand };
+  inner = record { has_block = has_of stand; blank = blank; parted = parted; list = list_of stand; title = None };
   noted = noted;
 }
+
+-- behind a paragraph, before which this definition list was open, if one was, and this was known
+abbrev pub titled : Option OpenList → Drawing → (blank parted before : Bool) → Noted → Level
+titled list d blank parted before noted = record {
+  drawing = d;
+  inner = record { has_block = true; blank = blank; parted = parted; list = None; title = Some (record { list = list; parted = before }) };
+  noted = noted;
+}
+
+-- a list of the character of definitions
+abbrev pub with_colon : OpenList → OpenList
+with_colon o = record o { mark = definition_mark }
+
+abbrev pub colon : Option OpenList → Option OpenList
+colon None = None
+colon (Some o) = Some (with_colon o)
 
 -- no blank line stands in front
 abbrev pub IsFilled : Blocks → Type 0
@@ -84,3 +100,4 @@ HasFilledItems (LeafBlock leaf first more after) = HasFilledItems after
 HasFilledItems (ContainerBlock (Quote alert) first more inside after) = HasFilledItems inside × HasFilledItems after
 HasFilledItems (ContainerBlock (Footnote label old size) first more inside after) = HasFilledItems inside × HasFilledItems after
 HasFilledItems (ContainerBlock (Item mark number width task) first more inside after) = IsNearlyFilled inside × HasFilledItems inside × HasFilledItems after
+HasFilledItems (ContainerBlock (ListDefinition width) first more inside after) = IsNearlyFilled inside × HasFilledItems inside × HasFilledItems after

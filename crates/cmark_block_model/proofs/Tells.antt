@@ -1,5 +1,5 @@
 -- What is known of a line by what it begins.
-use Rattle.std.proofs.Common.{◌≡◌, ℕ, Bool, true, false, List, length, refl, sym, subst, ⊎_elim, Option, Some, None}
+use Rattle.std.proofs.Common.{◌≡◌, ℕ, Bool, true, false, List, length, refl, Option, Some, None}
 use Rattle.std.specs.Prelude.{if◌then◌else◌, nat_le}
 use Rattle.cmark_grammar.specs.Options.{Options}
 use Rattle.cmark_grammar.specs.Rows.{Row, words_of, is_blank_line, indent_of}
@@ -14,12 +14,13 @@ use Rattle.cmark_grammar.specs.TableRows.{table_head}
 use Rattle.cmark_grammar.specs.Metadata.{metadata_kind, metadata_further, holds_metadata}
 use Rattle.cmark_grammar.specs.MetadataBlockKind.{MetadataBlockKind}
 use Rattle.cmark_grammar.specs.Places.{Place}
-use Rattle.cmark_grammar.proofs.BlockLaws.{at-or}
+use Rattle.cmark_grammar.proofs.BlockLaws.{at-either}
+use Rattle.cmark_block_model.proofs.Marks.{IsUnmarked, SomeUnmarked, container-unmarked}
 
--- one that begins nothing is blank, and a break or heading takes no further line
+-- one that begins nothing is blank, an item has no colon for its marker, and a break or heading takes no further line
 abbrev pub Tells : Row → Opening → Type 0
 Tells r Blank = (r.lazy ≡ false) × (is_blank_line r ≡ true)
-Tells r (Nests k) = Unit {0}
+Tells r (Nests k) = IsUnmarked k
 Tells r Plain = Unit {0}
 Tells r (Takes ThematicBreak n) = n ≡ 0
 Tells r (Takes (AtxHeading level) n) = n ≡ 0
@@ -36,9 +37,9 @@ tells-or r (Nests k) y p q = p
 tells-or r (Takes leaf n) y p q = p
 tells-or r Plain y p q = q
 
-tells-nests : (r : Row) (o : Option Container) → Tells r (nests_if o)
-tells-nests r (Some k) = tt
-tells-nests r None = tt
+tells-nests : (r : Row) (o : Option Container) → SomeUnmarked o → Tells r (nests_if o)
+tells-nests r (Some k) h = h
+tells-nests r None h = tt
 
 tells-html : (r : Row) (ahead : List Row) (o : Option ℕ) → Tells r (html_if r ahead o)
 tells-html r ahead (Some kind) = tt
@@ -98,7 +99,7 @@ module _ (options : Options) where
       opened : (b : Bool) → r.lazy ≡ false → is_blank_line r ≡ b → (c : Bool) → Tells r (if b then Blank else if c then Takes IndentedCode (counted code_further ahead) else or_else (nests_if (container_of options r)) (leaf_of options r ahead))
       opened true l e c = (l, e)
       opened false l e true = tt
-      opened false l e false = tells-or r (nests_if (container_of options r)) (leaf_of options r ahead) (tells-nests r (container_of options r)) (tells-leaf r ahead)
+      opened false l e false = tells-or r (nests_if (container_of options r)) (leaf_of options r ahead) (tells-nests r (container_of options r) (container-unmarked options r)) (tells-leaf r ahead)
 
       go : (a : Bool) → r.lazy ≡ a → Tells r (if a then Plain else or_else (metadata_begun (metadata_kind options r) ahead) (whole_opens options r ahead))
       go true l = tt
@@ -106,7 +107,7 @@ module _ (options : Options) where
 
   -- so at each place
   pub tells-at : (place : Place) (r : Row) (ahead : List Row) → Tells r (opens_at options place r ahead)
-  tells-at place r ahead = ⊎_elim (λ p. subst (Tells r) (sym p.1) (text p.0 (is_blank_line r) refl)) (λ q. subst (Tells r) (sym q) (tells r ahead)) (at-or options place r ahead)
+  tells-at place r ahead = at-either options (Tells r) place r ahead (λ w. text w (is_blank_line r) refl) (λ width d. tt) (tells r ahead)
     where
       text : r.lazy ≡ false → (b : Bool) → is_blank_line r ≡ b → Tells r (if b then Blank else Plain)
       text l true e = (l, e)

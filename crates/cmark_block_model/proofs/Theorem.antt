@@ -16,7 +16,7 @@ use Rattle.cmark_grammar.proofs.BlocksSound.{AreWhole, rows-whole}
 use Rattle.cmark_grammar.proofs.BlocksByLine.{by_line-same}
 use Rattle.cmark_block_model.specs.Drawing.{nothing_drawn}
 use Rattle.cmark_block_model.specs.OpenBlocks.{Closed, no_siblings, Pass}
-use Rattle.cmark_block_model.specs.BlockPass.{list_closed, containers_closed, line_fed, lines_fed, all_closed, pass_over}
+use Rattle.cmark_block_model.specs.BlockPass.{ended, containers_closed, line_fed, lines_fed, all_closed, pass_over}
 use Rattle.cmark_block_model.proofs.Replay.{Noted, Level, replay}
 use Rattle.cmark_block_model.proofs.Standing.{First}
 use Rattle.cmark_block_model.proofs.Split.{split}
@@ -29,6 +29,7 @@ use Rattle.cmark_block_model.proofs.Mirror.{pass_with, Fits, containers_at, bare
 use Rattle.cmark_block_model.proofs.Closing.{leaf-closes, containers-close}
 use Rattle.cmark_block_model.proofs.Keeping.{feed-fits}
 use Rattle.cmark_block_model.proofs.Simulation.{simulates}
+use Rattle.cmark_block_model.proofs.MarksKept.{OpenUnmarked, feed-unmarked}
 
 abbrev nothing_noted : Noted
 nothing_noted = record { references = []; footnotes = [] }
@@ -50,33 +51,33 @@ module _ (text : List ℕ) (options : Options) (lookup : Lookup) where
   shown-first : (r : Row) (rs : List Row) → r.lazy ≡ false → shown (r ∷ rs) ≡ r ∷ shown rs
   shown-first r rs e = ap (λ z. show_as z r (shown rs)) e
 
-  one-fed : (r : Row) (rs : List Row) (o : OpenLines) (n : ℕ) → AreWhole options (r ∷ rs) → Fits false o (shown (r ∷ rs)) n
+  one-fed : (r : Row) (rs : List Row) (o : OpenLines) (n : ℕ) → AreWhole options (r ∷ rs) → OpenUnmarked o → Fits false o (shown (r ∷ rs)) n
       → line_fed text options lookup r rs (pass_at text options lookup o (shown (r ∷ rs)) bottom [] false n) ≡ pass_at text options lookup (lines_feed options o r (shown rs)) (shown rs) bottom [] false r.past
-  one-fed r rs o n h f =
+  one-fed r rs o n h u f =
       ap (λ x. line_fed text options lookup r rs (pass_at text options lookup o x bottom [] false n)) (shown-first r rs h.0)
-      ∙ ap {A = Pass} {B = Pass} (λ q. record q { past = r.past }) (simulates text options lookup o false r rs (shown rs) bottom [] n h.0 (sym (shown-whole rs h.1)) (subst (λ x. Fits false o x n) (shown-first r rs h.0) f))
+      ∙ ap {A = Pass} {B = Pass} (λ q. record q { past = r.past }) (simulates text options lookup o false r rs (shown rs) bottom [] n refl u h.0 (sym (shown-whole rs h.1)) (subst (λ x. Fits false o x n) (shown-first r rs h.0) f))
 
   next-fits : (r : Row) (rs : List Row) (o : OpenLines) (n : ℕ) → AreWhole options (r ∷ rs) → Fits false o (shown (r ∷ rs)) n → Fits false (lines_feed options o r (shown rs)) (shown rs) r.past
   next-fits r rs o n h f = feed-fits text options lookup o false r (shown rs) n h.0 (subst (λ x. Fits false o x n) (shown-first r rs h.0) f)
 
-  all-fed : (rs : List Row) (o : OpenLines) (n : ℕ) → AreWhole options rs → Fits false o (shown rs) n
+  all-fed : (rs : List Row) (o : OpenLines) (n : ℕ) → AreWhole options rs → OpenUnmarked o → Fits false o (shown rs) n
       → lines_fed text options lookup rs (pass_at text options lookup o (shown rs) bottom [] false n) ≡ pass_at text options lookup (lines_feed_all options o rs) [] bottom [] false (end_behind n rs)
-  all-fed [] o n h f = refl
-  all-fed (r ∷ rs) o n h f =
-      ap (lines_fed text options lookup rs) (one-fed r rs o n h f) ∙ all-fed rs (lines_feed options o r (shown rs)) r.past h.1 (next-fits r rs o n h f)
+  all-fed [] o n h u f = refl
+  all-fed (r ∷ rs) o n h u f =
+      ap (lines_fed text options lookup rs) (one-fed r rs o n h u f) ∙ all-fed rs (lines_feed options o r (shown rs)) r.past h.1 (feed-unmarked options o r (shown rs) u) (next-fits r rs o n h f)
 
   all-fit : (rs : List Row) (o : OpenLines) (n : ℕ) → AreWhole options rs → Fits false o (shown rs) n → Fits false (lines_feed_all options o rs) [] (end_behind n rs)
   all-fit [] o n h f = f
   all-fit (r ∷ rs) o n h f = all-fit rs (lines_feed options o r (shown rs)) r.past h.1 (next-fits r rs o n h f)
 
   abbrev pub done : Level → Bool → ℕ → Pass
-  done l bare n = let q = pass_with l [] bare Closed n in record q { drawing = list_closed q.inner.list q.drawing }
+  done l bare n = let q = pass_with l [] bare Closed n in record q { drawing = ended q.inner q.drawing }
 
   all-closes : (o : OpenLines) (n : ℕ) → Fits false o [] n → all_closed text options lookup (pass_at text options lookup o [] bottom [] false n) ≡ done (replay text options lookup (close_lines o) bottom) (bare_at false o) n
   all-closes o n f =
-      ap (λ p. let q = containers_closed text options lookup [] (containers_at text options lookup o bottom) p in record q { drawing = list_closed q.inner.list q.drawing })
+      ap (λ p. let q = containers_closed text options lookup [] (containers_at text options lookup o bottom) p in record q { drawing = ended q.inner q.drawing })
       (leaf-closes text options lookup o false n bottom (containers_at text options lookup o bottom) (bare_at false o) f)
-      ∙ ap {A = Pass} {B = Pass} (λ q. record q { drawing = list_closed q.inner.list q.drawing }) (containers-close text options lookup o false n bottom [] (bare_at false o) f)
+      ∙ ap {A = Pass} {B = Pass} (λ q. record q { drawing = ended q.inner q.drawing }) (containers-close text options lookup o false n bottom [] (bare_at false o) f)
 
   -- the pass is what the blocks of the text leave
   pass-done : (bare : Bool) × (n : ℕ) × (pass_over text options lookup ≡ done (replay text options lookup (blocks options text) bottom) bare n)
@@ -87,7 +88,7 @@ module _ (text : List ℕ) (options : Options) (lookup : Lookup) where
       let h = rows-whole options text in (
         bare_at false o,
         n,
-        ap (all_closed text options lookup) (all-fed (rows text) (Between NoBlocks) 0 h tt)
+        ap (all_closed text options lookup) (all-fed (rows text) (Between NoBlocks) 0 h tt tt)
             ∙ all-closes o n (all-fit (rows text) (Between NoBlocks) 0 h tt)
             ∙ ap (λ b. done (replay text options lookup b bottom) (bare_at false o) n) (by_line-same options text),
       )

@@ -7,8 +7,8 @@ use Rattle.cmark_grammar.specs.Rows.{Row, start_of, begin_of, past_of, first_pla
 use Rattle.cmark_grammar.specs.Leaves.{Further, GoesOn, Closes, Waits, Stops, code_further, closes_fence}
 use Rattle.cmark_grammar.specs.HtmlBlocks.{html_further}
 use Rattle.cmark_grammar.specs.Openings.{FencedCode, HtmlBlock, MetadataBlock}
-use Rattle.cmark_grammar.specs.Blocks.{Blocks}
-use Rattle.cmark_grammar.specs.BlocksByLine.{Verbatim, Indented, Fenced, HtmlLines, further_in, InVerbatim, close_lines, verbatim_line, lines_begin, Metadata}
+use Rattle.cmark_grammar.specs.Blocks.{Blocks, Nil as NoBlocks, LeafBlock, join as join_blocks}
+use Rattle.cmark_grammar.specs.BlocksByLine.{Verbatim, Indented, Fenced, HtmlLines, further_in, InVerbatim, close_lines, verbatim_line, lines_begin, Metadata, leaf_in, blank_lines}
 use Rattle.cmark_grammar.specs.Tokens.{resolved, code_tokens, code_columns, fenced_lines, html_tokens, stop_at, lines_before}
 use Rattle.cmark_grammar.specs.BlockDocument as document
 use Rattle.cmark_grammar.specs.BlockDocument.{BlockDocument, Nil, Node, node, join}
@@ -20,7 +20,8 @@ use Rattle.cmark_block_model.proofs.CodeRuns.{code_run, code_run-append, run-tok
 use Rattle.cmark_block_model.proofs.Replay.{Level, begun, level_opened, level_drawn, leaf_level, replay}
 use Rattle.cmark_block_model.proofs.Mirror.{past_push, pass_with, AreBefore, Fits, html-push, verbatim_level, verbatim_leaf, pass_at}
 use Rattle.cmark_block_model.proofs.Closing.{noded, leaf-closes}
-use Rattle.cmark_block_model.proofs.Beginning.{starts}
+use Rattle.cmark_block_model.proofs.Beginning.{IsFresh, starts}
+use Rattle.cmark_block_model.proofs.Marks.{Unmarked, unmarked-join, unmarked-blanks}
 
 module _ (text : List ℕ) (options : Options) (lookup : Lookup) where
   indented-goes : (first : Row) (rs had : List Row) (c : Level) (outer : List OpenContainer) (leaf : OpenLeaf) (n : ℕ)
@@ -67,21 +68,22 @@ module _ (text : List ℕ) (options : Options) (lookup : Lookup) where
       html false b true f = cc
       html false b false f = cc
 
-  stops : (v : Verbatim) (closed : Blocks) (first : Row) (had waiting : List Row) (r : Row) (next ahead : List Row) (l : Level) (outer : List OpenContainer) (b : Bool) (n : ℕ) → r.lazy ≡ false → ahead_in text options lookup outer next ≡ ahead → Fits b (InVerbatim closed v first had waiting) [] n
+  stops : (v : Verbatim) (closed : Blocks) (first : Row) (had waiting : List Row) (r : Row) (next ahead : List Row) (l : Level) (outer : List OpenContainer) (b : Bool) (n : ℕ) → r.lazy ≡ false → ahead_in text options lookup outer next ≡ ahead → IsFresh text options lookup l → Unmarked closed → Fits b (InVerbatim closed v first had waiting) [] n
       → begin text options lookup r next (leaf_closed text options lookup (pass_with (verbatim_level text options lookup v first had (replay text options lookup closed l)) outer false (verbatim_leaf text options lookup v first had waiting) n))
       ≡ pass_at text options lookup (lines_begin options (close_lines (InVerbatim closed v first had waiting)) r ahead) ahead l outer false n
-  stops v closed first had waiting r next ahead l outer b n e a f =
+  stops v closed first had waiting r next ahead l outer b n e a h u f =
       ap (begin text options lookup r next) (leaf-closes text options lookup (InVerbatim closed v first had waiting) b n l outer false f)
-      ∙ starts text options lookup (close_lines (InVerbatim closed v first had waiting)) r next ahead l outer n e a
+      ∙ starts text options lookup (close_lines (InVerbatim closed v first had waiting)) r next ahead l outer n h
+      (unmarked-join (join_blocks closed (LeafBlock (leaf_in v) first had NoBlocks)) (blank_lines waiting) (unmarked-join closed (LeafBlock (leaf_in v) first had NoBlocks) u tt) (unmarked-blanks waiting)) e a
 
   alone : (o : List OpenContainer) (x : Level) (leaf : OpenLeaf) (n : ℕ) → pass_with x o false leaf n ≡ pass_with x (o ++ []) false leaf n
   alone o x leaf n = ap (λ y. pass_with x y false leaf n) (sym (append-nil o))
 
   pub verbatim-feeds : (v : Verbatim) (closed : Blocks) (first : Row) (had waiting : List Row) (r : Row) (next ahead : List Row) (l : Level) (outer : List OpenContainer) (b : Bool) (n : ℕ) → r.lazy ≡ false → ahead_in text options lookup outer next ≡ ahead
-      → Fits b (InVerbatim closed v first had waiting) [] n
+      → IsFresh text options lookup l → Unmarked closed → Fits b (InVerbatim closed v first had waiting) [] n
       → leaf_fed text options lookup (verbatim_leaf text options lookup v first had waiting) r next (pass_with (verbatim_level text options lookup v first had (replay text options lookup closed l)) outer false (verbatim_leaf text options lookup v first had waiting) n)
       ≡ pass_at text options lookup (verbatim_line (further_in v r) closed v first had waiting r (lines_begin options (close_lines (InVerbatim closed v first had waiting)) r ahead)) ahead l outer false n
-  verbatim-feeds Indented closed first had waiting r next ahead l outer b n e a f = go (code_further r) refl
+  verbatim-feeds Indented closed first had waiting r next ahead l outer b n e a h u f = go (code_further r) refl
     where
       c : Level
       c = replay text options lookup closed l
@@ -97,8 +99,8 @@ module _ (text : List ℕ) (options : Options) (lookup : Lookup) where
           ∙ alone outer (verbatim_level text options lookup Indented first ((had ++ waiting) ++ r ∷ []) c) (verbatim_leaf text options lookup Indented first ((had ++ waiting) ++ r ∷ []) []) n
       go Closes q = absurd (never-closes r q)
       go Waits q = alone outer (verbatim_level text options lookup Indented first had c) (verbatim_leaf text options lookup Indented first had (waiting ++ r ∷ [])) n
-      go Stops q = stops Indented closed first had waiting r next ahead l outer b n e a f
-  verbatim-feeds (Fenced fence) closed first had waiting r next ahead l outer b n e a f = go (closes_fence fence r) refl
+      go Stops q = stops Indented closed first had waiting r next ahead l outer b n e a h u f
+  verbatim-feeds (Fenced fence) closed first had waiting r next ahead l outer b n e a h u f = go (closes_fence fence r) refl
     where
       c : Level
       c = replay text options lookup closed l
@@ -124,7 +126,7 @@ module _ (text : List ℕ) (options : Options) (lookup : Lookup) where
           ∙ ap (λ w. pass_with (verbatim_level text options lookup (Fenced fence) first (had ++ r ∷ []) c) outer false (InFenced fence w) n) (sym (ap (λ x. x.waits) same ∙ run-waits text fence.indented run r))
           ∙ ap (λ h. pass_with (verbatim_level text options lookup (Fenced fence) first h c) outer false (verbatim_leaf text options lookup (Fenced fence) first h []) n) (sym (had-more had waiting r f.1.0))
           ∙ alone outer (verbatim_level text options lookup (Fenced fence) first ((had ++ waiting) ++ r ∷ []) c) (verbatim_leaf text options lookup (Fenced fence) first ((had ++ waiting) ++ r ∷ []) []) n
-  verbatim-feeds (HtmlLines kind) closed first had waiting r next ahead l outer b n e a f = go (html_further kind r) refl
+  verbatim-feeds (HtmlLines kind) closed first had waiting r next ahead l outer b n e a h u f = go (html_further kind r) refl
     where
       c : Level
       c = replay text options lookup closed l
@@ -144,8 +146,8 @@ module _ (text : List ℕ) (options : Options) (lookup : Lookup) where
           ∙ ap (λ h. pass_with (leaf_level text options lookup (HtmlBlock kind) first h c) outer false Closed n) (sym (had-all had waiting r f.1.0))
           ∙ alone outer (leaf_level text options lookup (HtmlBlock kind) first (((had ++ waiting) ++ r ∷ []) ++ []) c) Closed n
       go Waits q = absurd (never-waits kind r q)
-      go Stops q = stops (HtmlLines kind) closed first had waiting r next ahead l outer b n e a f
-  verbatim-feeds (Metadata kind) closed first had waiting r next ahead l outer b n e a f = go (ends_metadata kind r) refl
+      go Stops q = stops (HtmlLines kind) closed first had waiting r next ahead l outer b n e a h u f
+  verbatim-feeds (Metadata kind) closed first had waiting r next ahead l outer b n e a h u f = go (ends_metadata kind r) refl
     where
       c : Level
       c = replay text options lookup closed l

@@ -1,36 +1,58 @@
 -- One more line of the block pass.
-use Rattle.std.specs.Prelude.{ℕ, zero, suc, ◌+◌, Bool, true, false, ◌==◌, ◌&&◌, ◌||◌, not, nat_le, if◌then◌else◌, List, [], ◌∷◌, ◌++◌, length, take, Option, Some, None}
+use Rattle.std.specs.Prelude.{ℕ, zero, suc, Bool, true, false, ◌==◌, ◌&&◌, ◌||◌, not, nat_le, if◌then◌else◌, List, [], ◌∷◌, ◌++◌, length, take, Option, Some, None}
 use Rattle.cmark_grammar.specs.Answers.{Lookup}
 use Rattle.cmark_grammar.specs.Attributes.{no_attributes}
 use Rattle.cmark_grammar.specs.Options.{Options}
 use Rattle.cmark_grammar.specs.Rows.{Row, rows, without, shown, first_place, begin_of, start_of, past_of, words_of}
 use Rattle.cmark_grammar.specs.Leaves.{Further, GoesOn, Closes, Waits, Stops, underlines, code_further, closes_fence}
 use Rattle.cmark_grammar.specs.HtmlBlocks.{holds_end, html_further}
-use Rattle.cmark_grammar.specs.Containers.{Container, Quote, Item, Footnote, is_alert, enter, keeps, strips}
+use Rattle.cmark_grammar.specs.Containers.{Container, Quote, Item, Footnote, ListDefinition, is_alert, enter, keeps, strips}
 use Rattle.cmark_grammar.specs.Openings.{Leaf, ThematicBreak, AtxHeading, IndentedCode, FencedCode, HtmlBlock, LinkDefinition, Opening, Blank, Nests, Takes, Plain, opens_at, texts, lazily, MetadataBlock, Table}
 use Rattle.cmark_grammar.specs.Tokens.{Piece, resolved, words_end, stretch_then, heading_tokens, heading_attributes, verbatim_line, html_then, code_columns}
 use Rattle.cmark_grammar.specs.TableTokens.{table_tokens}
-use Rattle.cmark_grammar.specs.Derivation.{stop_of, reference_of, task_then}
+use Rattle.cmark_grammar.specs.Derivation.{stop_of, reference_of, task_then, list_kind}
+use Rattle.cmark_grammar.specs.Lists.{definition_mark}
 use Rattle.cmark_grammar.specs.BlockDocument as document
 use Rattle.cmark_grammar.specs.BlockDocument.{BlockDocument, BlockKind, Nil, Node, node}
 use Rattle.cmark_grammar.specs.BlockQuoteKind.{BlockQuoteKind}
 use Rattle.cmark_grammar.specs.Labels.{normal_form}
 use Rattle.cmark_grammar.specs.Metadata.{ends_metadata}
 use Rattle.cmark_grammar.specs.Blocks.{place_in}
-use Rattle.cmark_grammar.specs.Places.{Place, Apart}
+use Rattle.cmark_grammar.specs.Places.{Place, Apart, BehindTitle}
 use Rattle.cmark_grammar.specs.TaskItems.{behind_box}
-use Rattle.cmark_block_model.specs.Drawing.{Drawing, drawn, opened, closed_as, closed_at}
+use Rattle.cmark_block_model.specs.Drawing.{Drawing, drawn, opened, closed_as, closed_at, retitled, enclosed, released}
 use Rattle.cmark_block_model.specs.CodeLines.{code_line, rest_of, texts_of}
-use Rattle.cmark_block_model.specs.OpenBlocks.{OpenList, Siblings, no_siblings, OpenContainer, OpenLeaf, Closed, BehindTag, InParagraph, InDefinition, InIndented, InFenced, InHtml, takes_lazy, Pass, at_start, InMetadata, InTable}
+use Rattle.cmark_block_model.specs.OpenBlocks.{OpenList, Title, Siblings, no_siblings, OpenContainer, OpenLeaf, Closed, BehindTag, InParagraph, InDefinition, InIndented, InFenced, InHtml, takes_lazy, Pass, at_start, InMetadata, InTable}
 
 -- the list closed, if one is open
 abbrev pub list_closed : Option OpenList → Drawing → Drawing
 list_closed None d = d
-list_closed (Some l) d = closed_as (document.BlockList l.number (not l.loose)) l.end d
+list_closed (Some l) d = closed_as (list_kind l.mark l.number (not l.loose)) l.end d
 
--- one more block that is no item, one more item of a list, and an item that has ended with these blocks in it
+-- a paragraph that is drawn in a definition list, and is no title, put behind that list, which is closed
+abbrev pub released_from : Option OpenList → Drawing → Drawing
+released_from None d = d
+released_from (Some l) d = released (list_kind l.mark l.number (not l.loose)) l.end d
+
+abbrev pub title_released : Option Title → Drawing → Drawing
+title_released None d = d
+title_released (Some t) d = released_from t.list d
+
+-- the last sibling ended, behind which no item or definition of its list comes
+abbrev pub ended : Siblings → Drawing → Drawing
+ended s d = list_closed s.list (title_released s.title d)
+
+-- a list that is open, if it is one of definitions
+abbrev pub definitions_in : Option OpenList → Option OpenList
+definitions_in None = None
+definitions_in (Some l) = if l.mark == definition_mark then Some l else None
+
+-- one more block that is no item, a paragraph, one more item of a list, and an item that has ended with these blocks in it
 abbrev pub siblings_with_block : Siblings → Siblings
-siblings_with_block s = record { has_block = true; blank = false; parted = s.parted || s.blank; list = None }
+siblings_with_block s = record { has_block = true; blank = false; parted = s.parted || s.blank; list = None; title = None }
+
+abbrev pub siblings_with_paragraph : Siblings → Siblings
+siblings_with_paragraph s = record (siblings_with_block s) { title = Some (record { list = definitions_in s.list; parted = s.parted }) }
 
 abbrev pub siblings_with_item : OpenList → Siblings → Siblings
 siblings_with_item l s = record s { blank = false; list = Some (record l { loose = l.loose || s.blank }) }
@@ -44,12 +66,26 @@ siblings_behind_item end inside around = record around { blank = inside.blank; l
 
 -- a block begins that is no item
 abbrev pub block_begun : Pass → Pass
-block_begun p = record p { drawing = list_closed p.inner.list p.drawing; inner = siblings_with_block p.inner }
+block_begun p = record p { drawing = ended p.inner p.drawing; inner = siblings_with_block p.inner }
+
+-- what is open where a paragraph begins: a definition list stays so
+abbrev pub ended_but : Option OpenList → Siblings → Drawing → Drawing
+ended_but (Some l) s d = d
+ended_but None s d = ended s d
+
+-- where a line stands behind these siblings, as far as a definition may begin there
+abbrev pub place_with : Option Title → Option OpenList → Place
+place_with (Some t) list = BehindTitle
+place_with None (Some l) = BehindTitle
+place_with None None = Apart
+
+abbrev pub place_of : Siblings → Place
+place_of s = place_with s.title (definitions_in s.list)
 
 -- an item begins a list
 abbrev pub list_begun : (mark : ℕ) → Option ℕ → (start : ℕ) → Pass → Pass
 list_begun mark number start p = let q = block_begun p in record q {
-  drawing = opened start (document.BlockList number false) q.drawing;
+  drawing = opened start (list_kind mark number false) q.drawing;
   inner = record q.inner { list = Some (record { mark = mark; number = number; loose = false; end = start }) };
 }
 
@@ -60,6 +96,22 @@ list_goes_on l p = record p { inner = siblings_with_item l p.inner }
 abbrev pub item_begun : (mark : ℕ) → Option ℕ → (start : ℕ) → Pass → Option OpenList → Pass
 item_begun mark number start p None = list_begun mark number start p
 item_begun mark number start p (Some l) = if l.mark == mark then list_goes_on l p else list_begun mark number start p
+
+-- a definition begins behind its title, which the paragraph becomes: in the definition list that was open before it, or in one that it begins
+abbrev pub title_made : Option OpenList → (parted : Bool) → (start : ℕ) → Pass → Pass
+title_made None parted start p = record p {
+  drawing = enclosed (document.DefinitionList false) document.DefinitionListTitle p.drawing;
+  inner = record p.inner { blank = false; list = Some (record { mark = definition_mark; number = None; loose = p.inner.blank; end = start }); title = None };
+}
+title_made (Some l) parted start p = record p {
+  drawing = retitled document.DefinitionListTitle p.drawing;
+  inner = record p.inner { blank = false; parted = parted; list = Some (record l { loose = l.loose || p.inner.blank }); title = None };
+}
+
+-- or behind another definition
+abbrev pub definition_behind : Option Title → (start : ℕ) → Pass → Pass
+definition_behind None start p = item_begun definition_mark None start p p.inner.list
+definition_behind (Some t) start p = title_made t.list t.parted start p
 
 abbrev pub inside_of : Container → Pass → Pass
 inside_of k p = record p { inner = no_siblings; outer = p.outer ++ record { container = k; around = p.inner } ∷ [] }
@@ -81,6 +133,9 @@ footnote_begun label old size start p = inside_of (Footnote label old size) (nod
 abbrev pub item_begun_in : (mark : ℕ) → Option ℕ → (width : ℕ) → Option Bool → (start : ℕ) → Pass → Pass
 item_begun_in mark number width task start p = inside_of (Item mark number width task) (node_opened start document.ListItem (item_begun mark number start p p.inner.list))
 
+abbrev pub definition_begun_in : (width start : ℕ) → Pass → Pass
+definition_begun_in width start p = inside_of (ListDefinition width) (node_opened start document.DefinitionListDefinition (definition_behind p.inner.title start p))
+
 abbrev pub with_drawn : BlockDocument → Pass → Pass
 with_drawn document p = record p { drawing = drawn document p.drawing }
 
@@ -90,17 +145,19 @@ container_begun (Quote alert) r p = quote_begun alert (start_of r) p
 container_begun (Footnote label old size) r p = footnote_begun label old size (start_of r) p
 container_begun (Item mark number width task) r p =
     with_drawn (task_then task (begin_of (without width r)) (begin_of (without (behind_box task width) r)) Nil) (item_begun_in mark number width task (begin_of r) p)
+container_begun (ListDefinition width) r p = definition_begun_in width (begin_of r) p
 
 -- the siblings that a closed container stands behind
 abbrev pub behind_container : Container → (end : ℕ) → (inside around : Siblings) → Siblings
 behind_container (Quote alert) end inside around = around
 behind_container (Footnote label old size) end inside around = around
 behind_container (Item mark number width task) end inside around = siblings_behind_item end inside around
+behind_container (ListDefinition width) end inside around = siblings_behind_item end inside around
 
 -- the innermost container closed
 abbrev pub container_closed : OpenContainer → List OpenContainer → Pass → Pass
 container_closed c outer p = record p {
-  drawing = closed_at p.past (list_closed p.inner.list p.drawing);
+  drawing = closed_at p.past (ended p.inner p.drawing);
   inner = behind_container c.container p.past p.inner c.around;
   outer = outer;
 }
@@ -109,6 +166,7 @@ abbrev pub is_item : Container → Bool
 is_item (Quote alert) = false
 is_item (Item mark number width task) = true
 is_item (Footnote label old size) = false
+is_item (ListDefinition width) = true
 
 -- behind an alert's tag its line begins nothing more
 abbrev pub inside_begun : (is_alert : Bool) → (outside begun : Pass) → Pass
@@ -153,19 +211,25 @@ module _ (text : List ℕ) (options : Options) (lookup : Lookup) where
   containers_closed outer [] p = p
   containers_closed outer (c ∷ cs) p = container_closed c outer (containers_closed (outer ++ c ∷ []) cs p)
 
-  -- a paragraph begins, or goes on: one more line stands in the stretch at hand if it begins where the last one has ended, else
+  -- a paragraph begins, in a definition list that is open, or goes on: one more line stands in the stretch at hand if it begins where the last one has ended, else
   -- that stretch is drawn with its line ending, and another one begins
   abbrev pub paragraph_begun : Row → Pass → Pass
-  paragraph_begun r p = let q = node_opened (start_of r) document.Paragraph (block_begun p) in record q { leaf = InParagraph (start_of r) r }
+  paragraph_begun r p =
+      let q = record p { drawing = ended_but (definitions_in p.inner.list) p.inner p.drawing; inner = siblings_with_paragraph p.inner } in
+      let o = node_opened (start_of r) document.Paragraph q in record o { leaf = InParagraph (start_of r) r }
 
   abbrev pub paragraph_line : (from : ℕ) → (last : Row) → Row → Pass → Pass
   paragraph_line from last r p =
       if begin_of r == last.past then record p { leaf = InParagraph from r }
       else let q = with_drawn (stretch_then text from last.past Nil) p in record q { leaf = InParagraph (begin_of r) r }
 
-  -- a paragraph that an underline makes a heading
+  -- a paragraph that an underline makes a heading, which is no title
   abbrev pub heading_made : (level from : ℕ) → (last : Row) → Row → Pass → Pass
-  heading_made level from last r p = let q = with_drawn (last_stretch from last) p in record q { drawing = closed_as (document.Heading level no_attributes) r.past q.drawing; leaf = Closed }
+  heading_made level from last r p = let q = with_drawn (last_stretch from last) p in record q {
+    drawing = title_released q.inner.title (closed_as (document.Heading level no_attributes) r.past q.drawing);
+    inner = record q.inner { title = None };
+    leaf = Closed;
+  }
 
   -- a line of code, with the columns of indent that are taken off at most
   abbrev pub code_drawn : (most : ℕ) → Row → Option Piece → (Option Piece → OpenLeaf) → Pass → Pass
@@ -220,7 +284,7 @@ module _ (text : List ℕ) (options : Options) (lookup : Lookup) where
       (λ k. inside_begun (is_alert k) (container_begun k r p) (begin_in columns (place_in k) (enter k r) next (is_item k) (container_begun k r p))) r (ahead_in p.outer next) bare p
 
   abbrev pub begin : Row → (next : List Row) → Pass → Pass
-  begin r next p = begin_in (suc (length r.columns)) Apart r next false p
+  begin r next p = begin_in (suc (length r.columns)) (place_of p.inner) r next false p
 
   abbrev pub underlined_or : Option ℕ → (ℕ → Pass) → Pass → Pass
   underlined_or (Some level) underlined other = underlined level
@@ -304,7 +368,7 @@ module _ (text : List ℕ) (options : Options) (lookup : Lookup) where
 
   -- everything closed at the end of the text
   abbrev pub all_closed : Pass → Pass
-  all_closed p = let q = containers_closed [] p.outer (leaf_closed p) in record q { drawing = list_closed q.inner.list q.drawing }
+  all_closed p = let q = containers_closed [] p.outer (leaf_closed p) in record q { drawing = ended q.inner q.drawing }
 
   -- the pass over a text
   unfoldable pub pass_over : Pass

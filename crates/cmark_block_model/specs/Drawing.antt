@@ -36,3 +36,49 @@ close_at end here (v ∷ up) = record { here = join v.left (Node (node v.node.ki
 
 abbrev pub closed_at : (end : ℕ) → Drawing → Drawing
 closed_at end d = close_at end d.here d.up
+
+-- the last sibling alone
+abbrev pub last_or : (own last : BlockDocument) → BlockDocument
+last_or own Nil = own
+last_or own (Node node inside after) = Node node inside after
+
+abbrev pub last_of : BlockDocument → BlockDocument
+last_of Nil = Nil
+last_of (Node node inside after) = last_or (Node node inside Nil) (last_of after)
+
+-- the siblings before the last one
+abbrev pub before_or : BlockNode → (inside after before : BlockDocument) → BlockDocument
+before_or node inside Nil before = Nil
+before_or node inside (Node n i a) before = Node node inside before
+
+abbrev pub before_last : BlockDocument → BlockDocument
+before_last Nil = Nil
+before_last (Node node inside after) = before_or node inside after (before_last after)
+
+-- the first node as something else, and where it begins
+abbrev pub as_kind : BlockKind → BlockDocument → BlockDocument
+as_kind kind Nil = Nil
+as_kind kind (Node n inside after) = Node (record n { kind = kind }) inside after
+
+abbrev pub start_in : BlockDocument → ℕ
+start_in Nil = 0
+start_in (Node n inside after) = n.start
+
+-- the last sibling as something else
+abbrev pub retitled : BlockKind → Drawing → Drawing
+retitled kind d = record d { here = join (before_last d.here) (as_kind kind (last_of d.here)) }
+
+-- the last sibling as something else, in a new node around it, which is open
+abbrev pub enclosed : (around kind : BlockKind) → Drawing → Drawing
+enclosed around kind d = record {
+  here = as_kind kind (last_of d.here);
+  up = record { left = before_last d.here; node = node around (start_in (last_of d.here)) (start_in (last_of d.here)) } ∷ d.up;
+}
+
+-- the innermost open node closed at this place, as something else, without its last child, which stands behind it
+abbrev pub release_as : BlockKind → (end : ℕ) → (here : BlockDocument) → List OpenNode → Drawing
+release_as kind end here [] = record { here = here; up = [] }
+release_as kind end here (v ∷ up) = record { here = join v.left (Node (node kind v.node.start end) (before_last here) (last_of here)); up = up }
+
+abbrev pub released : BlockKind → (end : ℕ) → Drawing → Drawing
+released kind end d = release_as kind end d.here d.up

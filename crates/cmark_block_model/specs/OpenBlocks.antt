@@ -8,7 +8,7 @@ use Rattle.cmark_grammar.specs.BlockDocument.{Reference}
 use Rattle.cmark_grammar.specs.MetadataBlockKind.{MetadataBlockKind}
 use Rattle.cmark_block_model.specs.Drawing.{Drawing, nothing_drawn}
 
--- a list to which further items may come: its character, the number of its first item, whether it is known to be loose, and
+-- a list to which further items may come, or titles and definitions: its character, the number of its first item, whether it is known to be loose, and
 -- where its last item ends
 pub record OpenList : Type 0 where
   pub mark : ℕ
@@ -16,16 +16,24 @@ pub record OpenList : Type 0 where
   pub loose : Bool
   pub end : ℕ
 
+-- what was known before a paragraph that a definition may make a title: the definition list that was open, in which the paragraph is drawn then,
+-- and whether a blank line stood between two blocks
+pub record Title : Type 0 where
+  pub list : Option OpenList
+  pub parted : Bool
+
 -- the blocks of a container so far: whether there is one, whether a blank line stands behind the last one, whether one stands
--- between two of them, and the list that the last one is an item of
+-- between two of them, the list that the last one is an item of, and what was known before the last one, if it is a paragraph, which
+-- may be a title: a definition list to which it may belong stays open, and is no list that the last one is an item of
 pub record Siblings : Type 0 where
   pub has_block : Bool
   pub blank : Bool
   pub parted : Bool
   pub list : Option OpenList
+  pub title : Option Title
 
 abbrev pub no_siblings : Siblings
-no_siblings = record { has_block = false; blank = false; parted = false; list = None }
+no_siblings = record { has_block = false; blank = false; parted = false; list = None; title = None }
 
 -- an open container, with the siblings that it stands behind
 pub record OpenContainer : Type 0 where

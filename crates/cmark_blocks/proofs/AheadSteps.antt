@@ -11,7 +11,7 @@ use Rattle.cmark_blocks.specs.Ahead.{lines_at}
 use Rattle.cmark_grammar.specs.Containers.{keeps, strip_as, strips}
 use Rattle.cmark_grammar.specs.Leaves.{underlines}
 use Rattle.cmark_grammar.specs.Openings.{interrupts, text_lines, put_if, is_none}
-use Rattle.cmark_grammar.specs.TableRows.{table_interrupts}
+use Rattle.cmark_blocks.specs.TablesAhead.{block_interrupts}
 use Rattle.cmark_lines.proofs.LazyRows.{whole-texts}
 use Rattle.cmark_grammar.proofs.RowPlaces.{kept-without}
 use Rattle.cmark_block_model.specs.BlockPass.{Kept, kept_by, kept_if, ahead_in}
@@ -58,11 +58,11 @@ module _ (text : List ℕ) (options : Options) (lookup : Lookup) where
       }
 
   -- whether a line goes on with a paragraph as its text, in front of others
-  pub text-if : (r : Row) (ahead : List Row) → r.lazy ≡ false → (is table : Bool) → is ≡ (not (interrupts options true r ahead) && is_none (underlines r)) → table ≡ table_interrupts options r ahead
+  pub text-if : (r : Row) (ahead : List Row) → r.lazy ≡ false → (is table : Bool) → is ≡ (not (interrupts options true r ahead) && is_none (underlines r)) → table ≡ block_interrupts options true r ahead
       → text_lines options (r ∷ ahead) ≡ put_if (is && not table) r (text_lines options ahead)
   text-if r ahead whole is table e t =
       ap (λ z. put_if (z && is_none (underlines r)) r (text_lines options ahead)) (whole-texts options r ahead whole)
-      ∙ ap (λ b. put_if b r (text_lines options ahead)) (apart (interrupts options true r ahead) (table_interrupts options r ahead) (is_none (underlines r)) ∙ ap (λ z. z && not (table_interrupts options r ahead)) (sym e) ∙ ap (λ z. is && not z) (sym t))
+      ∙ ap (λ b. put_if b r (text_lines options ahead)) (apart (interrupts options true r ahead) (block_interrupts options true r ahead) (is_none (underlines r)) ∙ ap (λ z. z && not (block_interrupts options true r ahead)) (sym e) ∙ ap (λ z. is && not z) (sym t))
     where
       apart : (a b n : Bool) → (not (a || b) && n) ≡ ((not a && n) && not b)
       apart true b n = refl

@@ -3,12 +3,13 @@ use Rattle.std.proofs.Common.{◌≡◌, ◌≢◌, ℕ, suc, ◌≤◌, ◌==�
 use Rattle.std.proofs.lemmas.List.{drop_all}
 use Rattle.cmark_grammar.specs.Answers.{Lookup}
 use Rattle.cmark_grammar.specs.Containers.{Container}
+use Rattle.cmark_grammar.specs.DefinitionLists.{is_definition}
 use Rattle.cmark_grammar.specs.Leaves.{underlines}
 use Rattle.cmark_grammar.specs.Openings.{interrupts, texts, lazily}
 use Rattle.cmark_grammar.specs.Options.{Options}
 use Rattle.cmark_grammar.specs.Lines.{lines}
 use Rattle.cmark_grammar.specs.Rows.{Row, begin_of, rows_from}
-use Rattle.cmark_grammar.specs.TableRows.{table_interrupts}
+use Rattle.cmark_blocks.specs.TablesAhead.{block_interrupts}
 use Rattle.cmark_grammar.specs.Tokens.{stretch_then}
 use Rattle.cmark_grammar.specs.BlockDocument.{Nil}
 use Rattle.cmark_lines.specs.Rests.{row_of}
@@ -57,18 +58,18 @@ module _ (text : List ℕ) (options : Options) (lookup : Lookup) (r : Row) (next
       ap (λ l. leaf_fed text options lookup l r next m) is
       ∙ ap (λ u. underlined_or text options lookup u (λ level. heading_made text options lookup level from last r m) (if texts options r (ahead_in text options lookup m.outer next) then paragraph_line text options lookup from last r m else begin text options lookup r next (leaf_closed text options lookup m))) (sym under)
 
-  feeds-other : (from : ℕ) (last : Row) (goes_on : Bool) → None ≡ underlines r → r.lazy ≡ false → not (interrupts options true r (ahead_in text options lookup m.outer next) || table_interrupts options r (ahead_in text options lookup m.outer next)) ≡ goes_on → m.leaf ≡ model.InParagraph from last →
+  feeds-other : (from : ℕ) (last : Row) (goes_on : Bool) → None ≡ underlines r → r.lazy ≡ false → not (interrupts options true r (ahead_in text options lookup m.outer next) || block_interrupts options true r (ahead_in text options lookup m.outer next)) ≡ goes_on → m.leaf ≡ model.InParagraph from last →
       leaf_fed text options lookup m.leaf r next m ≡ (if goes_on then paragraph_line text options lookup from last r m else begin text options lookup r next (leaf_closed text options lookup m))
   feeds-other from last goes_on under whole on is =
       ap (λ l. leaf_fed text options lookup l r next m) is
       ∙ ap (λ u. underlined_or text options lookup u (λ level. heading_made text options lookup level from last r m) (if texts options r (ahead_in text options lookup m.outer next) then paragraph_line text options lookup from last r m else begin text options lookup r next (leaf_closed text options lookup m))) (sym under)
       ∙ ap (λ t. if t then paragraph_line text options lookup from last r m else begin text options lookup r next (leaf_closed text options lookup m)) (whole-texts options r (ahead_in text options lookup m.outer next) whole ∙ on)
 
-  pub feeds-interrupted : (from : ℕ) (last : Row) → None ≡ underlines r → r.lazy ≡ false → true ≡ (interrupts options true r (ahead_in text options lookup m.outer next) || table_interrupts options r (ahead_in text options lookup m.outer next)) → m.leaf ≡ model.InParagraph from last →
+  pub feeds-interrupted : (from : ℕ) (last : Row) → None ≡ underlines r → r.lazy ≡ false → true ≡ (interrupts options true r (ahead_in text options lookup m.outer next) || block_interrupts options true r (ahead_in text options lookup m.outer next)) → m.leaf ≡ model.InParagraph from last →
       leaf_fed text options lookup m.leaf r next m ≡ begin text options lookup r next (leaf_closed text options lookup m)
   feeds-interrupted from last under whole on is = feeds-other from last false under whole (ap not (sym on)) is
 
-  pub feeds-text : (from : ℕ) (last : Row) → None ≡ underlines r → r.lazy ≡ false → false ≡ (interrupts options true r (ahead_in text options lookup m.outer next) || table_interrupts options r (ahead_in text options lookup m.outer next)) → m.leaf ≡ model.InParagraph from last →
+  pub feeds-text : (from : ℕ) (last : Row) → None ≡ underlines r → r.lazy ≡ false → false ≡ (interrupts options true r (ahead_in text options lookup m.outer next) || block_interrupts options true r (ahead_in text options lookup m.outer next)) → m.leaf ≡ model.InParagraph from last →
       leaf_fed text options lookup m.leaf r next m ≡ paragraph_line text options lookup from last r m
   feeds-text from last under whole on is = feeds-other from last true under whole (ap not (sym on)) is
 
@@ -194,15 +195,15 @@ fed-outside text options lookup r next m cs none shows =
 
 -- a line that others miss goes on with a paragraph where neither it nor a table that it begins interrupts one
 module _ (options : Options) (k : Container) (r : Row) (ahead : List Row) (takes : Bool) where
-  by_tests : (interrupting table : Bool) → interrupts options false r ahead ≡ interrupting → table_interrupts options r ahead ≡ table → (lazily options k r ahead && takes) ≡ (not (interrupting || table) && takes)
+  by_tests : (interrupting table : Bool) → interrupts options false r ahead ≡ interrupting → block_interrupts options (is_definition k) r ahead ≡ table → (lazily options k r ahead && takes) ≡ (not (interrupting || table) && takes)
   by_tests interrupting table e f =
-      ap (λ z. z && takes) (lazily-is options r ahead k) ∙ ap (λ z. not (z || table_interrupts options r ahead) && takes) e ∙ ap (λ z. not (interrupting || z) && takes) f
+      ap (λ z. z && takes) (lazily-is options r ahead k) ∙ ap (λ z. not (z || block_interrupts options (is_definition k) r ahead) && takes) e ∙ ap (λ z. not (interrupting || z) && takes) f
 
-  pub lazily-unless : (table : Bool) → takes ≡ true → false ≡ interrupts options false r ahead → table ≡ table_interrupts options r ahead → not table ≡ (lazily options k r ahead && takes)
+  pub lazily-unless : (table : Bool) → takes ≡ true → false ≡ interrupts options false r ahead → table ≡ block_interrupts options (is_definition k) r ahead → not table ≡ (lazily options k r ahead && takes)
   lazily-unless table on none is = and-true (not table) takes on ∙ sym (by_tests false table (sym none) (sym is))
 
   pub lazily-not : true ≡ interrupts options false r ahead → false ≡ (lazily options k r ahead && takes)
-  lazily-not ends = sym (by_tests true (table_interrupts options r ahead) (sym ends) refl)
+  lazily-not ends = sym (by_tests true (block_interrupts options (is_definition k) r ahead) (sym ends) refl)
 
 pub is-not : (a b : Bool) → not a ≡ b → a ≡ not b
 is-not true true e = absurd (true≢false (sym e))

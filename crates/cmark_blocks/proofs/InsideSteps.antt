@@ -1,11 +1,11 @@
 -- So many of the open containers, the outermost ones, one by one.
-use Rattle.std.proofs.Common.{◌≡◌, ℕ, zero, suc, ◌<◌, ◌≤◌, Bool, false, List, [], ◌∷◌, take, drop, length, slice_get, Some, None, refl, sym, ap, ◌∙◌, subst, arith}
+use Rattle.std.proofs.Common.{true, ◌≡◌, ℕ, zero, suc, ◌<◌, ◌≤◌, Bool, false, List, [], ◌∷◌, take, drop, length, slice_get, Some, None, refl, sym, ap, ◌∙◌, subst, arith}
 use Rattle.cmark_grammar.specs.Answers.{Lookup}
 use Rattle.cmark_grammar.specs.Containers as grammar
 use Rattle.cmark_grammar.specs.Containers.{keeps}
 use Rattle.cmark_grammar.specs.Options.{Options}
 use Rattle.cmark_grammar.specs.Rows.{Row}
-use Rattle.cmark_grammar.specs.TableRows.{table_interrupts}
+use Rattle.cmark_blocks.specs.TablesAhead.{block_interrupts}
 use Rattle.cmark_lines.specs.Rests.{row_of}
 use Rattle.cmark_lines.specs.Starts.{Shows}
 use Rattle.cmark_lines.specs.declared.line_rest.LineRest.{LineRest}
@@ -56,5 +56,5 @@ first-all text options lookup ms count at r more rest le i = inside-all text opt
 
 -- inside of all of them
 pub told-inside : (text : List ℕ) (options : Options) (lookup : Lookup) (cs : List OpenContainer) (ms : List model.OpenContainer) (count : ℕ) (r : Row) (next : List Row) (told : Bool) → ShowsContainers cs ms → length cs ≤ count →
-    told ≡ table_interrupts options r (ahead_in text options lookup (take count ms) next) → told ≡ table_interrupts options r (ahead_in text options lookup ms next)
-told-inside text options lookup cs ms count r next told shows all is = is ∙ ap (λ l. table_interrupts options r (ahead_in text options lookup l next)) (shows-all cs ms count shows all).0
+    told ≡ block_interrupts options true r (ahead_in text options lookup (take count ms) next) → told ≡ block_interrupts options true r (ahead_in text options lookup ms next)
+told-inside text options lookup cs ms count r next told shows all is = is ∙ ap (λ l. block_interrupts options true r (ahead_in text options lookup l next)) (shows-all cs ms count shows all).0

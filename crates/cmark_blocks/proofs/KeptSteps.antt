@@ -100,3 +100,5 @@ behind-more line rest inside (container.Footnote old) bare keep h =
     behind-next line rest inside (grammar.Footnote [] old 0) bare (keep (grammar.Footnote [] old 0) refl) h
 behind-more line rest inside (container.Item width) bare keep h =
     behind-next line rest inside (grammar.Item 45 None width None) bare (keep (grammar.Item 45 None width None) refl) h
+behind-more line rest inside (container.Definition width) bare keep h =
+    behind-next line rest inside (grammar.ListDefinition width) bare (keep (grammar.ListDefinition width) refl) h

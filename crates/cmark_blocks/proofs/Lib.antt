@@ -3,6 +3,7 @@ pub mod BracketSteps
 pub mod ClosingSteps
 pub mod CodeSteps
 pub mod CountSteps
+pub mod DefinitionRows
 pub mod DefinitionSteps
 pub mod FeedSteps
 pub mod FootnoteSteps
@@ -25,3 +26,4 @@ pub mod RunSteps
 pub mod TableRuns
 pub mod TableSteps
 pub mod TaskSteps
+pub mod TitleSteps

@@ -1,6 +1,6 @@
 -- What a line begins, one container after the other.
 use Rattle.std.specs.Prelude.{if◌then◌else◌, is_some, option_map, IfSome}
-use Rattle.std.proofs.Common.{◌≡◌, ℕ, zero, suc, ◌<◌, ◌≤◌, Bool, true, false, List, [], length, Option, Some, None, refl, sym, ap, subst, ◌∙◌, arith}
+use Rattle.std.proofs.Common.{◌≡◌, ℕ, zero, suc, ◌<◌, ◌≤◌, Bool, true, false, List, [], ◌∷◌, length, Option, Some, None, refl, sym, ap, subst, ◌∙◌, arith}
 use Rattle.cmark_grammar.specs.Options.{Options}
 use Rattle.cmark_grammar.specs.Answers.{Lookup}
 use Rattle.cmark_grammar.specs.Alerts.{alert_in}
@@ -11,8 +11,11 @@ use Rattle.cmark_grammar.specs.Leaves.{run}
 use Rattle.cmark_grammar.specs.Metadata.{metadata_kind}
 use Rattle.cmark_grammar.specs.Openings.{Leaf, Blank, Takes, Plain, or_else, metadata_begun, whole_opens, opens}
 use Rattle.cmark_grammar.specs.Options.{Options, no_options}
-use Rattle.cmark_grammar.specs.Places.{Apart}
-use Rattle.cmark_grammar.specs.Rows.{Row, without, is_blank_line, words_of}
+use Rattle.cmark_grammar.specs.DefinitionLists.{definition_at}
+use Rattle.cmark_grammar.specs.Places.{Place, Apart}
+use Rattle.cmark_blocks.proofs.DefinitionRows.{opens-anywhere, inside-place, blank-defines-not}
+use Rattle.cmark_grammar.specs.Columns.{Column, bytes_of, without_indent}
+use Rattle.cmark_grammar.specs.Rows.{Row, without, is_bare, is_blank_line, words_of}
 use Rattle.cmark_grammar.proofs.BlockLaws.{no_metadata}
 use Rattle.cmark_lines.proofs.OpeningRows.{opens-blank, none_ahead}
 use Rattle.cmark_lines.specs.Opened.{opened, HasInside, IsMarked, InsideIsIn}
@@ -28,11 +31,11 @@ use Rattle.cmark_text.specs.declared.kind.HeadingLevel.{HeadingLevel}
 use Rattle.cmark_text.specs.Shown.{level_number, shown_block_quote_kind, shown_options}
 use Rattle.cmark_leaves.specs.Told.{AreTold}
 use Rattle.cmark_leaves.proofs.ToldSteps.{without-told}
-use Rattle.cmark_block_model.specs.BlockPass.{ahead_in, begin, begin_as, begin_in, leaf_begun, container_begun, inside_begun, is_item}
+use Rattle.cmark_block_model.specs.BlockPass.{ahead_in, begin, begin_as, begin_in, leaf_begun, container_begun, inside_begun, is_item, place_of}
 use Rattle.cmark_block_model.specs.OpenBlocks as model
 use Rattle.cmark_blocks.specs.Ahead.{lines_at}
 use Rattle.cmark_blocks.specs.declared.state.Pass.{Pass}
-use Rattle.cmark_blocks.specs.Entered.{OpensAs, HasNumber, TellsMetadata, takes_line, line_taken, BeginsContainer, BeginsFirst, BeginsSoFar}
+use Rattle.cmark_blocks.specs.Entered.{OpensAs, HasNumber, DefinesAs, TellsMetadata, takes_line, line_taken, BeginsContainer, BeginsFirst, BeginsSoFar}
 use Rattle.cmark_blocks.specs.Runs.{Runs, IsRead}
 use Rattle.cmark_blocks.specs.Steps.{Begins}
 use Rattle.cmark_blocks.proofs.OpeningSteps.{Fits, opens-fits}
@@ -87,21 +90,21 @@ module _ (r : Row) (open_as : Opening) (start : ContainerStart) (nests : open_as
     }
 
   module _ (text : List ℕ) (options : Options) (lookup : Lookup) (bare : Bool) (columns : ℕ) (m : model.Pass) (opens_as : OpensAs options open_as r)
-      (none : metadata_begun (metadata_kind options r) (ahead_in text options lookup m.outer (lines_at text r.past)) ≡ Plain) where
-    begins-nested : begin_in text options lookup (suc columns) Apart r (lines_at text r.past) bare m ≡ nested text options lookup columns (lines_at text r.past) r m (shown_start options r start)
+      (none : metadata_begun (metadata_kind options r) (ahead_in text options lookup m.outer (lines_at text r.past)) ≡ Plain) (plain : definition_at options (place_of m.inner) r ≡ None) where
+    begins-nested : begin_in text options lookup (suc columns) (place_of m.inner) r (lines_at text r.past) bare m ≡ nested text options lookup columns (lines_at text r.past) r m (shown_start options r start)
     begins-nested =
         let ahead = ahead_in text options lookup m.outer (lines_at text r.past) in
         ap (λ o. begin_as text options lookup o (nested text options lookup columns (lines_at text r.past) r m) r ahead bare m)
-        (opens_as ahead ∙ ap (λ o. or_else o (opened options open_as r ahead)) none ∙ ap (λ (x : Opening). opened options x r ahead) nests)
+        (opens-anywhere options m.inner r ahead plain ∙ opens_as ahead ∙ ap (λ o. or_else o (opened options open_as r ahead)) none ∙ ap (λ (x : Opening). opened options x r ahead) nests)
 
     pub taken-begins : length r.columns ≤ columns → takes_line (shown_start options r start) ≡ true →
-        begin_in text options lookup (suc columns) Apart r (lines_at text r.past) bare m ≡ line_taken text options lookup (shown_start options r start) r (container_begun (shown_start options r start) r m)
+        begin_in text options lookup (suc columns) (place_of m.inner) r (lines_at text r.past) bare m ≡ line_taken text options lookup (shown_start options r start) r (container_begun (shown_start options r start) r m)
     taken-begins le taken =
         begins-nested ∙ nested-taken text options lookup columns (lines_at text r.past) r m (shown_start options r start) le (start-text options r start enters) taken
 
     pub inside-begins : (inside : LineRest) → inside ≡ inside_of start → (item : Bool) → takes_line (shown_start options r start) ≡ false → item ≡ is_item (shown_start options r start) →
-        begin_in text options lookup (suc columns) Apart r (lines_at text r.past) bare m
-        ≡ begin_in text options lookup columns Apart (row_of inside) (lines_at text (row_of inside).past) item (container_begun (shown_start options r start) r m)
+        begin_in text options lookup (suc columns) (place_of m.inner) r (lines_at text r.past) bare m
+        ≡ begin_in text options lookup columns (place_of (container_begun (shown_start options r start) r m).inner) (row_of inside) (lines_at text (row_of inside).past) item (container_begun (shown_start options r start) r m)
     inside-begins inside behind item left is =
         let k = shown_start options r start in
         begins-nested
@@ -109,23 +112,24 @@ module _ (r : Row) (open_as : Opening) (start : ContainerStart) (nests : open_as
         ∙ ap (λ (s : Row). begin_in text options lookup columns Apart s (lines_at text r.past) (is_item k) (container_begun k r m)) (sym (inside-row inside behind options))
         ∙ ap (λ (p : ℕ). begin_in text options lookup columns Apart (row_of inside) (lines_at text p) (is_item k) (container_begun k r m)) (sym (inside-past inside behind))
         ∙ ap (λ (b : Bool). begin_in text options lookup columns Apart (row_of inside) (lines_at text (row_of inside).past) b (container_begun k r m)) (sym is)
+        ∙ ap (λ (pl : Place). begin_in text options lookup columns pl (row_of inside) (lines_at text (row_of inside).past) item (container_begun k r m)) (inside-place k r m)
 
 -- a container was begun, and what it left of its line
 module _ {E : Type 0} (replacement : E → Lookup) (rest : LineRest) (open_as : Opening) (start : ContainerStart) (nests : open_as ≡ opening.Nests start) (has : HasInside open_as (row_of rest)) (old new : Pass E) (opens_as : OpensAs (shown_options old.options) open_as (row_of rest)) where
   abbrev opens_here : (text : List ℕ) (options : Options) (lookup : Lookup) (m : model.Pass) → Runs replacement text options lookup m old → OpensAs options open_as (row_of rest)
   opens_here text options lookup m runs = subst (λ o. OpensAs o open_as (row_of rest)) runs.options_is opens_as
 
-  pub container-begins : (bare : Bool) (entered : Option (LineRest × Bool)) → TellsMetadata replacement old rest None → IfSome entered (λ inside. inside.0 ≡ inside_of start) →
+  pub container-begins : (bare : Bool) (entered : Option (LineRest × Bool)) → DefinesAs replacement old rest None → TellsMetadata replacement old rest None → IfSome entered (λ inside. inside.0 ≡ inside_of start) →
       BeginsContainer replacement start rest entered old new → BeginsFirst replacement bare rest entered old new
-  container-begins bare None none behind begins text options lookup columns m le runs =
+  container-begins bare None plain none behind begins text options lookup columns m le runs =
       let b = begins text options lookup m runs in
-      subst (λ p. Runs replacement text options lookup p new) (sym (taken-begins (row_of rest) open_as start nests has text options lookup bare columns m (opens_here text options lookup m runs) (none text options lookup m runs) le b.0)) b.1
-  container-begins bare (Some inside) none behind begins text options lookup columns m le runs =
+      subst (λ p. Runs replacement text options lookup p new) (sym (taken-begins (row_of rest) open_as start nests has text options lookup bare columns m (opens_here text options lookup m runs) (none text options lookup m runs) (sym (plain text options lookup m runs)) le b.0)) b.1
+  container-begins bare (Some inside) plain none behind begins text options lookup columns m le runs =
       let b = begins text options lookup m runs in (
         container_begun (shown_start options (row_of rest) start) (row_of rest) m,
         b.2,
         inside-past (row_of rest) open_as start nests has inside.0 behind,
-        inside-begins (row_of rest) open_as start nests has text options lookup bare columns m (opens_here text options lookup m runs) (none text options lookup m runs) inside.0 behind inside.1 b.0 b.1,
+        inside-begins (row_of rest) open_as start nests has text options lookup bare columns m (opens_here text options lookup m runs) (none text options lookup m runs) (sym (plain text options lookup m runs)) inside.0 behind inside.1 b.0 b.1,
       )
 
 pub container-read : (r : Row) (open_as : Opening) (start : ContainerStart) → open_as ≡ opening.Nests start → HasInside open_as r → (entered : Option (LineRest × Bool)) (text : List ℕ) → IfSome entered (λ inside. inside.0 ≡ inside_of start) →
@@ -135,21 +139,21 @@ container-read r open_as start nests has (Some inside) text behind placed told =
 
 -- a line that begins no container, or metadata
 module _ (text : List ℕ) (options : Options) (lookup : Lookup) (r : Row) (next : List Row) (columns : ℕ) (bare : Bool) (m : model.Pass) where
-  pub leaf-begins : (open_as : Opening) → OpensAs options open_as r → metadata_begun (metadata_kind options r) (ahead_in text options lookup m.outer next) ≡ Plain →
+  pub leaf-begins : (open_as : Opening) → OpensAs options open_as r → definition_at options (place_of m.inner) r ≡ None → metadata_begun (metadata_kind options r) (ahead_in text options lookup m.outer next) ≡ Plain →
       begin_as text options lookup (opened options open_as r (ahead_in text options lookup m.outer next)) (λ k. inside_begun (is_alert k) (container_begun k r m) (begin_in text options lookup columns (place_in k) (enter k r) next (is_item k) (container_begun k r m))) r (ahead_in text options lookup m.outer next) bare m
-      ≡ begin_in text options lookup (suc columns) Apart r next bare m
-  leaf-begins open_as opens_as none =
+      ≡ begin_in text options lookup (suc columns) (place_of m.inner) r next bare m
+  leaf-begins open_as opens_as plain none =
       let ahead = ahead_in text options lookup m.outer next in
       ap (λ o. begin_as text options lookup o (λ k. inside_begun (is_alert k) (container_begun k r m) (begin_in text options lookup columns (place_in k) (enter k r) next (is_item k) (container_begun k r m))) r ahead bare m)
-      (sym (opens_as ahead ∙ ap (λ o. or_else o (opened options open_as r ahead)) none))
+      (sym (opens-anywhere options m.inner r ahead plain ∙ opens_as ahead ∙ ap (λ o. or_else o (opened options open_as r ahead)) none))
 
-  pub metadata-begins : (leaf : Leaf) (more : ℕ) → r.lazy ≡ false → metadata_begun (metadata_kind options r) (ahead_in text options lookup m.outer next) ≡ Takes leaf more →
-      leaf_begun text options lookup leaf more r (ahead_in text options lookup m.outer next) m ≡ begin_in text options lookup (suc columns) Apart r next bare m
+  pub metadata-begins : (leaf : Leaf) (more : ℕ) → r.lazy ≡ false → definition_at options (place_of m.inner) r ≡ None → metadata_begun (metadata_kind options r) (ahead_in text options lookup m.outer next) ≡ Takes leaf more →
+      leaf_begun text options lookup leaf more r (ahead_in text options lookup m.outer next) m ≡ begin_in text options lookup (suc columns) (place_of m.inner) r next bare m
   unfolding opens
-  metadata-begins leaf more whole is =
+  metadata-begins leaf more whole plain is =
       let ahead = ahead_in text options lookup m.outer next in
       ap (λ o. begin_as text options lookup o (λ k. inside_begun (is_alert k) (container_begun k r m) (begin_in text options lookup columns (place_in k) (enter k r) next (is_item k) (container_begun k r m))) r ahead bare m)
-      (sym (ap (λ z. if z then Plain else or_else (metadata_begun (metadata_kind options r) ahead) (whole_opens options r ahead)) whole ∙ ap (λ o. or_else o (whole_opens options r ahead)) is))
+      (sym (opens-anywhere options m.inner r ahead plain ∙ ap (λ z. if z then Plain else or_else (metadata_begun (metadata_kind options r) ahead) (whole_opens options r ahead)) whole ∙ ap (λ o. or_else o (whole_opens options r ahead)) is))
 
 module _ {E : Type 0} (replacement : E → Lookup) (line : LineRest) (old : Pass E) where
   pub begins-start : BeginsSoFar replacement line false line old old
@@ -165,9 +169,9 @@ module _ {E : Type 0} (replacement : E → Lookup) (line : LineRest) (old : Pass
       go before.0 before.1 before.2 before.3 before.4
     where
       go : (columns : ℕ) (p : model.Pass) → length (row_of rest).columns ≤ columns → Runs replacement text options lookup p mid →
-          (begin text options lookup (row_of line) (lines_at text (row_of line).past) m ≡ begin_in text options lookup (suc columns) Apart (row_of rest) (lines_at text (row_of rest).past) bare p) →
+          (begin text options lookup (row_of line) (lines_at text (row_of line).past) m ≡ begin_in text options lookup (suc columns) (place_of p.inner) (row_of rest) (lines_at text (row_of rest).past) bare p) →
           (columns : ℕ) × (p : model.Pass) × (length (row_of inside).columns ≤ columns) × Runs replacement text options lookup p new
-          × (begin text options lookup (row_of line) (lines_at text (row_of line).past) m ≡ begin_in text options lookup (suc columns) Apart (row_of inside) (lines_at text (row_of inside).past) item p)
+          × (begin text options lookup (row_of line) (lines_at text (row_of line).past) m ≡ begin_in text options lookup (suc columns) (place_of p.inner) (row_of inside) (lines_at text (row_of inside).past) item p)
       go zero p le now same = absurd (omega (arith, le, shorter))
       go (suc n) p le now same = let r = first text options lookup (suc n) p le now in (n, r.0, omega (arith, le, shorter), r.1, same ∙ r.3)
 
@@ -176,9 +180,16 @@ module _ {E : Type 0} (replacement : E → Lookup) (line : LineRest) (old : Pass
       let before = so_far text options lookup m runs in
       subst (λ p. Runs replacement text options lookup p new) (sym before.4) (first text options lookup before.0 before.1 before.2 before.3)
 
+blank-words : (r : Row) → is_blank_line r ≡ true → words_of r ≡ []
+blank-words r e = go (without_indent r.columns) e
+  where
+    go : (cs : List Column) → is_bare cs ≡ true → bytes_of cs ≡ []
+    go [] e = refl
+    go (c ∷ cs) e = absurd (let q : false ≡ true = e in cc)
+
 -- a blank line begins nothing
 pub begins-blank : (text : List ℕ) (options : Options) (lookup : Lookup) (r : Row) (next : List Row) (m : model.Pass) → r.lazy ≡ false → is_blank_line r ≡ true →
     begin text options lookup r next m ≡ record m { inner = record m.inner { blank = m.inner.has_block }; bare = false }
 begins-blank text options lookup r next m whole blank =
     ap (λ o. begin_as text options lookup o (λ k. inside_begun (is_alert k) (container_begun k r m) (begin_in text options lookup (length r.columns) (place_in k) (enter k r) next (is_item k) (container_begun k r m))) r (ahead_in text options lookup m.outer next) false m)
-    (opens-blank options r (ahead_in text options lookup m.outer next) whole blank ∙ ap (λ kind. or_else (metadata_begun kind (ahead_in text options lookup m.outer next)) Blank) (no_metadata options r blank))
+    (opens-anywhere options m.inner r (ahead_in text options lookup m.outer next) (blank-defines-not options (place_of m.inner) r (blank-words r blank)) ∙ opens-blank options r (ahead_in text options lookup m.outer next) whole blank ∙ ap (λ kind. or_else (metadata_begun kind (ahead_in text options lookup m.outer next)) Blank) (no_metadata options r blank))

@@ -3,7 +3,7 @@ use Rattle.std.proofs.Common.{◌≡◌, ℕ, Bool, true, false, ◌&&◌, nat_l
 use Rattle.std.specs.Prelude.{unwrap_or}
 use Rattle.cmark_grammar.specs.Rows.{Row, words_of, is_blank_line, indent_of}
 use Rattle.cmark_grammar.specs.BlockQuoteKind.{BlockQuoteKind}
-use Rattle.cmark_grammar.specs.Containers.{Container, Quote, Item, Footnote, Marker, marker_of, item_with, item_of, container_with, container_of, footnote_or, footnote_with, footnote_of, is_quote, width_with, with_task}
+use Rattle.cmark_grammar.specs.Containers.{Container, Quote, Item, Footnote, ListDefinition, Marker, marker_of, item_with, item_of, container_with, container_of, footnote_or, footnote_with, footnote_of, is_quote, width_with, with_task}
 use Rattle.cmark_grammar.specs.Footnotes.{Footnotes, Off, Gfm, Old, footnotes_in, footnote_in}
 use Rattle.cmark_grammar.specs.HtmlBlocks.{html_kind}
 use Rattle.cmark_grammar.specs.Leaves.{Fence, is_parted, run, is_thematic_break, is_atx_heading, fence_of, counted, code_further}
@@ -29,6 +29,7 @@ abbrev pub ContainerNumbered : Option Container → Type 0
 ContainerNumbered None = Unit {0}
 ContainerNumbered (Some (Quote alert)) = Unit {0}
 ContainerNumbered (Some (Footnote label old size)) = Unit {0}
+ContainerNumbered (Some (ListDefinition width)) = Unit {0}
 ContainerNumbered (Some (Item mark number width task)) = Numbered mark number
 
 -- an item has a number that its character tells, a heading this level
@@ -36,6 +37,7 @@ abbrev pub Fits : (level : ℕ) → Opening → Type 0
 Fits level Blank = Unit {0}
 Fits level (Nests (Quote alert)) = Unit {0}
 Fits level (Nests (Footnote label old size)) = Unit {0}
+Fits level (Nests (ListDefinition width)) = Unit {0}
 Fits level (Nests (Item mark number width task)) = Numbered mark number
 Fits level (Takes ThematicBreak more) = Unit {0}
 Fits level (Takes (AtxHeading n) more) = n ≡ level
@@ -63,6 +65,7 @@ task-numbered : (options : Options) (r : Row) (k : Option Container) → Contain
 task-numbered options r None n = tt
 task-numbered options r (Some (Quote alert)) n = tt
 task-numbered options r (Some (Footnote label old size)) n = tt
+task-numbered options r (Some (ListDefinition width)) n = tt
 task-numbered options r (Some (Item mark number width task)) n = n
 
 container-numbered : (k : Option Container) (quoted : Bool) (alert : Option BlockQuoteKind) → ContainerNumbered k → ContainerNumbered (container_with k quoted alert)
@@ -93,6 +96,7 @@ module _ (level : ℕ) where
   nests-fits : (k : Option Container) → ContainerNumbered k → Fits level (nests_if k)
   nests-fits (Some (Quote alert)) n = tt
   nests-fits (Some (Footnote label old size)) n = tt
+  nests-fits (Some (ListDefinition width)) n = tt
   nests-fits (Some (Item mark number width task)) n = n
   nests-fits None n = tt
 

@@ -4,7 +4,7 @@ use Rattle.std.specs.Prelude.{if◌then◌else◌}
 use Rattle.std.proofs.lemmas.List.Sums.{take_while-cons}
 use Rattle.cmark_grammar.specs.Answers.{Lookup}
 use Rattle.cmark_grammar.specs.Columns.{Column, is_blank, is_blank_byte, without_indent, bytes_of}
-use Rattle.cmark_grammar.specs.Containers.{Container, Quote, Item, Footnote, is_alert, marker_width, enter}
+use Rattle.cmark_grammar.specs.Containers.{Container, Quote, Item, Footnote, ListDefinition, is_alert, marker_width, enter}
 use Rattle.cmark_grammar.specs.Leaves.{are_blank}
 use Rattle.cmark_grammar.specs.Letters.{first_is}
 use Rattle.cmark_grammar.specs.Openings.{Blank, Plain, opens, opens_at}
@@ -97,6 +97,7 @@ HasText (Quote alert) r = Unit {0}
 HasText (Item mark number width None) r = Unit {0}
 HasText (Item mark number width (Some is_checked)) r = is_blank_line (enter (Item mark number width (Some is_checked)) r) ≡ false
 HasText (Footnote label old size) r = Unit {0}
+HasText (ListDefinition width) r = Unit {0}
 
 item-text : (options : Options) (r s : Row) (mark : ℕ) (number : Option ℕ) (width : ℕ) (task : Option Bool) → s ≡ without width r → task_in options s ≡ task → HasText (Item mark number width task) r
 unfolding enter
@@ -144,6 +145,7 @@ module _ (text : List ℕ) (options : Options) (lookup : Lookup) (columns : ℕ)
   nested-on (Item mark number width None) e = refl
   nested-on (Item mark number width (Some is_checked)) e = absurd (let q : true ≡ false = e in cc)
   nested-on (Footnote label old size) e = refl
+  nested-on (ListDefinition width) e = refl
 
 -- the container takes the whole line
 pub nested-taken : (text : List ℕ) (options : Options) (lookup : Lookup) (columns : ℕ) (next : List Row) (r : Row) (m : model.Pass) (k : Container) →
@@ -165,6 +167,7 @@ nested-taken text options lookup (suc n) next r m (Item mark number width (Some 
     (enter (Item mark number width (Some is_checked)) r) ahead true p)
     (text-opens options (enter k r) ahead has)
 nested-taken text options lookup columns next r m (Footnote label old size) le has e = absurd (let q : false ≡ true = e in cc)
+nested-taken text options lookup columns next r m (ListDefinition width) le has e = absurd (let q : false ≡ true = e in cc)
 
 -- an item with no task marker is begun with nothing in it
 pub item-alone : (r : Row) (m : model.Pass) (mark : ℕ) (number : Option ℕ) (width : ℕ) → container_begun (Item mark number width None) r m ≡ item_begun_in mark number width None (begin_of r) m

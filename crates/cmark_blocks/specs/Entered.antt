@@ -1,14 +1,14 @@
 -- What a line begins, one container or leaf after the other.
 use Rattle.std.specs.Prelude.{◌≡◌, ◌≤◌, ℕ, suc, Bool, true, false, List, length, unwrap_or, Option, Some, None, MatchOption}
 use Rattle.cmark_grammar.specs.Answers.{Lookup}
-use Rattle.cmark_grammar.specs.Containers.{Container, Quote, Item, Footnote, is_alert, enter}
+use Rattle.cmark_grammar.specs.Containers.{Container, Quote, Item, Footnote, ListDefinition, is_alert, enter}
 use Rattle.cmark_grammar.specs.Leaves.{counted}
 use Rattle.cmark_grammar.specs.Metadata.{metadata_kind, metadata_further, holds_metadata}
 use Rattle.cmark_grammar.specs.MetadataBlockKind.{MetadataBlockKind}
 use Rattle.cmark_grammar.specs.Openings as grammar
 use Rattle.cmark_grammar.specs.Openings.{MetadataBlock, Takes, Plain, or_else, metadata_begun, opens}
 use Rattle.cmark_grammar.specs.Options.{Options}
-use Rattle.cmark_grammar.specs.Places.{Apart}
+use Rattle.cmark_grammar.specs.DefinitionLists.{definition_at}
 use Rattle.cmark_grammar.specs.Rows.{Row}
 use Rattle.cmark_items.specs.ItemNodes.{list_number}
 use Rattle.cmark_lines.specs.Opened.{opened}
@@ -19,7 +19,7 @@ use Rattle.cmark_lines.specs.declared.container.ContainerStart.TheVariants as be
 use Rattle.cmark_lines.specs.declared.line_rest.LineRest.{LineRest}
 use Rattle.cmark_lines.specs.declared.opening.Opening.{Opening}
 use Rattle.cmark_lines.specs.declared.opening.Opening.TheVariants as opening
-use Rattle.cmark_block_model.specs.BlockPass.{ahead_in, begin, begin_as, begin_in, container_begun, is_item, paragraph_begun}
+use Rattle.cmark_block_model.specs.BlockPass.{ahead_in, begin, begin_as, begin_in, container_begun, is_item, paragraph_begun, place_of}
 use Rattle.cmark_block_model.specs.OpenBlocks as model
 use Rattle.cmark_blocks.specs.Ahead.{lines_at}
 use Rattle.cmark_blocks.specs.declared.state.Pass.{Pass}
@@ -49,12 +49,14 @@ takes_line (Quote alert) = is_alert (Quote alert)
 takes_line (Item mark number width None) = false
 takes_line (Item mark number width (Some is_checked)) = true
 takes_line (Footnote label old size) = false
+takes_line (ListDefinition width) = false
 
 -- the whole line of such a container was taken
 abbrev pub line_taken : List ℕ → Options → Lookup → Container → Row → model.Pass → model.Pass
 line_taken text options lookup (Quote alert) r p = record p { leaf = model.BehindTag }
 line_taken text options lookup (Item mark number width task) r p = paragraph_begun text options lookup (enter (Item mark number width task) r) p
 line_taken text options lookup (Footnote label old size) r p = p
+line_taken text options lookup (ListDefinition width) r p = p
 
 module _ {E : Type 0} (replacement : E → Lookup) where
   -- whether the lines behind this one are those of a metadata block of this kind
@@ -69,6 +71,12 @@ module _ {E : Type 0} (replacement : E → Lookup) where
       (text : List ℕ) (options : Options) (lookup : Lookup) (m : model.Pass) → Runs replacement text options lookup m pass →
       let ahead = ahead_in text options lookup m.outer (lines_at text (row_of rest).past) in
       metadata_begun (metadata_kind options (row_of rest)) ahead ≡ metadata_taken kind ahead
+
+  -- the width of the definition that a line begins, if it begins one
+  abbrev pub DefinesAs : Pass E → LineRest → Option ℕ → Type 0
+  DefinesAs pass rest width =
+      (text : List ℕ) (options : Options) (lookup : Lookup) (m : model.Pass) → Runs replacement text options lookup m pass →
+      width ≡ definition_at options (place_of m.inner) (row_of rest)
 
   -- what a line begins was begun, where it is no container
   abbrev pub BeginsAs : Opening → (bare : Bool) → LineRest → Pass E → Pass E → Type 0
@@ -90,14 +98,14 @@ module _ {E : Type 0} (replacement : E → Lookup) where
   abbrev pub Enters : List ℕ → Options → Lookup → (columns : ℕ) → (bare : Bool) → LineRest → model.Pass → LineRest × Bool → Pass E → Type 0
   Enters text options lookup columns bare rest m entered new =
       (p : model.Pass) × Runs replacement text options lookup p new × ((row_of entered.0).past ≡ (row_of rest).past)
-      × (begin_in text options lookup (suc columns) Apart (row_of rest) (lines_at text (row_of rest).past) bare m
-      ≡ begin_in text options lookup columns Apart (row_of entered.0) (lines_at text (row_of entered.0).past) entered.1 p)
+      × (begin_in text options lookup (suc columns) (place_of m.inner) (row_of rest) (lines_at text (row_of rest).past) bare m
+      ≡ begin_in text options lookup columns (place_of p.inner) (row_of entered.0) (lines_at text (row_of entered.0).past) entered.1 p)
 
   -- the first thing that a line begins was begun, where no more columns are left of the line than these
   abbrev pub BeginsFirst : (bare : Bool) → LineRest → Option (LineRest × Bool) → Pass E → Pass E → Type 0
   BeginsFirst bare rest entered old new =
       (text : List ℕ) (options : Options) (lookup : Lookup) (columns : ℕ) (m : model.Pass) → length (row_of rest).columns ≤ columns → Runs replacement text options lookup m old →
-      MatchOption entered (Runs replacement text options lookup (begin_in text options lookup (suc columns) Apart (row_of rest) (lines_at text (row_of rest).past) bare m) new)
+      MatchOption entered (Runs replacement text options lookup (begin_in text options lookup (suc columns) (place_of m.inner) (row_of rest) (lines_at text (row_of rest).past) bare m) new)
       (λ inside. Enters text options lookup columns bare rest m inside new)
 
   -- some of the containers were begun that a line begins: what is left of the line begins what is left
@@ -105,4 +113,4 @@ module _ {E : Type 0} (replacement : E → Lookup) where
   BeginsSoFar line bare rest old now =
       (text : List ℕ) (options : Options) (lookup : Lookup) (m : model.Pass) → Runs replacement text options lookup m old →
       (columns : ℕ) × (p : model.Pass) × (length (row_of rest).columns ≤ columns) × Runs replacement text options lookup p now
-      × (begin text options lookup (row_of line) (lines_at text (row_of line).past) m ≡ begin_in text options lookup (suc columns) Apart (row_of rest) (lines_at text (row_of rest).past) bare p)
+      × (begin text options lookup (row_of line) (lines_at text (row_of line).past) m ≡ begin_in text options lookup (suc columns) (place_of p.inner) (row_of rest) (lines_at text (row_of rest).past) bare p)

@@ -1,7 +1,6 @@
 -- Lines that are fed to the block pass.
-use Rattle.std.specs.Prelude.{◌≡◌, ℕ, Bool, List, take, drop, ◌&&◌}
+use Rattle.std.specs.Prelude.{◌≡◌, ℕ, Bool, List, ◌∷◌, take, drop, ◌&&◌}
 use Rattle.cmark_grammar.specs.Answers.{Lookup}
-use Rattle.cmark_grammar.specs.Containers.{Container}
 use Rattle.cmark_grammar.specs.Openings.{lazily}
 use Rattle.cmark_grammar.specs.Options.{Options}
 use Rattle.cmark_lines.specs.Rests.{row_of}
@@ -19,11 +18,11 @@ abbrev pub TakesLazy : OpenLeaf → Bool → Type 0
 TakesLazy open_leaf takes = (text : List ℕ) (blanks : List LineRest) (m : model.OpenLeaf) → ShowsLeaf text open_leaf blanks m → takes ≡ takes_lazy m
 
 module _ {E : Type 0} (replacement : E → Lookup) where
-  -- whether a line that all but so many containers miss goes on with the open leaf, whichever container is the first of those
+  -- whether a line that all but so many containers miss, of which this is the first, goes on with the open leaf
   abbrev pub IsLazy : Pass E → (kept : ℕ) → LineRest → Bool → Type 0
   IsLazy pass kept rest lazy =
-      (text : List ℕ) (options : Options) (lookup : Lookup) (m : model.Pass) (k : Container) → Runs replacement text options lookup m pass →
-      lazy ≡ (lazily options k (row_of rest) (ahead_in text options lookup (take kept m.outer) (lines_at text (row_of rest).past)) && takes_lazy m.leaf)
+      (text : List ℕ) (options : Options) (lookup : Lookup) (m : model.Pass) (c : model.OpenContainer) (others : List model.OpenContainer) → drop kept m.outer ≡ c ∷ others → Runs replacement text options lookup m pass →
+      lazy ≡ (lazily options c.container (row_of rest) (ahead_in text options lookup (take kept m.outer) (lines_at text (row_of rest).past)) && takes_lazy m.leaf)
 
   -- what so many containers left of a line was fed to the pass; the others miss the line
   abbrev pub FeedsRest : (kept : ℕ) → LineRest → Pass E → Pass E → Type 0

@@ -13,3 +13,4 @@ pub mod Runs
 pub mod Shown
 pub mod Steps
 pub mod TablesAhead
+pub mod Titles

@@ -20,11 +20,14 @@ abbrev pub shown_container : Container → grammar.Container
 shown_container container.Quote = grammar.Quote None
 shown_container (container.Item width) = item_of_width width
 shown_container (container.Footnote old) = grammar.Footnote [] old 0
+shown_container (container.Definition width) = grammar.ListDefinition width
 
--- the container that a node is: a block quote, a list item or a footnote definition, which the options say how to read, and else none
+-- the container that a node is: a block quote, a list item, a definition of a definition list, or a footnote definition, which the options say how to read, and
+-- else none
 abbrev pub container_in : Options → ItemBody → Option grammar.Container
 container_in options (body.BlockQuote kind) = Some (grammar.Quote None)
 container_in options (body.ListItem width) = Some (item_of_width width)
+container_in options (body.DefinitionListDefinition width) = Some (grammar.ListDefinition width)
 container_in options (body.FootnoteDefinition label) = Some (grammar.Footnote [] options.old_footnotes 0)
 container_in options _ = None
 

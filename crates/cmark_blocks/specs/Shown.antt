@@ -5,13 +5,17 @@ use Rattle.cmark_lines.specs.Starts.{Shows}
 use Rattle.cmark_block_model.specs.OpenBlocks as model
 use Rattle.cmark_blocks.specs.declared.siblings.OpenList.{OpenList}
 use Rattle.cmark_blocks.specs.declared.siblings.Siblings.{Siblings}
+use Rattle.cmark_blocks.specs.declared.siblings.Title.{Title}
 use Rattle.cmark_blocks.specs.declared.state.OpenContainer.{OpenContainer}
 
 abbrev pub shown_list : OpenList → model.OpenList
 shown_list l = record { mark = l.mark; number = list_number l.mark l.number; loose = l.loose; end = l.end }
 
+abbrev pub shown_title : Title → model.Title
+shown_title t = record { list = option_map shown_list t.list; parted = t.parted }
+
 abbrev pub shown_siblings : Siblings → model.Siblings
-shown_siblings s = record { has_block = s.has_block; blank = s.blank; parted = s.parted; list = option_map shown_list s.list }
+shown_siblings s = record { has_block = s.has_block; blank = s.blank; parted = s.parted; list = option_map shown_list s.list; title = option_map shown_title s.title }
 
 -- the list, if it has this character
 abbrev pub list_of : (mark : ℕ) → Option model.OpenList → Option model.OpenList

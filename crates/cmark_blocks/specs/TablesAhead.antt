@@ -1,6 +1,7 @@
 -- Tables, as they are seen in the lines ahead (GFM 4.10).
-use Rattle.std.specs.Prelude.{◌≡◌, ℕ, suc, ◌-◌, Bool, List, [], ◌∷◌, ◌+◌, length, take, Option, Some, None, MatchOption}
+use Rattle.std.specs.Prelude.{◌≡◌, ℕ, suc, ◌-◌, Bool, ◌&&◌, ◌||◌, List, [], ◌∷◌, ◌+◌, length, take, Option, Some, None, MatchOption}
 use Rattle.cmark_grammar.specs.Answers.{Lookup}
+use Rattle.cmark_grammar.specs.DefinitionLists.{begins_definition}
 use Rattle.cmark_grammar.specs.Openings.{Table, count_rows}
 use Rattle.cmark_grammar.specs.Options.{Options}
 use Rattle.cmark_grammar.specs.Rows.{Row, past_of, words_of}
@@ -16,6 +17,10 @@ use Rattle.cmark_block_model.specs.OpenBlocks as model
 use Rattle.cmark_blocks.specs.Ahead.{lines_at}
 use Rattle.cmark_blocks.specs.declared.state.Pass.{Pass}
 use Rattle.cmark_blocks.specs.Runs.{Runs}
+
+-- whether a line interrupts a paragraph as the head of a table, or, where definitions may begin, by the marker of one
+abbrev pub block_interrupts : Options → (may_define : Bool) → Row → List Row → Bool
+block_interrupts options may_define r ahead = table_interrupts options r ahead || (may_define && begins_definition options r)
 
 -- a line is the head of a table with so many columns, and that one its delimiter row
 pub record IsHead (options : Options) (head : Row) (ahead : List Row) (columns : ℕ) (delimiter : Row) (behind : List Row) : Type 0 where
@@ -41,6 +46,12 @@ module _ {E : Type 0} (replacement : E → Lookup) where
   TellsInterrupts pass count rest interrupts =
       (text : List ℕ) (options : Options) (lookup : Lookup) (m : model.Pass) → Runs replacement text options lookup m pass →
       interrupts ≡ table_interrupts options (row_of rest) (ahead_in text options lookup (take count m.outer) (lines_at text (row_of rest).past))
+
+  -- whether a line interrupts as a table or, where definitions may begin, as one
+  abbrev pub TellsBlock : Pass E → (count : ℕ) → (may_define : Bool) → LineRest → Bool → Type 0
+  TellsBlock pass count may_define rest interrupts =
+      (text : List ℕ) (options : Options) (lookup : Lookup) (m : model.Pass) → Runs replacement text options lookup m pass →
+      interrupts ≡ block_interrupts options may_define (row_of rest) (ahead_in text options lookup (take count m.outer) (lines_at text (row_of rest).past))
 
   -- the table that this line is in goes on with that one, or ends
   abbrev pub GoesOnWithRow : Pass E → (columns left : ℕ) → LineRest → Option LineRest → Type 0

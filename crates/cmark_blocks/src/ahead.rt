@@ -91,7 +91,7 @@ impl<'a, E: EntityLookup> Pass<'a, E> {
         ensures further { IfSome result (λ rest. (row_of last.entry).past < (row_of rest).past) }
     {
         let rest = self.line_ahead(last)?;
-        if is_text(rest, self.options) && !self.table_interrupts(self.outer.len(), rest) {
+        if is_text(rest, self.options) && !self.block_interrupts(self.outer.len(), rest, true) {
             Some(rest)
         } else {
             None

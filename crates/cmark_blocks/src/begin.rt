@@ -71,7 +71,7 @@ impl<'a, E: EntityLookup> Pass<'a, E> {
         ensures text { self.new.text ≡ self.old.text }
         ensures bare { self.new.bare ≡ self.old.bare }
     {
-        self.begin_block();
+        self.begin_text_block();
         let begin = rest.words_begin();
         self.builder.open(begin, ItemBody::Paragraph)?;
         self.leaf = OpenLeaf::Paragraph(begin, rest);

@@ -3,14 +3,16 @@
 ghost use Rattle.std.specs.Prelude.{◌≡◌, Bool, List, Option, ℕ, OnOk, not, unwrap_or, option_map, length, ◌-◌};
 ghost use Rattle.cmark_grammar.specs.Answers.{Lookup};
 ghost use Rattle.cmark_grammar.specs.Containers as grammar;
-ghost use Rattle.cmark_items.specs.ItemNodes.{is_tight, list_number};
+ghost use Rattle.cmark_items.specs.ItemNodes.{is_tight, list_number, shape, Element};
+ghost use Rattle.cmark_grammar.specs.Derivation.{list_kind};
 ghost use Rattle.cmark_text.specs.Shown.{shown_block_quote_kind};
 ghost use Rattle.cmark_lines.specs.Starts.{Shows};
-ghost use Rattle.cmark_blocks.specs.Shown.{shown_siblings, ShowsContainer};
-ghost use Rattle.cmark_block_model.specs.BlockPass.{list_closed, block_begun, list_begun, item_begun, inside_of, quote_begun, item_begun_in, behind_container};
+ghost use Rattle.cmark_blocks.specs.Shown.{shown_list, shown_siblings, ShowsContainer};
+ghost use Rattle.cmark_block_model.specs.BlockPass.{ended, title_released, title_made, definition_behind, block_begun, list_begun, item_begun, inside_of, quote_begun, item_begun_in, definition_begun_in, behind_container};
+ghost use Rattle.cmark_blocks.specs.Titles.{text_block_begun};
 ghost use Rattle.cmark_block_model.specs.OpenBlocks as model;
 
-use crate::siblings::{OpenList, Siblings};
+use crate::siblings::{DEFINITION_MARK, OpenList, Siblings, Title};
 use crate::state::{OpenContainer, Pass};
 use bitflags::Flags;
 use cmark_items::{ItemBody, ListFlags};
@@ -29,15 +31,30 @@ fn list_flags(loose: bool) -> ListFlags
     }
 }
 
+impl OpenList {
+    /// The list as an item of the tree.
+    fn body(self) -> ItemBody
+        ensures { shape result ≡ Element (list_kind self.mark (list_number self.mark self.number) (not self.loose)) }
+    {
+        let flags = list_flags(self.loose);
+        if self.mark == DEFINITION_MARK {
+            ItemBody::DefinitionList(flags)
+        } else {
+            ItemBody::List(flags, self.mark, self.number)
+        }
+    }
+}
+
 impl<'a, E: EntityLookup> Pass<'a, E> {
     ghost use Rattle.cmark_blocks.specs.Runs.{Runs, IsGood};
     ghost use Rattle.cmark_blocks.specs.Steps.{Steps, ClosesLast, ClosesAll};
 
-    /// Closes the list, if one is open.
-    pub(crate) fn close_list(&mut self)
+    /// A paragraph that was drawn in a definition list, and is no title, is put behind that list, which is closed.
+    pub(crate) fn release_title(&mut self)
         requires { IsGood self.old }
         ensures good { IsGood self.new }
-        ensures runs { Steps E.replacement self.old self.new (λ p. record p { drawing = list_closed p.inner.list p.drawing }) }
+        ensures runs { Steps E.replacement self.old self.new (λ p. record p { drawing = title_released p.inner.title p.drawing }) }
+        ensures inner { self.new.inner ≡ self.old.inner }
         ensures outer { self.new.outer ≡ self.old.outer }
         ensures tables { self.new.builder.allocations ≡ self.old.builder.allocations }
         ensures text { self.new.text ≡ self.old.text }
@@ -45,9 +62,26 @@ impl<'a, E: EntityLookup> Pass<'a, E> {
         ensures leaf { self.new.leaf ≡ self.old.leaf }
         ensures bare { self.new.bare ≡ self.old.bare }
     {
+        if let Some(list) = self.inner.list_around() {
+            self.builder.release_last(list.end, list.body());
+        }
+    }
+
+    /// Closes the list, if one is open. Of a definition list, the paragraph behind the last definition is no title.
+    pub(crate) fn close_list(&mut self)
+        requires { IsGood self.old }
+        ensures good { IsGood self.new }
+        ensures runs { Steps E.replacement self.old self.new (λ p. record p { drawing = ended p.inner p.drawing }) }
+        ensures outer { self.new.outer ≡ self.old.outer }
+        ensures tables { self.new.builder.allocations ≡ self.old.builder.allocations }
+        ensures text { self.new.text ≡ self.old.text }
+        ensures blank_lines { self.new.blank_lines ≡ self.old.blank_lines }
+        ensures leaf { self.new.leaf ≡ self.old.leaf }
+        ensures bare { self.new.bare ≡ self.old.bare }
+    {
+        self.release_title();
         if let Some(list) = self.inner.list {
-            let body = ItemBody::List(list_flags(list.loose), list.mark, list.number);
-            self.builder.close_as(list.end, body);
+            self.builder.close_as(list.end, list.body());
         }
     }
 
@@ -66,6 +100,25 @@ impl<'a, E: EntityLookup> Pass<'a, E> {
         self.inner = self.inner.with_block();
     }
 
+    /// A paragraph begins, which may be a title of the definition list that is open.
+    pub(crate) fn begin_text_block(&mut self)
+        requires { IsGood self.old }
+        ensures good { IsGood self.new }
+        ensures runs { Steps E.replacement self.old self.new text_block_begun }
+        ensures tables { self.new.builder.allocations ≡ self.old.builder.allocations }
+        ensures text { self.new.text ≡ self.old.text }
+        ensures blank_lines { self.new.blank_lines ≡ self.old.blank_lines }
+        ensures leaf { self.new.leaf ≡ self.old.leaf }
+        ensures bare { self.new.bare ≡ self.old.bare }
+    {
+        if self.inner.definitions().is_some() {
+            self.inner = self.inner.with_paragraph();
+            return;
+        }
+        self.close_list();
+        self.inner = self.inner.with_paragraph();
+    }
+
     /// A list begins at this byte offset with this item.
     fn begin_list(&mut self, item: ItemStart, start: usize) -> Result<(), AllocError>
         requires good { IsGood self.old }
@@ -78,14 +131,14 @@ impl<'a, E: EntityLookup> Pass<'a, E> {
     {
         self.begin_block();
         let number = item.number.unwrap_or(0);
-        let body = ItemBody::List(list_flags(true), item.mark, number);
-        self.builder.open(start, body)?;
-        self.inner.list = Some(OpenList {
+        let list = OpenList {
             mark: item.mark,
             number,
             loose: false,
             end: start,
-        });
+        };
+        self.builder.open(start, OpenList { loose: true, ..list }.body())?;
+        self.inner.list = Some(list);
         Ok(())
     }
 
@@ -164,6 +217,74 @@ impl<'a, E: EntityLookup> Pass<'a, E> {
         Ok(())
     }
 
+    /// The paragraph behind which a definition begins at this byte offset becomes its title, in the definition list that was open before
+    /// it, or in a new one around it.
+    fn make_title(&mut self, title: Title, start: usize) -> Result<(), AllocError>
+        requires { IsGood self.old }
+        ensures good { IsGood self.new }
+        ensures runs { OnOk result (Steps E.replacement self.old self.new (title_made (option_map shown_list title.list) title.parted start)) }
+        ensures text { self.new.text ≡ self.old.text }
+        ensures leaf { self.new.leaf ≡ self.old.leaf }
+        ensures bare { self.new.bare ≡ self.old.bare }
+    {
+        if title.list.is_some() {
+            self.builder.turn_last(ItemBody::DefinitionListTitle);
+            self.inner = self.inner.behind_title(title, start);
+            return Ok(());
+        }
+        let around = ItemBody::DefinitionList(list_flags(true));
+        self.builder
+            .enclose_last(around, ItemBody::DefinitionListTitle)?;
+        self.inner = self.inner.behind_title(title, start);
+        Ok(())
+    }
+
+    /// A definition begins at this byte offset, behind its title or another definition.
+    fn join_definitions(&mut self, width: usize, start: usize) -> Result<(), AllocError>
+        requires { IsGood self.old }
+        ensures good { IsGood self.new }
+        ensures runs { OnOk result (Steps E.replacement self.old self.new (λ p. definition_behind p.inner.title start p)) }
+        ensures text { self.new.text ≡ self.old.text }
+        ensures leaf { self.new.leaf ≡ self.old.leaf }
+        ensures bare { self.new.bare ≡ self.old.bare }
+    {
+        match self.inner.title {
+            Some(title) => {
+                self.make_title(title, start)?;
+                Ok(())
+            }
+            None => {
+                let item = ItemStart {
+                    mark: DEFINITION_MARK,
+                    number: None,
+                    width,
+                };
+                self.join_list(item, start)?;
+                Ok(())
+            }
+        }
+    }
+
+    /// A definition of this width begins at this byte offset, behind its title or another definition (this profile's own).
+    pub(crate) fn begin_list_definition(
+        &mut self,
+        width: usize,
+        start: usize,
+    ) -> Result<(), AllocError>
+        requires { IsGood self.old }
+        ensures good { IsGood self.new }
+        ensures runs { OnOk result (Steps E.replacement self.old self.new (definition_begun_in width start)) }
+        ensures text { self.new.text ≡ self.old.text }
+        ensures leaf { self.new.leaf ≡ self.old.leaf }
+        ensures bare { self.new.bare ≡ self.old.bare }
+    {
+        self.join_definitions(width, start)?;
+        let body = ItemBody::DefinitionListDefinition(width);
+        self.builder.open(start, body)?;
+        self.enter(Container::Definition { width })?;
+        Ok(())
+    }
+
     /// Closes the innermost container, where the last line ended.
     fn close_container(&mut self)
         requires { IsGood self.old }
@@ -203,7 +324,9 @@ impl OpenContainer {
     {
         match self.container {
             Container::Quote | Container::Footnote { .. } => self.around,
-            Container::Item { .. } => self.around.behind_item(inside, end),
+            Container::Item { .. } | Container::Definition { .. } => {
+                self.around.behind_item(inside, end)
+            }
         }
     }
 }

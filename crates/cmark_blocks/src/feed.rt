@@ -1,11 +1,14 @@
 //! One more line of the block pass.
 
-ghost use Rattle.std.specs.Prelude.{◌≡◌, ◌≤◌, List, ℕ, OnOk, false, length};
+ghost use Rattle.std.specs.Prelude.{◌≡◌, ◌≤◌, ◌<◌, List, ℕ, OnOk, false, length};
 ghost use Rattle.cmark_lines.specs.Rests.{row_of};
+ghost use Rattle.cmark_grammar.specs.Containers as grammar;
+ghost use Rattle.cmark_grammar.specs.DefinitionLists.{is_definition};
+ghost use Rattle.cmark_lines.specs.Starts.{Shows};
 ghost use Rattle.cmark_blocks.specs.Fed.{TakesLazy};
 
 use crate::state::{OpenLeaf, Pass};
-use cmark_lines::{LineRest, interrupts, underlines};
+use cmark_lines::{Container, LineRest, interrupts, underlines};
 use cmark_text::EntityLookup;
 use std::alloc::AllocError;
 
@@ -23,6 +26,13 @@ fn takes_lazy(leaf: OpenLeaf<'_>) -> bool
         | OpenLeaf::Html(_)
         | OpenLeaf::Metadata(_, _) => false,
     }
+}
+
+/// Whether a container is a definition of a definition list (this profile's own).
+fn is_definition(container: Container) -> bool
+    ensures { (k : grammar.Container) → Shows container k → result ≡ is_definition k }
+{
+    matches!(container, Container::Definition { .. })
 }
 
 impl<'a, E: EntityLookup> Pass<'a, E> {
@@ -56,7 +66,9 @@ impl<'a, E: EntityLookup> Pass<'a, E> {
             self.underline(from, last, level, rest)?;
             return Ok(());
         }
-        if interrupts(rest, true, self.options) || self.table_interrupts(self.outer.len(), rest) {
+        if interrupts(rest, true, self.options)
+            || self.block_interrupts(self.outer.len(), rest, true)
+        {
             self.begin_anew(rest)?;
         } else {
             self.add_to_paragraph(from, last, rest)?;
@@ -152,12 +164,12 @@ impl<'a, E: EntityLookup> Pass<'a, E> {
     /// Whether a line that all but so many containers miss, the outermost ones, goes on with the open leaf all the same.
     fn is_lazy(&self, kept: usize, rest: LineRest<'a>) -> bool
         requires line { IsRead self.now.text.now rest }
-        requires few { kept ≤ length self.now.outer.items }
+        requires few { kept < length self.now.outer.items }
         ensures { IsLazy E.replacement self.now kept rest.entry result }
     {
         takes_lazy(self.leaf)
             && !interrupts(rest, false, self.options)
-            && !self.table_interrupts(kept, rest)
+            && !self.block_interrupts(kept, rest, is_definition(self.outer[kept].container))
     }
 
     /// What so many containers, the outermost ones, left of a line: the others miss it.

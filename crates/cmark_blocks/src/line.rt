@@ -1,16 +1,20 @@
 //! All that a line begins: containers, and then a leaf (CommonMark 3 to 5).
 
-ghost use Rattle.std.specs.Prelude.{◌≡◌, ◌<◌, Bool, ℕ, List, false, length, OnOk, IfOk, IfSome};
+ghost use Rattle.std.specs.Prelude.{◌≡◌, ◌<◌, Bool, ℕ, List, false, length, option_map, OnOk, IfOk, IfSome};
 ghost use Rattle.cmark_text.specs.Shown.{shown_options};
 ghost use Rattle.cmark_lines.specs.Opened.{InfoIsIn};
 ghost use Rattle.cmark_lines.specs.Rests.{row_of};
 ghost use Rattle.cmark_lines.specs.Starts.{inside_of, Enters, HasMarker};
 ghost use Rattle.cmark_blocks.specs.Entered.{OpensAs, IsNoContainer, HasNumber};
+ghost use Rattle.cmark_lines.specs.Definitions.{EntersDefinition, width_of};
+ghost use Rattle.cmark_lines.specs.Rests.{IsIn};
 
 use crate::state::{OpenLeaf, Pass};
 use bitflags::Flags;
 use cmark_items::ItemBody;
-use cmark_lines::{ContainerStart, LineRest, Opening, what_opens};
+use cmark_lines::{
+    ContainerStart, LineRest, Opening, definition_start, reads_definition_lists, what_opens,
+};
 use cmark_text::{EntityLookup, Options};
 use std::alloc::AllocError;
 
@@ -32,7 +36,7 @@ impl<'a, E: EntityLookup> Pass<'a, E> {
     ghost use Rattle.cmark_blocks.specs.declared.state.OpenLeaf.TheVariants as leaf;
     ghost use Rattle.cmark_blocks.specs.Runs.{IsGood, IsRead};
     ghost use Rattle.cmark_blocks.specs.Steps.{Steps, Begins, BeginsAnew, BeginsTask};
-    ghost use Rattle.cmark_blocks.specs.Entered.{BeginsAs, BeginsContainer, BeginsFirst};
+    ghost use Rattle.cmark_blocks.specs.Entered.{BeginsAs, BeginsContainer, BeginsFirst, DefinesAs};
 
     /// A task marker begins at this byte offset, and a paragraph behind its box, whatever its text looks like (GFM 5.3).
     fn begin_task(
@@ -100,6 +104,20 @@ impl<'a, E: EntityLookup> Pass<'a, E> {
         }
     }
 
+    /// The width of the definition that a line begins, and the line behind its marker: behind a paragraph, which is its title, or behind another
+    /// definition (this profile's own).
+    #[inline]
+    fn definition_begun(&self, rest: LineRest<'a>) -> Option<(usize, LineRest<'a>)>
+        ensures width { DefinesAs E.replacement self.now rest.entry (option_map width_of result) }
+        ensures inside { IfSome result (EntersDefinition (row_of rest.entry)) }
+        ensures placed { (text : List ℕ) → IsIn text rest.entry → IfSome result (λ begun. IsIn text begun.1) }
+    {
+        if !reads_definition_lists(self.options) || !self.inner.may_define() {
+            return None;
+        }
+        definition_start(rest, self.options)
+    }
+
     /// A blank line begins nothing. `bare` says that it is what stands behind the marker of an item.
     fn pass_blank_line(&mut self, bare: bool)
         requires { IsGood self.old }
@@ -165,6 +183,10 @@ impl<'a, E: EntityLookup> Pass<'a, E> {
         ensures leaf { IfOk result (λ entered. IfSome entered (λ inside. self.new.leaf ≡ leaf.Closed)) }
         ensures bare { IfOk result (λ entered. IfSome entered (λ inside. self.new.bare ≡ false)) }
     {
+        if let Some((width, inside)) = self.definition_begun(rest) {
+            self.begin_list_definition(width, rest.begin())?;
+            return Ok(Some((inside, true)));
+        }
         if let Some(kind) = self.metadata_begun(rest) {
             self.begin_metadata(kind, rest)?;
             return Ok(None);

@@ -56,6 +56,8 @@ impl<'a, E: EntityLookup> Pass<'a, E> {
         draw_last_lines(&mut self.builder, from, last)?;
         self.builder
             .close_as(rest.past(), ItemBody::Heading(level, None));
+        self.release_title();
+        self.inner.title = None;
         self.leaf = OpenLeaf::Closed;
         Ok(())
     }

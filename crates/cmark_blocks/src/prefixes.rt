@@ -30,6 +30,7 @@ fn container_of(body: ItemBody, options: Options) -> Option<Container>
     match body {
         ItemBody::BlockQuote(_) => Some(Container::Quote),
         ItemBody::ListItem(width) => Some(Container::Item { width }),
+        ItemBody::DefinitionListDefinition(width) => Some(Container::Definition { width }),
         ItemBody::FootnoteDefinition(_) => Some(Container::Footnote {
             old: reads_old_footnotes(options),
         }),
@@ -79,7 +80,7 @@ fn behind_prefix<'a>(container: Container, line: LineStart<'a>) -> Option<LineSt
 {
     match container {
         Container::Quote => behind_quote(line),
-        Container::Item { width } => behind_width(line, width),
+        Container::Item { width } | Container::Definition { width } => behind_width(line, width),
         Container::Footnote { old } => behind_footnote(line, old),
     }
 }

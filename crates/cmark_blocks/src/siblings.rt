@@ -1,14 +1,16 @@
 //! The blocks of a container so far, and the list that the last one is an item of (CommonMark 5.3).
 
 ghost use Rattle.std.specs.Prelude.{◌≡◌, option_map};
-ghost use Rattle.cmark_block_model.specs.BlockPass.{siblings_with_block, siblings_with_item, siblings_behind_item};
+ghost use Rattle.cmark_block_model.specs.BlockPass.{siblings_with_block, siblings_with_paragraph, siblings_with_item, siblings_behind_item, definitions_in, place_of};
+ghost use Rattle.cmark_grammar.specs.Places.{is_behind_title};
 ghost use Rattle.cmark_block_model.specs.OpenBlocks.{no_siblings};
+ghost use Rattle.cmark_blocks.specs.Titles.{list_around, with_title};
 ghost use Rattle.cmark_blocks.specs.Shown.{shown_list, shown_siblings, list_of};
 
-/// A list to which further items may come.
+/// A list to which further items may come, or titles and definitions.
 #[derive(Clone, Copy, Debug, PartialEq, Eq)]
 pub(crate) struct OpenList {
-    /// The bullet, or what stands behind the number.
+    /// The bullet, or what stands behind the number; the marker of definitions, `:`, where they stand in it.
     pub mark: u8,
     /// The number of the first item; 0 for a bullet.
     pub number: u64,
@@ -16,6 +18,15 @@ pub(crate) struct OpenList {
     pub loose: bool,
     /// Where its last item ends: a byte offset of the text.
     pub end: usize,
+}
+
+/// What was known before a paragraph that a definition may make a title (this profile's own).
+#[derive(Clone, Copy, Debug, PartialEq, Eq)]
+pub(crate) struct Title {
+    /// The definition list that was open: the paragraph is drawn in it, and it is open still.
+    pub list: Option<OpenList>,
+    /// A blank line stood between two blocks.
+    pub parted: bool,
 }
 
 /// The blocks of a container so far.
@@ -27,9 +38,14 @@ pub(crate) struct Siblings {
     pub blank: bool,
     /// A blank line stands between two of them.
     pub parted: bool,
-    /// The list that the last one is an item of.
+    /// The list that the last one is an item of, or a definition.
     pub list: Option<OpenList>,
+    /// What was known before the last one, where it is a paragraph.
+    pub title: Option<Title>,
 }
+
+/// The marker of definitions, as the character of their list.
+pub(crate) const DEFINITION_MARK: u8 = b':';
 
 impl Siblings {
     /// None yet.
@@ -41,6 +57,7 @@ impl Siblings {
             blank: false,
             parted: false,
             list: None,
+            title: None,
         }
     }
 
@@ -53,7 +70,45 @@ impl Siblings {
             blank: false,
             parted: self.parted || self.blank,
             list: None,
+            title: None,
         }
+    }
+
+    /// One more, a paragraph. A definition list that is open stays so, for the paragraph may be a title in it.
+    pub(crate) fn with_paragraph(self) -> Siblings
+        ensures { shown_siblings result ≡ siblings_with_paragraph (shown_siblings self) }
+    {
+        Siblings {
+            title: Some(Title {
+                list: self.definitions(),
+                parted: self.parted,
+            }),
+            ..self.with_block()
+        }
+    }
+
+    /// The definition list that is open, if one is.
+    pub(crate) fn definitions(self) -> Option<OpenList>
+        ensures { option_map shown_list result ≡ definitions_in (shown_siblings self).list }
+    {
+        self.list_of(DEFINITION_MARK)
+    }
+
+    /// The definition list in which the last one is drawn, where it is a paragraph, and such a list was open before it.
+    pub(crate) fn list_around(self) -> Option<OpenList>
+        ensures { option_map shown_list result ≡ list_around (shown_siblings self).title }
+    {
+        match self.title {
+            Some(title) => title.list,
+            None => None,
+        }
+    }
+
+    /// Whether a definition may begin behind the last one: it is a paragraph, or another definition.
+    pub(crate) fn may_define(self) -> bool
+        ensures { result ≡ is_behind_title (place_of (shown_siblings self)) }
+    {
+        self.title.is_some() || self.definitions().is_some()
     }
 
     /// The list that is open, if it has this character.
@@ -63,6 +118,35 @@ impl Siblings {
         match self.list {
             Some(list) if list.mark == mark => Some(list),
             _ => None,
+        }
+    }
+
+    /// The last one, a paragraph, is the title of a definition that begins at this byte offset: it goes on with the definition list that
+    /// was open before it, or begins one.
+    pub(crate) fn behind_title(self, title: Title, start: usize) -> Siblings
+        ensures { shown_siblings result ≡ with_title (option_map shown_list title.list) title.parted start (shown_siblings self) }
+    {
+        let (list, parted) = match title.list {
+            Some(list) => (list, title.parted),
+            None => {
+                let list = OpenList {
+                    mark: DEFINITION_MARK,
+                    number: 0,
+                    loose: false,
+                    end: start,
+                };
+                (list, self.parted)
+            }
+        };
+        Siblings {
+            blank: false,
+            parted,
+            list: Some(OpenList {
+                loose: list.loose || self.blank,
+                ..list
+            }),
+            title: None,
+            ..self
         }
     }
 

@@ -18,7 +18,7 @@ use cmark_builder::Builder;
 use cmark_items::ItemBody;
 use cmark_leaves::{draw_head, draw_row};
 use cmark_lines::{
-    LineRest, begins_with_pipe, count_missing, head_cells, interrupts, is_delimiter_row,
+    LineRest, begins_definition, begins_with_pipe, count_missing, head_cells, interrupts, is_delimiter_row,
 };
 use cmark_text::{CowStr, EntityLookup, Options};
 use std::alloc::AllocError;
@@ -49,7 +49,7 @@ impl<'a, E: EntityLookup> Pass<'a, E> {
     ghost use Rattle.cmark_blocks.specs.declared.state.OpenLeaf.TheVariants as leaf;
     ghost use Rattle.cmark_blocks.specs.Runs.{IsGood, IsRead};
     ghost use Rattle.cmark_blocks.specs.Steps.{BeginsText};
-    ghost use Rattle.cmark_blocks.specs.TablesAhead.{TellsHead, TellsInterrupts, GoesOnWithRow, DrawsRows, BeginsTable};
+    ghost use Rattle.cmark_blocks.specs.TablesAhead.{TellsHead, TellsInterrupts, TellsBlock, GoesOnWithRow, DrawsRows, BeginsTable};
 
     /// How many columns the table has whose head the line is, and its delimiter row; none, where the line is none. The line and those
     /// ahead are seen inside so many containers, the outermost ones.
@@ -84,6 +84,22 @@ impl<'a, E: EntityLookup> Pass<'a, E> {
             return false;
         }
         self.table_head(count, rest).is_some()
+    }
+
+    /// Whether the line interrupts a paragraph as the head of a table, or, where definitions may begin, by the marker of one. The line and
+    /// those ahead are seen inside so many containers, the outermost ones.
+    #[inline]
+    pub(crate) fn block_interrupts(
+        &self,
+        count: usize,
+        rest: LineRest<'a>,
+        may_define: bool,
+    ) -> bool
+        requires line { IsRead self.now.text.now rest }
+        requires few { count ≤ length self.now.outer.items }
+        ensures { TellsBlock E.replacement self.now count may_define rest.entry result }
+    {
+        self.table_interrupts(count, rest) || (may_define && begins_definition(rest, self.options))
     }
 
     /// The line behind this one, inside all open containers, if it is one more row of a table with so many columns, in which so many cells

@@ -1,15 +1,18 @@
 -- A tree whose end grows, after its calls.
-use Rattle.std.proofs.Common.{◌≡◌, ◌⊎◌, inl, inr, List, [], ◌∷◌, Option, Some, None, refl, sym, ap, ◌∙◌, subst}
+use Rattle.std.proofs.Common.{◌≡◌, ◌⊎◌, inl, inr, List, [], ◌∷◌, Option, Some, None, Result, Ok, Err, OnErr, refl, sym, ap, ◌∙◌, subst, arith}
+use Rattle.std.specs.Result.{OnOk}
 use Rattle.cmark_tree.specs.declared.tree.Tree.{Tree}
 use Rattle.cmark_tree.specs.declared.tree_index.TreeIndex.{TreeIndex}
-use Rattle.cmark_tree.specs.Forest.{Forest, Nil, Node, join}
-use Rattle.cmark_tree.specs.Zip.{Level, Zip, plug, siblings}
+use Rattle.cmark_tree.specs.Forest.{Forest, Nil, Node, join, one}
+use Rattle.cmark_tree.specs.Zip.{Level, Zip, plug, siblings, IsLast}
 use Rattle.cmark_tree.specs.Tree.{Holds, HasNode, parent_of, focus_of}
 use Rattle.cmark_tree.specs.Building.{Opened, opened, Is, IsPlaced}
 use Rattle.cmark_tree.specs.Arena.{Entry, first, Stands, items_of, Placed}
 use Rattle.cmark_tree.specs.Tree.{entry_at}
 use Rattle.cmark_tree.proofs.StandsLemmas.{Stands-inner, Stands-right}
 use Rattle.cmark_tree.proofs.Steps.{parent_number, in_right, first_number, place_above}
+use Rattle.cmark_tree.proofs.Building.{items_of-join}
+use Rattle.cmark_tree.proofs.Moving.{last_at, none_at}
 use Rattle.std.proofs.lemmas.Option.{same_Some}
 
 module _ {T : Type 0} where
@@ -56,3 +59,54 @@ module _ {T : Type 0} where
       go Nil st e = absurd (let q : None ≡ Some i = e in cc)
       go (Node p inside after) st e =
           subst (HasNode t) (ap (λ k. k.ix) (same_Some (record { ix = p.ix }) i e)) (first_number t.nodes (Node p inside after) st (place_above t.nodes p inside after st))
+
+  -- where `cur` answers a number, there is a last sibling
+  pub focus-open : (t : Tree T) (i : TreeIndex) → IsPlaced t → (o : Option TreeIndex) → ((z : Zip T) → Holds t z → o ≡ focus_of z.right) → o ≡ Some i → (here : Forest T) × (x : T) × (inside : Forest T) × (up : List (Opened T)) × Is t (join here (one x inside)) up
+  focus-open t i placed o read some = let is = placed.2 in go is is.z.left is.z.right is.last is.here_is (sym (read is.z is.holds) ∙ some)
+    where
+      go : (is : Is t placed.0 placed.1) (left right : Forest (Placed T)) → IsLast left right → items_of (join left right) ≡ placed.0 → focus_of right ≡ Some i → (here : Forest T) × (x : T) × (inside : Forest T) × (up : List (Opened T)) × Is t (join here (one x inside)) up
+      go is left Nil last e f = absurd (let q : None ≡ Some i = f in cc)
+      go is left (Node p inside (Node q b c)) last e f = absurd (let k : Node q b c ≡ Nil = last in cc)
+      go is left (Node p inside Nil) last e f = (items_of left, p.item, items_of inside, placed.1, subst (λ h. Is t h placed.1) (sym e ∙ items_of-join left (Node p inside Nil)) is)
+
+  -- and that number reads it
+  pub focus-read : (t : Tree T) (i : TreeIndex) (here : Forest T) (x : T) (inside : Forest T) (up : List (Opened T)) → ((z : Zip T) → Holds t z → Some i ≡ focus_of z.right) → Is t (join here (one x inside)) up → (e : Entry T) × (entry_at t i.ix ≡ Some e) × (e.item ≡ x)
+  focus-read t i here x inside up focus is =
+      let l = last_at t here x inside up is in
+      let same : i.ix ≡ l.place.ix = ap (λ k. k.ix) (same_Some i (record { ix = l.place.ix }) (focus (record { left = l.left; right = one l.place l.below; up = l.above }) l.holds)) in
+      let st = in_right t.nodes t.first (record { left = l.left; right = one l.place l.below; up = l.above }) l.holds.forest in
+      (record { item = l.place.item; child = first l.below; next = 0 }, ap (entry_at t) same ∙ st.0, l.item_is)
+
+  -- where it answers none, there is none
+  pub focus-none : (t : Tree T) (here : Forest T) (x : T) (inside : Forest T) (up : List (Opened T)) (o : Option TreeIndex) → ((z : Zip T) → Holds t z → o ≡ focus_of z.right) → ((i : TreeIndex) → o ≡ Some i → ⊥) → Is t (join here (one x inside)) up → ⊥
+  focus-none t here x inside up o read none is =
+      let l = last_at t here x inside up is in none (record { ix = l.place.ix }) (read (record { left = l.left; right = one l.place l.below; up = l.above }) l.holds)
+
+  pub focus-some : (t : Tree T) (up : List (Opened T)) (i : TreeIndex) (o : Option TreeIndex) → ((z : Zip T) → Holds t z → o ≡ focus_of z.right) → o ≡ Some i → Is t Nil up → ⊥
+  focus-some t up i o read some is = go is.z.right (sym (read is.z is.holds) ∙ some) is.holds.cur_is (in_right t.nodes t.first is.z is.holds.forest)
+    where
+      go : (f : Forest (Placed T)) → focus_of f ≡ Some i → t.cur ≡ first f → Stands (entry_at t) f → ⊥
+      go Nil e c st = let q : None ≡ Some i = e in cc
+      go (Node p a b) e c st = omega (arith, none_at t up is, c, place_above t.nodes p a b st)
+
+  last_or_none : (f : Forest T) → ((before : Forest T) × (x : T) × (inside : Forest T) × (f ≡ join before (one x inside))) ⊎ (f ≡ Nil)
+  last_or_none Nil = inr refl
+  last_or_none (Node x inside after) = elim (last_or_none after) [
+    | inl l ↦ inl (Node x inside l.0, l.1, l.2, ap (Node x inside) l.3)
+    | inr nil ↦ inl (Nil, x, inside, ap (Node x inside) nil)
+  ]
+
+  -- there is no sibling at hand, or a last one
+  pub split-last : (t new : Tree T) (v : Opened T) (up : List (Opened T)) (here : Forest T) → ((before : Forest T) (x : T) (inside : Forest T) → Is t (join before (one x inside)) (v ∷ up) → IsPlaced new) → (Is t Nil (v ∷ up) → IsPlaced new) → Is t here (v ∷ up) → IsPlaced new
+  split-last t new v up here some none is = go here refl
+    where
+      go : (f : Forest T) → f ≡ here → IsPlaced new
+      go f e = elim (last_or_none f) [
+        | inl l ↦ some l.0 l.1 l.2 (subst (λ h. Is t h (v ∷ up)) (sym e ∙ l.3) is)
+        | inr nil ↦ none (subst (λ h. Is t h (v ∷ up)) (sym e ∙ nil) is)
+      ]
+
+-- what holds of a value and of an error holds
+pub either-way : {A E : Type 0} (r : Result A E) (P : Type 0) → OnOk r P → OnErr r P → P
+either-way (Ok x) P p q = p
+either-way (Err e) P p q = q

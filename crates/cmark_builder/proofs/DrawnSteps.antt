@@ -1,5 +1,5 @@
 -- What a builder has drawn, after its calls.
-use Rattle.std.proofs.Common.{◌≡◌, ℕ, zero, suc, List, [], ◌∷◌, ◌++◌, map, Option, Some, None, option_map, refl, sym, ap, ◌∙◌, subst}
+use Rattle.std.proofs.Common.{◌≡◌, ◌⊎◌, inl, inr, ℕ, zero, suc, List, [], ◌∷◌, ◌++◌, map, Option, Some, None, option_map, refl, sym, ap, ◌∙◌, subst}
 use Rattle.std.specs.Prelude.{slice_get}
 use Rattle.std.proofs.lemmas.Option.{same_Some}
 use Rattle.cmark_text.specs.declared.text.CowStr.{CowStr}
@@ -12,7 +12,8 @@ use Rattle.cmark_items.specs.declared.item.Item.{Item}
 use Rattle.cmark_items.specs.declared.item.ItemBody.{ItemBody}
 use Rattle.cmark_items.specs.ItemNodes.{Shape, Element, Spelt, TextSlice, HtmlSlice, NoNode, shape, kind_of, kind_over, ranged, text_at, shown_element, shown_item, shown_forest, nodes_of}
 use Rattle.cmark_items.specs.Tables.{tables}
-use Rattle.cmark_block_model.specs.Drawing.{OpenNode, Drawing, nothing_drawn, drawn, opened, close_as, closed_as, close_at, closed_at}
+use Rattle.cmark_block_model.specs.Drawing.{OpenNode, Drawing, nothing_drawn, drawn, opened, close_as, closed_as, close_at, closed_at, last_or, last_of, before_last, as_kind, start_in, retitled, enclosed, release_as, released}
+use Rattle.cmark_tree.proofs.Items.{one_inj, none_last}
 use Rattle.cmark_builder.specs.declared.builder.Builder.{Builder}
 use Rattle.cmark_builder.specs.Drawn.{shown_open, open_node, Draws}
 use Rattle.cmark_builder.specs.Ended.{item_at, ended}
@@ -168,6 +169,200 @@ module _ (text : List ℕ) (old new : Builder) where
                 ∙ sym (nodes_of-join w.left (Node n d.here Nil)));
             up_is = subst (λ a. map (shown_open text (tables a).texts) up ≡ map open_node levels) (sym same) rest;
           }
+
+-- a document is its last sibling behind those before it
+pub document-last : (d : BlockDocument) → ((n : BlockNode) × (inner : BlockDocument) × (last_of d ≡ Node n inner Nil) × (d ≡ join (before_last d) (Node n inner Nil))) ⊎ (d ≡ Nil)
+document-last Nil = inr refl
+document-last (Node node inside Nil) = inl (node, inside, refl, refl)
+document-last (Node node inside (Node m i a)) = elim (document-last (Node m i a)) [
+  | inl l ↦ inl (l.0, l.1, ap (last_or (Node node inside Nil)) l.2, ap (Node node inside) l.3)
+  | inr nil ↦ absurd (let q : Node m i a ≡ Nil = nil in cc)
+]
+
+-- the last sibling that a forest shows
+pub record LastShown (text : List ℕ) (t : List CowStr) (here : Forest Item) (d : BlockDocument) : Type 0 where
+  pub before : Forest Item
+  pub item : Item
+  pub inside : Forest Item
+  pub here_is : here ≡ join_forests before (one item inside)
+  pub node : BlockNode
+  pub inner : BlockDocument
+  pub last_is : last_of d ≡ Node node inner Nil
+  pub before_is : shown_forest text t before ≡ nodes_of (before_last d)
+  pub item_is : shown_item text t item ≡ Some node
+  pub inside_is : shown_forest text t inside ≡ nodes_of inner
+
+forest-last : (f : Forest Item) → ((before : Forest Item) × (x : Item) × (inside : Forest Item) × (f ≡ join_forests before (one x inside))) ⊎ (f ≡ forest.Nil)
+forest-last forest.Nil = inr refl
+forest-last (forest.Node x inside after) = elim (forest-last after) [
+  | inl l ↦ inl (forest.Node x inside l.0, l.1, l.2, ap (forest.Node x inside) l.3)
+  | inr nil ↦ inl (forest.Nil, x, inside, ap (forest.Node x inside) nil)
+]
+
+pub last-shown : (text : List ℕ) (t : List CowStr) (here : Forest Item) (d : BlockDocument) → shown_forest text t here ≡ nodes_of d → LastShown text t here d ⊎ ((here ≡ forest.Nil) × (d ≡ Nil))
+last-shown text t here d e = elim (forest-last here) [
+  | inl f ↦ elim (document-last d) [
+    | inl l ↦ (
+        let same = one_inj (shown_forest text t f.0) (nodes_of (before_last d)) (shown_item text t f.1) (Some l.0) (shown_forest text t f.2) (nodes_of l.1)
+            (sym (shown_forest-join text t f.0 (one f.1 f.2)) ∙ ap (shown_forest text t) (sym f.3) ∙ e ∙ ap nodes_of l.3 ∙ nodes_of-join (before_last d) (Node l.0 l.1 Nil)) in
+        inl (record { before = f.0; item = f.1; inside = f.2; here_is = f.3; node = l.0; inner = l.1; last_is = l.2; before_is = same.0; item_is = same.1; inside_is = same.2 }))
+    | inr nil ↦ absurd (none_last (shown_forest text t f.0) (shown_item text t f.1) (shown_forest text t f.2) (sym (ap nodes_of nil) ∙ sym e ∙ ap (shown_forest text t) f.3 ∙ shown_forest-join text t f.0 (one f.1 f.2)))
+  ]
+  | inr nil ↦ elim (document-last d) [
+    | inl l ↦ absurd (none_last (nodes_of (before_last d)) (Some l.0) (nodes_of l.1) (ap (shown_forest text t) (sym nil) ∙ e ∙ ap nodes_of l.3 ∙ nodes_of-join (before_last d) (Node l.0 l.1 Nil)))
+    | inr empty ↦ inr (nil, empty)
+  ]
+]
+
+-- a node's range is its item's
+pub item-range : (text : List ℕ) (t : List CowStr) (item : Item) (n : BlockNode) → shown_item text t item ≡ Some n → (item.start ≡ n.start) × (item.end ≡ n.end)
+item-range text t item n e = go (kind_over text t item.start item.end (shape item.body)) e
+  where
+    go : (k : Option BlockKind) → option_map (ranged item.start item.end) k ≡ Some n → (item.start ≡ n.start) × (item.end ≡ n.end)
+    go None e = absurd (let q : None ≡ Some n = e in cc)
+    go (Some k) e = (ap (λ m. m.start) (same_Some (node k item.start item.end) n e), ap (λ m. m.end) (same_Some (node k item.start item.end) n e))
+
+module _ (text : List ℕ) (old new : Builder) where
+  -- an item that becomes something else shows the same range
+  turned-shown : (t : List CowStr) (item : Item) (n : BlockNode) (body : ItemBody) (kind : BlockKind) → kind_of t (shape body) ≡ Some kind → shown_item text t item ≡ Some n → shown_item text t (item_at item.start item.end body) ≡ Some (record n { kind = kind })
+  turned-shown t item n body kind shows is =
+      let r = item-range text t item n is in
+      element-item text t (item_at item.start item.end body) (record n { kind = kind }) (ap (option_map (ranged item.start item.end)) shows ∙ ap (λ s. Some (node kind s item.end)) r.0 ∙ ap (λ e. Some (node kind n.start e)) r.1)
+
+  -- the last sibling became something else
+  pub draws-turned : (body : ItemBody) (kind : BlockKind) (d : Drawing) →
+      ((here : Forest Item) (item : Item) (inside : Forest Item) (up : List (Opened Item)) → Is old.tree (join_forests here (one item inside)) up → Is new.tree (join_forests here (one (item_at item.start item.end body) inside)) up) →
+      ((up : List (Opened Item)) → Is old.tree forest.Nil up → new.tree ≡ old.tree) →
+      new.allocations ≡ old.allocations → kind_of (tables old.allocations).texts (shape body) ≡ Some kind →
+      Draws text old d → Draws text new (retitled kind d)
+  draws-turned body kind d step none same shows draws = elim (last-shown text (tables old.allocations).texts draws.here d.here draws.here_is) [
+    | inl l ↦ record {
+      here = join_forests l.before (one (item_at l.item.start l.item.end body) l.inside);
+      up = draws.up;
+      is = step l.before l.item l.inside draws.up (subst (λ h. Is old.tree h draws.up) l.here_is draws.is);
+      here_is = subst (λ a. shown_forest text (tables a).texts (join_forests l.before (one (item_at l.item.start l.item.end body) l.inside)) ≡ nodes_of (join (before_last d.here) (as_kind kind (last_of d.here)))) (sym same)
+          (shown_forest-join text (tables old.allocations).texts l.before (one (item_at l.item.start l.item.end body) l.inside)
+          ∙ ap (λ f. join_forests f (one (shown_item text (tables old.allocations).texts (item_at l.item.start l.item.end body)) (shown_forest text (tables old.allocations).texts l.inside))) l.before_is
+          ∙ ap (λ x. join_forests (nodes_of (before_last d.here)) (one x (shown_forest text (tables old.allocations).texts l.inside))) (turned-shown (tables old.allocations).texts l.item l.node body kind shows l.item_is)
+          ∙ ap (λ f. join_forests (nodes_of (before_last d.here)) (one (Some (record l.node { kind = kind })) f)) l.inside_is
+          ∙ sym (nodes_of-join (before_last d.here) (Node (record l.node { kind = kind }) l.inner Nil))
+          ∙ ap (λ k. nodes_of (join (before_last d.here) (as_kind kind k))) (sym l.last_is));
+      up_is = subst (λ a. map (shown_open text (tables a).texts) draws.up ≡ map open_node d.up) (sym same) draws.up_is;
+    }
+    | inr nil ↦ record {
+      here = forest.Nil;
+      up = draws.up;
+      is = subst (λ tree. Is tree forest.Nil draws.up) (sym (none draws.up (subst (λ h. Is old.tree h draws.up) nil.0 draws.is))) (subst (λ h. Is old.tree h draws.up) nil.0 draws.is);
+      here_is = ap (λ k. nodes_of (join (before_last k) (as_kind kind (last_of k)))) (sym nil.1);
+      up_is = subst (λ a. map (shown_open text (tables a).texts) draws.up ≡ map open_node d.up) (sym same) draws.up_is;
+    }
+  ]
+
+  -- the last sibling became something else, in a new node
+  pub draws-enclosed : (around body : ItemBody) (kind_around kind : BlockKind) (d : Drawing) →
+      ((here : Forest Item) (item : Item) (inside : Forest Item) (up : List (Opened Item)) → Is old.tree (join_forests here (one item inside)) up
+          → Is new.tree (one (item_at item.start item.end body) inside) (record { left = here; item = item_at item.start item.start around } ∷ up)) →
+      ((up : List (Opened Item)) → Is old.tree forest.Nil up → Is new.tree forest.Nil (record { left = forest.Nil; item = item_at 0 0 around } ∷ up)) →
+      new.allocations ≡ old.allocations → kind_of (tables old.allocations).texts (shape around) ≡ Some kind_around → kind_of (tables old.allocations).texts (shape body) ≡ Some kind →
+      Draws text old d → Draws text new (enclosed kind_around kind d)
+  draws-enclosed around body kind_around kind d step none same shows_around shows draws = elim (last-shown text (tables old.allocations).texts draws.here d.here draws.here_is) [
+    | inl l ↦ (
+        let t = (tables old.allocations).texts in
+        let start : l.item.start ≡ l.node.start = (item-range text t l.item l.node l.item_is).0 in record {
+          here = one (item_at l.item.start l.item.end body) l.inside;
+          up = record { left = l.before; item = item_at l.item.start l.item.start around } ∷ draws.up;
+          is = step l.before l.item l.inside draws.up (subst (λ h. Is old.tree h draws.up) l.here_is draws.is);
+          here_is = subst (λ a. shown_forest text (tables a).texts (one (item_at l.item.start l.item.end body) l.inside) ≡ nodes_of (as_kind kind (last_of d.here))) (sym same)
+              (ap (λ x. one x (shown_forest text t l.inside)) (turned-shown t l.item l.node body kind shows l.item_is)
+              ∙ ap (λ f. one (Some (record l.node { kind = kind })) f) l.inside_is
+              ∙ ap (λ k. nodes_of (as_kind kind k)) (sym l.last_is));
+          up_is = subst (λ a. map (shown_open text (tables a).texts) (record { left = l.before; item = item_at l.item.start l.item.start around } ∷ draws.up) ≡ map open_node (enclosed kind_around kind d).up) (sym same)
+              (ap (λ x. record { left = shown_forest text t l.before; item = x } ∷ map (shown_open text t) draws.up) (ap (option_map (ranged l.item.start l.item.start)) shows_around ∙ ap (λ s. Some (node kind_around s s)) start)
+              ∙ ap (λ f. record { left = f; item = Some (node kind_around l.node.start l.node.start) } ∷ map (shown_open text t) draws.up) l.before_is
+              ∙ ap (λ u. record { left = nodes_of (before_last d.here); item = Some (node kind_around l.node.start l.node.start) } ∷ u) draws.up_is
+              ∙ ap (λ k. record { left = nodes_of (before_last d.here); item = Some (node kind_around (start_in k) (start_in k)) } ∷ map open_node d.up) (sym l.last_is));
+        })
+    | inr nil ↦ (
+        let t = (tables old.allocations).texts in record {
+          here = forest.Nil;
+          up = record { left = forest.Nil; item = item_at 0 0 around } ∷ draws.up;
+          is = none draws.up (subst (λ h. Is old.tree h draws.up) nil.0 draws.is);
+          here_is = ap (λ k. nodes_of (as_kind kind (last_of k))) (sym nil.1);
+          up_is = subst (λ a. map (shown_open text (tables a).texts) (record { left = forest.Nil; item = item_at 0 0 around } ∷ draws.up) ≡ map open_node (enclosed kind_around kind d).up) (sym same)
+              (ap (λ x. record { left = forest.Nil; item = x } ∷ map (shown_open text t) draws.up) (ap (option_map (ranged 0 0)) shows_around)
+              ∙ ap (λ u. record { left = forest.Nil; item = Some (node kind_around 0 0) } ∷ u) draws.up_is
+              ∙ ap (λ k. record { left = nodes_of (before_last k); item = Some (node kind_around (start_in (last_of k)) (start_in (last_of k))) } ∷ map open_node d.up) (sym nil.1));
+        })
+  ]
+
+  -- a node was closed, and its last child put behind it
+  pub draws-released : (end : ℕ) (body : ItemBody) (kind : BlockKind) (d : Drawing) →
+      ((here : Forest Item) (item : Item) (inside : Forest Item) (v : Opened Item) (up : List (Opened Item)) → Is old.tree (join_forests here (one item inside)) (v ∷ up) → Is new.tree (join_forests (closed (ended end body v) here) (one item inside)) up) →
+      ((v : Opened Item) (up : List (Opened Item)) → Is old.tree forest.Nil (v ∷ up) → Is new.tree (closed (ended end body v) forest.Nil) up) →
+      ((here : Forest Item) → Is old.tree here [] → new.tree ≡ old.tree) →
+      new.allocations ≡ old.allocations → kind_of (tables old.allocations).texts (shape body) ≡ Some kind →
+      Draws text old d → Draws text new (released kind end d)
+  draws-released end body kind d step childless none same shows draws = go draws.up draws.is d.up draws.up_is
+    where
+      t : List CowStr
+      t = (tables old.allocations).texts
+
+      go : (up : List (Opened Item)) → Is old.tree draws.here up → (levels : List OpenNode) → map (shown_open text t) up ≡ map open_node levels → Draws text new (release_as kind end d.here levels)
+      go [] is [] u = record {
+        here = draws.here;
+        up = [];
+        is = subst (λ tree. Is tree draws.here []) (sym (none draws.here is)) is;
+        here_is = subst (λ a. shown_forest text (tables a).texts draws.here ≡ nodes_of d.here) (sym same) draws.here_is;
+        up_is = refl;
+      }
+      go [] is (v ∷ levels) u = absurd (let q : [] ≡ open_node v ∷ map open_node levels = u in cc)
+      go (v ∷ up) is [] u = absurd (let q : shown_open text t v ∷ map (shown_open text t) up ≡ [] = u in cc)
+      go (v ∷ up) is (w ∷ levels) u =
+          let first : shown_open text t v ≡ open_node w = (let q : shown_open text t v ∷ map (shown_open text t) up ≡ open_node w ∷ map open_node levels = u in cc) in
+          let rest : map (shown_open text t) up ≡ map open_node levels = (let q : shown_open text t v ∷ map (shown_open text t) up ≡ open_node w ∷ map open_node levels = u in cc) in
+          let left : shown_forest text t v.left ≡ nodes_of w.left = ap (λ o. o.left) first in
+          let start : v.item.start ≡ w.node.start = opens (kind_of t (shape v.item.body)) (ap (λ o. o.item) first) in
+          let item = item_at v.item.start end body in
+          let element : shown_item text t item ≡ Some (node kind w.node.start end) = element-item text t item (node kind w.node.start end) (ap (option_map (ranged v.item.start end)) shows ∙ ap (λ s. Some (node kind s end)) start) in
+          let n = node kind w.node.start end in
+          let around : (f : Forest Item) (g : BlockDocument) → shown_forest text t f ≡ nodes_of g → shown_forest text t (join_forests v.left (one item f)) ≡ nodes_of (join w.left (Node n g Nil)) = (λ f g e.
+            shown_forest-join text t v.left (one item f)
+            ∙ ap (λ k. join_forests k (shown_forest text t (one item f))) left
+            ∙ ap (λ x. join_forests (nodes_of w.left) (one x (shown_forest text t f))) element
+            ∙ ap (λ k. join_forests (nodes_of w.left) (one (Some n) k)) e
+            ∙ sym (nodes_of-join w.left (Node n g Nil))) in
+          elim (last-shown text t draws.here d.here draws.here_is) [
+            | inl l ↦ record {
+              here = join_forests (closed (ended end body v) l.before) (one l.item l.inside);
+              up = up;
+              is = step l.before l.item l.inside v up (subst (λ h. Is old.tree h (v ∷ up)) l.here_is is);
+              here_is = subst (λ a. shown_forest text (tables a).texts (join_forests (closed (ended end body v) l.before) (one l.item l.inside)) ≡ nodes_of (join w.left (Node n (before_last d.here) (last_of d.here)))) (sym same)
+                  (shown_forest-join text t (closed (ended end body v) l.before) (one l.item l.inside)
+                  ∙ ap (λ k. join_forests k (one (shown_item text t l.item) (shown_forest text t l.inside))) (around l.before (before_last d.here) l.before_is)
+                  ∙ ap (λ x. join_forests (nodes_of (join w.left (Node n (before_last d.here) Nil))) (one x (shown_forest text t l.inside))) l.item_is
+                  ∙ ap (λ k. join_forests (nodes_of (join w.left (Node n (before_last d.here) Nil))) (one (Some l.node) k)) l.inside_is
+                  ∙ sym (nodes_of-join (join w.left (Node n (before_last d.here) Nil)) (Node l.node l.inner Nil))
+                  ∙ ap nodes_of (rejoin w.left n (before_last d.here) (Node l.node l.inner Nil))
+                  ∙ ap (λ k. nodes_of (join w.left (Node n (before_last d.here) k))) (sym l.last_is));
+              up_is = subst (λ a. map (shown_open text (tables a).texts) up ≡ map open_node levels) (sym same) rest;
+            }
+            | inr nil ↦ record {
+              here = closed (ended end body v) forest.Nil;
+              up = up;
+              is = childless v up (subst (λ h. Is old.tree h (v ∷ up)) nil.0 is);
+              here_is = subst (λ a. shown_forest text (tables a).texts (closed (ended end body v) forest.Nil) ≡ nodes_of (join w.left (Node n (before_last d.here) (last_of d.here)))) (sym same)
+                  (around forest.Nil Nil refl ∙ ap (λ k. nodes_of (join w.left (Node n (before_last k) (last_of k)))) (sym nil.1));
+              up_is = subst (λ a. map (shown_open text (tables a).texts) up ≡ map open_node levels) (sym same) rest;
+            }
+          ]
+        where
+          rejoin : (a : BlockDocument) (m : BlockNode) (b c : BlockDocument) → join (join a (Node m b Nil)) c ≡ join a (Node m b c)
+          rejoin Nil m b c = refl
+          rejoin (Node k i o) m b c = ap (Node k i) (rejoin o m b c)
+
+          opens : (k : Option BlockKind) → option_map (ranged v.item.start v.item.end) k ≡ Some w.node → v.item.start ≡ w.node.start
+          opens None e = absurd (let q : None ≡ Some w.node = e in cc)
+          opens (Some k) e = ap (λ m. m.start) (same_Some (node k v.item.start v.item.end) w.node e)
 
 -- one more text in the tables
 text_at-more : (t : List CowStr) (more : CowStr) (index : ℕ) (bytes : List ℕ) → text_at t index ≡ Some bytes → text_at (t ++ more ∷ []) index ≡ Some bytes

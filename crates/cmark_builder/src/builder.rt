@@ -93,6 +93,61 @@ impl<'a> Builder<'a> {
         }
     }
 
+    /// The last sibling becomes something else. Where there is none, nothing changes.
+    pub fn turn_last(&mut self, body: ItemBody)
+        requires { IsPlaced self.old.tree }
+        ensures placed { IsPlaced self.new.tree }
+        ensures turned { (here : Forest Item) (item : Item) (inside : Forest Item) (up : List (Opened Item)) → Is self.old.tree (join here (one item inside)) up
+            → Is self.new.tree (join here (one (item_at item.start item.end body) inside)) up }
+        ensures none { (up : List (Opened Item)) → Is self.old.tree Nil up → self.new.tree ≡ self.old.tree }
+        ensures tables { self.new.allocations ≡ self.old.allocations }
+    {
+        if let Some(last) = self.tree.cur() {
+            self.tree.item_mut(last).body = body;
+        }
+    }
+
+    /// A node around the last sibling, which becomes something else: the new node begins where that sibling begins, and is open. Where
+    /// there is no sibling, it is empty, and begins where the text does.
+    pub fn enclose_last(&mut self, around: ItemBody, body: ItemBody) -> Result<(), AllocError>
+        requires { IsPlaced self.old.tree }
+        ensures placed { IsPlaced self.new.tree }
+        ensures ok { OnOk result ((here : Forest Item) (item : Item) (inside : Forest Item) (up : List (Opened Item)) → Is self.old.tree (join here (one item inside)) up
+            → Is self.new.tree (one (item_at item.start item.end body) inside) (record { left = here; item = item_at item.start item.start around } ∷ up)) }
+        ensures none { OnOk result ((up : List (Opened Item)) → Is self.old.tree Nil up → Is self.new.tree Nil (record { left = Nil; item = item_at 0 0 around } ∷ up)) }
+        ensures tables { self.new.allocations ≡ self.old.allocations }
+    {
+        let Some(last) = self.tree.cur() else {
+            return self.open(0, around);
+        };
+        let start = self.tree.item(last).start;
+        self.turn_last(body);
+        self.tree.enclose(Item {
+            start,
+            end: start,
+            body: around,
+        })
+    }
+
+    /// Closes the innermost open node at this byte offset of the text, as something else, without its last child, which then stands
+    /// behind it. It takes time in proportion to how many children there are. Where no node is open, nothing changes.
+    pub fn release_last(&mut self, end: usize, body: ItemBody)
+        requires { IsPlaced self.old.tree }
+        ensures placed { IsPlaced self.new.tree }
+        ensures released { (here : Forest Item) (item : Item) (inside : Forest Item) (v : Opened Item) (up : List (Opened Item)) → Is self.old.tree (join here (one item inside)) (v ∷ up)
+            → Is self.new.tree (join (closed (ended end body v) here) (one item inside)) up }
+        ensures childless { (v : Opened Item) (up : List (Opened Item)) → Is self.old.tree Nil (v ∷ up) → Is self.new.tree (closed (ended end body v) Nil) up }
+        ensures none { (here : Forest Item) → Is self.old.tree here [] → self.new.tree ≡ self.old.tree }
+        ensures tables { self.new.allocations ≡ self.old.allocations }
+    {
+        if let Some(parent) = self.tree.peek_up() {
+            let item = self.tree.item_mut(parent);
+            item.end = end;
+            item.body = body;
+            self.tree.release();
+        }
+    }
+
     /// The tree and its tables, as they are. What is still open stays so.
     pub fn finish(self) -> (Tree<Item>, Allocations<'a>)
         ensures tree { result.0 ≡ self.entry.tree }

@@ -1,11 +1,12 @@
 -- The events of a document of blocks are balanced.
-use Rattle.std.proofs.Common.{◌≡◌, Bool, true, false, if◌then◌else◌, List, [], ◌∷◌, ◌++◌, refl, sym, subst}
+use Rattle.std.proofs.Common.{◌≡◌, ◌⊎◌, inl, inr, ⊎_elim, ℕ, zero, suc, List, [], ◌∷◌, ◌++◌, refl, ap, sym, subst}
 use Rattle.std.specs.Prelude.{map}
 use Rattle.std.proofs.lemmas.List.{append_assoc, map-append}
+use Rattle.cmark_grammar.specs.Tag.{Tag}
 use Rattle.cmark_grammar.specs.TagEnd.{end_of}
 use Rattle.cmark_grammar.specs.Event.{Event, Start, End, Ranged}
-use Rattle.cmark_grammar.specs.BlockDocument.{BlockKind, Paragraph, TightParagraph, Heading, ThematicBreak, IndentedCode, FencedCode, HtmlBlock, LinkDefinition, MetadataBlock, BlockQuote, BlockList, ListItem, TaskMarker, FootnoteDefinition, Text, OwnedText, Html, BlockNode, BlockDocument, Nil, Node, Table, TableHead, TableRow, TableCell}
-use Rattle.cmark_grammar.specs.BlockReading.{Reads, Around, Inside, Alone, First, Silent, read_as, over, node_events, first_event, begins_element, first_in, with_first, block_reading}
+use Rattle.cmark_grammar.specs.BlockDocument.{BlockKind, Paragraph, TightParagraph, Heading, ThematicBreak, IndentedCode, FencedCode, HtmlBlock, LinkDefinition, MetadataBlock, BlockQuote, BlockList, ListItem, TaskMarker, FootnoteDefinition, DefinitionList, DefinitionListTitle, DefinitionListDefinition, Text, OwnedText, Html, BlockNode, BlockDocument, Nil, Node, Table, TableHead, TableRow, TableCell}
+use Rattle.cmark_grammar.specs.BlockReading.{Reads, Around, Inside, Alone, First, Silent, read_as, over, node_events, first_event, starts_before, first_in, with_first, block_reading}
 use Rattle.cmark_grammar.specs.Balance.{IsSingle, Balanced, Nothing, Single, Element}
 
 abbrev events : List Ranged → List Event
@@ -41,6 +42,9 @@ fit TableRow = tt
 fit TableCell = tt
 fit (BlockQuote alert) = tt
 fit (FootnoteDefinition label) = tt
+fit (DefinitionList tight) = tt
+fit DefinitionListTitle = tt
+fit DefinitionListDefinition = tt
 fit (BlockList number tight) = tt
 fit ListItem = tt
 fit (TaskMarker is_checked) = tt
@@ -56,33 +60,45 @@ node-balanced (Alone event) node inside fits b = Single event [] fits Nothing
 node-balanced (First event) node inside fits b = Nothing
 node-balanced Silent node inside fits b = Nothing
 
-abbrev put_event : (element : Bool) → Event → List Event → List Event
-put_event true e (x ∷ others) = x ∷ (e ∷ others)
-put_event true e [] = e ∷ []
-put_event false e others = e ∷ others
+abbrev put_event : (starts : ℕ) → Event → List Event → List Event
+put_event zero e others = e ∷ others
+put_event (suc starts) e [] = e ∷ []
+put_event (suc starts) e (x ∷ others) = x ∷ put_event starts e others
 
-put-balanced : (element : Bool) (e : Event) (others : List Event) → IsSingle e → Balanced others → Balanced (put_event element e others)
-put-balanced false e others s b = Single e others s b
-put-balanced true e _ s Nothing = Single e [] s Nothing
-put-balanced true e _ s (Single x after single b) = Single x (e ∷ after) single (Single e after s b)
-put-balanced true e _ s (Element tag inside after i a) = Element tag (e ∷ inside) after (Single e inside s i) a
+-- an event of its own may stand anywhere: in the element that begins in front, or behind it
+put-within : (starts : ℕ) (e : Event) (tag : Tag) (inside after : List Event) → IsSingle e → ((n : ℕ) → Balanced (put_event n e inside)) → ((n : ℕ) → Balanced (put_event n e after)) → Balanced inside → Balanced after
+    → Balanced (Start tag ∷ put_event starts e (inside ++ (End (end_of tag) ∷ after)))
+put-within starts e tag inside after s pi pa i a = ⊎_elim (λ l. subst (λ es. Balanced (Start tag ∷ es)) (sym l) (Element tag (put_event starts e inside) after (pi starts) a))
+    (λ r. subst (λ es. Balanced (Start tag ∷ es)) (sym r.1) (Element tag inside (put_event r.0 e after) i (pa r.0))) (split starts inside)
+  where
+    split : (starts : ℕ) (inside : List Event) → (put_event starts e (inside ++ (End (end_of tag) ∷ after)) ≡ put_event starts e inside ++ (End (end_of tag) ∷ after))
+        ⊎ ((n : ℕ) × (put_event starts e (inside ++ (End (end_of tag) ∷ after)) ≡ inside ++ (End (end_of tag) ∷ put_event n e after)))
+    split zero inside = inl refl
+    split (suc starts) [] = inr (starts, refl)
+    split (suc starts) (x ∷ inside) = ⊎_elim (λ l. inl (ap (λ es. x ∷ es) l)) (λ r. inr (r.0, ap (λ es. x ∷ es) r.1)) (split starts inside)
 
-events-put : (element : Bool) (e : Ranged) (others : List Ranged) → put_event element e.event (events others) ≡ events (first_in element e others)
-events-put true e (r ∷ others) = refl
-events-put true e [] = refl
-events-put false e others = refl
+put-balanced : (starts : ℕ) (e : Event) (others : List Event) → IsSingle e → Balanced others → Balanced (put_event starts e others)
+put-balanced zero e others s b = Single e others s b
+put-balanced (suc starts) e _ s Nothing = Single e [] s Nothing
+put-balanced (suc starts) e _ s (Single x after single b) = Single x (put_event starts e after) single (put-balanced starts e after s b)
+put-balanced (suc starts) e _ s (Element tag inside after i a) = put-within starts e tag inside after s (λ n. put-balanced n e inside s i) (λ n. put-balanced n e after s a) i a
 
-first-balanced : (reads : Reads) (element : Bool) (node : BlockNode) (others : List Ranged) → IsFit reads → Balanced (events others) → Balanced (events (with_first (first_event reads) element node others))
-first-balanced (Around tag) element node others fits b = b
-first-balanced Inside element node others fits b = b
-first-balanced (Alone event) element node others fits b = b
-first-balanced (First event) element node others fits b = subst Balanced (events-put element (over node event) others) (put-balanced element event (events others) fits b)
-first-balanced Silent element node others fits b = b
+events-put : (starts : ℕ) (e : Ranged) (others : List Ranged) → put_event starts e.event (events others) ≡ events (first_in starts e others)
+events-put zero e others = refl
+events-put (suc starts) e [] = refl
+events-put (suc starts) e (r ∷ others) = ap (λ es. r.event ∷ es) (events-put starts e others)
+
+first-balanced : (reads : Reads) (starts : ℕ) (node : BlockNode) (others : List Ranged) → IsFit reads → Balanced (events others) → Balanced (events (with_first (first_event reads) starts node others))
+first-balanced (Around tag) starts node others fits b = b
+first-balanced Inside starts node others fits b = b
+first-balanced (Alone event) starts node others fits b = b
+first-balanced (First event) starts node others fits b = subst Balanced (events-put starts (over node event) others) (put-balanced starts event (events others) fits b)
+first-balanced Silent starts node others fits b = b
 
 pub reading-balanced : (document : BlockDocument) → Balanced (events (block_reading document))
 reading-balanced Nil = Nothing
 reading-balanced (Node node inside after) =
-    first-balanced (read_as node.kind) (begins_element after) node (node_events (read_as node.kind) node (block_reading inside) ++ block_reading after) (fit node.kind)
+    first-balanced (read_as node.kind) (starts_before after) node (node_events (read_as node.kind) node (block_reading inside) ++ block_reading after) (fit node.kind)
     (subst Balanced (sym (map-append Ranged.event (node_events (read_as node.kind) node (block_reading inside)) (block_reading after)))
     (balanced-append (events (node_events (read_as node.kind) node (block_reading inside))) (events (block_reading after))
     (node-balanced (read_as node.kind) node (block_reading inside) (fit node.kind) (reading-balanced inside)) (reading-balanced after)))

@@ -9,14 +9,14 @@ use Rattle.cmark_grammar.specs.MetadataBlockKind.{MetadataBlockKind}
 use Rattle.cmark_grammar.specs.Rows.{Row, without, lazy_row, is_bare, is_blank_line, is_whole_line, indent_of, words_of}
 use Rattle.cmark_grammar.specs.Leaves.{Fence, Further, GoesOn, Closes, Waits, Stops, count_more, counted, underlines, is_thematic_break, is_atx_heading, run, fence_of, fence_further, code_further}
 use Rattle.cmark_grammar.specs.BlockQuoteKind.{BlockQuoteKind}
-use Rattle.cmark_grammar.specs.TaskItems.{behind_box}
-use Rattle.cmark_grammar.specs.Containers.{with_task, marker_width, Container, Quote, Item, Footnote, Marker, marker_of, delimited, digits, is_bullet, is_delimiter, number_of, item_with, width_with, container_with, container_of, item_of, is_quote, quote_width, width_of, enter, keep_as, keeps, strip_as, strip, footnote_width, footnote_with, footnote_of, footnote_or}
+use Rattle.cmark_grammar.specs.Containers.{with_task, marker_width, Container, Quote, Item, Footnote, ListDefinition, Marker, marker_of, delimited, digits, is_bullet, is_delimiter, number_of, item_with, width_with, container_with, container_of, item_of, begins_with, is_quote, quote_width, width_of, enter, keep_as, keeps, strip_as, strip, footnote_width, footnote_with, footnote_of, footnote_or}
+use Rattle.cmark_grammar.specs.DefinitionLists.{definition_width, definition_marker, begins_definition, is_marker, definition_at, is_definition}
 use Rattle.cmark_grammar.specs.Footnotes.{Footnotes, Off, Gfm, Old, footnotes_in, footnote_in, columns_over, marker_columns}
 use Rattle.cmark_grammar.specs.HtmlBlocks.{html_kind, holds_end, html_further}
 use Rattle.cmark_grammar.specs.LinkDefinitions.{Defined, definition_in, bytes_over, Found}
-use Rattle.cmark_grammar.specs.Openings.{Leaf, IndentedCode, MetadataBlock, Opening, Blank, Nests, Takes, Plain, or_else, nests_if, fenced_if, metadata_begun, leaf_of, whole_opens, opens, opens_at, text_begun, texts, lazily, html_if, break_if, heading_if, text_lines, defined_if, put_if, definition_of, is_none, interrupts, count_rows, table_if, text_of, begins_no_link}
+use Rattle.cmark_grammar.specs.Openings.{Leaf, IndentedCode, MetadataBlock, Opening, Blank, Nests, Takes, Plain, or_else, nests_if, fenced_if, metadata_begun, leaf_of, whole_opens, opens, opens_at, text_begun, texts, lazily, html_if, break_if, heading_if, text_lines, defined_if, put_if, definition_of, is_none, interrupts, count_rows, table_if, text_of, begins_no_link, definition_or}
 use Rattle.cmark_grammar.specs.Options.{Options}
-use Rattle.cmark_grammar.specs.Places.{Place, is_behind_task}
+use Rattle.cmark_grammar.specs.Places.{Place, is_behind_task, is_behind_title}
 use Rattle.cmark_grammar.specs.Alignment.{Alignment}
 use Rattle.cmark_grammar.specs.TableRows.{one_more_if, count_missing, most_filled, holds_pipe, delimited_ahead, count_cells, table_head, is_some_head, begins_with_pipe, table_interrupts}
 
@@ -353,14 +353,15 @@ module _ (options : Options) where
   marker-within (Item mark number width None) r = omega arith
   marker-within (Item mark number width (Some is_checked)) r = omega arith
   marker-within (Footnote label old size) r = omega arith
+  marker-within (ListDefinition width) r = omega arith
 
   -- inside a container a first line has fewer columns
-  pub enter_len : (k : Container) (r : Row) (ahead : List Row) → opens options r ahead ≡ Nests k → length (enter k r).columns < length r.columns
+  fewer : (k : Container) (r : Row) → indent_of r < marker_width k r → 0 < length r.columns → length (enter k r).columns < length r.columns
   unfolding enter
-  enter_len k r ahead e =
-      let wide : indent_of r < marker_width k r = subst (IsWide r) e (wide_opens r ahead) in
-      let more = marker-within k r in
-      rw (length-drop (width_of k r) r.columns) (omega (arith, wide, more, opens-some r ahead k e))
+  fewer k r wide some = let more = marker-within k r in rw (length-drop (width_of k r) r.columns) (omega (arith, wide, more, some))
+
+  pub enter_len : (k : Container) (r : Row) (ahead : List Row) → opens options r ahead ≡ Nests k → length (enter k r).columns < length r.columns
+  enter_len k r ahead e = fewer k r (subst (IsWide r) e (wide_opens r ahead)) (opens-some r ahead k e)
 
   -- so it has behind the container's own marker
   pub marker_len : (k : Container) (r : Row) (ahead : List Row) → opens options r ahead ≡ Nests k → length (without (marker_width k r) r).columns < length r.columns
@@ -392,6 +393,7 @@ module _ (options : Options) where
       go false q = let p : r ≡ s = cc in sym (ap (λ x. x.lazy) p)
   keep_as-lazy (Footnote label false size) r s e = wide-lazy 4 r s e
   keep_as-lazy (Item mark number width task) r s e = wide-lazy width r s e
+  keep_as-lazy (ListDefinition width) r s e = wide-lazy width r s e
 
   or_no : (x y : Bool) → (x || y) ≡ false → x ≡ false
   or_no true y e = e
@@ -445,22 +447,31 @@ module _ (options : Options) where
       ap (λ o. nat_le (indent_of r) 3 && (begins_with_pipe (words_of r) && is_some_head o)) (lazy-head r ahead e)
       ∙ ap (λ z. nat_le (indent_of r) 3 && z) (and_none (begins_with_pipe (words_of r))) ∙ and_none (nat_le (indent_of r) 3)
 
+  -- and begins no definition
+  pub lazy-defines : (r : Row) → r.lazy ≡ true → definition_marker options r ≡ None
+  lazy-defines r e = ap (λ z. if options.definition_list && (not z && nat_le (indent_of r) 3) then definition_width r else None) e ∙ ap (λ z. if z then definition_width r else None) (and_none options.definition_list)
+
   -- a lazy line looks at nothing ahead
   pub texts-lazy : (r : Row) (x y : List Row) → r.lazy ≡ true → texts options r x ≡ texts options r y
   unfolding texts
-  texts-lazy r x y e = ap (λ z. not (interrupts options (not r.lazy) r x || z)) (lazy-interrupts r x e ∙ sym (lazy-interrupts r y e))
+  texts-lazy r x y e = ap (λ z. not (interrupts options (not r.lazy) r x || (z || begins_definition options r))) (lazy-interrupts r x e ∙ sym (lazy-interrupts r y e))
 
   lazy-texts : (r : Row) (y : List Row) → texts options (lazy_row r) y ≡ not (interrupts options false r y)
   unfolding texts
-  lazy-texts r y = ap (λ z. not (interrupts options false r y || z)) (lazy-interrupts (lazy_row r) y refl) ∙ ap not (or_none (interrupts options false r y))
+  lazy-texts r y =
+      ap (λ z. not (interrupts options false r y || (z || begins_definition options (lazy_row r)))) (lazy-interrupts (lazy_row r) y refl)
+      ∙ ap (λ z. not (interrupts options false r y || is_marker z)) (lazy-defines (lazy_row r) refl) ∙ ap not (or_none (interrupts options false r y))
 
   pub lazily-texts : (k : Container) (r : Row) (x y : List Row) → lazily options k r x ≡ true → texts options (lazy_row r) y ≡ true
   unfolding lazily
-  lazily-texts k r x y e = lazy-texts r y ∙ ap not (not_or (interrupts options false r x) (table_interrupts options r x) e)
+  lazily-texts k r x y e = lazy-texts r y ∙ ap not (not_or (interrupts options false r x) (table_interrupts options r x || (is_definition k && begins_definition options r)) e)
 
   pub texts-lazily : (k : Container) (r : Row) (x : List Row) → r.lazy ≡ true → texts options (lazy_row r) [] ≡ true → lazily options k r x ≡ true
   unfolding lazily
-  texts-lazily k r x e t = ap (λ z. not (interrupts options false r x || z)) (lazy-interrupts r x e) ∙ ap not (or_none (interrupts options false r x)) ∙ sym (lazy-texts r []) ∙ t
+  texts-lazily k r x e t =
+      ap (λ z. not (interrupts options false r x || (z || (is_definition k && begins_definition options r)))) (lazy-interrupts r x e)
+      ∙ ap (λ z. not (interrupts options false r x || (is_definition k && is_marker z))) (lazy-defines r e) ∙ ap (λ z. not (interrupts options false r x || z)) (and_none (is_definition k))
+      ∙ ap not (or_none (interrupts options false r x)) ∙ sym (lazy-texts r []) ∙ t
 
   -- a line is whole, or text that lacks a prefix
   pub texts_or : (r : Row) (ahead : List Row) → texts options (lazy_row r) [] ≡ true → (r.lazy ≡ false) ⊎ (texts options r ahead ≡ true)
@@ -481,16 +492,53 @@ module _ (options : Options) where
 
   pub texts-words : (r : Row) (ahead : List Row) → texts options r ahead ≡ true → is_blank_line r ≡ false
   unfolding texts
-  texts-words r ahead t = not_or (is_blank_line r) _ (ap not (not_or (interrupts options (not r.lazy) r ahead) (table_interrupts options r ahead) t))
+  texts-words r ahead t = not_or (is_blank_line r) _ (ap not (not_or (interrupts options (not r.lazy) r ahead) (table_interrupts options r ahead || begins_definition options r) t))
 
-  -- behind a task marker text begins a paragraph; elsewhere a line begins what it begins at any other place
-  pub at-or : (place : Place) (r : Row) (ahead : List Row) → ((r.lazy ≡ false) × (opens_at options place r ahead ≡ text_begun r)) ⊎ (opens_at options place r ahead ≡ opens options r ahead)
-  at-or place r ahead = go (is_behind_task place) r.lazy refl refl
+  -- a line begins a definition of this width
+  pub record Defines (r : Row) (width : ℕ) : Type 0 where
+    pub whole : r.lazy ≡ false
+    pub colon : begins_with 58 (words_of r) ≡ true
+    pub near : nat_le (indent_of r) 3 ≡ true
+    pub wide : width ≡ width_with 1 r
+
+  marker-defines : (r : Row) (width : ℕ) → definition_marker options r ≡ Some width → Defines r width
+  marker-defines r width e = go options.definition_list r.lazy (nat_le (indent_of r) 3) (begins_with 58 (words_of r)) refl refl refl e
     where
-      go : (t z : Bool) → is_behind_task place ≡ t → r.lazy ≡ z → ((r.lazy ≡ false) × ((if is_behind_task place && not r.lazy then text_begun r else opens options r ahead) ≡ text_begun r)) ⊎ ((if is_behind_task place && not r.lazy then text_begun r else opens options r ahead) ≡ opens options r ahead)
-      go false z et ez = inr (rw et refl)
-      go true true et ez = inr (rw (et, ez) refl)
-      go true false et ez = inl (ez, rw (et, ez) refl)
+      go : (o l n c : Bool) → r.lazy ≡ l → nat_le (indent_of r) 3 ≡ n → begins_with 58 (words_of r) ≡ c → (if o && (not l && n) then (if c then Some (width_with 1 r) else None) else None) ≡ Some width → Defines r width
+      go true false true true el en ec q = record { whole = el; colon = ec; near = en; wide = let p : Some (width_with 1 r) ≡ Some width = q in cc }
+      go true false true false el en ec q = absurd (let p : None ≡ Some width = q in cc)
+      go true false false c el en ec q = absurd (let p : None ≡ Some width = q in cc)
+      go true true n c el en ec q = absurd (let p : None ≡ Some width = q in cc)
+      go false l n c el en ec q = absurd (let p : None ≡ Some width = q in cc)
+
+  place-defines : (place : Place) (r : Row) (width : ℕ) → definition_at options place r ≡ Some width → Defines r width
+  place-defines place r width e = go (is_behind_title place) e
+    where
+      go : (z : Bool) → (if z then definition_marker options r else None) ≡ Some width → Defines r width
+      go true q = marker-defines r width q
+      go false q = absurd (let p : None ≡ Some width = q in cc)
+
+  -- behind a task marker text begins a paragraph, and behind a title a marker a definition; elsewhere a line begins what it begins at any other place
+  pub at-or : (place : Place) (r : Row) (ahead : List Row)
+      → ((r.lazy ≡ false) × (opens_at options place r ahead ≡ text_begun r)) ⊎ (((width : ℕ) × (opens_at options place r ahead ≡ Nests (ListDefinition width)) × Defines r width) ⊎ (opens_at options place r ahead ≡ opens options r ahead))
+  at-or place r ahead = go (is_behind_task place) r.lazy (definition_at options place r) refl refl refl
+    where
+      O : Opening
+      O = if is_behind_task place && not r.lazy then text_begun r else definition_or (definition_at options place r) (opens options r ahead)
+
+      other : (d : Option ℕ) → definition_at options place r ≡ d → O ≡ definition_or (definition_at options place r) (opens options r ahead) → ((width : ℕ) × (O ≡ Nests (ListDefinition width)) × Defines r width) ⊎ (O ≡ opens options r ahead)
+      other None ed q = inr (q ∙ ap (λ d. definition_or d (opens options r ahead)) ed)
+      other (Some width) ed q = inl (width, q ∙ ap (λ d. definition_or d (opens options r ahead)) ed, place-defines place r width ed)
+
+      go : (t z : Bool) (d : Option ℕ) → is_behind_task place ≡ t → r.lazy ≡ z → definition_at options place r ≡ d → ((r.lazy ≡ false) × (O ≡ text_begun r)) ⊎ (((width : ℕ) × (O ≡ Nests (ListDefinition width)) × Defines r width) ⊎ (O ≡ opens options r ahead))
+      go false z d et ez ed = inr (other d ed (ap (λ b. if b && not r.lazy then text_begun r else definition_or (definition_at options place r) (opens options r ahead)) et))
+      go true true d et ez ed = inr (other d ed (ap (λ b. if b && not r.lazy then text_begun r else definition_or (definition_at options place r) (opens options r ahead)) et ∙ ap (λ b. if true && not b then text_begun r else definition_or (definition_at options place r) (opens options r ahead)) ez))
+      go true false d et ez ed = inl (ez, ap (λ b. if b && not r.lazy then text_begun r else definition_or (definition_at options place r) (opens options r ahead)) et ∙ ap (λ b. if true && not b then text_begun r else definition_or (definition_at options place r) (opens options r ahead)) ez)
+
+  -- what holds of text, of a definition and of what begins at any place holds of what begins at this one
+  pub at-either : (Holds : Opening → Type 0) (place : Place) (r : Row) (ahead : List Row) → (r.lazy ≡ false → Holds (text_begun r)) → ((width : ℕ) → Defines r width → Holds (Nests (ListDefinition width))) → Holds (opens options r ahead) → Holds (opens_at options place r ahead)
+  at-either Holds place r ahead text defined other =
+      ⊎_elim (λ p. subst Holds (sym p.1) (text p.0)) (λ q. ⊎_elim (λ d. subst Holds (sym d.1) (defined d.0 d.2)) (λ o. subst Holds (sym o) other) q) (at-or place r ahead)
 
   text-nests : (k : Container) (r : Row) → text_begun r ≡ Nests k → ⊥
   text-nests k r e = go (is_blank_line r) e
@@ -507,7 +555,8 @@ module _ (options : Options) where
       go false q = cc
 
   pub at-lazy : (place : Place) (r : Row) (ahead : List Row) → r.lazy ≡ true → opens_at options place r ahead ≡ Plain
-  at-lazy place r ahead e = ⊎_elim (λ p. absurd (true≢false (sym e ∙ p.0))) (λ q. q ∙ opens-lazy r ahead e) (at-or place r ahead)
+  at-lazy place r ahead e =
+      at-either (λ o. o ≡ Plain) place r ahead (λ w. absurd (true≢false (sym e ∙ w))) (λ width d. absurd (true≢false (sym e ∙ d.whole))) (opens-lazy r ahead e)
 
   pub at-whole : (place : Place) (r : Row) (ahead : List Row) → opens_at options place r ahead ≢ Plain → r.lazy ≡ false
   at-whole place r ahead ne = go r.lazy refl
@@ -516,28 +565,79 @@ module _ (options : Options) where
       go true e = absurd (ne (at-lazy place r ahead e))
       go false e = e
 
-  pub at-nests : (place : Place) (r : Row) (ahead : List Row) (k : Container) → opens_at options place r ahead ≡ Nests k → opens options r ahead ≡ Nests k
-  at-nests place r ahead k e = ⊎_elim (λ p. absurd (text-nests k r (sym p.1 ∙ e))) (λ q. sym q ∙ e) (at-or place r ahead)
+  -- a container that begins there is a definition, or begins so anywhere
+  pub at-nests : (place : Place) (r : Row) (ahead : List Row) (k : Container) → opens_at options place r ahead ≡ Nests k → ((width : ℕ) × (k ≡ ListDefinition width) × Defines r width) ⊎ (opens options r ahead ≡ Nests k)
+  at-nests place r ahead k e =
+      at-either (λ o. o ≡ Nests k → ((width : ℕ) × (k ≡ ListDefinition width) × Defines r width) ⊎ (opens options r ahead ≡ Nests k)) place r ahead (λ w q. absurd (text-nests k r q))
+      (λ width d q. inl (width, (let p : Nests (ListDefinition width) ≡ Nests k = q in cc), d)) (λ q. inr q) e
+
+  pub at-other : (place : Place) (r : Row) (ahead : List Row) (k : Container) → is_definition k ≡ false → opens_at options place r ahead ≡ Nests k → opens options r ahead ≡ Nests k
+  at-other place r ahead k n e = ⊎_elim (λ d. absurd (true≢false (sym (ap is_definition d.1) ∙ n))) (λ q. q) (at-nests place r ahead k e)
 
   pub at-takes : (place : Place) (r : Row) (ahead : List Row) (leaf : Leaf) (n : ℕ) → opens_at options place r ahead ≡ Takes leaf n → opens options r ahead ≡ Takes leaf n
-  at-takes place r ahead leaf n e = ⊎_elim (λ p. absurd (text-takes leaf n r (sym p.1 ∙ e))) (λ q. sym q ∙ e) (at-or place r ahead)
+  at-takes place r ahead leaf n e =
+      at-either (λ o. o ≡ Takes leaf n → opens options r ahead ≡ Takes leaf n) place r ahead (λ w q. absurd (text-takes leaf n r q)) (λ width d q. absurd (let p : Nests (ListDefinition width) ≡ Takes leaf n = q in cc)) (λ q. q) e
 
   pub at-len : (place : Place) (r : Row) (ahead : List Row) (leaf : Leaf) (n : ℕ) → opens_at options place r ahead ≡ Takes leaf n → n ≤ length ahead
   at-len place r ahead leaf n e = opens-len r ahead leaf n (at-takes place r ahead leaf n e)
 
+  -- a definition's marker is a column behind the indent
+  pub defines-wide : (r : Row) (width : ℕ) → Defines r width → indent_of r < width
+  defines-wide r width d = let e : width ≡ width_with 1 r = d.wide in omega (arith, e)
+
+  colon-some : (r : Row) → begins_with 58 (words_of r) ≡ true → 0 < length r.columns
+  colon-some r e = go r.columns refl
+    where
+      go : (cs : List Column) → r.columns ≡ cs → 0 < length r.columns
+      go (c ∷ cs) ec = let n : length r.columns ≡ suc (length cs) = ap length ec in omega (arith, n)
+      go [] ec = absurd (true≢false (sym e ∙ ap (λ cs. begins_with 58 (bytes_of (without_indent cs))) ec))
+
+  colon-words : (r : Row) → begins_with 58 (words_of r) ≡ true → is_blank_line r ≡ false
+  colon-words r e = go (without_indent r.columns) refl
+    where
+      go : (cs : List Column) → without_indent r.columns ≡ cs → is_blank_line r ≡ false
+      go (c ∷ cs) ec = ap is_bare ec
+      go [] ec = absurd (true≢false (sym e ∙ ap (λ cs. begins_with 58 (bytes_of cs)) ec))
+
+  pub at-wide : (place : Place) (r : Row) (ahead : List Row) → IsWide r (opens_at options place r ahead)
+  at-wide place r ahead = at-either (IsWide r) place r ahead (λ w. text (is_blank_line r)) (λ width d. defines-wide r width d) (wide_opens r ahead)
+    where
+      text : (z : Bool) → IsWide r (if z then Blank else Plain)
+      text true = tt
+      text false = tt
+
   pub at-enter : (place : Place) (k : Container) (r : Row) (ahead : List Row) → opens_at options place r ahead ≡ Nests k → length (enter k r).columns < length r.columns
-  at-enter place k r ahead e = enter_len k r ahead (at-nests place r ahead k e)
+  at-enter place k r ahead e =
+      fewer k r (subst (IsWide r) e (at-wide place r ahead)) (⊎_elim (λ d. colon-some r d.2.colon) (λ q. opens-some r ahead k q) (at-nests place r ahead k e))
 
   pub at-words : (place : Place) (r : Row) (ahead : List Row) → r.lazy ≡ false → opens_at options place r ahead ≢ Blank → is_blank_line r ≡ false
-  at-words place r ahead w ne = ⊎_elim (λ p. go (is_blank_line r) refl p.1) (λ q. opens-words r ahead w (λ b. ne (q ∙ b))) (at-or place r ahead)
+  at-words place r ahead w ne =
+      at-either (λ o. o ≢ Blank → is_blank_line r ≡ false) place r ahead (λ l. go (is_blank_line r) refl) (λ width d n. colon-words r d.colon) (λ n. opens-words r ahead w n) ne
     where
-      go : (z : Bool) → is_blank_line r ≡ z → opens_at options place r ahead ≡ text_begun r → is_blank_line r ≡ false
-      go false e q = e
-      go true e q = absurd (ne (q ∙ ap (λ z. if z then Blank else Plain) e))
+      go : (z : Bool) → is_blank_line r ≡ z → (if is_blank_line r then Blank else Plain) ≢ Blank → is_blank_line r ≡ false
+      go false e n = e
+      go true e n = absurd (n (ap (λ z. if z then Blank else Plain) e))
 
   -- a line that begins nothing is blank, whatever its place
   pub blank-at : (place : Place) (r : Row) (ahead : List Row) → opens options r ahead ≡ Blank → is_blank_line r ≡ true → opens_at options place r ahead ≡ Blank
-  blank-at place r ahead e b = ⊎_elim (λ p. p.1 ∙ ap (λ z. if z then Blank else Plain) b) (λ q. q ∙ e) (at-or place r ahead)
+  blank-at place r ahead e b =
+      at-either (λ o. o ≡ Blank) place r ahead (λ l. ap (λ z. if z then Blank else Plain) b) (λ width d. absurd (true≢false (sym b ∙ colon-words r d.colon))) e
 
-  pub at-plain : (place : Place) (r : Row) (ahead : List Row) → is_behind_task place ≡ false → opens_at options place r ahead ≡ opens options r ahead
-  at-plain place r ahead e = ap (λ z. if z && not r.lazy then text_begun r else opens options r ahead) e
+  -- the same begins at places that do not differ in what stands before
+  pub at-same : (one other : Place) (r : Row) (ahead : List Row) → is_behind_task one ≡ is_behind_task other → is_behind_title one ≡ is_behind_title other → opens_at options one r ahead ≡ opens_at options other r ahead
+  at-same one other r ahead e f =
+      ap (λ z. if z && not r.lazy then text_begun r else definition_or (definition_at options one r) (opens options r ahead)) e
+      ∙ ap (λ z. if is_behind_task other && not r.lazy then text_begun r else definition_or (if z then definition_marker options r else None) (opens options r ahead)) f
+
+  -- where no definition may begin, and no text behind a task marker
+  pub at-plain : (place : Place) (r : Row) (ahead : List Row) → is_behind_task place ≡ false → definition_at options place r ≡ None → opens_at options place r ahead ≡ opens options r ahead
+  at-plain place r ahead e d =
+      ap (λ z. if z && not r.lazy then text_begun r else definition_or (definition_at options place r) (opens options r ahead)) e ∙ ap (λ o. definition_or o (opens options r ahead)) d
+
+  -- with the option off none begins
+  pub off-defines : (place : Place) (r : Row) → options.definition_list ≡ false → definition_at options place r ≡ None
+  off-defines place r e = go (is_behind_title place)
+    where
+      go : (z : Bool) → (if z then definition_marker options r else None) ≡ None
+      go true = ap (λ b. if b && (not r.lazy && nat_le (indent_of r) 3) then definition_width r else None) e
+      go false = refl

@@ -1,5 +1,5 @@
 -- Line by line come the same blocks.
-use Rattle.std.proofs.Common.{◌≡◌, ⊎_elim, ℕ, zero, suc, Bool, true, false, ◌&&◌, List, [], ◌∷◌, ◌++◌, length, refl, sym, ap, subst, ◌∙◌, append_assoc, append-nil, Option, Some, None, true≢false}
+use Rattle.std.proofs.Common.{◌≡◌, ℕ, zero, suc, Bool, true, false, ◌&&◌, List, [], ◌∷◌, ◌++◌, length, refl, sym, ap, ◌∙◌, append_assoc, append-nil, Option, Some, None, true≢false}
 use Rattle.std.specs.Prelude.{if◌then◌else◌, nat_le}
 use Rattle.cmark_grammar.specs.Options.{Options}
 use Rattle.cmark_grammar.specs.Places.{Place, Apart, BehindLazy, allows_lazy}
@@ -18,7 +18,7 @@ use Rattle.cmark_grammar.specs.Blocks.{Blocks, Nil, BlankLine, Paragraph, Setext
 use Rattle.cmark_grammar.specs.BlocksModel.{Open, Between as IsBetween, BehindTag as IsBehindTag, InParagraph as IsInParagraph, InLeaf as IsInLeaf, InContainer as IsInContainer, close, takes_lazy, within, inside_begun, begin_as, begin_in, begin_at, begin, place_behind, underline_or, goes_on_or, kept_or, feed, feed_all, blocks}
 use Rattle.cmark_grammar.specs.BlocksByLine.{Verbatim, Indented, Fenced, HtmlLines, Metadata, leaf_in, further_in, further_if, OpenLines, Between, BehindTag, InParagraph, InLeaf, InVerbatim, InContainer, blank_lines, close_lines, lines_take_lazy, html_begun, leaf_begun, lines_inside_begun, lines_begin_as, lines_underline_or, lines_go_on_or, lines_kept_or, verbatim_line, lines_begin_in, lines_begin_at, lines_begin, lines_feed, lines_feed_all, blocks_by_line}
 use Rattle.cmark_grammar.proofs.BlocksSound.{join_assoc, join-Nil, within_row, bare_push}
-use Rattle.cmark_grammar.proofs.BlockLaws.{no_metadata, strip_lazy, at-or, blank-at}
+use Rattle.cmark_grammar.proofs.BlockLaws.{no_metadata, strip_lazy, at-either, blank-at}
 
 -- what a leaf's lines that have waited are, when so many of the lines ahead belong to it
 abbrev pub waited : Blocks → Leaf → Row → (had waiting : List Row) → ℕ → Open
@@ -162,7 +162,7 @@ module _ (options : Options) where
       (counts_or r ahead (nests_if (container_of options r)) (leaf_of options r ahead) (counts_nests r ahead (container_of options r)) (counts_leaf r ahead)))))
 
   counts_at : (place : Place) (r : Row) (ahead : List Row) → Counts r ahead (opens_at options place r ahead)
-  counts_at place r ahead = ⊎_elim (λ p. subst (Counts r ahead) (sym p.1) (text (is_blank_line r))) (λ q. subst (Counts r ahead) (sym q) (counts_opens r ahead)) (at-or options place r ahead)
+  counts_at place r ahead = at-either options (Counts r ahead) place r ahead (λ w. text (is_blank_line r)) (λ width d. tt) (counts_opens r ahead)
     where
       text : (z : Bool) → Counts r ahead (if z then Blank else Plain)
       text true = tt

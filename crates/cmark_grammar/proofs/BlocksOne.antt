@@ -2,7 +2,7 @@
 use Rattle.std.proofs.Common.{◌≡◌, ◌⊎◌, inl, inr, ⊎_elim, ℕ, zero, suc, ◌<◌, ◌≤◌, Bool, true, false, ◌&&◌, List, [], ◌∷◌, ◌++◌, length, refl, sym, ap, ◌∙◌, subst, arith, append_assoc, append-nil, Option, Some, None, true≢false}
 use Rattle.cmark_grammar.specs.Rows.{Row, rows, lazy_row, show_as, shown}
 use Rattle.cmark_grammar.specs.Leaves.{underlines}
-use Rattle.cmark_grammar.specs.Containers.{Container, Quote, Item, Footnote, is_alert, unless_tag, enter, keeps, strip, strips, is_bare_start, bare_after, insides}
+use Rattle.cmark_grammar.specs.Containers.{Container, Quote, Item, Footnote, ListDefinition, is_alert, unless_tag, enter, keeps, strip, strips, is_bare_start, bare_after, insides}
 use Rattle.cmark_grammar.specs.Openings.{Leaf, Opening, Blank, Nests, Takes, Plain, opens_at, texts, lazily}
 use Rattle.cmark_grammar.specs.Blocks.{Blocks, Nil, BlankLine, Paragraph, SetextHeading, LeafBlock, ContainerBlock, join, behind_leaf, behind_container, place_in, ends_lazily, AreText, Next, IsNoText, AreLazy, Ends, MayBegin, Body}
 use Rattle.cmark_grammar.specs.BlocksModel.{Open, Between, BehindTag, InParagraph, InLeaf, InContainer, close, takes_lazy, within, inside_begun, begin_as, begin_in, begin_at, begin, place_behind, kept_or, feed, feed_all, blocks}
@@ -174,11 +174,18 @@ module _ (options : Options) where
   over_blank-lazy BehindTask = refl
   over_blank-lazy BehindTitle = refl
 
+  behind-strict : (k : Container) → allows_lazy (behind_container k) ≡ false
+  behind-strict (Quote alert) = refl
+  behind-strict (Item mark number width task) = refl
+  behind-strict (Footnote label old size) = refl
+  behind-strict (ListDefinition width) = refl
+
   inside_extends : (k : Container) (o : Open) (first : Row) (more : List Row) (inside : Blocks) → (Body options (place_in k) (first ∷ more) inside → Extends o more inside) → Body options (place_in k) (unless_tag (is_alert k) first more) inside → Extends (inside_begun (is_alert k) o) more inside
   inside_extends (Quote None) o first more inside h body = h body
   inside_extends (Footnote label old size) o first more inside h body = h body
   inside_extends (Quote (Some kind)) o first more inside h body = body
   inside_extends (Item mark number width task) o first more inside h body = h body
+  inside_extends (ListDefinition width) o first more inside h body = h body
 
   -- what a line begins, the blocks go on from
   begin_extends : (n : ℕ) (closed : Blocks) (behind : Place) (r : Row) (more : List Row) (all : Blocks) → length r.columns < n → over_blank behind ≡ over_blank (place_behind Apart closed) → Body options behind (r ∷ more) all → Extends (begin_in options n behind closed r (shown more)) more (join closed all)
@@ -189,6 +196,7 @@ module _ (options : Options) where
       starts : (k : Container) → over_blank (place_in k) ≡ Apart
       starts (Quote None) = refl
       starts (Footnote label old size) = refl
+      starts (ListDefinition width) = refl
       starts (Quote (Some kind)) = refl
       starts (Item mark number width None) = refl
       starts (Item mark number width (Some is_checked)) = refl
@@ -267,7 +275,7 @@ module _ (options : Options) where
       (next_of r more h.tail h.rest h.split)
   lazy_suits (InContainer closed k first had inside) r more all lazy h =
       ⊎_elim
-      (λ e. absurd (true≢false (sym lazy ∙ body_whole (behind_container k) r more h.after refl (subst (λ l. Body options (behind_container k) l h.after) e.1 h.body))))
+      (λ e. absurd (true≢false (sym lazy ∙ body_whole (behind_container k) r more h.after (behind-strict k) (subst (λ l. Body options (behind_container k) l h.after) e.1 h.body))))
       (λ e.
       let p = lazy_suits inside (lazy_row r) (strips k false e.0) h.inside refl (subst (λ q. Extends inside (q ∷ strips k false e.0) h.inside) (strip_lazy options k (bare_after (is_bare_start k first) had) r (keeps-lazy options k (bare_after (is_bare_start k first) had) r lazy)) (subst (λ l. Extends inside (strips k (bare_after (is_bare_start k first) had) l) h.inside) e.1 h.contents)) in
       (subst (λ q. texts options q [] ≡ true) (lazy-same options r lazy) p.0, p.1))

@@ -3,7 +3,7 @@ use Rattle.std.proofs.Common.{◌≡◌, ◌⊎◌, inl, inr, ⊎_elim, ℕ, zer
 use Rattle.cmark_grammar.specs.Rows.{Row, rows, rows_from, lazy_row, show_as, shown}
 use Rattle.cmark_grammar.specs.Lines.{lines}
 use Rattle.cmark_grammar.specs.Leaves.{underlines}
-use Rattle.cmark_grammar.specs.Containers.{Container, Quote, Item, Footnote, is_alert, unless_tag, enter, keeps, strip, strips, is_bare_start, bare_after, insides}
+use Rattle.cmark_grammar.specs.Containers.{Container, Quote, Item, Footnote, ListDefinition, is_alert, unless_tag, enter, keeps, strip, strips, is_bare_start, bare_after, insides}
 use Rattle.cmark_grammar.specs.Openings.{Opening, Blank, Nests, Takes, Plain, opens_at, texts, lazily}
 use Rattle.cmark_grammar.specs.Blocks.{Blocks, Nil, BlankLine, Paragraph, SetextHeading, LeafBlock, ContainerBlock, join, behind_leaf, behind_container, place_in, ends_lazily, IsText, AreText, AreLazy, MayBegin, Body}
 use Rattle.cmark_grammar.specs.BlocksModel.{Open, Between, BehindTag, InParagraph, InLeaf, InContainer, close, takes_lazy, within, inside_begun, begin_as, begin_in, begin_at, begin, place_behind, underline_or, goes_on_or, kept_or, feed, feed_all, blocks}
@@ -180,6 +180,7 @@ module _ (options : Options) where
   behind_tag (Footnote label old size) r o ahead h = h
   behind_tag (Quote (Some kind)) r o ahead h = (refl, refl)
   behind_tag (Item mark number width task) r o ahead h = h
+  behind_tag (ListDefinition width) r o ahead h = h
 
   -- what a line begins
   begin_in_holds : (so : Place) (n : ℕ) (before : List Row) (closed : Blocks) (behind : Place) (r : Row) (ahead : List Row) → length r.columns < n → MayBegin options behind r → shown ahead ≡ ahead → over_blank behind ≡ over_blank (place_behind Apart closed) → Follows so before closed behind (r ∷ []) ahead → Holds so (before ++ r ∷ []) (begin_in options n behind closed r ahead) ahead
@@ -190,6 +191,7 @@ module _ (options : Options) where
       starts : (k : Container) → over_blank (place_in k) ≡ Apart
       starts (Quote None) = refl
       starts (Footnote label old size) = refl
+      starts (ListDefinition width) = refl
       starts (Quote (Some kind)) = refl
       starts (Item mark number width None) = refl
       starts (Item mark number width (Some is_checked)) = refl

@@ -8,20 +8,20 @@ use Rattle.cmark_grammar.specs.Options.{Options}
 use Rattle.cmark_grammar.specs.Places.{Place, Apart, BehindTitle, over_blank}
 use Rattle.cmark_grammar.specs.Lines.{lines, ends_line, onto, content, is_content, line_feed, carriage_return}
 use Rattle.cmark_grammar.specs.Columns.{Column, tab, expand, tab_columns, to_tab_stop}
-use Rattle.cmark_grammar.specs.Rows.{Row, rows, rows_from, row_at, begin_of, past_of, without}
-use Rattle.cmark_grammar.specs.Containers.{Container, Quote, Item, Footnote, is_alert, unless_tag, enter, strips, is_bare_start, insides}
-use Rattle.cmark_grammar.specs.Openings.{Leaf, ThematicBreak as ThematicBreakLeaf, AtxHeading as AtxHeadingLeaf, IndentedCode as IndentedCodeLeaf, FencedCode as FencedCodeLeaf, HtmlBlock as HtmlBlockLeaf, LinkDefinition as LinkDefinitionLeaf, MetadataBlock as MetadataBlockLeaf, Table as TableLeaf}
+use Rattle.cmark_grammar.specs.Rows.{Row, rows, rows_from, row_at, begin_of, start_of, past_of, without}
+use Rattle.cmark_grammar.specs.Containers.{Container, Quote, Item, Footnote, ListDefinition, is_alert, unless_tag, enter, strips, is_bare_start, insides}
+use Rattle.cmark_grammar.specs.Openings.{Leaf, ThematicBreak as ThematicBreakLeaf, AtxHeading as AtxHeadingLeaf, IndentedCode as IndentedCodeLeaf, FencedCode as FencedCodeLeaf, HtmlBlock as HtmlBlockLeaf, LinkDefinition as LinkDefinitionLeaf, MetadataBlock as MetadataBlockLeaf, Table as TableLeaf, Nests, opens_at}
 use Rattle.cmark_grammar.specs.Blocks.{Blocks, Nil as NoBlocks, BlankLine, Paragraph as ParagraphBlock, SetextHeading, LeafBlock, ContainerBlock, behind_leaf, place_in, Body}
-use Rattle.cmark_grammar.specs.Lists.{ListBefore, tight_behind, goes_on}
-use Rattle.cmark_grammar.specs.Tokens.{fenced_lines, lines_before}
-use Rattle.cmark_grammar.specs.BlockDocument.{ListItem, BlockNode, BlockDocument, Nil, Node, node}
-use Rattle.cmark_grammar.specs.Derivation.{task_then, leaf_then, item_then, document_of, Derives}
+use Rattle.cmark_grammar.specs.Lists.{ListBefore, definition_mark, is_title, tight_behind, title_tight_behind, goes_on}
+use Rattle.cmark_grammar.specs.Tokens.{paragraph_tokens, fenced_lines, lines_before}
+use Rattle.cmark_grammar.specs.BlockDocument.{BlockKind, ListItem, DefinitionList, DefinitionListTitle, DefinitionListDefinition, BlockNode, BlockDocument, Nil, Node, node}
+use Rattle.cmark_grammar.specs.Derivation.{task_then, leaf_then, list_kind, item_then, paragraph_kind, document_of, Derives}
 use Rattle.cmark_grammar.specs.Ranges.{AllAt}
 use Rattle.cmark_grammar.specs.Metadata.{ends_metadata}
 use Rattle.cmark_grammar.specs.Leaves.{closes_fence}
-use Rattle.cmark_grammar.proofs.BlockLaws.{at-nests, at-takes}
+use Rattle.cmark_grammar.proofs.BlockLaws.{at-nests, at-other, at-takes}
 use Rattle.cmark_grammar.proofs.RowPlaces.{Runs, expand-Runs, first_place-Runs}
-use Rattle.cmark_grammar.proofs.RowEdges.{marker-good, enter-begin, is-ascii, AreGood, GoodRow, GoodRows, LeafFront, leaf-front, start-E, enter-good, strips-good, split-good}
+use Rattle.cmark_grammar.proofs.RowEdges.{marker-good, enter-begin, is-ascii, AreGood, GoodRow, GoodRows, LeafFront, leaf-front, start-E, enter-good, definition-good, strips-good, split-good}
 use Rattle.cmark_grammar.proofs.TableRanges.{row_cells-edged, row_tokens-edged}
 use Rattle.cmark_grammar.proofs.TokenEdges.{paragraph-edged, heading-edged, code-edged, code_place-edge, before-good, html-edged}
 use Rattle.cmark_grammar.specs.TaskItems.{behind_box}
@@ -32,10 +32,16 @@ module _ (E : ℕ → Type 0) where
   past-edge first [] g gs = g.past
   past-edge first (r ∷ more) g gs = past-edge r more gs.0 gs.1
 
-  item-edged : (joins : Bool) (number : Option ℕ) (tight : Bool) (item : BlockNode) (inside after : BlockDocument) → E item.start → E item.end → AllAt E inside → AllAt E after → AllAt E (item_then joins number tight item inside after)
-  item-edged false number tight item inside after s e i a = (s, e, (s, e, i, tt), a)
-  item-edged true number tight item inside Nil s e i a = (s, e, (s, e, i, tt), tt)
-  item-edged true number tight item inside (Node list items after) s e i a = (s, a.1, (s, e, i, a.2), a.3)
+  item-edged : (joins : Bool) (list : BlockKind) (item : BlockNode) (inside after : BlockDocument) → E item.start → E item.end → AllAt E inside → AllAt E after → AllAt E (item_then joins list item inside after)
+  item-edged false list item inside after s e i a = (s, e, (s, e, i, tt), a)
+  item-edged true list item inside Nil s e i a = (s, e, (s, e, i, tt), tt)
+  item-edged true list item inside (Node others items after) s e i a = (s, a.1, (s, e, i, a.2), a.3)
+
+  -- a paragraph, as a title or as itself
+  title-edged : (is_title : Bool) (list kind other : BlockKind) (start end : ℕ) (inside after behind : BlockDocument) → E start → E end → AllAt E inside → AllAt E after → AllAt E behind
+      → AllAt E (if is_title then item_then true list (node kind start end) inside after else Node (node other start end) inside behind)
+  title-edged true list kind other start end inside after behind s e i a b = item-edged true list (node kind start end) inside after s e i a
+  title-edged false list kind other start end inside after behind s e i a b = (s, e, i, b)
 
   leaf-edged : (text : List ℕ) (options : Options) (lookup : Lookup) (leaf : Leaf) (first : Row) (more : List Row) (after : BlockDocument) → GoodRow E first → GoodRows E more → LeafFront E first leaf → AllAt E after → AllAt E (leaf_then text options lookup leaf first more after)
   leaf-edged text options lookup ThematicBreakLeaf first more after g gs f a = (start-E E first g, past-edge first more g gs, tt, a)
@@ -63,6 +69,11 @@ module _ (E : ℕ → Type 0) where
       go true = strips-good E k (is_bare_start k first) more gs
       go false = (g, strips-good E k (is_bare_start k first) more gs)
 
+  begun-good : (options : Options) (behind : Place) (width : ℕ) (r : Row) (ahead : List Row) → opens_at options behind r ahead ≡ Nests (ListDefinition width) → GoodRow E r → GoodRow E (enter (ListDefinition width) r)
+  begun-good options behind width r ahead e g =
+      ⊎_elim (λ d. let same : width ≡ d.0 = let p : ListDefinition width ≡ ListDefinition d.0 = d.1 in cc in definition-good E width r d.2.colon (same ∙ d.2.wide) g)
+      (λ q. enter-good E options (ListDefinition width) r ahead q g) (at-nests options behind r ahead (ListDefinition width) e)
+
   document-edged : (text : List ℕ) (options : Options) (lookup : Lookup) (direct : Bool) (before : Option ListBefore) (behind : Place) (all : List Row) (b : Blocks) → Body options behind all b → GoodRows E all → AllAt E (document_of text options lookup direct before b)
   document-edged text options lookup direct before behind all NoBlocks body g = tt
   document-edged text options lookup direct before behind all (BlankLine line after) body g =
@@ -71,7 +82,12 @@ module _ (E : ℕ → Type 0) where
   document-edged text options lookup direct before behind all (ParagraphBlock first more after) body g =
       let c : GoodRows E (first ∷ (more ++ body.rest)) = subst (GoodRows E) body.cut g in
       let s = split-good E more body.rest c.1 in
-      (start-E E first c.0, past-edge first more c.0 s.0, paragraph-edged E text first more c.0 s.0, document-edged text options lookup direct None BehindTitle body.rest after body.after s.1)
+      let tight = title_tight_behind before after in
+      title-edged (is_title after) (DefinitionList tight) DefinitionListTitle (paragraph_kind direct) (start_of first) (past_of first more) (paragraph_tokens text first more)
+      (document_of text options lookup direct (Some (record { mark = definition_mark; tight = tight })) after) (document_of text options lookup direct None after)
+      (start-E E first c.0) (past-edge first more c.0 s.0) (paragraph-edged E text first more c.0 s.0)
+      (document-edged text options lookup direct (Some (record { mark = definition_mark; tight = tight })) BehindTitle body.rest after body.after s.1)
+      (document-edged text options lookup direct None BehindTitle body.rest after body.after s.1)
   document-edged text options lookup direct before behind all (SetextHeading level first more underline after) body g =
       let c : GoodRows E (first ∷ (more ++ (underline ∷ body.rest))) = subst (GoodRows E) body.cut g in
       let s = split-good E more (underline ∷ body.rest) c.1 in
@@ -86,7 +102,7 @@ module _ (E : ℕ → Type 0) where
       let s = split-good E more body.rest c.1 in (
         start-E E first c.0,
         past-edge first more c.0 s.0,
-        document-edged text options lookup false None (place_in (Quote alert)) (insides (Quote alert) first more) inside body.contents (insides-good (Quote alert) first more (enter-good E options (Quote alert) first _ (at-nests options behind first _ _ body.opened) c.0) s.0),
+        document-edged text options lookup false None (place_in (Quote alert)) (insides (Quote alert) first more) inside body.contents (insides-good (Quote alert) first more (enter-good E options (Quote alert) first _ (at-other options behind first _ _ refl body.opened) c.0) s.0),
         document-edged text options lookup direct None Apart body.rest after body.after s.1,
       )
   document-edged text options lookup direct before behind all (ContainerBlock (Footnote label old size) first more inside after) body g =
@@ -94,19 +110,27 @@ module _ (E : ℕ → Type 0) where
       let s = split-good E more body.rest c.1 in (
         start-E E first c.0,
         past-edge first more c.0 s.0,
-        document-edged text options lookup false None (place_in (Footnote label old size)) (insides (Footnote label old size) first more) inside body.contents (insides-good (Footnote label old size) first more (enter-good E options (Footnote label old size) first _ (at-nests options behind first _ _ body.opened) c.0) s.0),
+        document-edged text options lookup false None (place_in (Footnote label old size)) (insides (Footnote label old size) first more) inside body.contents (insides-good (Footnote label old size) first more (enter-good E options (Footnote label old size) first _ (at-other options behind first _ _ refl body.opened) c.0) s.0),
         document-edged text options lookup direct None Apart body.rest after body.after s.1,
       )
   document-edged text options lookup direct before behind all (ContainerBlock (Item mark number width task) first more inside after) body g =
       let c : GoodRows E (first ∷ (more ++ body.rest)) = subst (GoodRows E) body.cut g in
       let s = split-good E more body.rest c.1 in
       let tight = tight_behind before mark inside after in
-      item-edged (goes_on mark after) number tight (node ListItem (begin_of first) (past_of first more)) (task_then task (begin_of (without width first)) (begin_of (without (behind_box task width) first)) (document_of text options lookup tight None inside)) (document_of text options lookup direct (Some (record { mark = mark; tight = tight })) after)
+      item-edged (goes_on mark after) (list_kind mark number tight) (node ListItem (begin_of first) (past_of first more)) (task_then task (begin_of (without width first)) (begin_of (without (behind_box task width) first)) (document_of text options lookup tight None inside)) (document_of text options lookup direct (Some (record { mark = mark; tight = tight })) after)
       c.0.begin (past-edge first more c.0 s.0)
       (task-edged E task (begin_of (without width first)) (begin_of (without (behind_box task width) first)) (document_of text options lookup tight None inside)
-      (marker-good E options (Item mark number width task) first _ (at-nests options behind first _ _ body.opened) c.0).begin (enter-begin E options mark number width task first _ (at-nests options behind first _ _ body.opened) c.0)
-      (document-edged text options lookup tight None (place_in (Item mark number width task)) (insides (Item mark number width task) first more) inside body.contents (insides-good (Item mark number width task) first more (enter-good E options (Item mark number width task) first _ (at-nests options behind first _ _ body.opened) c.0) s.0)))
+      (marker-good E options (Item mark number width task) first _ (at-other options behind first _ _ refl body.opened) c.0).begin (enter-begin E options mark number width task first _ (at-other options behind first _ _ refl body.opened) c.0)
+      (document-edged text options lookup tight None (place_in (Item mark number width task)) (insides (Item mark number width task) first more) inside body.contents (insides-good (Item mark number width task) first more (enter-good E options (Item mark number width task) first _ (at-other options behind first _ _ refl body.opened) c.0) s.0)))
       (document-edged text options lookup direct (Some (record { mark = mark; tight = tight })) Apart body.rest after body.after s.1)
+  document-edged text options lookup direct before behind all (ContainerBlock (ListDefinition width) first more inside after) body g =
+      let c : GoodRows E (first ∷ (more ++ body.rest)) = subst (GoodRows E) body.cut g in
+      let s = split-good E more body.rest c.1 in
+      let tight = tight_behind before definition_mark inside after in
+      item-edged (goes_on definition_mark after) (DefinitionList tight) (node DefinitionListDefinition (begin_of first) (past_of first more)) (document_of text options lookup tight None inside) (document_of text options lookup direct (Some (record { mark = definition_mark; tight = tight })) after)
+      c.0.begin (past-edge first more c.0 s.0)
+      (document-edged text options lookup tight None (place_in (ListDefinition width)) (insides (ListDefinition width) first more) inside body.contents (insides-good (ListDefinition width) first more (begun-good options behind width first _ body.opened c.0) s.0))
+      (document-edged text options lookup direct (Some (record { mark = definition_mark; tight = tight })) BehindTitle body.rest after body.after s.1)
 
 -- the lines of a text
 abbrev pub joined : List (List ℕ) → List ℕ

@@ -1,5 +1,5 @@
 -- A document has at most four nodes a byte, the cells aside that are filled in in its tables.
-use Rattle.std.proofs.Common.{◌≡◌, inl, inr, ℕ, zero, suc, ◌+◌, ◌-◌, ◌*◌, ◌≤◌, ◌<◌, Bool, true, false, ◌==◌, List, [], ◌∷◌, ◌++◌, length, drop, take_while, refl, sym, ap, ◌∙◌, subst, arith, Option, Some, None, true≢false, drop-drop}
+use Rattle.std.proofs.Common.{◌≡◌, inl, inr, ℕ, zero, suc, ◌+◌, ◌-◌, ◌*◌, ◌≤◌, ◌<◌, Bool, true, false, ◌==◌, List, [], ◌∷◌, ◌++◌, length, drop, take_while, refl, sym, ap, ◌∙◌, subst, arith, Option, Some, None, true≢false, drop-drop, ◌&&◌}
 use Rattle.std.proofs.lemmas.List.Sums.{take_while-cons}
 use Rattle.std.specs.Prelude.{if◌then◌else◌, cond, nat_lt}
 use Rattle.cmark_grammar.specs.Answers.{Lookup}
@@ -9,24 +9,25 @@ use Rattle.cmark_grammar.specs.Lines.{lines, ends_line, onto, content}
 use Rattle.cmark_grammar.specs.Columns.{Column, tab, expand, tab_columns, to_tab_stop, indent, without_indent, is_blank, is_blank_byte, drop_end}
 use Rattle.cmark_grammar.specs.Rows.{Row, rows, rows_from, without, place, first_place, begin_of, start_of, past_of, is_bare, is_blank_line, words_of}
 use Rattle.cmark_grammar.specs.Leaves.{closes_fence}
-use Rattle.cmark_grammar.specs.Containers.{marker_width, Container, Quote, Item, Footnote, is_alert, unless_tag, keeps, strip_as, strip, strips, enter, width_of, is_bare_start, insides}
-use Rattle.cmark_grammar.specs.Openings.{Leaf, ThematicBreak as ThematicBreakLeaf, AtxHeading as AtxHeadingLeaf, IndentedCode as IndentedCodeLeaf, FencedCode as FencedCodeLeaf, HtmlBlock as HtmlBlockLeaf, LinkDefinition as LinkDefinitionLeaf, MetadataBlock as MetadataBlockLeaf, Blank, Nests, Takes, Plain, opens, opens_at, Table as TableLeaf}
+use Rattle.cmark_grammar.specs.Containers.{marker_width, Container, Quote, Item, Footnote, ListDefinition, is_alert, unless_tag, keeps, strip_as, strip, strips, enter, width_of, is_bare_start, insides}
+use Rattle.cmark_grammar.specs.Openings.{Leaf, ThematicBreak as ThematicBreakLeaf, AtxHeading as AtxHeadingLeaf, IndentedCode as IndentedCodeLeaf, FencedCode as FencedCodeLeaf, HtmlBlock as HtmlBlockLeaf, LinkDefinition as LinkDefinitionLeaf, MetadataBlock as MetadataBlockLeaf, Blank, Nests, Takes, Plain, opens_at, Table as TableLeaf}
 use Rattle.cmark_grammar.specs.Blocks.{Blocks, Nil as NoBlocks, BlankLine, Paragraph as ParagraphBlock, SetextHeading, LeafBlock, ContainerBlock, MayBegin, Body, behind_leaf, place_in}
-use Rattle.cmark_grammar.specs.Lists.{ListBefore, tight_behind, goes_on}
-use Rattle.cmark_grammar.specs.BlockDocument.{ListItem, Text, OwnedText, Html, BlockNode, BlockDocument, Nil, Node, node}
-use Rattle.cmark_grammar.specs.Derivation.{task_then, leaf_then, item_then, paragraph_kind, document_of, Derives}
+use Rattle.cmark_grammar.specs.Lists.{ListBefore, tight_behind, goes_on, definition_mark, is_title, title_tight_behind}
+use Rattle.cmark_grammar.specs.BlockDocument.{ListItem, Text, OwnedText, Html, BlockNode, BlockDocument, Nil, Node, node, BlockKind, DefinitionList, DefinitionListTitle, DefinitionListDefinition, BlockList}
+use Rattle.cmark_grammar.specs.Derivation.{task_then, leaf_then, item_then, paragraph_kind, document_of, Derives, list_kind}
 use Rattle.cmark_grammar.specs.Ranges.{count_nodes, count_table, count_tables}
 use Rattle.cmark_grammar.specs.Tokens.{Piece, texts_then, line_columns, words_end, stretch_then, stretches, paragraph_tokens, heading_columns, behind_hashes, heading_tokens, piece_if, plain_line, left_columns, spaces_if, verbatim_line, touches, merge, merge_all, code_columns, code_pieces, stop_at, fenced_lines, html_then, html_tokens, slice, end_place, lines_before}
 use Rattle.cmark_grammar.specs.Metadata.{ends_metadata}
-use Rattle.cmark_grammar.proofs.BlockLaws.{marker-within, opens-whole, opens-words, at-whole, at-words, at-nests, at-takes, texts-words, IsWide, wide_opens}
+use Rattle.cmark_grammar.proofs.BlockLaws.{marker-within, at-whole, at-words, at-wide, at-takes, texts-words, IsWide}
 use Rattle.cmark_grammar.proofs.RowPlaces.{Runs, Runs-le, first_place-Runs, drop-Runs, drop-mono, Lies, begin-start, start-Runs, start-stop, Lies-without, strip-Lies, kept-without, strip-past, Along, text-Along, Along-le}
 use Rattle.cmark_grammar.proofs.TokenRanges.{UpTo, end_place-Runs, line-UpTo, heading-UpTo}
 use Rattle.cmark_grammar.specs.TableRows.{count_missing, cells_start, cells_of}
-use Rattle.cmark_grammar.specs.TableTokens.{cells_then, row_cells, row_tokens}
+use Rattle.cmark_grammar.specs.TableTokens.{cells_then, row_tokens}
 use Rattle.cmark_grammar.proofs.TableRanges.{words-places, row_cells-count, filled}
 use Rattle.cmark_grammar.proofs.TableCounts.{LeafFilled, opened-filled}
 use Rattle.cmark_grammar.specs.TaskItems.{behind_box}
 use Rattle.cmark_grammar.proofs.TaskLaws.{task-count, task-tables}
+use Rattle.cmark_grammar.proofs.TightLaws.{title_goes_on}
 
 -- a column in which no byte begins is of a tab
 abbrev AreTabs : List Column → Type 0
@@ -340,20 +341,43 @@ leaf-count text options lookup from leaf first more after s e f few = go leaf fe
         let most : filled (length alignments) (drop 1 more) ≤ 262144 = few.1 in
         omega (arith, low, some, high, up, w, c, d, none, most)
 
-item-count : (joins : Bool) (number : Option ℕ) (tight : Bool) (item : BlockNode) (inside after : BlockDocument) → count_nodes (item_then joins number tight item inside after) ≤ 2 + (count_nodes inside + count_nodes after)
-item-count false number tight item inside after = omega arith
-item-count true number tight item inside Nil = omega arith
-item-count true number tight item inside (Node list items after) = omega arith
+item-count : (joins : Bool) (list : BlockKind) (item : BlockNode) (inside after : BlockDocument) → count_nodes (item_then joins list item inside after) ≤ 2 + (count_nodes inside + count_nodes after)
+item-count false list item inside after = omega arith
+item-count true list item inside Nil = omega arith
+item-count true list item inside (Node others items after) = omega arith
 
 -- the first node is no table
 abbrev NoTableFirst : BlockDocument → Type 0
 NoTableFirst Nil = Unit {0}
 NoTableFirst (Node node inside after) = count_table node.kind ≡ 0
 
-item-tables : (joins : Bool) (number : Option ℕ) (tight : Bool) (item : BlockNode) (inside after : BlockDocument) → count_table item.kind ≡ 0 → (joins ≡ true → NoTableFirst after) → count_tables (item_then joins number tight item inside after) ≡ count_tables inside + count_tables after
-item-tables false number tight item inside after e f = omega (arith, e)
-item-tables true number tight item inside Nil e f = omega (arith, e)
-item-tables true number tight item inside (Node list items after) e f = let n : count_table list.kind ≡ 0 = f refl in omega (arith, e, n)
+item-tables : (joins : Bool) (list : BlockKind) (item : BlockNode) (inside after : BlockDocument) → count_table list ≡ 0 → count_table item.kind ≡ 0 → (joins ≡ true → NoTableFirst after) → count_tables (item_then joins list item inside after) ≡ count_tables inside + count_tables after
+item-tables false list item inside after l e f = omega (arith, l, e)
+item-tables true list item inside Nil l e f = omega (arith, l, e)
+item-tables true list item inside (Node others items after) l e f = let n : count_table others.kind ≡ 0 = f refl in omega (arith, l, e, n)
+
+list-table : (mark : ℕ) (number : Option ℕ) (tight : Bool) → count_table (list_kind mark number tight) ≡ 0
+list-table mark number tight = go (mark == definition_mark)
+  where
+    go : (z : Bool) → count_table (if z then DefinitionList tight else BlockList number tight) ≡ 0
+    go true = refl
+    go false = refl
+
+-- a paragraph, as a title or as itself: the document behind it is that of this list or of none
+title-count : (is_title tight : Bool) (other : BlockKind) (start end : ℕ) (inside after behind : BlockDocument) → count_table other ≡ 0 → (is_title ≡ true → NoTableFirst after) → (from most : ℕ)
+    → from + count_nodes after ≤ most + 262144 * count_tables after → from + count_nodes behind ≤ most + 262144 * count_tables behind → (d : BlockDocument) → d ≡ (if is_title then item_then true (DefinitionList tight) (node DefinitionListTitle start end) inside after else Node (node other start end) inside behind)
+    → from + count_nodes d ≤ 2 + (count_nodes inside + most) + 262144 * count_tables d
+title-count true tight other start end inside after behind k f from most a b d is =
+    let n = item-count true (DefinitionList tight) (node DefinitionListTitle start end) inside after in
+    let t = item-tables true (DefinitionList tight) (node DefinitionListTitle start end) inside after refl refl f in
+    subst (λ x. from + count_nodes x ≤ 2 + (count_nodes inside + most) + 262144 * count_tables x) (sym is) (omega (arith, n, t, a))
+title-count false tight other start end inside after behind k f from most a b d is =
+    subst (λ x. from + count_nodes x ≤ 2 + (count_nodes inside + most) + 262144 * count_tables x) (sym is) (omega (arith, k, b))
+
+title-tables : (is_title tight : Bool) (other : BlockKind) (start end : ℕ) (inside after behind : BlockDocument) → count_table other ≡ 0 → (is_title ≡ true → NoTableFirst after) → (most : ℕ) → count_tables after ≤ most → count_tables behind ≤ most
+    → count_tables (if is_title then item_then true (DefinitionList tight) (node DefinitionListTitle start end) inside after else Node (node other start end) inside behind) ≤ count_tables inside + most
+title-tables true tight other start end inside after behind k f most a b = let t = item-tables true (DefinitionList tight) (node DefinitionListTitle start end) inside after refl refl f in omega (arith, t, a)
+title-tables false tight other start end inside after behind k f most a b = omega (arith, k, b)
 
 -- texts hold no table
 texts-tables : (ps : List Piece) (after : BlockDocument) → count_tables (texts_then ps after) ≡ count_tables after
@@ -432,13 +456,13 @@ module _ (text : List ℕ) (options : Options) (lookup : Lookup) where
   begun-words behind r ahead (inr p) o = texts-words options r [] p.1
 
   -- inside a container the first line has lost a byte
-  enter-sits : (k : Container) (from : ℕ) (r : Row) (ahead : List Row) → opens options r ahead ≡ Nests k → Sits from r → Sits (suc from) (enter k r)
+  enter-sits : (k : Container) (from : ℕ) (behind : Place) (r : Row) (ahead : List Row) → opens_at options behind r ahead ≡ Nests k → Sits from r → Sits (suc from) (enter k r)
   unfolding enter
-  enter-sits k from r ahead o s =
-      let w : r.lazy ≡ false = opens-whole options r ahead (λ p. let q : Nests k ≡ Plain = sym o ∙ p in cc) in
-      let e : is_blank_line r ≡ false = opens-words options r ahead w (λ b. let q : Nests k ≡ Blank = sym o ∙ b in cc) in
+  enter-sits k from behind r ahead o s =
+      let w : r.lazy ≡ false = at-whole options behind r ahead (λ p. let q : Nests k ≡ Plain = sym o ∙ p in cc) in
+      let e : is_blank_line r ≡ false = at-words options behind r ahead w (λ b. let q : Nests k ≡ Blank = sym o ∙ b in cc) in
       let n = next-place from r s e in
-      let own : indent r.columns < marker_width k r = subst (IsWide options r) o (wide_opens options r ahead) in
+      let own : indent r.columns < marker_width k r = subst (IsWide options r) o (at-wide options behind r ahead) in
       let more = marker-within options k r in
       let wide : indent r.columns < width_of k r = omega (arith, own, more) in
       let m = drop-mono (suc (indent r.columns)) (width_of k r) (begin_of r) r.columns r.stop wide s.0.1 in
@@ -450,14 +474,14 @@ module _ (text : List ℕ) (options : Options) (lookup : Lookup) where
   unfolding enter
   enter-past k r = refl
 
-  insides-fed : (k : Container) (from : ℕ) (first : Row) (more : List Row) (ahead : List Row) (to : ℕ) → opens options first ahead ≡ Nests k → Sits from first → Fed first.past more to → FedBehind (suc from) (insides k first more) to
-  insides-fed k from first more ahead to o s f = go (is_alert k)
+  insides-fed : (k : Container) (from : ℕ) (behind : Place) (first : Row) (more : List Row) (ahead : List Row) (to : ℕ) → opens_at options behind first ahead ≡ Nests k → Sits from first → Fed first.past more to → FedBehind (suc from) (insides k first more) to
+  insides-fed k from behind first more ahead to o s f = go (is_alert k)
     where
       others : Fed first.past (strips k (is_bare_start k first) more) to
       others = strips-fed k (is_bare_start k first) first.past more to f
 
       begins : Sits (suc from) (enter k first)
-      begins = enter-sits k from first ahead o s
+      begins = enter-sits k from behind first ahead o s
 
       past : suc from ≤ first.past
       past = subst (λ p. suc from ≤ p) (enter-past k first) (Along-le (suc from) (enter k first ∷ []) (enter k first).past (begins.0, omega arith))
@@ -470,22 +494,37 @@ module _ (text : List ℕ) (options : Options) (lookup : Lookup) where
   paragraph-table true = refl
   paragraph-table false = refl
 
+  item-first : (joins : Bool) (list : BlockKind) (item : BlockNode) (inside d : BlockDocument) → count_table list ≡ 0 → NoTableFirst (item_then joins list item inside d)
+  item-first false list item inside d l = l
+  item-first true list item inside Nil l = l
+  item-first true list item inside (Node others items rest) l = l
+
   -- a list that goes on is no table
   list-first : (direct : Bool) (before : Option ListBefore) (mark : ℕ) (b : Blocks) → goes_on mark b ≡ true → NoTableFirst (document_of text options lookup direct before b)
   list-first direct before mark NoBlocks e = tt
   list-first direct before mark (BlankLine line after) e = list-first direct before mark after e
-  list-first direct before mark (ParagraphBlock first more after) e = absurd (true≢false (sym e))
+  list-first direct before mark (ParagraphBlock first more after) e =
+      go (is_title after) (both (definition_mark == mark) (is_title after) e) (document_of text options lookup direct (Some (record { mark = definition_mark; tight = title_tight_behind before after })) after)
+    where
+      both : (a b : Bool) → (a && b) ≡ true → b ≡ true
+      both true b q = q
+      both false b q = absurd (true≢false (sym q))
+
+      go : (z : Bool) → z ≡ true → (d : BlockDocument) → NoTableFirst (if z then item_then true (DefinitionList (title_tight_behind before after)) (node DefinitionListTitle (start_of first) (past_of first more)) (paragraph_tokens text first more) d
+          else Node (node (paragraph_kind direct) (start_of first) (past_of first more)) (paragraph_tokens text first more) (document_of text options lookup direct None after))
+      go true q Nil = refl
+      go true q (Node others items rest) = refl
+      go false q d = absurd (true≢false (sym q))
   list-first direct before mark (SetextHeading level first more underline after) e = absurd (true≢false (sym e))
   list-first direct before mark (LeafBlock leaf first more after) e = absurd (true≢false (sym e))
   list-first direct before mark (ContainerBlock (Quote alert) first more inside after) e = absurd (true≢false (sym e))
   list-first direct before mark (ContainerBlock (Footnote label old size) first more inside after) e = absurd (true≢false (sym e))
   list-first direct before mark (ContainerBlock (Item m number width task) first more inside after) e =
-      go (goes_on m after) (document_of text options lookup direct (Some (record { mark = m; tight = tight_behind before m inside after })) after)
-    where
-      go : (joins : Bool) (d : BlockDocument) → NoTableFirst (item_then joins number (tight_behind before m inside after) (node ListItem (begin_of first) (past_of first more)) (task_then task (begin_of (without width first)) (begin_of (without (behind_box task width) first)) (document_of text options lookup (tight_behind before m inside after) None inside)) d)
-      go false d = refl
-      go true Nil = refl
-      go true (Node list items rest) = refl
+      item-first (goes_on m after) (list_kind m number (tight_behind before m inside after)) (node ListItem (begin_of first) (past_of first more)) _
+      (document_of text options lookup direct (Some (record { mark = m; tight = tight_behind before m inside after })) after) (list-table m number (tight_behind before m inside after))
+  list-first direct before mark (ContainerBlock (ListDefinition width) first more inside after) e =
+      item-first (goes_on definition_mark after) (DefinitionList (tight_behind before definition_mark inside after)) (node DefinitionListDefinition (begin_of first) (past_of first more)) _
+      (document_of text options lookup direct (Some (record { mark = definition_mark; tight = tight_behind before definition_mark inside after })) after) refl
 
   pub document-count : (direct : Bool) (before : Option ListBefore) (behind : Place) (from : ℕ) (all : List Row) (b : Blocks) (to : ℕ) → Body options behind all b → FedBehind from all to → 4 * from + count_nodes (document_of text options lookup direct before b) ≤ 4 * to + 262144 * count_tables (document_of text options lookup direct before b)
   document-count direct before behind from all NoBlocks to body f = let l : from ≤ to = subst (λ ls. FedBehind from ls to) body f in omega (arith, l)
@@ -505,9 +544,14 @@ module _ (text : List ℕ) (options : Options) (lookup : Lookup) where
       let p = paragraph-count text from first more c.0.0 s.0 in
       let t = stretches-tables text (start_of first) first more in
       let u = fed-le first.past more (past_of first more) s.0 in
+      let tight = title_tight_behind before after in
       let ih = document-count direct None BehindTitle (past_of first more) body.rest after to body.after (fed-behind (past_of first more) body.rest to s.1) in
-      let k = paragraph-table direct in
-      omega (arith, a, b, d, p, t, u, ih, k)
+      let il = document-count direct (Some (record { mark = definition_mark; tight = tight })) BehindTitle (past_of first more) body.rest after to body.after (fed-behind (past_of first more) body.rest to s.1) in
+      let k = title-count (is_title after) tight (paragraph_kind direct) (start_of first) (past_of first more) (paragraph_tokens text first more)
+      (document_of text options lookup direct (Some (record { mark = definition_mark; tight = tight })) after) (document_of text options lookup direct None after)
+      (paragraph-table direct) (λ e. list-first direct (Some (record { mark = definition_mark; tight = tight })) definition_mark after (title_goes_on text options lookup after e)) (4 * past_of first more) (4 * to) il ih
+      (document_of text options lookup direct before (ParagraphBlock first more after)) refl in
+      omega (arith, a, b, d, p, t, u, k)
   document-count direct before behind from all (SetextHeading level first more underline after) to body f =
       let c : FedBehind from (first ∷ (more ++ (underline ∷ body.rest))) to = subst (λ ls. FedBehind from ls to) body.cut f in
       let s = fed-split first more (underline ∷ body.rest) to c.1 in
@@ -532,26 +576,35 @@ module _ (text : List ℕ) (options : Options) (lookup : Lookup) where
   document-count direct before behind from all (ContainerBlock (Quote alert) first more inside after) to body f =
       let c : FedBehind from (first ∷ (more ++ body.rest)) to = subst (λ ls. FedBehind from ls to) body.cut f in
       let s = fed-split first more body.rest to c.1 in
-      let i = document-count false None (place_in (Quote alert)) (suc from) (insides (Quote alert) first more) inside (past_of first more) body.contents (insides-fed (Quote alert) from first more _ (past_of first more) (at-nests options behind first _ _ body.opened) c.0 s.0) in
+      let i = document-count false None (place_in (Quote alert)) (suc from) (insides (Quote alert) first more) inside (past_of first more) body.contents (insides-fed (Quote alert) from behind first more _ (past_of first more) body.opened c.0 s.0) in
       let ih = document-count direct None Apart (past_of first more) body.rest after to body.after (fed-behind (past_of first more) body.rest to s.1) in
       omega (arith, i, ih)
   document-count direct before behind from all (ContainerBlock (Footnote label old size) first more inside after) to body f =
       let c : FedBehind from (first ∷ (more ++ body.rest)) to = subst (λ ls. FedBehind from ls to) body.cut f in
       let s = fed-split first more body.rest to c.1 in
-      let i = document-count false None (place_in (Footnote label old size)) (suc from) (insides (Footnote label old size) first more) inside (past_of first more) body.contents (insides-fed (Footnote label old size) from first more _ (past_of first more) (at-nests options behind first _ _ body.opened) c.0 s.0) in
+      let i = document-count false None (place_in (Footnote label old size)) (suc from) (insides (Footnote label old size) first more) inside (past_of first more) body.contents (insides-fed (Footnote label old size) from behind first more _ (past_of first more) body.opened c.0 s.0) in
       let ih = document-count direct None Apart (past_of first more) body.rest after to body.after (fed-behind (past_of first more) body.rest to s.1) in
       omega (arith, i, ih)
   document-count direct before behind from all (ContainerBlock (Item mark number width task) first more inside after) to body f =
       let c : FedBehind from (first ∷ (more ++ body.rest)) to = subst (λ ls. FedBehind from ls to) body.cut f in
       let s = fed-split first more body.rest to c.1 in
       let tight = tight_behind before mark inside after in
-      let i = document-count tight None (place_in (Item mark number width task)) (suc from) (insides (Item mark number width task) first more) inside (past_of first more) body.contents (insides-fed (Item mark number width task) from first more _ (past_of first more) (at-nests options behind first _ _ body.opened) c.0 s.0) in
+      let i = document-count tight None (place_in (Item mark number width task)) (suc from) (insides (Item mark number width task) first more) inside (past_of first more) body.contents (insides-fed (Item mark number width task) from behind first more _ (past_of first more) body.opened c.0 s.0) in
       let ih = document-count direct (Some (record { mark = mark; tight = tight })) Apart (past_of first more) body.rest after to body.after (fed-behind (past_of first more) body.rest to s.1) in
-      let n = item-count (goes_on mark after) number tight (node ListItem (begin_of first) (past_of first more)) (task_then task (begin_of (without width first)) (begin_of (without (behind_box task width) first)) (document_of text options lookup tight None inside)) (document_of text options lookup direct (Some (record { mark = mark; tight = tight })) after) in
-      let t = item-tables (goes_on mark after) number tight (node ListItem (begin_of first) (past_of first more)) (task_then task (begin_of (without width first)) (begin_of (without (behind_box task width) first)) (document_of text options lookup tight None inside)) (document_of text options lookup direct (Some (record { mark = mark; tight = tight })) after) refl (λ g. list-first direct (Some (record { mark = mark; tight = tight })) mark after g) in
+      let n = item-count (goes_on mark after) (list_kind mark number tight) (node ListItem (begin_of first) (past_of first more)) (task_then task (begin_of (without width first)) (begin_of (without (behind_box task width) first)) (document_of text options lookup tight None inside)) (document_of text options lookup direct (Some (record { mark = mark; tight = tight })) after) in
+      let t = item-tables (goes_on mark after) (list_kind mark number tight) (node ListItem (begin_of first) (past_of first more)) (task_then task (begin_of (without width first)) (begin_of (without (behind_box task width) first)) (document_of text options lookup tight None inside)) (document_of text options lookup direct (Some (record { mark = mark; tight = tight })) after) (list-table mark number tight) refl (λ g. list-first direct (Some (record { mark = mark; tight = tight })) mark after g) in
       let a = task-count task (begin_of (without width first)) (begin_of (without (behind_box task width) first)) (document_of text options lookup tight None inside) in
       let b = task-tables task (begin_of (without width first)) (begin_of (without (behind_box task width) first)) (document_of text options lookup tight None inside) in
       omega (arith, i, ih, n, t, a, b)
+  document-count direct before behind from all (ContainerBlock (ListDefinition width) first more inside after) to body f =
+      let c : FedBehind from (first ∷ (more ++ body.rest)) to = subst (λ ls. FedBehind from ls to) body.cut f in
+      let s = fed-split first more body.rest to c.1 in
+      let tight = tight_behind before definition_mark inside after in
+      let i = document-count tight None (place_in (ListDefinition width)) (suc from) (insides (ListDefinition width) first more) inside (past_of first more) body.contents (insides-fed (ListDefinition width) from behind first more _ (past_of first more) body.opened c.0 s.0) in
+      let ih = document-count direct (Some (record { mark = definition_mark; tight = tight })) BehindTitle (past_of first more) body.rest after to body.after (fed-behind (past_of first more) body.rest to s.1) in
+      let n = item-count (goes_on definition_mark after) (DefinitionList tight) (node DefinitionListDefinition (begin_of first) (past_of first more)) (document_of text options lookup tight None inside) (document_of text options lookup direct (Some (record { mark = definition_mark; tight = tight })) after) in
+      let t = item-tables (goes_on definition_mark after) (DefinitionList tight) (node DefinitionListDefinition (begin_of first) (past_of first more)) (document_of text options lookup tight None inside) (document_of text options lookup direct (Some (record { mark = definition_mark; tight = tight })) after) refl refl (λ g. list-first direct (Some (record { mark = definition_mark; tight = tight })) definition_mark after g) in
+      omega (arith, i, ih, n, t)
 
   -- a table takes a byte
   pub document-tables : (direct : Bool) (before : Option ListBefore) (behind : Place) (from : ℕ) (all : List Row) (b : Blocks) (to : ℕ) → Body options behind all b → FedBehind from all to → from + count_tables (document_of text options lookup direct before b) ≤ to
@@ -571,9 +624,13 @@ module _ (text : List ℕ) (options : Options) (lookup : Lookup) where
       let d : first.stop ≤ first.past = c.0.0.2 in
       let t = stretches-tables text (start_of first) first more in
       let u = fed-le first.past more (past_of first more) s.0 in
+      let tight = title_tight_behind before after in
       let ih = document-tables direct None BehindTitle (past_of first more) body.rest after to body.after (fed-behind (past_of first more) body.rest to s.1) in
-      let k = paragraph-table direct in
-      omega (arith, a, b, d, t, u, ih, k)
+      let il = document-tables direct (Some (record { mark = definition_mark; tight = tight })) BehindTitle (past_of first more) body.rest after to body.after (fed-behind (past_of first more) body.rest to s.1) in
+      let k = title-tables (is_title after) tight (paragraph_kind direct) (start_of first) (past_of first more) (paragraph_tokens text first more)
+      (document_of text options lookup direct (Some (record { mark = definition_mark; tight = tight })) after) (document_of text options lookup direct None after)
+      (paragraph-table direct) (λ e. list-first direct (Some (record { mark = definition_mark; tight = tight })) definition_mark after (title_goes_on text options lookup after e)) (to - past_of first more) (omega (arith, il)) (omega (arith, ih)) in
+      omega (arith, a, b, d, t, u, k, ih)
   document-tables direct before behind from all (SetextHeading level first more underline after) to body f =
       let c : FedBehind from (first ∷ (more ++ (underline ∷ body.rest))) to = subst (λ ls. FedBehind from ls to) body.cut f in
       let s = fed-split first more (underline ∷ body.rest) to c.1 in
@@ -601,24 +658,32 @@ module _ (text : List ℕ) (options : Options) (lookup : Lookup) where
   document-tables direct before behind from all (ContainerBlock (Quote alert) first more inside after) to body f =
       let c : FedBehind from (first ∷ (more ++ body.rest)) to = subst (λ ls. FedBehind from ls to) body.cut f in
       let s = fed-split first more body.rest to c.1 in
-      let i = document-tables false None (place_in (Quote alert)) (suc from) (insides (Quote alert) first more) inside (past_of first more) body.contents (insides-fed (Quote alert) from first more _ (past_of first more) (at-nests options behind first _ _ body.opened) c.0 s.0) in
+      let i = document-tables false None (place_in (Quote alert)) (suc from) (insides (Quote alert) first more) inside (past_of first more) body.contents (insides-fed (Quote alert) from behind first more _ (past_of first more) body.opened c.0 s.0) in
       let ih = document-tables direct None Apart (past_of first more) body.rest after to body.after (fed-behind (past_of first more) body.rest to s.1) in
       omega (arith, i, ih)
   document-tables direct before behind from all (ContainerBlock (Footnote label old size) first more inside after) to body f =
       let c : FedBehind from (first ∷ (more ++ body.rest)) to = subst (λ ls. FedBehind from ls to) body.cut f in
       let s = fed-split first more body.rest to c.1 in
-      let i = document-tables false None (place_in (Footnote label old size)) (suc from) (insides (Footnote label old size) first more) inside (past_of first more) body.contents (insides-fed (Footnote label old size) from first more _ (past_of first more) (at-nests options behind first _ _ body.opened) c.0 s.0) in
+      let i = document-tables false None (place_in (Footnote label old size)) (suc from) (insides (Footnote label old size) first more) inside (past_of first more) body.contents (insides-fed (Footnote label old size) from behind first more _ (past_of first more) body.opened c.0 s.0) in
       let ih = document-tables direct None Apart (past_of first more) body.rest after to body.after (fed-behind (past_of first more) body.rest to s.1) in
       omega (arith, i, ih)
   document-tables direct before behind from all (ContainerBlock (Item mark number width task) first more inside after) to body f =
       let c : FedBehind from (first ∷ (more ++ body.rest)) to = subst (λ ls. FedBehind from ls to) body.cut f in
       let s = fed-split first more body.rest to c.1 in
       let tight = tight_behind before mark inside after in
-      let i = document-tables tight None (place_in (Item mark number width task)) (suc from) (insides (Item mark number width task) first more) inside (past_of first more) body.contents (insides-fed (Item mark number width task) from first more _ (past_of first more) (at-nests options behind first _ _ body.opened) c.0 s.0) in
+      let i = document-tables tight None (place_in (Item mark number width task)) (suc from) (insides (Item mark number width task) first more) inside (past_of first more) body.contents (insides-fed (Item mark number width task) from behind first more _ (past_of first more) body.opened c.0 s.0) in
       let ih = document-tables direct (Some (record { mark = mark; tight = tight })) Apart (past_of first more) body.rest after to body.after (fed-behind (past_of first more) body.rest to s.1) in
-      let t = item-tables (goes_on mark after) number tight (node ListItem (begin_of first) (past_of first more)) (task_then task (begin_of (without width first)) (begin_of (without (behind_box task width) first)) (document_of text options lookup tight None inside)) (document_of text options lookup direct (Some (record { mark = mark; tight = tight })) after) refl (λ g. list-first direct (Some (record { mark = mark; tight = tight })) mark after g) in
+      let t = item-tables (goes_on mark after) (list_kind mark number tight) (node ListItem (begin_of first) (past_of first more)) (task_then task (begin_of (without width first)) (begin_of (without (behind_box task width) first)) (document_of text options lookup tight None inside)) (document_of text options lookup direct (Some (record { mark = mark; tight = tight })) after) (list-table mark number tight) refl (λ g. list-first direct (Some (record { mark = mark; tight = tight })) mark after g) in
       let b = task-tables task (begin_of (without width first)) (begin_of (without (behind_box task width) first)) (document_of text options lookup tight None inside) in
       omega (arith, i, ih, t, b)
+  document-tables direct before behind from all (ContainerBlock (ListDefinition width) first more inside after) to body f =
+      let c : FedBehind from (first ∷ (more ++ body.rest)) to = subst (λ ls. FedBehind from ls to) body.cut f in
+      let s = fed-split first more body.rest to c.1 in
+      let tight = tight_behind before definition_mark inside after in
+      let i = document-tables tight None (place_in (ListDefinition width)) (suc from) (insides (ListDefinition width) first more) inside (past_of first more) body.contents (insides-fed (ListDefinition width) from behind first more _ (past_of first more) body.opened c.0 s.0) in
+      let ih = document-tables direct (Some (record { mark = definition_mark; tight = tight })) BehindTitle (past_of first more) body.rest after to body.after (fed-behind (past_of first more) body.rest to s.1) in
+      let t = item-tables (goes_on definition_mark after) (DefinitionList tight) (node DefinitionListDefinition (begin_of first) (past_of first more)) (document_of text options lookup tight None inside) (document_of text options lookup direct (Some (record { mark = definition_mark; tight = tight })) after) refl refl (λ g. list-first direct (Some (record { mark = definition_mark; tight = tight })) definition_mark after g) in
+      omega (arith, i, ih, t)
 
 -- each line of a text has a byte
 abbrev Full : List (List ℕ) → Type 0

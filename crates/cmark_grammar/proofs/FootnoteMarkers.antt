@@ -1,5 +1,5 @@
 -- The marker of a footnote definition ends with its colon.
-use Rattle.std.proofs.Common.{◌≡◌, ℕ, zero, suc, ◌<◌, Bool, true, false, ◌==◌, List, [], ◌∷◌, length, drop, refl, sym, ap, ◌∙◌, subst, arith, Option, Some, None}
+use Rattle.std.proofs.Common.{◌≡◌, ℕ, zero, suc, ◌<◌, Bool, true, false, ◌==◌, List, [], ◌∷◌, length, drop, refl, ap, ◌∙◌, subst, arith, Option, Some, None}
 use Rattle.std.specs.Prelude.{if◌then◌else◌}
 use Rattle.cmark_grammar.specs.LinkDefinitions.{Found, put, escapes_next, is_label, label_if, up_to}
 use Rattle.cmark_grammar.specs.Footnotes.{colon_behind, label_then_colon, behind_caret, footnote_in}

@@ -1,6 +1,5 @@
 -- The markers of footnote definitions and the lines that they keep, computed.
-use Rattle.std.specs.Prelude.{◌≡◌, refl, ℕ, Bool, true, false, List, [], ◌∷◌, codes, Option, Some, None, option_map}
-use Rattle.cmark_grammar.specs.Answers.{Lookup}
+use Rattle.std.specs.Prelude.{◌≡◌, refl, ℕ, true, false, List, [], codes, Option, Some, None, option_map}
 use Rattle.cmark_grammar.specs.BlockDocument.{FootnoteDefinition, Paragraph, Text, Nil, Node, node}
 use Rattle.cmark_grammar.specs.Blocks as blocks
 use Rattle.cmark_grammar.specs.Blocks.{Blocks, ContainerBlock}

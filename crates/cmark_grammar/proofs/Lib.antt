@@ -12,7 +12,7 @@ pub mod BlocksSound
 pub mod BoundaryLaws
 pub mod ColumnSteps
 pub mod CountLaws
-pub mod DocumentsJoin
+mod DefinitionListSamples
 pub mod EmphasisOne
 pub mod EmphasisSamples
 pub mod EmphasisSound

@@ -6,13 +6,13 @@ use Rattle.cmark_grammar.specs.Places.{Place, Apart, BehindTitle, over_blank}
 use Rattle.cmark_grammar.specs.Columns.{indent}
 use Rattle.cmark_grammar.specs.Rows.{Row, rows, first_place, begin_of, start_of, past_of, without}
 use Rattle.cmark_grammar.specs.BlockQuoteKind.{BlockQuoteKind}
-use Rattle.cmark_grammar.specs.Containers.{Container, Quote, Item, Footnote, is_alert, unless_tag, enter, quote_width, footnote_width, one_blank, strips, is_bare_start, insides}
+use Rattle.cmark_grammar.specs.Containers.{Container, Quote, Item, Footnote, ListDefinition, is_alert, unless_tag, enter, quote_width, footnote_width, one_blank, strips, is_bare_start, insides}
 use Rattle.cmark_grammar.specs.Openings.{Leaf, ThematicBreak as ThematicBreakLeaf, AtxHeading as AtxHeadingLeaf, IndentedCode as IndentedCodeLeaf, FencedCode as FencedCodeLeaf, HtmlBlock as HtmlBlockLeaf, LinkDefinition as LinkDefinitionLeaf, MetadataBlock as MetadataBlockLeaf, Table as TableLeaf}
 use Rattle.cmark_grammar.specs.Blocks.{Blocks, Nil as NoBlocks, BlankLine, Paragraph as ParagraphBlock, SetextHeading, LeafBlock, ContainerBlock, behind_leaf, place_in, Body}
-use Rattle.cmark_grammar.specs.Lists.{ListBefore, tight_behind, goes_on}
+use Rattle.cmark_grammar.specs.Lists.{ListBefore, tight_behind, goes_on, definition_mark, is_title, title_tight_behind}
 use Rattle.cmark_grammar.specs.Tokens.{fenced_lines, paragraph_tokens, code_tokens, code_columns, lines_before}
-use Rattle.cmark_grammar.specs.BlockDocument.{ListItem, BlockNode, BlockDocument, Nil, Node, node}
-use Rattle.cmark_grammar.specs.Derivation.{task_then, leaf_then, item_then, document_of, Derives}
+use Rattle.cmark_grammar.specs.BlockDocument.{ListItem, BlockNode, BlockDocument, Nil, Node, node, BlockKind, DefinitionList, DefinitionListTitle, DefinitionListDefinition}
+use Rattle.cmark_grammar.specs.Derivation.{task_then, leaf_then, item_then, document_of, Derives, list_kind, paragraph_kind}
 use Rattle.cmark_grammar.specs.Ranges.{InOrder}
 use Rattle.cmark_grammar.specs.Metadata.{ends_metadata}
 use Rattle.cmark_grammar.specs.Leaves.{closes_fence}
@@ -22,6 +22,7 @@ use Rattle.cmark_grammar.proofs.RowPlaces.{drop-mono, Lies, begin-start, start-s
 use Rattle.cmark_grammar.proofs.TokenRanges.{InOrder-lower, InOrder-upper, paragraph-order, heading-order, code-order, code_place, indented-order, before-Along, html-order}
 use Rattle.cmark_grammar.specs.TaskItems.{behind_box}
 use Rattle.cmark_grammar.proofs.TaskLaws.{task-order}
+use Rattle.std.specs.Prelude.{if◌then◌else◌}
 
 -- what lines end at is not in front of the first line's end
 past-le : (first : Row) (more : List Row) → Along first.past more (past_of first more) → first.past ≤ past_of first more
@@ -70,10 +71,16 @@ leaf-order text options lookup from (TableLeaf alignments) first more after to h
         InOrder-lower first.past r.past (row_tokens text (length alignments) rs) (past_of first more) (let s = from-start first.past r b.0 in let p = start-past first.past r b.0 in omega (arith, s, p))
         (row_tokens-order text (length alignments) r.past rs (past_of first more) from-start b.1)
 
-item-order : (from : ℕ) (joins : Bool) (number : Option ℕ) (tight : Bool) (item : BlockNode) (inside after : BlockDocument) (to : ℕ) → from ≤ item.start → InOrder item.start inside item.end → InOrder item.end after to → InOrder from (item_then joins number tight item inside after) to
-item-order from false number tight item inside after to a i o = (a, (omega arith, i, omega arith), o)
-item-order from true number tight item inside Nil to a i o = (a, (omega arith, i, omega arith), o)
-item-order from true number tight item inside (Node list items after) to a i o = (a, (omega arith, i, InOrder-lower item.end list.start items list.end o.0 o.1), o.2)
+item-order : (from : ℕ) (joins : Bool) (list : BlockKind) (item : BlockNode) (inside after : BlockDocument) (to : ℕ) → from ≤ item.start → InOrder item.start inside item.end → InOrder item.end after to → InOrder from (item_then joins list item inside after) to
+item-order from false list item inside after to a i o = (a, (omega arith, i, omega arith), o)
+item-order from true list item inside Nil to a i o = (a, (omega arith, i, omega arith), o)
+item-order from true list item inside (Node others items after) to a i o = (a, (omega arith, i, InOrder-lower item.end others.start items others.end o.0 o.1), o.2)
+
+-- a paragraph, as a title or as itself
+title-order : (from : ℕ) (is_title : Bool) (list kind other : BlockKind) (start end : ℕ) (inside after behind : BlockDocument) (to : ℕ) → from ≤ start → InOrder start inside end → InOrder end after to → InOrder end behind to
+    → InOrder from (if is_title then item_then true list (node kind start end) inside after else Node (node other start end) inside behind) to
+title-order from true list kind other start end inside after behind to s i a b = item-order from true list (node kind start end) inside after to s i a
+title-order from false list kind other start end inside after behind to s i a b = (s, i, b)
 
 -- inside a container the lines stand behind its start
 enter-Lies : (k : Container) (from : ℕ) (r : Row) → Lies from r → Lies (begin_of r) (enter k r)
@@ -132,7 +139,12 @@ module _ (text : List ℕ) (options : Options) (lookup : Lookup) where
   document-order direct before behind from all (ParagraphBlock first more after) to body a =
       let c : Along from (first ∷ (more ++ body.rest)) to = subst (λ ls. Along from ls to) body.cut a in
       let s = Along-split first more body.rest to c.1 in
-      (from-start from first c.0, paragraph-order text from first more c.0 s.0, document-order direct None BehindTitle (past_of first more) body.rest after to body.after s.1)
+      let tight = title_tight_behind before after in
+      title-order from (is_title after) (DefinitionList tight) DefinitionListTitle (paragraph_kind direct) (start_of first) (past_of first more) (paragraph_tokens text first more)
+      (document_of text options lookup direct (Some (record { mark = definition_mark; tight = tight })) after) (document_of text options lookup direct None after) to
+      (from-start from first c.0) (paragraph-order text from first more c.0 s.0)
+      (document-order direct (Some (record { mark = definition_mark; tight = tight })) BehindTitle (past_of first more) body.rest after to body.after s.1)
+      (document-order direct None BehindTitle (past_of first more) body.rest after to body.after s.1)
   document-order direct before behind from all (SetextHeading level first more underline after) to body a =
       let c : Along from (first ∷ (more ++ (underline ∷ body.rest))) to = subst (λ ls. Along from ls to) body.cut a in
       let s = Along-split first more (underline ∷ body.rest) to c.1 in
@@ -165,7 +177,7 @@ module _ (text : List ℕ) (options : Options) (lookup : Lookup) where
       let c : Along from (first ∷ (more ++ body.rest)) to = subst (λ ls. Along from ls to) body.cut a in
       let s = Along-split first more body.rest to c.1 in
       let tight = tight_behind before mark inside after in
-      item-order from (goes_on mark after) number tight (node ListItem (begin_of first) (past_of first more)) (task_then task (begin_of (without width first)) (begin_of (without (behind_box task width) first)) (document_of text options lookup tight None inside)) (document_of text options lookup direct (Some (record { mark = mark; tight = tight })) after) to
+      item-order from (goes_on mark after) (list_kind mark number tight) (node ListItem (begin_of first) (past_of first more)) (task_then task (begin_of (without width first)) (begin_of (without (behind_box task width) first)) (document_of text options lookup tight None inside)) (document_of text options lookup direct (Some (record { mark = mark; tight = tight })) after) to
       c.0.0
       (task-order (begin_of first) task (begin_of (without width first)) (begin_of (without (behind_box task width) first)) (document_of text options lookup tight None inside) (past_of first more)
       (Lies-without width from first c.0).0 (drop-mono width (behind_box task width) (begin_of first) first.columns first.stop (box-wider task width) c.0.1)
@@ -173,6 +185,14 @@ module _ (text : List ℕ) (options : Options) (lookup : Lookup) where
       (document-order tight None (place_in (Item mark number width task)) (begin_of (without (behind_box task width) first)) (insides (Item mark number width task) first more) inside (past_of first more) body.contents
       (insides-Along (Item mark number width task) (begin_of (without (behind_box task width) first)) first more (past_of first more) (box-Lies mark number width task from first c.0) s.0)))
       (document-order direct (Some (record { mark = mark; tight = tight })) Apart (past_of first more) body.rest after to body.after s.1)
+  document-order direct before behind from all (ContainerBlock (ListDefinition width) first more inside after) to body a =
+      let c : Along from (first ∷ (more ++ body.rest)) to = subst (λ ls. Along from ls to) body.cut a in
+      let s = Along-split first more body.rest to c.1 in
+      let tight = tight_behind before definition_mark inside after in
+      item-order from (goes_on definition_mark after) (DefinitionList tight) (node DefinitionListDefinition (begin_of first) (past_of first more)) (document_of text options lookup tight None inside) (document_of text options lookup direct (Some (record { mark = definition_mark; tight = tight })) after) to
+      c.0.0
+      (document-order tight None (place_in (ListDefinition width)) (begin_of first) (insides (ListDefinition width) first more) inside (past_of first more) body.contents (insides-Along (ListDefinition width) (begin_of first) first more (past_of first more) (enter-Lies (ListDefinition width) from first c.0) s.0))
+      (document-order direct (Some (record { mark = definition_mark; tight = tight })) BehindTitle (past_of first more) body.rest after to body.after s.1)
 
 pub derived-order : (text : List ℕ) (options : Options) (lookup : Lookup) (d : BlockDocument) → Derives text options lookup d → InOrder 0 d (length text)
 derived-order text options lookup d h =

@@ -1,7 +1,6 @@
 -- Where a line begins and ends behind prefixes no character is cut: prefixes are ASCII.
-use Rattle.std.proofs.Common.{◌≡◌, ◌⊎◌, inl, inr, ⊎_elim, ℕ, zero, suc, ◌+◌, ◌-◌, ◌≤◌, ◌<◌, Bool, true, false, ◌==◌, ◌&&◌, ◌||◌, not, List, [], ◌∷◌, ◌++◌, length, drop, take_while, refl, sym, ap, ◌∙◌, subst, arith, Option, Some, None, true≢false, drop-drop}
-use Rattle.std.proofs.lemmas.List.Sums.{take_while-cons}
-use Rattle.std.specs.Prelude.{if◌then◌else◌, nat_le, nat_lt, cond}
+use Rattle.std.proofs.Common.{◌≡◌, ◌⊎◌, inl, inr, ⊎_elim, ℕ, zero, suc, ◌+◌, ◌-◌, ◌≤◌, ◌<◌, Bool, true, false, ◌==◌, ◌&&◌, ◌||◌, not, List, [], ◌∷◌, ◌++◌, length, drop, refl, sym, ap, ◌∙◌, subst, arith, Option, Some, None, true≢false, drop-drop}
+use Rattle.std.specs.Prelude.{if◌then◌else◌, nat_le, nat_lt}
 use Rattle.cmark_grammar.specs.Options.{Options}
 use Rattle.cmark_grammar.specs.Columns.{Column, is_blank_byte, is_blank, indent, without_indent, bytes_of}
 use Rattle.cmark_grammar.specs.Rows.{Row, without, first_place, begin_of, start_of, is_bare, is_blank_line, indent_of, words_of}
@@ -12,7 +11,7 @@ use Rattle.cmark_grammar.specs.LinkDefinitions.{Found, Defined, definition_in, b
 use Rattle.cmark_grammar.specs.Metadata.{metadata_kind, metadata_further, holds_metadata}
 use Rattle.cmark_grammar.specs.MetadataBlockKind.{MetadataBlockKind}
 use Rattle.cmark_grammar.specs.BlockQuoteKind.{BlockQuoteKind}
-use Rattle.cmark_grammar.specs.Containers.{marker_width, Container, Quote, Item, Footnote, Marker, is_bullet, is_digit, is_delimiter, digits, number_of, delimited, marker_of, behind_marker, padding, width_with, item_with, item_of, begins_with, is_quote, one_blank, quote_width, container_with, container_of, width_of, enter, keep_as, keeps, strip_as, strip, strips, footnote_width, footnote_with, footnote_of, footnote_or, with_task}
+use Rattle.cmark_grammar.specs.Containers.{marker_width, Container, Quote, Item, Footnote, ListDefinition, Marker, is_bullet, is_digit, is_delimiter, digits, number_of, delimited, marker_of, behind_marker, padding, width_with, item_with, item_of, begins_with, is_quote, one_blank, quote_width, container_with, container_of, width_of, enter, keep_as, keeps, strip_as, strip, strips, footnote_width, footnote_with, footnote_of, footnote_or, with_task}
 use Rattle.cmark_grammar.specs.Openings.{Leaf, ThematicBreak, AtxHeading, IndentedCode, FencedCode, HtmlBlock, LinkDefinition, MetadataBlock, Opening, Blank, Nests, Takes, Plain, or_else, nests_if, fenced_if, metadata_begun, html_if, break_if, heading_if, text_lines, defined_if, definition_of, leaf_of, whole_opens, opens, Table, table_if, text_of, begins_no_link}
 use Rattle.cmark_grammar.specs.Alignment.{Alignment}
 use Rattle.cmark_grammar.specs.TableRows.{table_head}
@@ -387,6 +386,11 @@ module _ (E : ℕ → Type 0) where
   pub leaf-front : (options : Options) (r : Row) (ahead : List Row) (leaf : Leaf) (n : ℕ) → opens options r ahead ≡ Takes leaf n → GoodRow r → LeafFront r leaf
   leaf-front options r ahead leaf n e g = subst (OpeningFront r) e (front_opens options r ahead g)
 
+  -- nor behind the marker of a definition
+  pub definition-good : (width : ℕ) (r : Row) → begins_with 58 (words_of r) ≡ true → width ≡ width_with 1 r → GoodRow r → GoodRow (enter (ListDefinition width) r)
+  unfolding enter
+  definition-good width r colon is g = subst (λ n. GoodRow (without n r)) (sym is) (without-good (width_with 1 r) r g (width-front 1 r g (begins-front 58 (words_of r) (omega arith) colon)))
+
   -- nor what its later lines have in front
   wide-good : (width : ℕ) (r s : Row) → GoodRow r → (if is_blank_line r || nat_le width (indent_of r) then Some (without width r) else None) ≡ Some s → GoodRow s
   wide-good width r s g e = go (is_blank_line r) (nat_le width (indent_of r)) refl refl e
@@ -415,6 +419,7 @@ module _ (E : ℕ → Type 0) where
       go false f = let p : r ≡ s = cc in subst GoodRow p g
   keep_as-good (Footnote label false size) r s g e = wide-good 4 r s g e
   keep_as-good (Item mark number width task) r s g e = wide-good width r s g e
+  keep_as-good (ListDefinition width) r s g e = wide-good width r s g e
 
   keeps-good : (k : Container) (bare : Bool) (r s : Row) → GoodRow r → keeps k bare r ≡ Some s → GoodRow s
   unfolding keeps

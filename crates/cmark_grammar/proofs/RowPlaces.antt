@@ -4,7 +4,7 @@ use Rattle.std.specs.Prelude.{if◌then◌else◌}
 use Rattle.cmark_grammar.specs.Lines.{lines, ends_line, onto, content}
 use Rattle.cmark_grammar.specs.Columns.{Column, tab, expand, tab_columns, to_tab_stop, indent, without_indent}
 use Rattle.cmark_grammar.specs.Rows.{Row, rows, rows_from, row_at, without, is_blank_line, indent_of, place, first_place, begin_of, start_of, past_of}
-use Rattle.cmark_grammar.specs.Containers.{Container, Quote, Item, Footnote, keeps, keep_as, strip_as, strip, strips, is_quote, quote_width}
+use Rattle.cmark_grammar.specs.Containers.{Container, Quote, Item, Footnote, ListDefinition, keeps, keep_as, strip_as, strip, strips, is_quote, quote_width}
 
 -- these columns stand one behind the other, from one place to another
 abbrev pub Runs : ℕ → List Column → ℕ → Type 0
@@ -113,6 +113,7 @@ kept_as-without (Footnote label true size) r s e = (0, go _ e)
     go false q = let p : r ≡ s = cc in p
 kept_as-without (Footnote label false size) r s e = (4, wide-without 4 r s e)
 kept_as-without (Item mark number width task) r s e = (width, wide-without width r s e)
+kept_as-without (ListDefinition width) r s e = (width, wide-without width r s e)
 
 pub kept-without : (k : Container) (bare : Bool) (r s : Row) → keeps k bare r ≡ Some s → (n : ℕ) × (without n r ≡ s)
 unfolding keeps

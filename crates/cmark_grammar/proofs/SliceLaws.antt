@@ -4,13 +4,13 @@ use Rattle.std.specs.Prelude.{if◌then◌else◌, nat_lt}
 use Rattle.cmark_grammar.specs.Answers.{Lookup}
 use Rattle.cmark_grammar.specs.Options.{Options}
 use Rattle.cmark_grammar.specs.Columns.{Column, is_blank_byte, drop_end}
-use Rattle.cmark_grammar.specs.Rows.{Row, first_place, begin_of, start_of, words_of, without}
-use Rattle.cmark_grammar.specs.Containers.{Quote, Item, Footnote}
+use Rattle.cmark_grammar.specs.Rows.{Row, first_place, begin_of, start_of, words_of, without, past_of}
+use Rattle.cmark_grammar.specs.Containers.{Quote, Item, Footnote, ListDefinition}
 use Rattle.cmark_grammar.specs.Openings.{Leaf, ThematicBreak as ThematicBreakLeaf, AtxHeading as AtxHeadingLeaf, IndentedCode as IndentedCodeLeaf, FencedCode as FencedCodeLeaf, HtmlBlock as HtmlBlockLeaf, LinkDefinition as LinkDefinitionLeaf, MetadataBlock as MetadataBlockLeaf, Table as TableLeaf}
 use Rattle.cmark_grammar.specs.Blocks.{Blocks, Nil as NoBlocks, BlankLine, Paragraph as ParagraphBlock, SetextHeading, LeafBlock, ContainerBlock}
-use Rattle.cmark_grammar.specs.Lists.{ListBefore, tight_behind, goes_on}
-use Rattle.cmark_grammar.specs.BlockDocument.{Text, OwnedText, Html, ListItem, BlockNode, BlockDocument, Nil, Node, node}
-use Rattle.cmark_grammar.specs.Derivation.{task_then, leaf_then, item_then, paragraph_kind, document_of, Derives}
+use Rattle.cmark_grammar.specs.Lists.{ListBefore, tight_behind, goes_on, definition_mark, is_title, title_tight_behind}
+use Rattle.cmark_grammar.specs.BlockDocument.{Text, OwnedText, Html, ListItem, BlockNode, BlockDocument, Nil, Node, node, BlockKind, DefinitionList, DefinitionListTitle, DefinitionListDefinition, BlockList}
+use Rattle.cmark_grammar.specs.Derivation.{task_then, leaf_then, item_then, paragraph_kind, document_of, Derives, list_kind}
 use Rattle.cmark_grammar.specs.Ranges.{IsSlice, HasSlices}
 use Rattle.cmark_grammar.specs.Tokens.{slice, Piece, texts_then, end_place, words_end, stretch_then, stretches, paragraph_tokens, behind_hashes, heading_columns, piece_if, plain_line, left_columns, spaces_if, verbatim_line, touches, merge, merge_all, code_columns, code_pieces, fenced_lines, html_then, html_tokens, lines_before}
 use Rattle.cmark_grammar.specs.Metadata.{ends_metadata}
@@ -148,10 +148,23 @@ module _ (text : List ℕ) where
   leaf-sliced options lookup (MetadataBlockLeaf kind) first more after a = (tt, texts-sliced (code_pieces text 0 (lines_before (ends_metadata kind) more)) Nil (code-sliced 0 (lines_before (ends_metadata kind) more)) tt, a)
   leaf-sliced options lookup (TableLeaf alignments) first more after a = (tt, (tt, row-sliced (length alignments) first, rows-sliced (length alignments) (drop 1 more)), a)
 
-  item-sliced : (joins : Bool) (number : Option ℕ) (tight : Bool) (item : BlockNode) (inside after : BlockDocument) → IsSlice text item.kind item.start item.end → HasSlices text inside → HasSlices text after → HasSlices text (item_then joins number tight item inside after)
-  item-sliced false number tight item inside after k i a = (tt, (k, i, tt), a)
-  item-sliced true number tight item inside Nil k i a = (tt, (k, i, tt), tt)
-  item-sliced true number tight item inside (Node list items after) k i a = (tt, (k, i, a.1), a.2)
+  list-slice : (mark : ℕ) (number : Option ℕ) (tight : Bool) (start end : ℕ) → IsSlice text (list_kind mark number tight) start end
+  list-slice mark number tight start end = go (mark == definition_mark)
+    where
+      go : (z : Bool) → IsSlice text (if z then DefinitionList tight else BlockList number tight) start end
+      go true = tt
+      go false = tt
+
+  item-sliced : (joins : Bool) (list : BlockKind) (item : BlockNode) (inside after : BlockDocument) → ((start end : ℕ) → IsSlice text list start end) → IsSlice text item.kind item.start item.end → HasSlices text inside → HasSlices text after → HasSlices text (item_then joins list item inside after)
+  item-sliced false list item inside after l k i a = (l _ _, (k, i, tt), a)
+  item-sliced true list item inside Nil l k i a = (l _ _, (k, i, tt), tt)
+  item-sliced true list item inside (Node others items after) l k i a = (l _ _, (k, i, a.1), a.2)
+
+  -- a paragraph, as a title or as itself
+  title-sliced : (is_title tight : Bool) (other : BlockKind) (start end : ℕ) (inside after behind : BlockDocument) → IsSlice text other start end → HasSlices text inside → HasSlices text after → HasSlices text behind
+      → HasSlices text (if is_title then item_then true (DefinitionList tight) (node DefinitionListTitle start end) inside after else Node (node other start end) inside behind)
+  title-sliced true tight other start end inside after behind k i a b = item-sliced true (DefinitionList tight) (node DefinitionListTitle start end) inside after (λ s e. tt) tt i a
+  title-sliced false tight other start end inside after behind k i a b = (k, i, b)
 
   paragraph-slice : (z : Bool) (start end : ℕ) → IsSlice text (paragraph_kind z) start end
   paragraph-slice true start end = tt
@@ -160,7 +173,11 @@ module _ (text : List ℕ) where
   document-sliced : (options : Options) (lookup : Lookup) (direct : Bool) (before : Option ListBefore) (b : Blocks) → HasSlices text (document_of text options lookup direct before b)
   document-sliced options lookup direct before NoBlocks = tt
   document-sliced options lookup direct before (BlankLine line after) = document-sliced options lookup direct before after
-  document-sliced options lookup direct before (ParagraphBlock first more after) = (paragraph-slice direct _ _, paragraph-sliced first more, document-sliced options lookup direct None after)
+  document-sliced options lookup direct before (ParagraphBlock first more after) =
+      let tight = title_tight_behind before after in
+      title-sliced (is_title after) tight (paragraph_kind direct) (start_of first) (past_of first more) (paragraph_tokens text first more)
+      (document_of text options lookup direct (Some (record { mark = definition_mark; tight = tight })) after) (document_of text options lookup direct None after)
+      (paragraph-slice direct _ _) (paragraph-sliced first more) (document-sliced options lookup direct (Some (record { mark = definition_mark; tight = tight })) after) (document-sliced options lookup direct None after)
   document-sliced options lookup direct before (SetextHeading level first more underline after) = (tt, paragraph-sliced first more, document-sliced options lookup direct None after)
   document-sliced options lookup direct before (LeafBlock leaf first more after) =
       leaf-sliced options lookup leaf first more (document_of text options lookup direct None after) (document-sliced options lookup direct None after)
@@ -170,8 +187,12 @@ module _ (text : List ℕ) where
       (tt, document-sliced options lookup false None inside, document-sliced options lookup direct None after)
   document-sliced options lookup direct before (ContainerBlock (Item mark number width task) first more inside after) =
       let tight = tight_behind before mark inside after in
-      item-sliced (goes_on mark after) number tight (node ListItem _ _) (task_then task (begin_of (without width first)) (begin_of (without (behind_box task width) first)) (document_of text options lookup tight None inside)) (document_of text options lookup direct (Some (record { mark = mark; tight = tight })) after) tt
+      item-sliced (goes_on mark after) (list_kind mark number tight) (node ListItem _ _) (task_then task (begin_of (without width first)) (begin_of (without (behind_box task width) first)) (document_of text options lookup tight None inside)) (document_of text options lookup direct (Some (record { mark = mark; tight = tight })) after) (list-slice mark number tight) tt
       (task-sliced text task _ _ (document_of text options lookup tight None inside) (document-sliced options lookup tight None inside)) (document-sliced options lookup direct (Some (record { mark = mark; tight = tight })) after)
+  document-sliced options lookup direct before (ContainerBlock (ListDefinition width) first more inside after) =
+      let tight = tight_behind before definition_mark inside after in
+      item-sliced (goes_on definition_mark after) (DefinitionList tight) (node DefinitionListDefinition _ _) (document_of text options lookup tight None inside) (document_of text options lookup direct (Some (record { mark = definition_mark; tight = tight })) after) (λ s e. tt) tt
+      (document-sliced options lookup tight None inside) (document-sliced options lookup direct (Some (record { mark = definition_mark; tight = tight })) after)
 
 pub derived-slices : (text : List ℕ) (options : Options) (lookup : Lookup) (d : BlockDocument) → Derives text options lookup d → HasSlices text d
 derived-slices text options lookup d h = subst (HasSlices text) (sym h.2) (document-sliced text options lookup false None h.0)

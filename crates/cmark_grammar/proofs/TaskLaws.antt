@@ -1,5 +1,5 @@
 -- What holds of the blocks of an item holds with its task marker.
-use Rattle.std.proofs.Common.{◌≡◌, ℕ, suc, ◌+◌, ◌≤◌, Bool, List, Option, Some, None, refl, arith}
+use Rattle.std.proofs.Common.{◌≡◌, ℕ, ◌+◌, ◌≤◌, Bool, List, Option, Some, None, refl, arith}
 use Rattle.cmark_grammar.specs.BlockDocument.{BlockDocument}
 use Rattle.cmark_grammar.specs.Derivation.{task_then}
 use Rattle.cmark_grammar.specs.Ranges.{InOrder, AllAt, HasSlices, count_nodes, count_tables}

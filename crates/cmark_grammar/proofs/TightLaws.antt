@@ -1,16 +1,16 @@
 -- Directly in an item of a tight list stands no paragraph of its own.
-use Rattle.std.proofs.Common.{◌≡◌, ℕ, zero, suc, ◌+◌, Bool, true, false, ◌==◌, List, [], ◌∷◌, length, drop, take_while, refl, sym, ap, ◌∙◌, subst, Option, Some, None, true≢false, arith}
+use Rattle.std.proofs.Common.{◌≡◌, ℕ, zero, suc, ◌+◌, Bool, true, false, ◌==◌, List, [], ◌∷◌, length, drop, take_while, refl, sym, ap, ◌∙◌, subst, Option, Some, None, true≢false, arith, ◌&&◌, not}
 use Rattle.std.specs.Prelude.{if◌then◌else◌}
 use Rattle.cmark_grammar.specs.Answers.{Lookup}
 use Rattle.cmark_grammar.specs.Options.{Options}
 use Rattle.cmark_grammar.specs.Rows.{Row, first_place, start_of, past_of, begin_of, words_of, without}
-use Rattle.cmark_grammar.specs.Containers.{Quote, Item, Footnote}
+use Rattle.cmark_grammar.specs.Containers.{Quote, Item, Footnote, ListDefinition}
 use Rattle.cmark_grammar.specs.Openings.{Leaf, ThematicBreak as ThematicBreakLeaf, AtxHeading as AtxHeadingLeaf, IndentedCode as IndentedCodeLeaf, FencedCode as FencedCodeLeaf, HtmlBlock as HtmlBlockLeaf, LinkDefinition as LinkDefinitionLeaf, MetadataBlock as MetadataBlockLeaf, Table as TableLeaf}
 use Rattle.cmark_grammar.specs.Blocks.{Blocks, Nil as NoBlocks, BlankLine, Paragraph as ParagraphBlock, SetextHeading, LeafBlock, ContainerBlock}
-use Rattle.cmark_grammar.specs.Lists.{ListBefore, tight_behind, goes_on, is_tight}
+use Rattle.cmark_grammar.specs.Lists.{ListBefore, tight_behind, goes_on, is_tight, definition_mark, is_title, title_tight_behind, loose_from}
 use Rattle.cmark_grammar.specs.Tokens.{Piece, end_place, piece_if, texts_then, words_end, stretch_then, stretches, paragraph_tokens, html_then, html_tokens, html_kind_of, verbatim_line, behind_hashes, heading_columns, code_pieces, fenced_lines, lines_before}
-use Rattle.cmark_grammar.specs.BlockDocument.{Text, OwnedText, BlockList, ListItem, BlockNode, BlockDocument, Nil, Node, node}
-use Rattle.cmark_grammar.specs.Derivation.{task_then, leaf_then, item_then, paragraph_kind, document_of, Derives}
+use Rattle.cmark_grammar.specs.BlockDocument.{Text, OwnedText, BlockList, ListItem, BlockNode, BlockDocument, Nil, Node, node, BlockKind, DefinitionList, DefinitionListTitle, DefinitionListDefinition}
+use Rattle.cmark_grammar.specs.Derivation.{task_then, leaf_then, item_then, paragraph_kind, document_of, Derives, list_kind}
 use Rattle.cmark_grammar.specs.Tightness.{tight_within, IsElement, HasTightParagraphs}
 use Rattle.cmark_grammar.specs.Metadata.{ends_metadata}
 use Rattle.cmark_grammar.specs.Columns.{is_blank_byte, drop_end}
@@ -89,9 +89,8 @@ module _ (text : List ℕ) (options : Options) (lookup : Lookup) where
     pub list : BlockNode
     pub items : BlockDocument
     pub after : BlockDocument
-    pub number : Option ℕ
     pub is : d ≡ Node list items after
-    pub kind : list.kind ≡ BlockList number tight
+    pub kind : (z : Bool) → tight_within z list.kind ≡ tight
 
   if_true : (b x y : Bool) → b ≡ true → (if b then x else y) ≡ x
   if_true b x y e = rw e refl
@@ -99,15 +98,43 @@ module _ (text : List ℕ) (options : Options) (lookup : Lookup) where
   eqb_sym : (a b : ℕ) → (a == b) ≡ true → (b == a) ≡ true
   eqb_sym a b e = grind (arith)
 
-  rest_of_item : (joins : Bool) (number : Option ℕ) (tight : Bool) (item : BlockNode) (inside after : BlockDocument) → Rest tight (item_then joins number tight item inside after)
-  rest_of_item false number tight item inside after = record { list = _; items = _; after = _; number = number; is = refl; kind = refl }
-  rest_of_item true number tight item inside Nil = record { list = _; items = _; after = _; number = number; is = refl; kind = refl }
-  rest_of_item true number tight item inside (Node list items after) = record { list = _; items = _; after = _; number = number; is = refl; kind = refl }
+  is_both : (a b : Bool) → (a && b) ≡ true → (a ≡ true) × (b ≡ true)
+  is_both true b e = (refl, e)
+  is_both false b e = absurd (true≢false (sym e))
+
+  list_within : (mark : ℕ) (number : Option ℕ) (tight z : Bool) → tight_within z (list_kind mark number tight) ≡ tight
+  list_within mark number tight z = go (mark == definition_mark)
+    where
+      go : (y : Bool) → tight_within z (if y then DefinitionList tight else BlockList number tight) ≡ tight
+      go true = refl
+      go false = refl
+
+  list_element : (mark : ℕ) (number : Option ℕ) (tight z : Bool) → IsElement z (list_kind mark number tight)
+  list_element mark number tight z = go (mark == definition_mark)
+    where
+      go : (y : Bool) → IsElement z (if y then DefinitionList tight else BlockList number tight)
+      go true = tt
+      go false = tt
+
+  rest_of_item : (joins : Bool) (list : BlockKind) (tight : Bool) (item : BlockNode) (inside after : BlockDocument) → ((z : Bool) → tight_within z list ≡ tight) → Rest tight (item_then joins list item inside after)
+  rest_of_item false list tight item inside after k = record { list = _; items = _; after = _; is = refl; kind = k }
+  rest_of_item true list tight item inside Nil k = record { list = _; items = _; after = _; is = refl; kind = k }
+  rest_of_item true list tight item inside (Node others items after) k = record { list = _; items = _; after = _; is = refl; kind = k }
 
   pub rest_of : (direct tight : Bool) (mark : ℕ) (b : Blocks) → goes_on mark b ≡ true → Rest tight (document_of text options lookup direct (Some (record { mark = mark; tight = tight })) b)
   rest_of direct tight mark NoBlocks e = absurd (true≢false (sym e))
   rest_of direct tight mark (BlankLine line after) e = rest_of direct tight mark after e
-  rest_of direct tight mark (ParagraphBlock first more after) e = absurd (true≢false (sym e))
+  rest_of direct tight mark (ParagraphBlock first more after) e =
+      let p = is_both (definition_mark == mark) (is_title after) e in
+      let t : title_tight_behind (Some (record { mark = mark; tight = tight })) after ≡ tight = if_true (mark == definition_mark) tight (not (loose_from definition_mark false after)) (eqb_sym definition_mark mark p.0) in
+      subst (Rest tight) (sym (ap (λ z. if z then title (title_tight_behind (Some (record { mark = mark; tight = tight })) after) else other) p.1))
+      (subst (λ z. Rest z (title (title_tight_behind (Some (record { mark = mark; tight = tight })) after))) t (rest_of_item true _ (title_tight_behind (Some (record { mark = mark; tight = tight })) after) _ _ _ (λ z. refl)))
+    where
+      title : Bool → BlockDocument
+      title t = item_then true (DefinitionList t) (node DefinitionListTitle (start_of first) (past_of first more)) (paragraph_tokens text first more) (document_of text options lookup direct (Some (record { mark = definition_mark; tight = t })) after)
+
+      other : BlockDocument
+      other = Node (node (paragraph_kind direct) (start_of first) (past_of first more)) (paragraph_tokens text first more) (document_of text options lookup direct None after)
   rest_of direct tight mark (SetextHeading level first more underline after) e = absurd (true≢false (sym e))
   rest_of direct tight mark (LeafBlock leaf first more after) e = absurd (true≢false (sym e))
   rest_of direct tight mark (ContainerBlock (Quote alert) first more inside after) e = absurd (true≢false (sym e))
@@ -115,32 +142,72 @@ module _ (text : List ℕ) (options : Options) (lookup : Lookup) where
   rest_of direct tight mark (ContainerBlock (Item m number width task) first more inside after) e =
       let t : tight_behind (Some (record { mark = mark; tight = tight })) m inside after ≡ tight = if_true (mark == m) tight (is_tight m inside after) (eqb_sym m mark e) in
       subst (λ z. Rest z (document_of text options lookup direct (Some (record { mark = mark; tight = tight })) (ContainerBlock (Item m number width task) first more inside after))) t
-      (rest_of_item (goes_on m after) number (tight_behind (Some (record { mark = mark; tight = tight })) m inside after) _ _ _)
+      (rest_of_item (goes_on m after) _ (tight_behind (Some (record { mark = mark; tight = tight })) m inside after) _ _ _ (list_within m number (tight_behind (Some (record { mark = mark; tight = tight })) m inside after)))
+  rest_of direct tight mark (ContainerBlock (ListDefinition width) first more inside after) e =
+      let t : tight_behind (Some (record { mark = mark; tight = tight })) definition_mark inside after ≡ tight = if_true (mark == definition_mark) tight (is_tight definition_mark inside after) (eqb_sym definition_mark mark e) in
+      subst (λ z. Rest z (document_of text options lookup direct (Some (record { mark = mark; tight = tight })) (ContainerBlock (ListDefinition width) first more inside after))) t
+      (rest_of_item (goes_on definition_mark after) _ (tight_behind (Some (record { mark = mark; tight = tight })) definition_mark inside after) _ _ _ (λ z. refl))
 
-  item_tight : (direct joins : Bool) (number : Option ℕ) (tight : Bool) (item : BlockNode) (inside after : BlockDocument) → item.kind ≡ ListItem → (joins ≡ true → Rest tight after) → HasTightParagraphs tight inside → HasTightParagraphs direct after → HasTightParagraphs direct (item_then joins number tight item inside after)
-  item_tight direct false number tight item inside after k rest i a = (tt, (subst (IsElement tight) (sym k) tt, subst (λ z. HasTightParagraphs (tight_within tight z) inside) (sym k) i, tt), a)
-  item_tight direct true number tight item inside Nil k rest i a = (tt, (subst (IsElement tight) (sym k) tt, subst (λ z. HasTightParagraphs (tight_within tight z) inside) (sym k) i, tt), tt)
-  item_tight direct true number tight item inside (Node list items after) k rest i a =
-      let r = rest refl in
-      let same : list ≡ r.list = let q = r.is in cc in
-      (tt, (subst (IsElement tight) (sym k) tt, subst (λ z. HasTightParagraphs (tight_within tight z) inside) (sym k) i, subst (λ z. HasTightParagraphs (tight_within direct z) items) (ap (λ l. l.kind) same ∙ r.kind) a.1), a.2)
+  item_tight : (direct joins : Bool) (list : BlockKind) (tight within : Bool) (item : BlockNode) (inside after : BlockDocument) → IsElement direct list → ((z : Bool) → tight_within z list ≡ tight) → IsElement tight item.kind → tight_within tight item.kind ≡ within
+      → (joins ≡ true → Rest tight after) → HasTightParagraphs within inside → HasTightParagraphs direct after → HasTightParagraphs direct (item_then joins list item inside after)
+  item_tight direct joins list tight within item inside after l t k w rest i a = go joins after rest a
+    where
+      own : HasTightParagraphs (tight_within tight item.kind) inside
+      own = subst (λ z. HasTightParagraphs z inside) (sym w) i
+
+      alone : HasTightParagraphs (tight_within direct list) (Node item inside Nil)
+      alone = subst (λ z. HasTightParagraphs z (Node item inside Nil)) (sym (t direct)) (k, own, tt)
+
+      go : (joins : Bool) (d : BlockDocument) → (joins ≡ true → Rest tight d) → HasTightParagraphs direct d → HasTightParagraphs direct (item_then joins list item inside d)
+      go false d r b = (l, alone, b)
+      go true Nil r b = (l, alone, tt)
+      go true (Node others items d) r b =
+          let q = r refl in
+          let same : others ≡ q.list = let p = q.is in cc in
+          (l, subst (λ z. HasTightParagraphs z (Node item inside items)) (sym (t direct)) (k, own, subst (λ z. HasTightParagraphs z items) (ap (λ x. tight_within direct x.kind) same ∙ q.kind direct) b.1), b.2)
+
+  -- a paragraph, as a title or as itself
+  title_tight : (is_title direct tight : Bool) (start end : ℕ) (inside after behind : BlockDocument) → (is_title ≡ true → Rest tight after) → HasTightParagraphs false inside → HasTightParagraphs direct after → HasTightParagraphs direct behind
+      → HasTightParagraphs direct (if is_title then item_then true (DefinitionList tight) (node DefinitionListTitle start end) inside after else Node (node (paragraph_kind direct) start end) inside behind)
+  title_tight true direct tight start end inside after behind rest i a b = item_tight direct true (DefinitionList tight) tight false (node DefinitionListTitle start end) inside after tt (λ z. refl) tt refl (λ e. rest refl) i a
+  title_tight false true tight start end inside after behind rest i a b = (refl, i, b)
+  title_tight false false tight start end inside after behind rest i a b = (refl, i, b)
+
+  -- a definition follows a title, and goes on with its list
+  pub title_goes_on : (b : Blocks) → is_title b ≡ true → goes_on definition_mark b ≡ true
+  title_goes_on NoBlocks e = e
+  title_goes_on (BlankLine line after) e = title_goes_on after e
+  title_goes_on (ParagraphBlock first more after) e = absurd (true≢false (sym e))
+  title_goes_on (SetextHeading level first more underline after) e = e
+  title_goes_on (LeafBlock leaf first more after) e = e
+  title_goes_on (ContainerBlock (Quote alert) first more inside after) e = e
+  title_goes_on (ContainerBlock (Footnote label old size) first more inside after) e = e
+  title_goes_on (ContainerBlock (Item mark number width task) first more inside after) e = absurd (true≢false (sym e))
+  title_goes_on (ContainerBlock (ListDefinition width) first more inside after) e = refl
 
   pub document-tight : (direct : Bool) (before : Option ListBefore) (b : Blocks) → HasTightParagraphs direct (document_of text options lookup direct before b)
   document-tight direct before NoBlocks = tt
   document-tight direct before (BlankLine line after) = document-tight direct before after
-  document-tight direct before (ParagraphBlock first more after) = kind direct (document-tight direct None after)
-    where
-      kind : (z : Bool) → HasTightParagraphs z (document_of text options lookup z None after) → HasTightParagraphs z (Node (node (paragraph_kind z) (start_of first) (past_of first more)) (paragraph_tokens text first more) (document_of text options lookup z None after))
-      kind true h = (refl, paragraph_tight false text first more, h)
-      kind false h = (refl, paragraph_tight false text first more, h)
+  document-tight direct before (ParagraphBlock first more after) =
+      let tight = title_tight_behind before after in
+      title_tight (is_title after) direct tight (start_of first) (past_of first more) (paragraph_tokens text first more)
+      (document_of text options lookup direct (Some (record { mark = definition_mark; tight = tight })) after) (document_of text options lookup direct None after)
+      (λ e. rest_of direct tight definition_mark after (title_goes_on after e)) (paragraph_tight false text first more)
+      (document-tight direct (Some (record { mark = definition_mark; tight = tight })) after) (document-tight direct None after)
   document-tight direct before (SetextHeading level first more underline after) = (tt, paragraph_tight false text first more, document-tight direct None after)
   document-tight direct before (LeafBlock leaf first more after) = leaf_tight text options lookup direct leaf first more (document_of text options lookup direct None after) (document-tight direct None after)
   document-tight direct before (ContainerBlock (Quote alert) first more inside after) = (tt, document-tight false None inside, document-tight direct None after)
   document-tight direct before (ContainerBlock (Footnote label old size) first more inside after) = (tt, document-tight false None inside, document-tight direct None after)
   document-tight direct before (ContainerBlock (Item mark number width task) first more inside after) =
       let tight = tight_behind before mark inside after in
-      item_tight direct (goes_on mark after) number tight (node ListItem (begin_of first) (past_of first more)) (task_then task (begin_of (without width first)) (begin_of (without (behind_box task width) first)) (document_of text options lookup tight None inside)) (document_of text options lookup direct (Some (record { mark = mark; tight = tight })) after) refl
+      item_tight direct (goes_on mark after) (list_kind mark number tight) tight tight (node ListItem (begin_of first) (past_of first more)) (task_then task (begin_of (without width first)) (begin_of (without (behind_box task width) first)) (document_of text options lookup tight None inside)) (document_of text options lookup direct (Some (record { mark = mark; tight = tight })) after)
+      (list_element mark number tight direct) (list_within mark number tight) tt refl
       (rest_of direct tight mark after) (task-tight tight task _ _ (document_of text options lookup tight None inside) (document-tight tight None inside)) (document-tight direct (Some (record { mark = mark; tight = tight })) after)
+  document-tight direct before (ContainerBlock (ListDefinition width) first more inside after) =
+      let tight = tight_behind before definition_mark inside after in
+      item_tight direct (goes_on definition_mark after) (DefinitionList tight) tight tight (node DefinitionListDefinition (begin_of first) (past_of first more)) (document_of text options lookup tight None inside) (document_of text options lookup direct (Some (record { mark = definition_mark; tight = tight })) after)
+      tt (λ z. refl) tt refl
+      (rest_of direct tight definition_mark after) (document-tight tight None inside) (document-tight direct (Some (record { mark = definition_mark; tight = tight })) after)
 
 pub derived-tight : (text : List ℕ) (options : Options) (lookup : Lookup) (d : BlockDocument) → Derives text options lookup d → HasTightParagraphs false d
 derived-tight text options lookup d h = subst (HasTightParagraphs false) (sym h.2) (document-tight text options lookup false None h.0)

@@ -15,7 +15,7 @@ pub record Reference : Type 0 where
 
 -- what a node is. A paragraph that stands directly in an item of a tight list is no element of its own; a heading has
 -- its attributes, a block quote its kind, if it is an alert, a list the number of its first item, if it is ordered, a table
--- the alignments of its columns, a footnote definition its label's normal form. A text and an HTML line stand as they are in the text; an
+-- the alignments of its columns, a footnote definition its label's normal form, a definition list whether it is tight. A text and an HTML line stand as they are in the text; an
 -- owned text is the spaces that are left of a tab. The texts of a
 -- paragraph or heading are raw, with their line endings: what they say is for the inline pass to read. A task marker stands before the
 -- paragraph or heading that it belongs to (GFM 5.3)
@@ -38,6 +38,9 @@ pub data BlockKind : Type 0 where
   ListItem : BlockKind
   TaskMarker : (is_checked : Bool) → BlockKind
   FootnoteDefinition : (label : List ℕ) → BlockKind
+  DefinitionList : (tight : Bool) → BlockKind
+  DefinitionListTitle : BlockKind
+  DefinitionListDefinition : BlockKind
   Text : (bytes : List ℕ) → BlockKind
   OwnedText : (bytes : List ℕ) → BlockKind
   Html : (bytes : List ℕ) → BlockKind

@@ -1,12 +1,12 @@
 -- The events of a document of blocks, in preorder: each with the range of its node.
-use Rattle.std.specs.Prelude.{Bool, true, false, List, [], ◌∷◌, ◌++◌, Option, Some, None}
+use Rattle.std.specs.Prelude.{ℕ, zero, suc, Bool, true, false, if◌then◌else◌, List, [], ◌∷◌, ◌++◌, Option, Some, None}
 use Rattle.cmark_grammar.specs.Tag as tag
 use Rattle.cmark_grammar.specs.Tag.{Tag}
 use Rattle.cmark_grammar.specs.CodeBlockKind.{Indented, Fenced}
 use Rattle.cmark_grammar.specs.TagEnd.{end_of}
 use Rattle.cmark_grammar.specs.Event as event
 use Rattle.cmark_grammar.specs.Event.{Event, Start, End, Rule, TaskListMarker, Ranged}
-use Rattle.cmark_grammar.specs.BlockDocument.{BlockKind, Paragraph, TightParagraph, Heading, ThematicBreak, IndentedCode, FencedCode, HtmlBlock, LinkDefinition, MetadataBlock, BlockQuote, BlockList, ListItem, TaskMarker, FootnoteDefinition, Text, OwnedText, Html, BlockNode, BlockDocument, Nil, Node, Table, TableHead, TableRow, TableCell}
+use Rattle.cmark_grammar.specs.BlockDocument.{BlockKind, Paragraph, TightParagraph, Heading, ThematicBreak, IndentedCode, FencedCode, HtmlBlock, LinkDefinition, MetadataBlock, BlockQuote, BlockList, ListItem, TaskMarker, FootnoteDefinition, DefinitionList, DefinitionListTitle, DefinitionListDefinition, Text, OwnedText, Html, BlockNode, BlockDocument, Nil, Node, Table, TableHead, TableRow, TableCell}
 
 -- how a node is read: as an element around what is inside it, as what is inside it alone, as one event, as one that stands first in what is
 -- read behind it, or not at all
@@ -18,7 +18,7 @@ pub data Reads : Type 0 where
   Silent : Reads
 
 -- a paragraph of a tight list is read as what is inside it (CommonMark 5.3), a link reference definition not at all
--- (CommonMark 4.7), and a task marker as the first event of its paragraph or heading (GFM 5.3)
+-- (CommonMark 4.7), and a task marker as the first event of its paragraph, heading or title (GFM 5.3)
 abbrev pub read_as : BlockKind → Reads
 read_as Paragraph = Around tag.Paragraph
 read_as TightParagraph = Inside
@@ -35,6 +35,9 @@ read_as TableRow = Around tag.TableRow
 read_as TableCell = Around tag.TableCell
 read_as (BlockQuote alert) = Around (tag.BlockQuote alert)
 read_as (FootnoteDefinition label) = Around (tag.FootnoteDefinition label)
+read_as (DefinitionList tight) = Around tag.DefinitionList
+read_as DefinitionListTitle = Around tag.DefinitionListTitle
+read_as DefinitionListDefinition = Around tag.DefinitionListDefinition
 read_as (BlockList number tight) = Around (tag.Listing number)
 read_as ListItem = Around tag.ListItem
 read_as (TaskMarker is_checked) = First (TaskListMarker is_checked)
@@ -56,38 +59,62 @@ abbrev pub first_event : Reads → Option Event
 first_event (First event) = Some event
 first_event _ = None
 
--- paragraphs, headings and the cells of tables are leaves that are read; all other text, as that of code and of HTML blocks, stands as
+-- paragraphs, headings, titles of definitions and the cells of tables are leaves that are read; all other text, as that of code and of HTML blocks, stands as
 -- it is
 abbrev pub is_leaf : BlockKind → Bool
 is_leaf Paragraph = true
 is_leaf TightParagraph = true
 is_leaf (Heading level attributes) = true
 is_leaf TableCell = true
+is_leaf DefinitionListTitle = true
 is_leaf _ = false
 
--- the next node that is read is a leaf, and an element around its text: a paragraph or a heading
-abbrev pub begins_as : (leaf : Bool) → Reads → (other : Bool) → Bool
-begins_as leaf (Around tag) other = leaf
-begins_as leaf Inside other = false
-begins_as leaf (Alone event) other = false
-begins_as leaf (First event) other = false
-begins_as leaf Silent other = other
+abbrev pub is_title : BlockKind → Bool
+is_title DefinitionListTitle = true
+is_title _ = false
 
-abbrev pub begins_element : BlockDocument → Bool
-begins_element Nil = false
-begins_element (Node node inside after) = begins_as (is_leaf node.kind) (read_as node.kind) (begins_element after)
+-- the next node that is read is a title
+abbrev pub title_as : (is_title : Bool) → Reads → (other : Bool) → Bool
+title_as is_title (Around tag) other = is_title
+title_as is_title Inside other = false
+title_as is_title (Alone event) other = false
+title_as is_title (First event) other = false
+title_as is_title Silent other = other
 
--- an event stands first in the paragraph or heading that begins behind it; where none does, as in a tight list, before what is read there
-abbrev pub first_in : (element : Bool) → Ranged → List Ranged → List Ranged
-first_in true event (r ∷ others) = r ∷ (event ∷ others)
-first_in true event [] = event ∷ []
-first_in false event others = event ∷ others
+abbrev pub begins_title : BlockDocument → Bool
+begins_title Nil = false
+begins_title (Node node inside after) = title_as (is_title node.kind) (read_as node.kind) (begins_title after)
 
-abbrev pub with_first : Option Event → (element : Bool) → BlockNode → List Ranged → List Ranged
-with_first None element node others = others
-with_first (Some event) element node others = first_in element (over node event) others
+-- how many starts stand before the text with which a node of this kind begins, which is an element: one in a paragraph, a heading or a title, and
+-- two in a definition list that begins with a title
+abbrev pub starts_of : BlockKind → (titled : Bool) → ℕ
+starts_of (DefinitionList tight) titled = if titled then 2 else 1
+starts_of kind titled = if is_leaf kind then 1 else 0
+
+-- the same of the next node that is read
+abbrev pub starts_as : (starts : ℕ) → Reads → (other : ℕ) → ℕ
+starts_as starts (Around tag) other = starts
+starts_as starts Inside other = 0
+starts_as starts (Alone event) other = 0
+starts_as starts (First event) other = 0
+starts_as starts Silent other = other
+
+abbrev pub starts_before : BlockDocument → ℕ
+starts_before Nil = 0
+starts_before (Node node inside after) = starts_as (starts_of node.kind (begins_title inside)) (read_as node.kind) (starts_before after)
+
+-- an event stands first in the paragraph, heading or title that begins behind it, behind so many starts; where none does, as in a tight list,
+-- before what is read there
+abbrev pub first_in : (starts : ℕ) → Ranged → List Ranged → List Ranged
+first_in zero event others = event ∷ others
+first_in (suc starts) event [] = event ∷ []
+first_in (suc starts) event (r ∷ others) = r ∷ first_in starts event others
+
+abbrev pub with_first : Option Event → (starts : ℕ) → BlockNode → List Ranged → List Ranged
+with_first None starts node others = others
+with_first (Some event) starts node others = first_in starts (over node event) others
 
 abbrev pub block_reading : BlockDocument → List Ranged
 block_reading Nil = []
 block_reading (Node node inside after) =
-    with_first (first_event (read_as node.kind)) (begins_element after) node (node_events (read_as node.kind) node (block_reading inside) ++ block_reading after)
+    with_first (first_event (read_as node.kind)) (starts_before after) node (node_events (read_as node.kind) node (block_reading inside) ++ block_reading after)

@@ -2,7 +2,7 @@
 use Rattle.std.specs.Prelude.{◌≡◌, ◌⊎◌, ℕ, Bool, true, false, List, [], ◌∷◌, ◌++◌, length, Some, None}
 use Rattle.cmark_grammar.specs.Rows.{Row, shown}
 use Rattle.cmark_grammar.specs.Leaves.{underlines}
-use Rattle.cmark_grammar.specs.Containers.{Container, Quote, Item, Footnote, keeps, is_bare_start, bare_after, insides}
+use Rattle.cmark_grammar.specs.Containers.{Container, Quote, Item, Footnote, ListDefinition, keeps, is_bare_start, bare_after, insides}
 use Rattle.cmark_grammar.specs.Openings.{Leaf, ThematicBreak, AtxHeading, IndentedCode, FencedCode, HtmlBlock, LinkDefinition, MetadataBlock, Blank, Nests, Takes, Plain, opens_at, texts, lazily, Table}
 use Rattle.cmark_grammar.specs.Options.{Options}
 use Rattle.cmark_grammar.specs.Places.{Place, Apart, BehindLazy, BehindTask, BehindTitle, allows_lazy, over_blank}
@@ -44,10 +44,14 @@ place_in (Quote (Some kind)) = BehindLazy
 place_in (Item mark number width None) = Apart
 place_in (Item mark number width (Some is_checked)) = BehindTask
 place_in (Footnote label old size) = Apart
+place_in (ListDefinition width) = Apart
 
--- where a line stands behind such a container
+-- where a line stands behind such a container: behind a definition another one may begin
 abbrev pub behind_container : Container → Place
-behind_container k = Apart
+behind_container (Quote alert) = Apart
+behind_container (Item mark number width task) = Apart
+behind_container (Footnote label old size) = Apart
+behind_container (ListDefinition width) = BehindTitle
 
 -- whether a lazy line may stand behind these blocks: whether their last line lies in a paragraph, or in a leaf behind
 -- which a lazy line may begin one, or is an alert's tag. So: what holds where there is no block

@@ -11,12 +11,14 @@ use Rattle.cmark_grammar.specs.Options.{Options}
 use Rattle.cmark_grammar.specs.TaskItems.{task_in, behind_box}
 
 -- a block quote, with its kind if it is an alert; a list item: its character (the bullet, or what stands behind the number), its number if it is
--- ordered, the width of the prefix that its later lines have, and whether its box is checked, if it has a task marker (GFM 5.3); or a footnote definition: the bytes of its label, whether it is read as such
--- definitions were before, and how many columns its marker has, from `[^` to the colon (this profile's own)
+-- ordered, the width of the prefix that its later lines have, and whether its box is checked, if it has a task marker (GFM 5.3); a footnote definition: the bytes of its label, whether it is read as such
+-- definitions were before, and how many columns its marker has, from `[^` to the colon (this profile's own); or a definition of a definition list, with the width that
+-- its later lines have (this profile's own)
 pub data Container : Type 0 where
   Quote : (alert : Option BlockQuoteKind) → Container
   Item : (mark : ℕ) → (number : Option ℕ) → (width : ℕ) → (task : Option Bool) → Container
   Footnote : (label : List ℕ) → (old : Bool) → (size : ℕ) → Container
+  ListDefinition : (width : ℕ) → Container
 
 abbrev pub is_bullet : ℕ → Bool
 is_bullet b = (b == 45) || ((b == 43) || (b == 42))
@@ -111,6 +113,7 @@ with_task options r None = None
 with_task options r (Some (Quote alert)) = Some (Quote alert)
 with_task options r (Some (Item mark number width task)) = Some (Item mark number width (task_in options (without width r)))
 with_task options r (Some (Footnote label old size)) = Some (Footnote label old size)
+with_task options r (Some (ListDefinition width)) = Some (ListDefinition width)
 
 abbrev pub container_of : Options → Row → Option Container
 container_of options r = footnote_or (footnote_of (footnotes_in options) r) (container_with (with_task options r (item_of r)) (is_quote r) (alert_in options (without (quote_width r) r)))
@@ -120,6 +123,7 @@ is_alert (Quote None) = false
 is_alert (Quote (Some kind)) = true
 is_alert (Item mark number width task) = false
 is_alert (Footnote label old size) = false
+is_alert (ListDefinition width) = false
 
 -- the indent, the marker of a footnote definition and all blanks behind it
 abbrev pub footnote_width : (size : ℕ) → Row → ℕ
@@ -130,11 +134,13 @@ abbrev pub marker_width : Container → Row → ℕ
 marker_width (Quote alert) r = quote_width r
 marker_width (Item mark number width task) r = width
 marker_width (Footnote label old size) r = footnote_width size r
+marker_width (ListDefinition width) r = width
 
 abbrev pub width_of : Container → Row → ℕ
 width_of (Quote alert) r = quote_width r
 width_of (Item mark number width task) r = behind_box task width
 width_of (Footnote label old size) r = footnote_width size r
+width_of (ListDefinition width) r = width
 
 -- a container's first line, behind the marker, and behind an item's task marker
 unfoldable pub enter : Container → Row → Row
@@ -150,15 +156,17 @@ abbrev pub keep_as : Container → Row → Option Row
 keep_as (Quote alert) r = if is_quote r then Some (without (quote_width r) r) else None
 keep_as (Item mark number width task) r = if is_blank_line r || nat_le width (indent_of r) then Some (without width r) else None
 keep_as (Footnote label old size) r = keep_footnote old r
+keep_as (ListDefinition width) r = if is_blank_line r || nat_le width (indent_of r) then Some (without width r) else None
 
--- an item whose first line is blank behind the marker
+-- an item or a definition whose first line is blank behind the marker
 abbrev pub is_bare_start : Container → Row → Bool
 is_bare_start (Quote alert) first = false
 is_bare_start (Item mark number width task) first = is_blank_line (enter (Item mark number width task) first)
 is_bare_start (Footnote label old size) first = false
+is_bare_start (ListDefinition width) first = is_blank_line (enter (ListDefinition width) first)
 
 -- a later line behind the container's prefix, if it has the prefix. Bare: the line before was the blank first line of an
--- item; then a blank line ends the item (CommonMark 5.2)
+-- item or of a definition; then a blank line ends it (CommonMark 5.2)
 unfoldable pub keeps : Container → (bare : Bool) → Row → Option Row
 keeps k bare r = if r.lazy || (bare && is_blank_line r) then None else keep_as k r
 

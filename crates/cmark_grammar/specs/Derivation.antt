@@ -1,6 +1,6 @@
 -- Which documents a text derives, by the block grammar: its lines are blocks, their lists are found and the text of their
 -- leaves is read.
-use Rattle.std.specs.Prelude.{◌≡◌, ℕ, ◌+◌, Bool, true, false, if◌then◌else◌, List, [], ◌∷◌, length, Option, Some, None}
+use Rattle.std.specs.Prelude.{◌≡◌, ℕ, Bool, true, false, ◌==◌, if◌then◌else◌, List, [], ◌∷◌, length, Option, Some, None}
 use Rattle.cmark_grammar.specs.Answers.{Lookup}
 use Rattle.cmark_grammar.specs.Attributes.{no_attributes}
 use Rattle.cmark_grammar.specs.Options.{Options}
@@ -9,13 +9,13 @@ use Rattle.cmark_grammar.specs.Rows.{Row, rows, without, first_place, begin_of, 
 use Rattle.cmark_grammar.specs.Labels.{normal_form}
 use Rattle.cmark_grammar.specs.LinkDefinitions.{Definition}
 use Rattle.cmark_grammar.specs.Metadata.{ends_metadata}
-use Rattle.cmark_grammar.specs.Containers.{Quote, Item, Footnote}
+use Rattle.cmark_grammar.specs.Containers.{Quote, Item, Footnote, ListDefinition}
 use Rattle.cmark_grammar.specs.Openings.{Leaf, ThematicBreak as ThematicBreakLeaf, AtxHeading as AtxHeadingLeaf, IndentedCode as IndentedCodeLeaf, FencedCode as FencedCodeLeaf, HtmlBlock as HtmlBlockLeaf, LinkDefinition as LinkDefinitionLeaf, MetadataBlock as MetadataBlockLeaf, Table as TableLeaf}
 use Rattle.cmark_grammar.specs.Blocks.{Blocks, Nil as NoBlocks, BlankLine, Paragraph as ParagraphBlock, SetextHeading, LeafBlock, ContainerBlock, Body}
 use Rattle.cmark_grammar.specs.BlocksModel.{blocks}
-use Rattle.cmark_grammar.specs.Lists.{ListBefore, tight_behind, goes_on}
+use Rattle.cmark_grammar.specs.Lists.{ListBefore, definition_mark, is_title, tight_behind, title_tight_behind, goes_on}
 use Rattle.cmark_grammar.specs.Tokens.{resolved, title_lines, paragraph_tokens, heading_tokens, heading_attributes, code_tokens, lines_before, fenced_lines, html_tokens, code_columns}
-use Rattle.cmark_grammar.specs.BlockDocument.{Reference, BlockKind, Paragraph, TightParagraph, Heading, ThematicBreak, IndentedCode, FencedCode, HtmlBlock, LinkDefinition, MetadataBlock, BlockQuote, BlockList, ListItem, TaskMarker, FootnoteDefinition, BlockNode, BlockDocument, Nil, Node, node, Table}
+use Rattle.cmark_grammar.specs.BlockDocument.{Reference, BlockKind, Paragraph, TightParagraph, Heading, ThematicBreak, IndentedCode, FencedCode, HtmlBlock, LinkDefinition, MetadataBlock, BlockQuote, BlockList, ListItem, TaskMarker, FootnoteDefinition, DefinitionList, DefinitionListTitle, DefinitionListDefinition, BlockNode, BlockDocument, Nil, Node, node, Table}
 use Rattle.cmark_grammar.specs.TableTokens.{table_tokens}
 use Rattle.cmark_grammar.specs.TaskItems.{behind_box}
 
@@ -55,14 +55,18 @@ leaf_then text options lookup (MetadataBlockLeaf kind) first more after =
 leaf_then text options lookup (TableLeaf alignments) first more after =
     Node (node (Table alignments) (start_of first) (past_of first more)) (table_tokens text (length alignments) first more) after
 
--- an item before others of its list, or alone in its list
-abbrev pub new_list : Option ℕ → (tight : Bool) → BlockNode → (inside after : BlockDocument) → BlockDocument
-new_list number tight item inside after = Node (node (BlockList number tight) item.start item.end) (Node item inside Nil) after
+-- a list of the items with this character; where it is that of definitions, a definition list
+abbrev pub list_kind : (mark : ℕ) → Option ℕ → (tight : Bool) → BlockKind
+list_kind mark number tight = if mark == definition_mark then DefinitionList tight else BlockList number tight
 
-abbrev pub item_then : (joins : Bool) → Option ℕ → (tight : Bool) → BlockNode → (inside after : BlockDocument) → BlockDocument
-item_then false number tight item inside after = new_list number tight item inside after
-item_then true number tight item inside Nil = new_list number tight item inside Nil
-item_then true number tight item inside (Node list items after) = Node (node (BlockList number tight) item.start list.end) (Node item inside items) after
+-- an item, a title or a definition before others of its list, or alone in its list
+abbrev pub new_list : (list : BlockKind) → BlockNode → (inside after : BlockDocument) → BlockDocument
+new_list list item inside after = Node (node list item.start item.end) (Node item inside Nil) after
+
+abbrev pub item_then : (joins : Bool) → (list : BlockKind) → BlockNode → (inside after : BlockDocument) → BlockDocument
+item_then false list item inside after = new_list list item inside after
+item_then true list item inside Nil = new_list list item inside Nil
+item_then true list item inside (Node others items after) = Node (node list item.start others.end) (Node item inside items) after
 
 -- a task marker, if an item has one, whose box stands between these places, before what else is inside the item
 abbrev pub task_then : Option Bool → (start end : ℕ) → BlockDocument → BlockDocument
@@ -72,13 +76,18 @@ task_then (Some is_checked) start end inside = Node (node (TaskMarker is_checked
 abbrev pub paragraph_kind : (direct : Bool) → BlockKind
 paragraph_kind direct = if direct then TightParagraph else Paragraph
 
--- the document of blocks. Direct: they stand directly in an item of a tight list; list: that of the item before. A block
--- quote and a footnote definition run from their marker, an item from the indent before it, to behind its last line
+-- the document of blocks. Direct: they stand directly in an item or a definition of a tight list; list: that of the item, title or definition
+-- before. A block quote and a footnote definition run from their marker, an item and a definition from the indent before it, to behind its last
+-- line. A paragraph before a definition is a title, and the first in its list where none stands before (this profile's own)
 abbrev pub document_of : List ℕ → Options → Lookup → (direct : Bool) → (list : Option ListBefore) → Blocks → BlockDocument
 document_of text options lookup direct list NoBlocks = Nil
 document_of text options lookup direct list (BlankLine line after) = document_of text options lookup direct list after
 document_of text options lookup direct list (ParagraphBlock first more after) =
-    Node (node (paragraph_kind direct) (start_of first) (past_of first more)) (paragraph_tokens text first more) (document_of text options lookup direct None after)
+    if is_title after then
+    (let tight = title_tight_behind list after in
+    item_then true (DefinitionList tight) (node DefinitionListTitle (start_of first) (past_of first more)) (paragraph_tokens text first more)
+    (document_of text options lookup direct (Some (record { mark = definition_mark; tight = tight })) after))
+    else Node (node (paragraph_kind direct) (start_of first) (past_of first more)) (paragraph_tokens text first more) (document_of text options lookup direct None after)
 document_of text options lookup direct list (SetextHeading level first more underline after) =
     Node (node (Heading level no_attributes) (start_of first) underline.past) (paragraph_tokens text first more) (document_of text options lookup direct None after)
 document_of text options lookup direct list (LeafBlock leaf first more after) = leaf_then text options lookup leaf first more (document_of text options lookup direct None after)
@@ -88,9 +97,14 @@ document_of text options lookup direct list (ContainerBlock (Footnote label old 
     Node (node (FootnoteDefinition (normal_form label)) (start_of first) (past_of first more)) (document_of text options lookup false None inside) (document_of text options lookup direct None after)
 document_of text options lookup direct list (ContainerBlock (Item mark number width task) first more inside after) =
     let tight = tight_behind list mark inside after in
-    item_then (goes_on mark after) number tight (node ListItem (begin_of first) (past_of first more))
+    item_then (goes_on mark after) (list_kind mark number tight) (node ListItem (begin_of first) (past_of first more))
     (task_then task (begin_of (without width first)) (begin_of (without (behind_box task width) first)) (document_of text options lookup tight None inside))
     (document_of text options lookup direct (Some (record { mark = mark; tight = tight })) after)
+document_of text options lookup direct list (ContainerBlock (ListDefinition width) first more inside after) =
+    let tight = tight_behind list definition_mark inside after in
+    item_then (goes_on definition_mark after) (DefinitionList tight) (node DefinitionListDefinition (begin_of first) (past_of first more))
+    (document_of text options lookup tight None inside)
+    (document_of text options lookup direct (Some (record { mark = definition_mark; tight = tight })) after)
 
 -- the text derives the document
 abbrev pub Derives : List ℕ → Options → Lookup → BlockDocument → Type 0

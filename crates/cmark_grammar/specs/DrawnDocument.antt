@@ -1,7 +1,7 @@
 -- A document as a tree keeps it, and how much of it is read: link reference definitions stand in a table of their own, and whether
 -- a paragraph stands directly in an item of a tight list is seen from the list around it.
 use Rattle.std.specs.Prelude.{Bool, true, false, if◌then◌else◌}
-use Rattle.cmark_grammar.specs.BlockDocument.{BlockKind, Paragraph, TightParagraph, Heading, ThematicBreak, IndentedCode, FencedCode, HtmlBlock, LinkDefinition, MetadataBlock, BlockQuote, BlockList, ListItem, TaskMarker, FootnoteDefinition, Text, OwnedText, Html, BlockNode, BlockDocument, Nil, Node, Table, TableHead, TableRow, TableCell}
+use Rattle.cmark_grammar.specs.BlockDocument.{BlockKind, Paragraph, TightParagraph, Heading, ThematicBreak, IndentedCode, FencedCode, HtmlBlock, LinkDefinition, MetadataBlock, BlockQuote, BlockList, ListItem, TaskMarker, FootnoteDefinition, DefinitionList, DefinitionListTitle, DefinitionListDefinition, Text, OwnedText, Html, BlockNode, BlockDocument, Nil, Node, Table, TableHead, TableRow, TableCell}
 use Rattle.cmark_grammar.specs.Tightness.{tight_within}
 
 abbrev pub is_definition : BlockKind → Bool
@@ -20,6 +20,9 @@ is_definition TableRow = false
 is_definition TableCell = false
 is_definition (BlockQuote alert) = false
 is_definition (FootnoteDefinition label) = false
+is_definition (DefinitionList tight) = false
+is_definition DefinitionListTitle = false
+is_definition DefinitionListDefinition = false
 is_definition (BlockList number tight) = false
 is_definition ListItem = false
 is_definition (TaskMarker is_checked) = false
@@ -37,7 +40,7 @@ without_definitions Nil = Nil
 without_definitions (Node node inside after) =
     node_unless (is_definition node.kind) node (without_definitions inside) (without_definitions after)
 
--- a paragraph, where it stands directly in an item of a tight list or does not
+-- a paragraph, where it stands directly in an item or a definition of a tight list or does not
 abbrev pub kind_within : (tight : Bool) → BlockKind → BlockKind
 kind_within tight Paragraph = if tight then TightParagraph else Paragraph
 kind_within tight TightParagraph = TightParagraph
@@ -54,6 +57,9 @@ kind_within tight TableRow = TableRow
 kind_within tight TableCell = TableCell
 kind_within tight (BlockQuote alert) = BlockQuote alert
 kind_within tight (FootnoteDefinition label) = FootnoteDefinition label
+kind_within tight (DefinitionList t) = DefinitionList t
+kind_within tight DefinitionListTitle = DefinitionListTitle
+kind_within tight DefinitionListDefinition = DefinitionListDefinition
 kind_within tight (BlockList number t) = BlockList number t
 kind_within tight ListItem = ListItem
 kind_within tight (TaskMarker is_checked) = TaskMarker is_checked
@@ -61,7 +67,7 @@ kind_within tight (Text bytes) = Text bytes
 kind_within tight (OwnedText bytes) = OwnedText bytes
 kind_within tight (Html bytes) = Html bytes
 
--- the paragraphs that stand directly in items of tight lists are no elements of their own (CommonMark 5.3)
+-- the paragraphs that stand directly in items or definitions of tight lists are no elements of their own (CommonMark 5.3)
 abbrev pub settled : (tight : Bool) → BlockDocument → BlockDocument
 settled tight Nil = Nil
 settled tight (Node node inside after) =

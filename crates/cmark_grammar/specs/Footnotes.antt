@@ -1,5 +1,5 @@
 -- The markers of footnote definitions: `[^`, a label on one line, and `]:` (this profile's own, as GitHub and the original read them).
-use Rattle.std.specs.Prelude.{ℕ, zero, suc, ◌+◌, Bool, true, false, ◌==◌, ◌&&◌, not, if◌then◌else◌, List, [], ◌∷◌, length, Option, Some, None}
+use Rattle.std.specs.Prelude.{ℕ, zero, suc, Bool, true, false, ◌==◌, ◌&&◌, not, if◌then◌else◌, List, [], ◌∷◌, length, Option, Some, None}
 use Rattle.cmark_grammar.specs.Columns.{Column, without_indent}
 use Rattle.cmark_grammar.specs.LinkDefinitions.{Found, up_to, label_if}
 use Rattle.cmark_grammar.specs.Options.{Options}

@@ -5,7 +5,8 @@ use Rattle.cmark_grammar.specs.Rows.{Row, is_blank_line, indent_of, words_of, wi
 use Rattle.cmark_grammar.specs.Leaves.{Fence, underlines, counted, run, is_thematic_break, is_atx_heading, fence_of, fence_further, code_further}
 use Rattle.cmark_grammar.specs.HtmlBlocks.{html_kind, html_lines}
 use Rattle.cmark_grammar.specs.LinkDefinitions.{Definition, Defined, definition_in, bytes_over, line_ends}
-use Rattle.cmark_grammar.specs.Containers.{Container, Quote, Item, Footnote, item_of, is_quote, container_of}
+use Rattle.cmark_grammar.specs.Containers.{Container, Quote, Item, Footnote, ListDefinition, item_of, is_quote, container_of}
+use Rattle.cmark_grammar.specs.DefinitionLists.{begins_definition, definition_at, is_definition}
 use Rattle.cmark_grammar.specs.Footnotes.{Footnotes, footnotes_in, are_read, do_interrupt, footnote_in, is_label_found, is_footnote_label}
 use Rattle.cmark_grammar.specs.Metadata.{metadata_kind, holds_metadata, metadata_further}
 use Rattle.cmark_grammar.specs.MetadataBlockKind.{MetadataBlockKind}
@@ -51,6 +52,7 @@ abbrev pub item_interrupts : (same : Bool) → Row → Option Container → Bool
 item_interrupts same r None = false
 item_interrupts same r (Some (Quote alert)) = false
 item_interrupts same r (Some (Footnote label old size)) = false
+item_interrupts same r (Some (ListDefinition width)) = false
 item_interrupts same r (Some (Item mark number width task)) = not same || (is_one number && not (is_blank_line (without width r)))
 
 abbrev pub is_some_fence : Option Fence → Bool
@@ -111,11 +113,12 @@ module _ (options : Options) where
 
   -- the line goes on with a paragraph in the same container; a lazy line is none of it
   unfoldable pub texts : Row → List Row → Bool
-  texts r ahead = not (interrupts (not r.lazy) r ahead || table_interrupts options r ahead)
+  texts r ahead = not (interrupts (not r.lazy) r ahead || (table_interrupts options r ahead || begins_definition options r))
 
-  -- the line, which lacks the prefix of this container and of those further in, goes on with a paragraph there
+  -- the line, which lacks the prefix of this container and of those further in, goes on with a paragraph there. Behind a definition alone a
+  -- marker of another one may stand
   unfoldable pub lazily : Container → Row → List Row → Bool
-  lazily k r ahead = not (interrupts false r ahead || table_interrupts options r ahead)
+  lazily k r ahead = not (interrupts false r ahead || (table_interrupts options r ahead || (is_definition k && begins_definition options r)))
 
   -- the lines ahead up to the first that does not go on with a paragraph
   abbrev pub text_lines : List Row → List Row
@@ -167,7 +170,11 @@ module _ (options : Options) where
 abbrev pub text_begun : Row → Opening
 text_begun r = if is_blank_line r then Blank else Plain
 
+abbrev pub definition_or : Option ℕ → (other : Opening) → Opening
+definition_or (Some width) other = Nests (ListDefinition width)
+definition_or None other = other
+
 module _ (options : Options) where
   -- what a line begins at a place, with these lines ahead
   abbrev pub opens_at : Place → Row → List Row → Opening
-  opens_at place r ahead = if is_behind_task place && not r.lazy then text_begun r else opens options r ahead
+  opens_at place r ahead = if is_behind_task place && not r.lazy then text_begun r else definition_or (definition_at options place r) (opens options r ahead)

@@ -17,6 +17,12 @@ allows_lazy BehindLazy = true
 allows_lazy BehindTask = false
 allows_lazy BehindTitle = false
 
+abbrev pub is_behind_title : Place → Bool
+is_behind_title Apart = false
+is_behind_title BehindLazy = false
+is_behind_title BehindTask = false
+is_behind_title BehindTitle = true
+
 abbrev pub is_behind_task : Place → Bool
 is_behind_task Apart = false
 is_behind_task BehindLazy = false

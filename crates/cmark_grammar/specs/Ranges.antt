@@ -1,7 +1,7 @@
 -- The ranges of a document's nodes.
 use Rattle.std.specs.Prelude.{◌≡◌, ℕ, suc, ◌+◌, ◌≤◌, List}
 use Rattle.cmark_grammar.specs.Tokens.{slice}
-use Rattle.cmark_grammar.specs.BlockDocument.{BlockKind, Paragraph, TightParagraph, Heading, ThematicBreak, IndentedCode, FencedCode, HtmlBlock, LinkDefinition, MetadataBlock, BlockQuote, BlockList, ListItem, TaskMarker, FootnoteDefinition, Text, OwnedText, Html, BlockDocument, Nil, Node, Table, TableHead, TableRow, TableCell}
+use Rattle.cmark_grammar.specs.BlockDocument.{BlockKind, Paragraph, TightParagraph, Heading, ThematicBreak, IndentedCode, FencedCode, HtmlBlock, LinkDefinition, MetadataBlock, BlockQuote, BlockList, ListItem, TaskMarker, FootnoteDefinition, DefinitionList, DefinitionListTitle, DefinitionListDefinition, Text, OwnedText, Html, BlockDocument, Nil, Node, Table, TableHead, TableRow, TableCell}
 
 -- between these two places the nodes stand in order: none begins before the one before it has ended, and each holds what
 -- is inside it
@@ -45,6 +45,9 @@ IsSlice text TableRow start end = Unit {0}
 IsSlice text TableCell start end = Unit {0}
 IsSlice text (BlockQuote alert) start end = Unit {0}
 IsSlice text (FootnoteDefinition label) start end = Unit {0}
+IsSlice text (DefinitionList tight) start end = Unit {0}
+IsSlice text DefinitionListTitle start end = Unit {0}
+IsSlice text DefinitionListDefinition start end = Unit {0}
 IsSlice text (BlockList number tight) start end = Unit {0}
 IsSlice text ListItem start end = Unit {0}
 IsSlice text (TaskMarker is_checked) start end = Unit {0}

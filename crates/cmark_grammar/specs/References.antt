@@ -1,6 +1,6 @@
 -- The link reference definitions of a document: the first of each label counts (CommonMark 4.7).
 use Rattle.std.specs.Prelude.{ℕ, Bool, true, false, List, [], ◌∷◌, ◌++◌, bytes_eq, Option, Some, None, ◌≡◌}
-use Rattle.cmark_grammar.specs.BlockDocument.{Reference, BlockKind, Paragraph, TightParagraph, Heading, ThematicBreak, IndentedCode, FencedCode, HtmlBlock, LinkDefinition, MetadataBlock, BlockQuote, BlockList, ListItem, TaskMarker, FootnoteDefinition, Text, OwnedText, Html, BlockDocument, Nil, Node, Table, TableHead, TableRow, TableCell}
+use Rattle.cmark_grammar.specs.BlockDocument.{Reference, BlockKind, Paragraph, TightParagraph, Heading, ThematicBreak, IndentedCode, FencedCode, HtmlBlock, LinkDefinition, MetadataBlock, BlockQuote, BlockList, ListItem, TaskMarker, FootnoteDefinition, DefinitionList, DefinitionListTitle, DefinitionListDefinition, Text, OwnedText, Html, BlockDocument, Nil, Node, Table, TableHead, TableRow, TableCell}
 
 abbrev pub reference_of_kind : BlockKind → List Reference
 reference_of_kind Paragraph = []
@@ -18,6 +18,9 @@ reference_of_kind TableRow = []
 reference_of_kind TableCell = []
 reference_of_kind (BlockQuote alert) = []
 reference_of_kind (FootnoteDefinition label) = []
+reference_of_kind (DefinitionList tight) = []
+reference_of_kind DefinitionListTitle = []
+reference_of_kind DefinitionListDefinition = []
 reference_of_kind (BlockList number tight) = []
 reference_of_kind ListItem = []
 reference_of_kind (TaskMarker is_checked) = []

@@ -1,9 +1,9 @@
 -- The events that a text is read as: those of its blocks, with the spans of its leaves, and the questions that were put on the way.
-use Rattle.std.specs.Prelude.{◌≡◌, ℕ, Bool, true, false, ◌||◌, bytes_eq, if◌then◌else◌, List, [], ◌∷◌, ◌++◌, Option, Some, None}
+use Rattle.std.specs.Prelude.{◌≡◌, ℕ, zero, suc, Bool, true, false, ◌||◌, bytes_eq, if◌then◌else◌, List, [], ◌∷◌, ◌++◌, Option, Some, None}
 use Rattle.cmark_grammar.specs.Answers.{Lookup}
 use Rattle.cmark_grammar.specs.BlockDocument.{BlockKind, TableCell, FootnoteDefinition, BlockNode, BlockDocument, Nil, Node}
 pub use Rattle.cmark_grammar.specs.BlockReading.{is_leaf}
-use Rattle.cmark_grammar.specs.BlockReading.{Reads, Around, Inside, Alone, First, Silent, read_as, over, first_event, begins_element}
+use Rattle.cmark_grammar.specs.BlockReading.{Reads, Around, Inside, Alone, First, Silent, read_as, over, first_event, starts_before}
 use Rattle.cmark_grammar.specs.Derivation.{Derives}
 use Rattle.cmark_grammar.specs.Event.{Event, Start, End, Ranged}
 use Rattle.cmark_grammar.specs.Labels.{fold}
@@ -52,7 +52,7 @@ pub data Segment : Type 0 where
   Given : (event : Ranged) → Segment
   Content : (leaf : Leaf) → Segment
 
--- a paragraph, a heading or a cell holds the stretches of its text
+-- a paragraph, a heading, a title or a cell holds the stretches of its text
 abbrev pub stretches_of : BlockDocument → List Stretch
 stretches_of Nil = []
 stretches_of (Node node inside after) = record { start = node.start; end = node.end } ∷ stretches_of after
@@ -74,20 +74,21 @@ node_segments (Alone event) node inside = Given (over node event) ∷ []
 node_segments (First event) node inside = []
 node_segments Silent node inside = []
 
--- an event stands first in the paragraph or heading that begins behind it; where none does, as in a tight list, before the leaf
-abbrev pub first_of_segments : (element : Bool) → Segment → List Segment → List Segment
-first_of_segments true first (s ∷ others) = s ∷ (first ∷ others)
-first_of_segments true first [] = first ∷ []
-first_of_segments false first others = first ∷ others
+-- an event stands first in the paragraph, heading or title that begins behind it, behind so many starts; where none does, as in a tight list,
+-- before the leaf
+abbrev pub first_of_segments : (starts : ℕ) → Segment → List Segment → List Segment
+first_of_segments zero first others = first ∷ others
+first_of_segments (suc starts) first [] = first ∷ []
+first_of_segments (suc starts) first (s ∷ others) = s ∷ first_of_segments starts first others
 
-abbrev pub with_first_segment : Option Event → (element : Bool) → BlockNode → List Segment → List Segment
-with_first_segment None element node others = others
-with_first_segment (Some event) element node others = first_of_segments element (Given (over node event)) others
+abbrev pub with_first_segment : Option Event → (starts : ℕ) → BlockNode → List Segment → List Segment
+with_first_segment None starts node others = others
+with_first_segment (Some event) starts node others = first_of_segments starts (Given (over node event)) others
 
 abbrev pub segments : BlockDocument → List Segment
 segments Nil = []
 segments (Node node inside after) =
-    with_first_segment (first_event (read_as node.kind)) (begins_element after) node (node_segments (read_as node.kind) node (inside_of node.kind inside (segments inside)) ++ segments after)
+    with_first_segment (first_event (read_as node.kind)) (starts_before after) node (node_segments (read_as node.kind) node (inside_of node.kind inside (segments inside)) ++ segments after)
 
 -- the segments are read as these events, leaf after leaf, where the questions may get these answers
 abbrev pub ReadsAll : Reader → Saying → List Segment → (before : Between) → List Ranged → (after : Between) → Type 0

@@ -1,8 +1,8 @@
--- Paragraphs of tight lists (CommonMark 5.3).
+-- Paragraphs of tight lists (CommonMark 5.3) and tight definition lists (this profile's own).
 use Rattle.std.specs.Prelude.{◌≡◌, Bool, true, false}
-use Rattle.cmark_grammar.specs.BlockDocument.{BlockKind, Paragraph, TightParagraph, Heading, ThematicBreak, IndentedCode, FencedCode, HtmlBlock, LinkDefinition, MetadataBlock, BlockQuote, BlockList, ListItem, TaskMarker, FootnoteDefinition, Text, OwnedText, Html, BlockDocument, Nil, Node, Table, TableHead, TableRow, TableCell}
+use Rattle.cmark_grammar.specs.BlockDocument.{BlockKind, Paragraph, TightParagraph, Heading, ThematicBreak, IndentedCode, FencedCode, HtmlBlock, LinkDefinition, MetadataBlock, BlockQuote, BlockList, ListItem, TaskMarker, FootnoteDefinition, DefinitionList, DefinitionListTitle, DefinitionListDefinition, Text, OwnedText, Html, BlockDocument, Nil, Node, Table, TableHead, TableRow, TableCell}
 
--- whether what is inside such a node stands in items of a tight list, or directly in one
+-- whether what is inside such a node stands in items or definitions of a tight list, or directly in one
 abbrev pub tight_within : Bool → BlockKind → Bool
 tight_within tight (BlockList number t) = t
 tight_within tight ListItem = tight
@@ -22,11 +22,14 @@ tight_within tight TableRow = false
 tight_within tight TableCell = false
 tight_within tight (BlockQuote alert) = false
 tight_within tight (FootnoteDefinition label) = false
+tight_within tight (DefinitionList t) = t
+tight_within tight DefinitionListTitle = false
+tight_within tight DefinitionListDefinition = tight
 tight_within tight (Text bytes) = false
 tight_within tight (OwnedText bytes) = false
 tight_within tight (Html bytes) = false
 
--- a paragraph is an element of its own exactly where it does not stand directly in an item of a tight list
+-- a paragraph is an element of its own exactly where it does not stand directly in an item or a definition of a tight list
 abbrev pub IsElement : (tight : Bool) → BlockKind → Type 0
 IsElement tight Paragraph = tight ≡ false
 IsElement tight TightParagraph = tight ≡ true
@@ -43,6 +46,9 @@ IsElement tight TableRow = Unit {0}
 IsElement tight TableCell = Unit {0}
 IsElement tight (BlockQuote alert) = Unit {0}
 IsElement tight (FootnoteDefinition label) = Unit {0}
+IsElement tight (DefinitionList t) = Unit {0}
+IsElement tight DefinitionListTitle = Unit {0}
+IsElement tight DefinitionListDefinition = Unit {0}
 IsElement tight (BlockList number t) = Unit {0}
 IsElement tight ListItem = Unit {0}
 IsElement tight (TaskMarker is_checked) = Unit {0}

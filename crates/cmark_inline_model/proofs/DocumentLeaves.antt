@@ -1,14 +1,16 @@
 -- The leaves of a document that is derived stand in order.
 use Rattle.cmark_grammar.specs.TagEnd.{end_of}
+use Rattle.cmark_grammar.specs.Tag as tag
 use Rattle.cmark_grammar.specs.Tag.{Tag}
 use Rattle.cmark_grammar.specs.Event.{Ranged, Start, End}
-use Rattle.std.proofs.Common.{Bool, true, false, ℕ, ◌≤◌, List, [], ◌∷◌, ◌++◌, arith, ◌≡◌, refl, sym, true≢false}
-use Rattle.cmark_grammar.specs.BlockDocument.{BlockKind, Paragraph, TightParagraph, Heading, ThematicBreak, IndentedCode, FencedCode, HtmlBlock, LinkDefinition, MetadataBlock, BlockQuote, BlockList, ListItem, TaskMarker, FootnoteDefinition, Text, OwnedText, Html, BlockNode, BlockDocument, Nil, Node, Table, TableHead, TableRow, TableCell}
-use Rattle.cmark_grammar.specs.BlockReading.{Reads, Around, Inside, Alone, First, Silent, begins_element, over, first_event, read_as, is_leaf, begins_as}
+use Rattle.std.proofs.Common.{Bool, true, false, ℕ, ◌≤◌, List, [], ◌∷◌, ◌++◌, arith, ◌≡◌, refl, sym, true≢false, zero, suc, ◌⊎◌, inl, inr, ap, ◌∙◌, subst}
+use Rattle.cmark_grammar.specs.BlockDocument.{BlockKind, Paragraph, TightParagraph, Heading, ThematicBreak, IndentedCode, FencedCode, HtmlBlock, LinkDefinition, MetadataBlock, BlockQuote, BlockList, ListItem, TaskMarker, FootnoteDefinition, DefinitionList, DefinitionListTitle, DefinitionListDefinition, Text, OwnedText, Html, BlockNode, BlockDocument, Nil, Node, Table, TableHead, TableRow, TableCell}
+use Rattle.cmark_grammar.specs.BlockReading.{Reads, Around, Inside, Alone, First, Silent, starts_before, over, first_event, read_as, is_leaf, is_title, title_as, begins_title, starts_of, starts_as}
 use Rattle.cmark_grammar.specs.LeafText.{InTurn}
 use Rattle.cmark_grammar.specs.Ranges.{InOrder}
-use Rattle.cmark_grammar.specs.SpanDocuments.{Segment, Given, Content, stretches_of, inside_of, node_segments, first_of_segments, with_first_segment, segments}
+use Rattle.cmark_grammar.specs.SpanDocuments.{Segment, Given, Content, stretches_of, inside_of, node_segments, first_of_segments, with_first_segment, segments, leaf_of}
 use Rattle.cmark_inline_model.specs.LeafModel.{AreLeavesInTurn}
+use Rattle.std.specs.Prelude.{if◌then◌else◌}
 
 pub order-up : (from : ℕ) (document : BlockDocument) (to : ℕ) → InOrder from document to → from ≤ to
 order-up from Nil to h = h
@@ -41,6 +43,9 @@ inside_turn size TableCell content others h k = (h, tt)
 inside_turn size (LinkDefinition reference) content others h k = k
 inside_turn size (BlockQuote alert) content others h k = k
 inside_turn size (FootnoteDefinition label) content others h k = k
+inside_turn size (DefinitionList tight) content others h k = k
+inside_turn size DefinitionListTitle content others h k = (h, tt)
+inside_turn size DefinitionListDefinition content others h k = k
 inside_turn size (BlockList number tight) content others h k = k
 inside_turn size ListItem content others h k = k
 inside_turn size (TaskMarker is_checked) content others h k = k
@@ -55,13 +60,13 @@ node_turn size (Alone event) node inside h = tt
 node_turn size (First event) node inside h = tt
 node_turn size Silent node inside h = tt
 
-first_turn : (size : ℕ) (element : Bool) (r : Ranged) (others : List Segment) → AreLeavesInTurn size others → AreLeavesInTurn size (first_of_segments element (Given r) others)
-first_turn size true r [] h = tt
-first_turn size true r (Given x ∷ others) h = h
-first_turn size true r (Content leaf ∷ others) h = h
-first_turn size false r others h = h
+first_turn : (size : ℕ) (element : ℕ) (r : Ranged) (others : List Segment) → AreLeavesInTurn size others → AreLeavesInTurn size (first_of_segments element (Given r) others)
+first_turn size zero r others h = h
+first_turn size (suc element) r [] h = tt
+first_turn size (suc element) r (Given x ∷ others) h = first_turn size element r others h
+first_turn size (suc element) r (Content leaf ∷ others) h = (h.0, first_turn size element r others h.1)
 
-with_turn : (size : ℕ) (reads : Reads) (element : Bool) (node : BlockNode) (others : List Segment) → AreLeavesInTurn size others → AreLeavesInTurn size (with_first_segment (first_event reads) element node others)
+with_turn : (size : ℕ) (reads : Reads) (element : ℕ) (node : BlockNode) (others : List Segment) → AreLeavesInTurn size others → AreLeavesInTurn size (with_first_segment (first_event reads) element node others)
 with_turn size (Around tag) element node others h = h
 with_turn size Inside element node others h = h
 with_turn size (Alone event) element node others h = h
@@ -73,21 +78,85 @@ segments-turn size from Nil to u h = tt
 segments-turn size from (Node node inside after) to u h =
     let c = order-up node.end after to h.2 in
     let own = inside_of node.kind inside (segments inside) in
-    with_turn size (read_as node.kind) (begins_element after) node (node_segments (read_as node.kind) node own ++ segments after)
+    with_turn size (read_as node.kind) (starts_before after) node (node_segments (read_as node.kind) node own ++ segments after)
     (leaves_append size (node_segments (read_as node.kind) node own) (segments after)
     (node_turn size (read_as node.kind) node own
     (inside_turn size node.kind inside (segments inside) (stretches-turn node.start 0 inside node.end size (omega arith) (omega arith) h.1) (segments-turn size node.start inside node.end (omega arith) h.1)))
     (segments-turn size node.end after to u h.2))
 
--- an element that begins gives its start first
-pub begins-start : (document : BlockDocument) → begins_element document ≡ true → (r : Ranged) × (others : List Segment) × (segments document ≡ Given r ∷ others) × (tag : Tag) × (r.event ≡ Start tag)
-begins-start Nil e = absurd (true≢false (sym e))
-begins-start (Node node inside after) e = go (read_as node.kind) (inside_of node.kind inside (segments inside)) (begins-start after) e
+-- a title that begins gives its start first
+titled-start : (document : BlockDocument) → begins_title document ≡ true → (r : Ranged) × (others : List Segment) × (segments document ≡ Given r ∷ others) × (r.event ≡ Start tag.DefinitionListTitle)
+titled-start Nil e = absurd (true≢false (sym e))
+titled-start (Node node inside after) e = go (is_title node.kind) refl (read_as node.kind) refl (inside_of node.kind inside (segments inside)) (titled-start after) e
   where
-    go : (reads : Reads) (own : List Segment) → (begins_element after ≡ true → (r : Ranged) × (others : List Segment) × (segments after ≡ Given r ∷ others) × (tag : Tag) × (r.event ≡ Start tag)) → begins_as (is_leaf node.kind) reads (begins_element after) ≡ true
-        → (r : Ranged) × (others : List Segment) × (with_first_segment (first_event reads) (begins_element after) node (node_segments reads node own ++ segments after) ≡ Given r ∷ others) × (tag : Tag) × (r.event ≡ Start tag)
-    go (Around tag) own ih q = (over node (Start tag), (own ++ (Given (over node (End (end_of tag))) ∷ [])) ++ segments after, refl, tag, refl)
-    go Inside own ih q = absurd (true≢false (sym q))
-    go (Alone event) own ih q = absurd (true≢false (sym q))
-    go (First event) own ih q = absurd (true≢false (sym q))
-    go Silent own ih q = ih q
+    tag-of : (kind : BlockKind) (t : Tag) → is_title kind ≡ true → read_as kind ≡ Around t → t ≡ tag.DefinitionListTitle
+    tag-of DefinitionListTitle t q r = let w : Around tag.DefinitionListTitle ≡ Around t = r in cc
+    tag-of _ t q r = absurd (true≢false (sym q))
+
+    go : (z : Bool) → is_title node.kind ≡ z → (reads : Reads) → read_as node.kind ≡ reads → (own : List Segment) → (begins_title after ≡ true → (r : Ranged) × (others : List Segment) × (segments after ≡ Given r ∷ others) × (r.event ≡ Start tag.DefinitionListTitle)) → title_as z reads (begins_title after) ≡ true
+        → (r : Ranged) × (others : List Segment) × (with_first_segment (first_event reads) (starts_before after) node (node_segments reads node own ++ segments after) ≡ Given r ∷ others) × (r.event ≡ Start tag.DefinitionListTitle)
+    go true t (Around x) r own ih q = (over node (Start x), (own ++ (Given (over node (End (end_of x))) ∷ [])) ++ segments after, refl, ap Start (tag-of node.kind x t r))
+    go false t (Around x) r own ih q = absurd (true≢false (sym q))
+    go z t Inside r own ih q = absurd (true≢false (sym q))
+    go z t (Alone event) r own ih q = absurd (true≢false (sym q))
+    go z t (First event) r own ih q = absurd (true≢false (sym q))
+    go z t Silent r own ih q = ih q
+
+starts-are : (kind : BlockKind) (titled : Bool) → (starts_of kind titled ≡ 0) ⊎ ((starts_of kind titled ≡ 1) ⊎ ((titled ≡ true) × (starts_of kind titled ≡ 2) × (is_leaf kind ≡ false)))
+starts-are (DefinitionList tight) true = inr (inr (refl, refl, refl))
+starts-are (DefinitionList tight) false = inr (inl refl)
+starts-are Paragraph titled = inr (inl refl)
+starts-are TightParagraph titled = inr (inl refl)
+starts-are (Heading level attributes) titled = inr (inl refl)
+starts-are ThematicBreak titled = inl refl
+starts-are IndentedCode titled = inl refl
+starts-are (FencedCode info) titled = inl refl
+starts-are HtmlBlock titled = inl refl
+starts-are (MetadataBlock kind) titled = inl refl
+starts-are (Table alignments) titled = inl refl
+starts-are TableHead titled = inl refl
+starts-are TableRow titled = inl refl
+starts-are TableCell titled = inr (inl refl)
+starts-are (LinkDefinition reference) titled = inl refl
+starts-are (BlockQuote alert) titled = inl refl
+starts-are (FootnoteDefinition label) titled = inl refl
+starts-are DefinitionListTitle titled = inr (inl refl)
+starts-are DefinitionListDefinition titled = inl refl
+starts-are (BlockList number tight) titled = inl refl
+starts-are ListItem titled = inl refl
+starts-are (TaskMarker is_checked) titled = inl refl
+starts-are (Text bytes) titled = inl refl
+starts-are (OwnedText bytes) titled = inl refl
+starts-are (Html bytes) titled = inl refl
+
+-- an element that begins gives its start first, and where two begin, the second is a title
+abbrev pub StartsWith : ℕ → List Segment → Type 0
+StartsWith zero all = Unit {0}
+StartsWith (suc zero) all = (r : Ranged) × (others : List Segment) × (all ≡ Given r ∷ others) × (t : Tag) × (r.event ≡ Start t)
+StartsWith (suc (suc zero)) all = (r x : Ranged) × (others : List Segment) × (all ≡ Given r ∷ (Given x ∷ others)) × (t : Tag) × (r.event ≡ Start t) × (x.event ≡ Start tag.DefinitionListTitle)
+StartsWith (suc (suc (suc n))) all = ⊥
+
+pub begins-start : (document : BlockDocument) → StartsWith (starts_before document) (segments document)
+begins-start Nil = tt
+begins-start (Node node inside after) = go (read_as node.kind) (inside_of node.kind inside (segments inside)) refl (begins-start after)
+  where
+    behind : Tag → List Segment → List Segment
+    behind t own = (own ++ (Given (over node (End (end_of t))) ∷ [])) ++ segments after
+
+    around : (t : Tag) (own : List Segment) → own ≡ inside_of node.kind inside (segments inside)
+        → (starts_of node.kind (begins_title inside) ≡ 0) ⊎ ((starts_of node.kind (begins_title inside) ≡ 1) ⊎ ((begins_title inside ≡ true) × (starts_of node.kind (begins_title inside) ≡ 2) × (is_leaf node.kind ≡ false)))
+        → StartsWith (starts_of node.kind (begins_title inside)) (Given (over node (Start t)) ∷ behind t own)
+    around t own e (inl z) = subst (λ n. StartsWith n (Given (over node (Start t)) ∷ behind t own)) (sym z) tt
+    around t own e (inr (inl z)) = subst (λ n. StartsWith n (Given (over node (Start t)) ∷ behind t own)) (sym z) (over node (Start t), behind t own, refl, t, refl)
+    around t own e (inr (inr w)) =
+        let b = titled-start inside w.0 in
+        subst (λ n. StartsWith n (Given (over node (Start t)) ∷ behind t own)) (sym w.1)
+        (over node (Start t), b.0, (b.1 ++ (Given (over node (End (end_of t))) ∷ [])) ++ segments after, ap (λ o. Given (over node (Start t)) ∷ behind t o) (e ∙ ap (λ z. if z then Content (leaf_of node.kind inside) ∷ [] else segments inside) w.2 ∙ b.2), t, refl, b.3)
+
+    go : (reads : Reads) (own : List Segment) → own ≡ inside_of node.kind inside (segments inside) → StartsWith (starts_before after) (segments after)
+        → StartsWith (starts_as (starts_of node.kind (begins_title inside)) reads (starts_before after)) (with_first_segment (first_event reads) (starts_before after) node (node_segments reads node own ++ segments after))
+    go (Around t) own e ih = around t own e (starts-are node.kind (begins_title inside))
+    go Inside own e ih = tt
+    go (Alone event) own e ih = tt
+    go (First event) own e ih = tt
+    go Silent own e ih = ih

@@ -1,19 +1,19 @@
 -- In the leaves of a document that is derived each stretch but the last ends with a line ending.
 use Rattle.std.specs.Prelude.{◌-◌, ◌==◌, nat_lt, if◌then◌else◌, get_or, take_while}
-use Rattle.std.proofs.Common.{◌≡◌, ◌⊎◌, inl, inr, ⊎_elim, ℕ, zero, suc, ◌+◌, ◌<◌, Bool, true, false, not, ◌&&◌, ◌||◌, List, [], ◌∷◌, ◌++◌, length, drop, refl, sym, ap, ◌∙◌, subst, arith, append_assoc, Option, Some, None, true≢false, length-append, get_or-append-add}
+use Rattle.std.proofs.Common.{◌≡◌, ◌⊎◌, inl, inr, ⊎_elim, ℕ, zero, suc, ◌+◌, ◌<◌, Bool, true, false, not, ◌&&◌, ◌||◌, List, [], ◌∷◌, ◌++◌, length, drop, refl, sym, ap, ◌∙◌, subst, arith, append_assoc, Option, Some, None, true≢false, length-append, get_or-append-add, ◌==◌}
 use Rattle.cmark_grammar.specs.Answers.{Lookup}
-use Rattle.cmark_grammar.specs.BlockDocument.{BlockKind, ListItem, Text, OwnedText, Html, BlockNode, BlockDocument, Nil, Node, node}
-use Rattle.cmark_grammar.specs.BlockReading.{Reads, Around, Inside, Alone, First, Silent, begins_element, over, first_event, read_as}
+use Rattle.cmark_grammar.specs.BlockDocument.{BlockKind, ListItem, Text, OwnedText, Html, BlockNode, BlockDocument, Nil, Node, node, BlockList, DefinitionList, DefinitionListTitle, DefinitionListDefinition}
+use Rattle.cmark_grammar.specs.BlockReading.{Reads, Around, Inside, Alone, First, Silent, starts_before, over, first_event, read_as}
 use Rattle.cmark_grammar.specs.Blocks.{Blocks, Nil as NoBlocks, BlankLine, Paragraph as ParagraphBlock, SetextHeading, LeafBlock, ContainerBlock, behind_leaf, place_in, Body}
-use Rattle.cmark_grammar.specs.Containers.{Container, Quote, Item, Footnote, is_alert, unless_tag, enter, strips, is_bare_start, insides}
-use Rattle.cmark_grammar.specs.Derivation.{leaf_then, item_then, task_then, document_of, Derives}
+use Rattle.cmark_grammar.specs.Containers.{Container, Quote, Item, Footnote, ListDefinition, is_alert, unless_tag, enter, strips, is_bare_start, insides}
+use Rattle.cmark_grammar.specs.Derivation.{leaf_then, item_then, task_then, document_of, Derives, list_kind, paragraph_kind}
 use Rattle.cmark_grammar.specs.Event.{Ranged}
 use Rattle.cmark_grammar.specs.TaskItems.{behind_box}
 use Rattle.cmark_grammar.specs.Lines.{lines, ends_line, onto, is_content, line_feed, carriage_return, begins_with_line_feed}
 use Rattle.cmark_grammar.specs.Columns.{is_blank_byte, drop_end}
 use Rattle.cmark_grammar.specs.TableRows.{cells_start, cells_of}
 use Rattle.cmark_grammar.specs.TableTokens.{cell_tokens, cells_then, row_cells, row_tokens, table_tokens}
-use Rattle.cmark_grammar.specs.Lists.{ListBefore, tight_behind, goes_on}
+use Rattle.cmark_grammar.specs.Lists.{ListBefore, tight_behind, goes_on, definition_mark, is_title, title_tight_behind}
 use Rattle.cmark_grammar.specs.Metadata.{ends_metadata}
 use Rattle.cmark_grammar.specs.Openings.{Leaf, ThematicBreak as ThematicBreakLeaf, AtxHeading as AtxHeadingLeaf, IndentedCode as IndentedCodeLeaf, FencedCode as FencedCodeLeaf, HtmlBlock as HtmlBlockLeaf, LinkDefinition as LinkDefinitionLeaf, MetadataBlock as MetadataBlockLeaf, Table as TableLeaf}
 use Rattle.cmark_grammar.specs.Options.{Options}
@@ -235,11 +235,24 @@ leaf_of_lines text options lookup (MetadataBlockLeaf kind) first more after a =
 leaf_of_lines text options lookup (TableLeaf alignments) first more after a =
     (no_leaf text (table_tokens text (length alignments) first more), (no_leaf text (row_cells text (length alignments) first), row_of_lines text (length alignments) first, rows_of_cells text (length alignments) (drop 1 more)), a)
 
-item_of_lines : (text : List ℕ) (joins : Bool) (number : Option ℕ) (tight : Bool) (item : BlockNode) (inside after : BlockDocument) → is_leaf item.kind ≡ false → AreOfLines text inside → AreOfLines text after
-    → AreOfLines text (item_then joins number tight item inside after)
-item_of_lines text false number tight item inside after e i a = (no_leaf text (Node item inside Nil), ((λ f. absurd (true≢false (sym f ∙ e))), i, tt), a)
-item_of_lines text true number tight item inside Nil e i a = (no_leaf text (Node item inside Nil), ((λ f. absurd (true≢false (sym f ∙ e))), i, tt), tt)
-item_of_lines text true number tight item inside (Node list items after) e i a = (no_leaf text (Node item inside items), ((λ f. absurd (true≢false (sym f ∙ e))), i, a.1), a.2)
+item_of_lines : (text : List ℕ) (joins : Bool) (list : BlockKind) (item : BlockNode) (inside after : BlockDocument) → is_leaf list ≡ false → (is_leaf item.kind ≡ true → HaveLineEnds text (stretches_of inside)) → AreOfLines text inside → AreOfLines text after
+    → AreOfLines text (item_then joins list item inside after)
+item_of_lines text false list item inside after l e i a = ((λ f. absurd (true≢false (sym f ∙ l))), (e, i, tt), a)
+item_of_lines text true list item inside Nil l e i a = ((λ f. absurd (true≢false (sym f ∙ l))), (e, i, tt), tt)
+item_of_lines text true list item inside (Node others items after) l e i a = ((λ f. absurd (true≢false (sym f ∙ l))), (e, i, a.1), a.2)
+
+list_no_leaf : (mark : ℕ) (number : Option ℕ) (tight : Bool) → is_leaf (list_kind mark number tight) ≡ false
+list_no_leaf mark number tight = go (mark == definition_mark)
+  where
+    go : (z : Bool) → is_leaf (if z then DefinitionList tight else BlockList number tight) ≡ false
+    go true = refl
+    go false = refl
+
+-- a paragraph, as a title or as itself
+title_of_lines : (text : List ℕ) (is_title tight : Bool) (other : BlockKind) (start end : ℕ) (inside after behind : BlockDocument) → HaveLineEnds text (stretches_of inside) → AreOfLines text inside → AreOfLines text after → AreOfLines text behind
+    → AreOfLines text (if is_title then item_then true (DefinitionList tight) (node DefinitionListTitle start end) inside after else Node (node other start end) inside behind)
+title_of_lines text true tight other start end inside after behind e i a b = item_of_lines text true (DefinitionList tight) (node DefinitionListTitle start end) inside after refl (λ f. e) i a
+title_of_lines text false tight other start end inside after behind e i a b = ((λ f. e), i, b)
 
 task_of_lines : (text : List ℕ) (task : Option Bool) (start end : ℕ) (inside : BlockDocument) → AreOfLines text inside → AreOfLines text (task_then task start end inside)
 task_of_lines text None start end inside h = h
@@ -253,11 +266,13 @@ document_of_lines text options lookup direct before behind all (BlankLine line a
     document_of_lines text options lookup direct before (over_blank behind) body.rest after body.after c.1
 document_of_lines text options lookup direct before behind all (ParagraphBlock first more after) body g =
     let c : RowsEnd text ((first ∷ more) ++ body.rest) = subst (RowsEnd text) body.cut g in
-    let s = rows_split text (first ∷ more) body.rest c in (
-      (λ e. stretches_end text (start_of first) first more s.0),
-      texts_of_lines text (paragraph_tokens text first more) (stretches_are_texts text (start_of first) first more),
-      document_of_lines text options lookup direct None BehindTitle body.rest after body.after s.1,
-    )
+    let s = rows_split text (first ∷ more) body.rest c in
+    let tight = title_tight_behind before after in
+    title_of_lines text (is_title after) tight (paragraph_kind direct) (start_of first) (past_of first more) (paragraph_tokens text first more)
+    (document_of text options lookup direct (Some (record { mark = definition_mark; tight = tight })) after) (document_of text options lookup direct None after)
+    (stretches_end text (start_of first) first more s.0) (texts_of_lines text (paragraph_tokens text first more) (stretches_are_texts text (start_of first) first more))
+    (document_of_lines text options lookup direct (Some (record { mark = definition_mark; tight = tight })) BehindTitle body.rest after body.after s.1)
+    (document_of_lines text options lookup direct None BehindTitle body.rest after body.after s.1)
 document_of_lines text options lookup direct before behind all (SetextHeading level first more underline after) body g =
     let c : RowsEnd text ((first ∷ more) ++ (underline ∷ body.rest)) = subst (RowsEnd text) body.cut g in
     let s = rows_split text (first ∷ more) (underline ∷ body.rest) c in (
@@ -287,12 +302,20 @@ document_of_lines text options lookup direct before behind all (ContainerBlock (
     let c : RowsEnd text ((first ∷ more) ++ body.rest) = subst (RowsEnd text) body.cut g in
     let s = rows_split text (first ∷ more) body.rest c in
     let tight = tight_behind before mark inside after in
-    item_of_lines text (goes_on mark after) number tight (node ListItem (begin_of first) (past_of first more))
+    item_of_lines text (goes_on mark after) (list_kind mark number tight) (node ListItem (begin_of first) (past_of first more))
     (task_then task (begin_of (without width first)) (begin_of (without (behind_box task width) first)) (document_of text options lookup tight None inside))
-    (document_of text options lookup direct (Some (record { mark = mark; tight = tight })) after) refl
+    (document_of text options lookup direct (Some (record { mark = mark; tight = tight })) after) (list_no_leaf mark number tight) (λ f. absurd (true≢false (sym f)))
     (task_of_lines text task (begin_of (without width first)) (begin_of (without (behind_box task width) first)) (document_of text options lookup tight None inside)
     (document_of_lines text options lookup tight None (place_in (Item mark number width task)) (insides (Item mark number width task) first more) inside body.contents (rows_inside text (Item mark number width task) first more s.0)))
     (document_of_lines text options lookup direct (Some (record { mark = mark; tight = tight })) Apart body.rest after body.after s.1)
+document_of_lines text options lookup direct before behind all (ContainerBlock (ListDefinition width) first more inside after) body g =
+    let c : RowsEnd text ((first ∷ more) ++ body.rest) = subst (RowsEnd text) body.cut g in
+    let s = rows_split text (first ∷ more) body.rest c in
+    let tight = tight_behind before definition_mark inside after in
+    item_of_lines text (goes_on definition_mark after) (DefinitionList tight) (node DefinitionListDefinition (begin_of first) (past_of first more)) (document_of text options lookup tight None inside)
+    (document_of text options lookup direct (Some (record { mark = definition_mark; tight = tight })) after) refl (λ f. absurd (true≢false (sym f)))
+    (document_of_lines text options lookup tight None (place_in (ListDefinition width)) (insides (ListDefinition width) first more) inside body.contents (rows_inside text (ListDefinition width) first more s.0))
+    (document_of_lines text options lookup direct (Some (record { mark = definition_mark; tight = tight })) BehindTitle body.rest after body.after s.1)
 
 -- ## Leaves
 
@@ -321,13 +344,13 @@ node_lines text (Alone event) node inside h = tt
 node_lines text (First event) node inside h = tt
 node_lines text Silent node inside h = tt
 
-first_lines : (text : List ℕ) (element : Bool) (r : Ranged) (others : List Segment) → AreLeavesOfLines text others → AreLeavesOfLines text (first_of_segments element (Given r) others)
-first_lines text true r [] h = tt
-first_lines text true r (Given x ∷ others) h = h
-first_lines text true r (Content leaf ∷ others) h = h
-first_lines text false r others h = h
+first_lines : (text : List ℕ) (element : ℕ) (r : Ranged) (others : List Segment) → AreLeavesOfLines text others → AreLeavesOfLines text (first_of_segments element (Given r) others)
+first_lines text zero r others h = h
+first_lines text (suc element) r [] h = tt
+first_lines text (suc element) r (Given x ∷ others) h = first_lines text element r others h
+first_lines text (suc element) r (Content leaf ∷ others) h = (h.0, first_lines text element r others h.1)
 
-with_lines : (text : List ℕ) (reads : Reads) (element : Bool) (at : BlockNode) (others : List Segment) → AreLeavesOfLines text others → AreLeavesOfLines text (with_first_segment (first_event reads) element at others)
+with_lines : (text : List ℕ) (reads : Reads) (element : ℕ) (at : BlockNode) (others : List Segment) → AreLeavesOfLines text others → AreLeavesOfLines text (with_first_segment (first_event reads) element at others)
 with_lines text (Around tag) element at others h = h
 with_lines text Inside element at others h = h
 with_lines text (Alone event) element at others h = h
@@ -338,7 +361,7 @@ segments_lines : (text : List ℕ) (document : BlockDocument) → AreOfLines tex
 segments_lines text Nil h = tt
 segments_lines text (Node node inside after) h =
     let own = inside_of node.kind inside (segments inside) in
-    with_lines text (read_as node.kind) (begins_element after) node (node_segments (read_as node.kind) node own ++ segments after)
+    with_lines text (read_as node.kind) (starts_before after) node (node_segments (read_as node.kind) node own ++ segments after)
     (lines_append text (node_segments (read_as node.kind) node own) (segments after)
     (node_lines text (read_as node.kind) node own (inside_lines text node.kind inside (segments inside) h.0 (segments_lines text inside h.1)))
     (segments_lines text after h.2))

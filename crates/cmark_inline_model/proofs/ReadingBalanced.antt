@@ -1,12 +1,12 @@
 -- The events of a reading are balanced: each start has its end, with the same bytes.
-use Rattle.cmark_inline_model.proofs.DocumentLeaves.{begins-start}
+use Rattle.cmark_inline_model.proofs.DocumentLeaves.{begins-start, StartsWith}
 use Rattle.std.specs.Prelude.{map, if◌then◌else◌}
-use Rattle.std.proofs.Common.{◌≡◌, ℕ, List, [], ◌∷◌, ◌++◌, refl, sym, ap, subst, ◌∙◌, Bool, true, false}
+use Rattle.std.proofs.Common.{◌≡◌, ℕ, List, [], ◌∷◌, ◌++◌, refl, sym, ap, subst, ◌∙◌, Bool, true, false, zero, suc, ◌⊎◌, inl, inr, ⊎_elim}
 use Rattle.std.proofs.lemmas.List.{append_assoc, map-append}
 use Rattle.cmark_grammar.specs.Balance as balance
 use Rattle.cmark_grammar.specs.Balance.{IsSingle, Balanced}
-use Rattle.cmark_grammar.specs.BlockDocument.{BlockKind, Paragraph, TightParagraph, Heading, ThematicBreak, IndentedCode, FencedCode, HtmlBlock, LinkDefinition, MetadataBlock, BlockQuote, BlockList, ListItem, TaskMarker, FootnoteDefinition, Text, OwnedText, Html, BlockNode, BlockDocument, Nil, Node, Table, TableHead, TableRow, TableCell}
-use Rattle.cmark_grammar.specs.BlockReading.{Reads, Around, Inside, Alone, First, Silent, first_event, read_as, over, begins_element}
+use Rattle.cmark_grammar.specs.BlockDocument.{BlockKind, Paragraph, TightParagraph, Heading, ThematicBreak, IndentedCode, FencedCode, HtmlBlock, LinkDefinition, MetadataBlock, BlockQuote, BlockList, ListItem, TaskMarker, FootnoteDefinition, DefinitionList, DefinitionListTitle, DefinitionListDefinition, Text, OwnedText, Html, BlockNode, BlockDocument, Nil, Node, Table, TableHead, TableRow, TableCell}
+use Rattle.cmark_grammar.specs.BlockReading.{Reads, Around, Inside, Alone, First, Silent, first_event, read_as, over, starts_before}
 use Rattle.cmark_grammar.specs.Event.{Start, End, Ranged}
 use Rattle.cmark_grammar.specs.InlineReading.{event_of, inline_events}
 use Rattle.cmark_grammar.specs.Items.{ItemKind, Plain, Own, Written, Quoted, Delimiters, Code, InlineMath, DisplayMath, Autolink, Html as InlineHtml, OwnedHtml, FootnoteReference, SoftBreak, HardBreak, Item}
@@ -19,11 +19,31 @@ use Rattle.cmark_grammar.specs.SpanDocuments.{Segment, Given, Content, inside_of
 use Rattle.cmark_grammar.specs.TagEnd.{end_of}
 use Rattle.cmark_grammar.proofs.BalanceLaws.{IsFit, fit}
 use Rattle.cmark_inline_model.specs.ReadingRanges.{ranged, Matched, NoMore, Alone as AloneEvent, Pair}
+use Rattle.cmark_grammar.specs.Tag.{Tag}
 
--- an event of its own directly behind the first one
-pub matched-second : (r x : Ranged) (rest : List Ranged) → IsSingle r.event → Matched (x ∷ rest) → Matched (x ∷ (r ∷ rest))
-matched-second r _ _ fits (AloneEvent x after single b) = AloneEvent x (r ∷ after) single (AloneEvent r after fits b)
-matched-second r _ _ fits (Pair tag start end inside after i a) = Pair tag start end (r ∷ inside) after (AloneEvent r inside fits i) a
+-- an event of its own behind so many others
+abbrev pub put : ℕ → Ranged → List Ranged → List Ranged
+put zero r events = r ∷ events
+put (suc n) r [] = r ∷ []
+put (suc n) r (x ∷ events) = x ∷ put n r events
+
+put-within : (n : ℕ) (r : Ranged) (tag : Tag) (start end : ℕ) (inside after : List Ranged) → ((m : ℕ) → Matched (put m r inside)) → ((m : ℕ) → Matched (put m r after)) → Matched inside → Matched after
+    → Matched (ranged (Start tag) start end ∷ put n r (inside ++ (ranged (End (end_of tag)) start end ∷ after)))
+put-within n r tag start end inside after pi pa i a =
+    ⊎_elim (λ l. subst (λ es. Matched (ranged (Start tag) start end ∷ es)) (sym l) (Pair tag start end (put n r inside) after (pi n) a))
+    (λ m. subst (λ es. Matched (ranged (Start tag) start end ∷ es)) (sym m.1) (Pair tag start end inside (put m.0 r after) i (pa m.0))) (split n inside)
+  where
+    split : (n : ℕ) (inside : List Ranged) → (put n r (inside ++ (ranged (End (end_of tag)) start end ∷ after)) ≡ put n r inside ++ (ranged (End (end_of tag)) start end ∷ after))
+        ⊎ ((m : ℕ) × (put n r (inside ++ (ranged (End (end_of tag)) start end ∷ after)) ≡ inside ++ (ranged (End (end_of tag)) start end ∷ put m r after)))
+    split zero inside = inl refl
+    split (suc n) [] = inr (n, refl)
+    split (suc n) (x ∷ inside) = ⊎_elim (λ l. inl (ap (λ es. x ∷ es) l)) (λ m. inr (m.0, ap (λ es. x ∷ es) m.1)) (split n inside)
+
+pub matched-put : (n : ℕ) (r : Ranged) (events : List Ranged) → IsSingle r.event → Matched events → Matched (put n r events)
+matched-put zero r events fits m = AloneEvent r events fits m
+matched-put (suc n) r _ fits NoMore = AloneEvent r [] fits NoMore
+matched-put (suc n) r _ fits (AloneEvent x after single b) = AloneEvent x (put n r after) single (matched-put n r after fits b)
+matched-put (suc n) r _ fits (Pair tag start end inside after i a) = put-within n r tag start end inside after (λ m. matched-put m r inside fits i) (λ m. matched-put m r after fits a) i a
 
 pub matched-append : (first second : List Ranged) → Matched first → Matched second → Matched (first ++ second)
 matched-append _ second NoMore b = b
@@ -117,6 +137,9 @@ module _ (reader : Reader) (Says : Saying) where
   inside_matches (LinkDefinition reference) content others k = k
   inside_matches (BlockQuote alert) content others k = k
   inside_matches (FootnoteDefinition label) content others k = k
+  inside_matches (DefinitionList tight) content others k = k
+  inside_matches DefinitionListTitle content others k = leaf_matches _
+  inside_matches DefinitionListDefinition content others k = k
   inside_matches (BlockList number tight) content others k = k
   inside_matches ListItem content others k = k
   inside_matches (TaskMarker is_checked) content others k = k
@@ -137,18 +160,25 @@ module _ (reader : Reader) (Says : Saying) where
   node_matches (First event) node inside fits k = λ before after events h. subst Matched (sym h.0) NoMore
   node_matches Silent node inside fits k = λ before after events h. subst Matched (sym h.0) NoMore
 
-  first_matches : (element : Bool) (r : Ranged) (others : List Segment) → IsSingle r.event → (element ≡ true → (x : Ranged) × (more : List Segment) × (others ≡ Given x ∷ more)) → Balances others → Balances (first_of_segments element (Given r) others)
-  first_matches false r others fits begins k = λ before after events h. subst Matched (sym h.2) (AloneEvent r h.0 fits (k before after h.0 h.1))
-  first_matches true r [] fits begins k = λ before after events h. subst Matched (sym h.2) (AloneEvent r h.0 fits (k before after h.0 h.1))
-  first_matches true r (Given x ∷ others) fits begins k = λ before after events h. subst Matched (sym (h.2 ∙ ap (λ l. x ∷ l) h.1.2)) (matched-second r x h.1.0 fits (k before after (x ∷ h.1.0) (h.1.0, h.1.1, refl)))
-  first_matches true r (Content leaf ∷ others) fits begins k = absurd (let b = begins refl in let q : Content leaf ∷ others ≡ Given b.0 ∷ b.1 = b.2 in cc)
+  first_matches : (element : ℕ) (r : Ranged) (others : List Segment) → IsSingle r.event → StartsWith element others → Balances others → Balances (first_of_segments element (Given r) others)
+  first_matches zero r others fits begins k = λ before after events h. subst Matched (sym h.2) (AloneEvent r h.0 fits (k before after h.0 h.1))
+  first_matches (suc zero) r [] fits begins k = λ before after events h. subst Matched (sym h.2) (AloneEvent r h.0 fits (k before after h.0 h.1))
+  first_matches (suc zero) r (Given x ∷ others) fits begins k = λ before after events h. subst Matched (sym (h.2 ∙ ap (λ l. x ∷ l) h.1.2)) (matched-put 1 r (x ∷ h.1.0) fits (k before after (x ∷ h.1.0) (h.1.0, h.1.1, refl)))
+  first_matches (suc zero) r (Content leaf ∷ others) fits begins k = absurd (let q : Content leaf ∷ others ≡ Given begins.0 ∷ begins.1 = begins.2 in cc)
+  first_matches (suc (suc zero)) r [] fits begins k = absurd (let q : [] ≡ Given begins.0 ∷ (Given begins.1 ∷ begins.2) = begins.3 in cc)
+  first_matches (suc (suc zero)) r (Content leaf ∷ others) fits begins k = absurd (let q : Content leaf ∷ others ≡ Given begins.0 ∷ (Given begins.1 ∷ begins.2) = begins.3 in cc)
+  first_matches (suc (suc zero)) r (Given x ∷ []) fits begins k = absurd (let q : Given x ∷ [] ≡ Given begins.0 ∷ (Given begins.1 ∷ begins.2) = begins.3 in cc)
+  first_matches (suc (suc zero)) r (Given x ∷ (Content leaf ∷ others)) fits begins k = absurd (let q : Given x ∷ (Content leaf ∷ others) ≡ Given begins.0 ∷ (Given begins.1 ∷ begins.2) = begins.3 in cc)
+  first_matches (suc (suc zero)) r (Given x ∷ (Given y ∷ others)) fits begins k = λ before after events h.
+      subst Matched (sym (h.2 ∙ ap (λ l. x ∷ l) (h.1.2 ∙ ap (λ l. y ∷ l) h.1.1.2))) (matched-put 2 r (x ∷ (y ∷ h.1.1.0)) fits (k before after (x ∷ (y ∷ h.1.1.0)) (y ∷ h.1.1.0, (h.1.1.0, h.1.1.1, refl), refl)))
+  first_matches (suc (suc (suc n))) r others fits begins k = absurd begins
 
   with_matches : (reads : Reads) (node : BlockNode) (inside : List Segment) (behind : BlockDocument) → IsFit reads → Balances (node_segments reads node inside ++ segments behind)
-      → Balances (with_first_segment (first_event reads) (begins_element behind) node (node_segments reads node inside ++ segments behind))
+      → Balances (with_first_segment (first_event reads) (starts_before behind) node (node_segments reads node inside ++ segments behind))
   with_matches (Around tag) node inside behind fits k = k
   with_matches Inside node inside behind fits k = k
   with_matches (Alone event) node inside behind fits k = k
-  with_matches (First event) node inside behind fits k = first_matches (begins_element behind) (over node event) (segments behind) fits (λ e. let b = begins-start behind e in (b.0, b.1, b.2)) k
+  with_matches (First event) node inside behind fits k = first_matches (starts_before behind) (over node event) (segments behind) fits (begins-start behind) k
   with_matches Silent node inside behind fits k = k
 
   pub document-matched : (document : BlockDocument) → Balances (segments document)

@@ -1,9 +1,9 @@
 -- The events of a reading stand in order in the text, each element around what is inside it, but for what the pipe of a wikilink cuts.
 use Rattle.std.specs.Prelude.{zero, suc, ◌-◌, get_or}
-use Rattle.std.proofs.Common.{◌≡◌, ◌⊎◌, ⊎_elim, Bool, true, false, inl, inr, ℕ, ◌<◌, ◌≤◌, true≢false, List, [], ◌∷◌, ◌++◌, length, refl, sym, ap, subst, arith, ◌∙◌, append_assoc, append-nil}
+use Rattle.std.proofs.Common.{◌≡◌, ◌⊎◌, ⊎_elim, Bool, true, false, inl, inr, ℕ, ◌<◌, ◌≤◌, true≢false, List, [], ◌∷◌, ◌++◌, length, refl, sym, ap, subst, arith, ◌∙◌, append_assoc, append-nil, zero, suc}
 use Rattle.std.proofs.lemmas.Bool.{eq-eqb}
-use Rattle.cmark_grammar.specs.BlockDocument.{BlockKind, Paragraph, TightParagraph, Heading, ThematicBreak, IndentedCode, FencedCode, HtmlBlock, LinkDefinition, MetadataBlock, BlockQuote, BlockList, ListItem, TaskMarker, FootnoteDefinition, Text, OwnedText, Html, BlockNode, BlockDocument, Nil, Node, Table, TableHead, TableRow, TableCell}
-use Rattle.cmark_grammar.specs.BlockReading.{Reads as ReadsAs, Around, Inside, Alone, First, Silent, first_event, read_as, over, begins_element}
+use Rattle.cmark_grammar.specs.BlockDocument.{BlockKind, Paragraph, TightParagraph, Heading, ThematicBreak, IndentedCode, FencedCode, HtmlBlock, LinkDefinition, MetadataBlock, BlockQuote, BlockList, ListItem, TaskMarker, FootnoteDefinition, DefinitionList, DefinitionListTitle, DefinitionListDefinition, Text, OwnedText, Html, BlockNode, BlockDocument, Nil, Node, Table, TableHead, TableRow, TableCell}
+use Rattle.cmark_grammar.specs.BlockReading.{Reads as ReadsAs, Around, Inside, Alone, First, Silent, first_event, read_as, over, starts_before}
 use Rattle.cmark_grammar.specs.BracketDecisions.{decide}
 use Rattle.cmark_grammar.specs.BracketReading.{Reads}
 use Rattle.cmark_grammar.specs.BracketStates.{State, Decision}
@@ -22,6 +22,7 @@ use Rattle.cmark_grammar.specs.Readers.{Reader}
 use Rattle.cmark_grammar.specs.Siblings.{Inline, Nil as NoSpans, Single as SingleItem, Around as SpanAround}
 use Rattle.cmark_grammar.specs.SiblingsModel.{spans_in}
 use Rattle.cmark_grammar.specs.SpanDocuments.{Segment, Given, Content, stretches_of, leaf_of, inside_of, node_segments, first_of_segments, with_first_segment, segments, ReadsAll, Profile, reader_of, at_start, IsReading}
+use Rattle.cmark_grammar.specs.Tag as tags
 use Rattle.cmark_grammar.specs.Tag.{Tag}
 use Rattle.cmark_grammar.specs.TagEnd as tag_end
 use Rattle.cmark_grammar.proofs.BalanceLaws.{IsFit, fit}
@@ -30,7 +31,7 @@ use Rattle.cmark_inline_model.specs.LeafModel.{HaveLineEnds, AreLeavesOfLines}
 use Rattle.cmark_inline_model.specs.ReadingRanges as plain
 use Rattle.cmark_inline_model.specs.CutRanges.{IsBehindPipe, IsTask, BeginsWithTask, HasNoTasks, BeginsAt, InPlaceButCut, Nothing, Single, Element}
 use Rattle.cmark_inline_model.specs.ReadingRanges.{HasNo, HasNoDisplays, ranged, InPlace, LieWithin}
-use Rattle.cmark_inline_model.proofs.DocumentLeaves.{order-up, stretches-turn, begins-start}
+use Rattle.cmark_inline_model.proofs.DocumentLeaves.{order-up, stretches-turn, begins-start, StartsWith}
 use Rattle.cmark_inline_model.proofs.ForwardLaws.{leaf-forward, leaf-ranges}
 use Rattle.cmark_inline_model.proofs.LeafLines.{lines-split, derived-lines}
 use Rattle.cmark_inline_model.proofs.LeafPlaces.{lower, end-within, leaf-up}
@@ -90,17 +91,35 @@ module _ (options : Options) (text : List ℕ) where
   task_before : (from : ℕ) (m : Ranged) (events : List Ranged) (to : ℕ) → IsSingle m.event → from ≤ m.start → m.start ≤ m.end → Places options text m.end events to → Places options text from (m ∷ events) to
   task_before from m events to single a b k = Single from to m events single a b k
 
+  begins-up : (tag : Tag) (inside : List Ranged) (written start : ℕ) → BeginsAt options text tag inside written start → written ≤ start
+  begins-up tag inside written start (inl e) = omega (arith, e)
+  begins-up tag inside written start (inr (inl h)) = let q : written < start = h.1 in omega (arith, q)
+  begins-up tag inside written start (inr (inr h)) = h.0
+
   task_inside : (from : ℕ) (m x : Ranged) (rest : List Ranged) (to : ℕ) → IsTask m.event → IsSingle m.event → (tag : Tag) → x.event ≡ Start tag → from ≤ m.start → m.start ≤ m.end → Places options text m.end (x ∷ rest) to → Places options text from (x ∷ (m ∷ rest)) to
   task_inside from m _ _ _ task single t s a b (Single before to x after other c d k) = absurd (subst IsSingle s other)
   task_inside from m _ _ _ task single t s a b (Element before to tag written start end inside after c w d i k) =
       let begun : written ≤ start = begins-up tag inside written start w in
-      Element from to tag m.start start end (m ∷ inside) after a (inr (inr (omega arith, task))) d
+      Element from to tag m.start start end (m ∷ inside) after a (inr (inr (omega arith, inl task))) d
       (Single m.start end m inside single (let z : m.start ≤ m.start = omega arith in z) b (placed_lower options text m.end written inside end c i)) k
+
+  -- or as the first in the title with which it begins
+  task_within : (from : ℕ) (m x y : Ranged) (rest : List Ranged) (to : ℕ) → IsTask m.event → IsSingle m.event → (t : Tag) → x.event ≡ Start t → y.event ≡ Start tags.DefinitionListTitle → from ≤ m.start → m.start ≤ m.end
+      → (es : List Ranged) → es ≡ y ∷ rest → Places options text m.end (x ∷ es) to → Places options text from (x ∷ (y ∷ (m ∷ rest))) to
+  task_within from m _ y rest _ task single t s ty a b _ e (Single before to x after other c d k) = absurd (subst IsSingle s other)
+  task_within from m _ y rest _ task single t s ty a b _ e (Element before to tag written start end inside after c w d i k) = go inside w i e
     where
-      begins-up : (tag : Tag) (inside : List Ranged) (written start : ℕ) → BeginsAt options text tag inside written start → written ≤ start
-      begins-up tag inside written start (inl e) = omega (arith, e)
-      begins-up tag inside written start (inr (inl h)) = let q : written < start = h.1 in omega (arith, q)
-      begins-up tag inside written start (inr (inr h)) = h.0
+      go : (inside : List Ranged) → BeginsAt options text tag inside written start → Places options text written inside end → (inside ++ (ranged (End (tag_end.end_of tag)) start end ∷ after)) ≡ y ∷ rest
+          → Places options text from (ranged (Start tag) start end ∷ (y ∷ (m ∷ rest))) to
+      go [] w i e = absurd (let q : ranged (End (tag_end.end_of tag)) start end ≡ y = cc in let z : End (tag_end.end_of tag) ≡ Start tags.DefinitionListTitle = ap (λ r. r.event) q ∙ ty in cc)
+      go (z ∷ inside) w i e =
+          let same : z ≡ y = cc in
+          let others : inside ++ (ranged (End (tag_end.end_of tag)) start end ∷ after) ≡ rest = cc in
+          let begun : written ≤ start = begins-up tag (z ∷ inside) written start w in
+          let tz : z.event ≡ Start tags.DefinitionListTitle = ap (λ r. r.event) same ∙ ty in
+          let first : Places options text m.start (z ∷ (m ∷ inside)) end = task_inside m.start m z inside end task single tags.DefinitionListTitle tz (omega arith) b (placed_lower options text m.end written (z ∷ inside) end c i) in
+          subst (λ l. Places options text from (ranged (Start tag) start end ∷ l) to) (ap (λ r. r ∷ (m ∷ (inside ++ (ranged (End (tag_end.end_of tag)) start end ∷ after)))) same ∙ ap (λ l. y ∷ (m ∷ l)) others)
+          (Element from to tag m.start start end (z ∷ (m ∷ inside)) after a (inr (inr (omega arith, inr (tz, inl task)))) d first k)
 
 module _ (reader : Reader) (Says : Saying) where
   abbrev Stand : (from : ℕ) → List Ranged → (to : ℕ) → Type 0
@@ -160,6 +179,9 @@ module _ (reader : Reader) (Says : Saying) where
   inside_placed (LinkDefinition reference) content from to o k = k
   inside_placed (BlockQuote alert) content from to o k = k
   inside_placed (FootnoteDefinition label) content from to o k = k
+  inside_placed (DefinitionList tight) content from to o k = k
+  inside_placed DefinitionListTitle content from to o k = content_placed DefinitionListTitle content from to o
+  inside_placed DefinitionListDefinition content from to o k = k
   inside_placed (BlockList number tight) content from to o k = k
   inside_placed ListItem content from to o k = k
   inside_placed (TaskMarker is_checked) content from to o k = k
@@ -182,8 +204,8 @@ module _ (reader : Reader) (Says : Saying) where
   node_placed Silent node inside from fits a b k = λ bound lines before after events h. subst (λ es. Stand from es node.end) (sym h.0) (Nothing from node.end (omega arith))
 
   -- a task marker and what is read behind it
-  first_placed : (m : Ranged) (document : BlockDocument) (from to : ℕ) → IsTask m.event → IsSingle m.event → from ≤ m.start → m.start ≤ m.end → Placed m.end to (segments document) → Placed from to (first_of_segments (begins_element document) (Given m) (segments document))
-  first_placed m document from to task single a b k = go (begins_element document) refl
+  first_placed : (m : Ranged) (document : BlockDocument) (from to : ℕ) → IsTask m.event → IsSingle m.event → from ≤ m.start → m.start ≤ m.end → Placed m.end to (segments document) → Placed from to (first_of_segments (starts_before document) (Given m) (segments document))
+  first_placed m document from to task single a b k = go (starts_before document) (begins-start document)
     where
       before_all : Placed from to (Given m ∷ segments document)
       before_all bound lines before after events h = subst (λ es. Stand from es to) (sym h.2) (task_before reader.options reader.source from m h.0 to single a b (k bound lines before after h.0 h.1))
@@ -193,11 +215,16 @@ module _ (reader : Reader) (Says : Saying) where
           subst (λ es. Stand from es to) (sym (h.2 ∙ ap (λ l. x ∷ l) h.1.2))
           (task_inside reader.options reader.source from m x h.1.0 to task single tag e a b (l bound lines before after (x ∷ h.1.0) (h.1.0, h.1.1, refl)))
 
-      go : (z : Bool) → begins_element document ≡ z → Placed from to (first_of_segments z (Given m) (segments document))
-      go false e = before_all
-      go true e =
-          let b = begins-start document e in
-          subst (λ l. Placed from to (first_of_segments true (Given m) l)) (sym b.2) (second b.0 b.1 b.3 b.4 (subst (λ l. Placed m.end to l) b.2 k))
+      third : (x y : Ranged) (others : List Segment) (t : Tag) → x.event ≡ Start t → y.event ≡ Start tags.DefinitionListTitle → Placed m.end to (Given x ∷ (Given y ∷ others)) → Placed from to (Given x ∷ (Given y ∷ (Given m ∷ others)))
+      third x y others t e ty l bound lines before after events h =
+          subst (λ es. Stand from es to) (sym (h.2 ∙ ap (λ l. x ∷ l) (h.1.2 ∙ ap (λ l. y ∷ l) h.1.1.2)))
+          (task_within reader.options reader.source from m x y h.1.1.0 to task single t e ty a b (y ∷ h.1.1.0) refl (l bound lines before after (x ∷ (y ∷ h.1.1.0)) (y ∷ h.1.1.0, (h.1.1.0, h.1.1.1, refl), refl)))
+
+      go : (n : ℕ) → StartsWith n (segments document) → Placed from to (first_of_segments n (Given m) (segments document))
+      go zero b = before_all
+      go (suc zero) b = subst (λ l. Placed from to (first_of_segments 1 (Given m) l)) (sym b.2) (second b.0 b.1 b.3 b.4 (subst (λ l. Placed m.end to l) b.2 k))
+      go (suc (suc zero)) b = subst (λ l. Placed from to (first_of_segments 2 (Given m) l)) (sym b.3) (third b.0 b.1 b.2 b.4 b.5 b.6 (subst (λ l. Placed m.end to l) b.3 k))
+      go (suc (suc (suc n))) b = absurd b
 
   -- a node and those behind it
   both_placed : (first second : List Segment) (from mid to : ℕ) → mid ≤ to → Placed from mid first → Placed mid to second → Placed from to (first ++ second)
@@ -227,6 +254,9 @@ module _ (reader : Reader) (Says : Saying) where
   task_first (LinkDefinition reference) = tt
   task_first (BlockQuote alert) = tt
   task_first (FootnoteDefinition label) = tt
+  task_first (DefinitionList tight) = tt
+  task_first DefinitionListTitle = tt
+  task_first DefinitionListDefinition = tt
   task_first (BlockList number tight) = tt
   task_first ListItem = tt
   task_first (TaskMarker is_checked) = tt
@@ -235,7 +265,7 @@ module _ (reader : Reader) (Says : Saying) where
   task_first (Html bytes) = tt
 
   with_placed : (reads : ReadsAs) (node : BlockNode) (from to : ℕ) → IsFit reads → IsTaskFirst reads → from ≤ node.start → node.start ≤ node.end → node.end ≤ to → (inside : List Segment) (behind : BlockDocument)
-      → Placed from node.end (node_segments reads node inside) → Placed node.end to (segments behind) → Placed from to (with_first_segment (first_event reads) (begins_element behind) node (node_segments reads node inside ++ segments behind))
+      → Placed from node.end (node_segments reads node inside) → Placed node.end to (segments behind) → Placed from to (with_first_segment (first_event reads) (starts_before behind) node (node_segments reads node inside ++ segments behind))
   with_placed (Around tag) node from to fits first a b on inside behind k l = both_placed (node_segments (Around tag) node inside) (segments behind) from node.end to on k l
   with_placed Inside node from to fits first a b on inside behind k l = both_placed inside (segments behind) from node.end to on k l
   with_placed (Alone event) node from to fits first a b on inside behind k l = both_placed (Given (over node event) ∷ []) (segments behind) from node.end to on k l
@@ -274,7 +304,8 @@ module _ (options : Options) (text : List ℕ) (none : HasNoDisplays options tex
 
   no_task : (inside : List Ranged) → HasNoTasks inside → BeginsWithTask inside → ⊥
   no_task [] n h = h
-  no_task (r ∷ others) n h = n.0 h
+  no_task (r ∷ others) n (inl h) = n.0 h
+  no_task (r ∷ others) n (inr h) = no_task others n.1 h.1
 
   uncut_begin : (tag : Tag) (inside : List Ranged) (written start : ℕ) → HasNoTasks inside → BeginsAt options text tag inside written start → start ≡ written
   uncut_begin tag inside written start n (inl e) = e

@@ -1,7 +1,7 @@
 -- The segments of a document: its blocks are no links and need no option of spans, and its leaves stand one behind the other.
-use Rattle.std.proofs.Common.{Bool, true, false, ◌≡◌, ℕ, ◌≤◌, List, [], ◌∷◌, ◌++◌, refl, arith}
-use Rattle.cmark_grammar.specs.BlockDocument.{BlockKind, Paragraph, TightParagraph, Heading, ThematicBreak, IndentedCode, FencedCode, HtmlBlock, LinkDefinition, MetadataBlock, BlockQuote, BlockList, ListItem, TaskMarker, FootnoteDefinition, Text, OwnedText, Html, BlockNode, BlockDocument, Nil, Node, Table, TableHead, TableRow, TableCell}
-use Rattle.cmark_grammar.specs.BlockReading.{Reads, Around, Inside, Alone, First, Silent, begins_element, first_event, read_as, over}
+use Rattle.std.proofs.Common.{Bool, true, false, ◌≡◌, ℕ, ◌≤◌, List, [], ◌∷◌, ◌++◌, refl, arith, zero, suc}
+use Rattle.cmark_grammar.specs.BlockDocument.{BlockKind, Paragraph, TightParagraph, Heading, ThematicBreak, IndentedCode, FencedCode, HtmlBlock, LinkDefinition, MetadataBlock, BlockQuote, BlockList, ListItem, TaskMarker, FootnoteDefinition, DefinitionList, DefinitionListTitle, DefinitionListDefinition, Text, OwnedText, Html, BlockNode, BlockDocument, Nil, Node, Table, TableHead, TableRow, TableCell}
+use Rattle.cmark_grammar.specs.BlockReading.{Reads, Around, Inside, Alone, First, Silent, starts_before, first_event, read_as, over}
 use Rattle.cmark_grammar.specs.Event.{Event, Start, End, Ranged}
 use Rattle.cmark_grammar.specs.LeafText.{Stretch, InTurn}
 use Rattle.cmark_grammar.specs.Options.{Options}
@@ -48,6 +48,9 @@ inside_given Holds TableCell content others k = tt
 inside_given Holds (LinkDefinition reference) content others k = k
 inside_given Holds (BlockQuote alert) content others k = k
 inside_given Holds (FootnoteDefinition label) content others k = k
+inside_given Holds (DefinitionList tight) content others k = k
+inside_given Holds DefinitionListTitle content others k = tt
+inside_given Holds DefinitionListDefinition content others k = k
 inside_given Holds (BlockList number tight) content others k = k
 inside_given Holds ListItem content others k = k
 inside_given Holds (TaskMarker is_checked) content others k = k
@@ -62,13 +65,13 @@ node_given Holds (Alone event) node inside h k = (h, tt)
 node_given Holds (First event) node inside h k = tt
 node_given Holds Silent node inside h k = tt
 
-first_given : (Holds : Event → Type 0) (element : Bool) (r : Ranged) (others : List Segment) → Holds r.event → AllGiven Holds others → AllGiven Holds (first_of_segments element (Given r) others)
-first_given Holds true r [] h k = (h, tt)
-first_given Holds true r (Given x ∷ others) h k = (k.0, (h, k.1))
-first_given Holds true r (Content leaf ∷ others) h k = (h, k)
-first_given Holds false r others h k = (h, k)
+first_given : (Holds : Event → Type 0) (element : ℕ) (r : Ranged) (others : List Segment) → Holds r.event → AllGiven Holds others → AllGiven Holds (first_of_segments element (Given r) others)
+first_given Holds zero r others h k = (h, k)
+first_given Holds (suc element) r [] h k = (h, tt)
+first_given Holds (suc element) r (Given x ∷ others) h k = (k.0, first_given Holds element r others h k.1)
+first_given Holds (suc element) r (Content leaf ∷ others) h k = first_given Holds element r others h k
 
-with_given : (Holds : Event → Type 0) (reads : Reads) (element : Bool) (node : BlockNode) (others : List Segment) → GivenBy Holds reads → AllGiven Holds others → AllGiven Holds (with_first_segment (first_event reads) element node others)
+with_given : (Holds : Event → Type 0) (reads : Reads) (element : ℕ) (node : BlockNode) (others : List Segment) → GivenBy Holds reads → AllGiven Holds others → AllGiven Holds (with_first_segment (first_event reads) element node others)
 with_given Holds (Around tag) element node others h k = k
 with_given Holds Inside element node others h k = k
 with_given Holds (Alone event) element node others h k = k
@@ -79,7 +82,7 @@ segments_given : (Holds : Event → Type 0) → ((kind : BlockKind) → GivenBy 
 segments_given Holds kinds Nil = tt
 segments_given Holds kinds (Node node inside after) =
     let own = inside_of node.kind inside (segments inside) in
-    with_given Holds (read_as node.kind) (begins_element after) node (node_segments (read_as node.kind) node own ++ segments after) (kinds node.kind)
+    with_given Holds (read_as node.kind) (starts_before after) node (node_segments (read_as node.kind) node own ++ segments after) (kinds node.kind)
     (given_append Holds (node_segments (read_as node.kind) node own) (segments after)
     (node_given Holds (read_as node.kind) node own (kinds node.kind) (inside_given Holds node.kind inside (segments inside) (segments_given Holds kinds inside)))
     (segments_given Holds kinds after))
@@ -104,6 +107,9 @@ kind_neither TableCell = (refl, refl)
 kind_neither (LinkDefinition reference) = tt
 kind_neither (BlockQuote alert) = (refl, refl)
 kind_neither (FootnoteDefinition label) = (refl, refl)
+kind_neither (DefinitionList tight) = (refl, refl)
+kind_neither DefinitionListTitle = (refl, refl)
+kind_neither DefinitionListDefinition = (refl, refl)
 kind_neither (BlockList number tight) = (refl, refl)
 kind_neither ListItem = (refl, refl)
 kind_neither (TaskMarker is_checked) = refl
@@ -131,6 +137,9 @@ kind_optionless options TableCell = (tt, tt)
 kind_optionless options (LinkDefinition reference) = tt
 kind_optionless options (BlockQuote alert) = (tt, tt)
 kind_optionless options (FootnoteDefinition label) = (tt, tt)
+kind_optionless options (DefinitionList tight) = (tt, tt)
+kind_optionless options DefinitionListTitle = (tt, tt)
+kind_optionless options DefinitionListDefinition = (tt, tt)
 kind_optionless options (BlockList number tight) = (tt, tt)
 kind_optionless options ListItem = (tt, tt)
 kind_optionless options (TaskMarker is_checked) = tt
@@ -182,6 +191,9 @@ inside_rise from to TableCell content others h k = leaf_rise from to TableCell c
 inside_rise from to (LinkDefinition reference) content others h k = k
 inside_rise from to (BlockQuote alert) content others h k = k
 inside_rise from to (FootnoteDefinition label) content others h k = k
+inside_rise from to (DefinitionList tight) content others h k = k
+inside_rise from to DefinitionListTitle content others h k = leaf_rise from to DefinitionListTitle content h
+inside_rise from to DefinitionListDefinition content others h k = k
 inside_rise from to (BlockList number tight) content others h k = k
 inside_rise from to ListItem content others h k = k
 inside_rise from to (TaskMarker is_checked) content others h k = k
@@ -196,13 +208,13 @@ node_rise from to (Alone event) node inside e h = e
 node_rise from to (First event) node inside e h = e
 node_rise from to Silent node inside e h = e
 
-first_rise : (from to : ℕ) (element : Bool) (r : Ranged) (others : List Segment) → LeavesRise from others to → LeavesRise from (first_of_segments element (Given r) others) to
-first_rise from to true r [] h = h
-first_rise from to true r (Given x ∷ others) h = h
-first_rise from to true r (Content leaf ∷ others) h = h
-first_rise from to false r others h = h
+first_rise : (from to : ℕ) (element : ℕ) (r : Ranged) (others : List Segment) → LeavesRise from others to → LeavesRise from (first_of_segments element (Given r) others) to
+first_rise from to zero r others h = h
+first_rise from to (suc element) r [] h = h
+first_rise from to (suc element) r (Given x ∷ others) h = first_rise from to element r others h
+first_rise from to (suc element) r (Content leaf ∷ others) h = (h.0, h.1, first_rise h.0 to element r others h.2)
 
-with_rise : (from to : ℕ) (reads : Reads) (element : Bool) (node : BlockNode) (others : List Segment) → LeavesRise from others to → LeavesRise from (with_first_segment (first_event reads) element node others) to
+with_rise : (from to : ℕ) (reads : Reads) (element : ℕ) (node : BlockNode) (others : List Segment) → LeavesRise from others to → LeavesRise from (with_first_segment (first_event reads) element node others) to
 with_rise from to (Around tag) element node others h = h
 with_rise from to Inside element node others h = h
 with_rise from to (Alone event) element node others h = h
@@ -214,7 +226,7 @@ segments-rise from Nil to h = h
 segments-rise from (Node node inside after) to h =
     let own = inside_of node.kind inside (segments inside) in
     let up = order-up node.start inside node.end h.1 in
-    with_rise from to (read_as node.kind) (begins_element after) node (node_segments (read_as node.kind) node own ++ segments after)
+    with_rise from to (read_as node.kind) (starts_before after) node (node_segments (read_as node.kind) node own ++ segments after)
     (rise_append from node.end to (node_segments (read_as node.kind) node own) (segments after)
     (rise_from from node.start (node_segments (read_as node.kind) node own) node.end h.0
     (node_rise node.start node.end (read_as node.kind) node own up (inside_rise node.start node.end node.kind inside (segments inside) h.1 (segments-rise node.start inside node.end h.1))))

@@ -1,12 +1,12 @@
 -- What a walk gives is balanced, with ranges that cut no character.
-use Rattle.cmark_inline_model.proofs.DocumentLeaves.{begins-start}
+use Rattle.cmark_inline_model.proofs.DocumentLeaves.{StartsWith, begins-start}
 use Rattle.std.specs.Prelude.{IsUtf8, IsCharBoundary, if◌then◌else◌}
-use Rattle.std.proofs.Common.{◌≡◌, ℕ, List, [], ◌∷◌, ◌++◌, refl, sym, ap, subst, ◌∙◌, Bool, true, false}
+use Rattle.std.proofs.Common.{◌≡◌, ℕ, List, [], ◌∷◌, ◌++◌, refl, sym, ap, subst, ◌∙◌, Bool, true, false, zero, suc}
 use Rattle.std.proofs.lemmas.List.{append_assoc}
 use Rattle.cmark_grammar.specs.Answers.{Lookup}
 use Rattle.cmark_grammar.specs.Balance.{IsSingle}
-use Rattle.cmark_grammar.specs.BlockDocument.{BlockKind, Paragraph, TightParagraph, Heading, ThematicBreak, IndentedCode, FencedCode, HtmlBlock, LinkDefinition, MetadataBlock, BlockQuote, BlockList, ListItem, TaskMarker, FootnoteDefinition, Text, OwnedText, Html, BlockNode, BlockDocument, Nil, Node, Table, TableHead, TableRow, TableCell}
-use Rattle.cmark_grammar.specs.BlockReading.{Reads, Around, Inside, Alone, First, Silent, first_event, read_as, over, begins_element}
+use Rattle.cmark_grammar.specs.BlockDocument.{BlockKind, Paragraph, TightParagraph, Heading, ThematicBreak, IndentedCode, FencedCode, HtmlBlock, LinkDefinition, MetadataBlock, BlockQuote, BlockList, ListItem, TaskMarker, FootnoteDefinition, DefinitionList, DefinitionListTitle, DefinitionListDefinition, Text, OwnedText, Html, BlockNode, BlockDocument, Nil, Node, Table, TableHead, TableRow, TableCell}
+use Rattle.cmark_grammar.specs.BlockReading.{Reads, Around, Inside, Alone, First, Silent, first_event, read_as, over, starts_before}
 use Rattle.cmark_grammar.specs.Derivation.{Derives}
 use Rattle.cmark_grammar.specs.Event.{Event, Start, End, Text as TextEvent, Code, InlineHtml, SoftBreak, HardBreak, Ranged}
 use Rattle.cmark_grammar.specs.Event as event
@@ -20,7 +20,7 @@ use Rattle.cmark_grammar.proofs.BalanceLaws.{IsFit, fit}
 use Rattle.cmark_grammar.proofs.BoundaryLaws.{derived-boundaries}
 use Rattle.cmark_inline_model.specs.CharacterRanges.{CutNoCharacter}
 use Rattle.cmark_inline_model.specs.ReadingRanges.{ranged, Matched, NoMore, Alone as AloneEvent, Pair}
-use Rattle.cmark_inline_model.proofs.ReadingBalanced.{matched-second, matched-append}
+use Rattle.cmark_inline_model.proofs.ReadingBalanced.{matched-put, matched-append}
 
 inline_single : (e : Event) → IsInline e → IsSingle e
 inline_single (TextEvent text) h = tt
@@ -103,6 +103,9 @@ module _ (text : List ℕ) where
   inside_matches TableCell content others k = leaf_matches _
   inside_matches (BlockQuote alert) content others k = k
   inside_matches (FootnoteDefinition label) content others k = k
+  inside_matches (DefinitionList tight) content others k = k
+  inside_matches DefinitionListTitle content others k = leaf_matches _
+  inside_matches DefinitionListDefinition content others k = k
   inside_matches (BlockList number tight) content others k = k
   inside_matches ListItem content others k = k
   inside_matches (TaskMarker is_checked) content others k = k
@@ -122,18 +125,25 @@ module _ (text : List ℕ) where
   node_matches (First event) node inside fits k = λ events h. subst Matched (sym h) NoMore
   node_matches Silent node inside fits k = λ events h. subst Matched (sym h) NoMore
 
-  first_matches : (element : Bool) (r : Ranged) (others : List Segment) → IsSingle r.event → (element ≡ true → (x : Ranged) × (more : List Segment) × (others ≡ Given x ∷ more)) → Balances others → Balances (first_of_segments element (Given r) others)
-  first_matches false r others fits begins k = λ events h. subst Matched (sym h.1) (AloneEvent r h.0 fits (k h.0 h.2))
-  first_matches true r [] fits begins k = λ events h. subst Matched (sym h.1) (AloneEvent r h.0 fits (k h.0 h.2))
-  first_matches true r (Given x ∷ others) fits begins k = λ events h. subst Matched (sym (h.1 ∙ ap (λ l. x ∷ l) h.2.1)) (matched-second r x h.2.0 fits (k (x ∷ h.2.0) (h.2.0, refl, h.2.2)))
-  first_matches true r (Content leaf ∷ others) fits begins k = absurd (let b = begins refl in let q : Content leaf ∷ others ≡ Given b.0 ∷ b.1 = b.2 in cc)
+  first_matches : (element : ℕ) (r : Ranged) (others : List Segment) → IsSingle r.event → StartsWith element others → Balances others → Balances (first_of_segments element (Given r) others)
+  first_matches zero r others fits begins k = λ events h. subst Matched (sym h.1) (AloneEvent r h.0 fits (k h.0 h.2))
+  first_matches (suc zero) r [] fits begins k = λ events h. subst Matched (sym h.1) (AloneEvent r h.0 fits (k h.0 h.2))
+  first_matches (suc zero) r (Given x ∷ others) fits begins k = λ events h. subst Matched (sym (h.1 ∙ ap (λ l. x ∷ l) h.2.1)) (matched-put 1 r (x ∷ h.2.0) fits (k (x ∷ h.2.0) (h.2.0, refl, h.2.2)))
+  first_matches (suc zero) r (Content leaf ∷ others) fits begins k = absurd (let q : Content leaf ∷ others ≡ Given begins.0 ∷ begins.1 = begins.2 in cc)
+  first_matches (suc (suc zero)) r [] fits begins k = absurd (let q : [] ≡ Given begins.0 ∷ (Given begins.1 ∷ begins.2) = begins.3 in cc)
+  first_matches (suc (suc zero)) r (Content leaf ∷ others) fits begins k = absurd (let q : Content leaf ∷ others ≡ Given begins.0 ∷ (Given begins.1 ∷ begins.2) = begins.3 in cc)
+  first_matches (suc (suc zero)) r (Given x ∷ []) fits begins k = absurd (let q : Given x ∷ [] ≡ Given begins.0 ∷ (Given begins.1 ∷ begins.2) = begins.3 in cc)
+  first_matches (suc (suc zero)) r (Given x ∷ (Content leaf ∷ others)) fits begins k = absurd (let q : Given x ∷ (Content leaf ∷ others) ≡ Given begins.0 ∷ (Given begins.1 ∷ begins.2) = begins.3 in cc)
+  first_matches (suc (suc zero)) r (Given x ∷ (Given y ∷ others)) fits begins k = λ events h.
+      subst Matched (sym (h.1 ∙ ap (λ l. x ∷ l) (h.2.1 ∙ ap (λ l. y ∷ l) h.2.2.1))) (matched-put 2 r (x ∷ (y ∷ h.2.2.0)) fits (k (x ∷ (y ∷ h.2.2.0)) (y ∷ h.2.2.0, refl, (h.2.2.0, refl, h.2.2.2))))
+  first_matches (suc (suc (suc n))) r others fits begins k = absurd begins
 
   with_matches : (reads : Reads) (node : BlockNode) (inside : List Segment) (after : BlockDocument) → IsFit reads → Balances (node_segments reads node inside ++ segments after)
-      → Balances (with_first_segment (first_event reads) (begins_element after) node (node_segments reads node inside ++ segments after))
+      → Balances (with_first_segment (first_event reads) (starts_before after) node (node_segments reads node inside ++ segments after))
   with_matches (Around tag) node inside after fits k = k
   with_matches Inside node inside after fits k = k
   with_matches (Alone event) node inside after fits k = k
-  with_matches (First event) node inside after fits k = first_matches (begins_element after) (over node event) (segments after) fits (λ e. let b = begins-start after e in (b.0, b.1, b.2)) k
+  with_matches (First event) node inside after fits k = first_matches (starts_before after) (over node event) (segments after) fits (begins-start after) k
   with_matches Silent node inside after fits k = k
 
   pub walk-matched : (document : BlockDocument) (events : List Ranged) → AreGiven text (segments document) events → Matched events
@@ -176,6 +186,9 @@ module _ (text : List ℕ) where
   inside_edges TableCell content others k = tt
   inside_edges (BlockQuote alert) content others k = k
   inside_edges (FootnoteDefinition label) content others k = k
+  inside_edges (DefinitionList tight) content others k = k
+  inside_edges DefinitionListTitle content others k = tt
+  inside_edges DefinitionListDefinition content others k = k
   inside_edges (BlockList number tight) content others k = k
   inside_edges ListItem content others k = k
   inside_edges (TaskMarker is_checked) content others k = k
@@ -190,13 +203,13 @@ module _ (text : List ℕ) where
   node_edges (First event) node inside a b k = tt
   node_edges Silent node inside a b k = tt
 
-  first_edges : (element : Bool) (r : Ranged) (others : List Segment) → Edge r.start → Edge r.end → EdgesGiven others → EdgesGiven (first_of_segments element (Given r) others)
-  first_edges true r [] a b k = (a, b, k)
-  first_edges true r (Given x ∷ others) a b k = (k.0, k.1, (a, b, k.2))
-  first_edges true r (Content leaf ∷ others) a b k = (a, b, k)
-  first_edges false r others a b k = (a, b, k)
+  first_edges : (element : ℕ) (r : Ranged) (others : List Segment) → Edge r.start → Edge r.end → EdgesGiven others → EdgesGiven (first_of_segments element (Given r) others)
+  first_edges zero r others a b k = (a, b, k)
+  first_edges (suc element) r [] a b k = (a, b, k)
+  first_edges (suc element) r (Given x ∷ others) a b k = (k.0, k.1, first_edges element r others a b k.2)
+  first_edges (suc element) r (Content leaf ∷ others) a b k = first_edges element r others a b k
 
-  with_edges : (reads : Reads) (element : Bool) (node : BlockNode) (others : List Segment) → Edge node.start → Edge node.end → EdgesGiven others → EdgesGiven (with_first_segment (first_event reads) element node others)
+  with_edges : (reads : Reads) (element : ℕ) (node : BlockNode) (others : List Segment) → Edge node.start → Edge node.end → EdgesGiven others → EdgesGiven (with_first_segment (first_event reads) element node others)
   with_edges (Around tag) element node others a b k = k
   with_edges Inside element node others a b k = k
   with_edges (Alone event) element node others a b k = k
@@ -207,7 +220,7 @@ module _ (text : List ℕ) where
   segments_edges Nil h = tt
   segments_edges (Node node inside after) h =
       let own = inside_of node.kind inside (segments inside) in
-      with_edges (read_as node.kind) (begins_element after) node (node_segments (read_as node.kind) node own ++ segments after) h.0 h.1
+      with_edges (read_as node.kind) (starts_before after) node (node_segments (read_as node.kind) node own ++ segments after) h.0 h.1
       (edges_append (node_segments (read_as node.kind) node own) (segments after)
       (node_edges (read_as node.kind) node own h.0 h.1 (inside_edges node.kind inside (segments inside) (segments_edges inside h.2))) (segments_edges after h.3))
 

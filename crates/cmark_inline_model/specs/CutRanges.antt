@@ -3,7 +3,7 @@ use Rattle.std.specs.Prelude.{◌≡◌, ◌⊎◌, ℕ, ◌-◌, ◌≤◌, ◌
 use Rattle.cmark_grammar.specs.Balance.{IsSingle}
 use Rattle.cmark_grammar.specs.Event.{Event, Start, End, TaskListMarker, Ranged}
 use Rattle.cmark_grammar.specs.Options.{Options}
-use Rattle.cmark_grammar.specs.Tag.{Tag, Link, Image}
+use Rattle.cmark_grammar.specs.Tag.{Tag, Link, Image, DefinitionListTitle}
 use Rattle.cmark_grammar.specs.TagEnd.{end_of}
 use Rattle.cmark_inline_model.specs.ReadingRanges.{ranged}
 
@@ -22,18 +22,18 @@ abbrev pub IsTask : Event → Type 0
 IsTask (TaskListMarker is_checked) = Unit {0}
 IsTask _ = ⊥
 
--- the first event is a task marker
+-- the first event is a task marker, or the start of a title that begins with one
 abbrev pub BeginsWithTask : List Ranged → Type 0
 BeginsWithTask [] = ⊥
-BeginsWithTask (r ∷ others) = IsTask r.event
+BeginsWithTask (r ∷ others) = IsTask r.event ⊎ ((r.event ≡ Start DefinitionListTitle) × BeginsWithTask others)
 
 -- none is
 abbrev pub HasNoTasks : List Ranged → Type 0
 HasNoTasks [] = Unit {0}
 HasNoTasks (r ∷ others) = (IsTask r.event → ⊥) × HasNoTasks others
 
--- an element begins where it is written to begin; but a link or an image that a pipe cuts begins directly behind the pipe, and a paragraph
--- or a heading behind its task marker (GFM 5.3)
+-- an element begins where it is written to begin; but a link or an image that a pipe cuts begins directly behind the pipe, and a paragraph,
+-- a heading or a title behind its task marker, and so does the definition list that begins with this title (GFM 5.3)
 abbrev pub BeginsAt : Options → (text : List ℕ) → Tag → List Ranged → (written start : ℕ) → Type 0
 BeginsAt options text tag inside written start =
     (start ≡ written) ⊎ ((IsLinkOrImage tag × (written < start) × IsBehindPipe options text start) ⊎ ((written ≤ start) × BeginsWithTask inside))

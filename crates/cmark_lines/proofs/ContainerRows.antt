@@ -38,6 +38,7 @@ shows-quote s k is h = by k (subst (λ x. Shows x k) is h)
     by (grammar.Quote alert) p = (alert, refl)
     by (grammar.Item mark number width task) p = absurd p
     by (grammar.Footnote label old size) p = absurd p
+    by (grammar.ListDefinition width) p = absurd p
 
 pub shows-item : (s : Container) (w : ℕ) (k : grammar.Container) → s ≡ kept.Item w → Shows s k → (mark : ℕ) × ((number : Option ℕ) × ((task : Option Bool) × (k ≡ grammar.Item mark number w task)))
 shows-item s w k is h = by k (subst (λ x. Shows x k) is h)
@@ -46,6 +47,7 @@ shows-item s w k is h = by k (subst (λ x. Shows x k) is h)
     by (grammar.Quote alert) p = absurd p
     by (grammar.Item mark number width task) p = (mark, (number, (task, ap (λ n. grammar.Item mark number n task) (sym p))))
     by (grammar.Footnote label old size) p = absurd p
+    by (grammar.ListDefinition width) p = absurd p
 
 pub shows-footnote : (s : Container) (old : Bool) (k : grammar.Container) → s ≡ kept.Footnote old → Shows s k → (label : List ℕ) × ((size : ℕ) × (k ≡ grammar.Footnote label old size))
 shows-footnote s old k is h = by k (subst (λ x. Shows x k) is h)
@@ -54,6 +56,21 @@ shows-footnote s old k is h = by k (subst (λ x. Shows x k) is h)
     by (grammar.Quote alert) p = absurd p
     by (grammar.Item mark number width task) p = absurd p
     by (grammar.Footnote label o size) p = (label, (size, ap (λ z. grammar.Footnote label z size) (sym p)))
+    by (grammar.ListDefinition width) p = absurd p
+
+pub shows-definition : (s : Container) (w : ℕ) (k : grammar.Container) → s ≡ kept.Definition w → Shows s k → k ≡ grammar.ListDefinition w
+shows-definition s w k is h = by k (subst (λ x. Shows x k) is h)
+  where
+    by : (k : grammar.Container) → Shows (kept.Definition w) k → k ≡ grammar.ListDefinition w
+    by (grammar.Quote alert) p = absurd p
+    by (grammar.Item mark number width task) p = absurd p
+    by (grammar.Footnote label old size) p = absurd p
+    by (grammar.ListDefinition width) p = ap grammar.ListDefinition (sym p)
+
+-- a definition keeps a line as an item of its width does
+pub definition-keeps : (w : ℕ) (r : Row) → keeps (grammar.Item 0 None w None) false r ≡ keeps (grammar.ListDefinition w) false r
+unfolding keeps
+definition-keeps w r = refl
 
 -- a footnote definition keeps a line as an item of four columns does
 pub footnote-keeps : (label : List ℕ) (size : ℕ) (r : Row) → keeps (grammar.Item 0 None 4 None) false r ≡ keeps (grammar.Footnote label false size) false r

@@ -1,12 +1,13 @@
 -- Lines that lack a prefix (CommonMark 5.1), by what they are without looking at that: they begin a paragraph alone, and go
 -- on with one where they do not interrupt one further in.
 use Rattle.std.proofs.Common.{◌≡◌, Bool, true, false, ◌&&◌, ◌||◌, not, List, Option, Some, None, refl, ap, ◌∙◌}
-use Rattle.std.specs.Prelude.{nat_le}
+use Rattle.std.specs.Prelude.{nat_le, if◌then◌else◌}
 use Rattle.cmark_grammar.specs.Options.{Options}
 use Rattle.cmark_grammar.specs.Rows.{Row, lazy_row, is_blank_line, indent_of, words_of}
 use Rattle.cmark_grammar.specs.Leaves.{is_thematic_break, is_atx_heading, fence_of, underlines}
 use Rattle.cmark_grammar.specs.HtmlBlocks.{html_kind}
-use Rattle.cmark_grammar.specs.Containers.{Container, Quote, Item, Footnote, Marker, marker_of, item_with, item_of, is_quote, keeps}
+use Rattle.cmark_grammar.specs.Containers.{Container, Quote, Item, Footnote, ListDefinition, Marker, marker_of, item_with, item_of, is_quote, keeps}
+use Rattle.cmark_grammar.specs.DefinitionLists.{begins_definition, definition_width, is_definition, is_marker}
 use Rattle.cmark_grammar.specs.Footnotes.{footnotes_in}
 use Rattle.cmark_grammar.specs.TableRows.{table_interrupts}
 use Rattle.cmark_grammar.proofs.BlockLaws.{lazy-interrupts as lazy-table}
@@ -29,6 +30,7 @@ lazy-item-interrupts : (same : Bool) (r : Row) (o : Option Container) → item_i
 lazy-item-interrupts same r None = refl
 lazy-item-interrupts same r (Some (Quote alert)) = refl
 lazy-item-interrupts same r (Some (Footnote label old size)) = refl
+lazy-item-interrupts same r (Some (ListDefinition width)) = refl
 lazy-item-interrupts same r (Some (Item mark number width task)) = refl
 
 module _ (options : Options) (r : Row) (ahead : List Row) where
@@ -46,18 +48,23 @@ module _ (options : Options) (r : Row) (ahead : List Row) where
   pub lazy-texts : texts options (lazy_row r) ahead ≡ not (interrupts options false r ahead)
   unfolding texts
   lazy-texts =
-      ap (λ z. not (interrupts options false (lazy_row r) ahead || z)) (lazy-table options (lazy_row r) ahead refl)
+      ap (λ z. not (interrupts options false (lazy_row r) ahead || (z || begins_definition options (lazy_row r)))) (lazy-table options (lazy_row r) ahead refl)
+      ∙ ap (λ z. not (interrupts options false (lazy_row r) ahead || z)) (none options.definition_list)
       ∙ ap (λ z. not (z || false)) (lazy-interrupts false) ∙ go (interrupts options false r ahead)
     where
       go : (z : Bool) → not (z || false) ≡ not z
       go true = refl
       go false = refl
 
-  pub lazily-is : (k : Container) → lazily options k r ahead ≡ not (interrupts options false r ahead || table_interrupts options r ahead)
+      none : (z : Bool) → is_marker (if z && (not true && nat_le (indent_of r) 3) then definition_width r else None) ≡ false
+      none true = refl
+      none false = refl
+
+  pub lazily-is : (k : Container) → lazily options k r ahead ≡ not (interrupts options false r ahead || (table_interrupts options r ahead || (is_definition k && begins_definition options r)))
   unfolding lazily
   lazily-is k = refl
 
-  -- a line that lacks none goes on with a paragraph where neither it nor a table that it begins interrupts one of the same container
-  pub whole-texts : r.lazy ≡ false → texts options r ahead ≡ not (interrupts options true r ahead || table_interrupts options r ahead)
+  -- a line that lacks none goes on with a paragraph where neither it nor a table or a definition that it begins interrupts one of the same container
+  pub whole-texts : r.lazy ≡ false → texts options r ahead ≡ not (interrupts options true r ahead || (table_interrupts options r ahead || begins_definition options r))
   unfolding texts
-  whole-texts whole = ap (λ z. not (interrupts options (not z) r ahead || table_interrupts options r ahead)) whole
+  whole-texts whole = ap (λ z. not (interrupts options (not z) r ahead || (table_interrupts options r ahead || begins_definition options r))) whole

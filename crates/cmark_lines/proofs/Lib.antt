@@ -1,5 +1,6 @@
 pub mod BoxRows
 pub mod ContainerRows
+pub mod DefinitionRows
 pub mod FootnoteStarts
 pub mod InfoEdges
 pub mod LazyRows

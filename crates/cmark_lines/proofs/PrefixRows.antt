@@ -5,7 +5,7 @@ use Rattle.std.proofs.lemmas.Bool.{leb-true, leb-false}
 use Rattle.cmark_grammar.specs.Columns.{Column, indent, without_indent}
 use Rattle.cmark_grammar.specs.Rows.{Row, without, indent_of, words_of, is_bare}
 use Rattle.cmark_grammar.specs.Leaves.{is_parted, is_thematic_break}
-use Rattle.cmark_grammar.specs.Containers.{Container, Quote, Item, Footnote, Marker, is_bullet, is_delimiter, digits, number_of, delimited, marker_of, behind_marker, padding, width_with, item_with, item_of, quote_width, enter, keeps}
+use Rattle.cmark_grammar.specs.Containers.{Container, Quote, Item, Footnote, ListDefinition, Marker, is_bullet, is_delimiter, digits, number_of, delimited, marker_of, behind_marker, padding, width_with, item_with, item_of, quote_width, enter, keeps}
 use Rattle.cmark_scan.specs.LineMarkers.{begins_quote, behind_quote, item_in, item_numbers, entered}
 use Rattle.cmark_scan.proofs.PrefixSteps.{shallow, quote-seen, quote-entered, item-seen, item-entered, item-unseen, item-kept}
 use Rattle.cmark_lines.specs.Starts.{quote_entered, number_by, begun_item}
@@ -56,7 +56,7 @@ marker-short (b ∷ bs) = go (is_bullet b) refl
     go true e = (ap (λ t. if t then Some 0 else None) (sym (bullet_no_delimiter b e)), omega arith)
     go false e = delimited-short (digits (b ∷ bs)) (drop (length (digits (b ∷ bs))) (b ∷ bs))
 
-padding-few : (cs : List Column) → padding cs ≤ 4
+pub padding-few : (cs : List Column) → padding cs ≤ 4
 padding-few cs = go (is_bare (without_indent cs)) (nat_le 5 (indent cs)) refl
   where
     go : (x y : Bool) → nat_le 5 (indent cs) ≡ y → (if x || y then 1 else indent cs) ≤ 4
@@ -141,6 +141,18 @@ item-none r is = go (nat_le (indent_of r) 3) refl
             footnote_item (Some m) x = test (is_parted (drop m.size (words_of r)) && not (is_thematic_break (words_of r))) x
               where
                 test : (z : Bool) → Some (Footnote label old size) ≡ (if z then Some (Item m.mark m.number (width_with m.size r) None) else None) → ⊥
+                test true y = cc
+                test false y = cc
+    by (Some (ListDefinition width)) q e = absurd (never q)
+      where
+        never : Some (ListDefinition width) ≡ item_of r → ⊥
+        never p = definition_item (marker_of (words_of r)) p
+          where
+            definition_item : (m : Option Marker) → Some (ListDefinition width) ≡ item_with r m → ⊥
+            definition_item None x = cc
+            definition_item (Some m) x = test (is_parted (drop m.size (words_of r)) && not (is_thematic_break (words_of r))) x
+              where
+                test : (z : Bool) → Some (ListDefinition width) ≡ (if z then Some (Item m.mark m.number (width_with m.size r) None) else None) → ⊥
                 test true y = cc
                 test false y = cc
     by (Some (Item mark number width task)) q e = absurd (let p : None ≡ Some (mark, unwrap_or number 0, min (0 + width) (2 ^ 64 - 1)) = e in cc)

@@ -1,4 +1,5 @@
 pub mod Boxes
+pub mod Definitions
 pub mod Opened
 pub mod Rests
 pub mod Starts

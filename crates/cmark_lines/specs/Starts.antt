@@ -22,12 +22,19 @@ abbrev pub Shows : Container → grammar.Container → Type 0
 Shows kept.Quote (grammar.Quote alert) = Unit {0}
 Shows kept.Quote (grammar.Item mark number width task) = ⊥
 Shows kept.Quote (grammar.Footnote label old size) = ⊥
+Shows kept.Quote (grammar.ListDefinition width) = ⊥
 Shows (kept.Item w) (grammar.Quote alert) = ⊥
 Shows (kept.Item w) (grammar.Item mark number width task) = w ≡ width
 Shows (kept.Item w) (grammar.Footnote label old size) = ⊥
+Shows (kept.Item w) (grammar.ListDefinition width) = ⊥
 Shows (kept.Footnote o) (grammar.Quote alert) = ⊥
 Shows (kept.Footnote o) (grammar.Item mark number width task) = ⊥
 Shows (kept.Footnote o) (grammar.Footnote label old size) = o ≡ old
+Shows (kept.Footnote o) (grammar.ListDefinition width) = ⊥
+Shows (kept.Definition w) (grammar.Quote alert) = ⊥
+Shows (kept.Definition w) (grammar.Item mark number width task) = ⊥
+Shows (kept.Definition w) (grammar.Footnote label old size) = ⊥
+Shows (kept.Definition w) (grammar.ListDefinition width) = w ≡ width
 
 abbrev pub shown_item : ItemStart → grammar.Container
 shown_item item = grammar.Item item.mark item.number item.width None

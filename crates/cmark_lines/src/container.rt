@@ -28,6 +28,11 @@ pub enum Container {
         /// It is read as such definitions were before, and not as GitHub reads them.
         old: bool,
     },
+    /// A definition of a definition list (this profile's own).
+    Definition {
+        /// How many columns the prefix of its later lines has.
+        width: usize,
+    },
 }
 
 /// A list item, as its first line shows it (CommonMark 5.2).
@@ -64,8 +69,9 @@ pub enum ContainerStart<'a> {
 impl Container {
     /// The line behind this container's prefix, if the container keeps the line. A block quote keeps the lines that have its
     /// marker; an item those that are indented by its width, and blank lines; a footnote definition those that are indented by four
-    /// columns, and blank lines, or, as it was read before, all lines that are not blank. `bare` says that the line before was the item's
-    /// first one, and blank behind the marker: then a blank line ends the item (CommonMark 5.2).
+    /// columns, and blank lines, or, as it was read before, all lines that are not blank; a definition keeps lines as an item does. `bare` says
+    /// that the line before was the first one of an item or of a definition, and blank behind the marker: then a blank line ends it
+    /// (CommonMark 5.2).
     #[inline]
     pub fn keeps<'a>(self, bare: bool, rest: LineRest<'a>) -> Option<LineRest<'a>>
         ensures row { (k : grammar.Container) → Shows self k → option_map row_of result ≡ keeps k bare (row_of rest.entry) }
@@ -78,6 +84,7 @@ impl Container {
             Container::Quote => rest.behind_quote(),
             Container::Item { width } => rest.behind_width(width),
             Container::Footnote { old } => rest.behind_footnote(old),
+            Container::Definition { width } => rest.behind_width(width),
         }
     }
 }

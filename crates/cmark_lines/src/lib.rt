@@ -3,6 +3,7 @@
 #![tactic(auto)]
 
 mod container;
+mod definition;
 mod footnotes;
 mod interrupt;
 mod line_rest;
@@ -13,6 +14,7 @@ mod verbatim;
 
 pub use cmark_scan::{CodeFence, HtmlKind};
 pub use container::{Container, ContainerStart, FootnoteStart, ItemStart};
+pub use definition::{begins_definition, definition_start, reads_definition_lists};
 pub use interrupt::{interrupts, underlines};
 pub use line_rest::LineRest;
 pub use metadata::{ends_metadata, metadata_kind};

@@ -8,7 +8,7 @@ use Rattle.cmark_grammar.specs.Columns.{Column, without_indent, bytes_of}
 use Rattle.cmark_grammar.specs.Rows.{Row, without, indent_of, words_of, is_bare, is_blank_line}
 use Rattle.cmark_grammar.specs.Leaves.{is_parted, is_thematic_break}
 use Rattle.cmark_grammar.specs.BlockQuoteKind.{BlockQuoteKind}
-use Rattle.cmark_grammar.specs.Containers.{Container, Quote, Item, Footnote, Marker, marker_of, padding, width_with, item_with, item_of, begins_with, is_quote, one_blank, quote_width, enter, keep_as, keeps}
+use Rattle.cmark_grammar.specs.Containers.{Container, Quote, Item, Footnote, ListDefinition, Marker, marker_of, padding, width_with, item_with, item_of, begins_with, is_quote, one_blank, quote_width, enter, keep_as, keeps}
 use Rattle.cmark_scan.specs.LineMarkers.{is_flush, begins_quote, behind_quote, item_in, item_numbers, entered}
 use Rattle.cmark_scan.proofs.PlaceSteps.{indent-drop}
 
@@ -79,10 +79,11 @@ abbrev pub widened : ℕ → Option Container → Option Container
 widened k None = None
 widened k (Some (Quote alert)) = Some (Quote alert)
 widened k (Some (Footnote label old size)) = Some (Footnote label old size)
+widened k (Some (ListDefinition width)) = Some (ListDefinition width)
 widened k (Some (Item mark number width task)) = Some (Item mark number (k + width) task)
 
 module _ (r : Row) (le : indent_of r ≤ 3) where
-  width-widened : (size : ℕ) → width_with size r ≡ indent_of r + width_with size (shallow r)
+  pub width-widened : (size : ℕ) → width_with size r ≡ indent_of r + width_with size (shallow r)
   width-widened size =
       let k : ℕ = indent_of r in
       ap (λ cs. k + (size + padding cs)) (sym (drop-drop size k r.columns)) ∙ ap (λ n. k + (size + padding (drop size (drop n r.columns)))) (sym (taken-all r le))
@@ -114,6 +115,7 @@ module _ (r : Row) (le : indent_of r ≤ 3) where
       by None = refl
       by (Some (Quote alert)) = refl
       by (Some (Footnote label old size)) = refl
+      by (Some (ListDefinition width)) = refl
       by (Some (Item mark number width task)) = ap (λ n. Some (mark, unwrap_or number 0, min n (2 ^ 64 - 1))) (let s : indent_of r + width ≡ 0 + (indent_of r + width) = omega arith in s)
 
   no_quote_item : (alert : Option BlockQuoteKind) → item_in (shallow r) ≡ Some (Quote alert) → ⊥
@@ -140,6 +142,18 @@ module _ (r : Row) (le : indent_of r ≤ 3) where
       go true (Some m) q = test (is_parted (drop m.size (words_of (shallow r))) && not (is_thematic_break (words_of (shallow r)))) m.mark m.number (width_with m.size (shallow r)) q
       go false o q = cc
 
+  no_definition_item : (width : ℕ) → item_in (shallow r) ≡ Some (ListDefinition width) → ⊥
+  no_definition_item width e = go (is_flush (shallow r)) (marker_of (words_of (shallow r))) e
+    where
+      test : (z : Bool) (mark : ℕ) (number : Option ℕ) (w : ℕ) → (if z then Some (Item mark number w None) else None) ≡ Some (ListDefinition width) → ⊥
+      test true mark number w q = cc
+      test false mark number w q = cc
+
+      go : (z : Bool) (o : Option Marker) → (if z then item_with (shallow r) o else None) ≡ Some (ListDefinition width) → ⊥
+      go true None q = cc
+      go true (Some m) q = test (is_parted (drop m.size (words_of (shallow r))) && not (is_thematic_break (words_of (shallow r)))) m.mark m.number (width_with m.size (shallow r)) q
+      go false o q = cc
+
   -- and what it leaves is the item's first line
   pub item-entered : (k : Container) → item_of r ≡ Some k → entered (item_in (shallow r)) (shallow r) ≡ enter k r
   unfolding enter
@@ -149,6 +163,7 @@ module _ (r : Row) (le : indent_of r ≤ 3) where
       by None e q = let z : None ≡ Some k = q in absurd (cc)
       by (Some (Quote alert)) e q = absurd (no_quote_item alert e)
       by (Some (Footnote label old size)) e q = absurd (no_footnote_item label old size e)
+      by (Some (ListDefinition width)) e q = absurd (no_definition_item width e)
       by (Some (Item mark number width None)) e q =
           let z : Item mark number (indent_of r + width) None ≡ k = cc in
           ap (λ cs. record r { columns = cs }) (drop-drop width (min 3 (indent_of r)) r.columns) ∙ ap (λ n. without (n + width) r) (taken-all r le) ∙ ap (λ c. enter c r) z

@@ -1,7 +1,7 @@
 -- What begins on a line behind the prefixes that were taken, where no blank stands in front of it.
 use Rattle.std.specs.Prelude.{ℕ, ◌+◌, ◌-◌, ◌^◌, min, Bool, ◌==◌, ◌&&◌, if◌then◌else◌, [], Option, Some, None, is_some, unwrap_or}
 use Rattle.cmark_grammar.specs.Rows.{Row, without, indent_of, words_of}
-use Rattle.cmark_grammar.specs.Containers.{Container, Quote, Item, Footnote, is_quote, quote_width, footnote_width, item_of, enter}
+use Rattle.cmark_grammar.specs.Containers.{Container, Quote, Item, Footnote, ListDefinition, is_quote, quote_width, footnote_width, item_of, enter}
 use Rattle.cmark_grammar.specs.Footnotes.{footnote_in, marker_columns}
 use Rattle.cmark_grammar.specs.LinkDefinitions.{Found}
 use Rattle.cmark_grammar.specs.BlockQuoteKind.{BlockQuoteKind}
@@ -47,6 +47,7 @@ abbrev pub item_numbers : (indent : ℕ) → Option Container → Option (ℕ ×
 item_numbers indent None = None
 item_numbers indent (Some (Quote alert)) = None
 item_numbers indent (Some (Footnote label old size)) = None
+item_numbers indent (Some (ListDefinition width)) = None
 item_numbers indent (Some (Item mark number width task)) = Some (mark, unwrap_or number 0, sum_up_to_most indent width)
 
 -- the width of a definition's prefix, and its first line behind the marker

@@ -23,19 +23,19 @@ use Rattle.cmark_tree.proofs.Order.{zero_or}
 
 module _ {T : Type 0} where
   -- how many trees
-  abbrev breadth : Forest (Placed T) → ℕ
+  abbrev pub breadth : Forest (Placed T) → ℕ
   breadth Nil = 0
   breadth (Node p inside after) = suc (breadth after)
 
-  breadth-size : (f : Forest (Placed T)) → breadth f ≤ size f
+  pub breadth-size : (f : Forest (Placed T)) → breadth f ≤ size f
   breadth-size Nil = omega arith
   breadth-size (Node p inside after) = omega (arith, breadth-size after)
 
-  breadth-join : (f g : Forest (Placed T)) → breadth (join f g) ≡ breadth f + breadth g
+  pub breadth-join : (f g : Forest (Placed T)) → breadth (join f g) ≡ breadth f + breadth g
   breadth-join Nil g = omega arith
   breadth-join (Node p inside after) g = omega (arith, breadth-join after g)
 
-  last_place-snoc : (f : Forest (Placed T)) (p : Placed T) (i : Forest (Placed T)) → last_place (join f (one p i)) ≡ p.ix
+  pub last_place-snoc : (f : Forest (Placed T)) (p : Placed T) (i : Forest (Placed T)) → last_place (join f (one p i)) ≡ p.ix
   last_place-snoc Nil p i = refl
   last_place-snoc (Node q j Nil) p i = refl
   last_place-snoc (Node q j (Node r k a)) p i = last_place-snoc (Node r k a) p i

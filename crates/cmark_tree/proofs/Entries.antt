@@ -1,11 +1,13 @@
 -- The nodes after a write to where they are stored. No other file of lemmas knows how they are stored.
 use Rattle.std.proofs.Common.{◌≡◌, ◌≢◌, Option, ◌⊎◌, inl, inr, ℕ, zero, suc, ◌-◌, ◌<◌, ◌≤◌, List, [], ◌∷◌, ◌++◌, length, slice_set, get_or, Some, None, Result, Ok, Err, OnErr, refl, sym, ap, ◌∙◌, subst, arith, length-append, length-set}
 use Rattle.std.specs.Prelude.{slice_get}
+use Rattle.std.specs.List.{swap}
+use Rattle.std.proofs.lemmas.List.Edits.{swap_is}
 use Rattle.std.proofs.lemmas.Option.{slice_get-get_or, slice_get_past, same_Some}
 use Rattle.cmark_tree.specs.declared.nodes.Node.{Node}
 use Rattle.cmark_tree.specs.declared.nodes.Nodes.{Nodes}
 use Rattle.cmark_tree.specs.Arena.{Entry}
-use Rattle.cmark_tree.specs.Nodes.{entry_of, entry_in, node_at, node_count, HasNumber, IsGrown, IsChanged, SameNodes, with_other_item}
+use Rattle.cmark_tree.specs.Nodes.{entry_of, entry_in, node_at, node_count, HasNumber, IsGrown, IsChanged, IsMoved, SameNodes, with_other_item}
 use Rattle.cmark_tree.specs.Lending.{with_stored_item, with_node_item}
 
 slice_get-set_same : {A : Type 0} → (xs : List A) (i : ℕ) (v : A) → i < length xs → slice_get (slice_set xs i v) i ≡ Some v
@@ -130,6 +132,48 @@ module _ {T : Type 0} where
       others zero h = refl
       others (suc i) h = ap (λ l. entry_of (slice_get l i)) e' ∙ ap entry_of (slice_get-set_other v.list.items j i n' (λ q. h (ap suc (sym q))))
 
+  -- a node that changes places with a new one
+  pub swap_moves : (v u w : Nodes T) (ix n : ℕ) (x : T) → HasNumber v ix → IsGrown v u n x → w.list.items ≡ swap u.list.items (ix - 1) (n - 1) → IsMoved v w ix n x
+  unfolding node_at node_count
+  swap_moves v u w zero n x has g e = absurd (omega (arith, has.0))
+  swap_moves v u w (suc a) zero x has g e = absurd (omega (arith, g.place))
+  swap_moves v u w (suc a) (suc b) x has g e = record {
+    place = g.place;
+    moved = ap (λ l. entry_of (slice_get l b)) is ∙ ap entry_of (slice_get-set_same (slice_set xs a at_b) b at_a (omega (arith, in_b, length-set xs a at_b))) ∙ ap entry_of (sym (slice_get-get_or xs a d in_a)) ∙ g.others (suc a) other;
+    left = ap (λ l. entry_of (slice_get l a)) is ∙ ap entry_of (slice_get-set_other (slice_set xs a at_b) b a at_a (λ q. other (ap suc (sym q)))) ∙ ap entry_of (slice_get-set_same xs a at_b in_a) ∙ ap entry_of (sym (slice_get-get_or xs b d in_b)) ∙ g.written;
+    others = λ i not_a not_b. others i not_a not_b ∙ g.others i not_b;
+    count = ap length is ∙ length-set (slice_set xs a at_b) b at_a ∙ length-set xs a at_b ∙ g.count;
+  }
+    where
+      xs : List (Node T)
+      xs = u.list.items
+
+      d : Node T
+      d = record { item = x; child = 0; next = 0 }
+
+      at_a : Node T
+      at_a = get_or xs a d
+
+      at_b : Node T
+      at_b = get_or xs b d
+
+      in_a : a < length xs
+      in_a = omega (arith, has.1, g.count)
+
+      in_b : b < length xs
+      in_b = omega (arith, g.place, g.count)
+
+      other : suc a ≢ suc b
+      other q = omega (arith, q, has.1, g.place)
+
+      is : w.list.items ≡ slice_set (slice_set xs a at_b) b at_a
+      is = e ∙ ap (λ k. swap xs k (suc b - 1)) (let q : suc a - 1 ≡ a = omega arith in q) ∙ ap (swap xs a) (let q : suc b - 1 ≡ b = omega arith in q) ∙ sym (swap_is xs a b d in_a in_b)
+
+      others : (i : ℕ) → i ≢ suc a → i ≢ suc b → entry_in w.list.items i ≡ entry_in xs i
+      others zero not_a not_b = refl
+      others (suc i) not_a not_b =
+          ap (λ l. entry_of (slice_get l i)) is ∙ ap entry_of (slice_get-set_other (slice_set xs a at_b) b i at_a (λ q. not_b (ap suc (sym q)))) ∙ ap entry_of (slice_get-set_other xs a i at_b (λ q. not_a (ap suc (sym q))))
+
   -- a failed push
   pub same_nodes : (v w : Nodes T) → w.list.items ≡ v.list.items → SameNodes v w
   unfolding node_at node_count
@@ -143,6 +187,15 @@ module _ {T : Type 0} where
   pub stored_place : (v : Nodes T) (ix : ℕ) → HasNumber v ix → ix - 1 < length v.list.items
   unfolding node_count
   stored_place v ix has = omega (arith, has.0, has.1)
+
+  -- the places of an older node and of the new one
+  pub grown_place : (v u : Nodes T) (n ix : ℕ) (x : T) → HasNumber v ix → IsGrown v u n x → ix - 1 < length u.list.items
+  unfolding node_count
+  grown_place v u n ix x has g = omega (arith, has.0, has.1, g.count)
+
+  pub grown_end : (v u : Nodes T) (n : ℕ) (x : T) → IsGrown v u n x → n - 1 < length u.list.items
+  unfolding node_count
+  grown_end v u n x g = omega (arith, g.place, g.count)
 
   pub read_entry : (v : Nodes T) (ix : ℕ) (n : Node T) (e : Entry T) → HasNumber v ix → n ≡ get_or v.list.items (ix - 1) n → node_at v ix ≡ Some e → record { item = n.item; child = n.child; next = n.next } ≡ e
   read_entry v ix n e has is at = same_Some _ _ (sym (node_at-some v ix n has.0 has.1 is) ∙ at)

@@ -127,7 +127,7 @@ module _ {T : Type 0} where
       has = has_number t.nodes (whole is.z) i.ix is.holds.forest.stands (omega (arith, out, times-plug i.ix is.z.up (siblings is.z)))
 
   -- forests with the same last tree
-  one_inj : (f g : Forest T) (x y : T) (i j : Forest T) → join f (one x i) ≡ join g (one y j) → (f ≡ g) × (x ≡ y) × (i ≡ j)
+  pub one_inj : (f g : Forest T) (x y : T) (i j : Forest T) → join f (one x i) ≡ join g (one y j) → (f ≡ g) × (x ≡ y) × (i ≡ j)
   one_inj Nil Nil x y i j e = (refl, (let q : Node x i Nil ≡ Node y j Nil = e in cc), (let q : Node x i Nil ≡ Node y j Nil = e in cc))
   one_inj Nil (Node q a b) x y i j e = absurd (let c : Nil ≡ join b (one y j) = (let k : Node x i Nil ≡ Node q a (join b (one y j)) = e in cc) in not_nil b y j c)
     where
@@ -146,7 +146,7 @@ module _ {T : Type 0} where
       let r = one_inj b d x y i j bd in
       (ap (λ m. Node m a b) pq ∙ ap (λ m. Node q m b) ac ∙ ap (Node q c) r.0, r.1, r.2)
 
-  none_last : (f : Forest T) (x : T) (i : Forest T) → Nil ≡ join f (one x i) → ⊥
+  pub none_last : (f : Forest T) (x : T) (i : Forest T) → Nil ≡ join f (one x i) → ⊥
   none_last Nil x i e = let k : Nil ≡ Node x i Nil = e in cc
   none_last (Node p a b) x i e = let k : Nil ≡ Node p a (join b (one x i)) = e in cc
 

@@ -2,8 +2,10 @@ pub mod Building
 pub mod Cutting
 pub mod Entries
 pub mod Items
+pub mod Moving
 pub mod Order
 pub mod Reading
+pub mod Releasing
 pub mod Relinks
 pub mod StandsLemmas
 pub mod Steps

@@ -54,7 +54,7 @@ module _ {T : Type 0} where
   new_stands old mid n x g = (g.written, tt, tt)
 
   -- one place more, that wasn't there
-  one_more : (f f' : Forest (Placed T)) (n : ℕ) → IsOnce f → times n f ≡ 0 → ((i : ℕ) → times i f' ≡ hit n i + times i f) → IsOnce f'
+  pub one_more : (f f' : Forest (Placed T)) (n : ℕ) → IsOnce f → times n f ≡ 0 → ((i : ℕ) → times i f' ≡ hit n i + times i f) → IsOnce f'
   one_more f f' n once none more i =
       elim (same_or_not n i) [
         | inl e ↦ (let z : times i f ≡ 0 = subst (λ k. times k f ≡ 0) e none in omega (arith, more i, hit-le n i, z))

@@ -36,6 +36,14 @@ module _ {T : Type 0} where
     pub others : SameBut old new ix
     pub count : node_count new ≡ suc (node_count old)
 
+  -- a new node behind the others has what the node `ix` had, which has this item and no links now
+  pub record IsMoved (old new : Nodes T) (ix to : ℕ) (x : T) : Type 0 where
+    pub place : to ≡ suc (node_count old)
+    pub moved : node_at new to ≡ node_at old ix
+    pub left : node_at new ix ≡ Some (record { item = x; child = 0; next = 0 })
+    pub others : (i : ℕ) → i ≢ ix → i ≢ to → node_at new i ≡ node_at old i
+    pub count : node_count new ≡ suc (node_count old)
+
   -- one node is changed
   pub record IsChanged (old new : Nodes T) (ix : ℕ) (change : Entry T → Entry T) : Type 0 where
     pub written : (e : Entry T) → node_at old ix ≡ Some e → node_at new ix ≡ Some (change e)

@@ -3,7 +3,7 @@ use Rattle.std.specs.Prelude.{◌≡◌, ℕ, List, [], ◌∷◌, Some, None, B
 use Rattle.cmark_tree.specs.declared.nodes.Nodes.{Nodes}
 use Rattle.cmark_tree.specs.declared.tree.Tree.{Tree}
 use Rattle.cmark_tree.specs.declared.tree_index.TreeIndex.{TreeIndex}
-use Rattle.cmark_tree.specs.Forest.{Forest, join}
+use Rattle.cmark_tree.specs.Forest.{Forest, Node, join}
 use Rattle.cmark_tree.specs.Arena.{Placed, first, Stands, IsOnce, IsForest}
 use Rattle.cmark_tree.specs.Nodes.{node_at, IsChanged, with_other_item}
 use Rattle.cmark_tree.specs.Zip.{Level, Zip, plug, siblings}
@@ -16,6 +16,10 @@ module _ {T : Type 0} where
     pub stands : Stands (node_at nodes) f
     pub once : IsOnce f
     pub head_is : head ≡ first f
+
+  -- that number is one of the siblings from there on
+  abbrev pub IsAmong : Nodes T → (head ix : ℕ) → Type 0
+  IsAmong nodes head ix = (done : Forest (Placed T)) × (p : Placed T) × (inside : Forest (Placed T)) × (after : Forest (Placed T)) × IsChildren nodes (join done (Node p inside after)) head × (p.ix ≡ ix)
 
   abbrev pub HasParent : List (Level T) → Type 0
   HasParent [] = ⊥

@@ -4,7 +4,7 @@ ghost use Rattle.std.specs.Prelude.{◌≡◌, ◌<◌, Some, IfOk, OnErr};
 ghost use Rattle.std.specs.Borrow.{sem};
 ghost use Rattle.cmark_tree.specs.Lending.{LendsItem, LendsStoredItem};
 ghost use Rattle.cmark_tree.specs.Arena.{Entry};
-ghost use Rattle.cmark_tree.specs.Nodes.{node_at, node_count, HasNumber, IsGrown, IsChanged, SameNodes, with_next, with_child};
+ghost use Rattle.cmark_tree.specs.Nodes.{node_at, node_count, HasNumber, IsGrown, IsChanged, IsMoved, SameNodes, with_next, with_child};
 
 use std::alloc::{AllocError, Global};
 
@@ -58,6 +58,17 @@ impl<T: Drop> Nodes<T> {
         Ok(self.list.len())
     }
 
+    // A new node behind the others takes what node `ix` has, which gets this item and no links: the new node's number.
+    pub fn move_to_new(&mut self, ix: usize, item: T) -> Result<usize, AllocError>
+        requires { HasNumber self.old ix }
+        ensures ok { IfOk result (λ new. IsMoved self.old self.new ix new item) }
+        ensures err { OnErr result (SameNodes self.old self.new) }
+    {
+        let new = self.push(item)?;
+        self.list.swap(ix - 1, new - 1);
+        Ok(new)
+    }
+
     pub fn item(&self, ix: usize) -> &T
         requires { HasNumber self.now ix }
         ensures { (e : Entry T) → node_at self.now ix ≡ Some e → result.now ≡ e.item }
@@ -101,5 +112,19 @@ impl<T: Drop> Nodes<T> {
     {
         let node = &mut self.list[ix - 1];
         node.child = to;
+    }
+
+    // The children of a node end with this one, or, where it is 0, there are none.
+    pub fn end_children(&mut self, parent: usize, last: usize)
+        requires parent { HasNumber self.old parent }
+        requires last { (last ≡ 0 → ⊥) → HasNumber self.old last }
+        ensures none { last ≡ 0 → IsChanged self.old self.new parent (with_child 0) }
+        ensures some { (last ≡ 0 → ⊥) → IsChanged self.old self.new last (with_next 0) }
+    {
+        if last == 0 {
+            self.set_child(parent, 0);
+        } else {
+            self.set_next(last, 0);
+        }
     }
 }

@@ -4,13 +4,15 @@
 //! siblings before the focus, those from the focus on, and the nodes above. `Holds tree z` says that the links of the tree are
 //! that forest, that no node is reached twice, and that the path and the focus are those of `z`; each call is a step of `z`.
 
-ghost use Rattle.std.specs.Prelude.{◌⊎◌, List, ◌∷◌, ◌≡◌, ◌≢◌, ◌+◌, ◌<◌, ◌≤◌, suc, Some, length, IfOk, OnOk, OnErr, IfSome, OnSome, IfNone};
+ghost use Rattle.std.specs.Prelude.{◌⊎◌, List, [], ◌∷◌, ◌≡◌, ◌≢◌, ◌+◌, ◌<◌, ◌≤◌, suc, Some, length, IfOk, OnOk, OnErr, IfSome, OnSome, IfNone};
 ghost use Rattle.std.specs.Borrow.{sem};
 ghost use Rattle.std.specs.Slice.Iter.{iter_rest};
 ghost use Rattle.cmark_tree.specs.Lending.{LendsItemAt};
-ghost use Rattle.cmark_tree.specs.Forest.{Forest, Nil, join, one};
+ghost use Rattle.cmark_tree.specs.Forest.{Forest, Nil, Node, join, one};
 ghost use Rattle.cmark_tree.specs.Building.{Opened, Is, IsPlaced, closed};
 ghost use Rattle.cmark_tree.specs.Arena.{Entry, Placed};
+ghost use Rattle.cmark_tree.specs.Truncated.{IsChildren, IsAmong};
+ghost use Rattle.cmark_tree.specs.Truncating.{last_place};
 ghost use Rattle.cmark_tree.specs.Zip.{Zip, nothing, CanAppend, appended, HasFocus, pushed, popped, Sibling, past, at_first, next_relinked, child_relinked};
 ghost use Rattle.cmark_tree.specs.Nodes.{IsGrown, IsChanged, with_next, with_child};
 ghost use Rattle.cmark_tree.specs.Tree.{entry_at, HasNode, tree_len, place_of, index_at, focus_of, parent_of, spine_of, Holds, IsOpen, IsAtNode, IsAtSibling, KeepsNodes, KeepsPath, IsUnchanged, CanLink, CanLinkNext, CanLinkChild};
@@ -56,6 +58,24 @@ fn link_of(ix: Option<TreeIndex>) -> usize
         Some(ix) => ix.ix,
         None => 0,
     }
+}
+
+// The sibling before `last`, in the row of siblings that begins with `head`; 0 stands for none.
+fn sibling_before<T: Drop>(nodes: &Nodes<T>, head: usize, last: usize) -> usize
+    requires { IsAmong nodes.now head last }
+    ensures { (done : Forest (Placed T)) (p : Placed T) (inside after : Forest (Placed T)) → IsChildren nodes.now (join done (Node p inside after)) head → p.ix ≡ last
+        → last_place done ≡ result }
+{
+    let mut before = 0;
+    let mut at = head;
+    for _step in 0..nodes.count() {
+        if at == last {
+            return before;
+        }
+        before = at;
+        at = nodes.next(at);
+    }
+    before
 }
 
 impl<T: Drop> Tree<T> {
@@ -195,6 +215,48 @@ impl<T: Drop> Tree<T> {
         ensures { (here : Forest T) (v : Opened T) (up : List (Opened T)) → Is self.old here (v ∷ up) → Is self.new (closed v here) up }
     {
         self.pop();
+    }
+
+    /// A node around the last sibling, which becomes its only child and stays the focus: the new node stands in its place, and is
+    /// open. With no sibling at hand nothing changes.
+    ///
+    /// Refused, the tree is as it was, or the node stands there around the sibling, closed, and is the focus.
+    pub fn enclose(&mut self, item: T) -> Result<(), AllocError>
+        requires { IsPlaced self.old }
+        ensures ok { OnOk result ((here : Forest T) (x : T) (inside : Forest T) (up : List (Opened T)) → Is self.old (join here (one x inside)) up
+            → Is self.new (one x inside) (record { left = here; item = item } ∷ up)) }
+        ensures none { (up : List (Opened T)) → Is self.old Nil up → Is self.new Nil up }
+        ensures err { OnErr result ((here : Forest T) (x : T) (inside : Forest T) (up : List (Opened T)) → Is self.old (join here (one x inside)) up
+            → Is self.new (join here (one x inside)) up ⊎ Is self.new (join here (one item (one x inside))) up) }
+    {
+        if self.cur == 0 {
+            return Ok(());
+        }
+        let inner = self.nodes.move_to_new(self.cur, item)?;
+        self.nodes.set_child(self.cur, inner);
+        self.push()
+    }
+
+    /// Up from the innermost open node; the last sibling, if there is one, then stands behind that node and is the focus. It takes time
+    /// in proportion to how many siblings there are. With no open node nothing changes.
+    pub fn release(&mut self)
+        requires { IsPlaced self.old }
+        ensures released { (here : Forest T) (x : T) (inside : Forest T) (v : Opened T) (up : List (Opened T)) → Is self.old (join here (one x inside)) (v ∷ up)
+            → Is self.new (join (closed v here) (one x inside)) up }
+        ensures none { (v : Opened T) (up : List (Opened T)) → Is self.old Nil (v ∷ up) → Is self.new (closed v Nil) up }
+        ensures top { (here : Forest T) → Is self.old here [] → Is self.new here [] }
+    {
+        let Some(parent) = self.peek_up() else {
+            return;
+        };
+        if self.cur == 0 {
+            self.close();
+            return;
+        }
+        let before = sibling_before(&self.nodes, self.nodes.child(parent.ix), self.cur);
+        self.nodes.end_children(parent.ix, before);
+        self.spine.pop();
+        self.nodes.set_next(parent.ix, self.cur);
     }
 
     /// A node that no link leads to, as for `set_next` or `set_child` to lead to it. Where there is no memory nothing changes.

@@ -7,9 +7,9 @@ use Rattle.cmark_text.specs.Shown.{level_number, shown_block_quote_kind, shown_m
 use Rattle.cmark_grammar.specs.Attributes.{no_attributes, attributes_of}
 use Rattle.cmark_grammar.specs.Tokens.{slice}
 use Rattle.cmark_grammar.specs.BlockDocument as document
-use Rattle.cmark_grammar.specs.BlockDocument.{BlockKind, BlockNode, Paragraph, TightParagraph, Heading, ThematicBreak, IndentedCode, FencedCode, HtmlBlock, LinkDefinition, MetadataBlock, Table, TableHead, TableRow, TableCell, BlockQuote, BlockList, ListItem, TaskMarker, FootnoteDefinition, Text, OwnedText, Html}
+use Rattle.cmark_grammar.specs.BlockDocument.{BlockKind, BlockNode, Paragraph, TightParagraph, Heading, ThematicBreak, IndentedCode, FencedCode, HtmlBlock, LinkDefinition, MetadataBlock, Table, TableHead, TableRow, TableCell, BlockQuote, BlockList, ListItem, TaskMarker, FootnoteDefinition, DefinitionList, DefinitionListTitle, DefinitionListDefinition, Text, OwnedText, Html}
 use Rattle.cmark_grammar.specs.BlockReading as reads
-use Rattle.cmark_grammar.specs.BlockReading.{is_leaf, begins_as, read_as}
+use Rattle.cmark_grammar.specs.BlockReading.{is_leaf, starts_of, starts_as, read_as}
 use Rattle.cmark_grammar.specs.Event.{TaskListMarker}
 use Rattle.cmark_grammar.specs.DrawnDocument.{is_definition, kind_within}
 use Rattle.cmark_items.specs.declared.item.Item.{Item}
@@ -19,7 +19,7 @@ use Rattle.cmark_grammar.specs.Tables.{delimiter_row}
 use Rattle.cmark_items.specs.ItemNodes.{is_tight, list_number, columns_of, text_at, kind_over, shape}
 use Rattle.cmark_walk.specs.Reads.{event_in, tag_in}
 use Rattle.cmark_walk.proofs.Paths.{within-kind, spelt-kind}
-use Rattle.cmark_walk.specs.Walking.{Drawn, task_body}
+use Rattle.cmark_walk.specs.Walking.{Drawn, is_list, task_body}
 
 kind-drawn : (text : List ℕ) (texts : List CowStr) (start end : ℕ) (b : ItemBody) (kind : BlockKind) → kind_over text texts start end (shape b) ≡ Some kind → is_definition kind ≡ false
 kind-drawn text texts start end (body.MaybeEmphasis x0 x1 x2) kind e = absurd (let q : None ≡ Some kind = e in cc)
@@ -63,10 +63,10 @@ kind-drawn text texts start end (body.List x0 x1 x2) kind e = ap is_definition (
 kind-drawn text texts start end (body.ListItem x0) kind e = ap is_definition (sym (same_Some document.ListItem kind e))
 kind-drawn text texts start end (body.FootnoteDefinition x0) kind e = ap is_definition (sym (spelt-kind document.FootnoteDefinition (text_at texts x0.0) kind e).1)
 kind-drawn text texts start end (body.MetadataBlock x0) kind e = ap is_definition (sym (same_Some (document.MetadataBlock (shown_metadata_block_kind x0)) kind e))
-kind-drawn text texts start end (body.DefinitionList x0) kind e = absurd (let q : None ≡ Some kind = e in cc)
+kind-drawn text texts start end (body.DefinitionList x0) kind e = ap is_definition (sym (same_Some (document.DefinitionList (is_tight x0)) kind e))
 kind-drawn text texts start end body.MaybeDefinitionListTitle kind e = absurd (let q : None ≡ Some kind = e in cc)
-kind-drawn text texts start end body.DefinitionListTitle kind e = absurd (let q : None ≡ Some kind = e in cc)
-kind-drawn text texts start end (body.DefinitionListDefinition x0) kind e = absurd (let q : None ≡ Some kind = e in cc)
+kind-drawn text texts start end body.DefinitionListTitle kind e = ap is_definition (sym (same_Some document.DefinitionListTitle kind e))
+kind-drawn text texts start end (body.DefinitionListDefinition x0) kind e = ap is_definition (sym (same_Some document.DefinitionListDefinition kind e))
 kind-drawn text texts start end (body.Table x0) kind e = ap is_definition (sym (spelt-kind (λ row. document.Table (columns_of (delimiter_row row))) (text_at texts x0.0) kind e).1)
 kind-drawn text texts start end body.TableHead kind e = ap is_definition (sym (same_Some document.TableHead kind e))
 kind-drawn text texts start end body.TableRow kind e = ap is_definition (sym (same_Some document.TableRow kind e))
@@ -123,10 +123,10 @@ kind-task text texts start end (body.List x0 x1 x2) kind e = ap task_kind (sym (
 kind-task text texts start end (body.ListItem x0) kind e = ap task_kind (sym (same_Some document.ListItem kind e))
 kind-task text texts start end (body.FootnoteDefinition x0) kind e = ap task_kind (sym (spelt-kind document.FootnoteDefinition (text_at texts x0.0) kind e).1)
 kind-task text texts start end (body.MetadataBlock x0) kind e = ap task_kind (sym (same_Some (document.MetadataBlock (shown_metadata_block_kind x0)) kind e))
-kind-task text texts start end (body.DefinitionList x0) kind e = absurd (let q : None ≡ Some kind = e in cc)
+kind-task text texts start end (body.DefinitionList x0) kind e = ap task_kind (sym (same_Some (document.DefinitionList (is_tight x0)) kind e))
 kind-task text texts start end body.MaybeDefinitionListTitle kind e = absurd (let q : None ≡ Some kind = e in cc)
-kind-task text texts start end body.DefinitionListTitle kind e = absurd (let q : None ≡ Some kind = e in cc)
-kind-task text texts start end (body.DefinitionListDefinition x0) kind e = absurd (let q : None ≡ Some kind = e in cc)
+kind-task text texts start end body.DefinitionListTitle kind e = ap task_kind (sym (same_Some document.DefinitionListTitle kind e))
+kind-task text texts start end (body.DefinitionListDefinition x0) kind e = ap task_kind (sym (same_Some document.DefinitionListDefinition kind e))
 kind-task text texts start end (body.Table x0) kind e = ap task_kind (sym (spelt-kind (λ row. document.Table (columns_of (delimiter_row row))) (text_at texts x0.0) kind e).1)
 kind-task text texts start end body.TableHead kind e = ap task_kind (sym (same_Some document.TableHead kind e))
 kind-task text texts start end body.TableRow kind e = ap task_kind (sym (same_Some document.TableRow kind e))
@@ -154,40 +154,47 @@ task-read tight is_checked TableRow e = absurd (let q : None ≡ Some is_checked
 task-read tight is_checked TableCell e = absurd (let q : None ≡ Some is_checked = e in cc)
 task-read tight is_checked (BlockQuote alert) e = absurd (let q : None ≡ Some is_checked = e in cc)
 task-read tight is_checked (FootnoteDefinition label) e = absurd (let q : None ≡ Some is_checked = e in cc)
+task-read tight is_checked (DefinitionList z) e = absurd (let q : None ≡ Some is_checked = e in cc)
+task-read tight is_checked DefinitionListTitle e = absurd (let q : None ≡ Some is_checked = e in cc)
+task-read tight is_checked DefinitionListDefinition e = absurd (let q : None ≡ Some is_checked = e in cc)
 task-read tight is_checked (BlockList number z) e = absurd (let q : None ≡ Some is_checked = e in cc)
 task-read tight is_checked ListItem e = absurd (let q : None ≡ Some is_checked = e in cc)
 task-read tight is_checked (Text bytes) e = absurd (let q : None ≡ Some is_checked = e in cc)
 task-read tight is_checked (OwnedText bytes) e = absurd (let q : None ≡ Some is_checked = e in cc)
 task-read tight is_checked (Html bytes) e = absurd (let q : None ≡ Some is_checked = e in cc)
 
--- where a node is no leaf, or no element, no paragraph or heading begins
-pub no-element : (tight : Bool) (kind : BlockKind) (other : Bool) → is_definition kind ≡ false → (is_leaf kind ≡ false) ⊎ (None ≡ tag_in (read_as (kind_within tight kind)))
-    → begins_as (is_leaf (kind_within tight kind)) (read_as (kind_within tight kind)) other ≡ false
-no-element true Paragraph other n e = refl
-no-element false Paragraph other n (inl l) = absurd (true≢false l)
-no-element false Paragraph other n (inr t) = absurd (let q : None ≡ Some _ = t in cc)
-no-element tight TightParagraph other n e = refl
-no-element tight (Heading level attributes) other n (inl l) = absurd (true≢false l)
-no-element tight (Heading level attributes) other n (inr t) = absurd (let q : None ≡ Some _ = t in cc)
-no-element tight TableCell other n (inl l) = absurd (true≢false l)
-no-element tight TableCell other n (inr t) = absurd (let q : None ≡ Some _ = t in cc)
-no-element tight (LinkDefinition reference) other n e = absurd (true≢false n)
-no-element tight ThematicBreak other n e = refl
-no-element tight IndentedCode other n e = refl
-no-element tight (FencedCode info) other n e = refl
-no-element tight HtmlBlock other n e = refl
-no-element tight (MetadataBlock kind) other n e = refl
-no-element tight (Table alignments) other n e = refl
-no-element tight TableHead other n e = refl
-no-element tight TableRow other n e = refl
-no-element tight (BlockQuote alert) other n e = refl
-no-element tight (FootnoteDefinition label) other n e = refl
-no-element tight (BlockList number z) other n e = refl
-no-element tight ListItem other n e = refl
-no-element tight (TaskMarker is_checked) other n e = refl
-no-element tight (Text bytes) other n e = refl
-no-element tight (OwnedText bytes) other n e = refl
-no-element tight (Html bytes) other n e = refl
+-- where a node is no leaf, or no element, no paragraph, heading or title begins, but perhaps a definition list
+pub no-element : (tight : Bool) (kind : BlockKind) (titled : Bool) (other : ℕ) → is_definition kind ≡ false → (is_leaf kind ≡ false) ⊎ (None ≡ tag_in (read_as (kind_within tight kind)))
+    → (starts_as (starts_of (kind_within tight kind) titled) (read_as (kind_within tight kind)) other ≡ 0) ⊎ (is_list kind ≡ true)
+no-element true Paragraph titled other n e = inl refl
+no-element false Paragraph titled other n (inl l) = absurd (true≢false l)
+no-element false Paragraph titled other n (inr t) = absurd (let q : None ≡ Some _ = t in cc)
+no-element tight TightParagraph titled other n e = inl refl
+no-element tight (Heading level attributes) titled other n (inl l) = absurd (true≢false l)
+no-element tight (Heading level attributes) titled other n (inr t) = absurd (let q : None ≡ Some _ = t in cc)
+no-element tight TableCell titled other n (inl l) = absurd (true≢false l)
+no-element tight TableCell titled other n (inr t) = absurd (let q : None ≡ Some _ = t in cc)
+no-element tight (LinkDefinition reference) titled other n e = absurd (true≢false n)
+no-element tight ThematicBreak titled other n e = inl refl
+no-element tight IndentedCode titled other n e = inl refl
+no-element tight (FencedCode info) titled other n e = inl refl
+no-element tight HtmlBlock titled other n e = inl refl
+no-element tight (MetadataBlock kind) titled other n e = inl refl
+no-element tight (Table alignments) titled other n e = inl refl
+no-element tight TableHead titled other n e = inl refl
+no-element tight TableRow titled other n e = inl refl
+no-element tight (BlockQuote alert) titled other n e = inl refl
+no-element tight (FootnoteDefinition label) titled other n e = inl refl
+no-element tight (DefinitionList t) titled other n e = inr refl
+no-element tight DefinitionListTitle titled other n (inl l) = absurd (true≢false l)
+no-element tight DefinitionListTitle titled other n (inr t) = absurd (let q : None ≡ Some _ = t in cc)
+no-element tight DefinitionListDefinition titled other n e = inl refl
+no-element tight (BlockList number z) titled other n e = inl refl
+no-element tight ListItem titled other n e = inl refl
+no-element tight (TaskMarker is_checked) titled other n e = inl refl
+no-element tight (Text bytes) titled other n e = inl refl
+no-element tight (OwnedText bytes) titled other n e = inl refl
+no-element tight (Html bytes) titled other n e = inl refl
 
 pub inside-only : (tight : Bool) (kind : BlockKind) → is_definition kind ≡ false → task_kind kind ≡ None → None ≡ event_in (read_as kind) → None ≡ tag_in (read_as (kind_within tight kind)) → reads.Inside ≡ read_as (kind_within tight kind)
 inside-only true Paragraph n k e t = refl
@@ -206,6 +213,9 @@ inside-only tight TableCell n k e t = absurd (let q : None ≡ Some _ = t in cc)
 inside-only tight (BlockQuote alert) n k e t = absurd (let q : None ≡ Some _ = t in cc)
 inside-only tight (FootnoteDefinition label) n k e t = absurd (let q : None ≡ Some _ = t in cc)
 inside-only tight (BlockList number z) n k e t = absurd (let q : None ≡ Some _ = t in cc)
+inside-only tight (DefinitionList z) n k e t = absurd (let q : None ≡ Some _ = t in cc)
+inside-only tight DefinitionListTitle n k e t = absurd (let q : None ≡ Some _ = t in cc)
+inside-only tight DefinitionListDefinition n k e t = absurd (let q : None ≡ Some _ = t in cc)
 inside-only tight ListItem n k e t = absurd (let q : None ≡ Some _ = t in cc)
 inside-only tight ThematicBreak n k e t = absurd (let q : None ≡ Some _ = e in cc)
 inside-only tight (Text bytes) n k e t = absurd (let q : None ≡ Some _ = e in cc)

@@ -1,6 +1,6 @@
 -- Which nodes are leaves, and what is inside them.
 use Rattle.std.proofs.Common.{◌≡◌, Bool, true, false, if◌then◌else◌, List, [], ◌∷◌, refl, ap, ◌∙◌}
-use Rattle.cmark_grammar.specs.BlockDocument.{BlockKind, Paragraph, TightParagraph, Heading, ThematicBreak, IndentedCode, FencedCode, HtmlBlock, LinkDefinition, MetadataBlock, BlockQuote, BlockList, ListItem, TaskMarker, FootnoteDefinition, Text, OwnedText, Html, BlockDocument, Nil, Node, Table, TableHead, TableRow, TableCell}
+use Rattle.cmark_grammar.specs.BlockDocument.{BlockKind, Paragraph, TightParagraph, Heading, ThematicBreak, IndentedCode, FencedCode, HtmlBlock, LinkDefinition, MetadataBlock, BlockQuote, BlockList, ListItem, TaskMarker, FootnoteDefinition, DefinitionList, DefinitionListTitle, DefinitionListDefinition, Text, OwnedText, Html, BlockDocument, Nil, Node, Table, TableHead, TableRow, TableCell}
 use Rattle.cmark_grammar.specs.BlockReading.{Around, Inside, Alone, First, Silent, read_as}
 use Rattle.cmark_grammar.specs.DrawnDocument.{kind_within, settled}
 use Rattle.cmark_grammar.specs.LeafText.{Stretch, Leaf}
@@ -24,6 +24,9 @@ leaf-within tight TableCell = refl
 leaf-within tight (LinkDefinition reference) = refl
 leaf-within tight (BlockQuote alert) = refl
 leaf-within tight (FootnoteDefinition label) = refl
+leaf-within tight (DefinitionList t) = refl
+leaf-within tight DefinitionListTitle = refl
+leaf-within tight DefinitionListDefinition = refl
 leaf-within tight (BlockList number t) = refl
 leaf-within tight ListItem = refl
 leaf-within tight (TaskMarker is_checked) = refl
@@ -54,6 +57,9 @@ only-leaves-inside TableCell e = absurd (let q : Inside ≡ Around _ = e in cc)
 only-leaves-inside (LinkDefinition reference) e = absurd (let q : Inside ≡ Silent = e in cc)
 only-leaves-inside (BlockQuote alert) e = absurd (let q : Inside ≡ Around _ = e in cc)
 only-leaves-inside (FootnoteDefinition label) e = absurd (let q : Inside ≡ Around _ = e in cc)
+only-leaves-inside (DefinitionList tight) e = absurd (let q : Inside ≡ Around _ = e in cc)
+only-leaves-inside DefinitionListTitle e = refl
+only-leaves-inside DefinitionListDefinition e = absurd (let q : Inside ≡ Around _ = e in cc)
 only-leaves-inside (BlockList number tight) e = absurd (let q : Inside ≡ Around _ = e in cc)
 only-leaves-inside ListItem e = absurd (let q : Inside ≡ Around _ = e in cc)
 only-leaves-inside (TaskMarker is_checked) e = absurd (let q : Inside ≡ First _ = e in cc)
@@ -87,6 +93,9 @@ cell-within tight (BlockList number t) = refl
 cell-within tight ListItem = refl
 cell-within tight (TaskMarker is_checked) = refl
 cell-within tight (FootnoteDefinition label) = refl
+cell-within tight (DefinitionList t) = refl
+cell-within tight DefinitionListTitle = refl
+cell-within tight DefinitionListDefinition = refl
 cell-within tight (Text bytes) = refl
 cell-within tight (OwnedText bytes) = refl
 cell-within tight (Html bytes) = refl

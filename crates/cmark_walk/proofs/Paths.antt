@@ -92,10 +92,12 @@ innermost-item : (walk : Walk) (rest : List TreeIndex) (ix : TreeIndex) (above :
 innermost-item walk rest ix above item m i =
     subst (λ k. Drawn walk.text.now (texts_of walk) k m.node.node) (sym (i m.has.0 (subst (λ k. entry_at walk.tree k ≡ Some m.has.0) m.at m.has.1) ∙ m.has.2)) m.drawn
 
--- whether what is inside an item stands in items of a tight list, or directly in one
+-- whether what is inside an item stands in items or definitions of a tight list, or directly in one
 abbrev pub body_within : Bool → ItemBody → Bool
 body_within tight (body.List flags mark number) = is_tight flags
 body_within tight (body.ListItem width) = tight
+body_within tight (body.DefinitionList flags) = is_tight flags
+body_within tight (body.DefinitionListDefinition width) = tight
 body_within tight _ = false
 
 pub within-kind : (start end : ℕ) (node : BlockNode) (kind : Option BlockKind) → option_map (ranged start end) kind ≡ Some node → kind ≡ Some node.kind
@@ -149,10 +151,10 @@ kind-within text texts start end tight (body.List x0 x1 x2) kind e = ap (tight_w
 kind-within text texts start end tight (body.ListItem x0) kind e = ap (tight_within tight) (sym (same_Some document.ListItem kind e))
 kind-within text texts start end tight (body.FootnoteDefinition x0) kind e = ap (tight_within tight) (sym (spelt-kind document.FootnoteDefinition (text_at texts x0.0) kind e).1)
 kind-within text texts start end tight (body.MetadataBlock x0) kind e = ap (tight_within tight) (sym (same_Some (document.MetadataBlock (shown_metadata_block_kind x0)) kind e))
-kind-within text texts start end tight (body.DefinitionList x0) kind e = absurd (let q : None ≡ Some kind = e in cc)
+kind-within text texts start end tight (body.DefinitionList x0) kind e = ap (tight_within tight) (sym (same_Some (document.DefinitionList (is_tight x0)) kind e))
 kind-within text texts start end tight body.MaybeDefinitionListTitle kind e = absurd (let q : None ≡ Some kind = e in cc)
-kind-within text texts start end tight body.DefinitionListTitle kind e = absurd (let q : None ≡ Some kind = e in cc)
-kind-within text texts start end tight (body.DefinitionListDefinition x0) kind e = absurd (let q : None ≡ Some kind = e in cc)
+kind-within text texts start end tight body.DefinitionListTitle kind e = ap (tight_within tight) (sym (same_Some document.DefinitionListTitle kind e))
+kind-within text texts start end tight (body.DefinitionListDefinition x0) kind e = ap (tight_within tight) (sym (same_Some document.DefinitionListDefinition kind e))
 kind-within text texts start end tight (body.Table x0) kind e = ap (tight_within tight) (sym (spelt-kind (λ row. document.Table (columns_of (delimiter_row row))) (text_at texts x0.0) kind e).1)
 kind-within text texts start end tight body.TableHead kind e = ap (tight_within tight) (sym (same_Some document.TableHead kind e))
 kind-within text texts start end tight body.TableRow kind e = ap (tight_within tight) (sym (same_Some document.TableRow kind e))
@@ -170,8 +172,8 @@ decided walk whole rest ix above item e t i =
     (tight_below m.outer, m.same ∙ drawn-within walk.text.now (texts_of walk) item m.node.node (tight_below m.outer) d)
 
 -- past an item, its own context decides
-pub outwards : (walk : Walk) (whole rest : List TreeIndex) (ix : TreeIndex) (above : List Outer) (item : Item) (width : ℕ) → whole ≡ rest ++ ix ∷ [] → TightFrom walk whole above → ((e : Entry Item) → entry_at walk.tree ix.ix ≡ Some e → item ≡ e.item) → item.body ≡ body.ListItem width → TightFrom walk rest above
-outwards walk whole rest ix above item width e t i b =
+pub outwards : (walk : Walk) (whole rest : List TreeIndex) (ix : TreeIndex) (above : List Outer) (item : Item) (b : ItemBody) → ((tight : Bool) → body_within tight b ≡ tight) → whole ≡ rest ++ ix ∷ [] → TightFrom walk whole above → ((e : Entry Item) → entry_at walk.tree ix.ix ≡ Some e → item ≡ e.item) → item.body ≡ b → TightFrom walk rest above
+outwards walk whole rest ix above item b keeps e t i is =
     let m = innermost walk whole rest ix above e t in
     let d = innermost-item walk rest ix above item m i in
     record {
@@ -180,7 +182,7 @@ outwards walk whole rest ix above item width e t i b =
       spine = m.spine;
       draws = m.draws;
       stands = m.stands;
-      same = m.same ∙ drawn-within walk.text.now (texts_of walk) item m.node.node (tight_below m.outer) d ∙ ap (body_within (tight_below m.outer)) b;
+      same = m.same ∙ drawn-within walk.text.now (texts_of walk) item m.node.node (tight_below m.outer) d ∙ ap (body_within (tight_below m.outer)) is ∙ keeps (tight_below m.outer);
     }
 
 none-left : (walk : Walk) (above : List Outer) (up : List (Level Item)) (outer : List Outer) → [] ≡ spine_of up → DrawsAbove walk.text.now (texts_of walk) up outer → tight_below outer ≡ false
@@ -197,52 +199,52 @@ pub outermost : (walk : Walk) (rest : List TreeIndex) (above : List Outer) → l
 outermost walk rest above n t = t.same ∙ none-left walk above t.up t.outer (nothing-left rest n ∙ t.spine) t.draws
 
 -- what is neither a list nor an item decides against it
-pub not-within : (tight : Bool) (b : ItemBody) → ((flags : ListFlags) (mark number : ℕ) → b ≡ body.List flags mark number → ⊥) → ((width : ℕ) → b ≡ body.ListItem width → ⊥) → body_within tight b ≡ false
-not-within tight (body.MaybeEmphasis x0 x1 x2) l i = refl
-not-within tight (body.MaybeMath x0 x1 x2) l i = refl
-not-within tight (body.MaybeSmartQuote x0 x1 x2) l i = refl
-not-within tight (body.MaybeCode x0 x1) l i = refl
-not-within tight body.MaybeHtml l i = refl
-not-within tight body.MaybeLinkOpen l i = refl
-not-within tight (body.MaybeLinkClose x0) l i = refl
-not-within tight body.MaybeImage l i = refl
-not-within tight body.Emphasis l i = refl
-not-within tight body.Strong l i = refl
-not-within tight body.Strikethrough l i = refl
-not-within tight body.Superscript l i = refl
-not-within tight body.Subscript l i = refl
-not-within tight (body.Math x0 x1) l i = refl
-not-within tight (body.Code x0) l i = refl
-not-within tight (body.FootnoteReference x0) l i = refl
-not-within tight (body.OwnedInlineHtml x0) l i = refl
-not-within tight (body.SynthesizeText x0) l i = refl
-not-within tight (body.Link x0) l i = refl
-not-within tight (body.Image x0) l i = refl
-not-within tight (body.TaskListMarker x0) l i = refl
-not-within tight body.InlineHtml l i = refl
-not-within tight (body.SynthesizeChar x0) l i = refl
-not-within tight body.Html l i = refl
-not-within tight (body.Text x0) l i = refl
-not-within tight body.SoftBreak l i = refl
-not-within tight (body.HardBreak x0) l i = refl
-not-within tight body.Root l i = refl
-not-within tight body.Paragraph l i = refl
-not-within tight body.TightParagraph l i = refl
-not-within tight body.Rule l i = refl
-not-within tight (body.Heading x0 x1) l i = refl
-not-within tight (body.FencedCodeBlock x0) l i = refl
-not-within tight body.IndentCodeBlock l i = refl
-not-within tight body.HtmlBlock l i = refl
-not-within tight (body.BlockQuote x0) l i = refl
-not-within tight (body.List x0 x1 x2) l i = absurd (l x0 x1 x2 refl)
-not-within tight (body.ListItem x0) l i = absurd (i x0 refl)
-not-within tight (body.FootnoteDefinition x0) l i = refl
-not-within tight (body.MetadataBlock x0) l i = refl
-not-within tight (body.DefinitionList x0) l i = refl
-not-within tight body.MaybeDefinitionListTitle l i = refl
-not-within tight body.DefinitionListTitle l i = refl
-not-within tight (body.DefinitionListDefinition x0) l i = refl
-not-within tight (body.Table x0) l i = refl
-not-within tight body.TableHead l i = refl
-not-within tight body.TableRow l i = refl
-not-within tight body.TableCell l i = refl
+pub not-within : (tight : Bool) (b : ItemBody) → ((flags : ListFlags) (mark number : ℕ) → b ≡ body.List flags mark number → ⊥) → ((flags : ListFlags) → b ≡ body.DefinitionList flags → ⊥) → ((width : ℕ) → b ≡ body.ListItem width → ⊥) → ((width : ℕ) → b ≡ body.DefinitionListDefinition width → ⊥) → body_within tight b ≡ false
+not-within tight (body.MaybeEmphasis x0 x1 x2) l d i j = refl
+not-within tight (body.MaybeMath x0 x1 x2) l d i j = refl
+not-within tight (body.MaybeSmartQuote x0 x1 x2) l d i j = refl
+not-within tight (body.MaybeCode x0 x1) l d i j = refl
+not-within tight body.MaybeHtml l d i j = refl
+not-within tight body.MaybeLinkOpen l d i j = refl
+not-within tight (body.MaybeLinkClose x0) l d i j = refl
+not-within tight body.MaybeImage l d i j = refl
+not-within tight body.Emphasis l d i j = refl
+not-within tight body.Strong l d i j = refl
+not-within tight body.Strikethrough l d i j = refl
+not-within tight body.Superscript l d i j = refl
+not-within tight body.Subscript l d i j = refl
+not-within tight (body.Math x0 x1) l d i j = refl
+not-within tight (body.Code x0) l d i j = refl
+not-within tight (body.FootnoteReference x0) l d i j = refl
+not-within tight (body.OwnedInlineHtml x0) l d i j = refl
+not-within tight (body.SynthesizeText x0) l d i j = refl
+not-within tight (body.Link x0) l d i j = refl
+not-within tight (body.Image x0) l d i j = refl
+not-within tight (body.TaskListMarker x0) l d i j = refl
+not-within tight body.InlineHtml l d i j = refl
+not-within tight (body.SynthesizeChar x0) l d i j = refl
+not-within tight body.Html l d i j = refl
+not-within tight (body.Text x0) l d i j = refl
+not-within tight body.SoftBreak l d i j = refl
+not-within tight (body.HardBreak x0) l d i j = refl
+not-within tight body.Root l d i j = refl
+not-within tight body.Paragraph l d i j = refl
+not-within tight body.TightParagraph l d i j = refl
+not-within tight body.Rule l d i j = refl
+not-within tight (body.Heading x0 x1) l d i j = refl
+not-within tight (body.FencedCodeBlock x0) l d i j = refl
+not-within tight body.IndentCodeBlock l d i j = refl
+not-within tight body.HtmlBlock l d i j = refl
+not-within tight (body.BlockQuote x0) l d i j = refl
+not-within tight (body.List x0 x1 x2) l d i j = absurd (l x0 x1 x2 refl)
+not-within tight (body.ListItem x0) l d i j = absurd (i x0 refl)
+not-within tight (body.FootnoteDefinition x0) l d i j = refl
+not-within tight (body.MetadataBlock x0) l d i j = refl
+not-within tight (body.DefinitionList x0) l d i j = absurd (d x0 refl)
+not-within tight body.MaybeDefinitionListTitle l d i j = refl
+not-within tight body.DefinitionListTitle l d i j = refl
+not-within tight (body.DefinitionListDefinition x0) l d i j = absurd (j x0 refl)
+not-within tight (body.Table x0) l d i j = refl
+not-within tight body.TableHead l d i j = refl
+not-within tight body.TableRow l d i j = refl
+not-within tight body.TableCell l d i j = refl

@@ -20,7 +20,7 @@ use Rattle.cmark_grammar.specs.Event as event
 use Rattle.cmark_grammar.specs.BlockDocument as document
 use Rattle.cmark_grammar.specs.BlockDocument.{BlockKind, BlockNode, BlockDocument}
 use Rattle.cmark_grammar.specs.BlockReading as reads
-use Rattle.cmark_grammar.specs.BlockReading.{Reads, read_as, over, first_event, begins_element}
+use Rattle.cmark_grammar.specs.BlockReading.{Reads, read_as, over, first_event, starts_before}
 use Rattle.cmark_grammar.specs.DrawnDocument.{kind_within, settled}
 use Rattle.cmark_grammar.specs.SpanDocuments.{Segment, Given, Content, is_leaf, leaf_of, inside_of, node_segments, first_of_segments, with_first_segment, segments}
 use Rattle.cmark_grammar.specs.Tightness.{tight_within}
@@ -107,24 +107,24 @@ abbrev pub as_kind : BlockKind → BlockNode → BlockNode
 as_kind kind node = record node { kind = kind }
 
 -- what is read at a node, and then
-abbrev pub read_with : Reads → (element : Bool) → BlockNode → (I A : List Segment) → List Segment
+abbrev pub read_with : Reads → (element : ℕ) → BlockNode → (I A : List Segment) → List Segment
 read_with R z node I A = with_first_segment (first_event R) z node (node_segments R node I ++ A)
 
 read-around : (tag : _) (k : BlockKind) (node : BlockNode) (I A L : List Segment) → (node_segments (reads.Around tag) (as_kind k node) I ++ A) ++ L ≡ Given (over node (event.Start tag)) ∷ (I ++ (leaving (reads.Around tag) node ++ (A ++ L)))
 read-around tag k node I A L =
     ap (λ l. Given (over node (event.Start tag)) ∷ l) (append_assoc (I ++ (Given (over node (event.End (end_of tag))) ∷ [])) A L ∙ append_assoc I (Given (over node (event.End (end_of tag))) ∷ []) (A ++ L))
 
-pub left-around : (tag : _) (R : Reads) (z : Bool) (k : BlockKind) (node : BlockNode) (I A L : List Segment) → reads.Around tag ≡ R
+pub left-around : (tag : _) (R : Reads) (z : ℕ) (k : BlockKind) (node : BlockNode) (I A L : List Segment) → reads.Around tag ≡ R
     → read_with R z (as_kind k node) I A ++ L ≡ Given (over node (event.Start tag)) ∷ (I ++ (leaving R node ++ (A ++ L)))
 left-around tag R z k node I A L e = subst (λ r. read_with r z (as_kind k node) I A ++ L ≡ Given (over node (event.Start tag)) ∷ (I ++ (leaving r node ++ (A ++ L)))) e (read-around tag k node I A L)
 
-pub left-inside : (R : Reads) (z : Bool) (k : BlockKind) (node : BlockNode) (I A L : List Segment) → reads.Inside ≡ R → read_with R z (as_kind k node) I A ++ L ≡ I ++ (leaving R node ++ (A ++ L))
+pub left-inside : (R : Reads) (z : ℕ) (k : BlockKind) (node : BlockNode) (I A L : List Segment) → reads.Inside ≡ R → read_with R z (as_kind k node) I A ++ L ≡ I ++ (leaving R node ++ (A ++ L))
 left-inside R z k node I A L e = subst (λ r. read_with r z (as_kind k node) I A ++ L ≡ I ++ (leaving r node ++ (A ++ L))) e (append_assoc I A L)
 
-pub left-alone : (ev : event.Event) (R : Reads) (z : Bool) (k : BlockKind) (node : BlockNode) (I A L : List Segment) → reads.Alone ev ≡ R → read_with R z (as_kind k node) I A ++ L ≡ Given (over node ev) ∷ (A ++ L)
+pub left-alone : (ev : event.Event) (R : Reads) (z : ℕ) (k : BlockKind) (node : BlockNode) (I A L : List Segment) → reads.Alone ev ≡ R → read_with R z (as_kind k node) I A ++ L ≡ Given (over node ev) ∷ (A ++ L)
 left-alone ev R z k node I A L e = subst (λ r. read_with r z (as_kind k node) I A ++ L ≡ Given (over node ev) ∷ (A ++ L)) e refl
 
-pub left-first : (ev : event.Event) (R : Reads) (z : Bool) (k : BlockKind) (node : BlockNode) (I A L : List Segment) → reads.First ev ≡ R → read_with R z (as_kind k node) I A ++ L ≡ first_of_segments z (Given (over node ev)) A ++ L
+pub left-first : (ev : event.Event) (R : Reads) (z : ℕ) (k : BlockKind) (node : BlockNode) (I A L : List Segment) → reads.First ev ≡ R → read_with R z (as_kind k node) I A ++ L ≡ first_of_segments z (Given (over node ev)) A ++ L
 left-first ev R z k node I A L e = subst (λ r. read_with r z (as_kind k node) I A ++ L ≡ first_of_segments z (Given (over node ev)) A ++ L) e refl
 
 module _ (walk : Walk) (item : Item) (ix : TreeIndex) (t : Tree Item) where
@@ -208,8 +208,8 @@ module _ (walk : Walk) (item : Item) (ix : TreeIndex) (t : Tree Item) (at : IsFo
   abbrev after_at : (above : List Outer) → BlockDocument → List Segment
   after_at above after = segments (settled (tight_below above) after)
 
-  abbrev pub element_at : (above : List Outer) → BlockDocument → Bool
-  element_at above after = begins_element (settled (tight_below above) after)
+  abbrev pub element_at : (above : List Outer) → BlockDocument → ℕ
+  element_at above after = starts_before (settled (tight_below above) after)
 
   pub before-node : (left : List Segment) (r : Remains walk left) (f : Focus walk item ix r.z r.here)
       → left ≡ read_with (read_as (kind_at r.above f.node)) (element_at r.above f.after) (as_kind (kind_at r.above f.node) f.node) (inside_at r.above f.node f.inside) (after_at r.above f.after) ++ left_above r.above

@@ -1,5 +1,5 @@
 -- Where a walk stands in its document, and what it still has to give.
-use Rattle.std.specs.Prelude.{◌≡◌, ℕ, ◌≤◌, Bool, true, false, List, [], ◌∷◌, ◌++◌, length, Option, Some, None}
+use Rattle.std.specs.Prelude.{◌≡◌, ◌⊎◌, if◌then◌else◌, ℕ, ◌≤◌, Bool, true, false, List, [], ◌∷◌, ◌++◌, length, Option, Some, None}
 use Rattle.std.specs.Str.{IsCharBoundary}
 use Rattle.cmark_text.specs.declared.text.CowStr.{CowStr}
 use Rattle.cmark_text.specs.declared.event.Event.{Event as TextEvent}
@@ -15,13 +15,13 @@ use Rattle.cmark_grammar.specs.TagEnd.{end_of}
 use Rattle.cmark_grammar.specs.Event as event
 use Rattle.cmark_grammar.specs.Event.{Event}
 use Rattle.cmark_grammar.specs.BlockDocument as document
-use Rattle.cmark_grammar.specs.BlockDocument.{BlockNode, BlockDocument}
+use Rattle.cmark_grammar.specs.BlockDocument.{BlockKind, BlockNode, BlockDocument}
 use Rattle.cmark_grammar.specs.BlockReading as reads
-use Rattle.cmark_grammar.specs.BlockReading.{Reads, read_as, over, begins_element}
+use Rattle.cmark_grammar.specs.BlockReading.{Reads, read_as, over, is_title, begins_title, starts_before}
 use Rattle.cmark_grammar.specs.DrawnDocument.{kind_within, settled}
 use Rattle.cmark_grammar.specs.LeafText.{Stretch, Leaf}
 use Rattle.cmark_grammar.specs.Ranges.{InOrder}
-use Rattle.cmark_grammar.specs.SpanDocuments.{Segment, Given, Content, is_leaf, leaf_of, segments}
+use Rattle.cmark_grammar.specs.SpanDocuments.{Segment, Given, Content, is_leaf, leaf_of, first_of_segments, segments}
 use Rattle.cmark_grammar.specs.Tightness.{tight_within}
 use Rattle.cmark_items.specs.declared.definitions.RefDefs.{RefDefs}
 use Rattle.cmark_items.specs.declared.item.Item.{Item}
@@ -105,11 +105,25 @@ abbrev pub left_behind : BlockDocument → List Outer → List Segment
 left_behind document.Nil above = []
 left_behind (document.Node node inside after) above = leaving (read_as (kind_within (tight_below above) node.kind)) node ++ segments (settled (tight_below above) after)
 
+-- a definition list
+abbrev pub is_list : BlockKind → Bool
+is_list (document.DefinitionList tight) = true
+is_list _ = false
+
+-- what is left of these nodes behind the start of the first, a definition list, and the task marker of its first title: the marker stands behind
+-- the title's start, and in front of all where no title begins the list
+abbrev pub left_in_list : Segment → BlockDocument → List Outer → List Segment
+left_in_list marker document.Nil above = []
+left_in_list marker (document.Node node inside after) above =
+    let within = settled (tight_within (tight_below above) node.kind) inside in
+    first_of_segments (if begins_title within then 1 else 0) marker ((segments within ++ leaving (read_as (kind_within (tight_below above) node.kind)) node) ++ segments (settled (tight_below above) after))
+
 -- what is left of the siblings at hand, from the focus on: the events and leaves of the settled document from there; in a leaf its task
--- marker and its lines, if they were not met yet, and what stands behind them
+-- marker and its lines, if they were not met yet, and what stands behind them; in a definition list its first title's task marker
 abbrev pub left_at : Stage → BlockDocument → List Outer → List Segment
 left_at stage.Before here above = segments (settled (tight_below above) here)
 left_at (stage.Marked is_checked start end) here above = Given (record { event = event.TaskListMarker is_checked; start = start; end = end }) ∷ (Content (leaf_at here) ∷ left_behind here above)
+left_at (stage.Listed is_checked start end) here above = left_in_list (Given (record { event = event.TaskListMarker is_checked; start = start; end = end })) here above
 left_at stage.Lines here above = Content (leaf_at here) ∷ left_behind here above
 left_at stage.Behind here above = left_behind here above
 
@@ -121,10 +135,16 @@ abbrev pub BeginsWithLeaf : BlockDocument → Type 0
 BeginsWithLeaf document.Nil = ⊥
 BeginsWithLeaf (document.Node node inside after) = is_leaf node.kind ≡ true
 
--- a walk is in a leaf only where the focus is one
+-- the first of these nodes is a definition list
+abbrev pub BeginsWithList : BlockDocument → Type 0
+BeginsWithList document.Nil = ⊥
+BeginsWithList (document.Node node inside after) = is_list node.kind ≡ true
+
+-- a walk is in a leaf, or in a definition list, only where the focus is one
 abbrev pub IsStaged : Stage → BlockDocument → Type 0
 IsStaged stage.Before here = Unit {0}
 IsStaged (stage.Marked is_checked start end) here = BeginsWithLeaf here
+IsStaged (stage.Listed is_checked start end) here = BeginsWithList here
 IsStaged stage.Lines here = BeginsWithLeaf here
 IsStaged stage.Behind here = BeginsWithLeaf here
 
@@ -239,10 +259,28 @@ BeginsAs walk above tag item document.Nil = ⊥
 BeginsAs walk above tag item (document.Node node inside after) =
     Drawn walk.text.now (texts_of walk) item node × (is_leaf node.kind ≡ true) × (reads.Around (shown_tag tag) ≡ read_as (kind_within (tight_below above) node.kind))
 
--- a paragraph or a heading begins behind the focus, with this tag and this item, or none does
+-- a paragraph, a heading or a title begins behind the focus, with this tag and this item, or none does, but perhaps a definition list
 abbrev pub BeginsBehind : Walk → List Outer → Option (TextTag × Item) → BlockDocument → Type 0
-BeginsBehind walk above None after = begins_element (settled (tight_below above) after) ≡ false
+BeginsBehind walk above None after = (starts_before (settled (tight_below above) after) ≡ 0) ⊎ BeginsWithList after
 BeginsBehind walk above (Some begun) after = BeginsAs walk above begun.0 begun.1 after
+
+-- a definition list begins behind the focus, with this item, or none does
+abbrev pub ListBehind : Walk → Option Item → BlockDocument → Type 0
+ListBehind walk None after = BeginsWithList after → ⊥
+ListBehind walk (Some item) document.Nil = ⊥
+ListBehind walk (Some item) (document.Node node inside after) = Drawn walk.text.now (texts_of walk) item node × (is_list node.kind ≡ true)
+
+abbrev pub IsListBehind : Walk → TreeIndex → Option Item → Type 0
+IsListBehind walk ix found = (z : Zip Item) (here : BlockDocument) (above : List Outer) → StandsAt walk z here above → ListBehind walk found (behind_first here)
+
+-- a title begins what is inside the focus, with this item, or none does
+abbrev pub TitleIn : Walk → Option Item → BlockDocument → Type 0
+TitleIn walk None inside = (tight : Bool) → begins_title (settled tight inside) ≡ false
+TitleIn walk (Some item) document.Nil = ⊥
+TitleIn walk (Some item) (document.Node node inside after) = Drawn walk.text.now (texts_of walk) item node × (is_title node.kind ≡ true)
+
+abbrev pub IsTitleIn : Walk → TreeIndex → Option Item → Type 0
+IsTitleIn walk ix found = (z : Zip Item) (here : BlockDocument) (above : List Outer) → StandsAt walk z here above → TitleIn walk found (content_of here)
 
 abbrev pub IsLeafBehind : Walk → TreeIndex → Option (TextTag × Item) → Type 0
 IsLeafBehind walk ix found = (z : Zip Item) (here : BlockDocument) (above : List Outer) → StandsAt walk z here above → BeginsBehind walk above found (behind_first here)

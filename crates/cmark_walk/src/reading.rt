@@ -41,6 +41,15 @@ pub(crate) enum Stage {
         /// The byte offset behind it.
         end: usize,
     },
+    /// In it, a definition list, before its first title, in which the task marker of the paragraph stands that became the title (GFM 5.3).
+    Listed {
+        /// Whether the marker's box is checked.
+        is_checked: bool,
+        /// The byte offset at which the marker begins.
+        start: usize,
+        /// The byte offset behind it.
+        end: usize,
+    },
     /// In it, a leaf, before its lines.
     Lines,
     /// In it, a leaf, behind its lines.

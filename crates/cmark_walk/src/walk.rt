@@ -132,6 +132,14 @@ impl<'a> Walk<'a> {
                 start,
                 end,
             } => Ok(self.meet_marker(is_checked, start, end)),
+            Stage::Listed {
+                is_checked,
+                start,
+                end,
+            } => {
+                let step = self.enter_list(ix, is_checked, start, end)?;
+                Ok(step)
+            }
             Stage::Lines => {
                 let is_cell = self.meet_leaf(ix, lines)?;
                 Ok(Step::Leaf { is_cell })
@@ -190,6 +198,15 @@ impl<'a> Walk<'a> {
         ensures text { text_of self.new ≡ text_of self.old }
     {
         let item = *self.tree.item(ix);
+        if let Some(list) = self.definitions_behind(ix) {
+            self.tree.next_sibling(ix);
+            self.stage = Stage::Listed {
+                is_checked,
+                start: item.start,
+                end: item.end,
+            };
+            return Ok(given(Event::Start(Tag::DefinitionList), list));
+        }
         let behind = self.leaf_behind(ix)?;
         self.tree.next_sibling(ix);
         match behind {
@@ -202,6 +219,72 @@ impl<'a> Walk<'a> {
                 Ok(given(Event::Start(tag), leaf))
             }
             None => Ok(given(Event::TaskListMarker(is_checked), item)),
+        }
+    }
+
+    // Into the definition list in the focus, behind whose start the task marker stands that lies before it: in the title with
+    // which the list begins (GFM 5.3).
+    #[inline(always)]
+    fn enter_list(
+        &mut self,
+        ix: TreeIndex,
+        is_checked: bool,
+        start: usize,
+        end: usize,
+    ) -> Result<Step<'a>, AllocError>
+        requires at { IsAt self.old ix }
+        requires listed { self.old.stage ≡ stage.Listed is_checked start end }
+        ensures given { IfOk result (λ step. (left : List Segment) (lines : List LeafLine) → Remains self.old left → GivesStep left step lines self.new) }
+        ensures lent { IfOk result (StepsZeroCopy (text_of self.old)) }
+        ensures refused { OnErr result ((left : List Segment) → Remains self.old left → Remains self.new left) }
+        ensures goes { Goes self.new }
+        ensures definitions { definitions_of self.new ≡ definitions_of self.old }
+        ensures text { text_of self.new ≡ text_of self.old }
+    {
+        let title = self.title_in(ix);
+        self.tree.push()?;
+        match title {
+            Some(title) => {
+                self.stage = Stage::Marked {
+                    is_checked,
+                    start,
+                    end,
+                };
+                Ok(given(Event::Start(Tag::DefinitionListTitle), title))
+            }
+            None => {
+                self.stage = Stage::Before;
+                Ok(Step::Event(Ranged {
+                    event: Event::TaskListMarker(is_checked),
+                    range: start..end,
+                }))
+            }
+        }
+    }
+
+    // The item of the title that the node in the focus begins with, if it begins with one.
+    fn title_in(&self, ix: TreeIndex) -> Option<Item>
+        requires { IsAt self.now ix }
+        ensures { IsTitleIn self.now ix result }
+    {
+        let child = self.tree.child(ix)?;
+        let item = *self.tree.item(child);
+        match item.body {
+            ItemBody::DefinitionListTitle => Some(item),
+            _ => None,
+        }
+    }
+
+    // The item of the definition list behind a node, where one stands there.
+    fn definitions_behind(&self, ix: TreeIndex) -> Option<Item>
+        requires { IsAt self.now ix }
+        ensures { IsListBehind self.now ix result }
+    {
+        let next = self.tree.next(ix)?;
+        let item = *self.tree.item(next);
+        match item.body {
+            ItemBody::DefinitionList(_) => Some(item),
+            _ => None,
         }
     }
 
@@ -422,6 +505,9 @@ impl<'a> Walk<'a> {
             ItemBody::BlockQuote(kind) => Ok(Some(Tag::BlockQuote(kind))),
             ItemBody::List(_, mark, number) => Ok(Some(Tag::List(first_number(mark, number)))),
             ItemBody::ListItem(_) => Ok(Some(Tag::Item)),
+            ItemBody::DefinitionList(_) => Ok(Some(Tag::DefinitionList)),
+            ItemBody::DefinitionListTitle => Ok(Some(Tag::DefinitionListTitle)),
+            ItemBody::DefinitionListDefinition(_) => Ok(Some(Tag::DefinitionListDefinition)),
             ItemBody::Heading(_, Some(_))
             | ItemBody::FencedCodeBlock(_)
             | ItemBody::Table(_)
@@ -493,13 +579,16 @@ impl<'a> Walk<'a> {
                 Some(TagEnd::List(first_number(mark, number).is_some()))
             }
             ItemBody::ListItem(_) => Some(TagEnd::Item),
+            ItemBody::DefinitionList(_) => Some(TagEnd::DefinitionList),
+            ItemBody::DefinitionListTitle => Some(TagEnd::DefinitionListTitle),
+            ItemBody::DefinitionListDefinition(_) => Some(TagEnd::DefinitionListDefinition),
             ItemBody::FootnoteDefinition(_) => Some(TagEnd::FootnoteDefinition),
             _ => None,
         }
     }
 
-    // Whether a paragraph among the siblings at hand stands directly in an item of a tight list (CommonMark 5.3). In a document
-    // an item's parent is a list, so this looks at two nodes.
+    // Whether a paragraph among the siblings at hand stands directly in an item or a definition of a tight list (CommonMark 5.3).
+    // In a document the parent of these is a list, so this looks at two nodes.
     fn is_tight(&self) -> bool
         requires { IsBelow self.now }
         ensures { (z : Zip Item) (above : List Outer) → StandsBelow self.now z above → result ≡ tight_below above }
@@ -507,8 +596,10 @@ impl<'a> Walk<'a> {
         let mut parents = self.tree.walk_spine();
         while let Some(ix) = parents.next_back() {
             match self.tree.item(*ix).body {
-                ItemBody::List(flags, _, _) => return flags.bits() % 2 == 1,
-                ItemBody::ListItem(_) => {}
+                ItemBody::List(flags, _, _) | ItemBody::DefinitionList(flags) => {
+                    return flags.bits() % 2 == 1;
+                }
+                ItemBody::ListItem(_) | ItemBody::DefinitionListDefinition(_) => {}
                 _ => return false,
             }
         }
@@ -536,6 +627,7 @@ fn is_leaf(item: Item) -> bool
         ItemBody::Paragraph => true,
         ItemBody::TightParagraph => true,
         ItemBody::Heading(_, _) => true,
+        ItemBody::DefinitionListTitle => true,
         ItemBody::TableCell => true,
         _ => false,
     }

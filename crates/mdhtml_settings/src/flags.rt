@@ -77,7 +77,7 @@ pub static FLAGS: [LineFlag; 15] = [
     LineFlag {
         name: "definition-list",
         option: Options::ENABLE_DEFINITION_LIST,
-        help: "Definition lists (no effect yet)",
+        help: "Definition lists: a title, and definitions behind :",
     },
     LineFlag {
         name: "superscript",

@@ -7,6 +7,7 @@ ghost use Rattle.cmark_grammar.specs.Options.{Options};
 ghost use Rattle.cmark_grammar.specs.TaskItems.{task_in};
 ghost use Rattle.cmark_text.specs.Shown.{shown_block_quote_kind};
 ghost use Rattle.cmark_lines.specs.Boxes.{is_checked, IsBehindBox};
+ghost use Rattle.cmark_lines.specs.Definitions.{width_of, definition_behind, EntersDefinition};
 ghost use Rattle.cmark_lines.specs.Rests.{row_of};
 ghost use Rattle.cmark_lines.specs.Starts.{quote_entered, number_by, shown_begun, begun_item, EntersItem, label_shown, begun_label, EntersFootnote, IsMarkerClosed};
 
@@ -92,6 +93,18 @@ impl<'a> LineRest<'a> {
         front.scan_space_upto(3);
         let size = front.scan_footnote_marker()?;
         Some((size, self.with_front(front)))
+    }
+
+    /// The width of the definition that the line begins, indented by at most three columns, and the line behind the marker (this profile's own).
+    #[inline]
+    pub(crate) fn behind_definition(self) -> Option<(usize, LineRest<'a>)>
+        ensures width { option_map width_of result ≡ definition_behind (row_of self.entry) }
+        ensures inside { IfSome result (EntersDefinition (row_of self.entry)) }
+    {
+        let mut front = self.front;
+        let indent = front.scan_space_upto(3);
+        let width = front.scan_definition_list_definition_marker_with_indent(indent)?;
+        Some((width, self.with_front(front)))
     }
 
     /// The list item that the line begins, indented by at most three columns, and the line behind the marker.

@@ -1,13 +1,12 @@
 use Rattle.std.proofs.Common.{[], ◌∷◌, ◌++◌, ap, ◌∙◌, subst, length, arith, length-append}
 use Rattle.std.proofs.lemmas.List.{nil_from_length}
-use Rattle.cmark_block_model.specs.BlockPass.{list_closed, behind_container}
+use Rattle.cmark_block_model.specs.BlockPass.{ended, behind_container}
 use Rattle.cmark_block_model.specs.Drawing.{closed_at}
 use Rattle.cmark_builder.specs.Drawn.{Draws}
 use Rattle.cmark_builder.proofs.DrawnSteps.{draws-close}
 use Rattle.cmark_blocks.specs.Shown.{shown_siblings, ShowsContainers}
 use Rattle.cmark_blocks.proofs.RunSteps.{shows-unsnoc, shows-none, runs-builder, runs-inner, runs-outer}
 use Rattle.cmark_blocks.proofs.state.Pass.close_container.Goals as goal
-use Rattle.cmark_items.specs.Tables.{tables, defined}
 
 pub returns-in-Some-clause-runs : goal.returns-in-Some-clause-runs
 returns-in-Some-clause-runs g c text options lookup m outer last split runs =
@@ -16,12 +15,12 @@ returns-in-Some-clause-runs g c text options lookup m outer last split runs =
     let r = c.close_list.ensures.runs text options lookup m runs in
     let parts = shows-unsnoc c.pop.new.self.items outer c.in-Some.open last
     (subst (λ items. ShowsContainers items (outer ++ last ∷ [])) c.in-Some.ensures.items (subst (ShowsContainers before.outer.items) split r.outer)) in
-    let drawing = list_closed m.inner.list m.drawing in
+    let drawing = ended m.inner m.drawing in
     let draws = subst (λ end. Draws text c.close.new.self (closed_at end drawing)) r.past
     (draws-close text before.builder c.close.new.self before.past drawing c.close.ensures.closed c.close.ensures.none c.close.ensures.tables r.drawing) in
     runs-inner replacement text options lookup _ _ c.siblings_behind-self.result (behind_container last.container m.past m.inner last.around)
     (runs-builder replacement text options lookup _ _ c.close.new.self (closed_at m.past drawing)
-    (runs-outer replacement text options lookup _ before c.pop.new.self outer r parts.0) draws (ap (λ a. defined (tables a)) c.close.ensures.tables))
+    (runs-outer replacement text options lookup _ before c.pop.new.self outer r parts.0) draws (ap (λ a. a.refdefs) c.close.ensures.tables))
     (c.siblings_behind-self.ensures last parts.1
     ∙ ap (λ end. behind_container last.container end (shown_siblings before.inner) last.around) r.past
     ∙ ap (λ inside. behind_container last.container m.past inside last.around) r.inner)

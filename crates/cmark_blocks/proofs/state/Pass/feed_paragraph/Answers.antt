@@ -1,9 +1,12 @@
 use Rattle.std.proofs.Common.{◌≡◌, ◌≤◌, true, false, ◌||◌, length, option_map, sym, ap, subst, ◌∙◌, arith, true≢false}
 use Rattle.cmark_grammar.specs.Openings.{interrupts}
 use Rattle.cmark_grammar.specs.TableRows.{table_interrupts}
+use Rattle.cmark_grammar.specs.DefinitionLists.{begins_definition}
+use Rattle.cmark_blocks.specs.TablesAhead.{block_interrupts}
 use Rattle.cmark_text.specs.Shown.{level_number}
 use Rattle.cmark_lines.specs.Rests.{row_of}
 use Rattle.cmark_lines.proofs.PlainRows.{letter-interrupts-not, letter-table-not, letter-underlines-not}
+use Rattle.cmark_blocks.proofs.DefinitionRows.{letter-definition-not}
 use Rattle.cmark_lines.proofs.RestSteps.{whole}
 use Rattle.cmark_block_model.specs.BlockPass.{ahead_in}
 use Rattle.cmark_blocks.specs.Ahead.{lines_at}
@@ -20,8 +23,8 @@ returns-then-begins_with_letter-clause-runs g c text options lookup m runs =
     let letter = sym c.begins_with_letter.ensures ∙ c.if-begins_with_letter.true in
     subst (λ p. Runs replacement text options lookup p c.add_to_paragraph.new.self)
     (sym (feeds-text text options lookup row (lines_at text row.past) m c.args.from (row_of c.args.last) (sym (letter-underlines-not row letter)) (whole c.args.rest)
-    (sym (ap (λ z. z || table_interrupts options row (ahead_in text options lookup m.outer (lines_at text row.past))) (letter-interrupts-not options true row (ahead_in text options lookup m.outer (lines_at text row.past)) letter)
-    ∙ letter-table-not options row (ahead_in text options lookup m.outer (lines_at text row.past)) letter)) (in_paragraph replacement text options lookup m c.args.self.now runs c.args.from c.args.last c.requires.is)))
+    (sym (ap (λ z. z || block_interrupts options true row (ahead_in text options lookup m.outer (lines_at text row.past))) (letter-interrupts-not options true row (ahead_in text options lookup m.outer (lines_at text row.past)) letter)
+    ∙ ap (λ z. z || begins_definition options row) (letter-table-not options row (ahead_in text options lookup m.outer (lines_at text row.past)) letter) ∙ letter-definition-not options row letter)) (in_paragraph replacement text options lookup m c.args.self.now runs c.args.from c.args.last c.requires.is)))
     (c.in_ok-add_to_paragraph.ensures.runs text options lookup m runs)
 
 pub returns-in-Some-clause-runs : goal.returns-in-Some-clause-runs
@@ -39,12 +42,12 @@ returns-in_ok-begin_anew-clause-runs g c text options lookup m runs =
     let next = lines_at text row.past in
     let ahead = ahead_in text options lookup m.outer next in
     let cs = c.args.self.now.outer.items in
-    let ends : true ≡ (interrupts options true row ahead || table_interrupts options row ahead) = elim c.if-interrupts.branch [
-      | then-interrupts w ↦ or-first (interrupts options true row ahead) (table_interrupts options row ahead) (sym (c.interrupts.ensures ahead ∙ ap (λ o. interrupts o true row ahead) runs.options_is) ∙ w.if-interrupts.true)
+    let ends : true ≡ (interrupts options true row ahead || block_interrupts options true row ahead) = elim c.if-interrupts.branch [
+      | then-interrupts w ↦ or-first (interrupts options true row ahead) (block_interrupts options true row ahead) (sym (c.interrupts.ensures ahead ∙ ap (λ o. interrupts o true row ahead) runs.options_is) ∙ w.if-interrupts.true)
       | else-interrupts w ↦
           (let all : length cs ≤ w.len.result = omega (arith, w.len.ensures, c.args.self.now.outer.ok.0) in
-          or-second (interrupts options true row ahead) (table_interrupts options row ahead) true (sym (c.interrupts.ensures ahead ∙ ap (λ o. interrupts o true row ahead) runs.options_is) ∙ w.if-interrupts.false)
-          (sym c.if-table_interrupts.true ∙ w.value-is ∙ told-inside text options lookup cs m.outer w.len.result row next w.table_interrupts.result runs.outer all (w.table_interrupts.ensures text options lookup m runs)))
+          or-second (interrupts options true row ahead) (block_interrupts options true row ahead) true (sym (c.interrupts.ensures ahead ∙ ap (λ o. interrupts o true row ahead) runs.options_is) ∙ w.if-interrupts.false)
+          (sym c.if-block_interrupts.true ∙ w.value-is ∙ told-inside text options lookup cs m.outer w.len.result row next w.block_interrupts.result runs.outer all (w.block_interrupts.ensures text options lookup m runs)))
     ] in
     subst (λ p. Runs replacement text options lookup p c.begin_anew.new.self)
     (sym (feeds-interrupted text options lookup row next m c.args.from (row_of c.args.last) (ap (option_map level_number) (sym c.in_default.is) ∙ c.underlines.ensures) (whole c.args.rest)
@@ -58,14 +61,14 @@ returns-in_ok-add_to_paragraph-2-clause-runs g c text options lookup m runs =
     let next = lines_at text row.past in
     let ahead = ahead_in text options lookup m.outer next in
     let cs = c.args.self.now.outer.items in
-    let goes_on : false ≡ (interrupts options true row ahead || table_interrupts options row ahead) = elim c.if-interrupts.branch [
-      | then-interrupts w ↦ absurd (true≢false (sym w.if-interrupts.true ∙ sym w.value-is ∙ c.if-table_interrupts.false))
+    let goes_on : false ≡ (interrupts options true row ahead || block_interrupts options true row ahead) = elim c.if-interrupts.branch [
+      | then-interrupts w ↦ absurd (true≢false (sym w.if-interrupts.true ∙ sym w.value-is ∙ c.if-block_interrupts.false))
       | else-interrupts w ↦
           (let all : length cs ≤ w.len.result = omega (arith, w.len.ensures, c.args.self.now.outer.ok.0) in
-          or-second (interrupts options true row ahead) (table_interrupts options row ahead) false (sym (c.interrupts.ensures ahead ∙ ap (λ o. interrupts o true row ahead) runs.options_is) ∙ w.if-interrupts.false)
-          (sym c.if-table_interrupts.false ∙ w.value-is ∙ told-inside text options lookup cs m.outer w.len.result row next w.table_interrupts.result runs.outer all (w.table_interrupts.ensures text options lookup m runs)))
+          or-second (interrupts options true row ahead) (block_interrupts options true row ahead) false (sym (c.interrupts.ensures ahead ∙ ap (λ o. interrupts o true row ahead) runs.options_is) ∙ w.if-interrupts.false)
+          (sym c.if-block_interrupts.false ∙ w.value-is ∙ told-inside text options lookup cs m.outer w.len.result row next w.block_interrupts.result runs.outer all (w.block_interrupts.ensures text options lookup m runs)))
     ] in
-    subst (λ p. Runs replacement text options lookup p c.add_to_paragraph-else-table_interrupts.new.self)
+    subst (λ p. Runs replacement text options lookup p c.add_to_paragraph-else-block_interrupts.new.self)
     (sym (feeds-text text options lookup row next m c.args.from (row_of c.args.last) (ap (option_map level_number) (sym c.in_default.is) ∙ c.underlines.ensures) (whole c.args.rest)
     goes_on (in_paragraph replacement text options lookup m c.args.self.now runs c.args.from c.args.last c.requires.is)))
     (c.in_ok-add_to_paragraph-2.ensures.runs text options lookup m runs)

@@ -27,7 +27,7 @@ returns-then-is_lazy-clause-runs g c text options lookup m runs =
     let some : kept < length cs = omega (arith, c.requires.few, c.if-kept-len.false, c.len.ensures, c.args.self.now.outer.ok.0) in
     let missed = shows-some cs m.outer kept runs.outer some in
     subst (λ p. Runs g.E.EntityLookup.replacement text options lookup p c.feed_lazily.new.self)
-    (sym (rest-lazy text options lookup row next m kept missed.0 missed.1 missed.2 (sym (c.is_lazy.ensures text options lookup m missed.0.container runs) ∙ c.if-is_lazy.true)))
+    (sym (rest-lazy text options lookup row next m kept missed.0 missed.1 missed.2 (sym (c.is_lazy.ensures text options lookup m missed.0 missed.1 missed.2 runs) ∙ c.if-is_lazy.true)))
     (c.in_ok-feed_lazily.ensures.runs text options lookup m runs)
 
 pub returns-clause-runs : goal.returns-clause-runs
@@ -42,6 +42,6 @@ returns-clause-runs g c text options lookup m runs =
     let closed = c.in_ok-close_leaf.ensures.runs text options lookup m runs in
     let outer = closed-outer text options lookup m m.leaf in
     subst (λ p. Runs g.E.EntityLookup.replacement text options lookup p c.begin.new.self)
-    (sym (rest-ends text options lookup row next m kept missed.0 missed.1 missed.2 (sym (c.is_lazy.ensures text options lookup m missed.0.container runs) ∙ c.if-is_lazy.false)))
+    (sym (rest-ends text options lookup row next m kept missed.0 missed.1 missed.2 (sym (c.is_lazy.ensures text options lookup m missed.0 missed.1 missed.2 runs) ∙ c.if-is_lazy.false)))
     (c.in_ok-begin.ensures.runs text options lookup _
     (c.close_containers.ensures.runs text options lookup (leaf_closed text options lookup m) (take kept m.outer) (drop kept m.outer) (outer ∙ sym (take-append-drop kept m.outer)) (length-take-le kept m.outer within) closed))

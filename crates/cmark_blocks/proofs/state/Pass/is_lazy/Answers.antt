@@ -9,7 +9,8 @@ use Rattle.cmark_blocks.proofs.state.Pass.is_lazy.Goals as goal
 use Rattle.cmark_blocks.proofs.state.Pass.is_lazy.Goals.{then-takes_lazy, else-takes_lazy}
 
 pub returns-then-not-interrupts : goal.returns-then-not-interrupts
-returns-then-not-interrupts g c text options lookup m k runs =
+returns-then-not-interrupts g c text options lookup m last others split runs =
+    let k = last.container in
     let row = row_of c.args.rest in
     let ahead = ahead_in text options lookup (take c.args.kept m.outer) (lines_at text row.past) in
     let takes = c.takes_lazy.ensures text _ m.leaf runs.leaf in
@@ -21,7 +22,8 @@ returns-then-not-interrupts g c text options lookup m k runs =
     ]
 
 pub returns-else-not-interrupts : goal.returns-else-not-interrupts
-returns-else-not-interrupts g c text options lookup m k runs =
+returns-else-not-interrupts g c text options lookup m last others split runs =
+    let k = last.container in
     let row = row_of c.args.rest in
     let ahead = ahead_in text options lookup (take c.args.kept m.outer) (lines_at text row.past) in
     let takes = c.takes_lazy.ensures text _ m.leaf runs.leaf in

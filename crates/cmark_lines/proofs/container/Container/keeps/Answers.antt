@@ -4,7 +4,7 @@ use Rattle.cmark_grammar.specs.Containers as grammar
 use Rattle.cmark_grammar.specs.Containers.{keeps}
 use Rattle.cmark_lines.specs.Rests.{row_of}
 use Rattle.cmark_lines.proofs.RestSteps.{whole}
-use Rattle.cmark_lines.proofs.ContainerRows.{blank-ends, bare-kept, quote-keeps, shows-quote, shows-item, shows-footnote, kept-in}
+use Rattle.cmark_lines.proofs.ContainerRows.{blank-ends, bare-kept, quote-keeps, shows-quote, shows-item, shows-footnote, shows-definition, definition-keeps, kept-in}
 use Rattle.cmark_lines.proofs.container.Container.keeps.Goals.{else-bare-via-then-bare+else-is_blank, else-bare-via-else-bare}
 use Rattle.cmark_lines.proofs.container.Container.keeps.Goals as goal
 
@@ -57,3 +57,20 @@ returns-in-Footnote-clause-row c k shows =
 
 pub returns-in-Footnote-clause-placed : goal.returns-in-Footnote-clause-placed
 returns-in-Footnote-clause-placed c text = kept-in text c.args.rest (grammar.Footnote [] c.in-Footnote.old 0) c.behind_footnote.result (c.behind_footnote.ensures [] 0)
+
+pub returns-in-Definition-clause-row : goal.returns-in-Definition-clause-row
+returns-in-Definition-clause-row c k shows =
+    let r = row_of c.args.rest in
+    let w = c.in-Definition.width in
+    let test : (c.args.bare && is_blank_line r) ≡ false =
+    elim c.else-bare.branch [
+      | else-bare-via-then-bare+else-is_blank v ↦ ap (λ z. z && is_blank_line r) v.if-bare.true ∙ sym v.is_blank.ensures ∙ v.if-is_blank.false
+      | else-bare-via-else-bare v ↦ ap (λ z. z && is_blank_line r) v.if-bare.false
+    ]
+    in
+    c.behind_width-in-Definition.ensures 0 None None ∙ definition-keeps w r ∙ bare-kept (grammar.ListDefinition w) c.args.bare r test ∙ ap (λ x. keeps x c.args.bare r) (sym (shows-definition c.args.self w k c.in-Definition.is shows))
+
+pub returns-in-Definition-clause-placed : goal.returns-in-Definition-clause-placed
+returns-in-Definition-clause-placed c text =
+    let w = c.in-Definition.width in
+    kept-in text c.args.rest (grammar.ListDefinition w) c.behind_width-in-Definition.result (c.behind_width-in-Definition.ensures 0 None None ∙ definition-keeps w (row_of c.args.rest))

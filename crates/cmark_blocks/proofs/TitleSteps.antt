@@ -1,0 +1,34 @@
+-- What is drawn where a paragraph may be a title.
+use Rattle.std.proofs.Common.{◌≡◌, ℕ, Bool, true, false, Option, Some, None, option_map, refl, sym, ap, ◌∙◌}
+use Rattle.cmark_block_model.specs.BlockPass.{ended, ended_but, released_from, title_released, siblings_with_paragraph, title_made, definition_behind}
+use Rattle.std.specs.Prelude.{is_some}
+use Rattle.cmark_grammar.specs.BlockDocument.{DefinitionList, DefinitionListTitle}
+use Rattle.cmark_block_model.specs.Drawing.{Drawing, retitled, enclosed}
+use Rattle.cmark_block_model.specs.OpenBlocks.{OpenList, Title, Siblings, Pass}
+use Rattle.cmark_blocks.specs.Titles.{list_around, with_title}
+
+pub released-around : (t : Option Title) (d : Drawing) → title_released t d ≡ released_from (list_around t) d
+released-around None d = refl
+released-around (Some t) d = refl
+
+-- where some list was open, the last node became a title in it
+pub made-some : (o : Option OpenList) (parted : Bool) (start : ℕ) (p : Pass) → is_some o ≡ true → title_made o parted start p ≡ record p { drawing = retitled DefinitionListTitle p.drawing; inner = with_title o parted start p.inner }
+made-some (Some l) parted start p e = refl
+made-some None parted start p e = absurd (let q : false ≡ true = e in cc)
+
+pub made-none : (o : Option OpenList) (parted : Bool) (start : ℕ) (p : Pass) → is_some o ≡ false → title_made o parted start p ≡ record p { drawing = enclosed (DefinitionList false) DefinitionListTitle p.drawing; inner = with_title o parted start p.inner }
+made-none None parted start p e = refl
+made-none (Some l) parted start p e = absurd (let q : true ≡ false = e in cc)
+
+pub shown-some : {A B : Type 0} (f : A → B) (o : Option A) → is_some (option_map f o) ≡ is_some o
+shown-some f None = refl
+shown-some f (Some x) = refl
+
+-- a definition list is open, or none is
+pub but-some : (o : Option OpenList) (s : Siblings) (d : Drawing) → is_some o ≡ true → ended_but o s d ≡ d
+but-some (Some l) s d e = refl
+but-some None s d e = absurd (let q : false ≡ true = e in cc)
+
+pub but-none : (o : Option OpenList) (s : Siblings) (d : Drawing) → is_some o ≡ false → ended_but o s d ≡ ended s d
+but-none None s d e = refl
+but-none (Some l) s d e = absurd (let q : true ≡ false = e in cc)

@@ -1,0 +1,18 @@
+use Rattle.std.proofs.Common.{refl, ap}
+use Rattle.cmark_grammar.specs.BlockDocument.{DefinitionListDefinition}
+use Rattle.cmark_grammar.specs.Containers.{ListDefinition}
+use Rattle.cmark_block_model.specs.BlockPass.{definition_behind}
+use Rattle.cmark_block_model.specs.Drawing.{opened}
+use Rattle.cmark_builder.proofs.DrawnSteps.{draws-open}
+use Rattle.cmark_blocks.proofs.RunSteps.{runs-builder}
+use Rattle.cmark_blocks.proofs.state.Pass.begin_list_definition.Goals as goal
+
+pub returns-clause-runs : goal.returns-clause-runs
+returns-clause-runs g c text options lookup m runs =
+    let start = c.args.start in
+    let before = c.join_definitions.new.self in
+    let p = definition_behind m.inner.title start m in
+    let r = c.in_ok-join_definitions.ensures.runs text options lookup m runs in
+    let draws = draws-open text before.builder c.open.new.self start _ DefinitionListDefinition p.drawing c.in_ok-open.ensures.ok c.in_ok-open.ensures.tables refl r.drawing in
+    c.in_ok-enter.ensures.runs (ListDefinition c.args.width) refl text options lookup _
+    (runs-builder g.E.EntityLookup.replacement text options lookup p before c.open.new.self (opened start DefinitionListDefinition p.drawing) r draws (ap (λ a. a.refdefs) c.in_ok-open.ensures.tables))

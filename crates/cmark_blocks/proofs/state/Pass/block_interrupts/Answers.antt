@@ -1,0 +1,21 @@
+use Rattle.std.proofs.Common.{◌&&◌, ◌||◌, take, sym, ap, ◌∙◌}
+use Rattle.cmark_grammar.specs.DefinitionLists.{begins_definition}
+use Rattle.cmark_lines.specs.Rests.{row_of}
+use Rattle.cmark_blocks.proofs.state.Pass.block_interrupts.Goals as goal
+
+pub returns-then-table_interrupts : goal.returns-then-table_interrupts
+returns-then-table_interrupts g c text options lookup m runs =
+    let row = row_of c.args.rest in
+    c.if-table_interrupts.true ∙ ap (λ z. z || (c.args.may_define && begins_definition options row)) (sym c.if-table_interrupts.true ∙ c.table_interrupts.ensures text options lookup m runs)
+
+pub returns-then-may_define : goal.returns-then-may_define
+returns-then-may_define g c text options lookup m runs =
+    let row = row_of c.args.rest in
+    c.begins_definition.ensures ∙ ap (λ o. begins_definition o row) runs.options_is ∙ ap (λ z. z && begins_definition options row) (sym c.if-may_define.true)
+    ∙ ap (λ z. z || (c.args.may_define && begins_definition options row)) (sym c.if-table_interrupts.false ∙ c.table_interrupts.ensures text options lookup m runs)
+
+pub returns-else-may_define : goal.returns-else-may_define
+returns-else-may_define g c text options lookup m runs =
+    let row = row_of c.args.rest in
+    c.if-may_define.false ∙ ap (λ z. z && begins_definition options row) (sym c.if-may_define.false)
+    ∙ ap (λ z. z || (c.args.may_define && begins_definition options row)) (sym c.if-table_interrupts.false ∙ c.table_interrupts.ensures text options lookup m runs)

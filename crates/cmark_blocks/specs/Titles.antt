@@ -1,0 +1,19 @@
+-- Paragraphs that may be titles of definitions.
+use Rattle.std.specs.Prelude.{ℕ, Bool, false, ◌||◌, Option, Some, None}
+use Rattle.cmark_grammar.specs.Lists.{definition_mark}
+use Rattle.cmark_block_model.specs.BlockPass.{ended_but, definitions_in, siblings_with_paragraph}
+use Rattle.cmark_block_model.specs.OpenBlocks.{OpenList, Title, Siblings, Pass}
+
+-- a paragraph begins: what is open before it was closed, but a definition list
+abbrev pub text_block_begun : Pass → Pass
+text_block_begun p = record p { drawing = ended_but (definitions_in p.inner.list) p.inner p.drawing; inner = siblings_with_paragraph p.inner }
+
+-- the definition list in which a paragraph is drawn
+abbrev pub list_around : Option Title → Option OpenList
+list_around None = None
+list_around (Some t) = t.list
+
+-- the siblings where the last one, a paragraph, is made the title of a definition
+abbrev pub with_title : Option OpenList → (parted : Bool) → (start : ℕ) → Siblings → Siblings
+with_title None parted start s = record s { blank = false; list = Some (record { mark = definition_mark; number = None; loose = s.blank; end = start }); title = None }
+with_title (Some l) parted start s = record s { blank = false; parted = parted; list = Some (record l { loose = l.loose || s.blank }); title = None }

@@ -1,0 +1,45 @@
+//! Definitions of definition lists (this profile's own).
+
+ghost use Rattle.std.specs.Prelude.{◌≡◌, ℕ, List, IfSome, option_map};
+ghost use Rattle.cmark_grammar.specs.DefinitionLists.{begins_definition, definition_marker};
+ghost use Rattle.cmark_lines.specs.Definitions.{definition_behind, width_of, EntersDefinition};
+ghost use Rattle.cmark_lines.specs.Rests.{row_of, IsIn};
+ghost use Rattle.cmark_text.specs.Shown.{shown_options};
+
+use crate::line_rest::LineRest;
+use bitflags::Flags;
+use cmark_text::Options;
+
+/// Whether definition lists are read.
+#[inline]
+pub fn reads_definition_lists(options: Options) -> bool
+    ensures { result ≡ (shown_options options).definition_list }
+{
+    options.contains(Options::ENABLE_DEFINITION_LIST)
+}
+
+/// The width of the prefix that the later lines of a definition have, in columns, and the line behind its marker, where the line, which
+/// lacks no prefix, begins with the marker of one behind at most three columns of indent, and definition lists are read. It begins a definition
+/// behind a paragraph or another definition alone.
+#[inline]
+pub fn definition_start<'a>(
+    rest: LineRest<'a>,
+    options: Options,
+) -> Option<(usize, LineRest<'a>)>
+    ensures width { option_map width_of result ≡ definition_marker (shown_options options) (row_of rest.entry) }
+    ensures inside { IfSome result (EntersDefinition (row_of rest.entry)) }
+    ensures placed { (text : List ℕ) → IsIn text rest.entry → IfSome result (λ begun. IsIn text begun.1) }
+{
+    if !reads_definition_lists(options) {
+        return None;
+    }
+    rest.behind_definition()
+}
+
+/// Whether the line interrupts a paragraph by the marker of a definition, which the paragraph is the title of.
+#[inline]
+pub fn begins_definition(rest: LineRest<'_>, options: Options) -> bool
+    ensures { result ≡ begins_definition (shown_options options) (row_of rest.entry) }
+{
+    definition_start(rest, options).is_some()
+}
