@@ -244,8 +244,8 @@ module _ (text : List ℕ) (options : Options) (lookup : Lookup) where
           leaf-begins leaf more closed r ahead l outer b n t
           ∙ ap (λ o. pass_with (inner_at text options lookup i ahead l) o (bare_at b i) (leaf_at text options lookup i) n) (sym (ap (λ x. outer ++ x) (leaf-alone leaf more closed r l) ∙ append-nil outer))
       go Plain q t ih =
-          ap (λ x. pass_with (paragraph_open text options lookup r [] (replay text options lookup closed l)) outer false (InParagraphLeaf (start_of x) x) n) (sym (whole-same r e))
-          ∙ ap (λ o. pass_with (paragraph_open text options lookup r [] (replay text options lookup closed l)) o false (InParagraphLeaf (start_of r) (whole r)) n) (sym (append-nil outer))
+          ap (λ x. pass_with (paragraph_open text options lookup r [] (replay text options lookup closed l)) outer false (InParagraphLeaf [] (start_of x) x) n) (sym (whole-same r e))
+          ∙ ap (λ o. pass_with (paragraph_open text options lookup r [] (replay text options lookup closed l)) o false (InParagraphLeaf [] (start_of r) (whole r)) n) (sym (append-nil outer))
 
   -- where nothing but a blank line may begin, no line that is bare begins something
   not-bare : (place : Place) (b : Bool) (r : Row) (ahead : List Row) → r.lazy ≡ false → (b ≡ true → is_blank_line r ≡ true) → (opens_at options place r ahead ≡ Blank → ⊥) → b ≡ false

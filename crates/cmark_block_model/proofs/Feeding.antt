@@ -2,20 +2,26 @@
 use Rattle.std.proofs.Common.{◌≡◌, ℕ, zero, suc, Bool, true, false, ◌==◌, List, [], ◌∷◌, ◌++◌, take, refl, ap, ◌∙◌, sym, append_assoc, append-nil, Option, Some, None, arith}
 use Rattle.std.specs.Prelude.{if◌then◌else◌}
 use Rattle.cmark_grammar.specs.Answers.{Lookup}
-use Rattle.cmark_grammar.specs.Attributes.{no_attributes}
+use Rattle.cmark_grammar.specs.SetextAttributes.{content_of, without_braces, setext_attributes}
 use Rattle.cmark_grammar.specs.Options.{Options}
 use Rattle.cmark_grammar.specs.Rows.{Row, begin_of, start_of}
 use Rattle.cmark_grammar.specs.Leaves.{underlines}
 use Rattle.cmark_grammar.specs.Openings.{Leaf, ThematicBreak, AtxHeading, IndentedCode, FencedCode, HtmlBlock, LinkDefinition, texts, MetadataBlock, Table}
 use Rattle.cmark_grammar.specs.Blocks.{Blocks, Nil as NoBlocks, Paragraph, SetextHeading, LeafBlock, join as join_blocks}
 use Rattle.cmark_grammar.specs.BlocksByLine.{Between, InParagraph, InLeaf, lines_underline_or, lines_go_on_or, lines_begin, lines_feed}
-use Rattle.cmark_grammar.specs.Tokens.{stretch_then}
+use Rattle.cmark_grammar.specs.Tokens.{stretch_then, paragraph_tokens}
 use Rattle.cmark_grammar.specs.BlockDocument as document
 use Rattle.cmark_grammar.specs.BlockDocument.{BlockDocument, Nil, join}
 use Rattle.cmark_block_model.specs.OpenBlocks.{OpenContainer, OpenLeaf, Closed, InParagraph as InParagraphLeaf, InDefinition, InTable, Pass}
+<<<<<<< ours
 use Rattle.cmark_block_model.specs.BlockPass.{ahead_in, begin, leaf_closed, leaf_fed, underlined_or, heading_made, paragraph_line}
 use Rattle.cmark_block_model.proofs.Replay.{Level, paragraph_begun, untitled, level_opened, level_drawn, leaf_level, replay, replay-join}
 use Rattle.cmark_block_model.proofs.Mirror.{whole, whole-same, last_of, last_push, last_begin, begin_push, pass_with, leaf_left, is_looked_up, Fits, lines_drawn, drawn-tokens, one_more, drawn-push, paragraph_open, paragraph_leaf, inner_at, leaf_at, pass_at}
+=======
+use Rattle.cmark_block_model.specs.BlockPass.{ahead_in, begin, leaf_closed, leaf_fed, underlined_or, heading_made, kept_lines, paragraph_line}
+use Rattle.cmark_block_model.proofs.Replay.{Level, begun, level_opened, level_drawn, leaf_level, replay, replay-join}
+use Rattle.cmark_block_model.proofs.Mirror.{whole, kept_before, kept_push, attributes-kept, braces-kept, whole-same, last_of, last_push, last_begin, begin_push, pass_with, leaf_left, is_looked_up, Fits, lines_drawn, drawn-tokens, one_more, drawn-push, paragraph_open, paragraph_leaf, inner_at, leaf_at, pass_at}
+>>>>>>> theirs
 use Rattle.cmark_block_model.proofs.Closing.{noded, leaf-closes}
 use Rattle.cmark_block_model.proofs.Beginning.{IsFresh, starts}
 use Rattle.cmark_block_model.proofs.Marks.{Unmarked, unmarked-join}
@@ -23,14 +29,15 @@ use Rattle.cmark_block_model.proofs.Marks.{Unmarked, unmarked-join}
 module _ (text : List ℕ) (options : Options) (lookup : Lookup) where
   -- a paragraph goes on
   pub paragraph-goes : (first : Row) (more : List Row) (r s : Row) (l : Level) (outer : List OpenContainer) (leaf : OpenLeaf) (n : ℕ) → whole s ≡ r
-      → paragraph_line text options lookup (last_begin (start_of first) first more) (whole (last_of first more)) r (pass_with (paragraph_open text options lookup first more l) outer false leaf n)
+      → paragraph_line text options lookup (kept_before options.heading_attributes first more) (last_begin (start_of first) first more) (whole (last_of first more)) r (pass_with (paragraph_open text options lookup first more l) outer false leaf n)
       ≡ pass_with (paragraph_open text options lookup first (more ++ s ∷ []) l) outer false (paragraph_leaf text options lookup first (more ++ s ∷ [])) n
   paragraph-goes first more r s l outer leaf n e =
-      ap (λ x. paragraph_line text options lookup from (whole (last_of first more)) x (pass_with (paragraph_open text options lookup first more l) outer false leaf n)) (sym e)
+      ap (λ x. paragraph_line text options lookup (kept_before options.heading_attributes first more) from (whole (last_of first more)) x (pass_with (paragraph_open text options lookup first more l) outer false leaf n)) (sym e)
       ∙ go (begin_of s == past)
       ∙ ap (λ x. goes (one_more text options lookup (begin_of s == past) from past before) (if begin_of s == past then from else begin_of s) x) (sym (last_push first more s))
       ∙ ap (λ x. goes (one_more text options lookup (begin_of s == past) from past before) x (last_of first (more ++ s ∷ []))) (sym (begin_push (start_of first) first more s))
       ∙ ap (λ x. goes x (last_begin (start_of first) first (more ++ s ∷ [])) (last_of first (more ++ s ∷ []))) (sym (drawn-push text options lookup (start_of first) first more s))
+      ∙ ap (λ rs. goes_with rs (lines_drawn text options lookup (start_of first) first (more ++ s ∷ [])) (last_begin (start_of first) first (more ++ s ∷ [])) (last_of first (more ++ s ∷ []))) (sym (kept_push options.heading_attributes first more s))
     where
       from : ℕ
       from = last_begin (start_of first) first more
@@ -41,8 +48,15 @@ module _ (text : List ℕ) (options : Options) (lookup : Lookup) where
       before : BlockDocument
       before = lines_drawn text options lookup (start_of first) first more
 
+      goes_with : List Row → BlockDocument → ℕ → Row → Pass
+      goes_with rs d at x = pass_with (level_drawn d (level_opened (start_of first) document.Paragraph (begun l))) outer false (InParagraphLeaf rs at (whole x)) n
+
       goes : BlockDocument → ℕ → Row → Pass
+<<<<<<< ours
       goes d at x = pass_with (level_drawn d (level_opened (start_of first) document.Paragraph (paragraph_begun l))) outer false (InParagraphLeaf at (whole x)) n
+=======
+      goes d at x = goes_with (kept_lines options.heading_attributes (kept_before options.heading_attributes first more) (whole (last_of first more))) d at x
+>>>>>>> theirs
 
       go : (z : Bool) → (if z then goes before from s else goes (join before (stretch_then text from past Nil)) (begin_of s) s) ≡ goes (one_more text options lookup z from past before) (if z then from else begin_of s) s
       go true = refl
@@ -66,21 +80,31 @@ module _ (text : List ℕ) (options : Options) (lookup : Lookup) where
       end : (o : List OpenContainer) (x : Level) (leaf : OpenLeaf) → pass_with x o false leaf n ≡ pass_with x (o ++ []) false leaf n
       end o x leaf = ap (λ y. pass_with x y false leaf n) (sym (append-nil o))
 
-      text-goes : (z : Bool) → (if z then paragraph_line text options lookup from (whole (last_of first more)) r p else begin text options lookup r next (leaf_closed text options lookup p))
+      text-goes : (z : Bool) → (if z then paragraph_line text options lookup (kept_before options.heading_attributes first more) from (whole (last_of first more)) r p else begin text options lookup r next (leaf_closed text options lookup p))
           ≡ pass_at text options lookup (lines_go_on_or z (InParagraph closed first (more ++ r ∷ [])) (lines_begin options (join_blocks closed (Paragraph first more NoBlocks)) r ahead)) ahead l outer false n
       text-goes true = paragraph-goes first more r r c outer (paragraph_leaf text options lookup first more) n (whole-same r e) ∙ end outer (paragraph_open text options lookup first (more ++ r ∷ []) c) (paragraph_leaf text options lookup first (more ++ r ∷ []))
       text-goes false =
           ap (begin text options lookup r next) (leaf-closes text options lookup (InParagraph closed first more) b n l outer false f)
           ∙ starts text options lookup (join_blocks closed (Paragraph first more NoBlocks)) r next ahead l outer n h (unmarked-join closed (Paragraph first more NoBlocks) u tt) e a
 
-      go : (u : Option ℕ) → underlined_or text options lookup u (λ level. heading_made text options lookup level from (whole (last_of first more)) r p) (if texts options r (ahead_in text options lookup outer next) then paragraph_line text options lookup from (whole (last_of first more)) r p else begin text options lookup r next (leaf_closed text options lookup p))
+      go : (u : Option ℕ) → underlined_or text options lookup u (λ level. heading_made text options lookup level (kept_before options.heading_attributes first more) from (whole (last_of first more)) r p) (if texts options r (ahead_in text options lookup outer next) then paragraph_line text options lookup (kept_before options.heading_attributes first more) from (whole (last_of first more)) r p else begin text options lookup r next (leaf_closed text options lookup p))
           ≡ pass_at text options lookup (lines_underline_or u (λ level. Between (join_blocks closed (SetextHeading level first more r NoBlocks))) (lines_go_on_or (texts options r ahead) (InParagraph closed first (more ++ r ∷ [])) (lines_begin options (join_blocks closed (Paragraph first more NoBlocks)) r ahead))) ahead l outer false n
       go (Some level) =
+<<<<<<< ours
           ap (λ t. pass_with (untitled (noded text options lookup (document.Heading level no_attributes) (start_of first) r.past t (paragraph_begun c))) outer false Closed n) (sym (drawn-tokens text options lookup (start_of first) first more))
+=======
+          let on = options.heading_attributes in
+          let kept = content_of (kept_before on first more ++ whole (last_of first more) ∷ []) in
+          let content = content_of (first ∷ more) in
+          let tokens = paragraph_tokens text first more in
+          ap (λ t. pass_with (noded text options lookup (document.Heading level (setext_attributes on kept)) (start_of first) r.past (without_braces text on kept t) (begun c)) outer false Closed n) (sym (drawn-tokens text options lookup (start_of first) first more))
+          ∙ ap (λ a. pass_with (noded text options lookup (document.Heading level a) (start_of first) r.past (without_braces text on kept tokens) (begun c)) outer false Closed n) (attributes-kept on first more)
+          ∙ ap (λ t. pass_with (noded text options lookup (document.Heading level (setext_attributes on content)) (start_of first) r.past t (begun c)) outer false Closed n) (braces-kept text on first more tokens)
+>>>>>>> theirs
           ∙ ap (λ q. pass_with q outer false Closed n) (sym (replay-join text options lookup closed (SetextHeading level first more r NoBlocks) l))
           ∙ end outer (replay text options lookup (join_blocks closed (SetextHeading level first more r NoBlocks)) l) Closed
       go None =
-          ap (λ x. if texts options r x then paragraph_line text options lookup from (whole (last_of first more)) r p else begin text options lookup r next (leaf_closed text options lookup p)) a
+          ap (λ x. if texts options r x then paragraph_line text options lookup (kept_before options.heading_attributes first more) from (whole (last_of first more)) r p else begin text options lookup r next (leaf_closed text options lookup p)) a
           ∙ text-goes (texts options r ahead)
 
   pub leaf-feeds : (closed : Blocks) (leaf : Leaf) (first : Row) (had : List Row) (left : ℕ) (r : Row) (next ahead : List Row) (l : Level) (outer : List OpenContainer) (b : Bool) (n : ℕ) → r.lazy ≡ false → ahead_in text options lookup outer next ≡ ahead

@@ -14,8 +14,13 @@ use Rattle.cmark_grammar.specs.BlockDocument as document
 use Rattle.cmark_grammar.specs.BlockDocument.{BlockDocument, BlockKind, Node, node}
 use Rattle.cmark_grammar.specs.SpanDocuments.{footnote_label, footnote_labels}
 use Rattle.cmark_grammar.specs.Metadata.{ends_metadata}
+<<<<<<< ours
 use Rattle.cmark_block_model.specs.OpenBlocks.{OpenList, Title}
 use Rattle.cmark_block_model.proofs.PlainTokens.{IsPlain, paragraph_plain, heading_plain, code_plain, table_plain, html_tokens_plain}
+=======
+use Rattle.cmark_block_model.specs.OpenBlocks.{OpenList}
+use Rattle.cmark_block_model.proofs.PlainTokens.{IsPlain, paragraph_plain, setext_plain, heading_plain, code_plain, table_plain, html_tokens_plain}
+>>>>>>> theirs
 use Rattle.cmark_block_model.proofs.Split.{Split, split}
 use Rattle.cmark_block_model.proofs.Settles.{Joins, settles}
 use Rattle.cmark_block_model.proofs.Replay.{Noted, Level, marked, standing, entered, left_by, item_if, item_level, leaf_noted, leaf_level, paragraph_level, heading_level, blank_level, replay, title_level, definition_level}
@@ -95,7 +100,7 @@ module _ (text : List ℕ) (options : Options) (lookup : Lookup) where
           h None ∙ ap (λ r. l.noted.footnotes ++ r) (sym (paragraph-labels direct (start_of first) (past_of first more) _ (document_of text options lookup direct None after) (paragraph_plain text first more)))
   labels (SetextHeading level first more underline after) direct before l =
       labels after direct None (heading_level text options lookup level first more underline l)
-      ∙ ap (λ r. l.noted.footnotes ++ (r ++ footnote_labels (document_of text options lookup direct None after))) (sym (paragraph_plain text first more).labels)
+      ∙ ap (λ r. l.noted.footnotes ++ (r ++ footnote_labels (document_of text options lookup direct None after))) (sym (setext_plain text options.heading_attributes first more).labels)
   labels (LeafBlock leaf first more after) direct before l =
       labels after direct None (leaf_level text options lookup leaf first more l) ∙ leaf-labels leaf first more l.noted (document_of text options lookup direct None after)
   labels (ContainerBlock (Quote alert) first more inside after) direct before l =

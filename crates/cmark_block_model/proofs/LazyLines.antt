@@ -64,7 +64,7 @@ module _ (text : List ℕ) (options : Options) (lookup : Lookup) where
       ≡ pass_at text options lookup (lines_feed options o (lazy_row r) ahead) ahead l outer false n
   lazy-feeds (Between closed) b r ahead x j l outer n e f t z = absurd (true≢false (sym t))
   lazy-feeds BehindTag b r ahead x j l outer n e f t z =
-      ap (λ q. pass_with (paragraph_open text options lookup r [] l) (outer ++ []) false (InParagraphLeaf (start_of q) q) n) (sym (whole-same r e))
+      ap (λ q. pass_with (paragraph_open text options lookup r [] l) (outer ++ []) false (InParagraphLeaf [] (start_of q) q) n) (sym (whole-same r e))
       ∙ ap (λ o. pass_at text options lookup o ahead l outer false n) (sym (lazy-begins-at options BehindLazy NoBlocks r ahead))
   lazy-feeds (InParagraph closed first more) b r ahead x j l outer n e f t z =
       paragraph-goes text options lookup first more r (lazy_row r) (replay text options lookup closed l) (outer ++ []) (paragraph_leaf text options lookup first more) n (whole-same r e)
@@ -82,9 +82,9 @@ module _ (text : List ℕ) (options : Options) (lookup : Lookup) where
       go (Table alignments) y = absurd (true≢false (sym y))
       go (LinkDefinition definition) y =
           let d = LinkDefinition definition in
-          ap (λ h. pass_with (paragraph_open text options lookup r [] (leaf_level text options lookup d first h (replay text options lookup closed l))) (outer ++ []) false (InParagraphLeaf (start_of r) r) n) (append-nil had)
-          ∙ ap (λ q. pass_with (paragraph_open text options lookup r [] q) (outer ++ []) false (InParagraphLeaf (start_of r) r) n) (sym (replay-join text options lookup closed (LeafBlock d first had NoBlocks) l))
-          ∙ ap (λ q. pass_with (paragraph_open text options lookup r [] (replay text options lookup (join_blocks closed (LeafBlock d first had NoBlocks)) l)) (outer ++ []) false (InParagraphLeaf (start_of q) q) n) (sym (whole-same r e))
+          ap (λ h. pass_with (paragraph_open text options lookup r [] (leaf_level text options lookup d first h (replay text options lookup closed l))) (outer ++ []) false (InParagraphLeaf [] (start_of r) r) n) (append-nil had)
+          ∙ ap (λ q. pass_with (paragraph_open text options lookup r [] q) (outer ++ []) false (InParagraphLeaf [] (start_of r) r) n) (sym (replay-join text options lookup closed (LeafBlock d first had NoBlocks) l))
+          ∙ ap (λ q. pass_with (paragraph_open text options lookup r [] (replay text options lookup (join_blocks closed (LeafBlock d first had NoBlocks)) l)) (outer ++ []) false (InParagraphLeaf [] (start_of q) q) n) (sym (whole-same r e))
           ∙ ap (λ o. pass_at text options lookup o ahead l outer false n) (sym (lazy-begins options (join_blocks closed (LeafBlock d first had NoBlocks)) r ahead))
   lazy-feeds (InLeaf closed leaf first had (suc left)) b r ahead x j l outer n e f t z = absurd (let le : suc left ≤ 0 = f.1 in omega (arith, le))
   lazy-feeds (InVerbatim closed verbatim first had waiting) b r ahead x j l outer n e f t z = absurd (true≢false (sym t))

@@ -1,5 +1,5 @@
 -- What is drawn has the events and the leaves of the document.
-use Rattle.std.proofs.Common.{◌≡◌, ℕ, zero, suc, ◌+◌, ◌*◌, ◌≤◌, Bool, true, false, ◌==◌, if◌then◌else◌, List, [], ◌∷◌, ◌++◌, length, drop, take_while, Option, None, Some, refl, ap, ◌∙◌, sym, subst, arith, length-append}
+use Rattle.std.proofs.Common.{◌≡◌, ℕ, zero, suc, ◌+◌, ◌*◌, ◌≤◌, Bool, true, false, ◌==◌, nat_lt, if◌then◌else◌, List, [], ◌∷◌, ◌++◌, length, drop, take_while, Option, None, Some, refl, ap, ◌∙◌, sym, subst, arith, length-append}
 use Rattle.cmark_grammar.specs.Answers.{Lookup}
 use Rattle.cmark_grammar.specs.Options.{Options}
 use Rattle.cmark_grammar.specs.Event.{End}
@@ -8,9 +8,15 @@ use Rattle.cmark_grammar.specs.Rows.{Row, without, first_place, begin_of, start_
 use Rattle.cmark_grammar.specs.Containers.{Quote, Item, Footnote, ListDefinition}
 use Rattle.cmark_grammar.specs.Openings.{Leaf, ThematicBreak as ThematicBreakLeaf, AtxHeading as AtxHeadingLeaf, IndentedCode as IndentedCodeLeaf, FencedCode as FencedCodeLeaf, HtmlBlock as HtmlBlockLeaf, LinkDefinition as LinkDefinitionLeaf, MetadataBlock as MetadataBlockLeaf, Table as TableLeaf}
 use Rattle.cmark_grammar.specs.Blocks.{Blocks, Nil as NoBlocks, BlankLine, Paragraph as ParagraphBlock, SetextHeading, LeafBlock, ContainerBlock}
+<<<<<<< ours
 use Rattle.cmark_grammar.specs.Lists.{ListBefore, tight_behind, goes_on, definition_mark, is_title, title_tight_behind}
 use Rattle.cmark_grammar.specs.Tokens.{Piece, end_place, piece_if, texts_then, words_end, stretch_then, stretches, html_then, html_tokens, verbatim_line, behind_hashes, heading_columns, code_pieces, fenced_lines, lines_before, paragraph_tokens}
+=======
+use Rattle.cmark_grammar.specs.Lists.{ListBefore, tight_behind, goes_on}
+use Rattle.cmark_grammar.specs.Tokens.{Piece, end_place, piece_if, texts_then, words_end, stretch_then, stretches, paragraph_tokens, html_then, html_tokens, verbatim_line, behind_hashes, heading_columns, code_pieces, fenced_lines, lines_before}
+>>>>>>> theirs
 use Rattle.cmark_grammar.specs.Columns.{is_blank_byte, drop_end}
+use Rattle.cmark_grammar.specs.SetextAttributes.{content_of, ends_in_braces, attributes_place, texts_before, texts_if, setext_tokens}
 use Rattle.cmark_grammar.specs.TableRows.{cells_start, cells_of}
 use Rattle.cmark_grammar.specs.TableTokens.{cells_then, row_cells, row_tokens}
 use Rattle.cmark_grammar.specs.BlockDocument.{Text, OwnedText, ListItem, BlockKind, BlockNode, BlockDocument, Nil, Node, node, BlockList, DefinitionList, DefinitionListTitle, DefinitionListDefinition}
@@ -72,6 +78,34 @@ stretches-whole text begin r (s ∷ more) = go (begin_of s == r.past) (stretches
         → HasWholeLeaves (if z then stretches text begin s more else stretch_then text begin r.past (stretches text (begin_of s) s more))
     go true p q = p
     go false p q = stretch-whole text begin r.past (stretches text (begin_of s) s more) q
+
+before-free : (text : List ℕ) (at : ℕ) (d : BlockDocument) → AreNoDefinitions d → AreNoDefinitions (texts_before text at d)
+before-free text at Nil h = tt
+before-free text at (Node n inside after) h = go (nat_lt n.end at) (before-free text at after h.1)
+  where
+    go : (z : Bool) → AreNoDefinitions (texts_before text at after) → AreNoDefinitions (if z then Node n inside (texts_before text at after) else stretch_then text n.start at Nil)
+    go true ih = (h.0, ih)
+    go false ih = stretch-free text n.start at Nil tt
+
+before-whole : (text : List ℕ) (at : ℕ) (d : BlockDocument) → HasWholeLeaves d → HasWholeLeaves (texts_before text at d)
+before-whole text at Nil h = tt
+before-whole text at (Node n inside after) h = go (nat_lt n.end at) (before-whole text at after h.2)
+  where
+    go : (z : Bool) → HasWholeLeaves (texts_before text at after) → HasWholeLeaves (if z then Node n inside (texts_before text at after) else stretch_then text n.start at Nil)
+    go true ih = (h.0, h.1, ih)
+    go false ih = stretch-whole text n.start at Nil tt
+
+-- the content of a setext heading
+setext-free : (text : List ℕ) (attributes : Bool) (r : Row) (more : List Row) → AreNoDefinitions (setext_tokens text attributes r more) × HasWholeLeaves (setext_tokens text attributes r more)
+setext-free text false r more = (stretches-free text (start_of r) r more, stretches-whole text (start_of r) r more)
+setext-free text true r more = go (ends_in_braces (content_of (r ∷ more)))
+  where
+    go : (z : Bool) → let d = texts_if z text (attributes_place (content_of (r ∷ more))) (paragraph_tokens text r more) in AreNoDefinitions d × HasWholeLeaves d
+    go true = (
+      before-free text (attributes_place (content_of (r ∷ more))) (paragraph_tokens text r more) (stretches-free text (start_of r) r more),
+      before-whole text (attributes_place (content_of (r ∷ more))) (paragraph_tokens text r more) (stretches-whole text (start_of r) r more),
+    )
+    go false = (stretches-free text (start_of r) r more, stretches-whole text (start_of r) r more)
 
 html-then-whole : (ps : List Piece) (after : BlockDocument) → HasWholeLeaves after → HasWholeLeaves (html_then ps after)
 html-then-whole [] after h = h
@@ -148,7 +182,7 @@ document-whole text options lookup direct before (ParagraphBlock first more afte
     (stretches-free text (start_of first) first more) (stretches-whole text (start_of first) first more)
     (document-whole text options lookup direct (Some (record { mark = definition_mark; tight = tight })) after) (document-whole text options lookup direct None after)
 document-whole text options lookup direct before (SetextHeading level first more underline after) =
-    (λ e. stretches-free text (start_of first) first more, stretches-whole text (start_of first) first more, document-whole text options lookup direct None after)
+    let h = setext-free text options.heading_attributes first more in (λ e. h.0, h.1, document-whole text options lookup direct None after)
 document-whole text options lookup direct before (LeafBlock leaf first more after) = leaf-whole text options lookup leaf first more (document_of text options lookup direct None after) (document-whole text options lookup direct None after)
 document-whole text options lookup direct before (ContainerBlock (Quote alert) first more inside after) = (λ e. no-leaf false refl _ e, document-whole text options lookup false None inside, document-whole text options lookup direct None after)
 document-whole text options lookup direct before (ContainerBlock (Footnote label old size) first more inside after) = (λ e. no-leaf false refl _ e, document-whole text options lookup false None inside, document-whole text options lookup direct None after)

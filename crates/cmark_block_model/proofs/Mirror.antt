@@ -10,9 +10,11 @@ use Rattle.cmark_grammar.specs.Openings.{Leaf, ThematicBreak, AtxHeading, Indent
 use Rattle.cmark_grammar.specs.BlocksModel.{within}
 use Rattle.cmark_grammar.specs.BlocksByLine.{Verbatim, Indented, Fenced, HtmlLines, OpenLines, Between, BehindTag, InParagraph, InLeaf, InVerbatim, InContainer, Metadata}
 use Rattle.cmark_grammar.specs.Tokens.{resolved, words_end, stretch_then, stretches, html_tokens, html_then, verbatim_line, code_columns}
+use Rattle.cmark_grammar.specs.SetextAttributes.{line_end, content_of, without_braces, setext_attributes}
 use Rattle.cmark_grammar.specs.BlockDocument as document
 use Rattle.cmark_grammar.specs.BlockDocument.{BlockDocument, Nil, join}
 use Rattle.cmark_grammar.specs.Metadata.{ends_metadata}
+use Rattle.cmark_block_model.specs.BlockPass.{kept_lines}
 use Rattle.cmark_block_model.specs.CodeLines.{no_run, texts_of}
 use Rattle.cmark_block_model.specs.OpenBlocks.{OpenContainer, OpenLeaf, Closed, BehindTag as BehindTagLeaf, InParagraph as InParagraphLeaf, InDefinition, InIndented, InFenced, InHtml, Pass, InMetadata, InTable}
 use Rattle.cmark_block_model.proofs.PlainTokens.{stretch-join, html-join}
@@ -57,6 +59,36 @@ begin_push begin first (s ∷ more) r = go (begin_of s == first.past) (begin_pus
         ≡ (if touches then (if z then last_begin begin s more else last_begin (begin_of s) s more) else begin_of r)
     go true p q = p
     go false p q = q
+
+-- the lines that a paragraph keeps before its last one
+abbrev pub kept_line : Bool → Row → List Row → List Row
+kept_line false r rs = []
+kept_line true r rs = r ∷ rs
+
+abbrev pub kept_before : Bool → Row → List Row → List Row
+kept_before attributes first [] = []
+kept_before attributes first (r ∷ more) = kept_line attributes (whole first) (kept_before attributes r more)
+
+pub kept_push : (attributes : Bool) (first : Row) (more : List Row) (r : Row) → kept_before attributes first (more ++ r ∷ []) ≡ kept_lines attributes (kept_before attributes first more) (whole (last_of first more))
+kept_push false first [] r = refl
+kept_push false first (s ∷ more) r = refl
+kept_push true first [] r = refl
+kept_push true first (s ∷ more) r = ap (λ rs. whole first ∷ rs) (kept_push true s more r)
+
+content-kept : (first : Row) (more : List Row) → content_of (kept_before true first more ++ whole (last_of first more) ∷ []) ≡ content_of (first ∷ more)
+content-kept first [] = refl
+content-kept first (r ∷ []) = refl
+content-kept first (r ∷ (s ∷ more)) = ap (λ cs. first.columns ++ line_end first ∷ cs) (content-kept r (s ∷ more))
+
+pub attributes-kept : (attributes : Bool) (first : Row) (more : List Row)
+    → setext_attributes attributes (content_of (kept_before attributes first more ++ whole (last_of first more) ∷ [])) ≡ setext_attributes attributes (content_of (first ∷ more))
+attributes-kept false first more = refl
+attributes-kept true first more = ap (setext_attributes true) (content-kept first more)
+
+pub braces-kept : (text : List ℕ) (attributes : Bool) (first : Row) (more : List Row) (d : BlockDocument)
+    → without_braces text attributes (content_of (kept_before attributes first more ++ whole (last_of first more) ∷ [])) d ≡ without_braces text attributes (content_of (first ∷ more)) d
+braces-kept text false first more d = refl
+braces-kept text true first more d = ap (λ cs. without_braces text true cs d) (content-kept first more)
 
 abbrev pub pass_with : Level → List OpenContainer → Bool → OpenLeaf → ℕ → Pass
 pass_with l outer bare leaf past = record { drawing = l.drawing; inner = l.inner; outer = outer; bare = bare; leaf = leaf; past = past; references = l.noted.references; footnotes = l.noted.footnotes }
@@ -183,7 +215,7 @@ module _ (text : List ℕ) (options : Options) (lookup : Lookup) where
   verbatim_leaf (Metadata kind) first had waiting = InMetadata kind (code_run text 0 no_run had).waits
 
   abbrev pub paragraph_leaf : Row → List Row → OpenLeaf
-  paragraph_leaf first more = InParagraphLeaf (last_begin (start_of first) first more) (whole (last_of first more))
+  paragraph_leaf first more = InParagraphLeaf (kept_before options.heading_attributes first more) (last_begin (start_of first) first more) (whole (last_of first more))
 
   -- the innermost level
   abbrev pub inner_at : OpenLines → List Row → Level → Level

@@ -1,9 +1,10 @@
 -- Tokens are neither settled nor left out, and define nothing, neither links nor footnotes.
 use Rattle.std.proofs.Common.{◌≡◌, ℕ, zero, suc, ◌+◌, Bool, true, false, List, [], ◌∷◌, ◌++◌, length, drop, take_while, refl, ap, ◌∙◌}
-use Rattle.std.specs.Prelude.{◌==◌, if◌then◌else◌}
+use Rattle.std.specs.Prelude.{◌==◌, nat_lt, if◌then◌else◌}
 use Rattle.cmark_grammar.specs.Rows.{Row, first_place, begin_of, start_of, words_of}
 use Rattle.cmark_grammar.specs.Tokens.{Piece, end_place, piece_if, texts_then, words_end, stretch_then, stretches, paragraph_tokens, html_then, html_tokens, text_kind_of, html_kind_of, verbatim_line, behind_hashes, heading_columns, heading_tokens, code_pieces, code_tokens}
 use Rattle.cmark_grammar.specs.Columns.{is_blank_byte, drop_end}
+use Rattle.cmark_grammar.specs.SetextAttributes.{content_of, ends_in_braces, attributes_place, texts_before, texts_if, setext_tokens}
 use Rattle.cmark_grammar.specs.TableRows.{cells_start, cells_of}
 use Rattle.cmark_grammar.specs.TableTokens.{cell_tokens, cells_then, row_cells, row_tokens, table_tokens}
 use Rattle.cmark_grammar.specs.BlockDocument.{Text, OwnedText, Html, TableHead, TableRow, TableCell, BlockDocument, Nil, Node, node, join}
@@ -46,6 +47,32 @@ stretches_plain text begin r (s ∷ more) = go (begin_of s == r.past) (stretches
 
 pub paragraph_plain : (text : List ℕ) (r : Row) (more : List Row) → IsPlain (paragraph_tokens text r more)
 paragraph_plain text r more = stretches_plain text (start_of r) r more
+
+-- texts before a place
+pieces_before_plain : (text : List ℕ) (at : ℕ) (ps : List Piece) (after : BlockDocument) → IsPlain (texts_before text at after) → IsPlain (texts_before text at (texts_then ps after))
+pieces_before_plain text at [] after h = h
+pieces_before_plain text at (p ∷ ps) after h = go (nat_lt p.end at) (pieces_before_plain text at ps after h)
+  where
+    go : (z : Bool) → IsPlain (texts_before text at (texts_then ps after)) → IsPlain (if z then Node (node (text_kind_of p) p.start p.end) Nil (texts_before text at (texts_then ps after)) else stretch_then text p.start at Nil)
+    go true ih = text_plain p.owned p.bytes p.start p.end (texts_before text at (texts_then ps after)) ih
+    go false ih = stretch_plain text p.start at Nil nil_plain
+
+stretches_before_plain : (text : List ℕ) (at begin : ℕ) (r : Row) (more : List Row) → IsPlain (texts_before text at (stretches text begin r more))
+stretches_before_plain text at begin r [] = pieces_before_plain text at (piece_if text begin (words_end r) []) Nil nil_plain
+stretches_before_plain text at begin r (s ∷ more) = go (begin_of s == r.past) (stretches_before_plain text at begin s more) (stretches_before_plain text at (begin_of s) s more)
+  where
+    go : (z : Bool) → IsPlain (texts_before text at (stretches text begin s more)) → IsPlain (texts_before text at (stretches text (begin_of s) s more))
+        → IsPlain (texts_before text at (if z then stretches text begin s more else stretch_then text begin r.past (stretches text (begin_of s) s more)))
+    go true p q = p
+    go false p q = pieces_before_plain text at (piece_if text begin r.past []) (stretches text (begin_of s) s more) q
+
+pub setext_plain : (text : List ℕ) (attributes : Bool) (r : Row) (more : List Row) → IsPlain (setext_tokens text attributes r more)
+setext_plain text false r more = paragraph_plain text r more
+setext_plain text true r more = go (ends_in_braces (content_of (r ∷ more)))
+  where
+    go : (z : Bool) → IsPlain (texts_if z text (attributes_place (content_of (r ∷ more))) (paragraph_tokens text r more))
+    go true = stretches_before_plain text (attributes_place (content_of (r ∷ more))) (start_of r) r more
+    go false = paragraph_plain text r more
 
 html_then_plain : (ps : List Piece) (after : BlockDocument) → IsPlain after → IsPlain (html_then ps after)
 html_then_plain [] after h = h

@@ -3,7 +3,7 @@ use Rattle.std.proofs.Common.{◌≡◌, ℕ, Bool, true, false, ◌==◌, List,
 use Rattle.std.specs.Prelude.{if◌then◌else◌}
 use Rattle.cmark_grammar.specs.Options.{Options}
 use Rattle.cmark_grammar.specs.Answers.{Lookup}
-use Rattle.cmark_grammar.specs.Attributes.{no_attributes}
+use Rattle.cmark_grammar.specs.SetextAttributes.{content_of, setext_attributes}
 use Rattle.cmark_grammar.specs.Rows.{Row, past_of, begin_of, start_of}
 use Rattle.cmark_grammar.specs.Labels.{normal_form}
 use Rattle.cmark_grammar.specs.Containers.{Quote, Item, Footnote, ListDefinition}
@@ -16,8 +16,13 @@ use Rattle.cmark_grammar.specs.BlockDocument as document
 use Rattle.cmark_grammar.specs.BlockDocument.{join, BlockNode, BlockDocument, Nil, Node, node, BlockKind}
 use Rattle.cmark_grammar.specs.DrawnDocument.{settled, without_definitions, is_definition, node_unless, kind_within}
 use Rattle.cmark_grammar.specs.Metadata.{ends_metadata}
+<<<<<<< ours
 use Rattle.cmark_block_model.proofs.PlainTokens.{IsPlain, paragraph_plain, heading_plain, code_plain, html_tokens_plain, table_plain}
 use Rattle.cmark_block_model.proofs.Split.{Split, end_or, lone, item_split, leaf_raw, split, is_mark, title_split}
+=======
+use Rattle.cmark_block_model.proofs.PlainTokens.{IsPlain, paragraph_plain, setext_plain, heading_plain, code_plain, html_tokens_plain, table_plain}
+use Rattle.cmark_block_model.proofs.Split.{Split, end_or, lone, item_split, leaf_raw, split}
+>>>>>>> theirs
 use Rattle.cmark_block_model.proofs.Draws.{other-mark}
 use Rattle.cmark_block_model.proofs.Replay.{marked}
 use Rattle.cmark_grammar.specs.Tightness.{tight_within}
@@ -252,8 +257,8 @@ module _ (text : List ℕ) (options : Options) (lookup : Lookup) where
   settles (BlankLine line after) direct (Some before) = settles after direct (Some before)
   settles (Paragraph first more after) direct before = title-settles (is_title after) direct before first more after refl (λ t. settles after direct (Some (record { mark = definition_mark; tight = t }))) (settles after direct None)
   settles (SetextHeading level first more underline after) direct before =
-      let h = paragraph_plain text first more in
-      stands direct before _ _ (node-same (node (document.Heading level no_attributes) (start_of first) underline.past) (h.still false ∙ sym h.whole) (settles after direct None))
+      let h = setext_plain text options.heading_attributes first more in
+      stands direct before _ _ (node-same (node (document.Heading level (setext_attributes options.heading_attributes (content_of (first ∷ more)))) (start_of first) underline.past) (h.still false ∙ sym h.whole) (settles after direct None))
   settles (LeafBlock leaf first more after) direct before =
       stands direct before _ _ (leaf-settles leaf first more direct (split text options lookup None after).after (document_of text options lookup direct None after) (settles after direct None))
   settles (ContainerBlock (Quote alert) first more inside after) direct before =

@@ -1,9 +1,13 @@
 -- The document of blocks before its paragraphs are settled, without definitions: what goes on with the list before, and what
 -- stands behind that.
+<<<<<<< ours
 use Rattle.std.specs.Prelude.{ℕ, Bool, true, false, ◌==◌, List, Option, Some, None, not}
+=======
+use Rattle.std.specs.Prelude.{ℕ, Bool, true, false, ◌==◌, List, ◌∷◌, Option, Some, None}
+>>>>>>> theirs
 use Rattle.cmark_grammar.specs.Options.{Options}
 use Rattle.cmark_grammar.specs.Answers.{Lookup}
-use Rattle.cmark_grammar.specs.Attributes.{no_attributes}
+use Rattle.cmark_grammar.specs.SetextAttributes.{content_of, setext_attributes, setext_tokens}
 use Rattle.cmark_grammar.specs.Rows.{Row, start_of, begin_of, past_of}
 use Rattle.cmark_grammar.specs.Labels.{normal_form}
 use Rattle.cmark_grammar.specs.Containers.{Quote, Item, Footnote, ListDefinition}
@@ -60,7 +64,7 @@ module _ (text : List ℕ) (options : Options) (lookup : Lookup) where
       title_split (is_title after) (is_mark mark definition_mark) (document.DefinitionList (not (loose_from definition_mark false after))) (start_of first) (past_of first more) (paragraph_tokens text first more)
       (split (Some definition_mark) after) (split None after).after
   split mark (SetextHeading level first more underline after) =
-      lone (Node (node (document.Heading level no_attributes) (start_of first) underline.past) (paragraph_tokens text first more) (split None after).after)
+      lone (Node (node (document.Heading level (setext_attributes options.heading_attributes (content_of (first ∷ more)))) (start_of first) underline.past) (setext_tokens text options.heading_attributes first more) (split None after).after)
   split mark (LeafBlock leaf first more after) = lone (leaf_raw leaf first more (split None after).after)
   split mark (ContainerBlock (Quote alert) first more inside after) =
       lone (Node (node (document.BlockQuote alert) (start_of first) (past_of first more)) (split None inside).after (split None after).after)

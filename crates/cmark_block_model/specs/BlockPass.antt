@@ -1,7 +1,7 @@
 -- One more line of the block pass.
 use Rattle.std.specs.Prelude.{ℕ, zero, suc, Bool, true, false, ◌==◌, ◌&&◌, ◌||◌, not, nat_le, if◌then◌else◌, List, [], ◌∷◌, ◌++◌, length, take, Option, Some, None}
 use Rattle.cmark_grammar.specs.Answers.{Lookup}
-use Rattle.cmark_grammar.specs.Attributes.{no_attributes}
+use Rattle.cmark_grammar.specs.Columns.{Column}
 use Rattle.cmark_grammar.specs.Options.{Options}
 use Rattle.cmark_grammar.specs.Rows.{Row, rows, without, shown, first_place, begin_of, start_of, past_of, words_of}
 use Rattle.cmark_grammar.specs.Leaves.{Further, GoesOn, Closes, Waits, Stops, underlines, code_further, closes_fence}
@@ -9,6 +9,7 @@ use Rattle.cmark_grammar.specs.HtmlBlocks.{holds_end, html_further}
 use Rattle.cmark_grammar.specs.Containers.{Container, Quote, Item, Footnote, ListDefinition, is_alert, enter, keeps, strips}
 use Rattle.cmark_grammar.specs.Openings.{Leaf, ThematicBreak, AtxHeading, IndentedCode, FencedCode, HtmlBlock, LinkDefinition, Opening, Blank, Nests, Takes, Plain, opens_at, texts, lazily, MetadataBlock, Table}
 use Rattle.cmark_grammar.specs.Tokens.{Piece, resolved, words_end, stretch_then, heading_tokens, heading_attributes, verbatim_line, html_then, code_columns}
+use Rattle.cmark_grammar.specs.SetextAttributes.{content_of, without_braces, setext_attributes}
 use Rattle.cmark_grammar.specs.TableTokens.{table_tokens}
 use Rattle.cmark_grammar.specs.Derivation.{stop_of, reference_of, task_then, list_kind}
 use Rattle.cmark_grammar.specs.Lists.{definition_mark}
@@ -177,6 +178,11 @@ abbrev pub is_some : List Row → Bool
 is_some [] = false
 is_some (r ∷ rs) = true
 
+-- the lines that a paragraph keeps before one more: all, where attributes of headings are read
+abbrev pub kept_lines : (attributes : Bool) → (before : List Row) → (last : Row) → List Row
+kept_lines false before last = []
+kept_lines true before last = before ++ last ∷ []
+
 abbrev pub node_closed : (end : ℕ) → Pass → Pass
 node_closed end p = record p { drawing = closed_at end p.drawing; leaf = Closed }
 
@@ -194,7 +200,7 @@ module _ (text : List ℕ) (options : Options) (lookup : Lookup) where
   abbrev pub close_leaf : OpenLeaf → Pass → Pass
   close_leaf Closed p = p
   close_leaf BehindTag p = record p { leaf = Closed }
-  close_leaf (InParagraph from last) p = node_closed p.past (with_drawn (last_stretch from last) p)
+  close_leaf (InParagraph before from last) p = node_closed p.past (with_drawn (last_stretch from last) p)
   close_leaf (InDefinition left) p = record p { leaf = Closed }
   close_leaf (InTable left) p = record p { leaf = Closed }
   close_leaf (InIndented waits end blank) p =
@@ -214,15 +220,25 @@ module _ (text : List ℕ) (options : Options) (lookup : Lookup) where
   -- a paragraph begins, in a definition list that is open, or goes on: one more line stands in the stretch at hand if it begins where the last one has ended, else
   -- that stretch is drawn with its line ending, and another one begins
   abbrev pub paragraph_begun : Row → Pass → Pass
+<<<<<<< ours
   paragraph_begun r p =
       let q = record p { drawing = ended_but (definitions_in p.inner.list) p.inner p.drawing; inner = siblings_with_paragraph p.inner } in
       let o = node_opened (start_of r) document.Paragraph q in record o { leaf = InParagraph (start_of r) r }
+=======
+  paragraph_begun r p = let q = node_opened (start_of r) document.Paragraph (block_begun p) in record q { leaf = InParagraph [] (start_of r) r }
 
-  abbrev pub paragraph_line : (from : ℕ) → (last : Row) → Row → Pass → Pass
-  paragraph_line from last r p =
-      if begin_of r == last.past then record p { leaf = InParagraph from r }
-      else let q = with_drawn (stretch_then text from last.past Nil) p in record q { leaf = InParagraph (begin_of r) r }
+  abbrev pub paragraph_line : (before : List Row) → (from : ℕ) → (last : Row) → Row → Pass → Pass
+  paragraph_line before from last r p =
+      if begin_of r == last.past then record p { leaf = InParagraph (kept_lines options.heading_attributes before last) from r }
+      else let q = with_drawn (stretch_then text from last.past Nil) p in record q { leaf = InParagraph (kept_lines options.heading_attributes before last) (begin_of r) r }
+>>>>>>> theirs
 
+  -- a paragraph that an underline makes a heading: what was drawn of it loses the attributes at its end
+  abbrev pub heading_closed : (level : ℕ) → (content : List Column) → (end : ℕ) → Drawing → Drawing
+  heading_closed level content end d =
+      closed_as (document.Heading level (setext_attributes options.heading_attributes content)) end (record d { here = without_braces text options.heading_attributes content d.here })
+
+<<<<<<< ours
   -- a paragraph that an underline makes a heading, which is no title
   abbrev pub heading_made : (level from : ℕ) → (last : Row) → Row → Pass → Pass
   heading_made level from last r p = let q = with_drawn (last_stretch from last) p in record q {
@@ -230,6 +246,11 @@ module _ (text : List ℕ) (options : Options) (lookup : Lookup) where
     inner = record q.inner { title = None };
     leaf = Closed;
   }
+=======
+  abbrev pub heading_made : (level : ℕ) → (before : List Row) → (from : ℕ) → (last : Row) → Row → Pass → Pass
+  heading_made level before from last r p =
+      let q = with_drawn (last_stretch from last) p in record q { drawing = heading_closed level (content_of (before ++ last ∷ [])) r.past q.drawing; leaf = Closed }
+>>>>>>> theirs
 
   -- a line of code, with the columns of indent that are taken off at most
   abbrev pub code_drawn : (most : ℕ) → Row → Option Piece → (Option Piece → OpenLeaf) → Pass → Pass
@@ -306,9 +327,9 @@ module _ (text : List ℕ) (options : Options) (lookup : Lookup) where
   abbrev pub leaf_fed : OpenLeaf → Row → (next : List Row) → Pass → Pass
   leaf_fed Closed r next p = begin r next p
   leaf_fed BehindTag r next p = begin r next (leaf_closed p)
-  leaf_fed (InParagraph from last) r next p =
-      underlined_or (underlines r) (λ level. heading_made level from last r p)
-      (if texts options r (ahead_in p.outer next) then paragraph_line from last r p else begin r next (leaf_closed p))
+  leaf_fed (InParagraph before from last) r next p =
+      underlined_or (underlines r) (λ level. heading_made level before from last r p)
+      (if texts options r (ahead_in p.outer next) then paragraph_line before from last r p else begin r next (leaf_closed p))
   leaf_fed (InDefinition zero) r next p = begin r next (leaf_closed p)
   leaf_fed (InDefinition (suc left)) r next p = record p { leaf = InDefinition left }
   leaf_fed (InTable zero) r next p = begin r next (leaf_closed p)
@@ -322,7 +343,7 @@ module _ (text : List ℕ) (options : Options) (lookup : Lookup) where
 
   -- a lazy line: it goes on with a paragraph, or begins one behind a definition or an alert's tag
   abbrev pub lazy_fed : OpenLeaf → Row → Pass → Pass
-  lazy_fed (InParagraph from last) r p = paragraph_line from last r p
+  lazy_fed (InParagraph before from last) r p = paragraph_line before from last r p
   lazy_fed (InDefinition left) r p = paragraph_begun r p
   lazy_fed BehindTag r p = paragraph_begun r p
   lazy_fed Closed r p = p

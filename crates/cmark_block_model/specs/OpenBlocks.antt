@@ -41,13 +41,14 @@ pub record OpenContainer : Type 0 where
   pub around : Siblings
 
 -- The open leaf, if there is one. A paragraph has its last line, and the place where the stretch of the text begins that this
--- line stands in, which is drawn when it is seen what follows; a link reference definition has lines to come; indented code has
+-- line stands in, which is drawn when it is seen what follows; where attributes of headings are read, it has the lines before the last
+-- one too, for it may become a heading; a link reference definition has lines to come; indented code has
 -- the stretch of the text that waits (so have fenced code and metadata), the place where its last line ends, and the blank lines behind that.
 -- Directly behind an alert's tag no leaf is open yet. A table is drawn where it begins, as far as its lines go, and has lines to come.
 pub data OpenLeaf : Type 0 where
   Closed : OpenLeaf
   BehindTag : OpenLeaf
-  InParagraph : (from : ℕ) → (last : Row) → OpenLeaf
+  InParagraph : (before : List Row) → (from : ℕ) → (last : Row) → OpenLeaf
   InDefinition : (left : ℕ) → OpenLeaf
   InTable : (left : ℕ) → OpenLeaf
   InIndented : (waits : Option Piece) → (end : ℕ) → (blank : List Row) → OpenLeaf
@@ -59,7 +60,7 @@ pub data OpenLeaf : Type 0 where
 abbrev pub takes_lazy : OpenLeaf → Bool
 takes_lazy Closed = false
 takes_lazy BehindTag = true
-takes_lazy (InParagraph from last) = true
+takes_lazy (InParagraph before from last) = true
 takes_lazy (InDefinition left) = true
 takes_lazy (InTable left) = false
 takes_lazy (InIndented waits end blank) = false

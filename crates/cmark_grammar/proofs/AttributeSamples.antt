@@ -1,5 +1,5 @@
 -- Attributes of headings, computed from the definitions.
-use Rattle.std.specs.Prelude.{◌≡◌, true, [], ◌∷◌, codes, List, ℕ, Some}
+use Rattle.std.specs.Prelude.{◌≡◌, true, [], ◌∷◌, codes, List, ℕ, Some, None}
 use Rattle.std.proofs.Common.{refl}
 use Rattle.cmark_grammar.specs.Attributes.{Attributes, no_attributes, attributes_of}
 use Rattle.cmark_grammar.specs.Entities.{basic_entity}
@@ -7,7 +7,7 @@ use Rattle.cmark_grammar.specs.Leaves.{underlines}
 use Rattle.cmark_grammar.specs.Containers.{enter, keeps}
 use Rattle.cmark_grammar.specs.Openings.{opens, texts, lazily}
 use Rattle.cmark_grammar.specs.BlocksModel.{begin, blocks}
-use Rattle.cmark_grammar.specs.BlockDocument.{Heading, Text, Paragraph, BlockNode, node, outline}
+use Rattle.cmark_grammar.specs.BlockDocument.{Heading, Text, Paragraph, BlockQuote, BlockNode, node, outline}
 use Rattle.cmark_grammar.specs.Derivation.{document}
 use Rattle.cmark_grammar.specs.Options.{Options, no_options}
 
@@ -78,3 +78,44 @@ nothing_left = refl
 paragraph : read (codes "a {#b}") ≡ node Paragraph 0 6 ∷ node (Text (codes "a {#b}")) 0 6 ∷ []
 unfolding blocks begin opens texts lazily enter keeps underlines
 paragraph = refl
+
+-- ## Setext headings
+
+setext : read (codes "a {#b}\n===\n") ≡ node (Heading 1 (identified (codes "b"))) 0 11 ∷ node (Text (codes "a")) 0 1 ∷ []
+unfolding blocks begin opens texts lazily enter keeps underlines
+setext = refl
+
+setext_no_option : outline (document (codes "a {#b}\n===\n") no_options basic_entity) ≡ node (Heading 1 no_attributes) 0 11 ∷ node (Text (codes "a {#b}")) 0 6 ∷ []
+unfolding blocks begin opens texts lazily enter keeps underlines
+setext_no_option = refl
+
+-- braces over lines, whose endings part words
+over_lines : read (codes "a {#b\n.c}\n===") ≡ node (Heading 1 (record no_attributes { id = Some (codes "b"); classes = codes "c" ∷ [] })) 0 13 ∷ node (Text (codes "a")) 0 1 ∷ []
+unfolding blocks begin opens texts lazily enter keeps underlines
+over_lines = refl
+
+-- the lines before the braces stay, without the white space behind them
+on_a_line_of_their_own : read (codes "a\n b  \r\n{.c}\n---\n") ≡ node (Heading 2 (classed (codes "c"))) 0 17 ∷ node (Text (codes "a\n b")) 0 4 ∷ []
+unfolding blocks begin opens texts lazily enter keeps underlines
+on_a_line_of_their_own = refl
+
+-- prefixes are none of them
+behind_prefixes : read (codes "> a {#b\n>  .c}\n> ===") ≡ node (BlockQuote None) 0 20 ∷ node (Heading 1 (record no_attributes { id = Some (codes "b"); classes = codes "c" ∷ [] })) 2 20 ∷ node (Text (codes "a")) 2 3 ∷ []
+unfolding blocks begin opens texts lazily enter keeps underlines
+behind_prefixes = refl
+
+stretches_before : read (codes "> a\n> b\n> {#c}\n> ===") ≡ node (BlockQuote None) 0 20 ∷ node (Heading 1 (identified (codes "c"))) 2 20 ∷ node (Text (codes "a\n")) 2 4 ∷ node (Text (codes "b")) 6 7 ∷ []
+unfolding blocks begin opens texts lazily enter keeps underlines
+stretches_before = refl
+
+setext_last_braces : read (codes "{a} {b{c}\n===") ≡ node (Heading 1 no_attributes) 0 13 ∷ node (Text (codes "{a} {b")) 0 6 ∷ []
+unfolding blocks begin opens texts lazily enter keeps underlines
+setext_last_braces = refl
+
+setext_nothing_left : read (codes "{.a}\n===") ≡ node (Heading 1 (classed (codes "a"))) 0 8 ∷ []
+unfolding blocks begin opens texts lazily enter keeps underlines
+setext_nothing_left = refl
+
+setext_no_end : read (codes "{.a\n}}\n===") ≡ node (Heading 1 no_attributes) 0 10 ∷ node (Text (codes "{.a\n}}")) 0 6 ∷ []
+unfolding blocks begin opens texts lazily enter keeps underlines
+setext_no_end = refl

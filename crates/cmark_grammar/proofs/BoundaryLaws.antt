@@ -25,6 +25,7 @@ use Rattle.cmark_grammar.proofs.RowEdges.{marker-good, enter-begin, is-ascii, Ar
 use Rattle.cmark_grammar.proofs.TableRanges.{row_cells-edged, row_tokens-edged}
 use Rattle.cmark_grammar.proofs.TokenEdges.{paragraph-edged, heading-edged, code-edged, code_place-edge, before-good, html-edged}
 use Rattle.cmark_grammar.specs.TaskItems.{behind_box}
+use Rattle.cmark_grammar.proofs.SetextLaws.{setext-edged}
 use Rattle.cmark_grammar.proofs.TaskLaws.{task-edged}
 
 module _ (E : ℕ → Type 0) where
@@ -91,7 +92,7 @@ module _ (E : ℕ → Type 0) where
   document-edged text options lookup direct before behind all (SetextHeading level first more underline after) body g =
       let c : GoodRows E (first ∷ (more ++ (underline ∷ body.rest))) = subst (GoodRows E) body.cut g in
       let s = split-good E more (underline ∷ body.rest) c.1 in
-      (start-E E first c.0, s.1.0.past, paragraph-edged E text first more c.0 s.0, document-edged text options lookup direct None Apart body.rest after body.after s.1.1)
+      (start-E E first c.0, s.1.0.past, setext-edged E text options.heading_attributes first more c.0 s.0, document-edged text options lookup direct None Apart body.rest after body.after s.1.1)
   document-edged text options lookup direct before behind all (LeafBlock leaf first more after) body g =
       let c : GoodRows E (first ∷ (more ++ body.rest)) = subst (GoodRows E) body.cut g in
       let s = split-good E more body.rest c.1 in

@@ -18,7 +18,12 @@ use Rattle.cmark_grammar.specs.Derivation.{task_then, leaf_then, item_then, para
 use Rattle.cmark_grammar.specs.Ranges.{count_nodes, count_table, count_tables}
 use Rattle.cmark_grammar.specs.Tokens.{Piece, texts_then, line_columns, words_end, stretch_then, stretches, paragraph_tokens, heading_columns, behind_hashes, heading_tokens, piece_if, plain_line, left_columns, spaces_if, verbatim_line, touches, merge, merge_all, code_columns, code_pieces, stop_at, fenced_lines, html_then, html_tokens, slice, end_place, lines_before}
 use Rattle.cmark_grammar.specs.Metadata.{ends_metadata}
+<<<<<<< ours
 use Rattle.cmark_grammar.proofs.BlockLaws.{marker-within, at-whole, at-words, at-wide, at-takes, texts-words, IsWide}
+=======
+use Rattle.cmark_grammar.proofs.SetextLaws.{setext-few}
+use Rattle.cmark_grammar.proofs.BlockLaws.{marker-within, opens-whole, opens-words, at-whole, at-words, at-nests, at-takes, texts-words, IsWide, wide_opens}
+>>>>>>> theirs
 use Rattle.cmark_grammar.proofs.RowPlaces.{Runs, Runs-le, first_place-Runs, drop-Runs, drop-mono, Lies, begin-start, start-Runs, start-stop, Lies-without, strip-Lies, kept-without, strip-past, Along, text-Along, Along-le}
 use Rattle.cmark_grammar.proofs.TokenRanges.{UpTo, end_place-Runs, line-UpTo, heading-UpTo}
 use Rattle.cmark_grammar.specs.TableRows.{count_missing, cells_start, cells_of}
@@ -560,10 +565,13 @@ module _ (text : List ℕ) (options : Options) (lookup : Lookup) where
       let d : first.stop ≤ first.past = c.0.0.2 in
       let p = paragraph-count text from first more c.0.0 s.0 in
       let t = stretches-tables text (start_of first) first more in
+      let few = setext-few text options.heading_attributes first more in
+      let x = few.0 in
+      let y = few.1 in
       let u = fed-le first.past more (past_of first more) s.0 in
       let g : past_of first more < underline.past = s.1.0 in
       let ih = document-count direct None Apart underline.past body.rest after to body.after (fed-behind underline.past body.rest to s.1.2) in
-      omega (arith, a, b, d, p, t, u, g, ih)
+      omega (arith, a, b, d, p, t, x, y, u, g, ih)
   document-count direct before behind from all (LeafBlock leaf first more after) to body f =
       let c : FedBehind from (first ∷ (more ++ body.rest)) to = subst (λ ls. FedBehind from ls to) body.cut f in
       let s = fed-split first more body.rest to c.1 in
@@ -638,10 +646,12 @@ module _ (text : List ℕ) (options : Options) (lookup : Lookup) where
       let b = start-stop from first c.0.0 in
       let d : first.stop ≤ first.past = c.0.0.2 in
       let t = stretches-tables text (start_of first) first more in
+      let few = setext-few text options.heading_attributes first more in
+      let y = few.1 in
       let u = fed-le first.past more (past_of first more) s.0 in
       let g : past_of first more < underline.past = s.1.0 in
       let ih = document-tables direct None Apart underline.past body.rest after to body.after (fed-behind underline.past body.rest to s.1.2) in
-      omega (arith, a, b, d, t, u, g, ih)
+      omega (arith, a, b, d, t, y, u, g, ih)
   document-tables direct before behind from all (LeafBlock leaf first more after) to body f =
       let c : FedBehind from (first ∷ (more ++ body.rest)) to = subst (λ ls. FedBehind from ls to) body.cut f in
       let s = fed-split first more body.rest to c.1 in

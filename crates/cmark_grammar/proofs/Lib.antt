@@ -32,16 +32,15 @@ pub mod RowEdges
 pub mod TaskFronts
 pub mod TaskLaws
 pub mod RowPlaces
+pub mod SetextLaws
 pub mod ShorterRests
 pub mod SliceLaws
 pub mod SpanEntries
 pub mod SpanPlaces
 pub mod TableCounts
-pub mod TableLaws
 pub mod TableRanges
 mod TableSamples
 mod TableDocumentSamples
-mod TaskDocumentSamples
 pub mod TagSamples
 pub mod TaskSamples
 pub mod TightLaws

@@ -9,7 +9,13 @@ use Rattle.cmark_grammar.specs.BlockQuoteKind.{BlockQuoteKind}
 use Rattle.cmark_grammar.specs.Containers.{Container, Quote, Item, Footnote, ListDefinition, is_alert, unless_tag, enter, quote_width, footnote_width, one_blank, strips, is_bare_start, insides}
 use Rattle.cmark_grammar.specs.Openings.{Leaf, ThematicBreak as ThematicBreakLeaf, AtxHeading as AtxHeadingLeaf, IndentedCode as IndentedCodeLeaf, FencedCode as FencedCodeLeaf, HtmlBlock as HtmlBlockLeaf, LinkDefinition as LinkDefinitionLeaf, MetadataBlock as MetadataBlockLeaf, Table as TableLeaf}
 use Rattle.cmark_grammar.specs.Blocks.{Blocks, Nil as NoBlocks, BlankLine, Paragraph as ParagraphBlock, SetextHeading, LeafBlock, ContainerBlock, behind_leaf, place_in, Body}
+<<<<<<< ours
 use Rattle.cmark_grammar.specs.Lists.{ListBefore, tight_behind, goes_on, definition_mark, is_title, title_tight_behind}
+=======
+use Rattle.cmark_grammar.specs.SetextAttributes.{setext_tokens}
+use Rattle.cmark_grammar.proofs.SetextLaws.{setext-order}
+use Rattle.cmark_grammar.specs.Lists.{ListBefore, tight_behind, goes_on}
+>>>>>>> theirs
 use Rattle.cmark_grammar.specs.Tokens.{fenced_lines, paragraph_tokens, code_tokens, code_columns, lines_before}
 use Rattle.cmark_grammar.specs.BlockDocument.{ListItem, BlockNode, BlockDocument, Nil, Node, node, BlockKind, DefinitionList, DefinitionListTitle, DefinitionListDefinition}
 use Rattle.cmark_grammar.specs.Derivation.{task_then, leaf_then, item_then, document_of, Derives, list_kind, paragraph_kind}
@@ -151,7 +157,7 @@ module _ (text : List ℕ) (options : Options) (lookup : Lookup) where
       let p : past_of first more ≤ start_of underline = from-start (past_of first more) underline s.1.0 in
       let q : start_of underline ≤ underline.past = start-past (past_of first more) underline s.1.0 in (
         from-start from first c.0,
-        InOrder-upper (start_of first) (paragraph_tokens text first more) (past_of first more) underline.past (omega (arith, p, q)) (paragraph-order text from first more c.0 s.0),
+        InOrder-upper (start_of first) (setext_tokens text options.heading_attributes first more) (past_of first more) underline.past (omega (arith, p, q)) (setext-order text options.heading_attributes from first more c.0 s.0),
         document-order direct None Apart underline.past body.rest after to body.after s.1.1,
       )
   document-order direct before behind from all (LeafBlock leaf first more after) to body a =

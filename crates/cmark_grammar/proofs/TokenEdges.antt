@@ -22,7 +22,7 @@ module _ (E : ℕ → Type 0) where
     pub good : AreGood E cs
     pub edge : E mid
 
-  place-edge : (c : Column) → Good E c → c.byte < 128 → E (place c)
+  pub place-edge : (c : Column) → Good E c → c.byte < 128 → E (place c)
   place-edge c g lt = go (c.part == 0)
     where
       go : (z : Bool) → E (if z then c.at else suc c.at)
@@ -63,7 +63,7 @@ module _ (E : ℕ → Type 0) where
       go true = (a, b, h)
       go false = h
 
-  stretch-edged : (text : List ℕ) (start end : ℕ) (after : BlockDocument) → E start → E end → AllAt E after → AllAt E (stretch_then text start end after)
+  pub stretch-edged : (text : List ℕ) (start end : ℕ) (after : BlockDocument) → E start → E end → AllAt E after → AllAt E (stretch_then text start end after)
   stretch-edged text start end after es ee a = texts-edged (piece_if text start end []) after (piece_if-edged text start end [] es ee tt) a
 
   end-edge : (from : ℕ) (cs : List Column) → EdgeTo from cs → E (end_place from cs)
@@ -89,7 +89,7 @@ module _ (E : ℕ → Type 0) where
       go true = let u = drop_end-edge is_hash (λ c e. is-ascii c.byte 35 (omega arith) e) from cs to h g et in drop_end-edge is_blank (λ c e. blank-ascii c.byte e) from (drop_end is_hash cs) u.mid u.runs u.good u.edge
       go false = record { mid = to; runs = h; good = g; edge = et }
 
-  and-first : (a b : Bool) → (a && b) ≡ true → a ≡ true
+  pub and-first : (a b : Bool) → (a && b) ≡ true → a ≡ true
   and-first true b e = refl
   and-first false b e = e
 

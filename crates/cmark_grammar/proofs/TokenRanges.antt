@@ -88,7 +88,7 @@ piece_if-order text from start end ps to a b h = go (nat_lt start end)
     go true = (a, b, h)
     go false = pieces-lower from end ps to (omega (arith, a, b)) h
 
-stretch-order : (text : List ℕ) (start end stop : ℕ) (after : BlockDocument) (to : ℕ) → start ≤ end → end ≤ stop → InOrder stop after to → InOrder start (stretch_then text start end after) to
+pub stretch-order : (text : List ℕ) (start end stop : ℕ) (after : BlockDocument) (to : ℕ) → start ≤ end → end ≤ stop → InOrder stop after to → InOrder start (stretch_then text start end after) to
 stretch-order text start end stop after to some le a =
     texts-order start (piece_if text start end []) stop after to (piece_if-order text start start end [] stop (omega arith) some le) a
 

@@ -2,7 +2,6 @@
 -- leaves is read.
 use Rattle.std.specs.Prelude.{◌≡◌, ℕ, Bool, true, false, ◌==◌, if◌then◌else◌, List, [], ◌∷◌, length, Option, Some, None}
 use Rattle.cmark_grammar.specs.Answers.{Lookup}
-use Rattle.cmark_grammar.specs.Attributes.{no_attributes}
 use Rattle.cmark_grammar.specs.Options.{Options}
 use Rattle.cmark_grammar.specs.Places.{Apart}
 use Rattle.cmark_grammar.specs.Rows.{Row, rows, without, first_place, begin_of, start_of, past_of}
@@ -15,7 +14,12 @@ use Rattle.cmark_grammar.specs.Blocks.{Blocks, Nil as NoBlocks, BlankLine, Parag
 use Rattle.cmark_grammar.specs.BlocksModel.{blocks}
 use Rattle.cmark_grammar.specs.Lists.{ListBefore, definition_mark, is_title, tight_behind, title_tight_behind, goes_on}
 use Rattle.cmark_grammar.specs.Tokens.{resolved, title_lines, paragraph_tokens, heading_tokens, heading_attributes, code_tokens, lines_before, fenced_lines, html_tokens, code_columns}
+<<<<<<< ours
 use Rattle.cmark_grammar.specs.BlockDocument.{Reference, BlockKind, Paragraph, TightParagraph, Heading, ThematicBreak, IndentedCode, FencedCode, HtmlBlock, LinkDefinition, MetadataBlock, BlockQuote, BlockList, ListItem, TaskMarker, FootnoteDefinition, DefinitionList, DefinitionListTitle, DefinitionListDefinition, BlockNode, BlockDocument, Nil, Node, node, Table}
+=======
+use Rattle.cmark_grammar.specs.BlockDocument.{Reference, BlockKind, Paragraph, TightParagraph, Heading, ThematicBreak, IndentedCode, FencedCode, HtmlBlock, LinkDefinition, MetadataBlock, BlockQuote, BlockList, ListItem, TaskMarker, FootnoteDefinition, BlockNode, BlockDocument, Nil, Node, node, Table}
+use Rattle.cmark_grammar.specs.SetextAttributes.{content_of, setext_attributes, setext_tokens}
+>>>>>>> theirs
 use Rattle.cmark_grammar.specs.TableTokens.{table_tokens}
 use Rattle.cmark_grammar.specs.TaskItems.{behind_box}
 
@@ -89,7 +93,7 @@ document_of text options lookup direct list (ParagraphBlock first more after) =
     (document_of text options lookup direct (Some (record { mark = definition_mark; tight = tight })) after))
     else Node (node (paragraph_kind direct) (start_of first) (past_of first more)) (paragraph_tokens text first more) (document_of text options lookup direct None after)
 document_of text options lookup direct list (SetextHeading level first more underline after) =
-    Node (node (Heading level no_attributes) (start_of first) underline.past) (paragraph_tokens text first more) (document_of text options lookup direct None after)
+    Node (node (Heading level (setext_attributes options.heading_attributes (content_of (first ∷ more)))) (start_of first) underline.past) (setext_tokens text options.heading_attributes first more) (document_of text options lookup direct None after)
 document_of text options lookup direct list (LeafBlock leaf first more after) = leaf_then text options lookup leaf first more (document_of text options lookup direct None after)
 document_of text options lookup direct list (ContainerBlock (Quote alert) first more inside after) =
     Node (node (BlockQuote alert) (start_of first) (past_of first more)) (document_of text options lookup false None inside) (document_of text options lookup direct None after)

@@ -64,13 +64,13 @@ pub mod Readers
 pub mod References
 pub mod Rows
 pub mod Siblings
+pub mod SetextAttributes
 pub mod SiblingsModel
 pub mod SpanDocuments
 pub mod SpanEntries
 pub mod Spans
 pub mod SpecialBytes
 pub mod TableRows
-pub mod TableShape
 pub mod TableTokens
 pub mod Tables
 pub mod Tag

@@ -10,7 +10,7 @@ use Rattle.cmark_grammar.specs.Derivation.{leaf_then, item_then, task_then, docu
 use Rattle.cmark_grammar.specs.Event.{Ranged}
 use Rattle.cmark_grammar.specs.TaskItems.{behind_box}
 use Rattle.cmark_grammar.specs.Lines.{lines, ends_line, onto, is_content, line_feed, carriage_return, begins_with_line_feed}
-use Rattle.cmark_grammar.specs.Columns.{is_blank_byte, drop_end}
+use Rattle.cmark_grammar.specs.Columns.{Column, is_blank_byte, drop_end}
 use Rattle.cmark_grammar.specs.TableRows.{cells_start, cells_of}
 use Rattle.cmark_grammar.specs.TableTokens.{cell_tokens, cells_then, row_cells, row_tokens, table_tokens}
 use Rattle.cmark_grammar.specs.Lists.{ListBefore, tight_behind, goes_on, definition_mark, is_title, title_tight_behind}
@@ -19,6 +19,7 @@ use Rattle.cmark_grammar.specs.Openings.{Leaf, ThematicBreak as ThematicBreakLea
 use Rattle.cmark_grammar.specs.Options.{Options}
 use Rattle.cmark_grammar.specs.Places.{Place, Apart, BehindTitle, over_blank}
 use Rattle.cmark_grammar.specs.Rows.{Row, rows, rows_from, without, first_place, begin_of, start_of, past_of, words_of}
+use Rattle.cmark_grammar.specs.SetextAttributes.{content_of, ends_in_braces, attributes_place, texts_before, texts_if, without_braces, setext_tokens}
 use Rattle.cmark_grammar.specs.SpanDocuments.{Segment, Given, Content, stretches_of, leaf_of, is_leaf, inside_of, node_segments, first_of_segments, with_first_segment, segments}
 use Rattle.cmark_grammar.specs.Tokens.{texts_then, Piece, text_kind_of, html_kind_of, html_then, code_tokens, html_tokens, fenced_lines, lines_before, piece_if, stretch_then, stretches, end_place, words_end, paragraph_tokens, heading_tokens, behind_hashes, heading_columns, slice}
 use Rattle.cmark_grammar.proofs.BoundaryLaws.{joined}
@@ -188,6 +189,44 @@ stretches_end text begin r (s ∷ more) h = go (begin_of s == r.past) (stretches
     go true p q = p
     go false p q = stretch_ends text begin r.past (stretches text (begin_of s) s more) (⊎_elim (λ n. absurd (let d : ⊥ = cc in d)) inr h.0) q
 
+-- texts before a place end as they did, but for the last
+before_ends : (text : List ℕ) (at : ℕ) (d : BlockDocument) → HaveLineEnds text (stretches_of d) → HaveLineEnds text (stretches_of (texts_before text at d))
+before_ends text at Nil h = tt
+before_ends text at (Node n inside Nil) h = go (nat_lt n.end at)
+  where
+    go : (z : Bool) → HaveLineEnds text (stretches_of (if z then Node n inside Nil else stretch_then text n.start at Nil))
+    go true = h
+    go false = stretch_ends text n.start at Nil (inl refl) tt
+before_ends text at (Node n inside (Node m i a)) h = go (nat_lt n.end at) (before_ends text at (Node m i a) h.2)
+  where
+    go : (z : Bool) → HaveLineEnds text (stretches_of (texts_before text at (Node m i a))) → HaveLineEnds text (stretches_of (if z then Node n inside (texts_before text at (Node m i a)) else stretch_then text n.start at Nil))
+    go true ih = (h.0, ⊎_elim (λ none. absurd (let d : ⊥ = cc in d)) inr h.1, ih)
+    go false ih = stretch_ends text n.start at Nil (inl refl) tt
+
+before_are_texts : (text : List ℕ) (at : ℕ) (d : BlockDocument) → AreTexts d → AreTexts (texts_before text at d)
+before_are_texts text at Nil h = tt
+before_are_texts text at (Node n inside after) h = go (nat_lt n.end at) (before_are_texts text at after h.2)
+  where
+    go : (z : Bool) → AreTexts (texts_before text at after) → AreTexts (if z then Node n inside (texts_before text at after) else stretch_then text n.start at Nil)
+    go true ih = (h.0, h.1, ih)
+    go false ih = pieces_are_texts (piece_if text n.start at []) Nil tt
+
+braces_end : (text : List ℕ) (attributes : Bool) (cs : List Column) (d : BlockDocument) → HaveLineEnds text (stretches_of d) → HaveLineEnds text (stretches_of (without_braces text attributes cs d))
+braces_end text false cs d h = h
+braces_end text true cs d h = go (ends_in_braces cs)
+  where
+    go : (z : Bool) → HaveLineEnds text (stretches_of (texts_if z text (attributes_place cs) d))
+    go true = before_ends text (attributes_place cs) d h
+    go false = h
+
+braces_are_texts : (text : List ℕ) (attributes : Bool) (cs : List Column) (d : BlockDocument) → AreTexts d → AreTexts (without_braces text attributes cs d)
+braces_are_texts text false cs d h = h
+braces_are_texts text true cs d h = go (ends_in_braces cs)
+  where
+    go : (z : Bool) → AreTexts (texts_if z text (attributes_place cs) d)
+    go true = before_are_texts text (attributes_place cs) d h
+    go false = h
+
 heading_ends : (text : List ℕ) (attributes : Bool) (level : ℕ) (r : Row) → HaveLineEnds text (stretches_of (heading_tokens text attributes level r))
 heading_ends text attributes level r =
     stretch_ends text (first_place r.stop (behind_hashes level r)) (end_place (first_place r.stop (behind_hashes level r)) (heading_columns attributes level r)) Nil (inl refl) tt
@@ -276,8 +315,8 @@ document_of_lines text options lookup direct before behind all (ParagraphBlock f
 document_of_lines text options lookup direct before behind all (SetextHeading level first more underline after) body g =
     let c : RowsEnd text ((first ∷ more) ++ (underline ∷ body.rest)) = subst (RowsEnd text) body.cut g in
     let s = rows_split text (first ∷ more) (underline ∷ body.rest) c in (
-      (λ e. stretches_end text (start_of first) first more s.0),
-      texts_of_lines text (paragraph_tokens text first more) (stretches_are_texts text (start_of first) first more),
+      (λ e. braces_end text options.heading_attributes (content_of (first ∷ more)) (paragraph_tokens text first more) (stretches_end text (start_of first) first more s.0)),
+      texts_of_lines text (setext_tokens text options.heading_attributes first more) (braces_are_texts text options.heading_attributes (content_of (first ∷ more)) (paragraph_tokens text first more) (stretches_are_texts text (start_of first) first more)),
       document_of_lines text options lookup direct None Apart body.rest after body.after s.1.1,
     )
 document_of_lines text options lookup direct before behind all (LeafBlock leaf first more after) body g =

@@ -1,4 +1,5 @@
 pub mod Building
+pub mod CutSteps
 pub mod Cutting
 pub mod Entries
 pub mod Items

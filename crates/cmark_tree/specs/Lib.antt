@@ -1,5 +1,6 @@
 pub mod Arena
 pub mod Building
+pub mod Cut
 pub mod Forest
 pub mod Lending
 pub mod Nodes

@@ -8,6 +8,8 @@ ghost use Rattle.cmark_tree.specs.Zip.{Zip, Level, plug};
 ghost use Rattle.cmark_tree.specs.Nodes.{node_at, HasNumber};
 ghost use Rattle.cmark_tree.specs.Tree.{Holds, entry_at, parent_of, spine_of};
 ghost use Rattle.cmark_tree.specs.Truncating.{Spans, shortened, IsCut, last_place, at_last, siblings_truncated};
+ghost use Rattle.cmark_tree.specs.Building.{Opened, Is, IsPlaced};
+ghost use Rattle.cmark_tree.specs.Cut.{ending_before, reaching_start};
 ghost use Rattle.cmark_tree.specs.Truncated.{CanTruncate, HasParent, CanEnd, IsChildren, IsShortened};
 
 use crate::nodes::Nodes;
@@ -93,6 +95,18 @@ fn shorten_at<T: TreeSpan>(nodes: &mut Nodes<T>, at: usize, to: usize) -> bool
     shorten(item, to)
 }
 
+// Where a node begins; none, where 0 stands for none.
+fn start_at<T: TreeSpan>(nodes: &Nodes<T>, at: usize) -> Option<usize>
+    requires { (at ≡ 0 → ⊥) → HasNumber nodes.now at }
+    ensures none { at ≡ 0 → result ≡ None }
+    ensures some { (at ≡ 0 → ⊥) → (e : Entry T) → node_at nodes.now at ≡ Some e → result ≡ Some (T.spans.start e.item) }
+{
+    if at == 0 {
+        return None;
+    }
+    Some(nodes.item(at).start())
+}
+
 impl<T: TreeSpan> Tree<T> {
     /// Cuts the parent's children off at byte `end`. Those that end before it stay; the next is shortened to end there, and what is
     /// after it goes. One that begins at `end` goes too, but where a backslash escapes its first byte, it becomes that backslash. The
@@ -112,6 +126,21 @@ impl<T: TreeSpan> Tree<T> {
         } else {
             self.end_siblings(parent, cut.kept);
         }
+    }
+
+    /// Cuts off the children of the innermost open node from the first that does not end before byte `end` on, and answers where
+    /// that one begins; none, where each ends before. The last that is left is the focus. Where no node is open nothing changes.
+    pub fn cut_siblings(&mut self, end: usize) -> Option<usize>
+        requires { IsPlaced self.old }
+        ensures kept { (here : Forest T) (v : Opened T) (up : List (Opened T)) → Is self.old here (v ∷ up) → Is self.new (ending_before T.spans end here) (v ∷ up) }
+        ensures start { (here : Forest T) (v : Opened T) (up : List (Opened T)) → Is self.old here (v ∷ up) → result ≡ reaching_start T.spans end here }
+        ensures placed { IsPlaced self.new }
+    {
+        let parent = self.peek_up()?;
+        let cut = cut_place(&self.nodes, self.nodes.child(parent.ix), end);
+        let start = start_at(&self.nodes, cut.at);
+        self.end_siblings(parent, cut.kept);
+        start
     }
 
     // The parent's children end with this one, or there are none: it is the focus.
