@@ -4,13 +4,13 @@ use Rattle.std.specs.Prelude.{if◌then◌else◌}
 use Rattle.cmark_grammar.specs.Answers.{Lookup}
 use Rattle.cmark_grammar.specs.Options.{Options}
 use Rattle.cmark_grammar.specs.Rows.{Row, first_place, start_of, past_of, begin_of, words_of, without}
-use Rattle.cmark_grammar.specs.Containers.{Quote, Item, Footnote}
+use Rattle.cmark_grammar.specs.Containers.{Quote, Item, Footnote, ListDefinition}
 use Rattle.cmark_grammar.specs.Openings.{Leaf, ThematicBreak as ThematicBreakLeaf, AtxHeading as AtxHeadingLeaf, IndentedCode as IndentedCodeLeaf, FencedCode as FencedCodeLeaf, HtmlBlock as HtmlBlockLeaf, LinkDefinition as LinkDefinitionLeaf, MetadataBlock as MetadataBlockLeaf, Table as TableLeaf}
 use Rattle.cmark_grammar.specs.Blocks.{Blocks, Nil as NoBlocks, BlankLine, Paragraph as ParagraphBlock, SetextHeading, LeafBlock, ContainerBlock}
-use Rattle.cmark_grammar.specs.Lists.{ListBefore, tight_behind, goes_on}
+use Rattle.cmark_grammar.specs.Lists.{ListBefore, tight_behind, goes_on, definition_mark, is_title, title_tight_behind}
 use Rattle.cmark_grammar.specs.Tokens.{Piece, end_place, piece_if, texts_then, words_end, stretch_then, stretches, paragraph_tokens, html_then, html_tokens, html_kind_of, verbatim_line, behind_hashes, heading_columns, code_pieces, fenced_lines, lines_before}
-use Rattle.cmark_grammar.specs.BlockDocument.{Text, OwnedText, ListItem, BlockDocument, Nil, Node, node}
-use Rattle.cmark_grammar.specs.Derivation.{task_then, leaf_then, item_then, paragraph_kind, document_of, Derives}
+use Rattle.cmark_grammar.specs.BlockDocument.{Text, OwnedText, BlockList, ListItem, DefinitionList, DefinitionListTitle, DefinitionListDefinition, BlockKind, BlockNode, BlockDocument, Nil, Node, node}
+use Rattle.cmark_grammar.specs.Derivation.{task_then, leaf_then, item_then, list_kind, paragraph_kind, document_of, Derives}
 use Rattle.cmark_grammar.specs.TableShape.{AreCells, AreRows, IsRectangular, HasRectangularTables}
 use Rattle.cmark_grammar.specs.Metadata.{ends_metadata}
 use Rattle.cmark_grammar.specs.Columns.{is_blank_byte, drop_end}
@@ -99,16 +99,33 @@ task-rectangular : (task : Option Bool) (start end : ℕ) (inside : BlockDocumen
 task-rectangular None start end inside h = h
 task-rectangular (Some is_checked) start end inside h = (tt, tt, h)
 
-item-rectangular : (joins : Bool) (number : Option ℕ) (tight : Bool) (start past : ℕ) (inside after : BlockDocument) → HasRectangularTables inside → HasRectangularTables after → HasRectangularTables (item_then joins number tight (node ListItem start past) inside after)
-item-rectangular false number tight start past inside after i a = (tt, (tt, i, tt), a)
-item-rectangular true number tight start past inside Nil i a = (tt, (tt, i, tt), tt)
-item-rectangular true number tight start past inside (Node list items after) i a = (tt, (tt, i, a.1), a.2)
+list-rectangular : (mark : ℕ) (number : Option ℕ) (tight : Bool) (inside : BlockDocument) → IsRectangular (list_kind mark number tight) inside
+list-rectangular mark number tight inside = go (mark == definition_mark)
+  where
+    go : (z : Bool) → IsRectangular (if z then DefinitionList tight else BlockList number tight) inside
+    go true = tt
+    go false = tt
+
+item-rectangular : (joins : Bool) (list : BlockKind) (item : BlockNode) (inside after : BlockDocument) → ((items : BlockDocument) → IsRectangular list items) → IsRectangular item.kind inside → HasRectangularTables inside → HasRectangularTables after → HasRectangularTables (item_then joins list item inside after)
+item-rectangular false list item inside after l k i a = (l _, (k, i, tt), a)
+item-rectangular true list item inside Nil l k i a = (l _, (k, i, tt), tt)
+item-rectangular true list item inside (Node others items after) l k i a = (l _, (k, i, a.1), a.2)
+
+-- a paragraph, as a title or as itself
+title-rectangular : (is_title tight : Bool) (other : BlockKind) (start end : ℕ) (inside after behind : BlockDocument) → IsRectangular other inside → HasRectangularTables inside → HasRectangularTables after → HasRectangularTables behind
+    → HasRectangularTables (if is_title then item_then true (DefinitionList tight) (node DefinitionListTitle start end) inside after else Node (node other start end) inside behind)
+title-rectangular true tight other start end inside after behind k i a b = item-rectangular true (DefinitionList tight) (node DefinitionListTitle start end) inside after (λ items. tt) tt i a
+title-rectangular false tight other start end inside after behind k i a b = (k, i, b)
 
 module _ (text : List ℕ) (options : Options) (lookup : Lookup) where
   document-rectangular : (direct : Bool) (before : Option ListBefore) (b : Blocks) → HasRectangularTables (document_of text options lookup direct before b)
   document-rectangular direct before NoBlocks = tt
   document-rectangular direct before (BlankLine line after) = document-rectangular direct before after
-  document-rectangular direct before (ParagraphBlock first more after) = (of_kind direct, stretches-rectangular text (start_of first) first more, document-rectangular direct None after)
+  document-rectangular direct before (ParagraphBlock first more after) =
+      let tight = title_tight_behind before after in
+      title-rectangular (is_title after) tight (paragraph_kind direct) (start_of first) (past_of first more) (paragraph_tokens text first more)
+      (document_of text options lookup direct (Some (record { mark = definition_mark; tight = tight })) after) (document_of text options lookup direct None after)
+      (of_kind direct) (stretches-rectangular text (start_of first) first more) (document-rectangular direct (Some (record { mark = definition_mark; tight = tight })) after) (document-rectangular direct None after)
     where
       of_kind : (z : Bool) → IsRectangular (paragraph_kind z) (paragraph_tokens text first more)
       of_kind true = tt
@@ -119,10 +136,15 @@ module _ (text : List ℕ) (options : Options) (lookup : Lookup) where
   document-rectangular direct before (ContainerBlock (Footnote label old size) first more inside after) = (tt, document-rectangular false None inside, document-rectangular direct None after)
   document-rectangular direct before (ContainerBlock (Item mark number width task) first more inside after) =
       let tight = tight_behind before mark inside after in
-      item-rectangular (goes_on mark after) number tight (begin_of first) (past_of first more)
+      item-rectangular (goes_on mark after) (list_kind mark number tight) (node ListItem (begin_of first) (past_of first more))
       (task_then task (begin_of (without width first)) (begin_of (without (behind_box task width) first)) (document_of text options lookup tight None inside))
-      (document_of text options lookup direct (Some (record { mark = mark; tight = tight })) after)
+      (document_of text options lookup direct (Some (record { mark = mark; tight = tight })) after) (list-rectangular mark number tight) tt
       (task-rectangular task _ _ (document_of text options lookup tight None inside) (document-rectangular tight None inside)) (document-rectangular direct (Some (record { mark = mark; tight = tight })) after)
+  document-rectangular direct before (ContainerBlock (ListDefinition width) first more inside after) =
+      let tight = tight_behind before definition_mark inside after in
+      item-rectangular (goes_on definition_mark after) (DefinitionList tight) (node DefinitionListDefinition (begin_of first) (past_of first more))
+      (document_of text options lookup tight None inside) (document_of text options lookup direct (Some (record { mark = definition_mark; tight = tight })) after) (λ items. tt) tt
+      (document-rectangular tight None inside) (document-rectangular direct (Some (record { mark = definition_mark; tight = tight })) after)
 
 pub derived-rectangular : (text : List ℕ) (options : Options) (lookup : Lookup) (d : BlockDocument) → Derives text options lookup d → HasRectangularTables d
 derived-rectangular text options lookup d h = subst HasRectangularTables (sym h.2) (document-rectangular text options lookup false None h.0)
