@@ -182,7 +182,6 @@ module _ (text : List ℕ) (options : Options) (lookup : Lookup) where
       item-draws inside after hi ni di da start past marker (fresh mark number start) (record { left = d.here; node = node (list_kind mark number false) start start }) Nil d.up p rs
       ∙ drawn-done s v here up t.after ∙ ap (λ y. completed s v here up y t) (sym f)
 
-<<<<<<< ours
   -- behind a definition that stands in this list
   definition-draws : (inside after : Blocks) → HasFilledItems inside → IsNearlyFilled inside → Draws inside → Draws after → (start past : ℕ) (o : OpenList) (v : OpenNode) (here : BlockDocument) (up : List OpenNode) (p : Bool) (rs : Noted)
       → finished (replay text options lookup after (behind_definition text options lookup start past inside o (record { here = here; up = v ∷ up }) p rs))
@@ -200,30 +199,6 @@ module _ (text : List ℕ) (options : Options) (lookup : Lookup) where
       → finished (replay text options lookup after (behind_definition text options lookup start past inside (fresh definition_mark None start) (opened start (list_kind definition_mark None false) (list_closed (list_of s) (drawing_at s v here up))) p rs))
       ≡ completed s v here up z (item_split false (document.DefinitionList (is_tight definition_mark inside after)) document.DefinitionListDefinition start past (split text options lookup None inside).after (split text options lookup (Some definition_mark) after))
   new-definition inside after hi ni di da start past s v here up p rs z f =
-=======
-  pub draws : (b : Blocks) → HasFilledItems b → Draws b
-  draws NoBlocks h s v here up blank p rs = list-done s v here up ∙ ap (λ z. completed s v here up z (lone Nil)) (sym (loose-none s blank NoBlocks (λ mark. refl)))
-  draws (BlankLine line after) h First v here up blank p rs = draws after h First v here up false p rs
-  draws (BlankLine line after) h FirstBlank v here up blank p rs = draws after h FirstBlank v here up false p rs
-  draws (BlankLine line after) h Behind v here up blank p rs = draws after h Behind v here up true p rs
-  draws (BlankLine line after) h (InList o) v here up blank p rs = draws after h (InList o) v here up true p rs
-  draws (Paragraph first more after) h s v here up blank p rs =
-      alone after (draws after h) s v here up (Node (node document.Paragraph (start_of first) (past_of first more)) (paragraph_tokens text first more) Nil) _ (p || blank) rs refl
-      (loose_at s blank (Paragraph first more after)) (loose-none s blank (Paragraph first more after) (λ mark. refl))
-  draws (SetextHeading level first more underline after) h s v here up blank p rs =
-      alone after (draws after h) s v here up (Node (node (document.Heading level (setext_attributes options.heading_attributes (content_of (first ∷ more)))) (start_of first) underline.past) (setext_tokens text options.heading_attributes first more) Nil) _ (p || blank) rs refl
-      (loose_at s blank (SetextHeading level first more underline after)) (loose-none s blank (SetextHeading level first more underline after) (λ mark. refl))
-  draws (LeafBlock leaf first more after) h s v here up blank p rs =
-      alone after (draws after h) s v here up (leaf_raw text options lookup leaf first more Nil) _ (p || blank) (leaf_noted text options lookup leaf first more rs) (leaf-drawing leaf first more (list_closed (list_of s) (drawing_at s v here up)))
-      (loose_at s blank (LeafBlock leaf first more after)) (loose-none s blank (LeafBlock leaf first more after) (λ mark. refl))
-      ∙ ap (λ x. completed s v here up (loose_at s blank (LeafBlock leaf first more after)) (lone x)) (leaf-raw leaf first more (split text options lookup None after).after)
-  draws (ContainerBlock (Quote alert) first more inside after) h s v here up blank p rs =
-      let d = list_closed (list_of s) (drawing_at s v here up) in
-      alone after (draws after h.1) s v here up (Node (node (document.BlockQuote alert) (start_of first) (past_of first more)) (split text options lookup None inside).after Nil) _ (p || blank) _
-      (ap (closed_at (past_of first more)) (inside-draws inside (draws inside h.0) (opened (start_of first) (document.BlockQuote alert) d) rs))
-      (loose_at s blank (ContainerBlock (Quote alert) first more inside after)) (loose-none s blank (ContainerBlock (Quote alert) first more inside after) (λ mark. refl))
-  draws (ContainerBlock (Footnote label old size) first more inside after) h s v here up blank p rs =
->>>>>>> theirs
       let d = list_closed (list_of s) (drawing_at s v here up) in
       let t = item_split false (document.DefinitionList (is_tight definition_mark inside after)) document.DefinitionListDefinition start past (split text options lookup None inside).after (split text options lookup (Some definition_mark) after) in
       definition-draws inside after hi ni di da start past (fresh definition_mark None start) (record { left = d.here; node = node (list_kind definition_mark None false) start start }) Nil d.up p rs
@@ -400,11 +375,12 @@ module _ (text : List ℕ) (options : Options) (lookup : Lookup) where
       others (Paragraph first more after) (paragraph-at after a.1 a.2 first more) refl (λ d blank p q rs. refl) (λ o d blank p q rs. refl)
   draws-all (SetextHeading level first more underline after) h =
       let a = draws-all after h in
-      let n = node (document.Heading level no_attributes) (start_of first) underline.past in
+      let n = node (document.Heading level (setext_attributes options.heading_attributes (content_of (first ∷ more)))) (start_of first) underline.past in
+      let tokens = setext_tokens text options.heading_attributes first more in
       let b = SetextHeading level first more underline after in
       others b (λ s v here up blank p rs.
-      ap (λ x. finished (replay text options lookup after x)) (heading-released s v here up blank p rs n (paragraph_tokens text first more))
-      ∙ alone after a.0 s v here up (Node n (paragraph_tokens text first more) Nil) _ (p || blank) rs refl (loose_at s blank b) (loose-none s blank b (λ mark. refl)) false) refl (λ d blank p q rs. refl) (λ o d blank p q rs. refl)
+      ap (λ x. finished (replay text options lookup after x)) (heading-released s v here up blank p rs n tokens)
+      ∙ alone after a.0 s v here up (Node n tokens Nil) _ (p || blank) rs refl (loose_at s blank b) (loose-none s blank b (λ mark. refl)) false) refl (λ d blank p q rs. refl) (λ o d blank p q rs. refl)
   draws-all (LeafBlock leaf first more after) h =
       let a = draws-all after h in
       let b = LeafBlock leaf first more after in

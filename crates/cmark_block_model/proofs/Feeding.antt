@@ -13,15 +13,9 @@ use Rattle.cmark_grammar.specs.Tokens.{stretch_then, paragraph_tokens}
 use Rattle.cmark_grammar.specs.BlockDocument as document
 use Rattle.cmark_grammar.specs.BlockDocument.{BlockDocument, Nil, join}
 use Rattle.cmark_block_model.specs.OpenBlocks.{OpenContainer, OpenLeaf, Closed, InParagraph as InParagraphLeaf, InDefinition, InTable, Pass}
-<<<<<<< ours
-use Rattle.cmark_block_model.specs.BlockPass.{ahead_in, begin, leaf_closed, leaf_fed, underlined_or, heading_made, paragraph_line}
-use Rattle.cmark_block_model.proofs.Replay.{Level, paragraph_begun, untitled, level_opened, level_drawn, leaf_level, replay, replay-join}
-use Rattle.cmark_block_model.proofs.Mirror.{whole, whole-same, last_of, last_push, last_begin, begin_push, pass_with, leaf_left, is_looked_up, Fits, lines_drawn, drawn-tokens, one_more, drawn-push, paragraph_open, paragraph_leaf, inner_at, leaf_at, pass_at}
-=======
 use Rattle.cmark_block_model.specs.BlockPass.{ahead_in, begin, leaf_closed, leaf_fed, underlined_or, heading_made, kept_lines, paragraph_line}
-use Rattle.cmark_block_model.proofs.Replay.{Level, begun, level_opened, level_drawn, leaf_level, replay, replay-join}
+use Rattle.cmark_block_model.proofs.Replay.{Level, paragraph_begun, untitled, level_opened, level_drawn, leaf_level, replay, replay-join}
 use Rattle.cmark_block_model.proofs.Mirror.{whole, kept_before, kept_push, attributes-kept, braces-kept, whole-same, last_of, last_push, last_begin, begin_push, pass_with, leaf_left, is_looked_up, Fits, lines_drawn, drawn-tokens, one_more, drawn-push, paragraph_open, paragraph_leaf, inner_at, leaf_at, pass_at}
->>>>>>> theirs
 use Rattle.cmark_block_model.proofs.Closing.{noded, leaf-closes}
 use Rattle.cmark_block_model.proofs.Beginning.{IsFresh, starts}
 use Rattle.cmark_block_model.proofs.Marks.{Unmarked, unmarked-join}
@@ -49,14 +43,10 @@ module _ (text : List ℕ) (options : Options) (lookup : Lookup) where
       before = lines_drawn text options lookup (start_of first) first more
 
       goes_with : List Row → BlockDocument → ℕ → Row → Pass
-      goes_with rs d at x = pass_with (level_drawn d (level_opened (start_of first) document.Paragraph (begun l))) outer false (InParagraphLeaf rs at (whole x)) n
+      goes_with rs d at x = pass_with (level_drawn d (level_opened (start_of first) document.Paragraph (paragraph_begun l))) outer false (InParagraphLeaf rs at (whole x)) n
 
       goes : BlockDocument → ℕ → Row → Pass
-<<<<<<< ours
-      goes d at x = pass_with (level_drawn d (level_opened (start_of first) document.Paragraph (paragraph_begun l))) outer false (InParagraphLeaf at (whole x)) n
-=======
       goes d at x = goes_with (kept_lines options.heading_attributes (kept_before options.heading_attributes first more) (whole (last_of first more))) d at x
->>>>>>> theirs
 
       go : (z : Bool) → (if z then goes before from s else goes (join before (stretch_then text from past Nil)) (begin_of s) s) ≡ goes (one_more text options lookup z from past before) (if z then from else begin_of s) s
       go true = refl
@@ -90,17 +80,13 @@ module _ (text : List ℕ) (options : Options) (lookup : Lookup) where
       go : (u : Option ℕ) → underlined_or text options lookup u (λ level. heading_made text options lookup level (kept_before options.heading_attributes first more) from (whole (last_of first more)) r p) (if texts options r (ahead_in text options lookup outer next) then paragraph_line text options lookup (kept_before options.heading_attributes first more) from (whole (last_of first more)) r p else begin text options lookup r next (leaf_closed text options lookup p))
           ≡ pass_at text options lookup (lines_underline_or u (λ level. Between (join_blocks closed (SetextHeading level first more r NoBlocks))) (lines_go_on_or (texts options r ahead) (InParagraph closed first (more ++ r ∷ [])) (lines_begin options (join_blocks closed (Paragraph first more NoBlocks)) r ahead))) ahead l outer false n
       go (Some level) =
-<<<<<<< ours
-          ap (λ t. pass_with (untitled (noded text options lookup (document.Heading level no_attributes) (start_of first) r.past t (paragraph_begun c))) outer false Closed n) (sym (drawn-tokens text options lookup (start_of first) first more))
-=======
           let on = options.heading_attributes in
           let kept = content_of (kept_before on first more ++ whole (last_of first more) ∷ []) in
           let content = content_of (first ∷ more) in
           let tokens = paragraph_tokens text first more in
-          ap (λ t. pass_with (noded text options lookup (document.Heading level (setext_attributes on kept)) (start_of first) r.past (without_braces text on kept t) (begun c)) outer false Closed n) (sym (drawn-tokens text options lookup (start_of first) first more))
-          ∙ ap (λ a. pass_with (noded text options lookup (document.Heading level a) (start_of first) r.past (without_braces text on kept tokens) (begun c)) outer false Closed n) (attributes-kept on first more)
-          ∙ ap (λ t. pass_with (noded text options lookup (document.Heading level (setext_attributes on content)) (start_of first) r.past t (begun c)) outer false Closed n) (braces-kept text on first more tokens)
->>>>>>> theirs
+          ap (λ t. pass_with (untitled (noded text options lookup (document.Heading level (setext_attributes on kept)) (start_of first) r.past (without_braces text on kept t) (paragraph_begun c))) outer false Closed n) (sym (drawn-tokens text options lookup (start_of first) first more))
+          ∙ ap (λ a. pass_with (untitled (noded text options lookup (document.Heading level a) (start_of first) r.past (without_braces text on kept tokens) (paragraph_begun c))) outer false Closed n) (attributes-kept on first more)
+          ∙ ap (λ t. pass_with (untitled (noded text options lookup (document.Heading level (setext_attributes on content)) (start_of first) r.past t (paragraph_begun c))) outer false Closed n) (braces-kept text on first more tokens)
           ∙ ap (λ q. pass_with q outer false Closed n) (sym (replay-join text options lookup closed (SetextHeading level first more r NoBlocks) l))
           ∙ end outer (replay text options lookup (join_blocks closed (SetextHeading level first more r NoBlocks)) l) Closed
       go None =

@@ -14,13 +14,8 @@ use Rattle.cmark_grammar.specs.BlockDocument as document
 use Rattle.cmark_grammar.specs.BlockDocument.{BlockDocument, BlockKind, Node, node}
 use Rattle.cmark_grammar.specs.SpanDocuments.{footnote_label, footnote_labels}
 use Rattle.cmark_grammar.specs.Metadata.{ends_metadata}
-<<<<<<< ours
 use Rattle.cmark_block_model.specs.OpenBlocks.{OpenList, Title}
-use Rattle.cmark_block_model.proofs.PlainTokens.{IsPlain, paragraph_plain, heading_plain, code_plain, table_plain, html_tokens_plain}
-=======
-use Rattle.cmark_block_model.specs.OpenBlocks.{OpenList}
 use Rattle.cmark_block_model.proofs.PlainTokens.{IsPlain, paragraph_plain, setext_plain, heading_plain, code_plain, table_plain, html_tokens_plain}
->>>>>>> theirs
 use Rattle.cmark_block_model.proofs.Split.{Split, split}
 use Rattle.cmark_block_model.proofs.Settles.{Joins, settles}
 use Rattle.cmark_block_model.proofs.Replay.{Noted, Level, marked, standing, entered, left_by, item_if, item_level, leaf_noted, leaf_level, paragraph_level, heading_level, blank_level, replay, title_level, definition_level}

@@ -116,11 +116,7 @@ module _ (text : List ℕ) (options : Options) (lookup : Lookup) where
 
   abbrev pub heading_level : (level : ℕ) → Row → List Row → Row → Level → Level
   heading_level level first more underline l =
-<<<<<<< ours
-      untitled (level_drawn (Node (node (document.Heading level no_attributes) (start_of first) underline.past) (paragraph_tokens text first more) document.Nil) (paragraph_begun l))
-=======
-      level_drawn (Node (node (document.Heading level (setext_attributes options.heading_attributes (content_of (first ∷ more)))) (start_of first) underline.past) (setext_tokens text options.heading_attributes first more) document.Nil) (begun l)
->>>>>>> theirs
+      untitled (level_drawn (Node (node (document.Heading level (setext_attributes options.heading_attributes (content_of (first ∷ more)))) (start_of first) underline.past) (setext_tokens text options.heading_attributes first more) document.Nil) (paragraph_begun l))
 
   abbrev pub leaf_drawing : Leaf → Row → List Row → Drawing → Drawing
   leaf_drawing ThematicBreak first more d = drawn (leaf_then text options lookup ThematicBreak first more document.Nil) d

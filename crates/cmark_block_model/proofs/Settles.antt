@@ -16,13 +16,8 @@ use Rattle.cmark_grammar.specs.BlockDocument as document
 use Rattle.cmark_grammar.specs.BlockDocument.{join, BlockNode, BlockDocument, Nil, Node, node, BlockKind}
 use Rattle.cmark_grammar.specs.DrawnDocument.{settled, without_definitions, is_definition, node_unless, kind_within}
 use Rattle.cmark_grammar.specs.Metadata.{ends_metadata}
-<<<<<<< ours
-use Rattle.cmark_block_model.proofs.PlainTokens.{IsPlain, paragraph_plain, heading_plain, code_plain, html_tokens_plain, table_plain}
-use Rattle.cmark_block_model.proofs.Split.{Split, end_or, lone, item_split, leaf_raw, split, is_mark, title_split}
-=======
 use Rattle.cmark_block_model.proofs.PlainTokens.{IsPlain, paragraph_plain, setext_plain, heading_plain, code_plain, html_tokens_plain, table_plain}
-use Rattle.cmark_block_model.proofs.Split.{Split, end_or, lone, item_split, leaf_raw, split}
->>>>>>> theirs
+use Rattle.cmark_block_model.proofs.Split.{Split, end_or, lone, item_split, leaf_raw, split, is_mark, title_split}
 use Rattle.cmark_block_model.proofs.Draws.{other-mark}
 use Rattle.cmark_block_model.proofs.Replay.{marked}
 use Rattle.cmark_grammar.specs.Tightness.{tight_within}

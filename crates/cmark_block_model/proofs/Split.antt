@@ -1,10 +1,6 @@
 -- The document of blocks before its paragraphs are settled, without definitions: what goes on with the list before, and what
 -- stands behind that.
-<<<<<<< ours
-use Rattle.std.specs.Prelude.{ℕ, Bool, true, false, ◌==◌, List, Option, Some, None, not}
-=======
-use Rattle.std.specs.Prelude.{ℕ, Bool, true, false, ◌==◌, List, ◌∷◌, Option, Some, None}
->>>>>>> theirs
+use Rattle.std.specs.Prelude.{ℕ, Bool, true, false, ◌==◌, List, ◌∷◌, Option, Some, None, not}
 use Rattle.cmark_grammar.specs.Options.{Options}
 use Rattle.cmark_grammar.specs.Answers.{Lookup}
 use Rattle.cmark_grammar.specs.SetextAttributes.{content_of, setext_attributes, setext_tokens}

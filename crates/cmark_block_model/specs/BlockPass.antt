@@ -220,37 +220,27 @@ module _ (text : List ℕ) (options : Options) (lookup : Lookup) where
   -- a paragraph begins, in a definition list that is open, or goes on: one more line stands in the stretch at hand if it begins where the last one has ended, else
   -- that stretch is drawn with its line ending, and another one begins
   abbrev pub paragraph_begun : Row → Pass → Pass
-<<<<<<< ours
   paragraph_begun r p =
       let q = record p { drawing = ended_but (definitions_in p.inner.list) p.inner p.drawing; inner = siblings_with_paragraph p.inner } in
-      let o = node_opened (start_of r) document.Paragraph q in record o { leaf = InParagraph (start_of r) r }
-=======
-  paragraph_begun r p = let q = node_opened (start_of r) document.Paragraph (block_begun p) in record q { leaf = InParagraph [] (start_of r) r }
+      let o = node_opened (start_of r) document.Paragraph q in record o { leaf = InParagraph [] (start_of r) r }
 
   abbrev pub paragraph_line : (before : List Row) → (from : ℕ) → (last : Row) → Row → Pass → Pass
   paragraph_line before from last r p =
       if begin_of r == last.past then record p { leaf = InParagraph (kept_lines options.heading_attributes before last) from r }
       else let q = with_drawn (stretch_then text from last.past Nil) p in record q { leaf = InParagraph (kept_lines options.heading_attributes before last) (begin_of r) r }
->>>>>>> theirs
 
   -- a paragraph that an underline makes a heading: what was drawn of it loses the attributes at its end
   abbrev pub heading_closed : (level : ℕ) → (content : List Column) → (end : ℕ) → Drawing → Drawing
   heading_closed level content end d =
       closed_as (document.Heading level (setext_attributes options.heading_attributes content)) end (record d { here = without_braces text options.heading_attributes content d.here })
 
-<<<<<<< ours
-  -- a paragraph that an underline makes a heading, which is no title
-  abbrev pub heading_made : (level from : ℕ) → (last : Row) → Row → Pass → Pass
-  heading_made level from last r p = let q = with_drawn (last_stretch from last) p in record q {
-    drawing = title_released q.inner.title (closed_as (document.Heading level no_attributes) r.past q.drawing);
+  -- it is no title
+  abbrev pub heading_made : (level : ℕ) → (before : List Row) → (from : ℕ) → (last : Row) → Row → Pass → Pass
+  heading_made level before from last r p = let q = with_drawn (last_stretch from last) p in record q {
+    drawing = title_released q.inner.title (heading_closed level (content_of (before ++ last ∷ [])) r.past q.drawing);
     inner = record q.inner { title = None };
     leaf = Closed;
   }
-=======
-  abbrev pub heading_made : (level : ℕ) → (before : List Row) → (from : ℕ) → (last : Row) → Row → Pass → Pass
-  heading_made level before from last r p =
-      let q = with_drawn (last_stretch from last) p in record q { drawing = heading_closed level (content_of (before ++ last ∷ [])) r.past q.drawing; leaf = Closed }
->>>>>>> theirs
 
   -- a line of code, with the columns of indent that are taken off at most
   abbrev pub code_drawn : (most : ℕ) → Row → Option Piece → (Option Piece → OpenLeaf) → Pass → Pass

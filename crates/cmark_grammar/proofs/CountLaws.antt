@@ -18,12 +18,8 @@ use Rattle.cmark_grammar.specs.Derivation.{task_then, leaf_then, item_then, para
 use Rattle.cmark_grammar.specs.Ranges.{count_nodes, count_table, count_tables}
 use Rattle.cmark_grammar.specs.Tokens.{Piece, texts_then, line_columns, words_end, stretch_then, stretches, paragraph_tokens, heading_columns, behind_hashes, heading_tokens, piece_if, plain_line, left_columns, spaces_if, verbatim_line, touches, merge, merge_all, code_columns, code_pieces, stop_at, fenced_lines, html_then, html_tokens, slice, end_place, lines_before}
 use Rattle.cmark_grammar.specs.Metadata.{ends_metadata}
-<<<<<<< ours
-use Rattle.cmark_grammar.proofs.BlockLaws.{marker-within, at-whole, at-words, at-wide, at-takes, texts-words, IsWide}
-=======
 use Rattle.cmark_grammar.proofs.SetextLaws.{setext-few}
-use Rattle.cmark_grammar.proofs.BlockLaws.{marker-within, opens-whole, opens-words, at-whole, at-words, at-nests, at-takes, texts-words, IsWide, wide_opens}
->>>>>>> theirs
+use Rattle.cmark_grammar.proofs.BlockLaws.{marker-within, at-whole, at-words, at-wide, at-takes, texts-words, IsWide}
 use Rattle.cmark_grammar.proofs.RowPlaces.{Runs, Runs-le, first_place-Runs, drop-Runs, drop-mono, Lies, begin-start, start-Runs, start-stop, Lies-without, strip-Lies, kept-without, strip-past, Along, text-Along, Along-le}
 use Rattle.cmark_grammar.proofs.TokenRanges.{UpTo, end_place-Runs, line-UpTo, heading-UpTo}
 use Rattle.cmark_grammar.specs.TableRows.{count_missing, cells_start, cells_of}

@@ -38,9 +38,11 @@ pub mod SliceLaws
 pub mod SpanEntries
 pub mod SpanPlaces
 pub mod TableCounts
+pub mod TableLaws
 pub mod TableRanges
 mod TableSamples
 mod TableDocumentSamples
+mod TaskDocumentSamples
 pub mod TagSamples
 pub mod TaskSamples
 pub mod TightLaws

@@ -9,13 +9,9 @@ use Rattle.cmark_grammar.specs.BlockQuoteKind.{BlockQuoteKind}
 use Rattle.cmark_grammar.specs.Containers.{Container, Quote, Item, Footnote, ListDefinition, is_alert, unless_tag, enter, quote_width, footnote_width, one_blank, strips, is_bare_start, insides}
 use Rattle.cmark_grammar.specs.Openings.{Leaf, ThematicBreak as ThematicBreakLeaf, AtxHeading as AtxHeadingLeaf, IndentedCode as IndentedCodeLeaf, FencedCode as FencedCodeLeaf, HtmlBlock as HtmlBlockLeaf, LinkDefinition as LinkDefinitionLeaf, MetadataBlock as MetadataBlockLeaf, Table as TableLeaf}
 use Rattle.cmark_grammar.specs.Blocks.{Blocks, Nil as NoBlocks, BlankLine, Paragraph as ParagraphBlock, SetextHeading, LeafBlock, ContainerBlock, behind_leaf, place_in, Body}
-<<<<<<< ours
-use Rattle.cmark_grammar.specs.Lists.{ListBefore, tight_behind, goes_on, definition_mark, is_title, title_tight_behind}
-=======
 use Rattle.cmark_grammar.specs.SetextAttributes.{setext_tokens}
 use Rattle.cmark_grammar.proofs.SetextLaws.{setext-order}
-use Rattle.cmark_grammar.specs.Lists.{ListBefore, tight_behind, goes_on}
->>>>>>> theirs
+use Rattle.cmark_grammar.specs.Lists.{ListBefore, tight_behind, goes_on, definition_mark, is_title, title_tight_behind}
 use Rattle.cmark_grammar.specs.Tokens.{fenced_lines, paragraph_tokens, code_tokens, code_columns, lines_before}
 use Rattle.cmark_grammar.specs.BlockDocument.{ListItem, BlockNode, BlockDocument, Nil, Node, node, BlockKind, DefinitionList, DefinitionListTitle, DefinitionListDefinition}
 use Rattle.cmark_grammar.specs.Derivation.{task_then, leaf_then, item_then, document_of, Derives, list_kind, paragraph_kind}

@@ -1,17 +1,17 @@
 -- The content of a setext heading without its attributes is cut out of that of a paragraph.
-use Rattle.std.proofs.Common.{◌≡◌, ℕ, zero, suc, ◌+◌, ◌≤◌, ◌<◌, Bool, true, false, ◌==◌, ◌||◌, ◌⊎◌, inl, inr, ⊎_elim, List, [], ◌∷◌, ◌++◌, length, drop, refl, sym, ap, ◌∙◌, subst, arith, true≢false}
+use Rattle.std.proofs.Common.{◌≡◌, ℕ, suc, ◌≤◌, ◌<◌, Bool, true, false, ◌==◌, List, [], ◌∷◌, ◌++◌, length, drop, refl, sym, arith, true≢false}
 use Rattle.std.specs.Prelude.{if◌then◌else◌, nat_lt}
 use Rattle.cmark_grammar.specs.Attributes.{is_braced, before_braces, closes, is_white_space}
-use Rattle.cmark_grammar.specs.BlockDocument.{BlockDocument, Nil, Node, node}
-use Rattle.cmark_grammar.specs.Columns.{Column, drop_end, put_before, without_trailing_blanks, is_blank}
+use Rattle.cmark_grammar.specs.BlockDocument.{BlockDocument, Nil, Node}
+use Rattle.cmark_grammar.specs.Columns.{Column, drop_end, put_before, is_blank}
 use Rattle.cmark_grammar.specs.Ranges.{InOrder, AllAt, count_nodes, count_tables}
 use Rattle.cmark_grammar.specs.Rows.{Row, place, first_place, start_of, past_of}
 use Rattle.cmark_grammar.specs.SetextAttributes.{line_end, content_of, is_white, ends_in_braces, before_attributes, attributes_place, texts_before, texts_if, without_braces, setext_tokens}
-use Rattle.cmark_grammar.specs.Tokens.{slice, Piece, texts_then, piece_if, stretch_then, paragraph_tokens}
-use Rattle.cmark_grammar.proofs.RowEdges.{is-ascii, Good, AreGood, GoodRow, GoodRows}
+use Rattle.cmark_grammar.specs.Tokens.{slice, texts_then, stretch_then, paragraph_tokens}
+use Rattle.cmark_grammar.proofs.RowEdges.{is-ascii, AreGood, GoodRow, GoodRows}
 use Rattle.cmark_grammar.proofs.RowPlaces.{Lies, Along}
 use Rattle.cmark_grammar.proofs.TokenEdges.{stretch-edged, place-edge, and-first, paragraph-edged}
-use Rattle.cmark_grammar.proofs.TokenRanges.{InOrder-le, InOrder-lower, stretch-order, paragraph-order}
+use Rattle.cmark_grammar.proofs.TokenRanges.{InOrder-le, paragraph-order}
 
 less : (a b : ℕ) → nat_lt a b ≡ true → a < b
 less a b e = grind (arith)

@@ -8,16 +8,10 @@ use Rattle.cmark_grammar.specs.Rows.{Row, first_place, begin_of, start_of, words
 use Rattle.cmark_grammar.specs.Containers.{Quote, Item, Footnote, ListDefinition}
 use Rattle.cmark_grammar.specs.Openings.{Leaf, ThematicBreak as ThematicBreakLeaf, AtxHeading as AtxHeadingLeaf, IndentedCode as IndentedCodeLeaf, FencedCode as FencedCodeLeaf, HtmlBlock as HtmlBlockLeaf, LinkDefinition as LinkDefinitionLeaf, MetadataBlock as MetadataBlockLeaf, Table as TableLeaf}
 use Rattle.cmark_grammar.specs.Blocks.{Blocks, Nil as NoBlocks, BlankLine, Paragraph as ParagraphBlock, SetextHeading, LeafBlock, ContainerBlock}
-<<<<<<< ours
+use Rattle.cmark_grammar.specs.SetextAttributes.{content_of, ends_in_braces, attributes_place, texts_before, texts_if, without_braces, setext_tokens}
 use Rattle.cmark_grammar.specs.Lists.{ListBefore, tight_behind, goes_on, definition_mark, is_title, title_tight_behind}
 use Rattle.cmark_grammar.specs.BlockDocument.{Text, OwnedText, Html, ListItem, BlockNode, BlockDocument, Nil, Node, node, BlockKind, DefinitionList, DefinitionListTitle, DefinitionListDefinition, BlockList}
 use Rattle.cmark_grammar.specs.Derivation.{task_then, leaf_then, item_then, paragraph_kind, document_of, Derives, list_kind}
-=======
-use Rattle.cmark_grammar.specs.SetextAttributes.{content_of, ends_in_braces, attributes_place, texts_before, texts_if, without_braces, setext_tokens}
-use Rattle.cmark_grammar.specs.Lists.{ListBefore, tight_behind, goes_on}
-use Rattle.cmark_grammar.specs.BlockDocument.{Text, OwnedText, Html, ListItem, BlockNode, BlockDocument, Nil, Node, node}
-use Rattle.cmark_grammar.specs.Derivation.{task_then, leaf_then, item_then, paragraph_kind, document_of, Derives}
->>>>>>> theirs
 use Rattle.cmark_grammar.specs.Ranges.{IsSlice, HasSlices}
 use Rattle.cmark_grammar.specs.Tokens.{slice, Piece, texts_then, end_place, words_end, stretch_then, stretches, paragraph_tokens, behind_hashes, heading_columns, piece_if, plain_line, left_columns, spaces_if, verbatim_line, touches, merge, merge_all, code_columns, code_pieces, fenced_lines, html_then, html_tokens, lines_before}
 use Rattle.cmark_grammar.specs.Metadata.{ends_metadata}
@@ -199,17 +193,12 @@ module _ (text : List ℕ) where
   document-sliced : (options : Options) (lookup : Lookup) (direct : Bool) (before : Option ListBefore) (b : Blocks) → HasSlices text (document_of text options lookup direct before b)
   document-sliced options lookup direct before NoBlocks = tt
   document-sliced options lookup direct before (BlankLine line after) = document-sliced options lookup direct before after
-<<<<<<< ours
   document-sliced options lookup direct before (ParagraphBlock first more after) =
       let tight = title_tight_behind before after in
       title-sliced (is_title after) tight (paragraph_kind direct) (start_of first) (past_of first more) (paragraph_tokens text first more)
       (document_of text options lookup direct (Some (record { mark = definition_mark; tight = tight })) after) (document_of text options lookup direct None after)
       (paragraph-slice direct _ _) (paragraph-sliced first more) (document-sliced options lookup direct (Some (record { mark = definition_mark; tight = tight })) after) (document-sliced options lookup direct None after)
-  document-sliced options lookup direct before (SetextHeading level first more underline after) = (tt, paragraph-sliced first more, document-sliced options lookup direct None after)
-=======
-  document-sliced options lookup direct before (ParagraphBlock first more after) = (paragraph-slice direct _ _, paragraph-sliced first more, document-sliced options lookup direct None after)
   document-sliced options lookup direct before (SetextHeading level first more underline after) = (tt, setext-sliced options.heading_attributes first more, document-sliced options lookup direct None after)
->>>>>>> theirs
   document-sliced options lookup direct before (LeafBlock leaf first more after) =
       leaf-sliced options lookup leaf first more (document_of text options lookup direct None after) (document-sliced options lookup direct None after)
   document-sliced options lookup direct before (ContainerBlock (Quote alert) first more inside after) =

@@ -1,6 +1,6 @@
 -- Each row of a table has as many cells as the table has columns.
 use Rattle.std.proofs.Common.{ℕ, zero, suc, ◌+◌, Bool, true, false, ◌==◌, List, [], ◌∷◌, length, drop, take_while, refl, sym, subst, Option, Some, None}
-use Rattle.std.specs.Prelude.{if◌then◌else◌}
+use Rattle.std.specs.Prelude.{if◌then◌else◌, nat_lt}
 use Rattle.cmark_grammar.specs.Answers.{Lookup}
 use Rattle.cmark_grammar.specs.Options.{Options}
 use Rattle.cmark_grammar.specs.Rows.{Row, first_place, start_of, past_of, begin_of, words_of, without}
@@ -9,11 +9,12 @@ use Rattle.cmark_grammar.specs.Openings.{Leaf, ThematicBreak as ThematicBreakLea
 use Rattle.cmark_grammar.specs.Blocks.{Blocks, Nil as NoBlocks, BlankLine, Paragraph as ParagraphBlock, SetextHeading, LeafBlock, ContainerBlock}
 use Rattle.cmark_grammar.specs.Lists.{ListBefore, tight_behind, goes_on, definition_mark, is_title, title_tight_behind}
 use Rattle.cmark_grammar.specs.Tokens.{Piece, end_place, piece_if, texts_then, words_end, stretch_then, stretches, paragraph_tokens, html_then, html_tokens, html_kind_of, verbatim_line, behind_hashes, heading_columns, code_pieces, fenced_lines, lines_before}
+use Rattle.cmark_grammar.specs.SetextAttributes.{content_of, ends_in_braces, attributes_place, texts_before, texts_if, without_braces, setext_tokens}
 use Rattle.cmark_grammar.specs.BlockDocument.{Text, OwnedText, BlockList, ListItem, DefinitionList, DefinitionListTitle, DefinitionListDefinition, BlockKind, BlockNode, BlockDocument, Nil, Node, node}
 use Rattle.cmark_grammar.specs.Derivation.{task_then, leaf_then, item_then, list_kind, paragraph_kind, document_of, Derives}
 use Rattle.cmark_grammar.specs.TableShape.{AreCells, AreRows, IsRectangular, HasRectangularTables}
 use Rattle.cmark_grammar.specs.Metadata.{ends_metadata}
-use Rattle.cmark_grammar.specs.Columns.{is_blank_byte, drop_end}
+use Rattle.cmark_grammar.specs.Columns.{Column, is_blank_byte, drop_end}
 use Rattle.cmark_grammar.specs.TableRows.{cells_start, cells_of}
 use Rattle.cmark_grammar.specs.TableTokens.{cells_then, row_cells, row_tokens}
 use Rattle.cmark_grammar.specs.TaskItems.{behind_box}
@@ -51,6 +52,26 @@ stretches-rectangular text begin r (s ∷ more) = go (begin_of s == r.past) (str
         → HasRectangularTables (if z then stretches text begin s more else stretch_then text begin r.past (stretches text (begin_of s) s more))
     go true p q = p
     go false p q = stretch-rectangular text begin r.past (stretches text (begin_of s) s more) q
+
+before-rectangular : (text : List ℕ) (at : ℕ) (d : BlockDocument) → HasRectangularTables d → HasRectangularTables (texts_before text at d)
+before-rectangular text at Nil h = tt
+before-rectangular text at (Node n inside after) h = go (nat_lt n.end at) (before-rectangular text at after h.2)
+  where
+    go : (z : Bool) → HasRectangularTables (texts_before text at after) → HasRectangularTables (if z then Node n inside (texts_before text at after) else stretch_then text n.start at Nil)
+    go true ih = (h.0, h.1, ih)
+    go false ih = stretch-rectangular text n.start at Nil tt
+
+braces-rectangular : (text : List ℕ) (attributes : Bool) (cs : List Column) (d : BlockDocument) → HasRectangularTables d → HasRectangularTables (without_braces text attributes cs d)
+braces-rectangular text false cs d h = h
+braces-rectangular text true cs d h = go (ends_in_braces cs)
+  where
+    go : (z : Bool) → HasRectangularTables (texts_if z text (attributes_place cs) d)
+    go true = before-rectangular text (attributes_place cs) d h
+    go false = h
+
+setext-rectangular : (text : List ℕ) (attributes : Bool) (first : Row) (more : List Row) → HasRectangularTables (setext_tokens text attributes first more)
+setext-rectangular text attributes first more =
+    braces-rectangular text attributes (content_of (first ∷ more)) (paragraph_tokens text first more) (stretches-rectangular text (start_of first) first more)
 
 html-then-rectangular : (ps : List Piece) (after : BlockDocument) → HasRectangularTables after → HasRectangularTables (html_then ps after)
 html-then-rectangular [] after h = h
@@ -130,7 +151,7 @@ module _ (text : List ℕ) (options : Options) (lookup : Lookup) where
       of_kind : (z : Bool) → IsRectangular (paragraph_kind z) (paragraph_tokens text first more)
       of_kind true = tt
       of_kind false = tt
-  document-rectangular direct before (SetextHeading level first more underline after) = (tt, stretches-rectangular text (start_of first) first more, document-rectangular direct None after)
+  document-rectangular direct before (SetextHeading level first more underline after) = (tt, setext-rectangular text options.heading_attributes first more, document-rectangular direct None after)
   document-rectangular direct before (LeafBlock leaf first more after) = leaf-rectangular text options lookup leaf first more (document_of text options lookup direct None after) (document-rectangular direct None after)
   document-rectangular direct before (ContainerBlock (Quote alert) first more inside after) = (tt, document-rectangular false None inside, document-rectangular direct None after)
   document-rectangular direct before (ContainerBlock (Footnote label old size) first more inside after) = (tt, document-rectangular false None inside, document-rectangular direct None after)

@@ -2,7 +2,7 @@
 use Rattle.std.specs.Prelude.{◌≡◌, ◌∷◌, [], true, false, codes, Some, None}
 use Rattle.std.proofs.Common.{refl}
 use Rattle.cmark_grammar.specs.Attributes.{no_attributes}
-use Rattle.cmark_grammar.specs.BlockDocument.{Paragraph, Heading, BlockList, ListItem, TaskMarker, TightParagraph, Text, outline, node}
+use Rattle.cmark_grammar.specs.BlockDocument.{Heading, BlockList, ListItem, TaskMarker, TightParagraph, Text, outline, node}
 use Rattle.cmark_grammar.specs.BlockReading.{block_reading}
 use Rattle.cmark_grammar.specs.BlocksModel.{begin, blocks}
 use Rattle.cmark_grammar.specs.Containers.{enter, keeps}

@@ -1,23 +1,14 @@
 -- Directly in an item of a tight list stands no paragraph of its own.
-<<<<<<< ours
 use Rattle.std.proofs.Common.{◌≡◌, ℕ, zero, suc, ◌+◌, Bool, true, false, ◌==◌, List, [], ◌∷◌, length, drop, take_while, refl, sym, ap, ◌∙◌, subst, Option, Some, None, true≢false, arith, ◌&&◌, not}
-use Rattle.std.specs.Prelude.{if◌then◌else◌}
-=======
-use Rattle.std.proofs.Common.{◌≡◌, ℕ, zero, suc, ◌+◌, Bool, true, false, ◌==◌, List, [], ◌∷◌, length, drop, take_while, refl, sym, ap, ◌∙◌, subst, Option, Some, None, true≢false, arith}
 use Rattle.std.specs.Prelude.{if◌then◌else◌, nat_lt}
->>>>>>> theirs
 use Rattle.cmark_grammar.specs.Answers.{Lookup}
 use Rattle.cmark_grammar.specs.Options.{Options}
 use Rattle.cmark_grammar.specs.Rows.{Row, first_place, start_of, past_of, begin_of, words_of, without}
 use Rattle.cmark_grammar.specs.Containers.{Quote, Item, Footnote, ListDefinition}
 use Rattle.cmark_grammar.specs.Openings.{Leaf, ThematicBreak as ThematicBreakLeaf, AtxHeading as AtxHeadingLeaf, IndentedCode as IndentedCodeLeaf, FencedCode as FencedCodeLeaf, HtmlBlock as HtmlBlockLeaf, LinkDefinition as LinkDefinitionLeaf, MetadataBlock as MetadataBlockLeaf, Table as TableLeaf}
 use Rattle.cmark_grammar.specs.Blocks.{Blocks, Nil as NoBlocks, BlankLine, Paragraph as ParagraphBlock, SetextHeading, LeafBlock, ContainerBlock}
-<<<<<<< ours
-use Rattle.cmark_grammar.specs.Lists.{ListBefore, tight_behind, goes_on, is_tight, definition_mark, is_title, title_tight_behind, loose_from}
-=======
 use Rattle.cmark_grammar.specs.SetextAttributes.{content_of, ends_in_braces, attributes_place, texts_before, texts_if, without_braces, setext_tokens}
-use Rattle.cmark_grammar.specs.Lists.{ListBefore, tight_behind, goes_on, is_tight}
->>>>>>> theirs
+use Rattle.cmark_grammar.specs.Lists.{ListBefore, tight_behind, goes_on, is_tight, definition_mark, is_title, title_tight_behind, loose_from}
 use Rattle.cmark_grammar.specs.Tokens.{Piece, end_place, piece_if, texts_then, words_end, stretch_then, stretches, paragraph_tokens, html_then, html_tokens, html_kind_of, verbatim_line, behind_hashes, heading_columns, code_pieces, fenced_lines, lines_before}
 use Rattle.cmark_grammar.specs.BlockDocument.{Text, OwnedText, BlockList, ListItem, BlockNode, BlockDocument, Nil, Node, node, BlockKind, DefinitionList, DefinitionListTitle, DefinitionListDefinition}
 use Rattle.cmark_grammar.specs.Derivation.{task_then, leaf_then, item_then, paragraph_kind, document_of, Derives, list_kind}
@@ -217,22 +208,13 @@ module _ (text : List ℕ) (options : Options) (lookup : Lookup) where
   pub document-tight : (direct : Bool) (before : Option ListBefore) (b : Blocks) → HasTightParagraphs direct (document_of text options lookup direct before b)
   document-tight direct before NoBlocks = tt
   document-tight direct before (BlankLine line after) = document-tight direct before after
-<<<<<<< ours
   document-tight direct before (ParagraphBlock first more after) =
       let tight = title_tight_behind before after in
       title_tight (is_title after) direct tight (start_of first) (past_of first more) (paragraph_tokens text first more)
       (document_of text options lookup direct (Some (record { mark = definition_mark; tight = tight })) after) (document_of text options lookup direct None after)
       (λ e. rest_of direct tight definition_mark after (title_goes_on after e)) (paragraph_tight false text first more)
       (document-tight direct (Some (record { mark = definition_mark; tight = tight })) after) (document-tight direct None after)
-  document-tight direct before (SetextHeading level first more underline after) = (tt, paragraph_tight false text first more, document-tight direct None after)
-=======
-  document-tight direct before (ParagraphBlock first more after) = kind direct (document-tight direct None after)
-    where
-      kind : (z : Bool) → HasTightParagraphs z (document_of text options lookup z None after) → HasTightParagraphs z (Node (node (paragraph_kind z) (start_of first) (past_of first more)) (paragraph_tokens text first more) (document_of text options lookup z None after))
-      kind true h = (refl, paragraph_tight false text first more, h)
-      kind false h = (refl, paragraph_tight false text first more, h)
   document-tight direct before (SetextHeading level first more underline after) = (tt, setext_tight false text options.heading_attributes first more, document-tight direct None after)
->>>>>>> theirs
   document-tight direct before (LeafBlock leaf first more after) = leaf_tight text options lookup direct leaf first more (document_of text options lookup direct None after) (document-tight direct None after)
   document-tight direct before (ContainerBlock (Quote alert) first more inside after) = (tt, document-tight false None inside, document-tight direct None after)
   document-tight direct before (ContainerBlock (Footnote label old size) first more inside after) = (tt, document-tight false None inside, document-tight direct None after)

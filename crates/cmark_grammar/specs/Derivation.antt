@@ -14,12 +14,8 @@ use Rattle.cmark_grammar.specs.Blocks.{Blocks, Nil as NoBlocks, BlankLine, Parag
 use Rattle.cmark_grammar.specs.BlocksModel.{blocks}
 use Rattle.cmark_grammar.specs.Lists.{ListBefore, definition_mark, is_title, tight_behind, title_tight_behind, goes_on}
 use Rattle.cmark_grammar.specs.Tokens.{resolved, title_lines, paragraph_tokens, heading_tokens, heading_attributes, code_tokens, lines_before, fenced_lines, html_tokens, code_columns}
-<<<<<<< ours
 use Rattle.cmark_grammar.specs.BlockDocument.{Reference, BlockKind, Paragraph, TightParagraph, Heading, ThematicBreak, IndentedCode, FencedCode, HtmlBlock, LinkDefinition, MetadataBlock, BlockQuote, BlockList, ListItem, TaskMarker, FootnoteDefinition, DefinitionList, DefinitionListTitle, DefinitionListDefinition, BlockNode, BlockDocument, Nil, Node, node, Table}
-=======
-use Rattle.cmark_grammar.specs.BlockDocument.{Reference, BlockKind, Paragraph, TightParagraph, Heading, ThematicBreak, IndentedCode, FencedCode, HtmlBlock, LinkDefinition, MetadataBlock, BlockQuote, BlockList, ListItem, TaskMarker, FootnoteDefinition, BlockNode, BlockDocument, Nil, Node, node, Table}
 use Rattle.cmark_grammar.specs.SetextAttributes.{content_of, setext_attributes, setext_tokens}
->>>>>>> theirs
 use Rattle.cmark_grammar.specs.TableTokens.{table_tokens}
 use Rattle.cmark_grammar.specs.TaskItems.{behind_box}
 

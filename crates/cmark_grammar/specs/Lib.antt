@@ -71,6 +71,7 @@ pub mod SpanEntries
 pub mod Spans
 pub mod SpecialBytes
 pub mod TableRows
+pub mod TableShape
 pub mod TableTokens
 pub mod Tables
 pub mod Tag
