@@ -21,7 +21,7 @@ use Rattle.cmark_grammar.specs.Metadata.{ends_metadata}
 use Rattle.cmark_grammar.specs.Blocks.{place_in}
 use Rattle.cmark_grammar.specs.Places.{Place, Apart, BehindTitle}
 use Rattle.cmark_grammar.specs.TaskItems.{behind_box}
-use Rattle.cmark_block_model.specs.Drawing.{Drawing, drawn, opened, closed_as, closed_at, retitled, enclosed, released}
+use Rattle.cmark_block_model.specs.Drawing.{OpenNode, Drawing, drawn, opened, closed_as, closed_at, retitled, enclosed, released}
 use Rattle.cmark_block_model.specs.CodeLines.{code_line, rest_of, texts_of}
 use Rattle.cmark_block_model.specs.OpenBlocks.{OpenList, Title, Siblings, no_siblings, OpenContainer, OpenLeaf, Closed, BehindTag, InParagraph, InDefinition, InIndented, InFenced, InHtml, takes_lazy, Pass, at_start, InMetadata, InTable}
 
@@ -229,12 +229,16 @@ module _ (text : List ℕ) (options : Options) (lookup : Lookup) where
       if begin_of r == last.past then record p { leaf = InParagraph (kept_lines options.heading_attributes before last) from r }
       else let q = with_drawn (stretch_then text from last.past Nil) p in record q { leaf = InParagraph (kept_lines options.heading_attributes before last) (begin_of r) r }
 
+  -- the texts inside the innermost open node without the attributes at the end of this content, where attributes are read
+  abbrev pub unbraced : (content : List Column) → (here : BlockDocument) → List OpenNode → Drawing
+  unbraced content here [] = record { here = here; up = [] }
+  unbraced content here (v ∷ up) = record { here = without_braces text options.heading_attributes content here; up = v ∷ up }
+
   -- a paragraph that an underline makes a heading: what was drawn of it loses the attributes at its end
   abbrev pub heading_closed : (level : ℕ) → (content : List Column) → (end : ℕ) → Drawing → Drawing
-  heading_closed level content end d =
-      closed_as (document.Heading level (setext_attributes options.heading_attributes content)) end (record d { here = without_braces text options.heading_attributes content d.here })
+  heading_closed level content end d = closed_as (document.Heading level (setext_attributes options.heading_attributes content)) end (unbraced content d.here d.up)
 
-  -- it is no title
+  -- and is no title
   abbrev pub heading_made : (level : ℕ) → (before : List Row) → (from : ℕ) → (last : Row) → Row → Pass → Pass
   heading_made level before from last r p = let q = with_drawn (last_stretch from last) p in record q {
     drawing = title_released q.inner.title (heading_closed level (content_of (before ++ last ∷ [])) r.past q.drawing);

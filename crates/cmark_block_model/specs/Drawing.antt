@@ -1,6 +1,7 @@
 -- A document while it is drawn from its beginning: the siblings at hand, below the nodes that are open.
 use Rattle.std.specs.Prelude.{ℕ, List, [], ◌∷◌}
 use Rattle.cmark_grammar.specs.BlockDocument.{BlockKind, BlockNode, BlockDocument, Nil, Node, join, node}
+use Rattle.cmark_grammar.specs.SetextAttributes.{texts_before}
 
 -- an open node, with the siblings before it
 pub record OpenNode : Type 0 where
@@ -82,3 +83,11 @@ release_as kind end here (v ∷ up) = record { here = join v.left (Node (node ki
 
 abbrev pub released : BlockKind → (end : ℕ) → Drawing → Drawing
 released kind end d = release_as kind end d.here d.up
+
+-- the texts inside the innermost open node up to this place
+abbrev pub cut_at : List ℕ → (place : ℕ) → (here : BlockDocument) → List OpenNode → Drawing
+cut_at text place here [] = record { here = here; up = [] }
+cut_at text place here (v ∷ up) = record { here = texts_before text place here; up = v ∷ up }
+
+abbrev pub texts_cut : List ℕ → (place : ℕ) → Drawing → Drawing
+texts_cut text place d = cut_at text place d.here d.up

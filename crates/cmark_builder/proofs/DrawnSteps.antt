@@ -204,7 +204,7 @@ last-shown text t here d e = elim (forest-last here) [
   | inl f ↦ elim (document-last d) [
     | inl l ↦ (
         let same = one_inj (shown_forest text t f.0) (nodes_of (before_last d)) (shown_item text t f.1) (Some l.0) (shown_forest text t f.2) (nodes_of l.1)
-            (sym (shown_forest-join text t f.0 (one f.1 f.2)) ∙ ap (shown_forest text t) (sym f.3) ∙ e ∙ ap nodes_of l.3 ∙ nodes_of-join (before_last d) (Node l.0 l.1 Nil)) in
+        (sym (shown_forest-join text t f.0 (one f.1 f.2)) ∙ ap (shown_forest text t) (sym f.3) ∙ e ∙ ap nodes_of l.3 ∙ nodes_of-join (before_last d) (Node l.0 l.1 Nil)) in
         inl (record { before = f.0; item = f.1; inside = f.2; here_is = f.3; node = l.0; inner = l.1; last_is = l.2; before_is = same.0; item_is = same.1; inside_is = same.2 }))
     | inr nil ↦ absurd (none_last (shown_forest text t f.0) (shown_item text t f.1) (shown_forest text t f.2) (sym (ap nodes_of nil) ∙ sym e ∙ ap (shown_forest text t) f.3 ∙ shown_forest-join text t f.0 (one f.1 f.2)))
   ]
@@ -261,7 +261,7 @@ module _ (text : List ℕ) (old new : Builder) where
   -- the last sibling became something else, in a new node
   pub draws-enclosed : (around body : ItemBody) (kind_around kind : BlockKind) (d : Drawing) →
       ((here : Forest Item) (item : Item) (inside : Forest Item) (up : List (Opened Item)) → Is old.tree (join_forests here (one item inside)) up
-          → Is new.tree (one (item_at item.start item.end body) inside) (record { left = here; item = item_at item.start item.start around } ∷ up)) →
+      → Is new.tree (one (item_at item.start item.end body) inside) (record { left = here; item = item_at item.start item.start around } ∷ up)) →
       ((up : List (Opened Item)) → Is old.tree forest.Nil up → Is new.tree forest.Nil (record { left = forest.Nil; item = item_at 0 0 around } ∷ up)) →
       new.allocations ≡ old.allocations → kind_of (tables old.allocations).texts (shape around) ≡ Some kind_around → kind_of (tables old.allocations).texts (shape body) ≡ Some kind →
       Draws text old d → Draws text new (enclosed kind_around kind d)
@@ -326,11 +326,11 @@ module _ (text : List ℕ) (old new : Builder) where
           let element : shown_item text t item ≡ Some (node kind w.node.start end) = element-item text t item (node kind w.node.start end) (ap (option_map (ranged v.item.start end)) shows ∙ ap (λ s. Some (node kind s end)) start) in
           let n = node kind w.node.start end in
           let around : (f : Forest Item) (g : BlockDocument) → shown_forest text t f ≡ nodes_of g → shown_forest text t (join_forests v.left (one item f)) ≡ nodes_of (join w.left (Node n g Nil)) = (λ f g e.
-            shown_forest-join text t v.left (one item f)
-            ∙ ap (λ k. join_forests k (shown_forest text t (one item f))) left
-            ∙ ap (λ x. join_forests (nodes_of w.left) (one x (shown_forest text t f))) element
-            ∙ ap (λ k. join_forests (nodes_of w.left) (one (Some n) k)) e
-            ∙ sym (nodes_of-join w.left (Node n g Nil))) in
+          shown_forest-join text t v.left (one item f)
+          ∙ ap (λ k. join_forests k (shown_forest text t (one item f))) left
+          ∙ ap (λ x. join_forests (nodes_of w.left) (one x (shown_forest text t f))) element
+          ∙ ap (λ k. join_forests (nodes_of w.left) (one (Some n) k)) e
+          ∙ sym (nodes_of-join w.left (Node n g Nil))) in
           elim (last-shown text t draws.here d.here draws.here_is) [
             | inl l ↦ record {
               here = join_forests (closed (ended end body v) l.before) (one l.item l.inside);

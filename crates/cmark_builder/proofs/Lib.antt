@@ -1,2 +1,3 @@
 pub mod BuilderSteps
+pub mod CutDrawings
 pub mod DrawnSteps

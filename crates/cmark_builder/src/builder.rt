@@ -1,8 +1,10 @@
 //! The tree and the tables of a document, of which the end grows.
 
-ghost use Rattle.std.specs.Prelude.{◌≡◌, IfOk, OnOk, List, [], ◌∷◌};
+ghost use Rattle.std.specs.Prelude.{◌≡◌, IfOk, OnOk, List, [], ◌∷◌, None};
 ghost use Rattle.cmark_tree.specs.Forest.{Forest, Nil, join, one};
 ghost use Rattle.cmark_tree.specs.Building.{Opened, Is, IsPlaced, closed};
+ghost use Rattle.cmark_tree.specs.Cut.{ending_before, reaching_start};
+ghost use Rattle.cmark_items.specs.Spans.{spans};
 ghost use Rattle.cmark_items.specs.Tables.{tables, with_text};
 ghost use Rattle.cmark_builder.specs.Ended.{ended, item_at, IsEmpty};
 
@@ -146,6 +148,20 @@ impl<'a> Builder<'a> {
             item.body = body;
             self.tree.release();
         }
+    }
+
+    /// Cuts off the children of the innermost open node from the first that does not end before this byte offset of the text on, and
+    /// answers where that one begins; none, where each ends before. It takes time in proportion to how many children there are. Where
+    /// no node is open, nothing changes, and the answer is none.
+    pub fn cut(&mut self, at: usize) -> Option<usize>
+        requires { IsPlaced self.old.tree }
+        ensures placed { IsPlaced self.new.tree }
+        ensures kept { (here : Forest Item) (v : Opened Item) (up : List (Opened Item)) → Is self.old.tree here (v ∷ up) → Is self.new.tree (ending_before spans at here) (v ∷ up) }
+        ensures start { (here : Forest Item) (v : Opened Item) (up : List (Opened Item)) → Is self.old.tree here (v ∷ up) → result ≡ reaching_start spans at here }
+        ensures none { (here : Forest Item) → Is self.old.tree here [] → (self.new.tree ≡ self.old.tree) × (result ≡ None) }
+        ensures tables { self.new.allocations ≡ self.old.allocations }
+    {
+        self.tree.cut_siblings(at)
     }
 
     /// The tree and its tables, as they are. What is still open stays so.

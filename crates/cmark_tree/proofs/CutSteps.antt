@@ -91,3 +91,6 @@ opened-some (l ∷ levels) i e = (_, _, refl)
 
 pub parent-open : {T : Type 0} (t : Tree T) (here : Forest T) (open_ones : List (Opened T)) (i : TreeIndex) (is : Is t here open_ones) → parent_of is.z.up ≡ Some i → (v : Opened T) × (up : List (Opened T)) × Is t here (v ∷ up)
 parent-open t here open_ones i is e = let o = opened-some is.z.up i e in (o.0, o.1, subst (Is t here) (sym is.up_is ∙ o.2) is)
+
+pub none-open : {T : Type 0} (t : Tree T) (here : Forest T) (i : TreeIndex) (is : Is t here []) → parent_of is.z.up ≡ Some i → ⊥
+none-open t here i is e = let o = opened-some is.z.up i e in (let q : [] ≡ o.0 ∷ o.1 = sym is.up_is ∙ o.2 in cc)

@@ -1,6 +1,6 @@
 //! Siblings cut off where their text ends.
 
-ghost use Rattle.std.specs.Prelude.{◌≡◌, ℕ, ◌+◌, ◌<◌, ◌≤◌, true, List, ◌∷◌, Some, None, if◌then◌else◌};
+ghost use Rattle.std.specs.Prelude.{◌≡◌, ℕ, ◌+◌, ◌<◌, ◌≤◌, true, List, [], ◌∷◌, Some, None, if◌then◌else◌};
 ghost use Rattle.cmark_tree.specs.Forest.{Forest, join};
 ghost use Rattle.cmark_tree.specs.Arena.{Entry, Placed, Stands, IsOnce, IsForest};
 ghost use Rattle.cmark_tree.specs.Arena.{first as first_of};
@@ -134,6 +134,7 @@ impl<T: TreeSpan> Tree<T> {
         requires { IsPlaced self.old }
         ensures kept { (here : Forest T) (v : Opened T) (up : List (Opened T)) → Is self.old here (v ∷ up) → Is self.new (ending_before T.spans end here) (v ∷ up) }
         ensures start { (here : Forest T) (v : Opened T) (up : List (Opened T)) → Is self.old here (v ∷ up) → result ≡ reaching_start T.spans end here }
+        ensures unopened { (here : Forest T) → Is self.old here [] → (self.new ≡ self.old) × (result ≡ None) }
         ensures placed { IsPlaced self.new }
     {
         let parent = self.peek_up()?;

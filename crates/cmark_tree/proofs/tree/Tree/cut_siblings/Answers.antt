@@ -5,7 +5,7 @@ use Rattle.cmark_tree.specs.Cut.{ending_before}
 use Rattle.cmark_tree.specs.Nodes.{node_at}
 use Rattle.cmark_tree.proofs.Steps.{parent_number}
 use Rattle.cmark_tree.proofs.Cutting.{children}
-use Rattle.cmark_tree.proofs.CutSteps.{cut-is, cut-start, parent-open, rest-stands, rest-number, rest-start}
+use Rattle.cmark_tree.proofs.CutSteps.{cut-is, cut-start, parent-open, none-open, rest-stands, rest-number, rest-start}
 use Rattle.cmark_tree.proofs.tree.Tree.cut_siblings.Goals as goal
 
 pub child-requires : goal.child-requires
@@ -52,3 +52,6 @@ returns-clause-placed g c =
     let is = c.requires.2 in
     let o = parent-open c.args.self.now c.requires.0 c.requires.1 c.in_ok-parent.parent is (sym (c.in_ok-parent.ensures is.z is.holds)) in
     (ending_before g.T.TreeSpan.spans c.args.end c.requires.0, o.0 ∷ o.1, returns-clause-kept g c c.requires.0 o.0 o.1 o.2)
+
+pub returns-clause-unopened : goal.returns-clause-unopened
+returns-clause-unopened g c here is = absurd (none-open c.args.self.now here c.in_ok-parent.parent is (sym (c.in_ok-parent.ensures is.z is.holds)))
