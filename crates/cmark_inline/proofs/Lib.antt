@@ -22,3 +22,4 @@ pub mod SpanReads
 pub mod FootnoteSteps
 pub mod FormulaSteps
 pub mod WikiSteps
+pub mod PlainSteps

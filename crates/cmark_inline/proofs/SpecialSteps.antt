@@ -26,7 +26,7 @@ Kinds o b =
     ⊎ (((o.math ≡ true) × (is_one_of (codes "${}") b ≡ true))
     ⊎ ((o.smart_punctuation ≡ true) × (is_one_of (codes ".-\"'") b ≡ true))))))
 
-special-kinds : (o : Options) (b : ℕ) → is_special o b ≡ true → Kinds o b
+pub special-kinds : (o : Options) (b : ℕ) → is_special o b ≡ true → Kinds o b
 special-kinds o b e = first (or_cases (is_always_special b) _ e)
   where
     last : (x : Bool) → (x ≡ true) → (o.smart_punctuation && is_one_of (codes ".-\"'") b) ≡ x → Kinds o b
@@ -93,11 +93,11 @@ abbrev pub has_call : ℕ → Bool
 has_call b = is_one_of (codes "\n\r\\&`<![].-\"'$") b
 
 -- a test that all signs pass
-abbrev AllPass : (ℕ → Bool) → List ℕ → Type 0
+abbrev pub AllPass : (ℕ → Bool) → List ℕ → Type 0
 AllPass f [] = Unit {0}
 AllPass f (x ∷ xs) = (f x ≡ true) × AllPass f xs
 
-sign-passes : (f : ℕ → Bool) (b : ℕ) (signs : List ℕ) → AllPass f signs → is_one_of signs b ≡ true → f b ≡ true
+pub sign-passes : (f : ℕ → Bool) (b : ℕ) (signs : List ℕ) → AllPass f signs → is_one_of signs b ≡ true → f b ≡ true
 sign-passes f b [] all e = absurd (true≢false (sym e))
 sign-passes f b (x ∷ xs) all e = go (sign-passes f b xs all.1) (or_cases (x == b) (is_one_of xs b) e)
   where

@@ -63,7 +63,7 @@ module _ (o : Options) (l : Lookup) (cell : Bool) (text : List ℕ) where
   code-begins at lt is = begins-with at 96 lt is ∙ ap (λ x. code_or r (whole cell text) at (backticks x) (code_in x)) (sym (front at 96 lt is))
 
   -- ## Line breaks
-  break-begins : (at : ℕ) → at < length text → IsBreakByte (get_or text at 0) → begins_at o l cell text at ≡ break_or r (whole cell text) at (blank_break_in (drop at text)) (item_at Plain at (suc at))
+  pub break-begins : (at : ℕ) → at < length text → IsBreakByte (get_or text at 0) → begins_at o l cell text at ≡ break_or r (whole cell text) at (blank_break_in (drop at text)) (item_at Plain at (suc at))
   break-begins at lt (inl is) = begins-with at 32 lt is ∙ ap (λ x. break_or r (whole cell text) at (blank_break_in x) (item_at Plain at (suc at))) (sym (front at 32 lt is))
   break-begins at lt (inr (inl is)) = begins-with at 9 lt is ∙ ap (λ x. break_or r (whole cell text) at (blank_break_in x) (item_at Plain at (suc at))) (sym (front at 9 lt is))
   break-begins at lt (inr (inr (inl is))) = begins-with at 10 lt is ∙ ap (λ x. break_or r (whole cell text) at (blank_break_in x) (item_at Plain at (suc at))) (sym (front at 10 lt is))

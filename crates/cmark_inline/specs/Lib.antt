@@ -11,3 +11,4 @@ pub mod SpecialReads
 pub mod Stands
 pub mod Tokens
 pub mod Wikilinks
+pub mod PlainStretches

@@ -1,9 +1,12 @@
 //! The bytes that may begin a span.
 
-ghost use Rattle.std.specs.Prelude.{◌≡◌, ◌+◌, ◌≤◌, ◌<◌, ℕ, List, length, drop, slice_index};
+ghost use Rattle.std.specs.Prelude.{◌≡◌, ◌+◌, ◌≤◌, ◌<◌, ℕ, Bool, List, length, drop, slice_index};
 ghost use Rattle.std.specs.List.{position_or_len};
 ghost use Rattle.cmark_grammar.specs.SpecialBytes.{is_special};
 ghost use Rattle.cmark_search.specs.Sets.{in_rows};
+ghost use Rattle.cmark_grammar.specs.Answers.{Lookup};
+ghost use Rattle.cmark_grammar.specs.Options.{Options as Extensions};
+ghost use Rattle.cmark_inline.specs.PlainStretches.{IsSetOf, StandUpTo};
 ghost use Rattle.cmark_text.specs.Shown.{shown_options};
 
 use cmark_search::AsciiSet;
@@ -26,7 +29,7 @@ impl Model for SpecialBytes {
 
 /// The special bytes for these options.
 pub fn special_bytes(options: Options) -> SpecialBytes
-    ensures { (byte : ℕ) → byte < 128 → in_rows result byte ≡ is_special (shown_options options) byte }
+    ensures { IsSetOf (shown_options options) result }
 {
     SpecialBytes {
         set: AsciiSet::new(&cmark_finds::special_bytes(options)),
@@ -34,11 +37,13 @@ pub fn special_bytes(options: Options) -> SpecialBytes
 }
 
 impl SpecialBytes {
-    /// The place of the next such byte from a place on; the length, if there is none.
+    /// The place of the next such byte from a place on; the length, if there is none. The bytes before it stand for themselves, but for blanks
+    /// with which a line break begins.
     #[inline(always)]
     pub fn next(&self, bytes: &[u8], from: usize) -> usize
         requires { from ≤ length bytes.now }
         ensures value { result ≡ from + position_or_len (in_rows self.now) (drop from bytes.now) }
+        ensures plain { (options : Extensions) (lookup : Lookup) (is_cell : Bool) → IsSetOf options self.now → StandUpTo options lookup is_cell bytes.now from result }
         ensures behind { from ≤ result }
         ensures within { result ≤ length bytes.now }
         ensures ascii { result < length bytes.now → slice_index bytes.now result < 128 }

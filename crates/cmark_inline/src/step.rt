@@ -80,7 +80,8 @@ impl<'a> InlineState<'a> {
         Ok(())
     }
 
-    // Reads on to behind the next special byte, and what begins there.
+    // Reads on to behind the next special byte, and what begins there; where none is left, to the end, and the bytes up to there stay
+    // pending.
     fn step<E: EntityLookup, F: BrokenLinkCallback<'a>>(
         &mut self,
         leaf: &LeafText<'a>,
@@ -107,6 +108,7 @@ impl<'a> InlineState<'a> {
         ensures spent { self.old.expansion ≡ 0 → (callback.new ≡ callback.old) × (self.new.expansion ≡ 0) }
         ensures moves { IfOk result (Moves text.now cursor.at self.new) }
         ensures footnotes { SameFootnotes footnotes.old footnotes.new }
+        ensures rest { cursor.at + position_or_len (in_rows reader.now.special.now) (drop cursor.at text.now) ≡ length text.now → IfOk result (λ next. (next.pending ≡ cursor.pending) × (next.at ≡ length text.now) × (self.new ≡ self.old)) }
         ensures token { (at : ℕ) → at ≡ cursor.at + position_or_len (in_rows reader.now.special.now) (drop cursor.at text.now) → at < length text.now → is_special (shown_options reader.now.options) (slice_index text.now at) ≡ true → (slice_index text.now at == 93) ≡ false → IfOk result (ReadsSpecial (shown_options reader.now.options) (E.replacement reader.now.entities.now) leaf.now (record { pending = cursor.pending; at = at }) self.old self.new) }
     {
         let bytes = text.as_bytes();
