@@ -40,6 +40,13 @@ shows-at (b ∷ cs) (m ∷ ms) (suc k) c s e =
     let r = shows-at cs ms k c s.1 e in
     record { m = r.m; shows = r.shows; behind = r.behind; before = ap (λ l. m ∷ l) r.before }
 
+-- the container of the model at a place is shown by the one that stands there
+pub shows-there : (cs : List OpenContainer) (ms : List model.OpenContainer) (k : ℕ) (c : OpenContainer) (last : model.OpenContainer) (others : List model.OpenContainer) → ShowsContainers cs ms → slice_get cs k ≡ Some c → drop k ms ≡ last ∷ others → Shows c.container last.container
+shows-there cs ms k c last others s e split =
+    let at = shows-at cs ms k c s e in
+    let same : at.m ∷ drop (suc k) ms ≡ last ∷ others = sym at.behind ∙ split in
+    subst (λ (x : model.OpenContainer). Shows c.container x.container) (let q : at.m ≡ last = cc in q) at.shows.0
+
 pub shows-all : (cs : List OpenContainer) (ms : List model.OpenContainer) (k : ℕ) → ShowsContainers cs ms → length cs ≤ k → (take k ms ≡ ms) × (drop k ms ≡ [])
 shows-all [] [] zero s le = (refl, refl)
 shows-all [] [] (suc k) s le = (refl, refl)

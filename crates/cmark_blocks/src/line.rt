@@ -111,6 +111,7 @@ impl<'a, E: EntityLookup> Pass<'a, E> {
         ensures width { DefinesAs E.replacement self.now rest.entry (option_map width_of result) }
         ensures inside { IfSome result (EntersDefinition (row_of rest.entry)) }
         ensures placed { (text : List ℕ) → IsIn text rest.entry → IfSome result (λ begun. IsIn text begun.1) }
+        ensures shorter { IfSome result (λ begun. length (row_of begun.1).columns < length (row_of rest.entry).columns) }
     {
         if !reads_definition_lists(self.options) || !self.inner.may_define() {
             return None;

@@ -126,7 +126,7 @@ impl Siblings {
     pub(crate) fn behind_title(self, title: Title, start: usize) -> Siblings
         ensures { shown_siblings result ≡ with_title (option_map shown_list title.list) title.parted start (shown_siblings self) }
     {
-        let (list, parted) = match title.list {
+        let (open, parted) = match title.list {
             Some(list) => (list, title.parted),
             None => {
                 let list = OpenList {
@@ -142,8 +142,8 @@ impl Siblings {
             blank: false,
             parted,
             list: Some(OpenList {
-                loose: list.loose || self.blank,
-                ..list
+                loose: open.loose || self.blank,
+                ..open
             }),
             title: None,
             ..self

@@ -122,11 +122,11 @@ impl<'a> Builder<'a> {
         let Some(last) = self.tree.cur() else {
             return self.open(0, around);
         };
-        let start = self.tree.item(last).start;
+        let begin = self.tree.item(last).start;
         self.turn_last(body);
         self.tree.enclose(Item {
-            start,
-            end: start,
+            start: begin,
+            end: begin,
             body: around,
         })
     }
@@ -143,9 +143,9 @@ impl<'a> Builder<'a> {
         ensures tables { self.new.allocations ≡ self.old.allocations }
     {
         if let Some(parent) = self.tree.peek_up() {
-            let item = self.tree.item_mut(parent);
-            item.end = end;
-            item.body = body;
+            let list = self.tree.item_mut(parent);
+            list.end = end;
+            list.body = body;
             self.tree.release();
         }
     }

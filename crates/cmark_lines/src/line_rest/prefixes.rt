@@ -102,8 +102,8 @@ impl<'a> LineRest<'a> {
         ensures inside { IfSome result (EntersDefinition (row_of self.entry)) }
     {
         let mut front = self.front;
-        let indent = front.scan_space_upto(3);
-        let width = front.scan_definition_list_definition_marker_with_indent(indent)?;
+        let columns = front.scan_space_upto(3);
+        let width = front.scan_definition_list_definition_marker_with_indent(columns)?;
         Some((width, self.with_front(front)))
     }
 

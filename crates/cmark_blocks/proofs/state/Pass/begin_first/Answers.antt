@@ -11,6 +11,8 @@ use Rattle.cmark_text.specs.Shown.{shown_metadata_block_kind, shown_options}
 use Rattle.cmark_block_model.specs.BlockPass.{ahead_in, begin_in, container_begun, inside_begun, is_item, definition_begun_in}
 use Rattle.cmark_lines.specs.Rests.{row_of}
 use Rattle.cmark_lines.proofs.RestSteps.{whole}
+use Rattle.cmark_leaves.specs.Told.{AreTold}
+use Rattle.cmark_leaves.proofs.ToldSteps.{without-told}
 use Rattle.cmark_blocks.specs.Ahead.{lines_at}
 use Rattle.cmark_blocks.specs.Entered.{OpensAs}
 use Rattle.cmark_blocks.specs.Runs.{Runs}
@@ -38,10 +40,11 @@ returns-in-Nests-clause-line g c =
     (c.what_opens-opening.ensures.placed text c.requires.line.placed) c.requires.line.told
 
 pub returns-in-Some-clause-line : goal.returns-in-Some-clause-line
-returns-in-Some-clause-line g c = ?
-
-pub returns-in-Some-clause-shorter : goal.returns-in-Some-clause-shorter
-returns-in-Some-clause-shorter g c = ?
+returns-in-Some-clause-line g c =
+    let text = c.args.self.now.text.now in record {
+      placed = c.in-Some.ensures.placed text c.requires.line.placed;
+      told = subst (λ (s : Row). AreTold text s.columns) (sym c.in-Some.ensures.inside) (without-told text c.in-Some.width (row_of c.args.rest) c.requires.line.told);
+    }
 
 pub returns-in-Some-clause-runs : goal.returns-in-Some-clause-runs
 returns-in-Some-clause-runs g c text options lookup columns m le runs =

@@ -8,22 +8,22 @@ use Rattle.cmark_tree.proofs.Items.{Is-item_parent}
 use Rattle.cmark_builder.proofs.BuilderSteps.{at-place, split-last, parent-node, parent-open, parent-read}
 use Rattle.cmark_builder.proofs.builder.Builder.release_last.Goals as goal
 
-pub item_mut-item-requires : goal.item_mut-item-requires
-item_mut-item-requires c = parent-node c.args.self.now.tree c.in-Some.parent c.requires c.peek_up.result c.peek_up.ensures c.in-Some.is
+pub item_mut-list-requires : goal.item_mut-list-requires
+item_mut-list-requires c = parent-node c.args.self.now.tree c.in-Some.parent c.requires c.peek_up.result c.peek_up.ensures c.in-Some.is
 
 pub release-requires : goal.release-requires
 release-requires c =
     let o = parent-open c.args.self.now.tree c.in-Some.parent c.requires c.peek_up.result c.peek_up.ensures c.in-Some.is in
     let parent : (z : Zip Item) → Holds c.args.self.now.tree z → Some c.in-Some.parent ≡ parent_of z.up = λ z h. sym c.in-Some.is ∙ c.peek_up.ensures z h in
-    at-place _ _ _ (Is-item_parent c.args.self.now.tree o.0 o.1 o.2 c.in-Some.parent (record c.item_mut-item.result.now { end = c.args.end; body = c.args.body }) parent o.3)
+    at-place _ _ _ (Is-item_parent c.args.self.now.tree o.0 o.1 o.2 c.in-Some.parent (record c.item_mut-list.result.now { end = c.args.end; body = c.args.body }) parent o.3)
 
 pub returns-in-Some-clause-released : goal.returns-in-Some-clause-released
 returns-in-Some-clause-released c here item inside v up is =
     let t = c.args.self.now.tree in
     let parent : (z : Zip Item) → Holds t z → Some c.in-Some.parent ≡ parent_of z.up = λ z h. sym c.in-Some.is ∙ c.peek_up.ensures z h in
     let read = parent-read t c.in-Some.parent (join here (one item inside)) v up parent is in
-    let same : c.item_mut-item.result.now ≡ v.item = c.item_mut-item.ensures.value read.0 read.1 ∙ read.2 in
-    let w = record c.item_mut-item.result.now { end = c.args.end; body = c.args.body } in
+    let same : c.item_mut-list.result.now ≡ v.item = c.item_mut-list.ensures.value read.0 read.1 ∙ read.2 in
+    let w = record c.item_mut-list.result.now { end = c.args.end; body = c.args.body } in
     subst {A = Item} (λ i. Is c.release.new.self (join (closed (record v { item = record i { end = c.args.end; body = c.args.body } }) here) (one item inside)) up) same
     (c.release.ensures.released here item inside (record v { item = w }) up (Is-item_parent t (join here (one item inside)) v up c.in-Some.parent w parent is))
 
@@ -32,8 +32,8 @@ returns-in-Some-clause-childless c v up is =
     let t = c.args.self.now.tree in
     let parent : (z : Zip Item) → Holds t z → Some c.in-Some.parent ≡ parent_of z.up = λ z h. sym c.in-Some.is ∙ c.peek_up.ensures z h in
     let read = parent-read t c.in-Some.parent Nil v up parent is in
-    let same : c.item_mut-item.result.now ≡ v.item = c.item_mut-item.ensures.value read.0 read.1 ∙ read.2 in
-    let w = record c.item_mut-item.result.now { end = c.args.end; body = c.args.body } in
+    let same : c.item_mut-list.result.now ≡ v.item = c.item_mut-list.ensures.value read.0 read.1 ∙ read.2 in
+    let w = record c.item_mut-list.result.now { end = c.args.end; body = c.args.body } in
     subst {A = Item} (λ i. Is c.release.new.self (closed (record v { item = record i { end = c.args.end; body = c.args.body } }) Nil) up) same
     (c.release.ensures.none (record v { item = w }) up (Is-item_parent t Nil v up c.in-Some.parent w parent is))
 

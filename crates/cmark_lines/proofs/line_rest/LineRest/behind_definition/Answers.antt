@@ -10,7 +10,7 @@ pub returns-in_err-width-clause-width : goal.returns-in_err-width-clause-width
 unfolding row_of
 returns-in_err-width-clause-width c =
     let rest = c.args.self in
-    let step = c.scan_space_upto-indent in
+    let step = c.scan_space_upto-columns in
     ap (option_map width_of) c.from_residual.ensures ∙ c.in_err-width.ensures.found rest.start rest.past
     ∙ definition-found (row_of rest) (row_from rest.start rest.past step.new.self) step.result (step.ensures.count rest.start) (step.ensures.rest rest.start rest.past)
 
@@ -18,14 +18,14 @@ pub with_front-requires : goal.with_front-requires
 unfolding row_of
 with_front-requires c =
     let rest = c.args.self in
-    let step = c.scan_space_upto-indent in
+    let step = c.scan_space_upto-columns in
     ap (λ r. r.stop) (c.scan_definition_list_definition_marker_with_indent.ensures.rest rest.start rest.past) ∙ stop-behind (row_from rest.start rest.past step.new.self) ∙ ap (λ r. r.stop) (step.ensures.rest rest.start rest.past)
 
 pub returns-clause-width : goal.returns-clause-width
 unfolding row_of
 returns-clause-width c =
     let rest = c.args.self in
-    let step = c.scan_space_upto-indent in
+    let step = c.scan_space_upto-columns in
     c.in_ok-width.ensures.found rest.start rest.past
     ∙ definition-found (row_of rest) (row_from rest.start rest.past step.new.self) step.result (step.ensures.count rest.start) (step.ensures.rest rest.start rest.past)
 
@@ -33,6 +33,6 @@ pub returns-clause-inside : goal.returns-clause-inside
 unfolding row_of
 returns-clause-inside c =
     let rest = c.args.self in
-    let step = c.scan_space_upto-indent in
+    let step = c.scan_space_upto-columns in
     c.with_front.ensures ∙ c.scan_definition_list_definition_marker_with_indent.ensures.rest rest.start rest.past
     ∙ definition-left (row_of rest) (row_from rest.start rest.past step.new.self) step.result c.in_ok-width.width (step.ensures.count rest.start) (step.ensures.rest rest.start rest.past) (c.in_ok-width.ensures.found rest.start rest.past)
