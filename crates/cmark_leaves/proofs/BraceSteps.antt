@@ -109,7 +109,7 @@ inside-bytes (c ∷ cs) t = go (c.part == 0) refl (closes-bytes cs t.2) (inside-
         by false f = ih
     go false e k ih = ap (λ b. bytes_of (if (b == 123) && closes (λ x. x.byte) cs then without_last cs else left)) (t.0 e) ∙ ih ∙ sym (whole false e)
 
-before-cut : (cs : List Column) → Cut cs (before_braces (λ c. c.byte) cs)
+pub before-cut : (cs : List Column) → Cut cs (before_braces (λ c. c.byte) cs)
 before-cut [] = record { behind = []; is = refl }
 before-cut (c ∷ cs) = go (is_braced (λ x. x.byte) (c ∷ cs)) (before-cut cs)
   where

@@ -1,9 +1,12 @@
 pub mod BraceSteps
 pub mod CodeSteps
 pub mod ColumnCuts
+pub mod ContentPlaces
+pub mod ContentSteps
 pub mod DrawSteps
 pub mod EndSteps
 pub mod HeadingSteps
+pub mod ReadSteps
 pub mod TableSteps
 pub mod ToldSteps
 pub mod WordSteps

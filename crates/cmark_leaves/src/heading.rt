@@ -51,7 +51,7 @@ fn without_closing(bytes: &[u8]) -> &[u8]
 }
 
 /// How many bytes stand before braces at the end that hold no braces; all, where there are none.
-fn count_before_braces(bytes: &[u8]) -> usize
+pub(crate) fn count_before_braces(bytes: &[u8]) -> usize
     ensures value { result ≡ length (before_braces (λ b. b) bytes.now) }
     ensures within { result ≤ length bytes.now }
 {

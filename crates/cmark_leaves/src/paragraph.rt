@@ -6,7 +6,7 @@ ghost use Rattle.cmark_tree.specs.Building.{IsPlaced};
 ghost use Rattle.cmark_items.specs.Tables.{tables, defined};
 ghost use Rattle.cmark_grammar.specs.BlockDocument.{Nil};
 ghost use Rattle.cmark_grammar.specs.Tokens.{words_end, stretch_then};
-ghost use Rattle.cmark_block_model.specs.Drawing.{Drawing, drawn};
+ghost use Rattle.cmark_block_model.specs.Drawing.{Drawing, drawn, texts_cut};
 ghost use Rattle.cmark_builder.specs.Drawn.{Draws};
 ghost use Rattle.cmark_lines.specs.Rests.{row_of};
 
@@ -55,4 +55,19 @@ pub fn draw_lines(
     ensures definitions { defined (tables builder.new.allocations) ≡ defined (tables builder.old.allocations) }
 {
     draw_words(builder, from, last.past())
+}
+
+/// The texts inside the open node, as far as they stand before this byte offset, which is the end of the last one that is left. It takes
+/// time in proportion to how many there are. Where memory is refused, that last one may be missing.
+pub fn cut_lines(builder: &mut Builder<'_>, at: usize) -> Result<(), AllocError>
+    requires { IsPlaced builder.old.tree }
+    ensures placed { IsPlaced builder.new.tree }
+    ensures drawn { OnOk result ((text : List ℕ) (d : Drawing) → Draws text builder.old d
+        → Draws text builder.new (texts_cut text at d)) }
+    ensures definitions { defined (tables builder.new.allocations) ≡ defined (tables builder.old.allocations) }
+{
+    match builder.cut(at) {
+        Some(start) => draw_words(builder, start, at),
+        None => Ok(()),
+    }
 }

@@ -1,0 +1,161 @@
+-- Where the attributes of a setext heading begin in the text, by how many bytes of its content stand before them.
+use Rattle.std.proofs.Common.{◌≡◌, ◌⊎◌, inl, inr, ℕ, zero, suc, ◌+◌, ◌-◌, ◌<◌, ◌≤◌, Bool, true, false, ◌==◌, List, [], ◌∷◌, ◌++◌, append_assoc, append-nil, length, length-append, drop, get_or, map, refl, sym, ap, ◌∙◌, subst, arith, true≢false, String, Global}
+use Rattle.std.specs.Prelude.{if◌then◌else◌, nat_le, nat_lt, string_bytes}
+use Rattle.cmark_grammar.specs.Attributes.{Attributes, is_white_space, before_braces, inside_braces, is_braced, attributes_of, no_attributes}
+use Rattle.cmark_grammar.specs.Columns.{Column, is_blank, is_blank_byte, drop_end, bytes_of}
+use Rattle.cmark_grammar.specs.Rows.{Row, place, first_place, begin_of}
+use Rattle.cmark_grammar.specs.SetextAttributes.{line_end, content_of, is_white, ends_in_braces, before_attributes, attributes_place, setext_attributes}
+use Rattle.cmark_grammar.proofs.RowPlaces.{Runs}
+use Rattle.cmark_lines.proofs.RestSteps.{rest-runs, runs-bytes, bytes-stop}
+use Rattle.cmark_lines.specs.Rests.{row_of}
+use Rattle.cmark_lines.specs.declared.line_rest.LineRest.{LineRest}
+use Rattle.cmark_leaves.specs.Contents.{content_columns, gathered_bytes, place_in}
+use Rattle.cmark_leaves.proofs.BraceSteps.{before-cut, before-take}
+use Rattle.cmark_leaves.proofs.ColumnCuts.{Cut, drop_end-cut, blanks-cut}
+use Rattle.cmark_leaves.proofs.ReadSteps.{drop-get}
+use Rattle.cmark_leaves.proofs.ContentSteps.{AreTabs, front-tabs, before-whole, inside-whole, ends-whole, white-bytes, join-bytes, content-behind, content-tabs, content-whole, content-bytes}
+
+le-true : (a b : ℕ) → a ≤ b → nat_le a b ≡ true
+le-true a b l = grind (arith)
+
+le-false : (a b : ℕ) → b < a → nat_le a b ≡ false
+le-false a b l = grind (arith)
+
+-- a column stands where the bytes before it end
+runs-place : (from : ℕ) (left : List Column) (c : Column) (behind : List Column) (to : ℕ) → Runs from (left ++ c ∷ behind) to → from + length (bytes_of left) ≡ place c
+runs-place from [] c behind to h = let e : place c ≡ from = h.0 in omega (arith, e)
+runs-place from (d ∷ left) c behind to h = go (d.part == 0) refl (runs-place (suc d.at) left c behind to h.1)
+  where
+    go : (z : Bool) → (d.part == 0) ≡ z → suc d.at + length (bytes_of left) ≡ place c → from + length (if z then d.byte ∷ bytes_of left else bytes_of left) ≡ place c
+    go true e ih = let p : d.at ≡ from = sym (ap (λ z. if z then d.at else suc d.at) e) ∙ h.0 in omega (arith, ih, p)
+    go false e ih = let p : suc d.at ≡ from = sym (ap (λ z. if z then d.at else suc d.at) e) ∙ h.0 in omega (arith, ih, p)
+
+-- what stands behind a part of two lists, one behind the other, begins in the first or in the second
+split : {A : Type 0} (a b left behind : List A) (c : A) → a ++ b ≡ left ++ c ∷ behind → ((e : List A) × (a ≡ left ++ c ∷ e)) ⊎ ((e : List A) × (left ≡ a ++ e) × (b ≡ e ++ c ∷ behind))
+split [] b left behind c e = inr (left, refl, e)
+split (x ∷ a) b [] behind c e = let h : x ≡ c = (let q : x ∷ (a ++ b) ≡ c ∷ behind = e in cc) in inl (a, ap (λ y. y ∷ a) h)
+split (x ∷ a) b (y ∷ left) behind c e =
+    let q : x ∷ (a ++ b) ≡ y ∷ (left ++ c ∷ behind) = e in
+    let h : x ≡ y = (cc) in
+    let t : a ++ b ≡ left ++ c ∷ behind = (cc) in
+    elim (split a b left behind c t) [
+      | inl s ↦ inl (s.0, ap (λ z. z ∷ a) h ∙ ap (λ l. y ∷ l) s.1)
+      | inr s ↦ inr (s.0, ap (λ z. z ∷ left) (sym h) ∙ ap (λ l. x ∷ l) s.1, s.2)
+    ]
+
+-- a place in the first line
+in-first : (rest : LineRest) (rs : List Row) (last : Row) (n : ℕ) → n ≤ length (bytes_of (row_of rest).columns) → place_in (row_of rest ∷ rs) last n ≡ begin_of (row_of rest) + n
+in-first rest rs last n le =
+    let r = row_of rest in
+    ap (λ z. if z then begin_of r + n else place_in rs last (n - suc (length (bytes_of r.columns)))) (le-true n (length (bytes_of r.columns)) le)
+
+behind-first : (rest : LineRest) (rs : List Row) (last : Row) (n m : ℕ) → n ≡ length (bytes_of (row_of rest).columns) + suc m → place_in (row_of rest ∷ rs) last n ≡ place_in rs last m
+behind-first rest rs last n m e =
+    let r = row_of rest in
+    ap (λ z. if z then begin_of r + n else place_in rs last (n - suc (length (bytes_of r.columns)))) (le-false n (length (bytes_of r.columns)) (omega (arith, e)))
+    ∙ ap (place_in rs last) (let q : n - suc (length (bytes_of r.columns)) ≡ m = omega (arith, e) in q)
+
+place-at : (before : List LineRest) (last : LineRest) (left : List Column) (c : Column) (behind : List Column) → content_columns before last ≡ left ++ c ∷ behind
+    → place_in (map row_of before) (row_of last) (length (bytes_of left)) ≡ place c
+place-at [] last left c behind e =
+    let r = row_of last in
+    let cut = blanks-cut r.columns in
+    let is : r.columns ≡ left ++ c ∷ (behind ++ cut.behind) = cut.is ∙ ap (λ l. l ++ cut.behind) e ∙ append_assoc left (c ∷ behind) cut.behind in
+    runs-place (begin_of r) left c (behind ++ cut.behind) r.stop (subst (λ cs. Runs (begin_of r) cs r.stop) is (rest-runs last))
+place-at (rest ∷ lines) last left c behind e =
+    elim (split r.columns (line_end r ∷ content_columns lines last) left behind c (sym (content-behind r (map row_of lines) (row_of last)) ∙ e)) [
+      | inl s ↦ (
+        let l : length (bytes_of left) ≤ length (bytes_of r.columns) = (let q = ap length (ap bytes_of s.1 ∙ join-bytes left (c ∷ s.0)) in let k = length-append (bytes_of left) (bytes_of (c ∷ s.0)) in omega (arith, q, k)) in
+        in-first rest (map row_of lines) (row_of last) (length (bytes_of left)) l
+        ∙ runs-place (begin_of r) left c s.0 r.stop (subst (λ cs. Runs (begin_of r) cs r.stop) s.1 (rest-runs rest)))
+      | inr s ↦ later s.0 s.1 s.2 (λ f more. place-at lines last f c behind more)
+    ]
+  where
+    r : Row
+    r = row_of rest
+
+    later : (f : List Column) → left ≡ r.columns ++ f → line_end r ∷ content_columns lines last ≡ f ++ c ∷ behind
+        → ((g : List Column) → content_columns lines last ≡ g ++ c ∷ behind → place_in (map row_of lines) (row_of last) (length (bytes_of g)) ≡ place c) → place_in (r ∷ map row_of lines) (row_of last) (length (bytes_of left)) ≡ place c
+    later [] is at ih =
+        let same : c ≡ line_end r = (let q : line_end r ∷ content_columns lines last ≡ c ∷ behind = at in cc) in
+        let n : length (bytes_of left) ≡ length (bytes_of r.columns) = ap (λ l. length (bytes_of l)) (is ∙ append-nil r.columns) in
+        in-first rest (map row_of lines) (row_of last) (length (bytes_of left)) (omega (arith, n))
+        ∙ ap (λ k. begin_of r + k) n ∙ bytes-stop rest ∙ ap place (sym same)
+    later (x ∷ f) is at ih =
+        let same : x ≡ line_end r = (let q : line_end r ∷ content_columns lines last ≡ x ∷ (f ++ c ∷ behind) = at in cc) in
+        let more : content_columns lines last ≡ f ++ c ∷ behind = (let q : line_end r ∷ content_columns lines last ≡ x ∷ (f ++ c ∷ behind) = at in cc) in
+        let n : length (bytes_of left) ≡ length (bytes_of r.columns) + suc (length (bytes_of f)) =
+        ap length (ap bytes_of (is ∙ ap (λ y. r.columns ++ y ∷ f) same) ∙ join-bytes r.columns (line_end r ∷ f)) ∙ length-append (bytes_of r.columns) (10 ∷ bytes_of f) in
+        behind-first rest (map row_of lines) (row_of last) (length (bytes_of left)) (length (bytes_of f)) n ∙ ih f more
+
+drop-front : {A : Type 0} (a b : List A) → drop (length a) (a ++ b) ≡ b
+drop-front [] b = refl
+drop-front (x ∷ a) b = drop-front a b
+
+end-shorter : (q : Column → Bool) (cs : List Column) → length (drop_end q cs) ≤ length cs
+end-shorter q cs = let cut = drop_end-cut q cs in let e = ap length cut.is in let l = length-append (drop_end q cs) cut.behind in omega (arith, e, l)
+
+less-lt : (a b : ℕ) → nat_lt a b ≡ true → a < b
+less-lt a b e = grind (arith)
+
+-- the attributes begin where so many bytes stand before them
+pub found-place : (before : List LineRest) (last : LineRest) → let cs = content_columns before last in ends_in_braces cs ≡ true
+    → place_in (map row_of before) (row_of last) (length (drop_end is_white_space (before_braces (λ b. b) (bytes_of cs)))) ≡ attributes_place cs
+found-place before last e = go white.behind cut
+  where
+    cs : List Column
+    cs = content_columns before last
+
+    front : List Column
+    front = before_braces (λ c. c.byte) cs
+
+    left : List Column
+    left = before_attributes cs
+
+    first : Cut cs front
+    first = before-cut cs
+
+    second : Cut front left
+    second = drop_end-cut is_white front
+
+    white : Cut cs left
+    white = record { behind = second.behind ++ first.behind; is = first.is ∙ ap (λ l. l ++ first.behind) second.is ∙ append_assoc left second.behind first.behind }
+
+    cut : cs ≡ left ++ white.behind
+    cut = white.is
+
+    size : length (bytes_of left) ≡ length (drop_end is_white_space (before_braces (λ b. b) (bytes_of cs)))
+    size = ap length (white-bytes is_white_space front refl (front-tabs front first.behind (subst AreTabs first.is (content-tabs before last))) ∙ ap (drop_end is_white_space) (before-whole cs (content-tabs before last) (content-whole before last)))
+
+    go : (behind : List Column) → cs ≡ left ++ behind → place_in (map row_of before) (row_of last) (length (drop_end is_white_space (before_braces (λ b. b) (bytes_of cs)))) ≡ attributes_place cs
+    go [] is = absurd (let l = less-lt (length front) (length cs) e in let m = end-shorter is_white front in let n = ap length (is ∙ append-nil left) in omega (arith, l, m, n))
+    go (c ∷ behind) is =
+        ap (place_in (map row_of before) (row_of last)) (sym size)
+        ∙ place-at before last left c behind is
+        ∙ sym (ap (first_place 0) (ap (drop (length left)) is ∙ drop-front left (c ∷ behind)))
+
+-- ## Lines, one by one
+
+nothing-behind : {A : Type 0} (n : ℕ) (xs : List A) → length xs ≤ n → drop n xs ≡ []
+nothing-behind zero [] l = refl
+nothing-behind zero (x ∷ xs) l = absurd (omega (arith, l))
+nothing-behind (suc n) [] l = refl
+nothing-behind (suc n) (x ∷ xs) l = nothing-behind n xs (omega (arith, l))
+
+-- the byte stands in the line at hand
+pub place-first : (before : List LineRest) (last rest : LineRest) (i left len stop : ℕ) → i < length before → rest ≡ get_or before i rest → stop ≡ (row_of rest).stop → len ≡ length (bytes_of (row_of rest).columns) → left ≤ len
+    → (len - left ≤ stop) × (stop - (len - left) ≡ place_in (map row_of (drop i before)) (row_of last) left)
+place-first before last rest i left len stop l e s n le =
+    let b = bytes-stop rest in
+    let is : place_in (map row_of (drop i before)) (row_of last) left ≡ begin_of (row_of rest) + left =
+    ap (λ xs. place_in (map row_of xs) (row_of last) left) (drop-get before i rest l e) ∙ in-first rest (map row_of (drop (suc i) before)) (row_of last) left (omega (arith, n, le)) in
+    (omega (arith, b, s, n), (let q : stop - (len - left) ≡ begin_of (row_of rest) + left = omega (arith, b, s, n, le) in q ∙ sym is))
+
+-- it stands in the last one
+pub place-last : (before : List LineRest) (last : LineRest) (i left len stop : ℕ) → length before ≤ i → stop ≡ (row_of last).stop → len ≡ length (bytes_of (row_of last).columns) → left ≤ length (gathered_bytes (map row_of (drop i before)) (row_of last))
+    → (len - left ≤ stop) × (stop - (len - left) ≡ place_in (map row_of (drop i before)) (row_of last) left)
+place-last before last i left len stop l s n le =
+    let b = bytes-stop last in
+    let none = nothing-behind i before l in
+    let within : left ≤ length (bytes_of (row_of last).columns) = subst (λ xs. left ≤ length (gathered_bytes (map row_of xs) (row_of last))) none le in
+    (omega (arith, b, s, n), (let q : stop - (len - left) ≡ begin_of (row_of last) + left = omega (arith, b, s, n, within) in q ∙ sym (ap (λ xs. place_in (map row_of xs) (row_of last) left) none)))

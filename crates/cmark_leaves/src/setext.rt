@@ -1,0 +1,90 @@
+//! The attributes of setext headings: braces at the end of their content, which may stand over several lines (this profile's own).
+
+ghost use Rattle.std.specs.Prelude.{◌≡◌, ◌≤◌, length, map, string_bytes, IfOk, OnOk};
+ghost use Rattle.cmark_grammar.specs.Columns.{bytes_of};
+ghost use Rattle.cmark_lines.specs.Rests.{row_of};
+ghost use Rattle.cmark_leaves.specs.Contents.{AreRead, gathered_bytes, place_in, FindsSetext};
+ghost use Rattle.cmark_leaves.specs.Told.{IsRead};
+
+use crate::heading::count_before_braces;
+use crate::trailing::{without_trailing_blanks, without_trailing_white_space};
+use cmark_lines::LineRest;
+use std::alloc::{AllocError, Global};
+
+/// The attributes at the end of a setext heading's content.
+#[derive(Drop)]
+pub struct SetextAttributes {
+    /// The words between the braces, with a line feed for each line ending.
+    pub words: String,
+    /// Where the attributes begin, or the white space before them: a byte offset of the text.
+    pub place: usize,
+}
+
+/// The bytes of a line of this text, up to its ending.
+fn bytes_in<'a>(text: &'a str, rest: LineRest<'_>) -> &'a str
+    requires { IsRead text.now rest }
+    ensures { result.now ≡ bytes_of (row_of rest.entry).columns }
+{
+    &text[rest.begin()..rest.stop()]
+}
+
+/// The bytes of these lines behind their prefixes, with a line feed for each line ending, in this memory.
+fn gather_lines(
+    room: &mut String,
+    text: &str,
+    before: &[LineRest<'_>],
+    last: LineRest<'_>,
+) -> Result<(), AllocError>
+    requires before { AreRead text.now before.now }
+    requires last { IsRead text.now last }
+    ensures { OnOk result (string_bytes room.new ≡ gathered_bytes (map row_of before.now) (row_of last.entry)) }
+{
+    room.clear();
+    for rest in before {
+        room.push_str(bytes_in(text, *rest))?;
+        room.push('\n')?;
+    }
+    room.push_str(bytes_in(text, last))
+}
+
+/// Where that byte of these lines stands in the text before which so many of them stand.
+fn place_of(before: &[LineRest<'_>], last: LineRest<'_>, size: usize) -> usize
+    requires { size ≤ length (gathered_bytes (map row_of before.now) (row_of last)) }
+    ensures { result ≡ place_in (map row_of before.now) (row_of last.entry) size }
+{
+    let mut left = size;
+    for rest in before {
+        let len = rest.bytes().len();
+        if left <= len {
+            return rest.stop() - (len - left);
+        }
+        left = left - len - 1;
+    }
+    last.stop() - (last.bytes().len() - left)
+}
+
+/// The attributes of a setext heading with these lines; none, where no braces stand at its end. All lines are read, in this memory.
+pub fn find_setext_attributes(
+    room: &mut String,
+    alloc: Global,
+    text: &str,
+    before: &[LineRest<'_>],
+    last: LineRest<'_>,
+) -> Result<Option<SetextAttributes>, AllocError>
+    requires before { AreRead text.now before.now }
+    requires last { IsRead text.now last }
+    ensures { IfOk result (FindsSetext before.now last.entry) }
+{
+    gather_lines(room, text, before, last)?;
+    let content = without_trailing_blanks(room.as_bytes());
+    let count = count_before_braces(content);
+    if count == content.len() {
+        return Ok(None);
+    }
+    let words = String::from_str(alloc, &room.as_str()[count + 1..content.len() - 1])?;
+    let size = without_trailing_white_space(&content[..count]).len();
+    Ok(Some(SetextAttributes {
+        words,
+        place: place_of(before, last, size),
+    }))
+}
