@@ -1,19 +1,19 @@
 -- Where the attributes of a setext heading begin in the text, by how many bytes of its content stand before them.
-use Rattle.std.proofs.Common.{◌≡◌, ◌⊎◌, inl, inr, ℕ, zero, suc, ◌+◌, ◌-◌, ◌<◌, ◌≤◌, Bool, true, false, ◌==◌, List, [], ◌∷◌, ◌++◌, append_assoc, append-nil, length, length-append, drop, get_or, map, refl, sym, ap, ◌∙◌, subst, arith, true≢false, String, Global}
-use Rattle.std.specs.Prelude.{if◌then◌else◌, nat_le, nat_lt, string_bytes}
-use Rattle.cmark_grammar.specs.Attributes.{Attributes, is_white_space, before_braces, inside_braces, is_braced, attributes_of, no_attributes}
-use Rattle.cmark_grammar.specs.Columns.{Column, is_blank, is_blank_byte, drop_end, bytes_of}
+use Rattle.std.proofs.Common.{◌≡◌, ◌⊎◌, inl, inr, ℕ, zero, suc, ◌+◌, ◌-◌, ◌<◌, ◌≤◌, Bool, true, false, ◌==◌, List, [], ◌∷◌, ◌++◌, append_assoc, append-nil, length, length-append, drop, get_or, map, refl, sym, ap, ◌∙◌, subst, arith}
+use Rattle.std.specs.Prelude.{if◌then◌else◌, nat_le, nat_lt}
+use Rattle.cmark_grammar.specs.Attributes.{is_white_space, before_braces}
+use Rattle.cmark_grammar.specs.Columns.{Column, drop_end, bytes_of}
 use Rattle.cmark_grammar.specs.Rows.{Row, place, first_place, begin_of}
-use Rattle.cmark_grammar.specs.SetextAttributes.{line_end, content_of, is_white, ends_in_braces, before_attributes, attributes_place, setext_attributes}
+use Rattle.cmark_grammar.specs.SetextAttributes.{line_end, is_white, ends_in_braces, before_attributes, attributes_place}
 use Rattle.cmark_grammar.proofs.RowPlaces.{Runs}
-use Rattle.cmark_lines.proofs.RestSteps.{rest-runs, runs-bytes, bytes-stop}
+use Rattle.cmark_lines.proofs.RestSteps.{rest-runs, bytes-stop}
 use Rattle.cmark_lines.specs.Rests.{row_of}
 use Rattle.cmark_lines.specs.declared.line_rest.LineRest.{LineRest}
 use Rattle.cmark_leaves.specs.Contents.{content_columns, gathered_bytes, place_in}
-use Rattle.cmark_leaves.proofs.BraceSteps.{before-cut, before-take}
+use Rattle.cmark_leaves.proofs.BraceSteps.{before-cut}
 use Rattle.cmark_leaves.proofs.ColumnCuts.{Cut, drop_end-cut, blanks-cut}
 use Rattle.cmark_leaves.proofs.ReadSteps.{drop-get}
-use Rattle.cmark_leaves.proofs.ContentSteps.{AreTabs, front-tabs, before-whole, inside-whole, ends-whole, white-bytes, join-bytes, content-behind, content-tabs, content-whole, content-bytes}
+use Rattle.cmark_leaves.proofs.ContentSteps.{AreTabs, front-tabs, before-whole, white-bytes, join-bytes, content-behind, content-tabs, content-whole}
 
 le-true : (a b : ℕ) → a ≤ b → nat_le a b ≡ true
 le-true a b l = grind (arith)
@@ -65,9 +65,9 @@ place-at [] last left c behind e =
 place-at (rest ∷ lines) last left c behind e =
     elim (split r.columns (line_end r ∷ content_columns lines last) left behind c (sym (content-behind r (map row_of lines) (row_of last)) ∙ e)) [
       | inl s ↦ (
-        let l : length (bytes_of left) ≤ length (bytes_of r.columns) = (let q = ap length (ap bytes_of s.1 ∙ join-bytes left (c ∷ s.0)) in let k = length-append (bytes_of left) (bytes_of (c ∷ s.0)) in omega (arith, q, k)) in
-        in-first rest (map row_of lines) (row_of last) (length (bytes_of left)) l
-        ∙ runs-place (begin_of r) left c s.0 r.stop (subst (λ cs. Runs (begin_of r) cs r.stop) s.1 (rest-runs rest)))
+          let l : length (bytes_of left) ≤ length (bytes_of r.columns) = (let q = ap length (ap bytes_of s.1 ∙ join-bytes left (c ∷ s.0)) in let k = length-append (bytes_of left) (bytes_of (c ∷ s.0)) in omega (arith, q, k)) in
+          in-first rest (map row_of lines) (row_of last) (length (bytes_of left)) l
+          ∙ runs-place (begin_of r) left c s.0 r.stop (subst (λ cs. Runs (begin_of r) cs r.stop) s.1 (rest-runs rest)))
       | inr s ↦ later s.0 s.1 s.2 (λ f more. place-at lines last f c behind more)
     ]
   where

@@ -1,14 +1,14 @@
 -- The columns of a setext heading's content, and its bytes: line endings stand between columns, so a tab may begin in the middle.
-use Rattle.std.proofs.Common.{◌≡◌, ℕ, zero, suc, ◌<◌, ◌≤◌, Bool, true, false, ◌==◌, ◌&&◌, ◌||◌, not, List, [], ◌∷◌, ◌++◌, length, length-append, map, refl, sym, ap, ◌∙◌, subst, arith, true≢false}
+use Rattle.std.proofs.Common.{◌≡◌, ℕ, suc, Bool, true, false, ◌==◌, ◌&&◌, ◌||◌, not, List, [], ◌∷◌, ◌++◌, length, map, refl, sym, ap, ◌∙◌, subst, arith, true≢false}
 use Rattle.std.specs.Prelude.{if◌then◌else◌, nat_lt}
-use Rattle.cmark_grammar.specs.Attributes.{is_brace, closes, is_braced, before_braces, without_last, inside_braces}
+use Rattle.cmark_grammar.specs.Attributes.{is_brace, closes, before_braces, without_last, inside_braces}
 use Rattle.cmark_grammar.specs.Columns.{Column, is_blank_byte, drop_end, put_before, none_or_last, bytes_of}
 use Rattle.cmark_grammar.specs.Rows.{Row}
 use Rattle.cmark_grammar.specs.SetextAttributes.{line_end, content_of, ends_in_braces}
 use Rattle.cmark_lines.specs.Rests.{row_of}
 use Rattle.cmark_lines.specs.declared.line_rest.LineRest.{LineRest}
 use Rattle.cmark_leaves.specs.Contents.{content_columns, gathered_bytes}
-use Rattle.cmark_leaves.proofs.ColumnCuts.{AreTabbed, Cut, rest-tabbed, drop_end-cut, drop_end-bytes}
+use Rattle.cmark_leaves.proofs.ColumnCuts.{AreTabbed, rest-tabbed, drop_end-cut, drop_end-bytes}
 
 -- columns in which no byte begins are of tabs
 abbrev pub AreTabs : List Column → Type 0

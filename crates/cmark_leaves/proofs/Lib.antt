@@ -5,6 +5,7 @@ pub mod ContentPlaces
 pub mod ContentSteps
 pub mod DrawSteps
 pub mod EndSteps
+pub mod FoundSetext
 pub mod HeadingSteps
 pub mod ReadSteps
 pub mod TableSteps

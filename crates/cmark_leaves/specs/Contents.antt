@@ -1,5 +1,5 @@
 -- The lines of a setext heading, and the attributes at the end of its content.
-use Rattle.std.specs.Prelude.{◌≡◌, ℕ, suc, ◌+◌, ◌-◌, Bool, true, false, nat_le, if◌then◌else◌, List, [], ◌∷◌, ◌++◌, length, map, string_bytes, Option, Some, None}
+use Rattle.std.specs.Prelude.{◌≡◌, ℕ, suc, ◌+◌, ◌-◌, true, false, nat_le, if◌then◌else◌, List, [], ◌∷◌, ◌++◌, length, map, string_bytes, Option, Some, None}
 use Rattle.cmark_grammar.specs.Attributes.{inside_braces}
 use Rattle.cmark_grammar.specs.Columns.{Column, bytes_of}
 use Rattle.cmark_grammar.specs.Rows.{Row, begin_of}

@@ -12,3 +12,11 @@ returns-in-Some-clause-drawn c =
     (λ draws text d before. subst (Draws text c.draw_words.new.builder)
     (cut-some text at c.in-Some.start d (sym (draws-start text c.args.builder.now c.cut.new.self at c.cut.result d e.start e.none before) ∙ c.in-Some.is))
     (draws text (left_at at d.here d.up) (draws-cut text c.args.builder.now c.cut.new.self at c.cut.result d e.kept e.none e.tables before))) c.draw_words.ensures.drawn
+
+pub returns-in-None-clause-drawn : goal.returns-in-None-clause-drawn
+returns-in-None-clause-drawn c =
+    let at = c.args.at in
+    let e = c.cut.ensures in
+    λ text d before. subst (Draws text c.cut.new.self)
+    (cut-none text at d (sym (draws-start text c.args.builder.now c.cut.new.self at c.cut.result d e.start e.none before) ∙ c.in-None.is))
+    (draws-cut text c.args.builder.now c.cut.new.self at c.cut.result d e.kept e.none e.tables before)
