@@ -9,7 +9,7 @@ use Rattle.cmark_grammar.specs.HtmlBlocks.{holds_end, html_further}
 use Rattle.cmark_grammar.specs.Containers.{Container, Quote, Item, Footnote, ListDefinition, is_alert, enter, keeps, strips}
 use Rattle.cmark_grammar.specs.Openings.{Leaf, ThematicBreak, AtxHeading, IndentedCode, FencedCode, HtmlBlock, LinkDefinition, Opening, Blank, Nests, Takes, Plain, opens_at, texts, lazily, MetadataBlock, Table}
 use Rattle.cmark_grammar.specs.Tokens.{Piece, resolved, words_end, stretch_then, heading_tokens, heading_attributes, verbatim_line, html_then, code_columns}
-use Rattle.cmark_grammar.specs.SetextAttributes.{content_of, without_braces, setext_attributes}
+use Rattle.cmark_grammar.specs.SetextAttributes.{content_of, setext_attributes}
 use Rattle.cmark_grammar.specs.TableTokens.{table_tokens}
 use Rattle.cmark_grammar.specs.Derivation.{stop_of, reference_of, task_then, list_kind}
 use Rattle.cmark_grammar.specs.Lists.{definition_mark}
@@ -21,7 +21,7 @@ use Rattle.cmark_grammar.specs.Metadata.{ends_metadata}
 use Rattle.cmark_grammar.specs.Blocks.{place_in}
 use Rattle.cmark_grammar.specs.Places.{Place, Apart, BehindTitle}
 use Rattle.cmark_grammar.specs.TaskItems.{behind_box}
-use Rattle.cmark_block_model.specs.Drawing.{OpenNode, Drawing, drawn, opened, closed_as, closed_at, retitled, enclosed, released}
+use Rattle.cmark_block_model.specs.Drawing.{Drawing, drawn, opened, closed_as, closed_at, retitled, enclosed, released, unbraced}
 use Rattle.cmark_block_model.specs.CodeLines.{code_line, rest_of, texts_of}
 use Rattle.cmark_block_model.specs.OpenBlocks.{OpenList, Title, Siblings, no_siblings, OpenContainer, OpenLeaf, Closed, BehindTag, InParagraph, InDefinition, InIndented, InFenced, InHtml, takes_lazy, Pass, at_start, InMetadata, InTable}
 
@@ -180,7 +180,7 @@ is_some (r ∷ rs) = true
 
 -- the lines that a paragraph keeps before one more: all, where attributes of headings are read
 abbrev pub kept_lines : (attributes : Bool) → (before : List Row) → (last : Row) → List Row
-kept_lines false before last = []
+kept_lines false before last = before
 kept_lines true before last = before ++ last ∷ []
 
 abbrev pub node_closed : (end : ℕ) → Pass → Pass
@@ -229,14 +229,9 @@ module _ (text : List ℕ) (options : Options) (lookup : Lookup) where
       if begin_of r == last.past then record p { leaf = InParagraph (kept_lines options.heading_attributes before last) from r }
       else let q = with_drawn (stretch_then text from last.past Nil) p in record q { leaf = InParagraph (kept_lines options.heading_attributes before last) (begin_of r) r }
 
-  -- the texts inside the innermost open node without the attributes at the end of this content, where attributes are read
-  abbrev pub unbraced : (content : List Column) → (here : BlockDocument) → List OpenNode → Drawing
-  unbraced content here [] = record { here = here; up = [] }
-  unbraced content here (v ∷ up) = record { here = without_braces text options.heading_attributes content here; up = v ∷ up }
-
   -- a paragraph that an underline makes a heading: what was drawn of it loses the attributes at its end
   abbrev pub heading_closed : (level : ℕ) → (content : List Column) → (end : ℕ) → Drawing → Drawing
-  heading_closed level content end d = closed_as (document.Heading level (setext_attributes options.heading_attributes content)) end (unbraced content d.here d.up)
+  heading_closed level content end d = closed_as (document.Heading level (setext_attributes options.heading_attributes content)) end (unbraced text options.heading_attributes content d.here d.up)
 
   -- and is no title
   abbrev pub heading_made : (level : ℕ) → (before : List Row) → (from : ℕ) → (last : Row) → Row → Pass → Pass

@@ -1,7 +1,8 @@
 -- A document while it is drawn from its beginning: the siblings at hand, below the nodes that are open.
-use Rattle.std.specs.Prelude.{ℕ, List, [], ◌∷◌}
+use Rattle.std.specs.Prelude.{ℕ, Bool, List, [], ◌∷◌}
 use Rattle.cmark_grammar.specs.BlockDocument.{BlockKind, BlockNode, BlockDocument, Nil, Node, join, node}
-use Rattle.cmark_grammar.specs.SetextAttributes.{texts_before}
+use Rattle.cmark_grammar.specs.Columns.{Column}
+use Rattle.cmark_grammar.specs.SetextAttributes.{texts_before, without_braces}
 
 -- an open node, with the siblings before it
 pub record OpenNode : Type 0 where
@@ -91,3 +92,8 @@ cut_at text place here (v ∷ up) = record { here = texts_before text place here
 
 abbrev pub texts_cut : List ℕ → (place : ℕ) → Drawing → Drawing
 texts_cut text place d = cut_at text place d.here d.up
+
+-- the texts inside the innermost open node without the attributes at the end of this content, where attributes are read
+abbrev pub unbraced : List ℕ → (attributes : Bool) → (content : List Column) → (here : BlockDocument) → List OpenNode → Drawing
+unbraced text attributes content here [] = record { here = here; up = [] }
+unbraced text attributes content here (v ∷ up) = record { here = without_braces text attributes content here; up = v ∷ up }
