@@ -1,5 +1,5 @@
 -- One more line, behind what is open.
-use Rattle.std.proofs.Common.{◌≡◌, ◌≢◌, ℕ, suc, ◌≤◌, ◌==◌, Bool, true, false, not, ◌&&◌, ◌||◌, if◌then◌else◌, List, [], ◌∷◌, take, drop, length, Some, None, refl, sym, ap, subst, ◌∙◌, arith, true≢false}
+use Rattle.std.proofs.Common.{◌≡◌, ◌≢◌, ℕ, suc, ◌≤◌, ◌==◌, Bool, true, false, not, ◌&&◌, ◌||◌, if◌then◌else◌, List, [], ◌∷◌, take, drop, length, map, Some, None, refl, sym, ap, subst, ◌∙◌, arith, true≢false}
 use Rattle.std.proofs.lemmas.List.{drop_all}
 use Rattle.cmark_grammar.specs.Answers.{Lookup}
 use Rattle.cmark_grammar.specs.Containers.{Container}
@@ -15,7 +15,7 @@ use Rattle.cmark_grammar.specs.BlockDocument.{Nil}
 use Rattle.cmark_lines.specs.Rests.{row_of}
 use Rattle.cmark_lines.specs.declared.line_rest.LineRest.{LineRest}
 use Rattle.cmark_lines.proofs.LazyRows.{whole-texts, lazily-is}
-use Rattle.cmark_block_model.specs.BlockPass.{ahead_in, kept_by, leaf_fed, lazy_fed, begin, leaf_closed, close_leaf, heading_made, paragraph_line, paragraph_begun, underlined_or, line_with, line_fed, lines_fed, containers_closed, with_drawn}
+use Rattle.cmark_block_model.specs.BlockPass.{ahead_in, kept_by, leaf_fed, lazy_fed, begin, leaf_closed, close_leaf, heading_made, kept_lines, paragraph_line, paragraph_begun, underlined_or, line_with, line_fed, lines_fed, containers_closed, with_drawn}
 use Rattle.cmark_block_model.specs.OpenBlocks as model
 use Rattle.cmark_block_model.specs.OpenBlocks.{takes_lazy}
 use Rattle.cmark_blocks.specs.declared.state.OpenLeaf.TheVariants as leaf
@@ -28,8 +28,8 @@ use Rattle.cmark_blocks.specs.Runs.{Runs, ShowsLeaf}
 use Rattle.cmark_leaves.proofs.EndSteps.{equal-true, equal-false}
 
 module _ {E : Type 0} (replacement : E → Lookup) (text : List ℕ) (options : Options) (lookup : Lookup) (m : model.Pass) (pass : Pass E) (runs : Runs replacement text options lookup m pass) where
-  pub in_paragraph : (from : ℕ) (last : LineRest) → pass.leaf ≡ leaf.Paragraph from last → m.leaf ≡ model.InParagraph from (row_of last)
-  in_paragraph from last is = (subst (λ l. ShowsLeaf text l pass.blank_lines.items m.leaf) is runs.leaf).0
+  pub in_paragraph : (from : ℕ) (last : LineRest) → pass.leaf ≡ leaf.Paragraph from last → m.leaf ≡ model.InParagraph (map row_of pass.blank_lines.items) from (row_of last)
+  in_paragraph from last is = subst (λ l. ShowsLeaf text l pass.blank_lines.items m.leaf) is runs.leaf
 
   pub behind_tag : pass.leaf ≡ leaf.BehindTag → m.leaf ≡ model.BehindTag
   behind_tag is = (subst (λ l. ShowsLeaf text l pass.blank_lines.items m.leaf) is runs.leaf).0
@@ -42,36 +42,36 @@ module _ {E : Type 0} (replacement : E → Lookup) (text : List ℕ) (options : 
 
 module _ (text : List ℕ) (options : Options) (lookup : Lookup) (r : Row) (m : model.Pass) where
   -- a line that touches the last one, or not
-  pub line-touches : (from : ℕ) (last : Row) → begin_of r ≡ last.past → paragraph_line text options lookup from last r m ≡ record m { leaf = model.InParagraph from r }
-  line-touches from last e =
-      ap (λ z. if z then record m { leaf = model.InParagraph from r } else record (with_drawn (stretch_then text from last.past Nil) m) { leaf = model.InParagraph (begin_of r) r }) (equal-true (begin_of r) last.past e)
+  pub line-touches : (before : List Row) (from : ℕ) (last : Row) → begin_of r ≡ last.past → paragraph_line text options lookup before from last r m ≡ record m { leaf = model.InParagraph (kept_lines options.heading_attributes before last) from r }
+  line-touches before from last e =
+      ap (λ z. if z then record m { leaf = model.InParagraph (kept_lines options.heading_attributes before last) from r } else record (with_drawn (stretch_then text from last.past Nil) m) { leaf = model.InParagraph (kept_lines options.heading_attributes before last) (begin_of r) r }) (equal-true (begin_of r) last.past e)
 
-  pub line-apart : (from : ℕ) (last : Row) → begin_of r ≢ last.past
-      → paragraph_line text options lookup from last r m ≡ record (with_drawn (stretch_then text from last.past Nil) m) { leaf = model.InParagraph (begin_of r) r }
-  line-apart from last e =
-      ap (λ z. if z then record m { leaf = model.InParagraph from r } else record (with_drawn (stretch_then text from last.past Nil) m) { leaf = model.InParagraph (begin_of r) r }) (equal-false (begin_of r) last.past e)
+  pub line-apart : (before : List Row) (from : ℕ) (last : Row) → begin_of r ≢ last.past
+      → paragraph_line text options lookup before from last r m ≡ record (with_drawn (stretch_then text from last.past Nil) m) { leaf = model.InParagraph (kept_lines options.heading_attributes before last) (begin_of r) r }
+  line-apart before from last e =
+      ap (λ z. if z then record m { leaf = model.InParagraph (kept_lines options.heading_attributes before last) from r } else record (with_drawn (stretch_then text from last.past Nil) m) { leaf = model.InParagraph (kept_lines options.heading_attributes before last) (begin_of r) r }) (equal-false (begin_of r) last.past e)
 
 module _ (text : List ℕ) (options : Options) (lookup : Lookup) (r : Row) (next : List Row) (m : model.Pass) where
   -- behind a paragraph
-  pub feeds-underline : (from : ℕ) (last : Row) (level : ℕ) → Some level ≡ underlines r → m.leaf ≡ model.InParagraph from last → leaf_fed text options lookup m.leaf r next m ≡ heading_made text options lookup level from last r m
-  feeds-underline from last level under is =
+  pub feeds-underline : (before : List Row) (from : ℕ) (last : Row) (level : ℕ) → Some level ≡ underlines r → m.leaf ≡ model.InParagraph before from last → leaf_fed text options lookup m.leaf r next m ≡ heading_made text options lookup level before from last r m
+  feeds-underline before from last level under is =
       ap (λ l. leaf_fed text options lookup l r next m) is
-      ∙ ap (λ u. underlined_or text options lookup u (λ level. heading_made text options lookup level from last r m) (if texts options r (ahead_in text options lookup m.outer next) then paragraph_line text options lookup from last r m else begin text options lookup r next (leaf_closed text options lookup m))) (sym under)
+      ∙ ap (λ u. underlined_or text options lookup u (λ level. heading_made text options lookup level before from last r m) (if texts options r (ahead_in text options lookup m.outer next) then paragraph_line text options lookup before from last r m else begin text options lookup r next (leaf_closed text options lookup m))) (sym under)
 
-  feeds-other : (from : ℕ) (last : Row) (goes_on : Bool) → None ≡ underlines r → r.lazy ≡ false → not (interrupts options true r (ahead_in text options lookup m.outer next) || block_interrupts options true r (ahead_in text options lookup m.outer next)) ≡ goes_on → m.leaf ≡ model.InParagraph from last →
-      leaf_fed text options lookup m.leaf r next m ≡ (if goes_on then paragraph_line text options lookup from last r m else begin text options lookup r next (leaf_closed text options lookup m))
-  feeds-other from last goes_on under whole on is =
+  feeds-other : (before : List Row) (from : ℕ) (last : Row) (goes_on : Bool) → None ≡ underlines r → r.lazy ≡ false → not (interrupts options true r (ahead_in text options lookup m.outer next) || block_interrupts options true r (ahead_in text options lookup m.outer next)) ≡ goes_on → m.leaf ≡ model.InParagraph before from last →
+      leaf_fed text options lookup m.leaf r next m ≡ (if goes_on then paragraph_line text options lookup before from last r m else begin text options lookup r next (leaf_closed text options lookup m))
+  feeds-other before from last goes_on under whole on is =
       ap (λ l. leaf_fed text options lookup l r next m) is
-      ∙ ap (λ u. underlined_or text options lookup u (λ level. heading_made text options lookup level from last r m) (if texts options r (ahead_in text options lookup m.outer next) then paragraph_line text options lookup from last r m else begin text options lookup r next (leaf_closed text options lookup m))) (sym under)
-      ∙ ap (λ t. if t then paragraph_line text options lookup from last r m else begin text options lookup r next (leaf_closed text options lookup m)) (whole-texts options r (ahead_in text options lookup m.outer next) whole ∙ on)
+      ∙ ap (λ u. underlined_or text options lookup u (λ level. heading_made text options lookup level before from last r m) (if texts options r (ahead_in text options lookup m.outer next) then paragraph_line text options lookup before from last r m else begin text options lookup r next (leaf_closed text options lookup m))) (sym under)
+      ∙ ap (λ t. if t then paragraph_line text options lookup before from last r m else begin text options lookup r next (leaf_closed text options lookup m)) (whole-texts options r (ahead_in text options lookup m.outer next) whole ∙ on)
 
-  pub feeds-interrupted : (from : ℕ) (last : Row) → None ≡ underlines r → r.lazy ≡ false → true ≡ (interrupts options true r (ahead_in text options lookup m.outer next) || block_interrupts options true r (ahead_in text options lookup m.outer next)) → m.leaf ≡ model.InParagraph from last →
+  pub feeds-interrupted : (before : List Row) (from : ℕ) (last : Row) → None ≡ underlines r → r.lazy ≡ false → true ≡ (interrupts options true r (ahead_in text options lookup m.outer next) || block_interrupts options true r (ahead_in text options lookup m.outer next)) → m.leaf ≡ model.InParagraph before from last →
       leaf_fed text options lookup m.leaf r next m ≡ begin text options lookup r next (leaf_closed text options lookup m)
-  feeds-interrupted from last under whole on is = feeds-other from last false under whole (ap not (sym on)) is
+  feeds-interrupted before from last under whole on is = feeds-other before from last false under whole (ap not (sym on)) is
 
-  pub feeds-text : (from : ℕ) (last : Row) → None ≡ underlines r → r.lazy ≡ false → false ≡ (interrupts options true r (ahead_in text options lookup m.outer next) || block_interrupts options true r (ahead_in text options lookup m.outer next)) → m.leaf ≡ model.InParagraph from last →
-      leaf_fed text options lookup m.leaf r next m ≡ paragraph_line text options lookup from last r m
-  feeds-text from last under whole on is = feeds-other from last true under whole (ap not (sym on)) is
+  pub feeds-text : (before : List Row) (from : ℕ) (last : Row) → None ≡ underlines r → r.lazy ≡ false → false ≡ (interrupts options true r (ahead_in text options lookup m.outer next) || block_interrupts options true r (ahead_in text options lookup m.outer next)) → m.leaf ≡ model.InParagraph before from last →
+      leaf_fed text options lookup m.leaf r next m ≡ paragraph_line text options lookup before from last r m
+  feeds-text before from last under whole on is = feeds-other before from last true under whole (ap not (sym on)) is
 
   -- behind a link reference definition
   pub feeds-last : m.leaf ≡ model.InDefinition 0 → leaf_fed text options lookup m.leaf r next m ≡ begin text options lookup r next (leaf_closed text options lookup m)
@@ -92,8 +92,8 @@ module _ (text : List ℕ) (options : Options) (lookup : Lookup) (r : Row) (next
   feeds-behind is = ap (λ l. leaf_fed text options lookup l r next m) is
 
   -- lazy lines
-  pub lazy-paragraph : (from : ℕ) (last : Row) → m.leaf ≡ model.InParagraph from last → lazy_fed text options lookup m.leaf r m ≡ paragraph_line text options lookup from last r m
-  lazy-paragraph from last is = ap (λ l. lazy_fed text options lookup l r m) is
+  pub lazy-paragraph : (before : List Row) (from : ℕ) (last : Row) → m.leaf ≡ model.InParagraph before from last → lazy_fed text options lookup m.leaf r m ≡ paragraph_line text options lookup before from last r m
+  lazy-paragraph before from last is = ap (λ l. lazy_fed text options lookup l r m) is
 
   pub lazy-definition : (left : ℕ) → m.leaf ≡ model.InDefinition left → lazy_fed text options lookup m.leaf r m ≡ paragraph_begun text options lookup r (leaf_closed text options lookup m)
   lazy-definition left is =
@@ -131,7 +131,7 @@ module _ (text : List ℕ) (options : Options) (lookup : Lookup) (m : model.Pass
   pub closed-outer : (l : model.OpenLeaf) → (close_leaf text options lookup l m).outer ≡ m.outer
   closed-outer model.Closed = refl
   closed-outer model.BehindTag = refl
-  closed-outer (model.InParagraph from last) = refl
+  closed-outer (model.InParagraph before from last) = refl
   closed-outer (model.InDefinition left) = refl
   closed-outer (model.InTable left) = refl
   closed-outer (model.InIndented waits end blank) = refl

@@ -23,6 +23,7 @@ pub mod PassSteps
 pub mod PrefixSteps
 pub mod ReferenceSteps
 pub mod RunSteps
+pub mod SetextSteps
 pub mod TableRuns
 pub mod TableSteps
 pub mod TaskSteps

@@ -36,7 +36,8 @@ use Rattle.cmark_block_model.specs.OpenBlocks as model
 use Rattle.cmark_blocks.specs.Ahead.{lines_at}
 use Rattle.cmark_blocks.specs.declared.state.Pass.{Pass}
 use Rattle.cmark_blocks.specs.Entered.{OpensAs, HasNumber, DefinesAs, TellsMetadata, takes_line, line_taken, BeginsContainer, BeginsFirst, BeginsSoFar}
-use Rattle.cmark_blocks.specs.Runs.{Runs, IsRead}
+use Rattle.cmark_blocks.specs.Runs.{Runs}
+use Rattle.cmark_leaves.specs.Told.{IsRead}
 use Rattle.cmark_blocks.specs.Steps.{Begins}
 use Rattle.cmark_blocks.proofs.OpeningSteps.{Fits, opens-fits}
 use Rattle.cmark_blocks.proofs.TaskSteps.{start-text, nested, nested-on, nested-taken}

@@ -125,12 +125,9 @@ module _ {E : Type 0} (replacement : E → Lookup) (text : List ℕ) (options : 
     footnotes = runs.footnotes;
   }
 
-  -- blank lines wait behind indented code alone
+  -- no lines are kept where no leaf is open
   pub none_behind_closed : pass.leaf ≡ leaf.Closed → Runs replacement text options lookup m pass → pass.blank_lines.items ≡ []
   none_behind_closed is runs = (subst (λ l. ShowsLeaf text l pass.blank_lines.items m.leaf) is runs.leaf).1
-
-  pub none_behind_paragraph : (from : ℕ) (last : LineRest) → pass.leaf ≡ leaf.Paragraph from last → Runs replacement text options lookup m pass → pass.blank_lines.items ≡ []
-  none_behind_paragraph from last is runs = (subst (λ l. ShowsLeaf text l pass.blank_lines.items m.leaf) is runs.leaf).1
 
   -- no leaf is open, and no blank lines wait
   pub runs-closed : (blanks : Vec LineRest Global) → Runs replacement text options lookup m pass → blanks.items ≡ [] → Runs replacement text options lookup (record m { leaf = model.Closed }) (record pass { leaf = leaf.Closed; blank_lines = blanks })

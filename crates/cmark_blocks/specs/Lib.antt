@@ -10,6 +10,7 @@ pub mod IndentedLines
 pub mod Kept
 pub mod Prefixes
 pub mod Runs
+pub mod Setext
 pub mod Shown
 pub mod Steps
 pub mod TablesAhead

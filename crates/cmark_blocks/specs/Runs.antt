@@ -10,14 +10,15 @@ use Rattle.cmark_grammar.specs.BlockDocument.{Reference}
 use Rattle.cmark_items.specs.Definitions.{definition, ShownDefinition, shown_definition}
 use Rattle.cmark_items.specs.Tables.{tables}
 use Rattle.cmark_builder.specs.Drawn.{Draws}
-use Rattle.cmark_lines.specs.Rests.{row_of, IsIn}
+use Rattle.cmark_lines.specs.Rests.{row_of}
 use Rattle.cmark_lines.specs.declared.line_rest.LineRest.{LineRest}
 use Rattle.cmark_text.specs.Shown.{shown_metadata_block_kind, shown_options}
 use Rattle.cmark_scan.specs.HtmlLines.{kind_number}
 use Rattle.cmark_grammar.specs.Leaves.{Fence}
 use Rattle.cmark_leaves.specs.Stretches.{shown_waits}
 use Rattle.cmark_leaves.specs.declared.stretch.Stretch.{Stretch}
-use Rattle.cmark_leaves.specs.Told.{AreTold}
+use Rattle.cmark_leaves.specs.Contents.{AreRead}
+use Rattle.cmark_leaves.specs.Told.{IsRead}
 use Rattle.cmark_block_model.specs.OpenBlocks as model
 use Rattle.cmark_blocks.specs.declared.state.OpenLeaf.{OpenLeaf}
 use Rattle.cmark_blocks.specs.declared.state.OpenLeaf.TheVariants as leaf
@@ -25,19 +26,14 @@ use Rattle.cmark_blocks.specs.declared.state.Pass.{Pass}
 use Rattle.cmark_blocks.specs.Footnotes.{HasLabels}
 use Rattle.cmark_blocks.specs.Shown.{shown_siblings, ShowsContainers}
 
--- the line stands in the text, and tells its bytes
-pub record IsRead (text : List ℕ) (rest : LineRest) : Type 0 where
-  pub placed : IsIn text rest
-  pub told : AreTold text (row_of rest).columns
-
 abbrev pub IsFence : Fence → (mark size indent : ℕ) → Type 0
 IsFence fence mark size indent = (fence.mark ≡ mark) × (fence.size ≡ size) × (fence.indented ≡ indent)
 
--- the open leaf, with the blank lines behind indented code
+-- the open leaf, with the blank lines behind indented code, or the lines of a paragraph before its last one, where they are kept
 abbrev pub ShowsLeaf : List ℕ → OpenLeaf → List LineRest → model.OpenLeaf → Type 0
 ShowsLeaf text leaf.Closed blanks m = (m ≡ model.Closed) × (blanks ≡ [])
 ShowsLeaf text leaf.BehindTag blanks m = (m ≡ model.BehindTag) × (blanks ≡ [])
-ShowsLeaf text (leaf.Paragraph from last) blanks m = (m ≡ model.InParagraph from (row_of last)) × (blanks ≡ [])
+ShowsLeaf text (leaf.Paragraph from last) lines m = m ≡ model.InParagraph (map row_of lines) from (row_of last)
 ShowsLeaf text (leaf.Definition left) blanks m = (m ≡ model.InDefinition left) × (blanks ≡ [])
 ShowsLeaf text (leaf.Table left) blanks m = (m ≡ model.InTable left) × (blanks ≡ [])
 ShowsLeaf text (leaf.Indented waits end) blanks m = m ≡ model.InIndented (shown_waits text waits) end (map row_of blanks)
@@ -58,12 +54,26 @@ IsVerbatim (leaf.Fenced mark size indent others) waits = waits ≡ others
 IsVerbatim (leaf.Html kind) waits = waits ≡ None
 IsVerbatim (leaf.Metadata kind others) waits = waits ≡ others
 
+-- the last line of an open paragraph is read in the text
+abbrev pub IsLastRead : List ℕ → OpenLeaf → Type 0
+IsLastRead text leaf.Closed = Unit {0}
+IsLastRead text leaf.BehindTag = Unit {0}
+IsLastRead text (leaf.Paragraph from last) = IsRead text last
+IsLastRead text (leaf.Definition left) = Unit {0}
+IsLastRead text (leaf.Table left) = Unit {0}
+IsLastRead text (leaf.Indented waits end) = Unit {0}
+IsLastRead text (leaf.Fenced mark size indent waits) = Unit {0}
+IsLastRead text (leaf.Html kind) = Unit {0}
+IsLastRead text (leaf.Metadata kind waits) = Unit {0}
+
 module _ {E : Type 0} where
-  -- what holds of the pass whatever happens, out of memory too: nodes can be added, and no character is cut where the next line
-  -- begins
+  -- what holds of the pass whatever happens, out of memory too: nodes can be added, no character is cut where the next line
+  -- begins, and the lines that are kept are read in the text
   pub record IsGood (pass : Pass E) : Type 0 where
     pub placed : IsPlaced pass.builder.tree
     pub begins : IsCharBoundary pass.text.now pass.past
+    pub lines : AreRead pass.text.now pass.blank_lines.items
+    pub last : IsLastRead pass.text.now pass.leaf
 
 abbrev pub shown_reference : Reference → ShownDefinition
 shown_reference r = record { destination = r.destination; title = r.title; start = r.start; end = r.end }

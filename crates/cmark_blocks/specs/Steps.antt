@@ -1,5 +1,5 @@
 -- What a call of the block pass does to the state of its model.
-use Rattle.std.specs.Prelude.{◌≡◌, ℕ, Bool, List, [], ◌∷◌, ◌++◌, length, Some}
+use Rattle.std.specs.Prelude.{◌≡◌, ℕ, Bool, List, [], ◌∷◌, ◌++◌, length, map, Some}
 use Rattle.cmark_block_model.specs.BlockPass.{container_closed, containers_closed, paragraph_begun, paragraph_line, heading_made, leaf_begun, leaf_closed, ahead_in, begin, begin_as, leaf_fed, lazy_fed, with_drawn}
 use Rattle.cmark_lines.specs.Opened.{bracket_of}
 use Rattle.cmark_lines.specs.Rests.{row_of}
@@ -67,17 +67,17 @@ module _ {E : Type 0} (replacement : E → Lookup) where
       (text : List ℕ) (options : Options) (lookup : Lookup) (m : model.Pass) (ahead : List Row) → Runs replacement text options lookup m old →
       Runs replacement text options lookup (leaf_begun text options lookup leaf more (row_of rest) ahead m) new
 
-  -- one more line of a paragraph, behind this last one, which the lines from this place on touch
+  -- one more line of a paragraph, behind those that were kept and this last one, which the lines from this place on touch
   abbrev pub AddsLine : (from : ℕ) → (last rest : LineRest) → Pass E → Pass E → Type 0
   AddsLine from last rest old new =
       (text : List ℕ) (options : Options) (lookup : Lookup) (m : model.Pass) → Runs replacement text options lookup m old →
-      Runs replacement text options lookup (paragraph_line text options lookup from (row_of last) (row_of rest) m) new
+      Runs replacement text options lookup (paragraph_line text options lookup (map row_of old.blank_lines.items) from (row_of last) (row_of rest) m) new
 
-  -- a paragraph with this last line was underlined
+  -- a paragraph with the lines that were kept and this last one was underlined
   abbrev pub MakesHeading : (level from : ℕ) → (last rest : LineRest) → Pass E → Pass E → Type 0
   MakesHeading level from last rest old new =
       (text : List ℕ) (options : Options) (lookup : Lookup) (m : model.Pass) → Runs replacement text options lookup m old →
-      Runs replacement text options lookup (heading_made text options lookup level from (row_of last) (row_of rest) m) new
+      Runs replacement text options lookup (heading_made text options lookup level (map row_of old.blank_lines.items) from (row_of last) (row_of rest) m) new
 
   -- a line that begins no other leaf began a table, or else a paragraph
   abbrev pub BeginsText : LineRest → Pass E → Pass E → Type 0

@@ -19,7 +19,7 @@ ghost use Rattle.cmark_grammar.specs.Leaves.{run};
 ghost use Rattle.cmark_grammar.specs.Rows.{words_of};
 ghost use Rattle.cmark_grammar.specs.Openings.{ThematicBreak, AtxHeading, HtmlBlock};
 ghost use Rattle.cmark_scan.specs.HtmlLines.{kind_number};
-ghost use Rattle.cmark_text.specs.Shown.{level_number, shown_options};
+ghost use Rattle.cmark_text.specs.Shown.{level_number, shown_options, text_bytes};
 
 use crate::state::{OpenLeaf, Pass};
 use bitflags::Flags;
@@ -31,40 +31,40 @@ use cmark_text::{CowStr, EntityLookup, HeadingLevel, Options};
 use std::alloc::AllocError;
 
 /// Whether attributes of headings are read.
-fn reads_attributes(options: Options) -> bool
+pub(crate) fn reads_attributes(options: Options) -> bool
     ensures { result ≡ (shown_options options).heading_attributes }
 {
     options.contains(Options::ENABLE_HEADING_ATTRIBUTES)
 }
 
 /// The node of a heading with these words between the braces of its attributes, which are kept, if there are any.
-fn heading_body<'a>(
+pub(crate) fn heading_body<'a>(
     builder: &mut Builder<'a>,
     level: HeadingLevel,
-    words: &'a str,
+    words: CowStr<'a>,
 ) -> Result<ItemBody, AllocError>
-    ensures kind { IfOk result (λ body. kind_of (tables builder.new.allocations).texts (shape body) ≡ Some (Heading (level_number level) (attributes_of words.entry.now))) }
+    ensures kind { IfOk result (λ body. kind_of (tables builder.new.allocations).texts (shape body) ≡ Some (Heading (level_number level) (attributes_of (text_bytes words.entry)))) }
     ensures drawn { OnOk result ((text : List ℕ) (d : Drawing) → Draws text builder.old d → Draws text builder.new d) }
     ensures tree { builder.new.tree ≡ builder.old.tree }
     ensures definitions { defined (tables builder.new.allocations) ≡ defined (tables builder.old.allocations) }
 {
-    if words.is_empty() {
+    if words.as_str().is_empty() {
         return Ok(ItemBody::Heading(level, None));
     }
-    let index = builder
-        .allocations
-        .allocate_heading(CowStr::Borrowed(words))?;
+    let index = builder.allocations.allocate_heading(words)?;
     Ok(ItemBody::Heading(level, Some(index)))
 }
 
 impl<'a, E: EntityLookup> Pass<'a, E> {
     ghost use Rattle.cmark_blocks.specs.declared.state.OpenLeaf.TheVariants as leaf;
-    ghost use Rattle.cmark_blocks.specs.Runs.{Runs, IsGood, IsRead};
+    ghost use Rattle.cmark_blocks.specs.Runs.{Runs, IsGood};
+    ghost use Rattle.cmark_leaves.specs.Told.{IsRead};
     ghost use Rattle.cmark_blocks.specs.Steps.{BeginsParagraph, BeginsLeaf};
 
     /// A paragraph begins on a line, with no leaf open.
     pub(crate) fn begin_paragraph(&mut self, rest: LineRest<'a>) -> Result<(), AllocError>
         requires good { IsGood self.old }
+        requires line { IsRead self.old.text.now rest }
         requires closed { self.old.leaf ≡ leaf.Closed }
         ensures good { IsGood self.new }
         ensures runs { OnOk result (BeginsParagraph E.replacement rest.entry self.old self.new) }
@@ -121,7 +121,7 @@ impl<'a, E: EntityLookup> Pass<'a, E> {
         let attributes = reads_attributes(self.options);
         let words = self.attribute_words(attributes, rest);
         self.begin_block();
-        let body = heading_body(&mut self.builder, level, words)?;
+        let body = heading_body(&mut self.builder, level, CowStr::Borrowed(words))?;
         self.builder.open(rest.words_begin(), body)?;
         draw_heading(&mut self.builder, rest, attributes)?;
         self.builder.close(rest.past());

@@ -36,7 +36,8 @@ fn draw_blank_lines(
 
 impl<'a, E: EntityLookup> Pass<'a, E> {
     ghost use Rattle.cmark_blocks.specs.declared.state.OpenLeaf.TheVariants as leaf;
-    ghost use Rattle.cmark_blocks.specs.Runs.{IsGood, IsRead};
+    ghost use Rattle.cmark_blocks.specs.Runs.{IsGood};
+    ghost use Rattle.cmark_leaves.specs.Told.{IsRead};
     ghost use Rattle.cmark_blocks.specs.Steps.{FeedsLeaf};
 
     /// One more line behind an opening fence: the closing fence, or a line of code.
@@ -90,6 +91,7 @@ impl<'a, E: EntityLookup> Pass<'a, E> {
     /// A blank line behind indented code: it belongs to the code if a later line does.
     fn keep_blank_line(&mut self, rest: LineRest<'a>) -> Result<(), AllocError>
         requires good { IsGood self.old }
+        requires line { IsRead self.old.text.now rest }
         requires is { (waits : Option Stretch) × (end : ℕ) × (self.old.leaf ≡ leaf.Indented waits end) }
         requires waits { code_further (row_of rest) ≡ grammar.Waits }
         ensures good { IsGood self.new }

@@ -59,7 +59,8 @@ fn line_ends_behind(text: &str, place: usize) -> usize
 impl<'a, E: EntityLookup> Pass<'a, E> {
     ghost use Rattle.std.specs.Prelude.{false};
     ghost use Rattle.cmark_blocks.specs.declared.state.OpenLeaf.TheVariants as leaf;
-    ghost use Rattle.cmark_blocks.specs.Runs.{IsGood, IsRead};
+    ghost use Rattle.cmark_blocks.specs.Runs.{IsGood};
+    ghost use Rattle.cmark_leaves.specs.Told.{IsRead};
     ghost use Rattle.cmark_blocks.specs.Steps.{StepsOver, BeginsBracket};
     ghost use Rattle.cmark_blocks.specs.Gathered.{IsGathered, Gathers, Decides};
     ghost use Rattle.cmark_blocks.specs.Found.{definition_kept, definition_begun, StopsAt};

@@ -37,7 +37,8 @@ fn is_definition(container: Container) -> bool
 
 impl<'a, E: EntityLookup> Pass<'a, E> {
     ghost use Rattle.cmark_blocks.specs.declared.state.OpenLeaf.TheVariants as leaf;
-    ghost use Rattle.cmark_blocks.specs.Runs.{IsGood, IsRead};
+    ghost use Rattle.cmark_blocks.specs.Runs.{IsGood};
+    ghost use Rattle.cmark_leaves.specs.Told.{IsRead};
     ghost use Rattle.cmark_blocks.specs.Steps.{FeedsLeaf, FeedsLazily};
     ghost use Rattle.cmark_blocks.specs.Fed.{IsLazy, FeedsRest, Feeds};
 
@@ -141,6 +142,7 @@ impl<'a, E: EntityLookup> Pass<'a, E> {
     /// alert's tag (this profile's own).
     fn feed_lazily(&mut self, rest: LineRest<'a>) -> Result<(), AllocError>
         requires good { IsGood self.old }
+        requires line { IsRead self.old.text.now rest }
         ensures good { IsGood self.new }
         ensures runs { OnOk result (FeedsLazily E.replacement rest.entry self.old self.new) }
         ensures text { self.new.text ≡ self.old.text }

@@ -10,7 +10,8 @@ use std::alloc::AllocError;
 
 impl<'a, E: EntityLookup> Pass<'a, E> {
     ghost use Rattle.cmark_blocks.specs.declared.state.OpenLeaf.TheVariants as leaf;
-    ghost use Rattle.cmark_blocks.specs.Runs.{IsGood, IsRead};
+    ghost use Rattle.cmark_blocks.specs.Runs.{IsGood};
+    ghost use Rattle.cmark_leaves.specs.Told.{IsRead};
     ghost use Rattle.cmark_blocks.specs.Steps.{FeedsLeaf};
 
     /// One more line behind an open HTML block: the block goes on or ends with it, or has ended before it.

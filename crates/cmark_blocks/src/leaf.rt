@@ -38,6 +38,7 @@ impl<'a, E: EntityLookup> Pass<'a, E> {
     {
         draw_last_lines(&mut self.builder, from, last)?;
         self.builder.close(self.past);
+        self.blank_lines.clear();
         self.leaf = OpenLeaf::Closed;
         Ok(())
     }

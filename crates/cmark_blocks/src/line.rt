@@ -34,7 +34,8 @@ fn reads_tasklists(options: Options) -> bool
 
 impl<'a, E: EntityLookup> Pass<'a, E> {
     ghost use Rattle.cmark_blocks.specs.declared.state.OpenLeaf.TheVariants as leaf;
-    ghost use Rattle.cmark_blocks.specs.Runs.{IsGood, IsRead};
+    ghost use Rattle.cmark_blocks.specs.Runs.{IsGood};
+    ghost use Rattle.cmark_leaves.specs.Told.{IsRead};
     ghost use Rattle.cmark_blocks.specs.Steps.{Steps, Begins, BeginsAnew, BeginsTask};
     ghost use Rattle.cmark_blocks.specs.Entered.{BeginsAs, BeginsContainer, BeginsFirst, DefinesAs};
 
@@ -46,6 +47,7 @@ impl<'a, E: EntityLookup> Pass<'a, E> {
         behind: LineRest<'a>,
     ) -> Result<(), AllocError>
         requires good { IsGood self.old }
+        requires line { IsRead self.old.text.now behind }
         requires closed { self.old.leaf ≡ leaf.Closed }
         ensures good { IsGood self.new }
         ensures runs { OnOk result (BeginsTask E.replacement is_checked start behind.entry self.old self.new) }

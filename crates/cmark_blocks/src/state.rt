@@ -57,7 +57,7 @@ pub(crate) struct Pass<'a, E> {
     /// The innermost container is an item whose first line was blank, and came last.
     pub bare: bool,
     pub leaf: OpenLeaf<'a>,
-    /// The blank lines behind indented code.
+    /// The blank lines behind indented code; where attributes of headings are read, the lines of a paragraph before its last one.
     pub blank_lines: Vec<LineRest<'a>>,
     /// Where the next line begins.
     pub past: usize,

@@ -1,4 +1,4 @@
-use Rattle.std.proofs.Common.{⊎_elim, sym, subst}
+use Rattle.std.proofs.Common.{⊎_elim, map, sym, subst}
 use Rattle.std.proofs.lemmas.Result.{on_ok_weaker}
 use Rattle.cmark_lines.specs.Rests.{row_of}
 use Rattle.cmark_blocks.specs.Ahead.{lines_at}
@@ -12,7 +12,7 @@ returns-in-Paragraph-clause-runs g c =
     let row = row_of c.args.rest in
     on_ok_weaker c.add_to_paragraph.result
     (λ adds. λ text options lookup m runs. subst (λ p. Runs replacement text options lookup p c.add_to_paragraph.new.self)
-    (sym (lazy-paragraph text options lookup row (lines_at text row.past) m c.in-Paragraph.from (row_of c.in-Paragraph.last) (in_paragraph replacement text options lookup m c.args.self.now runs c.in-Paragraph.from c.in-Paragraph.last c.in-Paragraph.is)))
+    (sym (lazy-paragraph text options lookup row (lines_at text row.past) m (map row_of c.args.self.now.blank_lines.items) c.in-Paragraph.from (row_of c.in-Paragraph.last) (in_paragraph replacement text options lookup m c.args.self.now runs c.in-Paragraph.from c.in-Paragraph.last c.in-Paragraph.is)))
     (adds text options lookup m runs))
     c.add_to_paragraph.ensures.runs
 

@@ -1,4 +1,4 @@
-use Rattle.std.proofs.Common.{◌≡◌, ◌≤◌, true, false, ◌||◌, length, option_map, sym, ap, subst, ◌∙◌, arith, true≢false}
+use Rattle.std.proofs.Common.{◌≡◌, ◌≤◌, true, false, ◌||◌, length, map, option_map, sym, ap, subst, ◌∙◌, arith, true≢false}
 use Rattle.cmark_grammar.specs.Openings.{interrupts}
 use Rattle.cmark_grammar.specs.TableRows.{table_interrupts}
 use Rattle.cmark_grammar.specs.DefinitionLists.{begins_definition}
@@ -22,7 +22,7 @@ returns-then-begins_with_letter-clause-runs g c text options lookup m runs =
     let row = row_of c.args.rest in
     let letter = sym c.begins_with_letter.ensures ∙ c.if-begins_with_letter.true in
     subst (λ p. Runs replacement text options lookup p c.add_to_paragraph.new.self)
-    (sym (feeds-text text options lookup row (lines_at text row.past) m c.args.from (row_of c.args.last) (sym (letter-underlines-not row letter)) (whole c.args.rest)
+    (sym (feeds-text text options lookup row (lines_at text row.past) m (map row_of c.args.self.now.blank_lines.items) c.args.from (row_of c.args.last) (sym (letter-underlines-not row letter)) (whole c.args.rest)
     (sym (ap (λ z. z || block_interrupts options true row (ahead_in text options lookup m.outer (lines_at text row.past))) (letter-interrupts-not options true row (ahead_in text options lookup m.outer (lines_at text row.past)) letter)
     ∙ ap (λ z. z || begins_definition options row) (letter-table-not options row (ahead_in text options lookup m.outer (lines_at text row.past)) letter) ∙ letter-definition-not options row letter)) (in_paragraph replacement text options lookup m c.args.self.now runs c.args.from c.args.last c.requires.is)))
     (c.in_ok-add_to_paragraph.ensures.runs text options lookup m runs)
@@ -32,7 +32,7 @@ returns-in-Some-clause-runs g c text options lookup m runs =
     let replacement = g.E.EntityLookup.replacement in
     let row = row_of c.args.rest in
     subst (λ p. Runs replacement text options lookup p c.underline.new.self)
-    (sym (feeds-underline text options lookup row (lines_at text row.past) m c.args.from (row_of c.args.last) (level_number c.in-Some.level) (ap (option_map level_number) (sym c.in-Some.is) ∙ c.underlines.ensures) (in_paragraph replacement text options lookup m c.args.self.now runs c.args.from c.args.last c.requires.is)))
+    (sym (feeds-underline text options lookup row (lines_at text row.past) m (map row_of c.args.self.now.blank_lines.items) c.args.from (row_of c.args.last) (level_number c.in-Some.level) (ap (option_map level_number) (sym c.in-Some.is) ∙ c.underlines.ensures) (in_paragraph replacement text options lookup m c.args.self.now runs c.args.from c.args.last c.requires.is)))
     (c.in_ok-underline.ensures.runs text options lookup m runs)
 
 pub returns-in_ok-begin_anew-clause-runs : goal.returns-in_ok-begin_anew-clause-runs
@@ -50,7 +50,7 @@ returns-in_ok-begin_anew-clause-runs g c text options lookup m runs =
           (sym c.if-block_interrupts.true ∙ w.value-is ∙ told-inside text options lookup cs m.outer w.len.result row next w.block_interrupts.result runs.outer all (w.block_interrupts.ensures text options lookup m runs)))
     ] in
     subst (λ p. Runs replacement text options lookup p c.begin_anew.new.self)
-    (sym (feeds-interrupted text options lookup row next m c.args.from (row_of c.args.last) (ap (option_map level_number) (sym c.in_default.is) ∙ c.underlines.ensures) (whole c.args.rest)
+    (sym (feeds-interrupted text options lookup row next m (map row_of c.args.self.now.blank_lines.items) c.args.from (row_of c.args.last) (ap (option_map level_number) (sym c.in_default.is) ∙ c.underlines.ensures) (whole c.args.rest)
     ends (in_paragraph replacement text options lookup m c.args.self.now runs c.args.from c.args.last c.requires.is)))
     (c.in_ok-begin_anew.ensures.runs text options lookup m runs)
 
@@ -69,6 +69,6 @@ returns-in_ok-add_to_paragraph-2-clause-runs g c text options lookup m runs =
           (sym c.if-block_interrupts.false ∙ w.value-is ∙ told-inside text options lookup cs m.outer w.len.result row next w.block_interrupts.result runs.outer all (w.block_interrupts.ensures text options lookup m runs)))
     ] in
     subst (λ p. Runs replacement text options lookup p c.add_to_paragraph-else-block_interrupts.new.self)
-    (sym (feeds-text text options lookup row next m c.args.from (row_of c.args.last) (ap (option_map level_number) (sym c.in_default.is) ∙ c.underlines.ensures) (whole c.args.rest)
+    (sym (feeds-text text options lookup row next m (map row_of c.args.self.now.blank_lines.items) c.args.from (row_of c.args.last) (ap (option_map level_number) (sym c.in_default.is) ∙ c.underlines.ensures) (whole c.args.rest)
     goes_on (in_paragraph replacement text options lookup m c.args.self.now runs c.args.from c.args.last c.requires.is)))
     (c.in_ok-add_to_paragraph-2.ensures.runs text options lookup m runs)

@@ -1,0 +1,53 @@
+-- The attributes of a setext heading, and what is drawn of it without them.
+use Rattle.std.proofs.Common.{◌≡◌, ℕ, Bool, true, false, List, [], ◌∷◌, ◌++◌, Option, Some, None, refl, sym, ap, ◌∙◌, subst}
+use Rattle.std.specs.Prelude.{string_bytes}
+use Rattle.cmark_grammar.specs.Attributes.{attributes_of, no_attributes}
+use Rattle.cmark_grammar.specs.SetextAttributes.{ends_in_braces, attributes_place, texts_if, setext_attributes}
+use Rattle.cmark_block_model.specs.Drawing.{OpenNode, Drawing, cut_at, texts_cut, unbraced}
+use Rattle.cmark_lines.specs.declared.line_rest.LineRest.{LineRest}
+use Rattle.cmark_leaves.specs.Contents.{AreRead, content_columns}
+use Rattle.cmark_leaves.specs.Told.{IsRead}
+use Rattle.cmark_leaves.specs.declared.setext.SetextAttributes.{SetextAttributes}
+use Rattle.cmark_leaves.proofs.FoundSetext.{no-setext}
+use Rattle.cmark_blocks.specs.Setext.{FindsIf}
+use Rattle.cmark_blocks.specs.Runs.{IsLastRead}
+use Rattle.cmark_blocks.specs.declared.state.OpenLeaf.{OpenLeaf}
+use Rattle.cmark_blocks.specs.declared.state.OpenLeaf.TheVariants as leaf
+
+-- one more line that is read
+pub read-more : (text : List ℕ) (lines : List LineRest) (last : LineRest) → AreRead text lines → IsRead text last → AreRead text (lines ++ last ∷ [])
+read-more text [] last h l = (l, tt)
+read-more text (r ∷ lines) last h l = (h.0, read-more text lines last h.1 l)
+
+-- the last line of the paragraph that is open
+pub last-read : (text : List ℕ) (l : OpenLeaf) (from : ℕ) (last : LineRest) → l ≡ leaf.Paragraph from last → IsLastRead text l → IsRead text last
+last-read text l from last is h = subst (IsLastRead text) is h
+
+-- where nothing was found
+pub none-attributes : (attributes : Bool) (before : List LineRest) (last : LineRest) → FindsIf attributes before last None → no_attributes ≡ setext_attributes attributes (content_columns before last)
+none-attributes false before last e = refl
+none-attributes true before last e = sym (no-setext (content_columns before last) e)
+
+pub none-unbraced : (text : List ℕ) (attributes : Bool) (before : List LineRest) (last : LineRest) (d : Drawing) → FindsIf attributes before last None → d ≡ unbraced text attributes (content_columns before last) d.here d.up
+none-unbraced text attributes before last d e = go d.up attributes e
+  where
+    go : (up : List OpenNode) (attributes : Bool) → FindsIf attributes before last None → record { here = d.here; up = up } ≡ unbraced text attributes (content_columns before last) d.here up
+    go [] attributes e = refl
+    go (v ∷ up) false e = refl
+    go (v ∷ up) true e = sym (ap (λ z. record { here = texts_if z text (attributes_place (content_columns before last)) d.here; up = v ∷ up }) e)
+
+-- where attributes were found
+pub found-attributes : (attributes : Bool) (before : List LineRest) (last : LineRest) (found : SetextAttributes) → FindsIf attributes before last (Some found) → attributes_of (string_bytes found.words) ≡ setext_attributes attributes (content_columns before last)
+found-attributes false before last found e = absurd (let q : Some found ≡ None = e in cc)
+found-attributes true before last found h = ap attributes_of h.words
+
+pub found-unbraced : (text : List ℕ) (attributes : Bool) (before : List LineRest) (last : LineRest) (found : SetextAttributes) (d : Drawing) → FindsIf attributes before last (Some found)
+    → texts_cut text found.place d ≡ unbraced text attributes (content_columns before last) d.here d.up
+found-unbraced text attributes before last found d h = go d.up attributes h
+  where
+    go : (up : List OpenNode) (attributes : Bool) → FindsIf attributes before last (Some found) → cut_at text found.place d.here up ≡ unbraced text attributes (content_columns before last) d.here up
+    go [] attributes h = refl
+    go (v ∷ up) false h = absurd (let q : Some found ≡ None = h in cc)
+    go (v ∷ up) true h =
+        ap (λ at. cut_at text at d.here (v ∷ up)) h.place
+        ∙ sym (ap (λ z. record { here = texts_if z text (attributes_place (content_columns before last)) d.here; up = v ∷ up }) h.ends)
