@@ -1,5 +1,5 @@
 -- Definition lists and their titles among the kinds of nodes, and how many starts stand before a text.
-use Rattle.std.proofs.Common.{◌≡◌, ℕ, Bool, true, false, true≢false, refl, sym}
+use Rattle.std.proofs.Common.{◌≡◌, Bool, true, false, true≢false, refl, sym}
 use Rattle.cmark_grammar.specs.BlockDocument.{BlockKind, Paragraph, TightParagraph, Heading, LinkDefinition, TableCell, DefinitionList, DefinitionListTitle}
 use Rattle.cmark_grammar.specs.BlockReading.{is_leaf, is_title, read_as, starts_of, title_as}
 use Rattle.cmark_grammar.specs.DrawnDocument.{is_definition, kind_within}

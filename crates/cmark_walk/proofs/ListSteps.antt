@@ -1,5 +1,5 @@
 -- A definition list in front of whose first title a task marker stands, and a step into it.
-use Rattle.std.proofs.Common.{◌≡◌, if◌then◌else◌, ℕ, Bool, false, true, List, [], ◌∷◌, ◌++◌, Option, Some, None, refl, sym, ap, ◌∙◌, subst, append_assoc}
+use Rattle.std.proofs.Common.{◌≡◌, if◌then◌else◌, ℕ, Bool, false, true, List, ◌∷◌, ◌++◌, Option, Some, None, refl, sym, ap, ◌∙◌, subst, append_assoc}
 use Rattle.std.proofs.lemmas.Option.{same_Some}
 use Rattle.cmark_tree.specs.declared.tree.Tree.{Tree}
 use Rattle.cmark_tree.specs.declared.tree_index.TreeIndex.{TreeIndex}
@@ -26,7 +26,7 @@ use Rattle.cmark_leaf_text.specs.declared.stretch.LeafLine.{LeafLine}
 use Rattle.cmark_walk.specs.declared.walk.Walk.{Walk}
 use Rattle.cmark_walk.specs.declared.reading.Stage.TheVariants as stage
 use Rattle.cmark_walk.specs.declared.reading.Step.{Step}
-use Rattle.cmark_walk.specs.Walking.{Drawn, Outer, StandsAt, Remains, Goes, GivesStep, GivesRanged, IsStaged, IsTitleIn, TitleIn, content_of, left_above, left_from, left_in_list, leaving, texts_of, tight_below}
+use Rattle.cmark_walk.specs.Walking.{Drawn, Outer, StandsAt, Remains, Goes, GivesStep, GivesRanged, IsStaged, IsTitleIn, TitleIn, content_of, left_above, left_from, leaving, texts_of, tight_below}
 use Rattle.cmark_walk.proofs.InsideItems.{not-definition}
 use Rattle.cmark_walk.proofs.LeafKinds.{settled-leaf}
 use Rattle.cmark_walk.proofs.Links.{IsChild, Begins, leads-inside, leads-node, leads-nowhere, leads-to}

@@ -1,4 +1,4 @@
-use Rattle.std.proofs.Common.{[], sym, subst}
+use Rattle.std.proofs.Common.{[], subst}
 use Rattle.cmark_walk.specs.Walking.{IsTitleIn}
 use Rattle.cmark_walk.proofs.ListSteps.{enters-titled, enters-untitled, here-focus}
 use Rattle.cmark_walk.proofs.WalkSteps.{goes-after, on-err, unchanged-remains}

@@ -1,6 +1,5 @@
-use Rattle.std.proofs.Common.{◌≡◌, inl, inr, None, sym, ap, ◌∙◌, option_map}
+use Rattle.std.proofs.Common.{inl, inr, sym, ap, ◌∙◌, option_map}
 use Rattle.cmark_text.specs.Shown.{shown_tag}
-use Rattle.cmark_walk.specs.Walking.{behind_first}
 use Rattle.cmark_walk.proofs.MarkerSteps.{none-behind, later-node, next-drawn, other-behind, leaf-behind}
 use Rattle.cmark_walk.proofs.WalkSteps.{focus-node, tag-around}
 use Rattle.cmark_walk.proofs.walk.Walk.leaf_behind.Goals as goal

@@ -1,6 +1,5 @@
-use Rattle.std.proofs.Common.{◌≡◌, None, Some, [], sym, ap, ◌∙◌, subst}
+use Rattle.std.proofs.Common.{[], subst}
 use Rattle.cmark_walk.specs.Walking.{IsLeafBehind, IsListBehind}
-use Rattle.cmark_walk.proofs.LeafLeave.{leaf-here}
 use Rattle.cmark_walk.proofs.MarkerSteps.{item-task, passes-marker, enters-listed, enters-marked}
 use Rattle.cmark_walk.proofs.WalkSteps.{focus-node, goes-after}
 use Rattle.cmark_walk.proofs.walk.Walk.pass_marker.Goals as goal
