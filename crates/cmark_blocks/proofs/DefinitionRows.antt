@@ -1,5 +1,5 @@
 -- Lines that begin no definition, and what one is that does.
-use Rattle.std.proofs.Common.{◌≡◌, ℕ, suc, ◌<◌, ◌-◌, Bool, true, false, ◌==◌, ◌&&◌, ◌||◌, not, List, [], ◌∷◌, length, Option, Some, None, refl, sym, ap, ◌∙◌, arith, true≢false, eqb-true, length-drop}
+use Rattle.std.proofs.Common.{◌≡◌, ℕ, suc, ◌<◌, ◌-◌, Bool, true, false, ◌==◌, ◌&&◌, not, List, [], ◌∷◌, length, Option, Some, None, refl, sym, ap, ◌∙◌, arith, true≢false, eqb-true, length-drop}
 use Rattle.std.proofs.lemmas.Option.{same_Some}
 use Rattle.std.specs.Prelude.{if◌then◌else◌, nat_le}
 use Rattle.cmark_grammar.specs.Answers.{Lookup}
@@ -9,12 +9,11 @@ use Rattle.cmark_grammar.specs.DefinitionLists.{begins_definition, definition_at
 use Rattle.cmark_grammar.specs.Letters.{first_is, is_letter}
 use Rattle.cmark_grammar.specs.Openings.{Nests, opens, opens_at, definition_or, text_begun}
 use Rattle.cmark_grammar.specs.Options.{Options}
-use Rattle.cmark_grammar.specs.Places.{Place, Apart, BehindTitle, is_behind_task, is_behind_title}
+use Rattle.cmark_grammar.specs.Places.{Place, Apart, is_behind_task, is_behind_title}
 use Rattle.cmark_grammar.specs.Columns.{Column, bytes_of, without_indent}
-use Rattle.cmark_grammar.specs.Rows.{Row, indent_of, words_of, without, is_blank_line}
+use Rattle.cmark_grammar.specs.Rows.{Row, indent_of, words_of, without}
 use Rattle.cmark_block_model.specs.BlockPass.{ahead_in, begin_as, begin_in, container_begun, inside_begun, is_item, place_of, place_with, definitions_in}
 use Rattle.cmark_block_model.specs.OpenBlocks as model
-use Rattle.cmark_blocks.specs.Entered.{takes_line}
 
 none-marked : (a b : Bool) (r : Row) → begins_with 58 (words_of r) ≡ false → (if a && (not r.lazy && b) then definition_width r else None) ≡ None
 none-marked a b r e = go (a && (not r.lazy && b)) ∙ refl

@@ -1,6 +1,6 @@
 -- What is drawn where a paragraph may be a title.
-use Rattle.std.proofs.Common.{◌≡◌, ℕ, Bool, true, false, Option, Some, None, option_map, refl, sym, ap, ◌∙◌}
-use Rattle.cmark_block_model.specs.BlockPass.{ended, ended_but, released_from, title_released, siblings_with_paragraph, title_made, definition_behind}
+use Rattle.std.proofs.Common.{◌≡◌, ℕ, Bool, true, false, Option, Some, None, option_map, refl}
+use Rattle.cmark_block_model.specs.BlockPass.{ended, ended_but, released_from, title_released, title_made}
 use Rattle.std.specs.Prelude.{is_some}
 use Rattle.cmark_grammar.specs.BlockDocument.{DefinitionList, DefinitionListTitle}
 use Rattle.cmark_block_model.specs.Drawing.{Drawing, retitled, enclosed}

@@ -137,7 +137,14 @@ impl<'a, E: EntityLookup> Pass<'a, E> {
             loose: false,
             end: start,
         };
-        self.builder.open(start, OpenList { loose: true, ..list }.body())?;
+        self.builder.open(
+            start,
+            OpenList {
+                loose: true,
+                ..list
+            }
+            .body(),
+        )?;
         self.inner.list = Some(list);
         Ok(())
     }

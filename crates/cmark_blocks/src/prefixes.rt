@@ -80,7 +80,8 @@ fn behind_prefix<'a>(container: Container, line: LineStart<'a>) -> Option<LineSt
 {
     match container {
         Container::Quote => behind_quote(line),
-        Container::Item { width } | Container::Definition { width } => behind_width(line, width),
+        Container::Item { width } => behind_width(line, width),
+        Container::Definition { width } => behind_width(line, width),
         Container::Footnote { old } => behind_footnote(line, old),
     }
 }

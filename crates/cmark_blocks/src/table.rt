@@ -18,7 +18,8 @@ use cmark_builder::Builder;
 use cmark_items::ItemBody;
 use cmark_leaves::{draw_head, draw_row};
 use cmark_lines::{
-    LineRest, begins_definition, begins_with_pipe, count_missing, head_cells, interrupts, is_delimiter_row,
+    LineRest, begins_definition, begins_with_pipe, count_missing, head_cells, interrupts,
+    is_delimiter_row,
 };
 use cmark_text::{CowStr, EntityLookup, Options};
 use std::alloc::AllocError;

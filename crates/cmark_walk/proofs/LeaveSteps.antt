@@ -80,6 +80,7 @@ behind walk ix z here above s n p =
 stage-none : (now : Stage) (here : BlockDocument) → here ≡ document.Nil → IsStaged now here → now ≡ stage.Before
 stage-none stage.Before here e s = refl
 stage-none (stage.Marked is_checked start end) here e s = absurd (subst (IsStaged (stage.Marked is_checked start end)) e s)
+stage-none (stage.Listed is_checked start end) here e s = absurd (subst (IsStaged (stage.Listed is_checked start end)) e s)
 stage-none stage.Lines here e s = absurd (subst (IsStaged stage.Lines) e s)
 stage-none stage.Behind here e s = absurd (subst (IsStaged stage.Behind) e s)
 

@@ -3,6 +3,9 @@ pub mod LeafKinds
 pub mod LeafLeave
 pub mod LeaveSteps
 pub mod LineSteps
+pub mod Links
+pub mod ListKinds
+pub mod ListSteps
 pub mod MarkerSteps
 pub mod NewSteps
 pub mod OneRemainder

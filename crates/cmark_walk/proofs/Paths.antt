@@ -1,5 +1,5 @@
 -- The path of a walk, read from its innermost node outwards.
-use Rattle.std.proofs.Common.{◌≡◌, ℕ, Bool, false, List, [], ◌∷◌, ◌++◌, Option, Some, None, option_map, length, length-append, arith, refl, sym, ap, ◌∙◌, subst}
+use Rattle.std.proofs.Common.{◌≡◌, ◌⊎◌, inl, inr, ℕ, Bool, false, List, [], ◌∷◌, ◌++◌, Option, Some, None, option_map, length, length-append, arith, refl, sym, ap, ◌∙◌, subst}
 use Rattle.cmark_tree.specs.declared.tree_index.TreeIndex.{TreeIndex}
 use Rattle.cmark_tree.specs.Forest.{Forest, Node, join}
 use Rattle.cmark_tree.specs.Arena.{Entry, first, Stands, Placed}
@@ -171,9 +171,14 @@ decided walk whole rest ix above item e t i =
     let d = innermost-item walk rest ix above item m i in
     (tight_below m.outer, m.same ∙ drawn-within walk.text.now (texts_of walk) item m.node.node (tight_below m.outer) d)
 
--- past an item, its own context decides
-pub outwards : (walk : Walk) (whole rest : List TreeIndex) (ix : TreeIndex) (above : List Outer) (item : Item) (b : ItemBody) → ((tight : Bool) → body_within tight b ≡ tight) → whole ≡ rest ++ ix ∷ [] → TightFrom walk whole above → ((e : Entry Item) → entry_at walk.tree ix.ix ≡ Some e → item ≡ e.item) → item.body ≡ b → TightFrom walk rest above
-outwards walk whole rest ix above item b keeps e t i is =
+-- an item or a definition stands in the list in which it stands, whether that is tight
+pub item-keeps : (b : ItemBody) → ((width : ℕ) × (b ≡ body.ListItem width)) ⊎ ((width : ℕ) × (b ≡ body.DefinitionListDefinition width)) → (tight : Bool) → body_within tight b ≡ tight
+item-keeps b (inl i) tight = ap (body_within tight) i.1
+item-keeps b (inr i) tight = ap (body_within tight) i.1
+
+-- past an item or a definition, its own context decides
+pub outwards : (walk : Walk) (whole rest : List TreeIndex) (ix : TreeIndex) (above : List Outer) (item : Item) → whole ≡ rest ++ ix ∷ [] → TightFrom walk whole above → ((e : Entry Item) → entry_at walk.tree ix.ix ≡ Some e → item ≡ e.item) → ((tight : Bool) → body_within tight item.body ≡ tight) → TightFrom walk rest above
+outwards walk whole rest ix above item e t i keeps =
     let m = innermost walk whole rest ix above e t in
     let d = innermost-item walk rest ix above item m i in
     record {
@@ -182,7 +187,7 @@ outwards walk whole rest ix above item b keeps e t i is =
       spine = m.spine;
       draws = m.draws;
       stands = m.stands;
-      same = m.same ∙ drawn-within walk.text.now (texts_of walk) item m.node.node (tight_below m.outer) d ∙ ap (body_within (tight_below m.outer)) is ∙ keeps (tight_below m.outer);
+      same = m.same ∙ drawn-within walk.text.now (texts_of walk) item m.node.node (tight_below m.outer) d ∙ keeps (tight_below m.outer);
     }
 
 none-left : (walk : Walk) (above : List Outer) (up : List (Level Item)) (outer : List Outer) → [] ≡ spine_of up → DrawsAbove walk.text.now (texts_of walk) up outer → tight_below outer ≡ false

@@ -41,7 +41,8 @@ pub(crate) enum Stage {
         /// The byte offset behind it.
         end: usize,
     },
-    /// In it, a definition list, before its first title, in which the task marker of the paragraph stands that became the title (GFM 5.3).
+    /// In it, a definition list, before its first title and the task marker that stands in that title, since it stood in the paragraph that
+    /// became the title (GFM 5.3).
     Listed {
         /// Whether the marker's box is checked.
         is_checked: bool,

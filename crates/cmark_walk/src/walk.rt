@@ -6,7 +6,7 @@ ghost use Rattle.cmark_tree.specs.Forest.{Forest};
 ghost use Rattle.cmark_tree.specs.Building.{Is};
 ghost use Rattle.cmark_tree.specs.Zip.{Zip};
 ghost use Rattle.cmark_grammar.specs.BlockDocument.{BlockDocument, BlockNode};
-ghost use Rattle.cmark_grammar.specs.BlockReading.{read_as};
+ghost use Rattle.cmark_grammar.specs.BlockReading.{read_as, is_title};
 ghost use Rattle.cmark_grammar.specs.DrawnDocument.{settled, kind_within};
 ghost use Rattle.cmark_grammar.specs.Ranges.{InOrder, AllAt};
 ghost use Rattle.cmark_grammar.specs.SpanDocuments.{Segment, segments, is_cell, is_leaf};
@@ -24,7 +24,7 @@ ghost use Rattle.cmark_leaf_text.specs.declared.stretch.LeafLine.{LeafLine};
 ghost use Rattle.cmark_text.specs.declared.text.CowStr.{CowStr};
 ghost use Rattle.cmark_walk.specs.declared.reading.Met.TheVariants as met;
 ghost use Rattle.cmark_walk.specs.declared.reading.Stage.TheVariants as stage;
-ghost use Rattle.cmark_walk.specs.Walking.{Drawn, IsDrawn, Outer, StandsBelow, IsBelow, tight_below, Remains, Goes, Gives, GivesStep, HoldsLines, definitions_of, text_of, IsAt, IsPast, GivesRanged, texts_of, ReadsZeroCopy, StepsZeroCopy, MeetsZeroCopy, IsTaskAt, IsLeafBehind, has_texts, is_synthesized, task_body};
+ghost use Rattle.cmark_walk.specs.Walking.{Drawn, IsDrawn, Outer, StandsBelow, IsBelow, tight_below, Remains, Goes, Gives, GivesStep, HoldsLines, definitions_of, text_of, IsAt, IsPast, GivesRanged, texts_of, ReadsZeroCopy, StepsZeroCopy, MeetsZeroCopy, IsTaskAt, IsLeafBehind, IsListBehind, IsTitleIn, is_list, has_texts, is_synthesized, task_body};
 
 use crate::reading::{Met, Ranged, Reading, Stage, Step};
 use bitflags::Flags;
@@ -37,9 +37,9 @@ use std::alloc::{AllocError, Global};
 
 /// A walk over the tree of a document, which meets the events of its blocks and the lines of its leaves in the order of the text.
 ///
-/// A leaf is a paragraph, a heading or the cell of a table: whether a text is content that has spans is seen from the node around it, so the texts of code,
-/// of HTML blocks and of metadata are events. A paragraph that stands directly in an item of a tight list is met as its lines alone (CommonMark
-/// 5.3).
+/// A leaf is a paragraph, a heading, the title of definitions or the cell of a table: whether a text is content that has spans is seen from the node
+/// around it, so the texts of code, of HTML blocks and of metadata are events. A paragraph that stands directly in an item or a definition of a tight
+/// list is met as its lines alone (CommonMark 5.3).
 #[derive(Drop)]
 pub struct Walk<'a> {
     text: &'a str,
@@ -184,7 +184,8 @@ impl<'a> Walk<'a> {
         }
     }
 
-    // Past a task marker: to the lines of the paragraph or heading behind it, where one begins, whose first event the marker is (GFM 5.3).
+    // Past a task marker: to the lines of the paragraph or heading behind it, where one begins, whose first event the marker is (GFM 5.3), or
+    // into the definition list behind it, in whose first title the marker stands.
     #[inline(always)]
     fn pass_marker(&mut self, ix: TreeIndex, is_checked: bool) -> Result<Step<'a>, AllocError>
         requires at { IsAt self.old ix }
@@ -222,8 +223,8 @@ impl<'a> Walk<'a> {
         }
     }
 
-    // Into the definition list in the focus, behind whose start the task marker stands that lies before it: in the title with
-    // which the list begins (GFM 5.3).
+    // Into what is inside the definition list in the focus, whose start was given: to the lines of the title with which it begins, whose
+    // first event the task marker between these byte offsets is (GFM 5.3). Where it begins with no title, the marker is given here.
     #[inline(always)]
     fn enter_list(
         &mut self,
@@ -269,10 +270,7 @@ impl<'a> Walk<'a> {
     {
         let child = self.tree.child(ix)?;
         let item = *self.tree.item(child);
-        match item.body {
-            ItemBody::DefinitionListTitle => Some(item),
-            _ => None,
-        }
+        if is_title(item) { Some(item) } else { None }
     }
 
     // The item of the definition list behind a node, where one stands there.
@@ -282,10 +280,7 @@ impl<'a> Walk<'a> {
     {
         let next = self.tree.next(ix)?;
         let item = *self.tree.item(next);
-        match item.body {
-            ItemBody::DefinitionList(_) => Some(item),
-            _ => None,
-        }
+        if is_list(item) { Some(item) } else { None }
     }
 
     // The tag of the paragraph or heading behind a node, and its item, where one begins there.
@@ -596,9 +591,8 @@ impl<'a> Walk<'a> {
         let mut parents = self.tree.walk_spine();
         while let Some(ix) = parents.next_back() {
             match self.tree.item(*ix).body {
-                ItemBody::List(flags, _, _) | ItemBody::DefinitionList(flags) => {
-                    return flags.bits() % 2 == 1;
-                }
+                ItemBody::List(flags, _, _) => return flags.bits() % 2 == 1,
+                ItemBody::DefinitionList(flags) => return flags.bits() % 2 == 1,
                 ItemBody::ListItem(_) | ItemBody::DefinitionListDefinition(_) => {}
                 _ => return false,
             }
@@ -642,6 +636,22 @@ fn is_cell(item: Item) -> bool
         ItemBody::TableCell => true,
         _ => false,
     }
+}
+
+// Whether an item is a definition list.
+#[inline(always)]
+fn is_list(item: Item) -> bool
+    ensures { (text : List ℕ) (texts : List CowStr) (node : BlockNode) → Drawn text texts item node → result ≡ is_list node.kind }
+{
+    matches!(item.body, ItemBody::DefinitionList(_))
+}
+
+// Whether an item is a title in a definition list.
+#[inline(always)]
+fn is_title(item: Item) -> bool
+    ensures { (text : List ℕ) (texts : List CowStr) (node : BlockNode) → Drawn text texts item node → result ≡ is_title node.kind }
+{
+    matches!(item.body, ItemBody::DefinitionListTitle)
 }
 
 // The tag of a heading with these words between the braces of its attributes.

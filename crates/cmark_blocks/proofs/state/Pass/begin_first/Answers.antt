@@ -53,7 +53,7 @@ returns-in-Some-clause-runs g c text options lookup columns m le runs =
       subst (λ at. Runs g.E.EntityLookup.replacement text options lookup (definition_begun_in c.in-Some.width at m) c.begin_list_definition.new.self) c.begin.ensures.place (c.in_ok-begin_list_definition.ensures.runs text options lookup m runs),
       ap (λ (s : Row). s.past) c.in-Some.ensures.inside,
       definition-begins text options lookup row (row_of c.in-Some.inside) columns c.args.bare m c.in-Some.width (lines_at text row.past) (c.in-Some.ensures.width text options lookup m runs) c.in-Some.ensures.inside
-      ∙ ap (λ (p : ℕ). begin_in text options lookup columns Apart (row_of c.in-Some.inside) (lines_at text p) true (container_begun (ListDefinition c.in-Some.width) row m)) (sym (ap (λ (s : Row). s.past) c.in-Some.ensures.inside)),
+          ∙ ap (λ (p : ℕ). begin_in text options lookup columns Apart (row_of c.in-Some.inside) (lines_at text p) true (container_begun (ListDefinition c.in-Some.width) row m)) (sym (ap (λ (s : Row). s.past) c.in-Some.ensures.inside)),
     )
 
 pub returns-in-Some-metadata_begun-clause-runs : goal.returns-in-Some-metadata_begun-clause-runs

@@ -1,13 +1,13 @@
 use Rattle.std.proofs.Common.{◌≡◌, ℕ, false, Option, Some, option_map, ap, ◌∙◌}
 use Rattle.cmark_grammar.specs.BlockDocument.{node}
 use Rattle.cmark_grammar.specs.Derivation.{list_kind}
-use Rattle.cmark_items.specs.Tables.{tables}
 use Rattle.cmark_items.specs.ItemNodes.{list_number, kind_of, ranged}
 use Rattle.cmark_block_model.specs.BlockPass.{block_begun}
 use Rattle.cmark_block_model.specs.Drawing.{opened}
 use Rattle.cmark_block_model.specs.OpenBlocks as model
 use Rattle.cmark_builder.proofs.DrawnSteps.{draws-open}
 use Rattle.cmark_blocks.proofs.RunSteps.{runs-builder, runs-inner}
+use Rattle.cmark_items.specs.Tables.{tables, defined}
 use Rattle.cmark_blocks.proofs.state.Pass.begin_list.Goals as goal
 
 pub returns-clause-runs : goal.returns-clause-runs
@@ -22,6 +22,6 @@ returns-clause-runs g c text options lookup m runs =
     (ap (λ s. option_map (ranged start start) (kind_of (tables before.builder.allocations).texts s)) c.body.ensures ∙ ap (λ n. Some (node (list_kind item.mark n false) start start)) number)
     r.drawing in
     runs-inner replacement text options lookup _ _ _ _
-    (runs-builder replacement text options lookup (block_begun m) before c.open.new.self (opened start (list_kind item.mark item.number false) (block_begun m).drawing) r draws (ap (λ a. a.refdefs) c.in_ok-open.ensures.tables))
+    (runs-builder replacement text options lookup (block_begun m) before c.open.new.self (opened start (list_kind item.mark item.number false) (block_begun m).drawing) r draws (ap (λ a. defined (tables a)) c.in_ok-open.ensures.tables))
     (ap {A = model.Siblings} {B = model.Siblings} (λ s. record s { list = Some (record { mark = item.mark; number = list_number item.mark c.unwrap_or-number.result; loose = false; end = start }) }) r.inner
     ∙ ap {A = Option ℕ} {B = model.Siblings} (λ n. record (block_begun m).inner { list = Some (record { mark = item.mark; number = n; loose = false; end = start }) }) number)

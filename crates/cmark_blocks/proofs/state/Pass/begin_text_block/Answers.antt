@@ -1,4 +1,4 @@
-use Rattle.std.proofs.Common.{◌≡◌, sym, ap, ◌∙◌, subst}
+use Rattle.std.proofs.Common.{sym, ap, ◌∙◌, subst}
 use Rattle.std.specs.Prelude.{is_some}
 use Rattle.cmark_block_model.specs.BlockPass.{definitions_in, siblings_with_paragraph}
 use Rattle.cmark_blocks.specs.Shown.{shown_list}

@@ -1,4 +1,4 @@
-use Rattle.std.proofs.Common.{◌&&◌, ◌||◌, take, sym, ap, ◌∙◌}
+use Rattle.std.proofs.Common.{◌&&◌, ◌||◌, sym, ap, ◌∙◌}
 use Rattle.cmark_grammar.specs.DefinitionLists.{begins_definition}
 use Rattle.cmark_lines.specs.Rests.{row_of}
 use Rattle.cmark_blocks.proofs.state.Pass.block_interrupts.Goals as goal

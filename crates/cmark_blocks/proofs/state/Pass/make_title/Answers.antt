@@ -1,5 +1,4 @@
-use Rattle.std.proofs.Common.{◌≡◌, false, Some, option_map, refl, sym, ap, ◌∙◌, subst}
-use Rattle.std.specs.Prelude.{is_some}
+use Rattle.std.proofs.Common.{false, Some, option_map, refl, sym, ap, ◌∙◌, subst}
 use Rattle.cmark_grammar.specs.BlockDocument.{DefinitionList, DefinitionListTitle}
 use Rattle.cmark_block_model.specs.Drawing.{retitled, enclosed}
 use Rattle.cmark_builder.proofs.DrawnSteps.{draws-turned, draws-enclosed}
@@ -8,6 +7,7 @@ use Rattle.cmark_blocks.specs.Titles.{with_title}
 use Rattle.cmark_blocks.specs.Runs.{Runs}
 use Rattle.cmark_blocks.proofs.RunSteps.{runs-builder, runs-inner}
 use Rattle.cmark_blocks.proofs.TitleSteps.{made-none, made-some, shown-some}
+use Rattle.cmark_items.specs.Tables.{tables, defined}
 use Rattle.cmark_blocks.proofs.state.Pass.make_title.Goals as goal
 
 pub returns-then-is_some-clause-runs : goal.returns-then-is_some-clause-runs
@@ -19,7 +19,7 @@ returns-then-is_some-clause-runs g c text options lookup m runs =
     let draws = draws-turned text c.args.self.now.builder c.turn_last.new.self _ DefinitionListTitle m.drawing c.turn_last.ensures.turned c.turn_last.ensures.none c.turn_last.ensures.tables refl runs.drawing in
     subst (λ p. Runs replacement text options lookup p (record c.args.self.now { builder = c.turn_last.new.self; inner = c.behind_title-self.result })) (sym (made-some o parted c.args.start m some))
     (runs-inner replacement text options lookup _ _ c.behind_title-self.result (with_title o parted c.args.start m.inner)
-    (runs-builder replacement text options lookup m c.args.self.now c.turn_last.new.self (retitled DefinitionListTitle m.drawing) runs draws (ap (λ a. a.refdefs) c.turn_last.ensures.tables))
+    (runs-builder replacement text options lookup m c.args.self.now c.turn_last.new.self (retitled DefinitionListTitle m.drawing) runs draws (ap (λ a. defined (tables a)) c.turn_last.ensures.tables))
     (c.behind_title-self.ensures ∙ ap (with_title o parted c.args.start) runs.inner))
 
 pub returns-clause-runs : goal.returns-clause-runs
@@ -31,5 +31,5 @@ returns-clause-runs g c text options lookup m runs =
     let draws = draws-enclosed text c.args.self.now.builder c.enclose_last.new.self _ _ (DefinitionList false) DefinitionListTitle m.drawing c.in_ok-enclose_last.ensures.ok c.in_ok-enclose_last.ensures.none c.in_ok-enclose_last.ensures.tables (ap (λ t. Some (DefinitionList t)) c.list_flags.ensures) refl runs.drawing in
     subst (λ p. Runs replacement text options lookup p (record c.args.self.now { builder = c.enclose_last.new.self; inner = c.behind_title-self-2.result })) (sym (made-none o parted c.args.start m none))
     (runs-inner replacement text options lookup _ _ c.behind_title-self-2.result (with_title o parted c.args.start m.inner)
-    (runs-builder replacement text options lookup m c.args.self.now c.enclose_last.new.self (enclosed (DefinitionList false) DefinitionListTitle m.drawing) runs draws (ap (λ a. a.refdefs) c.in_ok-enclose_last.ensures.tables))
+    (runs-builder replacement text options lookup m c.args.self.now c.enclose_last.new.self (enclosed (DefinitionList false) DefinitionListTitle m.drawing) runs draws (ap (λ a. defined (tables a)) c.in_ok-enclose_last.ensures.tables))
     (c.behind_title-self-2.ensures ∙ ap (with_title o parted c.args.start) runs.inner))

@@ -1,7 +1,6 @@
 use Rattle.std.proofs.Common.{◌≡◌, not, Some, None, option_map, sym, ap, ◌∙◌, subst}
 use Rattle.cmark_grammar.specs.Derivation.{list_kind}
 use Rattle.cmark_items.specs.ItemNodes.{kind_of, list_number}
-use Rattle.cmark_items.specs.Tables.{tables}
 use Rattle.cmark_block_model.specs.BlockPass.{released_from, title_released}
 use Rattle.cmark_builder.specs.Drawn.{Draws}
 use Rattle.cmark_builder.proofs.DrawnSteps.{draws-released}
@@ -10,6 +9,7 @@ use Rattle.cmark_blocks.specs.Runs.{Runs}
 use Rattle.cmark_blocks.specs.Titles.{list_around}
 use Rattle.cmark_blocks.proofs.RunSteps.{runs-builder}
 use Rattle.cmark_blocks.proofs.TitleSteps.{released-around}
+use Rattle.cmark_items.specs.Tables.{tables, defined}
 use Rattle.cmark_blocks.proofs.state.Pass.release_title.Goals as goal
 
 pub returns-in-Some-clause-runs : goal.returns-in-Some-clause-runs
@@ -20,7 +20,7 @@ returns-in-Some-clause-runs g c text options lookup m runs =
     runs-builder g.E.EntityLookup.replacement text options lookup m c.args.self.now c.release_last.new.self (title_released m.inner.title m.drawing) runs
     (subst (Draws text c.release_last.new.self) (ap (λ o. released_from o m.drawing) there ∙ sym (released-around m.inner.title m.drawing))
     (draws-released text before c.release_last.new.self l.end c.body.result (list_kind l.mark (list_number l.mark l.number) (not l.loose)) m.drawing c.release_last.ensures.released c.release_last.ensures.childless c.release_last.ensures.none c.release_last.ensures.tables (ap (kind_of (tables before.allocations).texts) c.body.ensures) runs.drawing))
-    (ap (λ a. a.refdefs) c.release_last.ensures.tables)
+    (ap (λ a. defined (tables a)) c.release_last.ensures.tables)
 
 pub returns-in_default-clause-runs : goal.returns-in_default-clause-runs
 returns-in_default-clause-runs g c text options lookup m runs =

@@ -10,6 +10,7 @@ use Rattle.cmark_builder.specs.Drawn.{Draws}
 use Rattle.cmark_builder.proofs.DrawnSteps.{draws-close_as}
 use Rattle.cmark_blocks.specs.declared.state.OpenLeaf.TheVariants as leaf
 use Rattle.cmark_blocks.proofs.RunSteps.{runs-builder, runs-inner, runs-leaf, none_behind_paragraph}
+use Rattle.cmark_items.specs.Tables.{tables, defined}
 use Rattle.cmark_blocks.proofs.state.Pass.underline.Goals as goal
 
 pub returns-clause-runs : goal.returns-clause-runs
@@ -22,7 +23,7 @@ returns-clause-runs g c text options lookup m runs =
     let d : Drawing = drawn (stretch_then text c.args.from (words_end (row_of c.args.last)) Nil) m.drawing in
     let draws = subst (λ past. Draws text c.close_as.new.self (closed_as kind past d)) c.past.ensures.place
     (draws-close_as text built c.close_as.new.self c.past.result _ kind d c.close_as.ensures.closed c.close_as.ensures.none c.close_as.ensures.tables refl line) in
-    let built_heading = runs-builder replacement text options lookup m before c.close_as.new.self (closed_as kind (row_of c.args.rest).past d) runs draws (ap (λ a. a.refdefs) c.close_as.ensures.tables ∙ c.in_ok-draw_last_lines.ensures.references) in
+    let built_heading = runs-builder replacement text options lookup m before c.close_as.new.self (closed_as kind (row_of c.args.rest).past d) runs draws (ap (λ a. defined (tables a)) c.close_as.ensures.tables ∙ c.in_ok-draw_last_lines.ensures.definitions) in
     let r = c.release_title.ensures.runs text options lookup _ built_heading in
     runs-leaf replacement text options lookup _ _ leaf.Closed model.Closed
     (runs-inner replacement text options lookup _ c.release_title.new.self (record c.release_title.new.self.inner { title = None }) (record m.inner { title = None }) r (ap {A = model.Siblings} {B = model.Siblings} (λ s. record s { title = None }) r.inner))

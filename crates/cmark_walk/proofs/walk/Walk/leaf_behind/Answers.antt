@@ -1,6 +1,5 @@
-use Rattle.std.proofs.Common.{◌≡◌, inl, inr, None, sym, ap, ◌∙◌, option_map}
+use Rattle.std.proofs.Common.{inl, inr, sym, ap, ◌∙◌, option_map}
 use Rattle.cmark_text.specs.Shown.{shown_tag}
-use Rattle.cmark_walk.specs.Walking.{behind_first}
 use Rattle.cmark_walk.proofs.MarkerSteps.{none-behind, later-node, next-drawn, other-behind, leaf-behind}
 use Rattle.cmark_walk.proofs.WalkSteps.{focus-node, tag-around}
 use Rattle.cmark_walk.proofs.walk.Walk.leaf_behind.Goals as goal
@@ -26,7 +25,7 @@ tag-requires-clause-drawn c =
 
 pub returns-in-Some-2 : goal.returns-in-Some-2
 returns-in-Some-2 c =
-    leaf-behind c.args.self.now c.args.ix c.in-Some.next c.item-item.result.now c.item-item.ensures c.next.result c.in-Some-2.tag c.requires.1 c.next.ensures c.in-Some.is
+    leaf-behind c.args.self.now c.args.ix c.in-Some.next c.item-item.result.now c.item-item.ensures c.next.result c.requires.1 c.next.ensures c.in-Some.is c.in-Some-2.tag
     (λ text texts node d. sym c.if-not-is_leaf.false ∙ c.is_leaf.ensures text texts node d)
     (λ z above node b d. tag-around (shown_tag c.in-Some-2.tag) _ (ap (option_map shown_tag) (sym c.in-Some-2.is) ∙ c.in_ok-tag.ensures z above node b d))
 

@@ -1,7 +1,6 @@
-use Rattle.std.proofs.Common.{◌≡◌, None, Some, [], sym, ap, ◌∙◌, subst}
-use Rattle.cmark_walk.specs.Walking.{IsLeafBehind}
-use Rattle.cmark_walk.proofs.LeafLeave.{leaf-here}
-use Rattle.cmark_walk.proofs.MarkerSteps.{item-task, passes-marker, enters-marked}
+use Rattle.std.proofs.Common.{[], subst}
+use Rattle.cmark_walk.specs.Walking.{IsLeafBehind, IsListBehind}
+use Rattle.cmark_walk.proofs.MarkerSteps.{item-task, passes-marker, enters-listed, enters-marked}
 use Rattle.cmark_walk.proofs.WalkSteps.{focus-node, goes-after}
 use Rattle.cmark_walk.proofs.walk.Walk.pass_marker.Goals as goal
 
@@ -10,26 +9,39 @@ item-item-requires c = focus-node c.args.self.now c.args.ix c.requires.at
 
 pub returns-in-Some-clause-given : goal.returns-in-Some-clause-given
 returns-in-Some-clause-given c =
-    enters-marked c.args.self.now c.item-item.result.now c.args.ix c.next_sibling.new.self c.requires.at.1 c.item-item.ensures c.requires.before c.args.is_checked
+    enters-listed c.args.self.now c.item-item.result.now c.args.ix c.next_sibling.new.self c.requires.at.1 c.item-item.ensures c.requires.before c.args.is_checked
     (item-task c.args.self.now c.item-item.result.now c.args.ix c.args.is_checked c.requires.at c.item-item.ensures c.requires.task) c.next_sibling.ensures.past
-    c.in-Some.tag c.in-Some.leaf (subst (IsLeafBehind c.args.self.now c.args.ix) c.in-Some.is c.in_ok-behind.ensures) c.given.result c.given.ensures.value
+    c.in-Some.list (subst (IsListBehind c.args.self.now c.args.ix) c.in-Some.is c.definitions_behind.ensures) c.given.result c.given.ensures.value
 
 pub returns-in-Some-clause-goes : goal.returns-in-Some-clause-goes
 returns-in-Some-clause-goes c =
     goes-after c.requires.at.0.0 c.given.result [] _
-    (enters-marked c.args.self.now c.item-item.result.now c.args.ix c.next_sibling.new.self c.requires.at.1 c.item-item.ensures c.requires.before c.args.is_checked
+    (enters-listed c.args.self.now c.item-item.result.now c.args.ix c.next_sibling.new.self c.requires.at.1 c.item-item.ensures c.requires.before c.args.is_checked
     (item-task c.args.self.now c.item-item.result.now c.args.ix c.args.is_checked c.requires.at c.item-item.ensures c.requires.task) c.next_sibling.ensures.past
-    c.in-Some.tag c.in-Some.leaf (subst (IsLeafBehind c.args.self.now c.args.ix) c.in-Some.is c.in_ok-behind.ensures) c.given.result c.given.ensures.value c.requires.at.0.0 [] c.requires.at.0.1)
+    c.in-Some.list (subst (IsListBehind c.args.self.now c.args.ix) c.in-Some.is c.definitions_behind.ensures) c.given.result c.given.ensures.value c.requires.at.0.0 [] c.requires.at.0.1)
+
+pub returns-in-Some-behind-clause-given : goal.returns-in-Some-behind-clause-given
+returns-in-Some-behind-clause-given c =
+    enters-marked c.args.self.now c.item-item.result.now c.args.ix c.next_sibling-2.new.self c.requires.at.1 c.item-item.ensures c.requires.before c.args.is_checked
+    (item-task c.args.self.now c.item-item.result.now c.args.ix c.args.is_checked c.requires.at c.item-item.ensures c.requires.task) c.next_sibling-2.ensures.past
+    c.in-Some-behind.tag c.in-Some-behind.leaf (subst (IsLeafBehind c.args.self.now c.args.ix) c.in-Some-behind.is c.in_ok-behind.ensures) c.given-in-Some-behind.result c.given-in-Some-behind.ensures.value
+
+pub returns-in-Some-behind-clause-goes : goal.returns-in-Some-behind-clause-goes
+returns-in-Some-behind-clause-goes c =
+    goes-after c.requires.at.0.0 c.given-in-Some-behind.result [] _
+    (enters-marked c.args.self.now c.item-item.result.now c.args.ix c.next_sibling-2.new.self c.requires.at.1 c.item-item.ensures c.requires.before c.args.is_checked
+    (item-task c.args.self.now c.item-item.result.now c.args.ix c.args.is_checked c.requires.at c.item-item.ensures c.requires.task) c.next_sibling-2.ensures.past
+    c.in-Some-behind.tag c.in-Some-behind.leaf (subst (IsLeafBehind c.args.self.now c.args.ix) c.in-Some-behind.is c.in_ok-behind.ensures) c.given-in-Some-behind.result c.given-in-Some-behind.ensures.value c.requires.at.0.0 [] c.requires.at.0.1)
 
 pub returns-in-None-clause-given : goal.returns-in-None-clause-given
 returns-in-None-clause-given c =
-    passes-marker c.args.self.now c.item-item.result.now c.args.ix c.next_sibling.new.self c.requires.at.1 c.item-item.ensures c.requires.before c.args.is_checked
-    (item-task c.args.self.now c.item-item.result.now c.args.ix c.args.is_checked c.requires.at c.item-item.ensures c.requires.task) c.next_sibling.ensures.past
-    (subst (IsLeafBehind c.args.self.now c.args.ix) c.in-None.is c.in_ok-behind.ensures) c.given-in-None.result c.given-in-None.ensures.value
+    passes-marker c.args.self.now c.item-item.result.now c.args.ix c.next_sibling-2.new.self c.requires.at.1 c.item-item.ensures c.requires.before c.args.is_checked
+    (item-task c.args.self.now c.item-item.result.now c.args.ix c.args.is_checked c.requires.at c.item-item.ensures c.requires.task) c.next_sibling-2.ensures.past
+    (subst (IsLeafBehind c.args.self.now c.args.ix) c.in-None.is c.in_ok-behind.ensures) (subst (IsListBehind c.args.self.now c.args.ix) c.in_default.is c.definitions_behind.ensures) c.given-in-None.result c.given-in-None.ensures.value
 
 pub returns-in-None-clause-goes : goal.returns-in-None-clause-goes
 returns-in-None-clause-goes c =
     goes-after c.requires.at.0.0 c.given-in-None.result [] _
-    (passes-marker c.args.self.now c.item-item.result.now c.args.ix c.next_sibling.new.self c.requires.at.1 c.item-item.ensures c.requires.before c.args.is_checked
-    (item-task c.args.self.now c.item-item.result.now c.args.ix c.args.is_checked c.requires.at c.item-item.ensures c.requires.task) c.next_sibling.ensures.past
-    (subst (IsLeafBehind c.args.self.now c.args.ix) c.in-None.is c.in_ok-behind.ensures) c.given-in-None.result c.given-in-None.ensures.value c.requires.at.0.0 [] c.requires.at.0.1)
+    (passes-marker c.args.self.now c.item-item.result.now c.args.ix c.next_sibling-2.new.self c.requires.at.1 c.item-item.ensures c.requires.before c.args.is_checked
+    (item-task c.args.self.now c.item-item.result.now c.args.ix c.args.is_checked c.requires.at c.item-item.ensures c.requires.task) c.next_sibling-2.ensures.past
+    (subst (IsLeafBehind c.args.self.now c.args.ix) c.in-None.is c.in_ok-behind.ensures) (subst (IsListBehind c.args.self.now c.args.ix) c.in_default.is c.definitions_behind.ensures) c.given-in-None.result c.given-in-None.ensures.value c.requires.at.0.0 [] c.requires.at.0.1)

@@ -1,0 +1,103 @@
+-- Where the links of a node lead: to the nodes behind it, and to those inside it.
+use Rattle.std.proofs.Common.{◌≡◌, List, Option, Some, None, refl, sym, ap, ◌∙◌, subst}
+use Rattle.std.proofs.lemmas.Option.{same_Some}
+use Rattle.cmark_tree.specs.declared.tree_index.TreeIndex.{TreeIndex}
+use Rattle.cmark_tree.specs.Forest.{Forest, Nil, Node}
+use Rattle.cmark_tree.specs.Arena.{Entry, Placed, first, Stands}
+use Rattle.cmark_tree.specs.Zip.{Zip}
+use Rattle.cmark_tree.specs.Tree.{HasNode, entry_at, focus_of, index_at}
+use Rattle.cmark_tree.proofs.Steps.{focus_read, in_right}
+use Rattle.cmark_tree.proofs.Entries.{node_at-within}
+use Rattle.cmark_grammar.specs.BlockDocument as document
+use Rattle.cmark_grammar.specs.BlockDocument.{BlockNode, BlockDocument}
+use Rattle.cmark_items.specs.declared.item.Item.{Item}
+use Rattle.cmark_walk.specs.declared.walk.Walk.{Walk}
+use Rattle.cmark_walk.specs.Walking.{Drawn, Draws, Outer, StandsAt, behind_first, content_of, texts_of}
+use Rattle.cmark_walk.proofs.WalkSteps.{IsFocusAt, IsItem}
+
+abbrev pub IsNext : Walk → TreeIndex → Option TreeIndex → Type 0
+IsNext walk ix next = (e : Entry Item) → entry_at walk.tree ix.ix ≡ Some e → next ≡ index_at e.next
+
+abbrev pub IsChild : Walk → TreeIndex → Option TreeIndex → Type 0
+IsChild walk ix child = (e : Entry Item) → entry_at walk.tree ix.ix ≡ Some e → child ≡ index_at e.child
+
+module _ (walk : Walk) where
+  -- a link leads to these nodes, or to nothing where there are none
+  pub record Leads (link : Option TreeIndex) (nodes : BlockDocument) : Type 0 where
+    pub forest : Forest (Placed Item)
+    pub stands : Stands (entry_at walk.tree) forest
+    pub draws : Draws walk.text.now (texts_of walk) forest nodes
+    pub link_is : link ≡ focus_of forest
+
+  module _ (ix : TreeIndex) where
+    behind-at : (next : Option TreeIndex) (right : Forest (Placed Item)) (here : BlockDocument) → Stands (entry_at walk.tree) right → Draws walk.text.now (texts_of walk) right here → focus_of right ≡ Some ix → IsNext walk ix next → Leads next (behind_first here)
+    behind-at next Nil here st d f n = absurd (let q : None ≡ Some ix = f in cc)
+    behind-at next (Node p f g) document.Nil st d fo n = absurd d
+    behind-at next (Node p f g) (document.Node node inside after) st d fo n =
+        let same = ap (λ k. k.ix) (same_Some (record { ix = p.ix }) ix fo) in
+        let entry : Entry Item = record { item = p.item; child = first f; next = first g } in
+        record {
+          forest = g;
+          stands = st.2;
+          draws = d.2;
+          link_is = n entry (subst (λ k. entry_at walk.tree k ≡ Some entry) same st.0) ∙ focus_read walk.tree.nodes g st.2;
+        }
+
+    -- to the nodes behind the focus
+    pub leads-behind : (next : Option TreeIndex) → IsFocusAt walk ix → IsNext walk ix next → (z : Zip Item) (here : BlockDocument) (above : List Outer) → StandsAt walk z here above → Leads next (behind_first here)
+    leads-behind next at n z here above s = behind-at next z.right here (in_right walk.tree.nodes walk.tree.first z s.below.holds.forest) s.draws (at z s.below.holds) n
+
+    inside-at : (child : Option TreeIndex) (right : Forest (Placed Item)) (here : BlockDocument) → Stands (entry_at walk.tree) right → Draws walk.text.now (texts_of walk) right here → focus_of right ≡ Some ix → IsChild walk ix child → Leads child (content_of here)
+    inside-at child Nil here st d f c = absurd (let q : None ≡ Some ix = f in cc)
+    inside-at child (Node p f g) document.Nil st d fo c = absurd d
+    inside-at child (Node p f g) (document.Node node inside after) st d fo c =
+        let same = ap (λ k. k.ix) (same_Some (record { ix = p.ix }) ix fo) in
+        let entry : Entry Item = record { item = p.item; child = first f; next = first g } in
+        record {
+          forest = f;
+          stands = st.1;
+          draws = d.1;
+          link_is = c entry (subst (λ k. entry_at walk.tree k ≡ Some entry) same st.0) ∙ focus_read walk.tree.nodes f st.1;
+        }
+
+    -- to the nodes inside the focus
+    pub leads-inside : (child : Option TreeIndex) → IsFocusAt walk ix → IsChild walk ix child → (z : Zip Item) (here : BlockDocument) (above : List Outer) → StandsAt walk z here above → Leads child (content_of here)
+    leads-inside child at c z here above s = inside-at child z.right here (in_right walk.tree.nodes walk.tree.first z s.below.holds.forest) s.draws (at z s.below.holds) c
+
+  nowhere-at : (forest : Forest (Placed Item)) (nodes : BlockDocument) → Draws walk.text.now (texts_of walk) forest nodes → None ≡ focus_of forest → nodes ≡ document.Nil
+  nowhere-at Nil document.Nil d e = refl
+  nowhere-at Nil (document.Node node inside after) d e = absurd d
+  nowhere-at (Node p f g) nodes d e = absurd (let q : None ≡ Some (record { ix = p.ix }) = e in cc)
+
+  -- without a link there are no nodes
+  pub leads-nowhere : (link : Option TreeIndex) (nodes : BlockDocument) → Leads link nodes → None ≡ link → nodes ≡ document.Nil
+  leads-nowhere link nodes l none = nowhere-at l.forest nodes l.draws (none ∙ l.link_is)
+
+  node-at : (to : TreeIndex) (forest : Forest (Placed Item)) → Stands (entry_at walk.tree) forest → Some to ≡ focus_of forest → HasNode walk.tree to.ix
+  node-at to Nil st e = absurd (let q : Some to ≡ None = e in cc)
+  node-at to (Node p f g) st e = subst (λ k. HasNode walk.tree k) (sym (ap (λ k. k.ix) (same_Some to (record { ix = p.ix }) e))) (node_at-within walk.tree.nodes p.ix (record { item = p.item; child = first f; next = first g }) st.0)
+
+  -- a link leads to a node of the tree
+  pub leads-node : (to : TreeIndex) (link : Option TreeIndex) (nodes : BlockDocument) → Leads link nodes → link ≡ Some to → HasNode walk.tree to.ix
+  leads-node to link nodes l e = node-at to l.forest l.stands (sym e ∙ l.link_is)
+
+  -- some nodes begin with one that has this item
+  pub record Begins (item : Item) (nodes : BlockDocument) : Type 0 where
+    pub node : BlockNode
+    pub inside : BlockDocument
+    pub rest : BlockDocument
+    pub nodes_are : nodes ≡ document.Node node inside rest
+    pub drawn : Drawn walk.text.now (texts_of walk) item node
+
+  begins-at : (to : TreeIndex) (item : Item) (forest : Forest (Placed Item)) (nodes : BlockDocument) → IsItem walk.tree to item → Stands (entry_at walk.tree) forest → Draws walk.text.now (texts_of walk) forest nodes → Some to ≡ focus_of forest → Begins item nodes
+  begins-at to item Nil nodes is st d e = absurd (let q : Some to ≡ None = e in cc)
+  begins-at to item (Node p f g) document.Nil is st d e = absurd d
+  begins-at to item (Node p f g) (document.Node node inside after) is st d e =
+      let same = sym (ap (λ k. k.ix) (same_Some to (record { ix = p.ix }) e)) in
+      let entry : Entry Item = record { item = p.item; child = first f; next = first g } in
+      let read = is entry (subst (λ k. entry_at walk.tree k ≡ Some entry) same st.0) in
+      record { node = node; inside = inside; rest = after; nodes_are = refl; drawn = subst (λ k. Drawn walk.text.now (texts_of walk) k node) (sym read) d.0 }
+
+  -- the item that a link leads to is the first node's
+  pub leads-to : (to : TreeIndex) (item : Item) (link : Option TreeIndex) (nodes : BlockDocument) → IsItem walk.tree to item → Leads link nodes → link ≡ Some to → Begins item nodes
+  leads-to to item link nodes is l e = begins-at to item l.forest nodes is l.stands l.draws (sym e ∙ l.link_is)
