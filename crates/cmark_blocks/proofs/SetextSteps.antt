@@ -1,6 +1,6 @@
 -- The attributes of a setext heading, and what is drawn of it without them.
 use Rattle.std.proofs.Common.{◌≡◌, ℕ, Bool, true, false, List, [], ◌∷◌, ◌++◌, Option, Some, None, refl, sym, ap, ◌∙◌, subst}
-use Rattle.std.specs.Prelude.{string_bytes}
+use Rattle.std.specs.Prelude.{if◌then◌else◌, string_bytes}
 use Rattle.cmark_grammar.specs.Attributes.{attributes_of, no_attributes}
 use Rattle.cmark_grammar.specs.SetextAttributes.{ends_in_braces, attributes_place, texts_if, setext_attributes}
 use Rattle.cmark_block_model.specs.Drawing.{OpenNode, Drawing, cut_at, texts_cut, unbraced}
@@ -18,6 +18,10 @@ use Rattle.cmark_blocks.specs.declared.state.OpenLeaf.TheVariants as leaf
 pub read-more : (text : List ℕ) (lines : List LineRest) (last : LineRest) → AreRead text lines → IsRead text last → AreRead text (lines ++ last ∷ [])
 read-more text [] last h l = (l, tt)
 read-more text (r ∷ lines) last h l = (h.0, read-more text lines last h.1 l)
+
+pub read-pushed : (text : List ℕ) (lines new : List LineRest) (last : LineRest) (pushed : Bool) → new ≡ (if pushed then lines ++ last ∷ [] else lines) → AreRead text lines → IsRead text last → AreRead text new
+read-pushed text lines new last true e h l = subst (AreRead text) (sym e) (read-more text lines last h l)
+read-pushed text lines new last false e h l = subst (AreRead text) (sym e) h
 
 -- the last line of the paragraph that is open
 pub last-read : (text : List ℕ) (l : OpenLeaf) (from : ℕ) (last : LineRest) → l ≡ leaf.Paragraph from last → IsLastRead text l → IsRead text last

@@ -9,7 +9,7 @@ use Rattle.cmark_builder.specs.Drawn.{Draws}
 use Rattle.cmark_builder.proofs.DrawnSteps.{draws-close}
 use Rattle.cmark_blocks.specs.Runs.{Runs, ShowsLeaf}
 use Rattle.cmark_blocks.specs.declared.state.OpenLeaf.TheVariants as leaf
-use Rattle.cmark_blocks.proofs.RunSteps.{runs-builder, runs-leaf}
+use Rattle.cmark_blocks.proofs.RunSteps.{runs-builder, runs-closed}
 use Rattle.cmark_blocks.proofs.state.Pass.close_paragraph.Goals as goal
 use Rattle.cmark_items.specs.Tables.{tables, defined}
 
@@ -23,7 +23,7 @@ returns-clause-runs g c text options lookup m runs =
     let line = c.in_ok-draw_last_lines.ensures.drawn text m.drawing runs.drawing in
     let draws = subst (λ e. Draws text c.close.new.self (closed_at e d)) runs.past
     (draws-close text built c.close.new.self before.past d c.close.ensures.closed c.close.ensures.none c.close.ensures.tables line) in
-    subst (λ l. Runs replacement text options lookup (close_leaf text options lookup l m) (record before { builder = c.close.new.self; leaf = leaf.Closed })) (sym shows.0)
-    (runs-leaf replacement text options lookup _ _ leaf.Closed model.Closed
+    subst (λ l. Runs replacement text options lookup (close_leaf text options lookup l m) (record before { builder = c.close.new.self; blank_lines = c.clear.new.self; leaf = leaf.Closed })) (sym shows)
+    (runs-closed replacement text options lookup _ _ c.clear.new.self
     (runs-builder replacement text options lookup m before c.close.new.self (closed_at m.past d) runs draws (ap (λ a. defined (tables a)) c.close.ensures.tables ∙ c.in_ok-draw_last_lines.ensures.definitions))
-    (refl, shows.1))
+    c.clear.ensures.items)

@@ -1,30 +1,48 @@
-use Rattle.std.proofs.Common.{None, refl, ap, ◌∙◌, subst}
-use Rattle.cmark_grammar.specs.Attributes.{no_attributes}
+use Rattle.std.proofs.Common.{◌≡◌, Some, None, map, refl, sym, ap, ◌∙◌, subst}
 use Rattle.cmark_grammar.specs.BlockDocument.{Heading, Nil}
+use Rattle.cmark_grammar.specs.SetextAttributes.{setext_attributes}
 use Rattle.cmark_grammar.specs.Tokens.{words_end, stretch_then}
+use Rattle.cmark_items.specs.Tables.{tables, defined}
 use Rattle.cmark_text.specs.Shown.{level_number}
 use Rattle.cmark_lines.specs.Rests.{row_of}
-use Rattle.cmark_block_model.specs.Drawing.{Drawing, drawn, closed_as}
+use Rattle.cmark_leaves.specs.Contents.{AreRead, content_columns}
+use Rattle.cmark_block_model.specs.Drawing.{Drawing, drawn, closed_as, unbraced}
 use Rattle.cmark_block_model.specs.OpenBlocks as model
 use Rattle.cmark_builder.specs.Drawn.{Draws}
 use Rattle.cmark_builder.proofs.DrawnSteps.{draws-close_as}
-use Rattle.cmark_blocks.specs.declared.state.OpenLeaf.TheVariants as leaf
-use Rattle.cmark_blocks.proofs.RunSteps.{runs-builder, runs-inner, runs-leaf, none_behind_paragraph}
-use Rattle.cmark_items.specs.Tables.{tables, defined}
+use Rattle.cmark_blocks.specs.Setext.{FindsIf}
+use Rattle.cmark_blocks.proofs.RunSteps.{runs-builder, runs-inner, runs-room, runs-closed}
+use Rattle.cmark_blocks.proofs.SetextSteps.{last-read}
 use Rattle.cmark_blocks.proofs.state.Pass.underline.Goals as goal
+
+pub setext_attributes-requires-clause-before : goal.setext_attributes-requires-clause-before
+setext_attributes-requires-clause-before g c = subst (AreRead c.args.self.now.text.now) (sym c.deref.ensures.value) c.requires.good.lines
+
+pub setext_attributes-requires-clause-last : goal.setext_attributes-requires-clause-last
+setext_attributes-requires-clause-last g c = last-read c.args.self.now.text.now c.args.self.now.leaf c.args.from c.args.last c.requires.is c.requires.good.last
 
 pub returns-clause-runs : goal.returns-clause-runs
 returns-clause-runs g c text options lookup m runs =
     let replacement = g.E.EntityLookup.replacement in
     let before = c.args.self.now in
-    let built = c.draw_last_lines.new.builder in
-    let kind = Heading (level_number c.args.level) no_attributes in
+    let items = before.blank_lines.items in
+    let last = c.args.last in
+    let on = options.heading_attributes in
+    let built = c.setext_body.new.builder in
+    let roomy = record before { room = c.setext_attributes.new.room } in
+    let kind = Heading (level_number c.args.level) (setext_attributes on (content_columns items last)) in
+    let flag : c.reads_attributes.result ≡ on = c.reads_attributes.ensures ∙ ap (λ o. o.heading_attributes) runs.options_is in
+    let found = subst (λ z. FindsIf z items last c.in_ok-found.found) flag (subst (λ lines. FindsIf c.reads_attributes.result lines last c.in_ok-found.found) c.deref.ensures.value c.in_ok-found.ensures) in
     let line = c.in_ok-draw_last_lines.ensures.drawn text m.drawing runs.drawing in
-    let d : Drawing = drawn (stretch_then text c.args.from (words_end (row_of c.args.last)) Nil) m.drawing in
+    let whole : Drawing = drawn (stretch_then text c.args.from (words_end (row_of last)) Nil) m.drawing in
+    let d : Drawing = unbraced text on (content_columns items last) whole.here whole.up in
     let draws = subst (λ past. Draws text c.close_as.new.self (closed_as kind past d)) c.past.ensures.place
-    (draws-close_as text built c.close_as.new.self c.past.result _ kind d c.close_as.ensures.closed c.close_as.ensures.none c.close_as.ensures.tables refl line) in
-    let built_heading = runs-builder replacement text options lookup m before c.close_as.new.self (closed_as kind (row_of c.args.rest).past d) runs draws (ap (λ a. defined (tables a)) c.close_as.ensures.tables ∙ c.in_ok-draw_last_lines.ensures.definitions) in
+    (draws-close_as text built c.close_as.new.self c.past.result _ kind d c.close_as.ensures.closed c.close_as.ensures.none c.close_as.ensures.tables
+    (c.in_ok-body.ensures.kind on items last found) (c.in_ok-body.ensures.drawn on items last found text whole line)) in
+    let built_heading = runs-builder replacement text options lookup m roomy c.close_as.new.self (closed_as kind (row_of c.args.rest).past d)
+    (runs-room replacement text options lookup m before c.setext_attributes.new.room runs) draws
+    (ap (λ a. defined (tables a)) c.close_as.ensures.tables ∙ c.in_ok-body.ensures.definitions ∙ c.in_ok-draw_last_lines.ensures.definitions) in
     let r = c.release_title.ensures.runs text options lookup _ built_heading in
-    runs-leaf replacement text options lookup _ _ leaf.Closed model.Closed
+    runs-closed replacement text options lookup _ _ c.clear.new.self
     (runs-inner replacement text options lookup _ c.release_title.new.self (record c.release_title.new.self.inner { title = None }) (record m.inner { title = None }) r (ap {A = model.Siblings} {B = model.Siblings} (λ s. record s { title = None }) r.inner))
-    (refl, ap (λ b. b.items) c.release_title.ensures.blank_lines ∙ none_behind_paragraph replacement text options lookup m before c.args.from c.args.last c.requires.is runs)
+    c.clear.ensures.items
