@@ -17,7 +17,7 @@ use Rattle.cmark_block_model.specs.OpenBlocks.{OpenList, no_siblings}
 use Rattle.cmark_block_model.specs.BlockPass.{list_closed, ended, ended_but, released_from}
 use Rattle.cmark_block_model.proofs.PlainTokens.{join-nil, join-assoc}
 use Rattle.cmark_block_model.proofs.Replay.{Noted, Level, item_if, level_opened, level_drawn, marked, left_by, leaf_drawing, leaf_noted, replay, untitled, paragraph_begun}
-use Rattle.cmark_block_model.proofs.Standing.{Stand, First, FirstBlank, Behind, InList, list_of, mark_of, level_of, IsNearlyFilled, HasFilledItems, titled, with_colon}
+use Rattle.cmark_block_model.proofs.Standing.{Stand, First, Behind, InList, list_of, mark_of, level_of, titled, with_colon}
 use Rattle.cmark_block_model.proofs.Flags.{or-false, same-mark, fresh, longer, item_list, in_item, behind_item, blank_behind, parted_behind, or-assoc, colon-same, in_definition, behind_definition}
 use Rattle.cmark_block_model.proofs.Split.{Split, end_or, lone, item_split, leaf_raw, split, title_split}
 use Rattle.std.specs.Prelude.{if◌then◌else◌}
@@ -26,7 +26,6 @@ use Rattle.cmark_grammar.specs.Derivation.{list_kind}
 -- the drawing of a level: where a list is open, its node is
 abbrev pub drawing_at : Stand → OpenNode → BlockDocument → List OpenNode → Drawing
 drawing_at First v here up = record { here = here; up = up }
-drawing_at FirstBlank v here up = record { here = here; up = up }
 drawing_at Behind v here up = record { here = here; up = up }
 drawing_at (InList o) v here up = record { here = here; up = v ∷ up }
 
@@ -37,7 +36,6 @@ finished l = ended l.inner l.drawing
 -- the drawing when the level is closed, if the list is that loose from here on, and these items and this document are to come
 abbrev pub completed : Stand → OpenNode → BlockDocument → List OpenNode → (loose : Bool) → Split → Drawing
 completed First v here up loose s = record { here = join here s.after; up = up }
-completed FirstBlank v here up loose s = record { here = join here s.after; up = up }
 completed Behind v here up loose s = record { here = join here s.after; up = up }
 completed (InList o) v here up loose s = record {
   here = join v.left (Node (node (list_kind o.mark o.number (not (o.loose || loose))) v.node.start (end_or o.end s.end)) (join here s.items) s.after);
@@ -46,14 +44,12 @@ completed (InList o) v here up loose s = record {
 
 abbrev pub loose_at : Stand → (blank : Bool) → Blocks → Bool
 loose_at First blank b = false
-loose_at FirstBlank blank b = false
 loose_at Behind blank b = false
 loose_at (InList o) blank b = loose_from o.mark blank b
 
 -- closed at once
 list-done : (s : Stand) (v : OpenNode) (here : BlockDocument) (up : List OpenNode) → list_closed (list_of s) (drawing_at s v here up) ≡ completed s v here up false (lone Nil)
 list-done First v here up = ap (λ h. record { here = h; up = up }) (sym (join-nil here))
-list-done FirstBlank v here up = ap (λ h. record { here = h; up = up }) (sym (join-nil here))
 list-done Behind v here up = ap (λ h. record { here = h; up = up }) (sym (join-nil here))
 list-done (InList o) v here up =
     ap (λ z. record { here = join v.left (Node (node (list_kind o.mark o.number (not z)) v.node.start o.end) here Nil); up = up }) (sym (or-false o.loose))
@@ -62,7 +58,6 @@ list-done (InList o) v here up =
 -- and more behind that
 drawn-behind : (s : Stand) (v : OpenNode) (here : BlockDocument) (up : List OpenNode) (d : BlockDocument) → drawn d (completed s v here up false (lone Nil)) ≡ completed s v here up false (lone d)
 drawn-behind First v here up d = ap (λ h. record { here = join h d; up = up }) (join-nil here)
-drawn-behind FirstBlank v here up d = ap (λ h. record { here = join h d; up = up }) (join-nil here)
 drawn-behind Behind v here up d = ap (λ h. record { here = join h d; up = up }) (join-nil here)
 drawn-behind (InList o) v here up d =
     ap (λ h. record { here = h; up = up }) (join-assoc v.left (Node (node (list_kind o.mark o.number (not (o.loose || false))) v.node.start o.end) (join here Nil) Nil) d)
@@ -127,7 +122,6 @@ module _ (text : List ℕ) (options : Options) (lookup : Lookup) where
 
   loose-none : (s : Stand) (blank : Bool) (b : Blocks) → ((mark : ℕ) → loose_from mark blank b ≡ false) → loose_at s blank b ≡ false
   loose-none First blank b h = refl
-  loose-none FirstBlank blank b h = refl
   loose-none Behind blank b h = refl
   loose-none (InList o) blank b h = h o.mark
 
@@ -161,47 +155,47 @@ module _ (text : List ℕ) (options : Options) (lookup : Lookup) where
   leaf-raw (Table alignments) first more x = refl
 
   -- behind an item that stands in this list
-  item-draws : (inside after : Blocks) → HasFilledItems inside → IsNearlyFilled inside → Draws inside → Draws after → (start past : ℕ) (marker : BlockDocument) (o : OpenList) (v : OpenNode) (here : BlockDocument) (up : List OpenNode) (p : Bool) (rs : Noted)
+  item-draws : (inside after : Blocks) → Draws inside → Draws after → (start past : ℕ) (marker : BlockDocument) (o : OpenList) (v : OpenNode) (here : BlockDocument) (up : List OpenNode) (p : Bool) (rs : Noted)
       → finished (replay text options lookup after (behind_item text options lookup document.ListItem start past marker inside o (record { here = here; up = v ∷ up }) p rs))
       ≡ completed (InList (item_list o (is_parted_item inside) past)) v (join here (Node (node document.ListItem start past) (join marker (split text options lookup None inside).after) Nil)) up (loose_from o.mark (ends_blank true false inside) after) (split text options lookup (Some o.mark) after)
-  item-draws inside after hi ni di da start past marker o v here up p rs =
+  item-draws inside after di da start past marker o v here up p rs =
       let i = replay text options lookup inside (in_item text options lookup document.ListItem start marker (record { here = here; up = v ∷ up }) rs) in
       let item : BlockDocument = Node (node document.ListItem start past) (join marker (split text options lookup None inside).after) Nil in
       ap (λ d. finished (replay text options lookup after (level_of (InList (item_list o i.inner.parted past)) (closed_at past d) i.inner.blank p i.noted))) (inside-draws inside di (drawn marker (opened start document.ListItem (record { here = here; up = v ∷ up }))) rs)
-      ∙ ap (λ z. finished (replay text options lookup after (level_of (InList (item_list o z past)) (record { here = join here item; up = v ∷ up }) i.inner.blank p i.noted))) ((parted_behind text options lookup inside hi).0 First (drawn marker (opened start document.ListItem (record { here = here; up = v ∷ up }))) false false rs)
-      ∙ ap (λ z. finished (replay text options lookup after (level_of (InList (item_list o (is_parted_item inside) past)) (record { here = join here item; up = v ∷ up }) z p i.noted))) ((blank_behind text options lookup inside hi).0 First ni (drawn marker (opened start document.ListItem (record { here = here; up = v ∷ up }))) false false rs)
+      ∙ ap (λ z. finished (replay text options lookup after (level_of (InList (item_list o z past)) (record { here = join here item; up = v ∷ up }) i.inner.blank p i.noted))) ((parted_behind text options lookup inside).0 First (drawn marker (opened start document.ListItem (record { here = here; up = v ∷ up }))) false false rs)
+      ∙ ap (λ z. finished (replay text options lookup after (level_of (InList (item_list o (is_parted_item inside) past)) (record { here = join here item; up = v ∷ up }) z p i.noted))) ((blank_behind text options lookup inside).0 First (drawn marker (opened start document.ListItem (record { here = here; up = v ∷ up }))) false false rs)
       ∙ da (InList (item_list o (is_parted_item inside) past)) v (join here item) up (ends_blank true false inside) p i.noted
 
   -- an item that begins a list
-  new-draws : (mark : ℕ) (number : Option ℕ) (inside after : Blocks) → HasFilledItems inside → IsNearlyFilled inside → Draws inside → Draws after → (start past : ℕ) (marker : BlockDocument) (s : Stand) (v : OpenNode) (here : BlockDocument) (up : List OpenNode) (p : Bool) (rs : Noted) (z : Bool) → z ≡ false
+  new-draws : (mark : ℕ) (number : Option ℕ) (inside after : Blocks) → Draws inside → Draws after → (start past : ℕ) (marker : BlockDocument) (s : Stand) (v : OpenNode) (here : BlockDocument) (up : List OpenNode) (p : Bool) (rs : Noted) (z : Bool) → z ≡ false
       → finished (replay text options lookup after (behind_item text options lookup document.ListItem start past marker inside (fresh mark number start) (opened start (list_kind mark number false) (list_closed (list_of s) (drawing_at s v here up))) p rs))
       ≡ completed s v here up z (item_split false (list_kind mark number (is_tight mark inside after)) document.ListItem start past (join marker (split text options lookup None inside).after) (split text options lookup (Some mark) after))
-  new-draws mark number inside after hi ni di da start past marker s v here up p rs z f =
+  new-draws mark number inside after di da start past marker s v here up p rs z f =
       let d = list_closed (list_of s) (drawing_at s v here up) in
       let t = item_split false (list_kind mark number (is_tight mark inside after)) document.ListItem start past (join marker (split text options lookup None inside).after) (split text options lookup (Some mark) after) in
-      item-draws inside after hi ni di da start past marker (fresh mark number start) (record { left = d.here; node = node (list_kind mark number false) start start }) Nil d.up p rs
+      item-draws inside after di da start past marker (fresh mark number start) (record { left = d.here; node = node (list_kind mark number false) start start }) Nil d.up p rs
       ∙ drawn-done s v here up t.after ∙ ap (λ y. completed s v here up y t) (sym f)
 
   -- behind a definition that stands in this list
-  definition-draws : (inside after : Blocks) → HasFilledItems inside → IsNearlyFilled inside → Draws inside → Draws after → (start past : ℕ) (o : OpenList) (v : OpenNode) (here : BlockDocument) (up : List OpenNode) (p : Bool) (rs : Noted)
+  definition-draws : (inside after : Blocks) → Draws inside → Draws after → (start past : ℕ) (o : OpenList) (v : OpenNode) (here : BlockDocument) (up : List OpenNode) (p : Bool) (rs : Noted)
       → finished (replay text options lookup after (behind_definition text options lookup start past inside o (record { here = here; up = v ∷ up }) p rs))
       ≡ completed (InList (item_list o (is_parted_item inside) past)) v (join here (Node (node document.DefinitionListDefinition start past) (split text options lookup None inside).after Nil)) up (loose_from o.mark (ends_blank true false inside) after) (split text options lookup (Some o.mark) after)
-  definition-draws inside after hi ni di da start past o v here up p rs =
+  definition-draws inside after di da start past o v here up p rs =
       let i = replay text options lookup inside (in_definition text options lookup start (record { here = here; up = v ∷ up }) rs) in
       let item : BlockDocument = Node (node document.DefinitionListDefinition start past) (split text options lookup None inside).after Nil in
       ap (λ d. finished (replay text options lookup after (level_of (InList (item_list o i.inner.parted past)) (closed_at past d) i.inner.blank p i.noted))) (inside-draws inside di (opened start document.DefinitionListDefinition (record { here = here; up = v ∷ up })) rs)
-      ∙ ap (λ z. finished (replay text options lookup after (level_of (InList (item_list o z past)) (record { here = join here item; up = v ∷ up }) i.inner.blank p i.noted))) ((parted_behind text options lookup inside hi).0 First (opened start document.DefinitionListDefinition (record { here = here; up = v ∷ up })) false false rs)
-      ∙ ap (λ z. finished (replay text options lookup after (level_of (InList (item_list o (is_parted_item inside) past)) (record { here = join here item; up = v ∷ up }) z p i.noted))) ((blank_behind text options lookup inside hi).0 First ni (opened start document.DefinitionListDefinition (record { here = here; up = v ∷ up })) false false rs)
+      ∙ ap (λ z. finished (replay text options lookup after (level_of (InList (item_list o z past)) (record { here = join here item; up = v ∷ up }) i.inner.blank p i.noted))) ((parted_behind text options lookup inside).0 First (opened start document.DefinitionListDefinition (record { here = here; up = v ∷ up })) false false rs)
+      ∙ ap (λ z. finished (replay text options lookup after (level_of (InList (item_list o (is_parted_item inside) past)) (record { here = join here item; up = v ∷ up }) z p i.noted))) ((blank_behind text options lookup inside).0 First (opened start document.DefinitionListDefinition (record { here = here; up = v ∷ up })) false false rs)
       ∙ da (InList (item_list o (is_parted_item inside) past)) v (join here item) up (ends_blank true false inside) p i.noted
 
   -- a definition without a title begins a list
-  new-definition : (inside after : Blocks) → HasFilledItems inside → IsNearlyFilled inside → Draws inside → Draws after → (start past : ℕ) (s : Stand) (v : OpenNode) (here : BlockDocument) (up : List OpenNode) (p : Bool) (rs : Noted) (z : Bool) → z ≡ false
+  new-definition : (inside after : Blocks) → Draws inside → Draws after → (start past : ℕ) (s : Stand) (v : OpenNode) (here : BlockDocument) (up : List OpenNode) (p : Bool) (rs : Noted) (z : Bool) → z ≡ false
       → finished (replay text options lookup after (behind_definition text options lookup start past inside (fresh definition_mark None start) (opened start (list_kind definition_mark None false) (list_closed (list_of s) (drawing_at s v here up))) p rs))
       ≡ completed s v here up z (item_split false (document.DefinitionList (is_tight definition_mark inside after)) document.DefinitionListDefinition start past (split text options lookup None inside).after (split text options lookup (Some definition_mark) after))
-  new-definition inside after hi ni di da start past s v here up p rs z f =
+  new-definition inside after di da start past s v here up p rs z f =
       let d = list_closed (list_of s) (drawing_at s v here up) in
       let t = item_split false (document.DefinitionList (is_tight definition_mark inside after)) document.DefinitionListDefinition start past (split text options lookup None inside).after (split text options lookup (Some definition_mark) after) in
-      definition-draws inside after hi ni di da start past (fresh definition_mark None start) (record { left = d.here; node = node (list_kind definition_mark None false) start start }) Nil d.up p rs
+      definition-draws inside after di da start past (fresh definition_mark None start) (record { left = d.here; node = node (list_kind definition_mark None false) start start }) Nil d.up p rs
       ∙ drawn-done s v here up t.after ∙ ap (λ y. completed s v here up y t) (sym f)
 
   -- what these blocks draw behind a paragraph where no definition list is open, and where the paragraph stands in one
@@ -233,28 +227,28 @@ module _ (text : List ℕ) (options : Options) (lookup : Lookup) where
       ∙ ap (λ z. completed (InList (with_colon o)) v here up (z && loose_from definition_mark blank b) (title_split z true (document.DefinitionList (not (loose_from definition_mark blank b))) start past tokens (split text options lookup (Some definition_mark) b) (split text options lookup None b).after)) (sym e)
 
   -- a definition makes it a title
-  definition-behind : (inside after : Blocks) → HasFilledItems inside → IsNearlyFilled inside → Draws inside → Draws after → (width : ℕ) (first : Row) (more : List Row) → DrawsBehind (ContainerBlock (ListDefinition width) first more inside after)
-  definition-behind inside after hi ni di da width first more here up start past tokens blank p q rs =
+  definition-behind : (inside after : Blocks) → Draws inside → Draws after → (width : ℕ) (first : Row) (more : List Row) → DrawsBehind (ContainerBlock (ListDefinition width) first more inside after)
+  definition-behind inside after di da width first more here up start past tokens blank p q rs =
       let l = loose_from definition_mark (ends_blank true false inside) after in
       let t = split text options lookup (Some definition_mark) after in
       let o : OpenList = record { mark = definition_mark; number = None; loose = blank; end = begin_of first } in
       ap (λ d. finished (replay text options lookup after (behind_definition text options lookup (begin_of first) (past_of first more) inside o d p rs))) (enclosed-drawn (document.DefinitionList false) document.DefinitionListTitle (node document.Paragraph start past) tokens here up)
-      ∙ definition-draws inside after hi ni di da (begin_of first) (past_of first more) o (record { left = here; node = node (document.DefinitionList false) start start }) (Node (node document.DefinitionListTitle start past) tokens Nil) up p rs
+      ∙ definition-draws inside after di da (begin_of first) (past_of first more) o (record { left = here; node = node (document.DefinitionList false) start start }) (Node (node document.DefinitionListTitle start past) tokens Nil) up p rs
       ∙ ap (λ z. record { here = join here (Node (node (document.DefinitionList (not z)) start (end_or (past_of first more) t.end)) (Node (node document.DefinitionListTitle start past) tokens (Node (node document.DefinitionListDefinition (begin_of first) (past_of first more)) (split text options lookup None inside).after t.items)) t.after); up = up }) (or-assoc blank (is_parted_item inside) l)
 
-  definition-inside : (inside after : Blocks) → HasFilledItems inside → IsNearlyFilled inside → Draws inside → Draws after → (width : ℕ) (first : Row) (more : List Row) → DrawsInside (ContainerBlock (ListDefinition width) first more inside after)
-  definition-inside inside after hi ni di da width first more o v here up start past tokens blank p q rs =
+  definition-inside : (inside after : Blocks) → Draws inside → Draws after → (width : ℕ) (first : Row) (more : List Row) → DrawsInside (ContainerBlock (ListDefinition width) first more inside after)
+  definition-inside inside after di da width first more o v here up start past tokens blank p q rs =
       let l = loose_from definition_mark (ends_blank true false inside) after in
       let t = split text options lookup (Some definition_mark) after in
       let title : BlockDocument = Node (node document.DefinitionListTitle start past) tokens Nil in
       let item : BlockDocument = Node (node document.DefinitionListDefinition (begin_of first) (past_of first more)) (split text options lookup None inside).after Nil in
       ap (λ d. finished (replay text options lookup after (behind_definition text options lookup (begin_of first) (past_of first more) inside (longer (with_colon o) blank) d q rs))) (retitled-drawn document.DefinitionListTitle (node document.Paragraph start past) tokens here (v ∷ up))
-      ∙ definition-draws inside after hi ni di da (begin_of first) (past_of first more) (longer (with_colon o) blank) v (join here title) up q rs
+      ∙ definition-draws inside after di da (begin_of first) (past_of first more) (longer (with_colon o) blank) v (join here title) up q rs
       ∙ ap (λ z. record { here = join v.left (Node (node (document.DefinitionList (not z)) v.node.start (end_or (past_of first more) t.end)) (join (join (join here title) item) t.items) t.after); up = up }) (loose o.loose blank (is_parted_item inside) l true refl)
       ∙ ap (λ i. record { here = join v.left (Node (node (document.DefinitionList (not (o.loose || (blank || (is_parted_item inside || l))))) v.node.start (end_or (past_of first more) t.end)) i t.after); up = up }) (ap (λ h. join h t.items) (join-assoc here title item) ∙ join-assoc here (join title item) t.items)
 
-  definition-at : (inside after : Blocks) → HasFilledItems inside → IsNearlyFilled inside → Draws inside → Draws after → (width : ℕ) (first : Row) (more : List Row) → Draws (ContainerBlock (ListDefinition width) first more inside after)
-  definition-at inside after hi ni di da width first more s v here up blank p rs = go s
+  definition-at : (inside after : Blocks) → Draws inside → Draws after → (width : ℕ) (first : Row) (more : List Row) → Draws (ContainerBlock (ListDefinition width) first more inside after)
+  definition-at inside after di da width first more s v here up blank p rs = go s
     where
       same : (z : Bool) (o : OpenList) → (o.mark == definition_mark) ≡ z → finished (replay text options lookup after (left_by (ListDefinition width) (item_if z definition_mark None (begin_of first) o (level_of (InList o) (record { here = here; up = v ∷ up }) blank p rs)).inner (past_of first more)
           (replay text options lookup inside (record (level_opened (begin_of first) document.DefinitionListDefinition (item_if z definition_mark None (begin_of first) o (level_of (InList o) (record { here = here; up = v ∷ up }) blank p rs))) { inner = no_siblings }))))
@@ -263,19 +257,18 @@ module _ (text : List ℕ) (options : Options) (lookup : Lookup) where
           let item : BlockDocument = Node (node document.DefinitionListDefinition (begin_of first) (past_of first more)) (split text options lookup None inside).after Nil in
           let t = split text options lookup (Some definition_mark) after in
           let l = loose_from o.mark (ends_blank true false inside) after in
-          definition-draws inside after hi ni di da (begin_of first) (past_of first more) (longer o blank) v here up p rs
+          definition-draws inside after di da (begin_of first) (past_of first more) (longer o blank) v here up p rs
           ∙ ap (λ m. completed (InList (item_list (longer o blank) (is_parted_item inside) (past_of first more))) v (join here item) up l (split text options lookup (Some m) after)) (same-mark o.mark definition_mark e)
           ∙ ap (λ z. record { here = join v.left (Node (node (list_kind o.mark o.number (not z)) v.node.start (end_or (past_of first more) t.end)) (join (join here item) t.items) t.after); up = up }) (loose o.loose blank (is_parted_item inside) l (definition_mark == o.mark) (other-mark o.mark definition_mark true e))
           ∙ ap (λ i. record { here = join v.left (Node (node (list_kind o.mark o.number (not (o.loose || ((definition_mark == o.mark) && (blank || (is_parted_item inside || l)))))) v.node.start (end_or (past_of first more) t.end)) i t.after); up = up }) (join-assoc here item t.items)
       same false o e =
-          new-definition inside after hi ni di da (begin_of first) (past_of first more) (InList o) v here up (p || blank) rs
+          new-definition inside after di da (begin_of first) (past_of first more) (InList o) v here up (p || blank) rs
           (loose_from o.mark blank (ContainerBlock (ListDefinition width) first more inside after))
           (ap (λ z. z && (blank || (is_parted_item inside || loose_from o.mark (ends_blank true false inside) after))) (other-mark o.mark definition_mark false e))
 
       go : (s : Stand) → finished (replay text options lookup (ContainerBlock (ListDefinition width) first more inside after) (level_of s (drawing_at s v here up) blank p rs)) ≡ completed s v here up (loose_at s blank (ContainerBlock (ListDefinition width) first more inside after)) (split text options lookup (mark_of s) (ContainerBlock (ListDefinition width) first more inside after))
-      go First = new-definition inside after hi ni di da (begin_of first) (past_of first more) First v here up (p || blank) rs false refl
-      go FirstBlank = new-definition inside after hi ni di da (begin_of first) (past_of first more) FirstBlank v here up (p || blank) rs false refl
-      go Behind = new-definition inside after hi ni di da (begin_of first) (past_of first more) Behind v here up (p || blank) rs false refl
+      go First = new-definition inside after di da (begin_of first) (past_of first more) First v here up (p || blank) rs false refl
+      go Behind = new-definition inside after di da (begin_of first) (past_of first more) Behind v here up (p || blank) rs false refl
       go (InList o) = same (o.mark == definition_mark) o refl
 
   -- a paragraph, which a definition behind it may make a title
@@ -313,12 +306,11 @@ module _ (text : List ℕ) (options : Options) (lookup : Lookup) where
 
       go : (s : Stand) → finished (replay text options lookup (Paragraph first more after) (level_of s (drawing_at s v here up) blank p rs)) ≡ completed s v here up (loose_at s blank (Paragraph first more after)) (split text options lookup (mark_of s) (Paragraph first more after))
       go First = db here up start past tokens false (p || blank) p rs
-      go FirstBlank = db here up start past tokens false (p || blank) p rs
       go Behind = db here up start past tokens false (p || blank) p rs
       go (InList o) = list (o.mark == definition_mark) o refl
 
-  item-at : (inside after : Blocks) → HasFilledItems inside → IsNearlyFilled inside → Draws inside → Draws after → (mark : ℕ) (number : Option ℕ) (width : ℕ) (task : Option Bool) (first : Row) (more : List Row) → Draws (ContainerBlock (Item mark number width task) first more inside after)
-  item-at inside after hi ni di1 da1 mark number width task first more s v here up blank p rs = go s di1 da1
+  item-at : (inside after : Blocks) → Draws inside → Draws after → (mark : ℕ) (number : Option ℕ) (width : ℕ) (task : Option Bool) (first : Row) (more : List Row) → Draws (ContainerBlock (Item mark number width task) first more inside after)
+  item-at inside after di1 da1 mark number width task first more s v here up blank p rs = go s di1 da1
     where
       same : Draws inside → Draws after → (z : Bool) (o : OpenList) → (o.mark == mark) ≡ z → finished (replay text options lookup after (left_by (Item mark number width task) (item_if z mark number (begin_of first) o (level_of (InList o) (record { here = here; up = v ∷ up }) blank p rs)).inner (past_of first more)
           (replay text options lookup inside (record (level_drawn (marked task width first Nil) (level_opened (begin_of first) document.ListItem (item_if z mark number (begin_of first) o (level_of (InList o) (record { here = here; up = v ∷ up }) blank p rs)))) { inner = no_siblings })))) ≡ completed (InList o) v here up (loose_from o.mark blank (ContainerBlock (Item mark number width task) first more inside after)) (item_split z (list_kind mark number (is_tight mark inside after)) document.ListItem (begin_of first) (past_of first more) (join (marked task width first Nil) (split text options lookup None inside).after) (split text options lookup (Some mark) after))
@@ -326,25 +318,23 @@ module _ (text : List ℕ) (options : Options) (lookup : Lookup) where
           let item : BlockDocument = Node (node document.ListItem (begin_of first) (past_of first more)) (join (marked task width first Nil) (split text options lookup None inside).after) Nil in
           let t = split text options lookup (Some mark) after in
           let l = loose_from o.mark (ends_blank true false inside) after in
-          item-draws inside after hi ni di da (begin_of first) (past_of first more) (marked task width first Nil) (longer o blank) v here up p rs
+          item-draws inside after di da (begin_of first) (past_of first more) (marked task width first Nil) (longer o blank) v here up p rs
           ∙ ap (λ m. completed (InList (item_list (longer o blank) (is_parted_item inside) (past_of first more))) v (join here item) up l (split text options lookup (Some m) after)) (same-mark o.mark mark e)
           ∙ ap (λ z. record { here = join v.left (Node (node (list_kind o.mark o.number (not z)) v.node.start (end_or (past_of first more) t.end)) (join (join here item) t.items) t.after); up = up }) (loose o.loose blank (is_parted_item inside) l (mark == o.mark) (other-mark o.mark mark true e))
           ∙ ap (λ i. record { here = join v.left (Node (node (list_kind o.mark o.number (not (o.loose || ((mark == o.mark) && (blank || (is_parted_item inside || l)))))) v.node.start (end_or (past_of first more) t.end)) i t.after); up = up }) (join-assoc here item t.items)
       same di da false o e =
-          new-draws mark number inside after hi ni di da (begin_of first) (past_of first more) (marked task width first Nil) (InList o) v here up (p || blank) rs
+          new-draws mark number inside after di da (begin_of first) (past_of first more) (marked task width first Nil) (InList o) v here up (p || blank) rs
           (loose_from o.mark blank (ContainerBlock (Item mark number width task) first more inside after))
           (ap (λ z. z && (blank || (is_parted_item inside || loose_from o.mark (ends_blank true false inside) after))) (other-mark o.mark mark false e))
 
       go : (s : Stand) → Draws inside → Draws after → finished (replay text options lookup (ContainerBlock (Item mark number width task) first more inside after) (level_of s (drawing_at s v here up) blank p rs)) ≡ completed s v here up (loose_at s blank (ContainerBlock (Item mark number width task) first more inside after)) (split text options lookup (mark_of s) (ContainerBlock (Item mark number width task) first more inside after))
-      go First di da = new-draws mark number inside after hi ni di da (begin_of first) (past_of first more) (marked task width first Nil) First v here up (p || blank) rs false refl
-      go FirstBlank di da = new-draws mark number inside after hi ni di da (begin_of first) (past_of first more) (marked task width first Nil) FirstBlank v here up (p || blank) rs false refl
-      go Behind di da = new-draws mark number inside after hi ni di da (begin_of first) (past_of first more) (marked task width first Nil) Behind v here up (p || blank) rs false refl
+      go First di da = new-draws mark number inside after di da (begin_of first) (past_of first more) (marked task width first Nil) First v here up (p || blank) rs false refl
+      go Behind di da = new-draws mark number inside after di da (begin_of first) (past_of first more) (marked task width first Nil) Behind v here up (p || blank) rs false refl
       go (InList o) di da = same di da (o.mark == mark) o refl
 
   heading-released : (s : Stand) (v : OpenNode) (here : BlockDocument) (up : List OpenNode) (blank p : Bool) (rs : Noted) (n : BlockNode) (i : BlockDocument)
       → untitled (level_drawn (Node n i Nil) (paragraph_begun (level_of s (drawing_at s v here up) blank p rs))) ≡ level_of Behind (drawn (Node n i Nil) (list_closed (list_of s) (drawing_at s v here up))) false (p || blank) rs
   heading-released First v here up blank p rs n i = refl
-  heading-released FirstBlank v here up blank p rs n i = refl
   heading-released Behind v here up blank p rs n i = refl
   heading-released (InList o) v here up blank p rs n i = go (o.mark == definition_mark)
     where
@@ -361,55 +351,54 @@ module _ (text : List ℕ) (options : Options) (lookup : Lookup) where
       → ((o : OpenList) (d : Drawing) (blank p q : Bool) (rs : Noted) → finished (replay text options lookup b (titled (Some o) d blank p q rs)) ≡ finished (replay text options lookup b (level_of Behind (released (list_kind o.mark o.number (not o.loose)) o.end d) blank p rs))) → DrawsAll b
   others b d e same0 same1 = (d, other-behind b d e same0, other-inside b d e same1)
 
-  pub draws-all : (b : Blocks) → HasFilledItems b → DrawsAll b
-  draws-all NoBlocks h = others NoBlocks (λ s v here up blank p rs. list-done s v here up ∙ ap (λ z. completed s v here up z (lone Nil)) (sym (loose-none s blank NoBlocks (λ mark. refl)))) refl (λ d blank p q rs. refl) (λ o d blank p q rs. refl)
-  draws-all (BlankLine line after) h = let a = draws-all after h in (at a.0, λ here up start past tokens blank p q rs. a.1 here up start past tokens true p q rs, λ o v here up start past tokens blank p q rs. a.2 o v here up start past tokens true p q rs)
+  pub draws-all : (b : Blocks) → DrawsAll b
+  draws-all NoBlocks = others NoBlocks (λ s v here up blank p rs. list-done s v here up ∙ ap (λ z. completed s v here up z (lone Nil)) (sym (loose-none s blank NoBlocks (λ mark. refl)))) refl (λ d blank p q rs. refl) (λ o d blank p q rs. refl)
+  draws-all (BlankLine line after) = let a = draws-all after in (at a.0, λ here up start past tokens blank p q rs. a.1 here up start past tokens true p q rs, λ o v here up start past tokens blank p q rs. a.2 o v here up start past tokens true p q rs)
     where
       at : Draws after → Draws (BlankLine line after)
       at a First v here up blank p rs = a First v here up false p rs
-      at a FirstBlank v here up blank p rs = a FirstBlank v here up false p rs
       at a Behind v here up blank p rs = a Behind v here up true p rs
       at a (InList o) v here up blank p rs = a (InList o) v here up true p rs
-  draws-all (Paragraph first more after) h =
-      let a = draws-all after h in
+  draws-all (Paragraph first more after) =
+      let a = draws-all after in
       others (Paragraph first more after) (paragraph-at after a.1 a.2 first more) refl (λ d blank p q rs. refl) (λ o d blank p q rs. refl)
-  draws-all (SetextHeading level first more underline after) h =
-      let a = draws-all after h in
+  draws-all (SetextHeading level first more underline after) =
+      let a = draws-all after in
       let n = node (document.Heading level (setext_attributes options.heading_attributes (content_of (first ∷ more)))) (start_of first) underline.past in
       let tokens = setext_tokens text options.heading_attributes first more in
       let b = SetextHeading level first more underline after in
       others b (λ s v here up blank p rs.
       ap (λ x. finished (replay text options lookup after x)) (heading-released s v here up blank p rs n tokens)
       ∙ alone after a.0 s v here up (Node n tokens Nil) _ (p || blank) rs refl (loose_at s blank b) (loose-none s blank b (λ mark. refl)) false) refl (λ d blank p q rs. refl) (λ o d blank p q rs. refl)
-  draws-all (LeafBlock leaf first more after) h =
-      let a = draws-all after h in
+  draws-all (LeafBlock leaf first more after) =
+      let a = draws-all after in
       let b = LeafBlock leaf first more after in
       others b (λ s v here up blank p rs.
       alone after a.0 s v here up (leaf_raw text options lookup leaf first more Nil) _ (p || blank) (leaf_noted text options lookup leaf first more rs) (leaf-drawing leaf first more (list_closed (list_of s) (drawing_at s v here up)))
       (loose_at s blank b) (loose-none s blank b (λ mark. refl)) false
       ∙ ap (λ x. completed s v here up (loose_at s blank b) (lone x)) (leaf-raw leaf first more (split text options lookup None after).after)) refl (λ d blank p q rs. refl) (λ o d blank p q rs. refl)
-  draws-all (ContainerBlock (Quote alert) first more inside after) h =
-      let a = draws-all after h.1 in
-      let i = draws-all inside h.0 in
+  draws-all (ContainerBlock (Quote alert) first more inside after) =
+      let a = draws-all after in
+      let i = draws-all inside in
       let b = ContainerBlock (Quote alert) first more inside after in
       others b (λ s v here up blank p rs.
       alone after a.0 s v here up (Node (node (document.BlockQuote alert) (start_of first) (past_of first more)) (split text options lookup None inside).after Nil) _ (p || blank) _
       (ap (closed_at (past_of first more)) (inside-draws inside i.0 (opened (start_of first) (document.BlockQuote alert) (list_closed (list_of s) (drawing_at s v here up))) rs))
       (loose_at s blank b) (loose-none s blank b (λ mark. refl)) false) refl (λ d blank p q rs. refl) (λ o d blank p q rs. refl)
-  draws-all (ContainerBlock (Footnote label old size) first more inside after) h =
-      let a = draws-all after h.1 in
-      let i = draws-all inside h.0 in
+  draws-all (ContainerBlock (Footnote label old size) first more inside after) =
+      let a = draws-all after in
+      let i = draws-all inside in
       let b = ContainerBlock (Footnote label old size) first more inside after in
       others b (λ s v here up blank p rs.
       alone after a.0 s v here up (Node (node (document.FootnoteDefinition (normal_form label)) (start_of first) (past_of first more)) (split text options lookup None inside).after Nil) _ (p || blank) _
       (ap (closed_at (past_of first more)) (inside-draws inside i.0 (opened (start_of first) (document.FootnoteDefinition (normal_form label)) (list_closed (list_of s) (drawing_at s v here up))) (record rs { footnotes = rs.footnotes ++ normal_form label ∷ [] })))
-      (loose_at s blank b) (loose-none s blank b (λ mark. refl)) false) refl (λ d blank p q rs. refl) (λ o d blank p q rs. refl)
-  draws-all (ContainerBlock (Item mark number width task) first more inside after) h =
-      others (ContainerBlock (Item mark number width task) first more inside after) (item-at inside after h.1 h.0 (draws-all inside h.1).0 (draws-all after h.2).0 mark number width task first more) refl (λ d blank p q rs. refl) (λ o d blank p q rs. refl)
-  draws-all (ContainerBlock (ListDefinition width) first more inside after) h =
-      let i = draws-all inside h.1 in
-      let a = draws-all after h.2 in
-      (definition-at inside after h.1 h.0 i.0 a.0 width first more, definition-behind inside after h.1 h.0 i.0 a.0 width first more, definition-inside inside after h.1 h.0 i.0 a.0 width first more)
+      (loose_at s blank b) (loose-none s blank b (λ mark. refl)) _) refl (λ d blank p q rs. refl) (λ o d blank p q rs. refl)
+  draws-all (ContainerBlock (Item mark number width task) first more inside after) =
+      others (ContainerBlock (Item mark number width task) first more inside after) (item-at inside after (draws-all inside).0 (draws-all after).0 mark number width task first more) refl (λ d blank p q rs. refl) (λ o d blank p q rs. refl)
+  draws-all (ContainerBlock (ListDefinition width) first more inside after) =
+      let i = draws-all inside in
+      let a = draws-all after in
+      (definition-at inside after i.0 a.0 width first more, definition-behind inside after i.0 a.0 width first more, definition-inside inside after i.0 a.0 width first more)
 
-  pub draws : (b : Blocks) → HasFilledItems b → Draws b
-  draws b h = (draws-all b h).0
+  pub draws : (b : Blocks) → Draws b
+  draws b = (draws-all b).0

@@ -11,7 +11,7 @@ use Rattle.cmark_grammar.specs.BlockDocument.{BlockDocument, BlockKind}
 use Rattle.cmark_block_model.specs.Drawing.{Drawing, drawn, opened, closed_at, enclosed, retitled}
 use Rattle.cmark_block_model.specs.OpenBlocks.{OpenList, no_siblings}
 use Rattle.cmark_block_model.proofs.Replay.{Noted, Level, item_if, level_opened, level_drawn, marked, left_by, replay}
-use Rattle.cmark_block_model.proofs.Standing.{Stand, First, FirstBlank, Behind, InList, front_of, before_of, level_of, IsFilledBehind, HasFilledItems, titled, with_colon, colon, IsNearlyFilled}
+use Rattle.cmark_block_model.proofs.Standing.{Stand, First, Behind, InList, front_of, before_of, level_of, titled, with_colon, colon}
 use Rattle.cmark_block_model.specs.BlockPass.{list_closed, ended, released_from}
 use Rattle.std.specs.Prelude.{if◌then◌else◌}
 use Rattle.cmark_grammar.specs.Derivation.{list_kind}
@@ -74,15 +74,15 @@ module _ (text : List ℕ) (options : Options) (lookup : Lookup) where
   -- what is known of the blank lines behind these blocks, and of those between them, wherever they stand, and behind a paragraph
   abbrev pub KnowsBlank : Blocks → Type 0
   KnowsBlank b =
-      ((s : Stand) → IsFilledBehind s b → (d : Drawing) (blank p : Bool) (rs : Noted) → (replay text options lookup b (level_of s d blank p rs)).inner.blank ≡ ends_blank (front_of s) blank b)
+      ((s : Stand) → (d : Drawing) (blank p : Bool) (rs : Noted) → (replay text options lookup b (level_of s d blank p rs)).inner.blank ≡ ends_blank (front_of s) blank b)
       × ((o : Option OpenList) (d : Drawing) (blank p q : Bool) (rs : Noted) → (replay text options lookup b (titled o d blank p q rs)).inner.blank ≡ ends_blank false blank b)
 
   -- a definition behind a title, or behind another one, or behind neither
-  definition-blank : (first : Row) (more : List Row) (inside after : Blocks) (width : ℕ) → IsNearlyFilled inside → KnowsBlank inside → KnowsBlank after → KnowsBlank (ContainerBlock (ListDefinition width) first more inside after)
-  definition-blank first more inside after width n i a = (λ s f d blank p rs. at s d blank p rs, behind)
+  definition-blank : (first : Row) (more : List Row) (inside after : Blocks) (width : ℕ) → KnowsBlank inside → KnowsBlank after → KnowsBlank (ContainerBlock (ListDefinition width) first more inside after)
+  definition-blank first more inside after width i a = (at, behind)
     where
       one : (o1 : OpenList) (d1 : Drawing) (p1 : Bool) (rs1 : Noted) → (replay text options lookup after (behind_definition (begin_of first) (past_of first more) inside o1 d1 p1 rs1)).inner.blank ≡ ends_blank false (ends_blank true false inside) after
-      one o1 d1 p1 rs1 = a.0 (InList _) tt _ _ p1 _ ∙ ap (λ z. ends_blank false z after) (i.0 First n _ false false rs1)
+      one o1 d1 p1 rs1 = a.0 (InList _) _ _ p1 _ ∙ ap (λ z. ends_blank false z after) (i.0 First _ false false rs1)
 
       behind : (o : Option OpenList) (d : Drawing) (blank p q : Bool) (rs : Noted) → (replay text options lookup (ContainerBlock (ListDefinition width) first more inside after) (titled o d blank p q rs)).inner.blank ≡ ends_blank false (ends_blank true false inside) after
       behind None d blank p q rs = one (record { mark = definition_mark; number = None; loose = blank; end = begin_of first }) (enclosed (document.DefinitionList false) document.DefinitionListTitle d) p rs
@@ -95,15 +95,14 @@ module _ (text : List ℕ) (options : Options) (lookup : Lookup) where
 
       at : (s : Stand) (d : Drawing) (blank p : Bool) (rs : Noted) → (replay text options lookup (ContainerBlock (ListDefinition width) first more inside after) (level_of s d blank p rs)).inner.blank ≡ ends_blank false (ends_blank true false inside) after
       at First d blank p rs = one (fresh definition_mark None (begin_of first)) (opened (begin_of first) (list_kind definition_mark None false) d) (p || blank) rs
-      at FirstBlank d blank p rs = one (fresh definition_mark None (begin_of first)) (opened (begin_of first) (list_kind definition_mark None false) d) (p || blank) rs
       at Behind d blank p rs = one (fresh definition_mark None (begin_of first)) (opened (begin_of first) (list_kind definition_mark None false) d) (p || blank) rs
       at (InList o) d blank p rs = same (o.mark == definition_mark) o d blank p rs
 
-  item-blank : (first : Row) (more : List Row) (inside after : Blocks) (mark : ℕ) (number : Option ℕ) (width : ℕ) (task : Option Bool) → IsNearlyFilled inside → KnowsBlank inside → KnowsBlank after → KnowsBlank (ContainerBlock (Item mark number width task) first more inside after)
-  item-blank first more inside after mark number width task n i a = (λ s f d blank p rs. at s d blank p rs, behind)
+  item-blank : (first : Row) (more : List Row) (inside after : Blocks) (mark : ℕ) (number : Option ℕ) (width : ℕ) (task : Option Bool) → KnowsBlank inside → KnowsBlank after → KnowsBlank (ContainerBlock (Item mark number width task) first more inside after)
+  item-blank first more inside after mark number width task i a = (at, behind)
     where
       one : (o1 : OpenList) (d1 : Drawing) (p1 : Bool) (rs1 : Noted) → (replay text options lookup after (behind_item document.ListItem (begin_of first) (past_of first more) (marked task width first document.Nil) inside o1 d1 p1 rs1)).inner.blank ≡ ends_blank false (ends_blank true false inside) after
-      one o1 d1 p1 rs1 = a.0 (InList _) tt _ _ p1 _ ∙ ap (λ z. ends_blank false z after) (i.0 First n _ false false rs1)
+      one o1 d1 p1 rs1 = a.0 (InList _) _ _ p1 _ ∙ ap (λ z. ends_blank false z after) (i.0 First _ false false rs1)
 
       behind : (o : Option OpenList) (d : Drawing) (blank p q : Bool) (rs : Noted) → (replay text options lookup (ContainerBlock (Item mark number width task) first more inside after) (titled o d blank p q rs)).inner.blank ≡ ends_blank false (ends_blank true false inside) after
       behind o d blank p q rs = one (fresh mark number (begin_of first)) (opened (begin_of first) (list_kind mark number false) (released_from o d)) (p || blank) rs
@@ -115,28 +114,29 @@ module _ (text : List ℕ) (options : Options) (lookup : Lookup) where
 
       at : (s : Stand) (d : Drawing) (blank p : Bool) (rs : Noted) → (replay text options lookup (ContainerBlock (Item mark number width task) first more inside after) (level_of s d blank p rs)).inner.blank ≡ ends_blank false (ends_blank true false inside) after
       at First d blank p rs = one (fresh mark number (begin_of first)) (opened (begin_of first) (list_kind mark number false) d) (p || blank) rs
-      at FirstBlank d blank p rs = one (fresh mark number (begin_of first)) (opened (begin_of first) (list_kind mark number false) d) (p || blank) rs
       at Behind d blank p rs = one (fresh mark number (begin_of first)) (opened (begin_of first) (list_kind mark number false) d) (p || blank) rs
       at (InList o) d blank p rs = same (o.mark == mark) o d blank p rs
 
   -- a blank line stands behind
-  pub blank_behind : (b : Blocks) → HasFilledItems b → KnowsBlank b
-  blank_behind Nil h = (λ s f d blank p rs. refl, λ o d blank p q rs. refl)
-  blank_behind (BlankLine line after) h = let a = blank_behind after h in (λ s f d blank p rs. at a.0 s f d blank p rs, λ o d blank p q rs. a.1 o d true p q rs)
+  pub blank_behind : (b : Blocks) → KnowsBlank b
+  blank_behind Nil = (λ s d blank p rs. refl, λ o d blank p q rs. refl)
+  blank_behind (BlankLine line after) = let a = blank_behind after in (λ s d blank p rs. at a.0 s d blank p rs, λ o d blank p q rs. a.1 o d true p q rs)
     where
-      at : ((s : Stand) → IsFilledBehind s after → (d : Drawing) (blank p : Bool) (rs : Noted) → (replay text options lookup after (level_of s d blank p rs)).inner.blank ≡ ends_blank (front_of s) blank after)
-          → (s : Stand) → IsFilledBehind s (BlankLine line after) → (d : Drawing) (blank p : Bool) (rs : Noted) → (replay text options lookup (BlankLine line after) (level_of s d blank p rs)).inner.blank ≡ ends_blank (front_of s) blank (BlankLine line after)
-      at a First f d blank p rs = a FirstBlank f d false p rs
-      at a FirstBlank f d blank p rs = absurd f
-      at a Behind f d blank p rs = a Behind tt d true p rs
-      at a (InList o) f d blank p rs = a (InList o) tt d true p rs
-  blank_behind (Paragraph first more after) h = let a = blank_behind after h in (λ s f d blank p rs. a.1 _ _ false _ _ rs, λ o d blank p q rs. a.1 _ _ false _ _ rs)
-  blank_behind (SetextHeading level first more underline after) h = let a = blank_behind after h in (λ s f d blank p rs. a.0 Behind tt _ false (p || blank) rs, λ o d blank p q rs. a.0 Behind tt _ false (p || blank) rs)
-  blank_behind (LeafBlock leaf first more after) h = let a = blank_behind after h in (λ s f d blank p rs. a.0 Behind tt _ false (p || blank) _, λ o d blank p q rs. a.0 Behind tt _ false (p || blank) _)
-  blank_behind (ContainerBlock (Quote alert) first more inside after) h = let a = blank_behind after h.1 in (λ s f d blank p rs. a.0 Behind tt _ false (p || blank) _, λ o d blank p q rs. a.0 Behind tt _ false (p || blank) _)
-  blank_behind (ContainerBlock (Footnote label old size) first more inside after) h = let a = blank_behind after h.1 in (λ s f d blank p rs. a.0 Behind tt _ false (p || blank) _, λ o d blank p q rs. a.0 Behind tt _ false (p || blank) _)
-  blank_behind (ContainerBlock (Item mark number width task) first more inside after) h = item-blank first more inside after mark number width task h.0 (blank_behind inside h.1) (blank_behind after h.2)
-  blank_behind (ContainerBlock (ListDefinition width) first more inside after) h = definition-blank first more inside after width h.0 (blank_behind inside h.1) (blank_behind after h.2)
+      at : ((s : Stand) → (d : Drawing) (blank p : Bool) (rs : Noted) → (replay text options lookup after (level_of s d blank p rs)).inner.blank ≡ ends_blank (front_of s) blank after)
+          → (s : Stand) → (d : Drawing) (blank p : Bool) (rs : Noted) → (replay text options lookup (BlankLine line after) (level_of s d blank p rs)).inner.blank ≡ ends_blank (front_of s) blank (BlankLine line after)
+      at a First d blank p rs = a First d false p rs
+      at a Behind d blank p rs = a Behind d true p rs
+      at a (InList o) d blank p rs = a (InList o) d true p rs
+  blank_behind (Paragraph first more after) = let a = blank_behind after in (λ s d blank p rs. a.1 _ _ false _ _ rs, λ o d blank p q rs. a.1 _ _ false _ _ rs)
+  blank_behind (SetextHeading level first more underline after) = let a = blank_behind after in (λ s d blank p rs. a.0 Behind _ false (p || blank) rs, λ o d blank p q rs. a.0 Behind _ false (p || blank) rs)
+  blank_behind (LeafBlock leaf first more after) = let a = blank_behind after in (λ s d blank p rs. a.0 Behind _ false (p || blank) _, λ o d blank p q rs. a.0 Behind _ false (p || blank) _)
+  blank_behind (ContainerBlock (Quote alert) first more inside after) = let a = blank_behind after in (λ s d blank p rs. a.0 Behind _ false (p || blank) _, λ o d blank p q rs. a.0 Behind _ false (p || blank) _)
+  blank_behind (ContainerBlock (Footnote label old size) first more inside after) =
+      let i = blank_behind inside in
+      let a = blank_behind after in
+      (λ s d blank p rs. a.0 Behind _ _ (p || blank) _ ∙ ap (λ z. ends_blank false z after) (i.0 First _ false false _), λ o d blank p q rs. a.0 Behind _ _ (p || blank) _ ∙ ap (λ z. ends_blank false z after) (i.0 First _ false false _))
+  blank_behind (ContainerBlock (Item mark number width task) first more inside after) = item-blank first more inside after mark number width task (blank_behind inside) (blank_behind after)
+  blank_behind (ContainerBlock (ListDefinition width) first more inside after) = definition-blank first more inside after width (blank_behind inside) (blank_behind after)
 
   -- a paragraph's own flag, and that of a title, which forgets the blank line before it where it goes on with a list
   abbrev pub parted_before : Option OpenList → (p q : Bool) → Bool
@@ -151,11 +151,11 @@ module _ (text : List ℕ) (options : Options) (lookup : Lookup) where
       ((s : Stand) (d : Drawing) (blank p : Bool) (rs : Noted) → (replay text options lookup b (level_of s d blank p rs)).inner.parted ≡ (p || parted (before_of s) blank b))
       × ((o : Option OpenList) (d : Drawing) (blank p q : Bool) (rs : Noted) → (replay text options lookup b (titled (colon o) d blank p q rs)).inner.parted ≡ title_parted o blank p q b)
 
-  definition-parted : (first : Row) (more : List Row) (inside after : Blocks) (width : ℕ) → HasFilledItems inside → IsNearlyFilled inside → KnowsParted after → KnowsParted (ContainerBlock (ListDefinition width) first more inside after)
-  definition-parted first more inside after width h n a = (at, behind)
+  definition-parted : (first : Row) (more : List Row) (inside after : Blocks) (width : ℕ) → KnowsParted after → KnowsParted (ContainerBlock (ListDefinition width) first more inside after)
+  definition-parted first more inside after width a = (at, behind)
     where
       one : (o1 : OpenList) (d1 : Drawing) (p1 : Bool) (rs1 : Noted) → (replay text options lookup after (behind_definition (begin_of first) (past_of first more) inside o1 d1 p1 rs1)).inner.parted ≡ (p1 || parted (ItemWith o1.mark) (ends_blank true false inside) after)
-      one o1 d1 p1 rs1 = a.0 (InList _) _ _ p1 _ ∙ ap (λ z. p1 || parted (ItemWith o1.mark) z after) ((blank_behind inside h).0 First n _ false false rs1)
+      one o1 d1 p1 rs1 = a.0 (InList _) _ _ p1 _ ∙ ap (λ z. p1 || parted (ItemWith o1.mark) z after) ((blank_behind inside).0 First _ false false rs1)
 
       forget : (p blank c : Bool) → (p || c) ≡ (p || ((blank && false) || c))
       forget p blank c = ap (λ z. p || (z || c)) (sym (and-false blank))
@@ -172,15 +172,14 @@ module _ (text : List ℕ) (options : Options) (lookup : Lookup) where
 
       at : (s : Stand) (d : Drawing) (blank p : Bool) (rs : Noted) → (replay text options lookup (ContainerBlock (ListDefinition width) first more inside after) (level_of s d blank p rs)).inner.parted ≡ (p || parted (before_of s) blank (ContainerBlock (ListDefinition width) first more inside after))
       at First d blank p rs = one (fresh definition_mark None (begin_of first)) (opened (begin_of first) (list_kind definition_mark None false) d) (p || blank) rs ∙ or-and p blank _
-      at FirstBlank d blank p rs = one (fresh definition_mark None (begin_of first)) (opened (begin_of first) (list_kind definition_mark None false) d) (p || blank) rs ∙ or-and p blank _
       at Behind d blank p rs = one (fresh definition_mark None (begin_of first)) (opened (begin_of first) (list_kind definition_mark None false) d) (p || blank) rs ∙ or-and p blank _
       at (InList o) d blank p rs = same (o.mark == definition_mark) o d blank p rs refl
 
-  item-parted : (first : Row) (more : List Row) (inside after : Blocks) (mark : ℕ) (number : Option ℕ) (width : ℕ) (task : Option Bool) → HasFilledItems inside → IsNearlyFilled inside → KnowsParted after → KnowsParted (ContainerBlock (Item mark number width task) first more inside after)
-  item-parted first more inside after mark number width task h n a = (at, λ o d blank p q rs. one (fresh mark number (begin_of first)) (opened (begin_of first) (list_kind mark number false) (released_from (colon o) d)) (p || blank) rs ∙ or-and p blank _)
+  item-parted : (first : Row) (more : List Row) (inside after : Blocks) (mark : ℕ) (number : Option ℕ) (width : ℕ) (task : Option Bool) → KnowsParted after → KnowsParted (ContainerBlock (Item mark number width task) first more inside after)
+  item-parted first more inside after mark number width task a = (at, λ o d blank p q rs. one (fresh mark number (begin_of first)) (opened (begin_of first) (list_kind mark number false) (released_from (colon o) d)) (p || blank) rs ∙ or-and p blank _)
     where
       one : (o1 : OpenList) (d1 : Drawing) (p1 : Bool) (rs1 : Noted) → (replay text options lookup after (behind_item document.ListItem (begin_of first) (past_of first more) (marked task width first document.Nil) inside o1 d1 p1 rs1)).inner.parted ≡ (p1 || parted (ItemWith o1.mark) (ends_blank true false inside) after)
-      one o1 d1 p1 rs1 = a.0 (InList _) _ _ p1 _ ∙ ap (λ z. p1 || parted (ItemWith o1.mark) z after) ((blank_behind inside h).0 First n _ false false rs1)
+      one o1 d1 p1 rs1 = a.0 (InList _) _ _ p1 _ ∙ ap (λ z. p1 || parted (ItemWith o1.mark) z after) ((blank_behind inside).0 First _ false false rs1)
 
       same : (z : Bool) (o : OpenList) (d : Drawing) (blank p : Bool) (rs : Noted) → (o.mark == mark) ≡ z → (replay text options lookup after (left_by (Item mark number width task) (item_if z mark number (begin_of first) o (level_of (InList o) d blank p rs)).inner (past_of first more)
           (replay text options lookup inside (record (level_drawn (marked task width first document.Nil) (level_opened (begin_of first) document.ListItem (item_if z mark number (begin_of first) o (level_of (InList o) d blank p rs)))) { inner = no_siblings })))).inner.parted ≡ (p || ((blank && not z) || parted (ItemWith mark) (ends_blank true false inside) after))
@@ -191,7 +190,6 @@ module _ (text : List ℕ) (options : Options) (lookup : Lookup) where
 
       at : (s : Stand) (d : Drawing) (blank p : Bool) (rs : Noted) → (replay text options lookup (ContainerBlock (Item mark number width task) first more inside after) (level_of s d blank p rs)).inner.parted ≡ (p || parted (before_of s) blank (ContainerBlock (Item mark number width task) first more inside after))
       at First d blank p rs = one (fresh mark number (begin_of first)) (opened (begin_of first) (list_kind mark number false) d) (p || blank) rs ∙ or-and p blank _
-      at FirstBlank d blank p rs = one (fresh mark number (begin_of first)) (opened (begin_of first) (list_kind mark number false) d) (p || blank) rs ∙ or-and p blank _
       at Behind d blank p rs = one (fresh mark number (begin_of first)) (opened (begin_of first) (list_kind mark number false) d) (p || blank) rs ∙ or-and p blank _
       at (InList o) d blank p rs = same (o.mark == mark) o d blank p rs refl
 
@@ -217,25 +215,28 @@ module _ (text : List ℕ) (options : Options) (lookup : Lookup) where
 
       at : (s : Stand) (d : Drawing) (blank p : Bool) (rs : Noted) → (replay text options lookup (Paragraph first more after) (level_of s d blank p rs)).inner.parted ≡ (p || parted (before_of s) blank (Paragraph first more after))
       at First d blank p rs = a.1 None _ false (p || blank) p rs ∙ other (is_title after) blank p
-      at FirstBlank d blank p rs = a.1 None _ false (p || blank) p rs ∙ other (is_title after) blank p
       at Behind d blank p rs = a.1 None _ false (p || blank) p rs ∙ other (is_title after) blank p
       at (InList o) d blank p rs = list (o.mark == definition_mark) o _ blank p rs refl
 
   -- a blank line stands between two
-  pub parted_behind : (b : Blocks) → HasFilledItems b → KnowsParted b
-  parted_behind Nil h = (λ s d blank p rs. sym (or-false p), λ o d blank p q rs. sym (or-false p))
-  parted_behind (BlankLine line after) h = let a = parted_behind after h in (at a.0, λ o d blank p q rs. a.1 o d true p q rs)
+  pub parted_behind : (b : Blocks) → KnowsParted b
+  parted_behind Nil = (λ s d blank p rs. sym (or-false p), λ o d blank p q rs. sym (or-false p))
+  parted_behind (BlankLine line after) = let a = parted_behind after in (at a.0, λ o d blank p q rs. a.1 o d true p q rs)
     where
       at : ((s : Stand) (d : Drawing) (blank p : Bool) (rs : Noted) → (replay text options lookup after (level_of s d blank p rs)).inner.parted ≡ (p || parted (before_of s) blank after))
           → (s : Stand) (d : Drawing) (blank p : Bool) (rs : Noted) → (replay text options lookup (BlankLine line after) (level_of s d blank p rs)).inner.parted ≡ (p || parted (before_of s) blank (BlankLine line after))
       at a First d blank p rs = a First d false p rs
-      at a FirstBlank d blank p rs = a FirstBlank d false p rs
       at a Behind d blank p rs = a Behind d true p rs
       at a (InList o) d blank p rs = a (InList o) d true p rs
-  parted_behind (Paragraph first more after) h = paragraph-parted first more after (parted_behind after h)
-  parted_behind (SetextHeading level first more underline after) h = let a = parted_behind after h in (λ s d blank p rs. a.0 Behind _ false (p || blank) rs ∙ or-assoc p blank _, λ o d blank p q rs. a.0 Behind _ false (p || blank) rs ∙ or-assoc p blank _)
-  parted_behind (LeafBlock leaf first more after) h = let a = parted_behind after h in (λ s d blank p rs. a.0 Behind _ false (p || blank) _ ∙ or-assoc p blank _, λ o d blank p q rs. a.0 Behind _ false (p || blank) _ ∙ or-assoc p blank _)
-  parted_behind (ContainerBlock (Quote alert) first more inside after) h = let a = parted_behind after h.1 in (λ s d blank p rs. a.0 Behind _ false (p || blank) _ ∙ or-assoc p blank _, λ o d blank p q rs. a.0 Behind _ false (p || blank) _ ∙ or-assoc p blank _)
-  parted_behind (ContainerBlock (Footnote label old size) first more inside after) h = let a = parted_behind after h.1 in (λ s d blank p rs. a.0 Behind _ false (p || blank) _ ∙ or-assoc p blank _, λ o d blank p q rs. a.0 Behind _ false (p || blank) _ ∙ or-assoc p blank _)
-  parted_behind (ContainerBlock (Item mark number width task) first more inside after) h = item-parted first more inside after mark number width task h.1 h.0 (parted_behind after h.2)
-  parted_behind (ContainerBlock (ListDefinition width) first more inside after) h = definition-parted first more inside after width h.1 h.0 (parted_behind after h.2)
+  parted_behind (Paragraph first more after) = paragraph-parted first more after (parted_behind after)
+  parted_behind (SetextHeading level first more underline after) = let a = parted_behind after in (λ s d blank p rs. a.0 Behind _ false (p || blank) rs ∙ or-assoc p blank _, λ o d blank p q rs. a.0 Behind _ false (p || blank) rs ∙ or-assoc p blank _)
+  parted_behind (LeafBlock leaf first more after) = let a = parted_behind after in (λ s d blank p rs. a.0 Behind _ false (p || blank) _ ∙ or-assoc p blank _, λ o d blank p q rs. a.0 Behind _ false (p || blank) _ ∙ or-assoc p blank _)
+  parted_behind (ContainerBlock (Quote alert) first more inside after) = let a = parted_behind after in (λ s d blank p rs. a.0 Behind _ false (p || blank) _ ∙ or-assoc p blank _, λ o d blank p q rs. a.0 Behind _ false (p || blank) _ ∙ or-assoc p blank _)
+  parted_behind (ContainerBlock (Footnote label old size) first more inside after) =
+      let i = blank_behind inside in
+      let a = parted_behind after in (
+        λ s d blank p rs. a.0 Behind _ _ (p || blank) _ ∙ or-assoc p blank _ ∙ ap (λ z. p || (blank || parted Other z after)) (i.0 First _ false false _),
+        λ o d blank p q rs. a.0 Behind _ _ (p || blank) _ ∙ or-assoc p blank _ ∙ ap (λ z. p || (blank || parted Other z after)) (i.0 First _ false false _),
+      )
+  parted_behind (ContainerBlock (Item mark number width task) first more inside after) = item-parted first more inside after mark number width task (parted_behind after)
+  parted_behind (ContainerBlock (ListDefinition width) first more inside after) = definition-parted first more inside after width (parted_behind after)

@@ -5,7 +5,6 @@ pub mod Defines
 pub mod Drawings
 pub mod Draws
 pub mod Feeding
-pub mod Filled
 pub mod Flags
 pub mod FootnoteLabels
 pub mod Keeping

@@ -1,7 +1,5 @@
 -- A level behind no block, behind a blank line alone, behind a block that is no item, or behind an item of a list that is open.
 use Rattle.std.specs.Prelude.{ℕ, Bool, true, false, Option, Some, None}
-use Rattle.cmark_grammar.specs.Blocks.{Blocks, Nil, BlankLine, Paragraph, SetextHeading, LeafBlock, ContainerBlock}
-use Rattle.cmark_grammar.specs.Containers.{Quote, Item, Footnote, ListDefinition}
 use Rattle.cmark_grammar.specs.Lists.{Before, NoBlock, Other, ItemWith, definition_mark}
 use Rattle.cmark_block_model.specs.Drawing.{Drawing}
 use Rattle.cmark_block_model.specs.OpenBlocks.{OpenList}
@@ -9,37 +7,31 @@ use Rattle.cmark_block_model.proofs.Replay.{Noted, Level}
 
 pub data Stand : Type 0 where
   First : Stand
-  FirstBlank : Stand
   Behind : Stand
   InList : (list : OpenList) → Stand
 
 abbrev pub has_of : Stand → Bool
 has_of First = false
-has_of FirstBlank = false
 has_of Behind = true
 has_of (InList o) = true
 
 abbrev pub front_of : Stand → Bool
 front_of First = true
-front_of FirstBlank = false
 front_of Behind = false
 front_of (InList o) = false
 
 abbrev pub list_of : Stand → Option OpenList
 list_of First = None
-list_of FirstBlank = None
 list_of Behind = None
 list_of (InList o) = Some o
 
 abbrev pub before_of : Stand → Before
 before_of First = NoBlock
-before_of FirstBlank = NoBlock
 before_of Behind = Other
 before_of (InList o) = ItemWith o.mark
 
 abbrev pub mark_of : Stand → Option ℕ
 mark_of First = None
-mark_of FirstBlank = None
 mark_of Behind = None
 mark_of (InList o) = Some o.mark
 
@@ -65,39 +57,3 @@ with_colon o = record o { mark = definition_mark }
 abbrev pub colon : Option OpenList → Option OpenList
 colon None = None
 colon (Some o) = Some (with_colon o)
-
--- no blank line stands in front
-abbrev pub IsFilled : Blocks → Type 0
-IsFilled Nil = Unit {0}
-IsFilled (BlankLine line after) = ⊥
-IsFilled (Paragraph first more after) = Unit {0}
-IsFilled (SetextHeading level first more underline after) = Unit {0}
-IsFilled (LeafBlock leaf first more after) = Unit {0}
-IsFilled (ContainerBlock k first more inside after) = Unit {0}
-
--- at most one blank line stands in front
-abbrev pub IsNearlyFilled : Blocks → Type 0
-IsNearlyFilled Nil = Unit {0}
-IsNearlyFilled (BlankLine line after) = IsFilled after
-IsNearlyFilled (Paragraph first more after) = Unit {0}
-IsNearlyFilled (SetextHeading level first more underline after) = Unit {0}
-IsNearlyFilled (LeafBlock leaf first more after) = Unit {0}
-IsNearlyFilled (ContainerBlock k first more inside after) = Unit {0}
-
-abbrev pub IsFilledBehind : Stand → Blocks → Type 0
-IsFilledBehind First b = IsNearlyFilled b
-IsFilledBehind FirstBlank b = IsFilled b
-IsFilledBehind Behind b = Unit {0}
-IsFilledBehind (InList o) b = Unit {0}
-
--- no item begins with two blank lines
-abbrev pub HasFilledItems : Blocks → Type 0
-HasFilledItems Nil = Unit {0}
-HasFilledItems (BlankLine line after) = HasFilledItems after
-HasFilledItems (Paragraph first more after) = HasFilledItems after
-HasFilledItems (SetextHeading level first more underline after) = HasFilledItems after
-HasFilledItems (LeafBlock leaf first more after) = HasFilledItems after
-HasFilledItems (ContainerBlock (Quote alert) first more inside after) = HasFilledItems inside × HasFilledItems after
-HasFilledItems (ContainerBlock (Footnote label old size) first more inside after) = HasFilledItems inside × HasFilledItems after
-HasFilledItems (ContainerBlock (Item mark number width task) first more inside after) = IsNearlyFilled inside × HasFilledItems inside × HasFilledItems after
-HasFilledItems (ContainerBlock (ListDefinition width) first more inside after) = IsNearlyFilled inside × HasFilledItems inside × HasFilledItems after

@@ -24,7 +24,6 @@ use Rattle.cmark_block_model.proofs.Draws.{finished, draws}
 use Rattle.cmark_block_model.proofs.Settles.{settles}
 use Rattle.cmark_block_model.proofs.Defines.{defines}
 use Rattle.cmark_block_model.proofs.FootnoteLabels.{labels}
-use Rattle.cmark_block_model.proofs.Filled.{blocks-filled}
 use Rattle.cmark_block_model.proofs.Mirror.{pass_with, Fits, containers_at, bare_at, pass_at}
 use Rattle.cmark_block_model.proofs.Closing.{leaf-closes, containers-close}
 use Rattle.cmark_block_model.proofs.Keeping.{feed-fits}
@@ -94,7 +93,7 @@ module _ (text : List ℕ) (options : Options) (lookup : Lookup) where
       )
 
   drawn-all : finished (replay text options lookup (blocks options text) bottom) ≡ record { here = (split text options lookup None (blocks options text)).after; up = [] }
-  drawn-all = draws text options lookup (blocks options text) (blocks-filled options text) First (record { left = document.Nil; node = node document.Paragraph 0 0 }) document.Nil [] false false nothing_noted
+  drawn-all = draws text options lookup (blocks options text) First (record { left = document.Nil; node = node document.Paragraph 0 0 }) document.Nil [] false false nothing_noted
 
   pub pass-draws :
       (settled false (pass_over text options lookup).drawing.here ≡ without_definitions (document text options lookup))

@@ -151,7 +151,7 @@ container_begun (ListDefinition width) r p = definition_begun_in width (begin_of
 -- the siblings that a closed container stands behind
 abbrev pub behind_container : Container → (end : ℕ) → (inside around : Siblings) → Siblings
 behind_container (Quote alert) end inside around = around
-behind_container (Footnote label old size) end inside around = around
+behind_container (Footnote label old size) end inside around = record around { blank = inside.blank }
 behind_container (Item mark number width task) end inside around = siblings_behind_item end inside around
 behind_container (ListDefinition width) end inside around = siblings_behind_item end inside around
 

@@ -330,7 +330,11 @@ impl OpenContainer {
         ensures { (m : model.OpenContainer) → ShowsContainer self m → shown_siblings result ≡ behind_container m.container end (shown_siblings inside) m.around }
     {
         match self.container {
-            Container::Quote | Container::Footnote { .. } => self.around,
+            Container::Quote => self.around,
+            Container::Footnote { .. } => Siblings {
+                blank: inside.blank,
+                ..self.around
+            },
             Container::Item { .. } | Container::Definition { .. } => {
                 self.around.behind_item(inside, end)
             }

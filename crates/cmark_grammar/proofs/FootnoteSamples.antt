@@ -1,14 +1,18 @@
 -- The markers of footnote definitions and the lines that they keep, computed.
-use Rattle.std.specs.Prelude.{◌≡◌, refl, ℕ, true, false, List, [], codes, Option, Some, None, option_map}
-use Rattle.cmark_grammar.specs.BlockDocument.{FootnoteDefinition, Paragraph, Text, Nil, Node, node}
-use Rattle.cmark_grammar.specs.Blocks as blocks
+use Rattle.std.specs.Prelude.{◌≡◌, ◌∷◌, refl, ℕ, true, false, List, [], codes, Option, Some, None, option_map}
+use Rattle.cmark_grammar.specs.BlockDocument.{BlockList, ListItem, FootnoteDefinition, Paragraph, TightParagraph, Text, Nil, Node, node, outline}
+use Rattle.cmark_grammar.specs.Blocks as grammar
 use Rattle.cmark_grammar.specs.Blocks.{Blocks, ContainerBlock}
 use Rattle.cmark_grammar.specs.Columns.{bytes_of}
 use Rattle.cmark_grammar.specs.Containers.{Container, Footnote, enter, keeps}
-use Rattle.cmark_grammar.specs.Derivation.{document_of}
+use Rattle.cmark_grammar.specs.BlocksModel.{begin, blocks}
+use Rattle.cmark_grammar.specs.Derivation.{document, document_of}
+use Rattle.cmark_grammar.specs.Entities.{basic_entity}
 use Rattle.cmark_grammar.specs.Footnotes.{footnote_in, is_footnote_label, marker_columns}
 use Rattle.cmark_grammar.specs.LinkDefinitions.{Found}
-use Rattle.cmark_grammar.specs.Options.{no_options}
+use Rattle.cmark_grammar.specs.Leaves.{underlines}
+use Rattle.cmark_grammar.specs.Openings.{opens, texts, lazily}
+use Rattle.cmark_grammar.specs.Options.{Options, no_options}
 use Rattle.cmark_grammar.specs.Rows.{Row, row_at}
 
 abbrev label_of : List ℕ → Option (List ℕ)
@@ -97,7 +101,28 @@ old_blank_line = refl
 
 -- its node: the label's normal form, from the marker to behind the last line
 pub its_node : document_of (codes " [^a  B]: c") no_options (λ name. None) false None
-    (ContainerBlock (Footnote (codes "a  B") false 8) (line (codes " [^a  B]: c")) [] (blocks.Paragraph (enter (Footnote (codes "a  B") false 8) (line (codes " [^a  B]: c"))) [] blocks.Nil) blocks.Nil)
+    (ContainerBlock (Footnote (codes "a  B") false 8) (line (codes " [^a  B]: c")) [] (grammar.Paragraph (enter (Footnote (codes "a  B") false 8) (line (codes " [^a  B]: c"))) [] grammar.Nil) grammar.Nil)
     ≡ Node (node (FootnoteDefinition (codes "a B")) 1 11) (Node (node Paragraph 10 11) (Node (node (Text (codes "c")) 10 11) Nil Nil) Nil) Nil
 unfolding enter
 its_node = refl
+
+abbrev footnotes : Options
+footnotes = record no_options { footnotes = true }
+
+-- a blank line behind it parts it from the next block of an item
+pub parts : outline (document (codes "- [^a]: b\n\n  c") footnotes basic_entity) ≡
+    node (BlockList None false) 0 14 ∷ node ListItem 0 14 ∷ node (FootnoteDefinition (codes "a")) 2 11 ∷ node Paragraph 8 10 ∷ node (Text (codes "b")) 8 9 ∷ node Paragraph 13 14 ∷ node (Text (codes "c")) 13 14 ∷ []
+unfolding blocks begin opens texts lazily enter keeps underlines
+parts = refl
+
+-- and its item from the next one
+pub parts_items : outline (document (codes "- [^a]: b\n\n- c") footnotes basic_entity) ≡
+    node (BlockList None false) 0 14 ∷ node ListItem 0 11 ∷ node (FootnoteDefinition (codes "a")) 2 11 ∷ node Paragraph 8 10 ∷ node (Text (codes "b")) 8 9 ∷ node ListItem 11 14 ∷ node Paragraph 13 14 ∷ node (Text (codes "c")) 13 14 ∷ []
+unfolding blocks begin opens texts lazily enter keeps underlines
+parts_items = refl
+
+-- where none stands there, the list is tight
+pub tight : outline (document (codes "- [^a]: b\n- c") footnotes basic_entity) ≡
+    node (BlockList None true) 0 13 ∷ node ListItem 0 10 ∷ node (FootnoteDefinition (codes "a")) 2 10 ∷ node Paragraph 8 10 ∷ node (Text (codes "b")) 8 9 ∷ node ListItem 10 13 ∷ node TightParagraph 12 13 ∷ node (Text (codes "c")) 12 13 ∷ []
+unfolding blocks begin opens texts lazily enter keeps underlines
+tight = refl

@@ -19,16 +19,16 @@ is_title (ContainerBlock (Footnote label old size) first more inside after) = fa
 is_title (ContainerBlock (Item mark number width task) first more inside after) = false
 is_title (ContainerBlock (ListDefinition width) first more inside after) = true
 
--- whether a blank line ends these blocks, where a nested item or definition ends with the blank lines that its last block ends with.
--- Front: nothing stands before, so that a blank line is the rest of an item's first line; so: a blank line stands before
+-- whether a blank line ends these blocks, where a nested item or definition, of a list or of a footnote, ends with the blank lines that its last
+-- block ends with. Front: no block stands before, so that a blank line ends none; so: a blank line stands before
 abbrev pub ends_blank : (front so : Bool) → Blocks → Bool
 ends_blank front so Nil = so
-ends_blank front so (BlankLine line after) = ends_blank false (not front) after
+ends_blank front so (BlankLine line after) = ends_blank front (not front) after
 ends_blank front so (Paragraph first more after) = ends_blank false false after
 ends_blank front so (SetextHeading level first more underline after) = ends_blank false false after
 ends_blank front so (LeafBlock leaf first more after) = ends_blank false false after
 ends_blank front so (ContainerBlock (Quote alert) first more inside after) = ends_blank false false after
-ends_blank front so (ContainerBlock (Footnote label old size) first more inside after) = ends_blank false false after
+ends_blank front so (ContainerBlock (Footnote label old size) first more inside after) = ends_blank false (ends_blank true false inside) after
 ends_blank front so (ContainerBlock (Item mark number width task) first more inside after) = ends_blank false (ends_blank true false inside) after
 ends_blank front so (ContainerBlock (ListDefinition width) first more inside after) = ends_blank false (ends_blank true false inside) after
 
@@ -58,7 +58,7 @@ parted before blank (Paragraph first more after) =
 parted before blank (SetextHeading level first more underline after) = blank || parted Other false after
 parted before blank (LeafBlock leaf first more after) = blank || parted Other false after
 parted before blank (ContainerBlock (Quote alert) first more inside after) = blank || parted Other false after
-parted before blank (ContainerBlock (Footnote label old size) first more inside after) = blank || parted Other false after
+parted before blank (ContainerBlock (Footnote label old size) first more inside after) = blank || parted Other (ends_blank true false inside) after
 parted before blank (ContainerBlock (Item mark number width task) first more inside after) =
     (blank && not (is_list_of mark before)) || parted (ItemWith mark) (ends_blank true false inside) after
 parted before blank (ContainerBlock (ListDefinition width) first more inside after) =
