@@ -1,4 +1,5 @@
 pub mod AheadSteps
+pub mod BoxSteps
 pub mod BracketSteps
 pub mod ClosingSteps
 pub mod CodeSteps

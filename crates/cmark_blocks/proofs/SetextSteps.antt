@@ -1,8 +1,8 @@
 -- The attributes of a setext heading, and what is drawn of it without them.
-use Rattle.std.proofs.Common.{◌≡◌, ℕ, Bool, true, false, List, [], ◌∷◌, ◌++◌, Option, Some, None, refl, sym, ap, ◌∙◌, subst}
+use Rattle.std.proofs.Common.{◌≡◌, ℕ, Bool, true, false, List, [], ◌∷◌, ◌++◌, Some, None, refl, sym, ap, ◌∙◌, subst}
 use Rattle.std.specs.Prelude.{if◌then◌else◌, string_bytes}
 use Rattle.cmark_grammar.specs.Attributes.{attributes_of, no_attributes}
-use Rattle.cmark_grammar.specs.SetextAttributes.{ends_in_braces, attributes_place, texts_if, setext_attributes}
+use Rattle.cmark_grammar.specs.SetextAttributes.{attributes_place, texts_if, setext_attributes}
 use Rattle.cmark_block_model.specs.Drawing.{OpenNode, Drawing, cut_at, texts_cut, unbraced}
 use Rattle.cmark_lines.specs.declared.line_rest.LineRest.{LineRest}
 use Rattle.cmark_leaves.specs.Contents.{AreRead, content_columns}

@@ -73,6 +73,7 @@ impl<'a, E: EntityLookup> Pass<'a, E> {
         requires number { HasNumber start }
         requires marker { HasMarker (row_of rest) start }
         requires enters { Enters (row_of rest) start }
+        requires placed { IsIn self.old.text.now (inside_of start) }
         ensures good { IsGood self.new }
         ensures runs { IfOk result (λ entered. BeginsContainer E.replacement start.entry rest.entry entered self.old self.new) }
         ensures inside { IfOk result (λ entered. IfSome entered (λ inside. inside.0 ≡ inside_of start.entry)) }

@@ -1,7 +1,4 @@
-use Rattle.std.proofs.Common.{◌≡◌, Bool, true, false, List, ◌∷◌, ◌++◌, [], is_ok, sym, subst}
-use Rattle.std.specs.Prelude.{if◌then◌else◌}
-use Rattle.cmark_lines.specs.declared.line_rest.LineRest.{LineRest}
-use Rattle.cmark_leaves.specs.Contents.{AreRead}
+use Rattle.std.proofs.Common.{is_ok}
 use Rattle.cmark_blocks.proofs.SetextSteps.{read-pushed}
 use Rattle.cmark_blocks.proofs.paragraph.keep_line.Goals as goal
 

@@ -1,6 +1,6 @@
-use Rattle.std.proofs.Common.{◌≡◌, List, map, refl, sym, ap, subst, ◌∙◌}
+use Rattle.std.proofs.Common.{◌≡◌, map, sym, ap, subst, ◌∙◌}
 use Rattle.cmark_grammar.specs.BlockDocument.{Nil}
-use Rattle.cmark_grammar.specs.Rows.{Row, begin_of}
+use Rattle.cmark_grammar.specs.Rows.{begin_of}
 use Rattle.cmark_grammar.specs.Tokens.{stretch_then}
 use Rattle.cmark_lines.specs.Rests.{row_of}
 use Rattle.cmark_block_model.specs.BlockPass.{kept_lines}

@@ -1,20 +1,38 @@
 use Rattle.std.proofs.Common.{◌≡◌, true, false, Some, None, option_map, refl, sym, subst, ap, ◌∙◌}
 use Rattle.std.specs.Prelude.{IfSome}
-use Rattle.cmark_grammar.specs.Containers.{Container, Item}
+use Rattle.cmark_grammar.specs.Containers.{Container, Item, marker_width}
+use Rattle.cmark_grammar.specs.Rows.{Row}
 use Rattle.cmark_grammar.specs.Options.{Options}
-use Rattle.cmark_text.specs.Shown.{shown_block_quote_kind}
+use Rattle.cmark_text.specs.Shown.{shown_block_quote_kind, shown_options}
 use Rattle.cmark_block_model.specs.BlockPass.{container_begun, quote_begun, item_begun_in, is_item}
 use Rattle.cmark_block_model.specs.OpenBlocks as model
 use Rattle.cmark_lines.specs.Boxes.{is_checked, IsBehindBox}
-use Rattle.cmark_lines.specs.Rests.{row_of}
-use Rattle.cmark_lines.specs.Starts.{shown_start, Enters}
+use Rattle.cmark_lines.specs.Rests.{row_of, IsIn}
+use Rattle.cmark_lines.specs.Starts.{shown_start, inside_of, Enters}
+use Rattle.cmark_lines.specs.declared.container.ContainerStart.TheVariants as begun
+use Rattle.cmark_leaves.specs.Told.{AreTold, IsRead}
+use Rattle.cmark_leaves.proofs.ToldSteps.{without-told}
 use Rattle.cmark_blocks.specs.declared.state.OpenLeaf.TheVariants as leaf
 use Rattle.cmark_blocks.specs.Entered.{takes_line, line_taken}
 use Rattle.cmark_blocks.specs.Runs.{Runs}
+use Rattle.cmark_blocks.proofs.BoxSteps.{box-read}
 use Rattle.cmark_blocks.proofs.LineSteps.{quote-told, alert-told}
 use Rattle.cmark_blocks.proofs.RunSteps.{runs-leaf, none_behind_closed}
 use Rattle.cmark_blocks.proofs.TaskSteps.{item-alone, item-taken}
 use Rattle.cmark_blocks.proofs.state.Pass.begin_container.Goals as goal
+
+pub begin_task-requires-clause-line : goal.begin_task-requires-clause-line
+begin_task-requires-clause-line g c =
+    let text = c.args.self.now.text.now in
+    let options = shown_options c.args.self.now.options in
+    let row = row_of c.args.rest in
+    let inside = c.in-Item.inside in
+    let read = sym (c.task_marker-task.ensures.task options (sym c.reads_tasklists.ensures)) ∙ ap (option_map is_checked) c.in-Some.is in
+    let is_inside = subst (λ s. Enters row s) c.in-Item.is c.requires.enters options in
+    let is_behind = subst (λ o. IfSome o (IsBehindBox (row_of inside))) c.in-Some.is c.task_marker-task.ensures.behind in
+    let told = subst (λ (s : Row). AreTold text s.columns) (sym is_inside) (without-told text (marker_width (shown_start options row (begun.Item c.in-Item.item inside)) row) row c.requires.line.told) in
+    subst (λ t. IsRead t.now c.in-Some.behind) (sym c.in_ok-begin_item-in-Item.ensures.text)
+    (box-read text options inside c.in-Some.behind c.in-Some.is_checked read is_behind (subst (λ s. IsIn text (inside_of s)) c.in-Item.is c.requires.placed) told)
 
 pub returns-then-is_some-clause-runs : goal.returns-then-is_some-clause-runs
 returns-then-is_some-clause-runs g c text options lookup m runs =

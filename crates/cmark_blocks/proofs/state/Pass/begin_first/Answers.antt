@@ -9,6 +9,7 @@ use Rattle.cmark_grammar.specs.Metadata.{metadata_further}
 use Rattle.cmark_grammar.specs.Openings.{MetadataBlock}
 use Rattle.cmark_text.specs.Shown.{shown_metadata_block_kind, shown_options}
 use Rattle.cmark_block_model.specs.BlockPass.{ahead_in, begin_in, container_begun, inside_begun, is_item, definition_begun_in}
+use Rattle.cmark_lines.specs.Opened.{InsideIsIn}
 use Rattle.cmark_lines.specs.Rests.{row_of}
 use Rattle.cmark_lines.proofs.RestSteps.{whole}
 use Rattle.cmark_leaves.specs.Told.{AreTold}
@@ -27,6 +28,11 @@ begin_container-requires-clause-marker g c = start-marked (row_of c.args.rest) c
 
 pub begin_container-requires-clause-enters : goal.begin_container-requires-clause-enters
 begin_container-requires-clause-enters g c = start-enters (row_of c.args.rest) c.what_opens-opening.result c.in-Nests.start c.in-Nests.is c.what_opens-opening.ensures.inside
+
+pub begin_container-requires-clause-placed : goal.begin_container-requires-clause-placed
+begin_container-requires-clause-placed g c =
+    let text = c.args.self.now.text.now in
+    subst (InsideIsIn text) c.in-Nests.is (c.what_opens-opening.ensures.placed text c.requires.line.placed)
 
 pub returns-in-Nests-clause-runs : goal.returns-in-Nests-clause-runs
 returns-in-Nests-clause-runs g c =

@@ -1,10 +1,9 @@
-use Rattle.std.proofs.Common.{refl, sym, ap, ◌∙◌, subst}
+use Rattle.std.proofs.Common.{sym, ap, ◌∙◌, subst}
 use Rattle.cmark_grammar.specs.BlockDocument.{Nil}
 use Rattle.cmark_grammar.specs.Tokens.{words_end, stretch_then}
 use Rattle.cmark_lines.specs.Rests.{row_of}
 use Rattle.cmark_block_model.specs.BlockPass.{close_leaf}
 use Rattle.cmark_block_model.specs.Drawing.{Drawing, drawn, closed_at}
-use Rattle.cmark_block_model.specs.OpenBlocks as model
 use Rattle.cmark_builder.specs.Drawn.{Draws}
 use Rattle.cmark_builder.proofs.DrawnSteps.{draws-close}
 use Rattle.cmark_blocks.specs.Runs.{Runs, ShowsLeaf}

@@ -7,7 +7,7 @@ pub loop-row-preserved : goal.loop-row-preserved
 loop-row-preserved g c =
     let before = c.loop-row.invariant in
     record {
-      good = record { placed = c.in_ok-draw_row.ensures.placed; begins = before.good.begins };
+      good = record { placed = c.in_ok-draw_row.ensures.placed; begins = before.good.begins; lines = before.good.lines; last = before.good.last };
       within = c.in-Some.ensures.placed;
       bare = before.bare;
       text = before.text;

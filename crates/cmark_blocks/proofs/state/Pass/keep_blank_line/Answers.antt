@@ -1,4 +1,4 @@
-use Rattle.std.proofs.Common.{[], ◌∷◌, ◌++◌, map, refl, sym, ap, ◌∙◌, subst}
+use Rattle.std.proofs.Common.{is_ok, [], ◌∷◌, ◌++◌, map, refl, sym, ap, ◌∙◌, subst}
 use Rattle.std.proofs.lemmas.List.{map-append}
 use Rattle.cmark_lines.specs.Rests.{row_of}
 use Rattle.cmark_block_model.specs.OpenBlocks as model
@@ -7,7 +7,16 @@ use Rattle.cmark_blocks.specs.Ahead.{lines_at}
 use Rattle.cmark_blocks.specs.Runs.{Runs, ShowsLeaf}
 use Rattle.cmark_blocks.proofs.CodeSteps.{indented-shown}
 use Rattle.cmark_blocks.proofs.IndentedSteps.{indented-waits, runs-waiting}
+use Rattle.cmark_blocks.proofs.SetextSteps.{read-pushed}
 use Rattle.cmark_blocks.proofs.state.Pass.keep_blank_line.Goals as goal
+
+pub returns-clause-good : goal.returns-clause-good
+returns-clause-good g c = record {
+  placed = c.requires.good.placed;
+  begins = c.requires.good.begins;
+  lines = read-pushed c.args.self.now.text.now c.args.self.now.blank_lines.items c.push.new.self.items c.args.rest (is_ok c.push.result) c.push.ensures.items c.requires.good.lines c.requires.line;
+  last = c.requires.good.last;
+}
 
 pub returns-clause-runs : goal.returns-clause-runs
 returns-clause-runs g c text options lookup m runs =

@@ -1,0 +1,35 @@
+-- The line behind the box of a task marker stands in the text, and tells its bytes.
+use Rattle.std.proofs.Common.{◌≡◌, ℕ, Bool, true, false, ◌==◌, ◌&&◌, List, drop, Some, None, refl, sym, ap, subst, arith, true≢false}
+use Rattle.std.specs.Prelude.{if◌then◌else◌}
+use Rattle.std.specs.Str.{IsCharBoundary}
+use Rattle.cmark_grammar.specs.Columns.{bytes_of}
+use Rattle.cmark_grammar.specs.Options.{Options}
+use Rattle.cmark_grammar.specs.Rows.{Row, without, indent_of, words_of}
+use Rattle.cmark_grammar.specs.TaskItems.{task_in}
+use Rattle.cmark_grammar.specs.TaskMarkers.{task_of}
+use Rattle.cmark_grammar.proofs.RowEdges.{Front, IsAsciiByte, GoodRow, bytes-front, without-good}
+use Rattle.cmark_grammar.proofs.TaskFronts.{task-front}
+use Rattle.cmark_lines.proofs.RestSteps.{in-moved}
+use Rattle.cmark_lines.specs.Rests.{row_of, IsIn}
+use Rattle.cmark_lines.specs.declared.line_rest.LineRest.{LineRest}
+use Rattle.cmark_leaves.specs.Told.{AreTold, IsRead}
+use Rattle.cmark_leaves.proofs.ToldSteps.{without-told}
+
+no-indent : (a : Bool) (n : ℕ) → (a && (n == 0)) ≡ true → n ≡ 0
+no-indent true n e = grind (arith, e)
+no-indent false n e = absurd (true≢false (sym e))
+
+box-good : (text : List ℕ) (options : Options) (r : Row) (checked : Bool) → task_in options r ≡ Some checked → GoodRow (IsCharBoundary text) r → GoodRow (IsCharBoundary text) (without 3 r)
+box-good text options r checked e g = go (options.tasklists && (indent_of r == 0)) refl e
+  where
+    go : (z : Bool) → (options.tasklists && (indent_of r == 0)) ≡ z → (if z then task_of (words_of r) else None) ≡ Some checked → GoodRow (IsCharBoundary text) (without 3 r)
+    go true f q =
+        let words : words_of r ≡ bytes_of r.columns = ap (λ n. bytes_of (drop n r.columns)) (no-indent options.tasklists (indent_of r) f) in
+        without-good (IsCharBoundary text) 3 r g (bytes-front (IsCharBoundary text) 3 r.columns g.good (subst (λ bs. Front IsAsciiByte 3 bs) words (task-front (words_of r) checked q)))
+    go false f q = absurd (let p : None ≡ Some checked = q in cc)
+
+pub box-read : (text : List ℕ) (options : Options) (inside behind : LineRest) (checked : Bool) → task_in options (row_of inside) ≡ Some checked → row_of behind ≡ without 3 (row_of inside) → IsIn text inside → AreTold text (row_of inside).columns → IsRead text behind
+box-read text options inside behind checked e is h told = record {
+  placed = in-moved text inside behind (without 3 (row_of inside)) is refl (box-good text options (row_of inside) checked e h.good) h;
+  told = subst (λ (s : Row). AreTold text s.columns) (sym is) (without-told text 3 (row_of inside) told);
+}
