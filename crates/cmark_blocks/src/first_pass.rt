@@ -62,8 +62,8 @@ impl<'a, E: EntityLookup> Pass<'a, E> {
 }
 
 /// The blocks of a text with the texts in them (CommonMark 3 to 5), its link reference definitions, of which the first one of
-/// a label stands in the table, and the labels of the footnotes that it defines, each with no use yet. `entities` says what entity names stand for. Of the options those for metadata blocks and for
-/// the attributes of headings have rules here. The tree has at most four nodes a byte of the
+/// a label stands in the table, and the labels of the footnotes that it defines, each with no use yet. `entities` says what entity names stand for. Of the options those for metadata blocks have rules
+/// here, and that for the attributes of headings, which is read for ATX headings. The tree has at most four nodes a byte of the
 /// text. A line takes time in proportion to its bytes and to the containers around it. Fails only where memory is refused.
 pub fn run_first_pass<'a, E: EntityLookup>(
     alloc: Global,

@@ -47,7 +47,7 @@ pub static FLAGS: [LineFlag; 15] = [
     LineFlag {
         name: "heading-attributes",
         option: Options::ENABLE_HEADING_ATTRIBUTES,
-        help: "Attributes of headings: # a {#b .c}",
+        help: "Attributes of headings: # a {#b .c} (ATX headings)",
     },
     LineFlag {
         name: "yaml-metadata",
