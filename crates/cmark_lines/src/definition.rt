@@ -22,10 +22,7 @@ pub fn reads_definition_lists(options: Options) -> bool
 /// lacks no prefix, begins with the marker of one behind at most three columns of indent, and definition lists are read. It begins a definition
 /// behind a paragraph or another definition alone.
 #[inline]
-pub fn definition_start<'a>(
-    rest: LineRest<'a>,
-    options: Options,
-) -> Option<(usize, LineRest<'a>)>
+pub fn definition_start<'a>(rest: LineRest<'a>, options: Options) -> Option<(usize, LineRest<'a>)>
     ensures width { option_map width_of result ≡ definition_marker (shown_options options) (row_of rest.entry) }
     ensures inside { IfSome result (EntersDefinition (row_of rest.entry)) }
     ensures placed { (text : List ℕ) → IsIn text rest.entry → IfSome result (λ begun. IsIn text begun.1) }
