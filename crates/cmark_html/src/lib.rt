@@ -19,7 +19,9 @@ mod table;
 mod writer;
 
 pub use crate::state::Writer;
-pub use crate::writer::{finish, write_event, write_soft_break, write_text};
+pub use crate::writer::{
+    finish, write_event, write_paragraph_end, write_paragraph_start, write_soft_break, write_text,
+};
 use cmark_text::Event;
 use std::alloc::AllocError;
 

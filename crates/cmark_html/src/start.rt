@@ -28,7 +28,7 @@ pub fn append_start<'a>(
 {
     let line_start = writer.line_start;
     match tag {
-        Tag::Paragraph => append_on_line(out, line_start, "<p>"),
+        Tag::Paragraph => append_paragraph_start(out, line_start),
         Tag::Heading {
             level,
             id,
@@ -66,6 +66,15 @@ pub fn append_start<'a>(
         ),
         Tag::HtmlBlock | Tag::MetadataBlock(_) => Ok(()),
     }
+}
+
+/// Appends the start of a paragraph.
+#[inline(always)]
+pub fn append_paragraph_start(out: &mut String, line_start: bool) -> Result<(), AllocError>
+    ensures ok { OnOk result (string_bytes out.new ≡ string_bytes out.old ++ (fresh_line line_start ++ codes "<p>")) }
+    ensures err { OnErr result (AppendsFront (string_bytes out.old) (string_bytes out.new) (fresh_line line_start ++ codes "<p>")) }
+{
+    append_on_line(out, line_start, "<p>")
 }
 
 /// Whether the writer is at a line start behind a start.

@@ -2,8 +2,10 @@
 
 ghost use Rattle.std.specs.Prelude.{◌≡◌, ◌++◌, true, IfOk, OnOk, OnErr, None, codes, is_some, option_map, string_bytes};
 ghost use Rattle.cmark_grammar.specs.Escapes.{escaped_body_text, escaped_html};
-ghost use Rattle.cmark_grammar.specs.Event.{SoftBreak, Text};
+ghost use Rattle.cmark_grammar.specs.Event.{End, SoftBreak, Start, Text};
 ghost use Rattle.cmark_grammar.specs.Html.{piece, piece_outside, moved, moved_outside, metadata_after, table_after, table_after_start, names_after, names_after_start, names_after_inside, opened_by, opened_image, last_piece, line_start_after, line_start_after_html, ends_in_line_feed, task_list_marker};
+ghost use Rattle.cmark_grammar.specs.Tag.{Paragraph};
+ghost use Rattle.cmark_grammar.specs.TagEnd.{Paragraph as ParagraphEnd};
 ghost use Rattle.cmark_text.specs.Appended.{AppendsFront};
 ghost use Rattle.cmark_text.specs.Shown.{shown, shown_tag};
 ghost use Rattle.cmark_html.specs.Writer.{shown_image, shown_names, shown_table, writing};
@@ -12,7 +14,7 @@ use crate::end::{append_end, line_start_after_end};
 use crate::footnote::{FootnoteNames, append_numbered_reference};
 use crate::image::{append_image_end, write_inside};
 use crate::parts::{Part, append, append_around, append_on_line};
-use crate::start::{append_start, line_start_after_start};
+use crate::start::{append_paragraph_start, append_start, line_start_after_start};
 use crate::state::{OpenImage, Writer};
 use crate::table::TableState;
 use cmark_text::escape::escape_html_body_text;
@@ -110,6 +112,39 @@ pub fn write_soft_break<'a>(out: &mut String, writer: &mut Writer<'a>) -> Result
         return write_in_image(out, writer, Event::SoftBreak);
     }
     append(out, "\n")?;
+    writer.line_start = true;
+    Ok(())
+}
+
+/// Appends the piece of the start of a paragraph.
+#[inline(always)]
+pub fn write_paragraph_start<'a>(
+    out: &mut String,
+    writer: &mut Writer<'a>,
+) -> Result<(), AllocError>
+    ensures ok { OnOk result (string_bytes out.new ≡ string_bytes out.old ++ piece (writing writer.old) (Start Paragraph)) }
+    ensures state { OnOk result (writing writer.new ≡ moved (writing writer.old) (Start Paragraph)) }
+    ensures err { OnErr result (AppendsFront (string_bytes out.old) (string_bytes out.new) (piece (writing writer.old) (Start Paragraph))) }
+{
+    if writer.image.is_some() {
+        return write_in_image(out, writer, Event::Start(Tag::Paragraph));
+    }
+    append_paragraph_start(out, writer.line_start)?;
+    writer.line_start = false;
+    Ok(())
+}
+
+/// Appends the piece of the end of a paragraph.
+#[inline(always)]
+pub fn write_paragraph_end<'a>(out: &mut String, writer: &mut Writer<'a>) -> Result<(), AllocError>
+    ensures ok { OnOk result (string_bytes out.new ≡ string_bytes out.old ++ piece (writing writer.old) (End ParagraphEnd)) }
+    ensures state { OnOk result (writing writer.new ≡ moved (writing writer.old) (End ParagraphEnd)) }
+    ensures err { OnErr result (AppendsFront (string_bytes out.old) (string_bytes out.new) (piece (writing writer.old) (End ParagraphEnd))) }
+{
+    if writer.image.is_some() {
+        return write_in_image(out, writer, Event::End(TagEnd::Paragraph));
+    }
+    append_end(out, writer.table.in_head, TagEnd::Paragraph)?;
     writer.line_start = true;
     Ok(())
 }
