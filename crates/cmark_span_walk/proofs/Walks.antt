@@ -1,5 +1,5 @@
 -- Steps of a walk with spans.
-use Rattle.std.proofs.Common.{◌≡◌, ◌⊎◌, inl, inr, ℕ, ◌<◌, ◌≤◌, ◌-◌, arith, Bool, true, false, List, [], ◌∷◌, ◌++◌, length, Some, refl, sym, ap, ◌∙◌, subst}
+use Rattle.std.proofs.Common.{◌≡◌, ◌⊎◌, inl, inr, ℕ, ◌<◌, ◌≤◌, ◌-◌, arith, Bool, true, false, List, [], ◌∷◌, ◌++◌, length, None, Some, refl, sym, ap, ◌∙◌, subst}
 use Rattle.std.specs.Global.{Vec}
 use Rattle.cmark_grammar.specs.Event.{Ranged}
 use Rattle.cmark_grammar.specs.LeafSpans.{AreGiven}
@@ -24,8 +24,9 @@ use Rattle.cmark_walk.specs.declared.walk.Walk.{Walk}
 use Rattle.cmark_walk.specs.Walking as walking
 use Rattle.cmark_walk.specs.Walking.{AreLinesOf, lines_of, shown_ranged}
 use Rattle.cmark_walk.proofs.OneRemainder.{one-remainder}
+use Rattle.cmark_span_walk.specs.declared.given.Next.TheVariants as next
 use Rattle.cmark_span_walk.specs.declared.span_walk.SpanWalk.{SpanWalk}
-use Rattle.cmark_span_walk.specs.Walking.{BeforeLeaf, BlocksLeft, Completes, EntersLeaf, Gives, GivesShort, LeftIn, Remains, Stands, StandsIn, StandsInLeaf, definitions_of, events_left, footnotes_of, opened_of, source_of}
+use Rattle.cmark_span_walk.specs.Walking.{BeforeLeaf, BlocksLeft, Completes, EntersLeaf, Gives, GivesShort, LeftIn, Remains, GivesNext, GivesZeroCopy, Stands, StandsIn, StandsInLeaf, definitions_of, events_left, footnotes_of, opened_of, source_of}
 use Rattle.cmark_span_walk.proofs.Completing.{can-close, completes-nested}
 
 none-opened : (source : List ℕ) (opened : List Opened) → opened ≡ [] → AreOpened source opened
@@ -168,6 +169,44 @@ module _ {E F : Type 0} where
   pub gives-back : (old mid new : SpanWalk E F) (given : Given) → Lasts old mid → Gives mid (Some given) new → Gives old (Some given) new
   gives-back old mid new given l g events r = l.back (shown_ranged given ∷ events) (g events r)
 
+  -- what was counted down since the call began
+  most-since : (old head new : SpanWalk E F) → Lasts old head → events_left new ≤ events_left head → (head.in_leaf ≡ true → length new.inline.slots.items < 18446744073709551616) → new.inline.slots ≡ head.inline.slots → new.budget ≡ head.budget
+      → events_left new ≤ events_left old
+  most-since old head new l most few slots budget = by l.most
+    where
+      by : (events_left head ≤ events_left old) ⊎ IsFresh old head → events_left new ≤ events_left old
+      by (inl le) = omega (arith, most, le)
+      by (inr fresh) =
+          let f = few fresh.inside in
+          let same = ap (λ (v : Vec Slot). length v.items) slots in
+          let none = ap length fresh.none_open in
+          let spent = fresh.spent in
+          omega (arith, most, f, same, none, spent, budget)
+
+  less-since : (old head new : SpanWalk E F) → Lasts old head → events_left new < events_left head → (head.in_leaf ≡ true → length new.inline.slots.items < 18446744073709551616) → new.inline.slots ≡ head.inline.slots → new.budget ≡ head.budget
+      → events_left new < events_left old
+  less-since old head new l less few slots budget = by l.most
+    where
+      by : (events_left head ≤ events_left old) ⊎ IsFresh old head → events_left new < events_left old
+      by (inl le) = omega (arith, less, le)
+      by (inr fresh) =
+          let f = few fresh.inside in
+          let same = ap (λ (v : Vec Slot). length v.items) slots in
+          let none = ap length fresh.none_open in
+          let spent = fresh.spent in
+          omega (arith, less, f, same, none, spent, budget)
+
+  -- a text or a soft break is what comes next
+  pub next-short : (old head new : SpanWalk E F) (short : Short) → Lasts old head → GivesShort head short new → events_left new < events_left head → length new.inline.slots.items < 18446744073709551616 → new.inline.slots ≡ head.inline.slots
+      → new.budget ≡ head.budget → GivesNext old (next.Short short) new
+  next-short old head new short l h less few slots budget = record {
+    given = Some h.given;
+    is = ap Some h.is;
+    gives = gives-back old head new h.given l h.gives;
+    lent = subst (λ t. GivesZeroCopy t h.given) l.source h.lent;
+    fewer = less-since old head new l less (λ inside. few) slots budget;
+  }
+
   -- the next of the document, behind a leaf or another event
   module _ (mid : SpanWalk E F) (walk : Walk) (lines : Vec LeafLine) (s : Stands mid) (out : mid.in_leaf ≡ false) (same-text : walking.text_of walk ≡ walking.text_of mid.walk) where
     abbrev pub met-by : (budget : ℕ) → SpanWalk E F
@@ -194,9 +233,27 @@ module _ {E F : Type 0} where
         let behind = at-blocks (met-by budget) others events (blocks-behind budget (GivenOf r) others e remains less) out m in
         record { left = s.0; stands = s.1; are = outside-left mid s.0 (r ∷ events) out (subst (λ l. AreGiven (source_of mid) l (r ∷ events)) (sym e) (events, refl, behind)) }
 
+    -- an event of the document is what comes next
+    pub next-met : (old head : SpanWalk E F) (budget : ℕ) (given : Given) (others : List Segment) → Lasts old head → ((events : List Ranged) → Remains mid events → Remains head events) → GivesZeroCopy (walking.text_of mid.walk) given → source_of mid ≡ source_of head
+        → events_left mid ≤ events_left head → (head.in_leaf ≡ true → length mid.inline.slots.items < 18446744073709551616) → mid.inline.slots ≡ head.inline.slots → mid.budget ≡ head.budget
+        → s.0 ≡ GivenOf (shown_ranged given) ∷ others → walking.Remains walk others → budget ≡ mid.budget - 1 → GivesNext old (next.Event given.event) (met-by budget)
+    next-met old head budget given others l back lent source most few slots same e remains less = record {
+      given = Some given;
+      is = refl;
+      gives = λ events r. l.back (shown_ranged given ∷ events) (back (shown_ranged given ∷ events) (event-back budget (shown_ranged given) others e remains less events r));
+      lent = subst (λ t. GivesZeroCopy t given) (s.1.blocks.same_text ∙ source ∙ l.source) lent;
+      fewer =
+        let counted = most-since old head mid l most few slots same in
+        let some = not-spent (GivenOf (shown_ranged given)) others e in
+        omega (arith, counted, some, less);
+    }
+
     -- nothing
     pub over-back : s.0 ≡ [] → Remains mid []
     over-back e = record { left = s.0; stands = s.1; are = outside-left mid s.0 [] out (subst (λ l. AreGiven (source_of mid) l []) (sym e) refl) }
+
+    pub next-over : (old head : SpanWalk E F) → Lasts old head → ((events : List Ranged) → Remains mid events → Remains head events) → s.0 ≡ [] → GivesNext old next.Over (met-by mid.budget)
+    next-over old head l back e = record { given = None; is = refl; gives = l.back [] (back [] (over-back e)); lent = tt; fewer = tt }
 
     pub over-stands : s.0 ≡ [] → walking.Remains walk [] → Stands (met-by mid.budget)
     over-stands e r =

@@ -1,5 +1,5 @@
 -- Where a walk with spans stands, and what it still has to give.
-use Rattle.std.specs.Prelude.{◌≡◌, ℕ, ◌+◌, ◌*◌, ◌<◌, Bool, true, false, List, [], ◌∷◌, ◌++◌, length, Option, Some, None}
+use Rattle.std.specs.Prelude.{◌≡◌, ℕ, ◌+◌, ◌*◌, ◌<◌, Bool, true, false, List, [], ◌∷◌, ◌++◌, length, IfSome, OnSome, Option, Some, None, option_map}
 use Rattle.cmark_grammar.specs.Event.{Ranged}
 use Rattle.cmark_grammar.specs.LeafSpans.{AreGiven}
 use Rattle.cmark_grammar.specs.LeafText.{Leaf}
@@ -15,10 +15,13 @@ use Rattle.cmark_inline.specs.Stands.{AreOpened, AreSlots}
 use Rattle.cmark_leaf_text.specs.Reads as reads
 use Rattle.cmark_leaf_text.specs.Reads.{IsRead, is_cell_of, text_of}
 use Rattle.cmark_leaf_text.specs.Stretches.{leaf_bytes}
+use Rattle.cmark_text.specs.declared.event.Event.{Event}
 use Rattle.cmark_text.specs.ZeroCopy.{IsZeroCopy}
 use Rattle.cmark_walk.specs.declared.reading.Ranged.{Ranged as Given}
 use Rattle.cmark_walk.specs.Walking as walking
 use Rattle.cmark_walk.specs.Walking.{AreLinesOf, lines_of, shown_ranged}
+use Rattle.cmark_span_walk.specs.declared.given.Next.{Next}
+use Rattle.cmark_span_walk.specs.declared.given.Next.TheVariants as next
 use Rattle.cmark_span_walk.specs.declared.span_walk.SpanWalk.{SpanWalk}
 
 -- events that end all open elements, the last opened first, and elements of their own between
@@ -29,6 +32,12 @@ Completes source open_ones (r ∷ rs) = (next : List Opened) × Follows source o
 -- the zero-copy law of an event with its range
 abbrev pub GivesZeroCopy : (source : List ℕ) → Given → Type 0
 GivesZeroCopy source given = IsZeroCopy source given.event given.range.start given.range.end
+
+-- the event that such an answer stands for
+abbrev pub next_event : Next → Option Event
+next_event (next.Short short) = Some (event_of short)
+next_event (next.Event event) = Some event
+next_event next.Over = None
 
 module _ {E F : Type 0} where
   abbrev pub source_of : SpanWalk E F → List ℕ
@@ -80,6 +89,10 @@ module _ {E F : Type 0} where
     pub stands : StandsAt walk left
     pub are : LeftIn walk.in_leaf walk left events
 
+  -- more than the number of all events that are left, where a leaf has fewer than 2^66
+  abbrev pub events_left : SpanWalk E F → ℕ
+  events_left walk = walk.budget * 73786976294838206464 + opens.events_left walk.inline
+
   -- a call gives the first of the events that are left, however they go on; or nothing was left
   abbrev pub Gives : SpanWalk E F → Option Given → SpanWalk E F → Type 0
   Gives old None new = Remains old []
@@ -92,14 +105,18 @@ module _ {E F : Type 0} where
     pub gives : Gives old (Some given) new
     pub lent : GivesZeroCopy (source_of old) given
 
+  -- the event that such an answer stands for, with some range, is the first of those that are left; or nothing was left
+  pub record GivesNext (old : SpanWalk E F) (next : Next) (new : SpanWalk E F) : Type 0 where
+    pub given : Option Given
+    pub is : option_map (λ (g : Given). g.event) given ≡ next_event next
+    pub gives : Gives old given new
+    pub lent : IfSome given (GivesZeroCopy (source_of old))
+    pub fewer : OnSome given (events_left new < events_left old)
+
   -- a call gives the first of the events that are left, in a leaf; or the walk then stands in no leaf, and before the same events
   abbrev pub GivesSpan : SpanWalk E F → Option Given → SpanWalk E F → Type 0
   GivesSpan old None new = (new.in_leaf ≡ false) × ((events : List Ranged) → Remains new events → Remains old events)
   GivesSpan old (Some given) new = Gives old (Some given) new
-
-  -- more than the number of all events that are left, where a leaf has fewer than 2^66
-  abbrev pub events_left : SpanWalk E F → ℕ
-  events_left walk = walk.budget * 73786976294838206464 + opens.events_left walk.inline
 
   -- the lines of a leaf were met, before these events and leaves of the document, and whether it is the cell of a table
   pub record BeforeLeaf (walk : SpanWalk E F) (is_cell : Bool) (leaf : Leaf) (others : List Segment) : Type 0 where

@@ -2,7 +2,9 @@
 #![tactic(auto)]
 
 mod callback;
+mod given;
 mod span_walk;
 
 pub use callback::OptionalCallback;
+pub use given::Next;
 pub use span_walk::SpanWalk;

@@ -10,6 +10,7 @@ ghost use Rattle.cmark_inline.specs.Opens.{shown_given, GivesZeroCopy as SpanZer
 ghost use Rattle.cmark_walk.specs.Walking.{Remains as BlocksRemain, definitions_of as block_definitions, shown_ranged, text_of};
 ghost use Rattle.cmark_span_walk.specs.Walking.{GivesZeroCopy};
 
+use crate::given::Next;
 use cmark_inline::{
     BrokenLinkCallback, Given, InlineState, Reader, Short, SpecialBytes, special_bytes,
 };
@@ -38,7 +39,7 @@ pub struct SpanWalk<'input, 'e, E, F> {
 }
 
 impl<'input, 'e, E: EntityLookup, F: BrokenLinkCallback<'input> + Drop> SpanWalk<'input, 'e, E, F> {
-    ghost use Rattle.cmark_span_walk.specs.Walking.{definitions_of, footnotes_of, source_of, events_left, Stands, Remains, Gives, GivesShort, GivesSpan, BeforeLeaf, EntersLeaf};
+    ghost use Rattle.cmark_span_walk.specs.Walking.{definitions_of, footnotes_of, source_of, events_left, Stands, Remains, Gives, GivesNext, GivesShort, GivesSpan, BeforeLeaf, EntersLeaf};
 
     /// A walk over what this walk over the text meets, which are fewer events and leaves than `budget`. `entities` says what the
     /// entity names stand for; `footnotes` are those that the text defines, of which each counts its references; `callback` is asked
@@ -119,15 +120,49 @@ impl<'input, 'e, E: EntityLookup, F: BrokenLinkCallback<'input> + Drop> SpanWalk
         }
     }
 
-    /// What `next` would give, where that is a text of a leaf that stands in the source, or a soft line break: it then counts as
-    /// given. Else there is no answer, and nothing changes.
+    /// What `next` would give, of which an event is made only where there has to be one.
     #[inline(always)]
-    pub fn next_short(&mut self) -> Option<Short<'input>>
+    pub fn next_given(&mut self) -> Result<Next<'input>, AllocError>
+        requires { Stands self.old }
+        ensures stands { OnOk result (Stands self.new) }
+        ensures given { IfOk result (λ next. GivesNext self.old next self.new) }
+        ensures definitions { definitions_of self.new ≡ definitions_of self.old }
+        ensures footnotes { SameFootnotes (footnotes_of self.old) (footnotes_of self.new) }
+        ensures source { source_of self.new ≡ source_of self.old }
+    {
+        loop {
+            if let Some(short) = self.next_short() {
+                return Ok(Next::Short(short));
+            }
+            if let Some(given) = self.next_span()? {
+                return Ok(Next::Event(given.event));
+            }
+            match self.walk.next(&mut self.lines)? {
+                Met::Event(given) => {
+                    self.budget -= 1;
+                    return Ok(Next::Event(given.event));
+                }
+                Met::Leaf { is_cell } => {
+                    self.budget -= 1;
+                    self.enter_leaf(is_cell)?;
+                }
+                Met::Over => return Ok(Next::Over),
+            }
+        }
+    }
+
+    // The next event of the leaf at hand, where that is a text that stands in the source, or a soft line break: it then counts as
+    // given. Else there is no answer, and nothing changes.
+    #[inline(always)]
+    fn next_short(&mut self) -> Option<Short<'input>>
         requires { Stands self.old }
         ensures stands { Stands self.new }
         ensures given { IfSome result (λ short. GivesShort self.old short self.new) }
         ensures none { result ≡ None → self.new ≡ self.old }
         ensures fewer { OnSome result (events_left self.new < events_left self.old) }
+        ensures few { OnSome result (length self.new.inline.slots.items < 18446744073709551616) }
+        ensures slots { self.new.inline.slots ≡ self.old.inline.slots }
+        ensures budget { self.new.budget ≡ self.old.budget }
         ensures definitions { definitions_of self.new ≡ definitions_of self.old }
         ensures footnotes { footnotes_of self.new ≡ footnotes_of self.old }
         ensures source { source_of self.new ≡ source_of self.old }

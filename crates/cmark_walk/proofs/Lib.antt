@@ -9,5 +9,6 @@ pub mod ListSteps
 pub mod MarkerSteps
 pub mod NewSteps
 pub mod OneRemainder
+pub mod ParagraphSteps
 pub mod Paths
 pub mod WalkSteps

@@ -3,6 +3,9 @@ use Rattle.std.specs.Prelude.{◌≡◌, ◌⊎◌, if◌then◌else◌, ℕ, �
 use Rattle.std.specs.Str.{IsCharBoundary}
 use Rattle.cmark_text.specs.declared.text.CowStr.{CowStr}
 use Rattle.cmark_text.specs.declared.event.Event.{Event as TextEvent}
+use Rattle.cmark_text.specs.declared.event.Event.TheVariants as text_event
+use Rattle.cmark_text.specs.declared.event.Tag.TheVariants as text_tag
+use Rattle.cmark_text.specs.declared.event.TagEnd.TheVariants as text_end
 use Rattle.cmark_text.specs.Shown.{shown}
 use Rattle.cmark_text.specs.ZeroCopy.{IsZeroCopy}
 use Rattle.cmark_tree.specs.Forest as forest
@@ -11,6 +14,7 @@ use Rattle.cmark_tree.specs.Arena.{Entry, Placed}
 use Rattle.cmark_tree.specs.Zip.{Level, Zip}
 use Rattle.cmark_tree.specs.declared.tree_index.TreeIndex.{TreeIndex}
 use Rattle.cmark_tree.specs.Tree.{Holds, focus_of, entry_at}
+use Rattle.cmark_grammar.specs.Tag as tag
 use Rattle.cmark_grammar.specs.TagEnd.{end_of}
 use Rattle.cmark_grammar.specs.Event as event
 use Rattle.cmark_grammar.specs.Event.{Event}
@@ -36,6 +40,8 @@ use Rattle.cmark_leaf_text.specs.Stretches.{AreLines}
 use Rattle.cmark_walk.specs.declared.walk.Walk.{Walk}
 use Rattle.cmark_walk.specs.declared.reading.Met.{Met}
 use Rattle.cmark_walk.specs.declared.reading.Met.TheVariants as met
+use Rattle.cmark_walk.specs.declared.reading.ParagraphEdge.{ParagraphEdge}
+use Rattle.cmark_walk.specs.declared.reading.ParagraphEdge.TheVariants as edge
 use Rattle.cmark_walk.specs.declared.reading.Stage.{Stage}
 use Rattle.cmark_walk.specs.declared.reading.Stage.TheVariants as stage
 use Rattle.cmark_walk.specs.declared.reading.Ranged.{Ranged}
@@ -222,6 +228,28 @@ GivesStep left (step.Leaf is_cell) lines walk = Gives left (met.Leaf is_cell) li
 GivesStep left step.Silent lines walk = Remains walk left
 GivesStep left step.Over lines walk = Gives left met.Over lines walk
 
+-- the zero-copy law of what is met
+abbrev pub MeetsZeroCopy : List ℕ → Met → Type 0
+MeetsZeroCopy text (met.Event given) = IsZeroCopy text given.event given.range.start given.range.end
+MeetsZeroCopy text (met.Leaf is_cell) = Unit {0}
+MeetsZeroCopy text met.Over = Unit {0}
+
+-- the event that an edge of a paragraph is
+abbrev pub edge_event : ParagraphEdge → TextEvent
+edge_event edge.Start = text_event.Start text_tag.Paragraph
+edge_event edge.End = text_event.End text_end.Paragraph
+
+-- that event, with some range, is the first of what is left, and the others remain
+pub record GivesEdge (old : Walk) (edge : ParagraphEdge) (new : Walk) : Type 0 where
+  pub given : Ranged
+  pub is : given.event ≡ edge_event edge
+  pub gives : (left : List Segment) → Remains old left → Gives left (met.Event given) [] new
+  pub lent : MeetsZeroCopy (text_of old) (met.Event given)
+
+-- an item among the siblings at hand is a paragraph with a start and an end
+abbrev pub IsElement : Walk → Item → Type 0
+IsElement walk item = (z : Zip Item) (above : List Outer) (node : BlockNode) → StandsBelow walk z above → Drawn walk.text.now (texts_of walk) item node → reads.Around tag.Paragraph ≡ read_as (kind_within (tight_below above) node.kind)
+
 -- these are the lines of the leaf at the focus
 abbrev pub HoldsLines : Walk → List LeafLine → Type 0
 HoldsLines walk lines = (z : Zip Item) (here : BlockDocument) (above : List Outer) → StandsAt walk z here above → AreLinesOf walk.text.now (leaf_at here) lines
@@ -292,16 +320,11 @@ GivesRanged event item (step.Leaf is_cell) = ⊥
 GivesRanged event item step.Silent = ⊥
 GivesRanged event item step.Over = ⊥
 
--- the zero-copy law of what is read, met and given: of an event over these bytes of the text
+-- the zero-copy law of what is read and given: of an event over these bytes of the text
 abbrev pub ReadsZeroCopy : List ℕ → Item → Reading → Type 0
 ReadsZeroCopy text item (reading.Around tag) = Unit {0}
 ReadsZeroCopy text item (reading.Alone event) = IsZeroCopy text event item.start item.end
 ReadsZeroCopy text item reading.Inside = Unit {0}
-
-abbrev pub MeetsZeroCopy : List ℕ → Met → Type 0
-MeetsZeroCopy text (met.Event given) = IsZeroCopy text given.event given.range.start given.range.end
-MeetsZeroCopy text (met.Leaf is_cell) = Unit {0}
-MeetsZeroCopy text met.Over = Unit {0}
 
 abbrev pub StepsZeroCopy : List ℕ → Step → Type 0
 StepsZeroCopy text (step.Event given) = IsZeroCopy text given.event given.range.start given.range.end

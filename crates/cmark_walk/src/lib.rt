@@ -5,5 +5,5 @@ pub mod laws;
 mod reading;
 mod walk;
 
-pub use reading::{Met, Ranged};
+pub use reading::{Met, ParagraphEdge, Ranged};
 pub use walk::Walk;

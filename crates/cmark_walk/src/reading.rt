@@ -26,6 +26,15 @@ pub enum Met<'a> {
     Over,
 }
 
+/// The start or the end of a paragraph.
+#[derive(Clone, Copy, Debug, PartialEq, Eq)]
+pub enum ParagraphEdge {
+    /// Its start.
+    Start,
+    /// Its end.
+    End,
+}
+
 /// How far a walk is at the node in its focus. A leaf's lines are met all at once, so the walk goes past them without going down to
 /// them.
 #[derive(Clone, Copy, Debug, PartialEq, Eq)]

@@ -24,9 +24,9 @@ ghost use Rattle.cmark_leaf_text.specs.declared.stretch.LeafLine.{LeafLine};
 ghost use Rattle.cmark_text.specs.declared.text.CowStr.{CowStr};
 ghost use Rattle.cmark_walk.specs.declared.reading.Met.TheVariants as met;
 ghost use Rattle.cmark_walk.specs.declared.reading.Stage.TheVariants as stage;
-ghost use Rattle.cmark_walk.specs.Walking.{Drawn, IsDrawn, Outer, StandsBelow, IsBelow, tight_below, Remains, Goes, Gives, GivesStep, HoldsLines, definitions_of, text_of, IsAt, IsPast, GivesRanged, texts_of, ReadsZeroCopy, StepsZeroCopy, MeetsZeroCopy, IsTaskAt, IsLeafBehind, IsListBehind, IsTitleIn, is_list, has_texts, is_synthesized, task_body};
+ghost use Rattle.cmark_walk.specs.Walking.{Drawn, IsDrawn, Outer, StandsBelow, IsBelow, tight_below, Remains, Goes, Gives, GivesEdge, GivesStep, IsElement, HoldsLines, definitions_of, text_of, IsAt, IsPast, GivesRanged, texts_of, ReadsZeroCopy, StepsZeroCopy, MeetsZeroCopy, IsTaskAt, IsLeafBehind, IsListBehind, IsTitleIn, is_list, has_texts, is_synthesized, task_body};
 
-use crate::reading::{Met, Ranged, Reading, Stage, Step};
+use crate::reading::{Met, ParagraphEdge, Ranged, Reading, Stage, Step};
 use bitflags::Flags;
 use cmark_items::{Allocations, HeadingAttributes, Item, ItemBody, RefDefs};
 use cmark_leaf_text::LeafLine;
@@ -109,6 +109,39 @@ impl<'a> Walk<'a> {
             }
         }
         Err(AllocError)
+    }
+
+    /// What `next` would give, where that is the start or the end of a paragraph: it then counts as given. Else there is no answer,
+    /// and nothing changes.
+    #[inline(always)]
+    pub fn next_paragraph(&mut self) -> Option<ParagraphEdge>
+        requires { Goes self.old }
+        ensures given { IfSome result (λ edge. GivesEdge self.old edge self.new) }
+        ensures none { result ≡ None → self.new ≡ self.old }
+        ensures goes { Goes self.new }
+        ensures definitions { definitions_of self.new ≡ definitions_of self.old }
+        ensures text { text_of self.new ≡ text_of self.old }
+    {
+        let ix = self.tree.cur()?;
+        let item = *self.tree.item(ix);
+        match self.stage {
+            Stage::Before => {
+                if !self.is_element(item) {
+                    return None;
+                }
+                self.stage = Stage::Lines;
+                Some(ParagraphEdge::Start)
+            }
+            Stage::Behind => {
+                if !self.is_element(item) {
+                    return None;
+                }
+                self.tree.next_sibling(ix);
+                self.stage = Stage::Before;
+                Some(ParagraphEdge::End)
+            }
+            _ => None,
+        }
     }
 
     // Into the focus or past it, or up from behind the last sibling.
@@ -579,6 +612,19 @@ impl<'a> Walk<'a> {
             ItemBody::DefinitionListDefinition(_) => Some(TagEnd::DefinitionListDefinition),
             ItemBody::FootnoteDefinition(_) => Some(TagEnd::FootnoteDefinition),
             _ => None,
+        }
+    }
+
+    // Whether an item among the siblings at hand is a paragraph that has a start and an end: one that stands in no tight list.
+    #[inline(always)]
+    fn is_element(&self, item: Item) -> bool
+        requires { IsBelow self.now }
+        ensures read { result ≡ true → IsElement self.now item }
+        ensures leaf { result ≡ true → (text : List ℕ) (texts : List CowStr) (node : BlockNode) → Drawn text texts item node → true ≡ is_leaf node.kind }
+    {
+        match item.body {
+            ItemBody::Paragraph => !self.is_tight(),
+            _ => false,
         }
     }
 

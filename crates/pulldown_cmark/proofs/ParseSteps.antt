@@ -1,5 +1,6 @@
 -- Steps of a walk.
-use Rattle.std.specs.Prelude.{IfSome, OnSome, Option}
+use Rattle.std.specs.Prelude.{IfOk, IfSome, OnOk, OnSome, Option, Result, Err, option_map}
+use Rattle.std.specs.declared.alloc.AllocError.{AllocError}
 use Rattle.std.proofs.Common.{◌≡◌, ◌+◌, ◌*◌, ◌<◌, ℕ, suc, true, false, if◌then◌else◌, List, [], ◌∷◌, length, None, Some, Ok, inl, inr, refl, sym, ap, ◌∙◌, subst, arith}
 use Rattle.cmark_block_model.proofs.Drawings.{derived}
 use Rattle.cmark_block_model.proofs.LeafDrawings.{segments-bounded}
@@ -11,14 +12,17 @@ use Rattle.cmark_grammar.specs.Options.{Options}
 use Rattle.cmark_grammar.specs.SpanDocuments.{Segment, segments}
 use Rattle.cmark_grammar.proofs.LeafSpanLaws.{some-given}
 use Rattle.cmark_inline.specs.Footnoted.{SameFootnotes}
-use Rattle.cmark_inline.specs.declared.short.Short.{Short}
+use Rattle.cmark_inline.specs.Shorts.{event_of}
+use Rattle.cmark_span_walk.specs.declared.given.Next.{Next}
+use Rattle.cmark_span_walk.specs.declared.given.Next.TheVariants as next
 use Rattle.cmark_span_walk.specs.Walking as walking
+use Rattle.cmark_span_walk.specs.Walking.{next_event}
 use Rattle.cmark_span_walk.proofs.Walks.{some-left}
 use Rattle.cmark_walk.specs.declared.reading.Ranged.{Ranged as Item}
 use Rattle.cmark_walk.specs.Walking.{shown_ranged}
 use Rattle.pulldown_cmark.specs.declared.parse.Parser.{Parser}
 use Rattle.pulldown_cmark.specs.Walking.{GoesOn}
-use Rattle.pulldown_cmark.specs.Parsing.{CanGo, IsOver, GivesShort, GivesStep, Left, Reads, Remains, definitions, footnotes, events_left, text_of}
+use Rattle.pulldown_cmark.specs.Parsing.{CanGo, IsOver, GivesAs, GivesOrErr, GivesStep, Left, Reads, Remains, definitions, footnotes, events_left, is_last, text_of}
 
 module _ {E F : Type 0} where
   -- the walk of a parser that is not over
@@ -53,12 +57,6 @@ module _ {E F : Type 0} where
       back : (events : List Ranged) → Remains new events → Remains old (shown_ranged item ∷ events)
       back events r = subst (λ b. Left b old (shown_ranged item ∷ events)) (sym e) (gives events (subst (λ b. Left b new events) n r))
 
-  -- a text or a soft break is handed on without an event
-  pub gives-short : (old new : Parser E F) (o : Option Short) → old.is_over ≡ false → new.is_over ≡ false → walking.Stands new.spans → IfSome o (λ short. walking.GivesShort old.spans short new.spans)
-      → OnSome o (walking.events_left new.spans < walking.events_left old.spans) → text_of new ≡ text_of old → definitions new ≡ definitions old → SameFootnotes (footnotes old) (footnotes new) → IfSome o (λ short. GivesShort old short new)
-  gives-short old new None e n stands h less text same known = tt
-  gives-short old new (Some short) e n stands h less text same known = record { given = h.given; is = h.is; gives = gives-some old new h.given e n stands h.gives h.lent less text same known }
-
   -- no event was left
   pub gives-none : (old new : Parser E F) → old.is_over ≡ false → new.is_over ≡ true → walking.Gives old.spans None new.spans → text_of new ≡ text_of old → definitions new ≡ definitions old → SameFootnotes (footnotes old) (footnotes new) → GivesStep old None new
   gives-none old new e n gives text same known = record {
@@ -72,6 +70,47 @@ module _ {E F : Type 0} where
     footnotes = known;
     fewer = tt;
   }
+
+  -- nothing is given any more
+  pub gives-over : (parser : Parser E F) → parser.is_over ≡ true → GivesAs parser next.Over parser
+  gives-over parser e = record {
+    given = None;
+    is = refl;
+    gives = record {
+      next = record { first = (subst (λ b. Left b parser []) (sym e) refl, e); goes_on = inl e; over = λ over. (refl, e) };
+      text = refl;
+      definitions = refl;
+      footnotes = λ folded. refl;
+      fewer = tt;
+    };
+  }
+
+  -- what the walk gives is handed on
+  module _ (old new : Parser E F) (e : old.is_over ≡ false) (text : text_of new ≡ text_of old) (same : definitions new ≡ definitions old) (known : SameFootnotes (footnotes old) (footnotes new)) where
+    gives-next : (next : Next) (given : Option Item) → option_map (λ (g : Item). g.event) given ≡ next_event next → new.is_over ≡ is_last (Ok next) → walking.Stands new.spans → walking.Gives old.spans given new.spans
+        → IfSome given (walking.GivesZeroCopy (text_of old)) → OnSome given (walking.events_left new.spans < walking.events_left old.spans) → GivesStep old (option_map Ok given) new
+    gives-next (next.Short short) (Some item) is n stands gives lent less = gives-some old new item e n stands gives lent less text same known
+    gives-next (next.Short short) None is n stands gives lent less = absurd (let q : None ≡ Some (event_of short) = is in cc)
+    gives-next (next.Event event) (Some item) is n stands gives lent less = gives-some old new item e n stands gives lent less text same known
+    gives-next (next.Event event) None is n stands gives lent less = absurd (let q : None ≡ Some event = is in cc)
+    gives-next next.Over (Some item) is n stands gives lent less = absurd (let q : Some item.event ≡ None = is in cc)
+    gives-next next.Over None is n stands gives lent less = gives-none old new e n gives text same known
+
+    gives-error : (error : AllocError) → new.is_over ≡ true → GivesStep old (Some (Err error)) new
+    gives-error error n = record {
+      next = record { first = n; goes_on = inl n; over = λ over. absurd (let q : true ≡ false = sym over ∙ e in cc) };
+      text = text;
+      definitions = same;
+      footnotes = known;
+      fewer =
+        let a = ap (λ b. if b then 0 else suc (walking.events_left old.spans)) e in
+        let b = ap (λ b. if b then 0 else suc (walking.events_left new.spans)) n in
+        omega (arith, a, b);
+    }
+
+    pub gives-or-err : (o : Result Next AllocError) → new.is_over ≡ is_last o → OnOk o (walking.Stands new.spans) → IfOk o (λ next. walking.GivesNext old.spans next new.spans) → GivesOrErr old o new
+    gives-or-err (Ok next) n stands h = record { given = h.given; is = h.is; gives = gives-next next h.given h.is n stands h.gives h.lent h.fewer }
+    gives-or-err (Err error) n stands h = gives-error error n
 
   -- a parser at the start
   module _ (parser : Parser E F) (text : List ℕ) (options : Options) (lookup : Lookup) where

@@ -1,16 +1,24 @@
 -- The HTML of a parser's events is the HTML of its text.
-use Rattle.std.proofs.Common.{◌≡◌, ℕ, List, [], ◌∷◌, ◌++◌, None, Some, Ok, refl, sym, ap, ◌∙◌, append_assoc, append-nil, subst}
+use Rattle.std.proofs.Common.{◌≡◌, ℕ, ◌<◌, List, [], ◌∷◌, ◌++◌, Option, None, Some, Ok, option_map, refl, sym, ap, ◌∙◌, append_assoc, append-nil, subst}
 use Rattle.std.proofs.lemmas.List.{map_push}
 use Rattle.cmark_grammar.specs.Answers.{Lookup}
 use Rattle.cmark_grammar.specs.Event.{Event, Ranged}
 use Rattle.cmark_grammar.specs.Html.{Writing, at_line_start, piece, pieces, moved, moved_all, last_piece, html}
 use Rattle.cmark_grammar.specs.Options.{Options}
 use Rattle.cmark_html.proofs.HtmlSteps.{kept_on, written_on, written_end}
+use Rattle.cmark_span_walk.specs.declared.given.Next.{Next}
+use Rattle.cmark_span_walk.specs.declared.given.Next.TheVariants as next
+use Rattle.cmark_span_walk.specs.Walking.{next_event}
+use Rattle.cmark_text.specs.declared.event.Event.{Event as Given}
 use Rattle.cmark_text.specs.Shown.{shown}
 use Rattle.cmark_walk.specs.declared.reading.Ranged.{Ranged as Item}
 use Rattle.pulldown_cmark.specs.declared.parse.Parser.{Parser}
-use Rattle.pulldown_cmark.specs.Parsing.{CanGo, GivesStep, Reads, Remains}
+use Rattle.pulldown_cmark.specs.Parsing.{CanGo, GivesAs, GivesStep, Reads, Remains, events_left}
 use Rattle.pulldown_cmark.specs.Rendering.{IsHtmlOf, events_of}
+
+abbrev event_or : Given → Option Given → Given
+event_or other None = other
+event_or other (Some event) = event
 
 module _ {E F : Type 0} where
   -- some events were given, and their HTML stands behind the old bytes
@@ -39,11 +47,33 @@ module _ {E F : Type 0} where
         can = record { goes = gives.next.goes_on };
       }
 
+  -- what was given is the event that such an answer stands for
+  pub so-far-next : (first parser new : Parser E F) (next : Next) (event : Given) (w moved-to : Writing) (old mid out : List ℕ) → SoFar first parser w old mid → GivesAs parser next new → next_event next ≡ Some event
+      → out ≡ mid ++ piece w (shown event) → moved-to ≡ moved w (shown event) → SoFar first new moved-to old out
+  so-far-next first parser new next event w moved-to old mid out s h is out_is next_is = by h.given (h.is ∙ is) h.gives
+    where
+      by : (given : Option Item) → option_map (λ (g : Item). g.event) given ≡ Some event → GivesStep parser (option_map Ok given) new → SoFar first new moved-to old out
+      by None same gives = absurd (let q : None ≡ Some event = same in cc)
+      by (Some item) same gives =
+          let e : event ≡ item.event = sym (ap (λ (o : Option Given). event_or event o) same) in
+          so-far-more first parser new item w moved-to old mid out s gives (out_is ∙ ap (λ (e : Given). mid ++ piece w (shown e)) e) (next_is ∙ ap (λ (e : Given). moved w (shown e)) e)
+
+  -- such an answer is counted
+  pub fewer-next : (parser new : Parser E F) (next : Next) (event : Given) → GivesAs parser next new → next_event next ≡ Some event → events_left new < events_left parser
+  fewer-next parser new next event h is = by h.given (h.is ∙ is) h.gives
+    where
+      by : (given : Option Item) → option_map (λ (g : Item). g.event) given ≡ Some event → GivesStep parser (option_map Ok given) new → events_left new < events_left parser
+      by None same gives = absurd (let q : None ≡ Some event = same in cc)
+      by (Some item) same gives = gives.fewer
+
   -- behind the last event
-  pub so-far-end : (first parser new : Parser E F) (w : Writing) (old mid out : List ℕ) → SoFar first parser w old mid → GivesStep parser None new → out ≡ mid ++ last_piece w.image
+  pub so-far-end : (first parser new : Parser E F) (w : Writing) (old mid out : List ℕ) → SoFar first parser w old mid → GivesAs parser next.Over new → out ≡ mid ++ last_piece w.image
       → (events : List Ranged) × Remains first events × (out ≡ old ++ html (events_of events))
-  so-far-end first parser new w old mid out s gives out_is =
-      (s.given, subst (Remains first) (append-nil s.given) (s.back [] gives.next.first.0), written_end w (events_of s.given) old mid out s.out_is s.writing_is out_is)
+  so-far-end first parser new w old mid out s h out_is = by h.given h.is h.gives
+    where
+      by : (given : Option Item) → option_map (λ (g : Item). g.event) given ≡ None → GivesStep parser (option_map Ok given) new → (events : List Ranged) × Remains first events × (out ≡ old ++ html (events_of events))
+      by None same gives = (s.given, subst (Remains first) (append-nil s.given) (s.back [] gives.next.first.0), written_end w (events_of s.given) old mid out s.out_is s.writing_is out_is)
+      by (Some item) same gives = absurd (let q : Some item.event ≡ None = same in cc)
 
   -- where the HTML of all events of a parser at its start stands behind nothing, it is the HTML of the parser's text
   pub rendered : (parser : Parser E F) (text : List ℕ) (options : Options) (lookup : Lookup) (old new : List ℕ) → Reads text options lookup parser → old ≡ []

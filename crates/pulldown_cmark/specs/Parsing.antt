@@ -1,5 +1,5 @@
 -- What a parser still has to give, and the definitions of links and of footnotes that it found.
-use Rattle.std.specs.Prelude.{◌≡◌, ◌<◌, ℕ, suc, Bool, true, false, if◌then◌else◌, List, [], ◌∷◌, OnSome, Option, Some, option_map, Result, Ok}
+use Rattle.std.specs.Prelude.{◌≡◌, ◌<◌, ℕ, suc, Bool, true, false, if◌then◌else◌, List, [], ◌∷◌, OnSome, Option, Some, option_map, Result, Ok, Err}
 use Rattle.std.specs.declared.alloc.AllocError.{AllocError}
 use Rattle.std.specs.declared.ops.Range.{Range}
 use Rattle.cmark_blocks.specs.Footnotes.{HasLabels}
@@ -13,12 +13,13 @@ use Rattle.cmark_grammar.specs.Options.{Options}
 use Rattle.cmark_grammar.specs.References.{first_with, references}
 use Rattle.cmark_grammar.specs.SpanDocuments.{footnote_labels}
 use Rattle.cmark_inline.specs.Footnoted.{SameFootnotes}
-use Rattle.cmark_inline.specs.Shorts.{event_of}
-use Rattle.cmark_inline.specs.declared.short.Short.{Short}
 use Rattle.cmark_items.specs.Definitions.{definition, shown_definition}
 use Rattle.cmark_items.specs.declared.definitions.RefDefs.{RefDefs}
 use Rattle.cmark_items.specs.declared.footnotes.FootnoteDefs.{FootnoteDefs}
+use Rattle.cmark_span_walk.specs.declared.given.Next.{Next}
+use Rattle.cmark_span_walk.specs.declared.given.Next.TheVariants as next
 use Rattle.cmark_span_walk.specs.Walking as walking
+use Rattle.cmark_span_walk.specs.Walking.{next_event}
 use Rattle.cmark_text.specs.declared.event.Event.{Event}
 use Rattle.cmark_text.specs.Shown.{shown}
 use Rattle.cmark_text.specs.ZeroCopy.{IsZeroCopy}
@@ -48,6 +49,13 @@ pub record ShowsRanged (text : List ℕ) (item : Event × Range ℕ) (r : Ranged
 abbrev pub AreZeroCopy : (text : List ℕ) → List (Event × Range ℕ) → Type 0
 AreZeroCopy text [] = Unit {0}
 AreZeroCopy text (item ∷ items) = IsZeroCopy text item.0 item.1.start item.1.end × AreZeroCopy text items
+
+-- nothing is given behind such an answer
+abbrev pub is_last : Result Next AllocError → Bool
+is_last (Ok (next.Short short)) = false
+is_last (Ok (next.Event event)) = false
+is_last (Ok next.Over) = true
+is_last (Err e) = true
 
 module _ {E F : Type 0} where
   -- how many events are left at most
@@ -96,11 +104,16 @@ module _ {E F : Type 0} where
     pub footnotes : SameFootnotes (footnotes old) (footnotes new)
     pub fewer : OnSome given (events_left new < events_left old)
 
-  -- the event that such an answer stands for, with some range, is given
-  pub record GivesShort (old : Parser E F) (short : Short) (new : Parser E F) : Type 0 where
-    pub given : Given
-    pub is : given.event ≡ event_of short
-    pub gives : GivesStep old (Some (Ok given)) new
+  -- the event that such an answer stands for, with some range, is the first of what was left, or nothing was left
+  pub record GivesAs (old : Parser E F) (next : Next) (new : Parser E F) : Type 0 where
+    pub given : Option Given
+    pub is : option_map (λ (g : Given). g.event) given ≡ next_event next
+    pub gives : GivesStep old (option_map Ok given) new
+
+  -- such an answer is given, or the error item, and nothing any more
+  abbrev pub GivesOrErr : Parser E F → Result Next AllocError → Parser E F → Type 0
+  GivesOrErr old (Ok next) new = GivesAs old next new
+  GivesOrErr old (Err e) new = GivesStep old (Some (Err e)) new
 
   -- the parser is at the start of a walk over a document that the text derives
   abbrev pub Reads : List ℕ → Options → Lookup → Parser E F → Type 0

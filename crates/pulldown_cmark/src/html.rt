@@ -13,6 +13,7 @@ use crate::parse::Parser;
 pub use cmark_html::push_html;
 use cmark_html::{Writer, finish, write_event, write_soft_break, write_text};
 use cmark_inline::{BrokenLinkCallback, Short};
+use cmark_span_walk::Next;
 use cmark_text::{EntityLookup, Options};
 use std::alloc::{AllocError, Global};
 
@@ -50,13 +51,10 @@ fn render<'a, E: EntityLookup, F: BrokenLinkCallback<'a> + Drop>(
 {
     let mut writer = Writer::new(*out.allocator());
     loop {
-        if let Some(short) = parser.next_short() {
-            write_short(out, &mut writer, short)?;
-            continue;
-        }
-        match parser.advance() {
-            Some(given) => write_event(out, &mut writer, given?.event)?,
-            None => return finish(out, &writer),
+        match parser.next_given()? {
+            Next::Short(short) => write_short(out, &mut writer, short)?,
+            Next::Event(event) => write_event(out, &mut writer, event)?,
+            Next::Over => return finish(out, &writer),
         }
     }
 }
