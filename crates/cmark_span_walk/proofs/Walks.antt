@@ -24,9 +24,10 @@ use Rattle.cmark_walk.specs.declared.walk.Walk.{Walk}
 use Rattle.cmark_walk.specs.Walking as walking
 use Rattle.cmark_walk.specs.Walking.{AreLinesOf, lines_of, shown_ranged}
 use Rattle.cmark_walk.proofs.OneRemainder.{one-remainder}
+use Rattle.cmark_span_walk.specs.declared.given.Next.{Next}
 use Rattle.cmark_span_walk.specs.declared.given.Next.TheVariants as next
 use Rattle.cmark_span_walk.specs.declared.span_walk.SpanWalk.{SpanWalk}
-use Rattle.cmark_span_walk.specs.Walking.{BeforeLeaf, BlocksLeft, Completes, EntersLeaf, Gives, GivesShort, LeftIn, Remains, GivesNext, GivesZeroCopy, Stands, StandsIn, StandsInLeaf, definitions_of, events_left, footnotes_of, opened_of, source_of}
+use Rattle.cmark_span_walk.specs.Walking.{BeforeLeaf, BlocksLeft, Completes, EntersLeaf, Gives, GivesShort, LeftIn, Remains, GivesNext, GivesZeroCopy, Stands, StandsIn, StandsInLeaf, definitions_of, events_left, footnotes_of, next_event, opened_of, source_of}
 use Rattle.cmark_span_walk.proofs.Completing.{can-close, completes-nested}
 
 none-opened : (source : List ℕ) (opened : List Opened) → opened ≡ [] → AreOpened source opened
@@ -234,18 +235,18 @@ module _ {E F : Type 0} where
         record { left = s.0; stands = s.1; are = outside-left mid s.0 (r ∷ events) out (subst (λ l. AreGiven (source_of mid) l (r ∷ events)) (sym e) (events, refl, behind)) }
 
     -- an event of the document is what comes next
-    pub next-met : (old head : SpanWalk E F) (budget : ℕ) (given : Given) (others : List Segment) → Lasts old head → ((events : List Ranged) → Remains mid events → Remains head events) → GivesZeroCopy (walking.text_of mid.walk) given → source_of mid ≡ source_of head
-        → events_left mid ≤ events_left head → (head.in_leaf ≡ true → length mid.inline.slots.items < 18446744073709551616) → mid.inline.slots ≡ head.inline.slots → mid.budget ≡ head.budget
-        → s.0 ≡ GivenOf (shown_ranged given) ∷ others → walking.Remains walk others → budget ≡ mid.budget - 1 → GivesNext old (next.Event given.event) (met-by budget)
-    next-met old head budget given others l back lent source most few slots same e remains less = record {
+    pub next-met : (old head : SpanWalk E F) (budget : ℕ) (next : Next) (given : Given) (others : List Segment) → Some given.event ≡ next_event next → Lasts old head → ((events : List Ranged) → Remains mid events → Remains head events)
+        → GivesZeroCopy (walking.text_of mid.walk) given → source_of mid ≡ source_of head → events_left mid ≤ events_left head → (head.in_leaf ≡ true → length mid.inline.slots.items < 18446744073709551616) → mid.inline.slots ≡ head.inline.slots
+        → mid.budget ≡ head.budget → s.0 ≡ GivenOf (shown_ranged given) ∷ others → walking.Remains walk others → budget ≡ mid.budget - 1 → GivesNext old next (met-by budget)
+    next-met old head budget next given others is l back lent source most few slots same e remains less = record {
       given = Some given;
-      is = refl;
+      is = is;
       gives = λ events r. l.back (shown_ranged given ∷ events) (back (shown_ranged given ∷ events) (event-back budget (shown_ranged given) others e remains less events r));
       lent = subst (λ t. GivesZeroCopy t given) (s.1.blocks.same_text ∙ source ∙ l.source) lent;
       fewer =
-        let counted = most-since old head mid l most few slots same in
-        let some = not-spent (GivenOf (shown_ranged given)) others e in
-        omega (arith, counted, some, less);
+          let counted = most-since old head mid l most few slots same in
+          let some = not-spent (GivenOf (shown_ranged given)) others e in
+          omega (arith, counted, some, less);
     }
 
     -- nothing

@@ -19,7 +19,7 @@ use Rattle.cmark_text.specs.declared.event.Event.{Event}
 use Rattle.cmark_text.specs.ZeroCopy.{IsZeroCopy}
 use Rattle.cmark_walk.specs.declared.reading.Ranged.{Ranged as Given}
 use Rattle.cmark_walk.specs.Walking as walking
-use Rattle.cmark_walk.specs.Walking.{AreLinesOf, lines_of, shown_ranged}
+use Rattle.cmark_walk.specs.Walking.{AreLinesOf, edge_event, lines_of, shown_ranged}
 use Rattle.cmark_span_walk.specs.declared.given.Next.{Next}
 use Rattle.cmark_span_walk.specs.declared.given.Next.TheVariants as next
 use Rattle.cmark_span_walk.specs.declared.span_walk.SpanWalk.{SpanWalk}
@@ -36,6 +36,7 @@ GivesZeroCopy source given = IsZeroCopy source given.event given.range.start giv
 -- the event that such an answer stands for
 abbrev pub next_event : Next → Option Event
 next_event (next.Short short) = Some (event_of short)
+next_event (next.Paragraph edge) = Some (edge_event edge)
 next_event (next.Event event) = Some event
 next_event next.Over = None
 

@@ -111,11 +111,11 @@ impl<'input, 'e, E: EntityLookup, F: BrokenLinkCallback<'input> + Drop> SpanWalk
                     self.budget -= 1;
                     return Ok(Some(given));
                 }
+                Met::Over => return Ok(None),
                 Met::Leaf { is_cell } => {
                     self.budget -= 1;
                     self.enter_leaf(is_cell)?;
                 }
-                Met::Over => return Ok(None),
             }
         }
     }
@@ -136,6 +136,10 @@ impl<'input, 'e, E: EntityLookup, F: BrokenLinkCallback<'input> + Drop> SpanWalk
             }
             if let Some(given) = self.next_span()? {
                 return Ok(Next::Event(given.event));
+            }
+            if let Some(edge) = self.walk.next_paragraph() {
+                self.budget -= 1;
+                return Ok(Next::Paragraph(edge));
             }
             match self.walk.next(&mut self.lines)? {
                 Met::Event(given) => {

@@ -19,7 +19,7 @@ use Rattle.cmark_span_walk.specs.Walking as walking
 use Rattle.cmark_span_walk.specs.Walking.{next_event}
 use Rattle.cmark_span_walk.proofs.Walks.{some-left}
 use Rattle.cmark_walk.specs.declared.reading.Ranged.{Ranged as Item}
-use Rattle.cmark_walk.specs.Walking.{shown_ranged}
+use Rattle.cmark_walk.specs.Walking.{edge_event, shown_ranged}
 use Rattle.pulldown_cmark.specs.declared.parse.Parser.{Parser}
 use Rattle.pulldown_cmark.specs.Walking.{GoesOn}
 use Rattle.pulldown_cmark.specs.Parsing.{CanGo, IsOver, GivesAs, GivesOrErr, GivesStep, Left, Reads, Remains, definitions, footnotes, events_left, is_last, text_of}
@@ -91,6 +91,8 @@ module _ {E F : Type 0} where
         → IfSome given (walking.GivesZeroCopy (text_of old)) → OnSome given (walking.events_left new.spans < walking.events_left old.spans) → GivesStep old (option_map Ok given) new
     gives-next (next.Short short) (Some item) is n stands gives lent less = gives-some old new item e n stands gives lent less text same known
     gives-next (next.Short short) None is n stands gives lent less = absurd (let q : None ≡ Some (event_of short) = is in cc)
+    gives-next (next.Paragraph edge) (Some item) is n stands gives lent less = gives-some old new item e n stands gives lent less text same known
+    gives-next (next.Paragraph edge) None is n stands gives lent less = absurd (let q : None ≡ Some (edge_event edge) = is in cc)
     gives-next (next.Event event) (Some item) is n stands gives lent less = gives-some old new item e n stands gives lent less text same known
     gives-next (next.Event event) None is n stands gives lent less = absurd (let q : None ≡ Some event = is in cc)
     gives-next next.Over (Some item) is n stands gives lent less = absurd (let q : Some item.event ≡ None = is in cc)
@@ -103,9 +105,9 @@ module _ {E F : Type 0} where
       definitions = same;
       footnotes = known;
       fewer =
-        let a = ap (λ b. if b then 0 else suc (walking.events_left old.spans)) e in
-        let b = ap (λ b. if b then 0 else suc (walking.events_left new.spans)) n in
-        omega (arith, a, b);
+          let a = ap (λ b. if b then 0 else suc (walking.events_left old.spans)) e in
+          let b = ap (λ b. if b then 0 else suc (walking.events_left new.spans)) n in
+          omega (arith, a, b);
     }
 
     pub gives-or-err : (o : Result Next AllocError) → new.is_over ≡ is_last o → OnOk o (walking.Stands new.spans) → IfOk o (λ next. walking.GivesNext old.spans next new.spans) → GivesOrErr old o new

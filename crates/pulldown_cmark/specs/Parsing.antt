@@ -53,6 +53,7 @@ AreZeroCopy text (item ∷ items) = IsZeroCopy text item.0 item.1.start item.1.e
 -- nothing is given behind such an answer
 abbrev pub is_last : Result Next AllocError → Bool
 is_last (Ok (next.Short short)) = false
+is_last (Ok (next.Paragraph edge)) = false
 is_last (Ok (next.Event event)) = false
 is_last (Ok next.Over) = true
 is_last (Err e) = true

@@ -6,15 +6,20 @@ ghost use Rattle.cmark_grammar.specs.Html.{html, piece, moved};
 ghost use Rattle.cmark_html.specs.Writer.{writing};
 ghost use Rattle.cmark_inline.specs.Shorts.{event_of};
 ghost use Rattle.cmark_text.specs.Shown.{shown, shown_options};
+ghost use Rattle.cmark_walk.specs.Walking.{edge_event};
 ghost use Rattle.pulldown_cmark.specs.Parsing.{CanGo, Remains};
 ghost use Rattle.pulldown_cmark.specs.Rendering.{IsHtmlOf, events_of};
 
 use crate::parse::Parser;
 pub use cmark_html::push_html;
-use cmark_html::{Writer, finish, write_event, write_soft_break, write_text};
+use cmark_html::{
+    Writer, finish, write_event, write_paragraph_end, write_paragraph_start, write_soft_break,
+    write_text,
+};
 use cmark_inline::{BrokenLinkCallback, Short};
 use cmark_span_walk::Next;
 use cmark_text::{EntityLookup, Options};
+use cmark_walk::ParagraphEdge;
 use std::alloc::{AllocError, Global};
 
 /// The HTML of a text with these options. `entities` says what the entity names stand for. Fails where memory is refused.
@@ -39,8 +44,8 @@ pub fn to_html<E: EntityLookup>(
     Ok(html)
 }
 
-// Appends the HTML of the events that a parser still has to give. Most of them are texts and soft line breaks, of which no event is
-// made.
+// Appends the HTML of the events that a parser still has to give. Most of them are texts, soft line breaks,
+// and starts and ends of paragraphs, of which no event is made.
 fn render<'a, E: EntityLookup, F: BrokenLinkCallback<'a> + Drop>(
     out: &mut String,
     parser: &mut Parser<'a, E, F>,
@@ -53,6 +58,7 @@ fn render<'a, E: EntityLookup, F: BrokenLinkCallback<'a> + Drop>(
     loop {
         match parser.next_given()? {
             Next::Short(short) => write_short(out, &mut writer, short)?,
+            Next::Paragraph(edge) => write_paragraph_edge(out, &mut writer, edge)?,
             Next::Event(event) => write_event(out, &mut writer, event)?,
             Next::Over => return finish(out, &writer),
         }
@@ -72,5 +78,21 @@ fn write_short<'a>(
     match short {
         Short::Text(text) => write_text(out, writer, text),
         Short::SoftBreak => write_soft_break(out, writer),
+    }
+}
+
+// Appends the piece of the start or the end of a paragraph.
+#[inline(always)]
+fn write_paragraph_edge<'a>(
+    out: &mut String,
+    writer: &mut Writer<'a>,
+    edge: ParagraphEdge,
+) -> Result<(), AllocError>
+    ensures ok { OnOk result (string_bytes out.new ≡ string_bytes out.old ++ piece (writing writer.old) (shown (edge_event edge))) }
+    ensures state { OnOk result (writing writer.new ≡ moved (writing writer.old) (shown (edge_event edge))) }
+{
+    match edge {
+        ParagraphEdge::Start => write_paragraph_start(out, writer),
+        ParagraphEdge::End => write_paragraph_end(out, writer),
     }
 }

@@ -136,12 +136,12 @@ impl<'input, E: EntityLookup, F: BrokenLinkCallback<'input> + Drop> Parser<'inpu
         requires { CanGo self.old }
         ensures { GivesOrErr self.old result self.new }
     {
-        if self.is_over {
-            return Ok(Next::Over);
+        if !self.is_over {
+            let given = self.spans.next_given();
+            self.is_over = is_last(&given);
+            return given;
         }
-        let given = self.spans.next_given();
-        self.is_over = is_last(&given);
-        given
+        Ok(Next::Over)
     }
 
     // The next event with its range. Where memory is refused, this is the last item.
@@ -173,7 +173,7 @@ fn is_last(given: &Result<Next<'_>, AllocError>) -> bool
     ensures { result ≡ is_last given.now }
 {
     match given {
-        Ok(Next::Short(_) | Next::Event(_)) => false,
+        Ok(Next::Short(_) | Next::Paragraph(_) | Next::Event(_)) => false,
         Ok(Next::Over) | Err(_) => true,
     }
 }
