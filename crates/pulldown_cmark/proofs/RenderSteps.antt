@@ -1,8 +1,8 @@
 -- The HTML of a parser's events is the HTML of its text.
-use Rattle.std.proofs.Common.{◌≡◌, ℕ, ◌<◌, List, [], ◌∷◌, ◌++◌, Option, None, Some, Ok, option_map, refl, sym, ap, ◌∙◌, append_assoc, append-nil, subst}
+use Rattle.std.proofs.Common.{◌≡◌, ℕ, List, [], ◌∷◌, ◌++◌, Option, None, Some, Ok, option_map, sym, ap, ◌∙◌, append_assoc, append-nil, subst}
 use Rattle.std.proofs.lemmas.List.{map_push}
 use Rattle.cmark_grammar.specs.Answers.{Lookup}
-use Rattle.cmark_grammar.specs.Event.{Event, Ranged}
+use Rattle.cmark_grammar.specs.Event.{Ranged}
 use Rattle.cmark_grammar.specs.Html.{Writing, at_line_start, piece, pieces, moved, moved_all, last_piece, html}
 use Rattle.cmark_grammar.specs.Options.{Options}
 use Rattle.cmark_html.proofs.HtmlSteps.{kept_on, written_on, written_end}
@@ -13,7 +13,7 @@ use Rattle.cmark_text.specs.declared.event.Event.{Event as Given}
 use Rattle.cmark_text.specs.Shown.{shown}
 use Rattle.cmark_walk.specs.declared.reading.Ranged.{Ranged as Item}
 use Rattle.pulldown_cmark.specs.declared.parse.Parser.{Parser}
-use Rattle.pulldown_cmark.specs.Parsing.{CanGo, GivesAs, GivesStep, Reads, Remains, events_left}
+use Rattle.pulldown_cmark.specs.Parsing.{CanGo, GivesAs, GivesStep, Reads, Remains}
 use Rattle.pulldown_cmark.specs.Rendering.{IsHtmlOf, events_of}
 
 abbrev event_or : Given → Option Given → Given
@@ -57,14 +57,6 @@ module _ {E F : Type 0} where
       by (Some item) same gives =
           let e : event ≡ item.event = sym (ap (λ (o : Option Given). event_or event o) same) in
           so-far-more first parser new item w moved-to old mid out s gives (out_is ∙ ap (λ (e : Given). mid ++ piece w (shown e)) e) (next_is ∙ ap (λ (e : Given). moved w (shown e)) e)
-
-  -- such an answer is counted
-  pub fewer-next : (parser new : Parser E F) (next : Next) (event : Given) → GivesAs parser next new → next_event next ≡ Some event → events_left new < events_left parser
-  fewer-next parser new next event h is = by h.given (h.is ∙ is) h.gives
-    where
-      by : (given : Option Item) → option_map (λ (g : Item). g.event) given ≡ Some event → GivesStep parser (option_map Ok given) new → events_left new < events_left parser
-      by None same gives = absurd (let q : None ≡ Some event = same in cc)
-      by (Some item) same gives = gives.fewer
 
   -- behind the last event
   pub so-far-end : (first parser new : Parser E F) (w : Writing) (old mid out : List ℕ) → SoFar first parser w old mid → GivesAs parser next.Over new → out ≡ mid ++ last_piece w.image
