@@ -153,7 +153,7 @@ def between(leaf, start, end):
 
 def inline_link(leaf, tail, taken, s):
     lookup, past = leaf.reader.lookup, leaf.place_of(tail.behind)
-    title = letters.unescaped(lookup, leaf.is_cell, labels.title_lines(tail.title or b""))
+    title = letters.unescaped(lookup, leaf.is_cell, letters.title_lines(tail.title or b""))
     return links(taken, Linked("Inline", letters.unescaped(lookup, leaf.is_cell, tail.destination), title, b""), past, past, s)
 
 

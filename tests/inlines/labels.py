@@ -2,7 +2,7 @@
 from typing import NamedTuple
 
 from inlines.letters import (Found, and_then, behind_blanks, behind_ending, behind_start, is_blank_byte, is_content,
-                             lines_of_title, resolved, with_line_ends)
+                             resolved, title_lines)
 
 
 # ## LinkDefinitions
@@ -78,13 +78,11 @@ def title_in(bs):
     return up_to(41, 40, True, bs[1:]) if bs.startswith(b"(") else None
 
 
-def behind_line_end(bs):
-    return bs[1:] if bs.startswith(b"\n") else bs[2:] if bs.startswith(b"\r") else bs
-
-
-def definition_separator(bs):
-    """`behind_separator` of LinkDefinitions: behind blanks with at most one line end."""
-    return behind_blanks(behind_line_end(behind_blanks(bs)))
+def behind_separator(bs):
+    """Behind blanks with at most one line ending."""
+    here = behind_blanks(bs)
+    line = behind_ending(here)
+    return here if line is None else behind_blanks(line)
 
 
 def is_line_done(bs):
@@ -106,17 +104,17 @@ def untitled(label, destination):
 def titled(label, destination, title):
     if title is None:
         return untitled(label, destination)
-    if len(definition_separator(destination.behind)) < len(destination.behind) and is_line_done(title.behind):
+    if len(behind_separator(destination.behind)) < len(destination.behind) and is_line_done(title.behind):
         return Defined(label, destination.bytes, title.bytes, title.behind)
     return untitled(label, destination)
 
 
 def with_destination(label, destination):
-    return and_then(destination, lambda d: titled(label, d, title_in(definition_separator(d.behind))))
+    return and_then(destination, lambda d: titled(label, d, title_in(behind_separator(d.behind))))
 
 
 def behind_colon(label):
-    return with_destination(label.bytes, destination_in(definition_separator(label.behind[1:]))) if label.behind.startswith(b":") else None
+    return with_destination(label.bytes, destination_in(behind_separator(label.behind[1:]))) if label.behind.startswith(b":") else None
 
 
 def definition_in(bs):
@@ -140,7 +138,7 @@ class Reference(NamedTuple):
 
 
 def reference_of(lookup, defined):
-    title = None if defined.title is None else resolved(lookup, lines_of_title(defined.title))
+    title = None if defined.title is None else resolved(lookup, title_lines(defined.title))
     return Reference(normal_form(defined.label), resolved(lookup, defined.destination), title)
 
 
@@ -152,12 +150,6 @@ def first_with(folded, references):
 
 def link_destination_in(bs):
     return up_to(62, 60, False, bs[1:]) if bs.startswith(b"<") else bare_in(bs)
-
-
-def behind_separator(bs):
-    here = behind_blanks(bs)
-    line = behind_ending(here)
-    return here if line is None else behind_blanks(line)
 
 
 class LinkTail(NamedTuple):
@@ -182,10 +174,6 @@ def tail_inside(bs):
 
 def link_tail_in(bs):
     return and_then(behind_start(b"(", bs), tail_inside)
-
-
-def title_lines(bs):
-    return lines_of_title(with_line_ends(b"\n", bs))
 
 
 def reference_label_in(bs):

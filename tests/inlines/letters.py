@@ -185,13 +185,17 @@ def unescaped(lookup, is_in_table, bs):
     return resolved(lookup, with_escaped_pipes(bs) if is_in_table else bs)
 
 
-def lines_of_title(bs):
-    """`title_lines` of Tokens: each line end and the blanks behind it are one line feed."""
-    answer, front = [], False
-    for b in bs:
-        if b != 13 and not (front and is_blank_byte(b)):
-            answer.append(b)
-        front = b == 10 or (front and is_blank_byte(b))
+def title_lines(bs):
+    """Each line ending and the blanks behind it are one line feed."""
+    answer, in_front = [], False
+    for at, b in enumerate(bs):
+        if ends_line(b, bs[at + 1:at + 2]):
+            answer.append(10)
+            in_front = True
+        elif not (in_front and is_blank_byte(b)):
+            in_front = False
+            if b != 13:
+                answer.append(b)
     return bytes(answer)
 
 

@@ -8,10 +8,7 @@ use Rattle.cmark_grammar.specs.Derivation.{stop_of}
 use Rattle.cmark_grammar.specs.Options.{Options}
 use Rattle.cmark_grammar.specs.Rows.{Row, words_of, begin_of, start_of}
 use Rattle.cmark_grammar.specs.Tokens.{slice}
-use Rattle.cmark_grammar.proofs.ColumnSteps.{bytes_of-expand}
 use Rattle.cmark_grammar.proofs.RowPlaces.{drop-Runs}
-use Rattle.cmark_scan.specs.LineStart.{columns_taken}
-use Rattle.cmark_definitions.proofs.LineEnds.{HasNoReturn, columns_behind, content_no_return}
 use Rattle.cmark_lines.proofs.RestSteps.{rest-runs}
 use Rattle.cmark_lines.specs.Rests.{row_of}
 use Rattle.cmark_lines.specs.declared.line_rest.LineRest.{LineRest}
@@ -21,18 +18,7 @@ use Rattle.cmark_block_model.specs.OpenBlocks as model
 use Rattle.cmark_blocks.specs.declared.gathered.Gathered.{Gathered}
 use Rattle.cmark_blocks.specs.Gathered.{last_of, texts_at, Holds}
 
--- the bytes of a line hold no carriage return
-pub rest-plain : (rest : LineRest) → HasNoReturn (bytes_of (row_of rest).columns)
-unfolding row_of
-rest-plain rest =
-    let bytes = rest.front.bytes.now in
-    columns_behind (columns_taken rest.front) (expand 0 rest.start bytes)
-    (subst HasNoReturn (rest.front.plain ∙ sym (bytes_of-expand 0 rest.start bytes)) (content_no_return bytes))
-
-pub words-plain : (rest : LineRest) → HasNoReturn (words_of (row_of rest))
-words-plain rest = columns_behind (indent (row_of rest).columns) (row_of rest).columns (rest-plain rest)
-
--- they stand in the text, one behind the other
+-- the bytes of a line stand in the text, one behind the other
 pub rest-slice : (text : List ℕ) (rest : LineRest) → AreTold text (row_of rest).columns → bytes_of (row_of rest).columns ≡ slice text (begin_of (row_of rest)) (row_of rest).stop
 rest-slice text rest told = bytes-slice text (begin_of (row_of rest)) (row_of rest).columns (row_of rest).stop (rest-runs rest) told
 

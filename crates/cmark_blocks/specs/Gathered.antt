@@ -5,7 +5,6 @@ use Rattle.cmark_grammar.specs.LinkDefinitions.{further_bytes, bytes_over, defin
 use Rattle.cmark_grammar.specs.Openings.{text_lines}
 use Rattle.cmark_grammar.specs.Options.{Options}
 use Rattle.cmark_grammar.specs.Rows.{Row}
-use Rattle.cmark_definitions.specs.Rests.{HasLineEnds}
 use Rattle.cmark_definitions.specs.Settled.{defined_before}
 use Rattle.cmark_lines.specs.Rests.{row_of}
 use Rattle.cmark_lines.specs.declared.line_rest.LineRest.{LineRest}
@@ -22,12 +21,10 @@ abbrev pub last_of : Row → List Row → Row
 last_of first [] = first
 last_of first (r ∷ more) = last_of r more
 
--- what holds whatever the containers are: the last line stands in the text, a line feed stands behind each carriage return
--- of what was gathered, and each line behind the first took a byte at least
+-- what holds whatever the containers are: the last line stands in the text, and each line behind the first took a byte at least
 pub record IsGathered (text : List ℕ) (gathered : Gathered) : Type 0 where
   pub read : IsRead text gathered.last
   pub few : gathered.lines ≤ (row_of gathered.last).past
-  pub ends : HasLineEnds (string_bytes gathered.text)
 
 module _ (text : List ℕ) (options : Options) (lookup : Lookup) (m : model.Pass) where
   -- the lines from a place on with which a paragraph goes on inside the open containers

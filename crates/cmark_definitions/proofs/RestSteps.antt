@@ -1,5 +1,5 @@
 -- Rests of a text.
-use Rattle.std.proofs.Common.{◌≡◌, ℕ, zero, suc, ◌+◌, ◌-◌, ◌<◌, ◌≤◌, true, List, [], ◌∷◌, length, drop, get_or, Option, None, Some, refl, sym, ap, subst, ◌∙◌, arith, drop-drop, length-drop}
+use Rattle.std.proofs.Common.{◌≡◌, ℕ, zero, suc, ◌+◌, ◌-◌, ◌<◌, ◌≤◌, true, List, length, drop, get_or, Option, None, Some, refl, sym, ap, subst, ◌∙◌, arith, drop-drop, length-drop}
 use Rattle.std.specs.List.{prefix_len}
 use Rattle.std.specs.Option.{IfSome}
 use Rattle.std.specs.Str.{IsCharBoundary, IsUtf8}
@@ -10,7 +10,7 @@ use Rattle.cmark_grammar.specs.Columns.{is_blank_byte}
 use Rattle.cmark_grammar.specs.LinkDefinitions.{behind_blanks}
 use Rattle.cmark_grammar.proofs.RowEdges.{blank-ascii}
 use Rattle.cmark_definitions.specs.declared.part.Part.{Part}
-use Rattle.cmark_definitions.specs.Rests.{IsRest, HasLineEnds}
+use Rattle.cmark_definitions.specs.Rests.{IsRest}
 
 pub whole : (bs : List ℕ) → IsRest bs bs
 whole bs = record { skipped = 0; within = omega arith; is = refl }
@@ -25,14 +25,6 @@ further bs rest next one two = record {
   within = let l = length-drop one.skipped bs in let n = ap length one.is in let a = one.within in let b = two.within in omega (arith, l, n, a, b);
   is = two.is ∙ ap (drop two.skipped) one.is ∙ drop-drop two.skipped one.skipped bs;
 }
-
-pub ends_behind : (n : ℕ) (bs : List ℕ) → HasLineEnds bs → HasLineEnds (drop n bs)
-ends_behind zero bs h = h
-ends_behind (suc n) [] h = tt
-ends_behind (suc n) (b ∷ bs) h = ends_behind n bs h.1
-
-pub keeps_ends : (bs rest : List ℕ) → IsRest bs rest → HasLineEnds bs → HasLineEnds rest
-keeps_ends bs rest r h = subst HasLineEnds (sym r.is) (ends_behind r.skipped bs h)
 
 -- where it begins
 size_before : (bs rest : List ℕ) (r : IsRest bs rest) → r.skipped ≡ length bs - length rest

@@ -6,7 +6,8 @@ use Rattle.std.proofs.lemmas.Option.{same_Some}
 use Rattle.cmark_grammar.specs.Columns.{is_blank_byte}
 use Rattle.cmark_grammar.specs.Leaves.{is_empty}
 use Rattle.cmark_grammar.specs.Letters.{first_is}
-use Rattle.cmark_grammar.specs.LinkDefinitions.{Found, Defined, put, escapes_next, up_to, is_label, label_if, label_in, ends_bare, depth_after, bare_in, nonempty, destination_in, title_in, behind_blanks, behind_line_end, behind_separator, at_end, is_line_done, defined, untitled, titled, with_destination, behind_colon, with_label, definition_in}
+use Rattle.cmark_grammar.specs.LinkDefinitions.{Found, Defined, put, escapes_next, up_to, is_label, label_if, label_in, ends_bare, depth_after, bare_in, nonempty, destination_in, title_in, behind_blanks, behind_next_line, behind_separator, at_end, is_line_done, defined, untitled, titled, with_destination, behind_colon, with_label, definition_in}
+use Rattle.cmark_grammar.specs.Tags.{behind_ending, behind_line_feed}
 use Rattle.cmark_definitions.specs.Settled.{read_before, defined_before, IsSettled, ends_in, title_ends, end_settles, lacks_colon, settles_as, settles}
 
 module _ (more : List ℕ) where
@@ -150,28 +151,38 @@ module _ (more : List ℕ) where
       go true q ih = ih q
       go false q ih = ap (λ l. l ++ more) q
 
-  line-before : (y : ℕ) (ys : List ℕ) (x : ℕ) (xs : List ℕ) → behind_blanks (behind_line_end (y ∷ ys)) ≡ x ∷ xs → behind_blanks (behind_line_end (y ∷ (ys ++ more))) ≡ x ∷ (xs ++ more)
-  line-before y ys x xs e = go (y == 10) (y == 13) ys e
+  -- behind a line ending that something follows
+  feed-before : (bs : List ℕ) (x : ℕ) (xs : List ℕ) → behind_blanks (behind_line_feed bs) ≡ x ∷ xs → behind_blanks (behind_line_feed (bs ++ more)) ≡ x ∷ (xs ++ more)
+  feed-before [] x xs e = absurd (let z : [] ≡ x ∷ xs = e in cc)
+  feed-before (b ∷ bs) x xs e = go (b == 10) e
     where
-      go : (p q : Bool) (zs : List ℕ) → behind_blanks (if p then zs else if q then drop 1 zs else y ∷ zs) ≡ x ∷ xs → behind_blanks (if p then zs ++ more else if q then drop 1 (zs ++ more) else y ∷ (zs ++ more)) ≡ x ∷ (xs ++ more)
-      go true q zs s = blanks-before zs x xs s
-      go false true [] s = absurd (let z : [] ≡ x ∷ xs = s in cc)
-      go false true (z ∷ zs) s = blanks-before zs x xs s
-      go false false zs s = blanks-before (y ∷ zs) x xs s
+      go : (p : Bool) → behind_blanks (if p then bs else b ∷ bs) ≡ x ∷ xs → behind_blanks (if p then bs ++ more else b ∷ (bs ++ more)) ≡ x ∷ (xs ++ more)
+      go true s = blanks-before bs x xs s
+      go false s = blanks-before (b ∷ bs) x xs s
+
+  line-before : (y : ℕ) (ys : List ℕ) (x : ℕ) (xs : List ℕ) → behind_next_line (y ∷ ys) (behind_ending (y ∷ ys)) ≡ x ∷ xs
+      → behind_next_line (y ∷ (ys ++ more)) (behind_ending (y ∷ (ys ++ more))) ≡ x ∷ (xs ++ more)
+  line-before y ys x xs e = go (y == 10) (y == 13) e
+    where
+      go : (p q : Bool) → behind_next_line (y ∷ ys) (if p then Some ys else if q then Some (behind_line_feed ys) else None) ≡ x ∷ xs
+          → behind_next_line (y ∷ (ys ++ more)) (if p then Some (ys ++ more) else if q then Some (behind_line_feed (ys ++ more)) else None) ≡ x ∷ (xs ++ more)
+      go true q s = blanks-before ys x xs s
+      go false true s = feed-before ys x xs s
+      go false false s = ap (λ l. l ++ more) s
 
   -- something stands behind blanks, where something stands behind blanks and a line end
   some-blanks : (bs : List ℕ) (x : ℕ) (xs : List ℕ) → behind_separator bs ≡ x ∷ xs → (y : ℕ) × (ys : List ℕ) × (behind_blanks bs ≡ y ∷ ys)
   some-blanks bs x xs e = go (behind_blanks bs) e
     where
-      go : (l : List ℕ) → behind_blanks (behind_line_end l) ≡ x ∷ xs → (y : ℕ) × (ys : List ℕ) × (l ≡ y ∷ ys)
+      go : (l : List ℕ) → behind_next_line l (behind_ending l) ≡ x ∷ xs → (y : ℕ) × (ys : List ℕ) × (l ≡ y ∷ ys)
       go [] s = absurd (let z : [] ≡ x ∷ xs = s in cc)
       go (y ∷ ys) s = (y, ys, refl)
 
   separator-before : (bs : List ℕ) (x : ℕ) (xs : List ℕ) → behind_separator bs ≡ x ∷ xs → behind_separator (bs ++ more) ≡ x ∷ (xs ++ more)
   separator-before bs x xs e =
       let s = some-blanks bs x xs e in
-      ap (λ l. behind_blanks (behind_line_end l)) (blanks-before bs s.0 s.1 s.2)
-      ∙ line-before s.0 s.1 x xs (ap (λ l. behind_blanks (behind_line_end l)) (sym s.2) ∙ e)
+      ap (λ l. behind_next_line l (behind_ending l)) (blanks-before bs s.0 s.1 s.2)
+      ∙ line-before s.0 s.1 x xs (ap (λ l. behind_next_line l (behind_ending l)) (sym s.2) ∙ e)
 
   done-before : (bs : List ℕ) (x : ℕ) (xs : List ℕ) → behind_blanks bs ≡ x ∷ xs → is_line_done (bs ++ more) ≡ is_line_done bs
   done-before bs x xs e = ap at_end (blanks-before bs x xs e) ∙ ap at_end (sym e)

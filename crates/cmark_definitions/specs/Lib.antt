@@ -2,4 +2,3 @@ pub mod Rests
 pub mod Settled
 pub mod Shown
 pub mod Steps
-pub mod Titles

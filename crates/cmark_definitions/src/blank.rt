@@ -1,11 +1,12 @@
-//! Blanks and line ends in front of a text.
+//! Blanks and line endings in front of a text.
 
-ghost use Rattle.std.specs.Prelude.{◌≡◌, ◌<◌, ◌==◌, IfSome, option_copied};
+ghost use Rattle.std.specs.Prelude.{◌≡◌, ◌<◌, ◌==◌, length, IfSome, option_copied};
 ghost use Rattle.std.specs.List.{prefix_len};
 ghost use Rattle.cmark_grammar.specs.Columns.{is_blank_byte};
 ghost use Rattle.cmark_grammar.specs.Letters.{behind_if};
-ghost use Rattle.cmark_grammar.specs.LinkDefinitions.{behind_blanks, behind_line_end, behind_separator, is_line_done};
-ghost use Rattle.cmark_definitions.specs.Rests.{IsRest, HasLineEnds, without_byte};
+ghost use Rattle.cmark_grammar.specs.LinkDefinitions.{behind_blanks, behind_separator, is_line_done};
+ghost use Rattle.cmark_grammar.specs.Tags.{behind_ending, behind_line_feed};
+ghost use Rattle.cmark_definitions.specs.Rests.{IsRest};
 
 /// Whether a byte is a space or a tab.
 fn is_blank(byte: u8) -> bool
@@ -29,34 +30,41 @@ pub fn behind_blanks(text: &str) -> &str
     &text[blanks(text.as_bytes())..]
 }
 
-/// The text without this byte of ASCII, if it stands in front.
-fn without_byte(byte: u8, text: &str) -> &str
-    requires { byte < 128 }
-    ensures value { result.now ≡ without_byte byte text.entry.now }
+/// The text without the line feed in front, if one stands there.
+fn without_line_feed(text: &str) -> &str
+    ensures value { result.now ≡ behind_line_feed text.entry.now }
     ensures rest { IsRest text.entry.now result.now }
 {
-    match behind_byte(byte, text) {
+    match behind_byte(b'\n', text) {
         Some(rest) => rest,
         None => text,
     }
 }
 
-/// The text behind a line end, if one stands in front.
-fn behind_line_end(text: &str) -> &str
-    requires { HasLineEnds text.now }
-    ensures value { result.now ≡ behind_line_end text.entry.now }
-    ensures rest { IsRest text.entry.now result.now }
+/// The text behind the line ending in front, if one stands there: a line feed, a carriage return, or both in this order
+/// (CommonMark 2.1).
+pub fn behind_ending(text: &str) -> Option<&str>
+    ensures value { option_copied result ≡ behind_ending text.entry.now }
+    ensures rest { IfSome result (λ rest. IsRest text.entry.now rest.now) }
+    ensures shorter { IfSome result (λ rest. length rest.now < length text.entry.now) }
 {
-    without_byte(b'\n', without_byte(b'\r', text))
+    if let Some(rest) = behind_byte(b'\n', text) {
+        return Some(rest);
+    }
+    let rest = behind_byte(b'\r', text)?;
+    Some(without_line_feed(rest))
 }
 
-/// The text behind blanks with at most one line end.
+/// The text behind blanks with at most one line ending.
 pub fn behind_separator(text: &str) -> &str
-    requires { HasLineEnds text.now }
     ensures value { result.now ≡ behind_separator text.entry.now }
     ensures rest { IsRest text.entry.now result.now }
 {
-    behind_blanks(behind_line_end(behind_blanks(text)))
+    let here = behind_blanks(text);
+    match behind_ending(here) {
+        Some(line) => behind_blanks(line),
+        None => here,
+    }
 }
 
 /// Whether only blanks stand in front of the line end, or of the end of the text.

@@ -3,7 +3,7 @@
 ghost use Rattle.std.specs.Prelude.{◌≡◌, IfSome, option_map};
 ghost use Rattle.std.specs.Str.{IsCharBoundary};
 ghost use Rattle.cmark_grammar.specs.LinkDefinitions.{behind_separator, destination_in, title_in, untitled, titled, with_destination, definition_in};
-ghost use Rattle.cmark_definitions.specs.Rests.{IsRest, HasLineEnds};
+ghost use Rattle.cmark_definitions.specs.Rests.{IsRest};
 ghost use Rattle.cmark_definitions.specs.Shown.{shown_part, shown_read, shown_definition};
 
 use crate::blank::{behind_byte, behind_separator, is_line_done};
@@ -58,7 +58,6 @@ fn untitled<'a>(label: &'a str, destination: Part<'a>) -> Option<Read<'a>>
 /// The definition with the title behind the destination, if one is parted from it and the line is done behind the title; else
 /// the one without a title.
 fn titled<'a>(label: &'a str, destination: Part<'a>) -> Option<Read<'a>>
-    requires { HasLineEnds destination.behind.now }
     ensures value { option_map shown_read result ≡ titled label.entry.now (shown_part destination.entry) (title_in (behind_separator destination.entry.behind.now)) }
     ensures rest { IfSome result (λ read. IsRest destination.entry.behind.now read.behind.now) }
 {
@@ -79,7 +78,6 @@ fn titled<'a>(label: &'a str, destination: Part<'a>) -> Option<Read<'a>>
 
 /// The definition of a label whose colon stands before this text.
 fn with_destination<'a>(label: &'a str, text: &'a str) -> Option<Read<'a>>
-    requires { HasLineEnds text.now }
     ensures value { option_map shown_read result ≡ with_destination label.entry.now (destination_in (behind_separator text.entry.now)) }
     ensures rest { IfSome result (λ read. IsRest text.entry.now read.behind.now) }
 {
@@ -88,7 +86,6 @@ fn with_destination<'a>(label: &'a str, text: &'a str) -> Option<Read<'a>>
 
 /// The definition in front.
 fn read_definition(paragraph: &str) -> Option<Read<'_>>
-    requires { HasLineEnds paragraph.now }
     ensures value { option_map shown_read result ≡ definition_in paragraph.entry.now }
     ensures rest { IfSome result (λ read. IsRest paragraph.entry.now read.behind.now) }
 {
@@ -99,9 +96,8 @@ fn read_definition(paragraph: &str) -> Option<Read<'_>>
 /// The link reference definition that a paragraph begins with, if it does (CommonMark 4.7): a label in brackets, a colon, a
 /// destination, and a title where one follows that the line ends behind. `paragraph` is the text of a paragraph, or a rest of
 /// it from the start of a line, without the prefixes of containers and without the indent of its first line; between its lines
-/// stand their line ends, in which a line feed follows each carriage return.
+/// stand their line endings.
 pub fn scan_definition(paragraph: &str) -> Option<Definition<'_>>
-    requires line_ends { HasLineEnds paragraph.now }
     ensures value { option_map (shown_definition paragraph.entry.now) result ≡ definition_in paragraph.entry.now }
     ensures ends { IfSome result (λ definition. IsCharBoundary paragraph.entry.now definition.end) }
 {

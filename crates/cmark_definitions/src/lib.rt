@@ -9,7 +9,7 @@ mod part;
 mod reference;
 mod settled;
 
-pub use blank::{behind_blanks, behind_byte};
+pub use blank::{behind_blanks, behind_byte, behind_ending, behind_separator};
 pub use definition::{Definition, scan_definition};
 pub use label::{is_label, label_in};
 pub use part::{Part, title_in};

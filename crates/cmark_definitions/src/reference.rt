@@ -1,17 +1,14 @@
 //! Link reference definitions as a table keeps them.
 
-ghost use Rattle.std.specs.Prelude.{◌≡◌, ◌<◌, ◌==◌, false, length, string_bytes, slice_index, IfOk, option_map, option_copied};
+ghost use Rattle.std.specs.Prelude.{◌≡◌, ◌<◌, false, length, string_bytes, IfOk, option_map, option_copied};
 ghost use Rattle.cmark_grammar.specs.Derivation.{title_of, reference_of};
 ghost use Rattle.cmark_grammar.specs.Labels.{fold};
-ghost use Rattle.cmark_grammar.specs.Letters.{first_is};
-ghost use Rattle.cmark_grammar.specs.LinkDefinitions.{behind_blanks};
 ghost use Rattle.cmark_grammar.specs.Tokens.{resolved, title_lines};
 ghost use Rattle.cmark_text.specs.Labelled.{link_key};
 ghost use Rattle.cmark_text.specs.Shown.{text_bytes};
 ghost use Rattle.cmark_definitions.specs.Shown.{written, shown_reference};
-ghost use Rattle.cmark_definitions.specs.Titles.{line_feed_of, behind_title_line};
 
-use crate::blank::{behind_blanks, behind_byte};
+use crate::blank::behind_separator;
 use crate::definition::Definition;
 use cmark_items::LinkDef;
 use cmark_scan_parts::unescape;
@@ -20,29 +17,8 @@ use memchr::memchr2;
 use std::alloc::{AllocError, Global};
 use std::ops::Range;
 
-/// What a title keeps of a part of a line end: a line feed, or nothing of a carriage return.
-fn line_feed_of(text: &str) -> &'static str
-    ensures { result.now ≡ line_feed_of text.now }
-{
-    match text.as_bytes() {
-        [b'\n', ..] => "\n",
-        _ => "",
-    }
-}
-
-/// The title behind a part of a line end: behind the blanks that follow a line feed, or behind a carriage return.
-fn behind_title_line(text: &str) -> &str
-    requires some { 0 < length text.now }
-    requires ascii { slice_index text.now 0 < 128 }
-    ensures { result.now ≡ behind_title_line text.entry.now }
-{
-    match behind_byte(b'\n', text) {
-        Some(line) => behind_blanks(line),
-        None => &text[1..],
-    }
-}
-
-/// The lines of a title: each line end and the blanks behind it are one line feed (this profile's own).
+/// The lines of a title: each line ending and the blanks behind it are one line feed (this profile's own). Fails only where memory is
+/// refused.
 pub fn title_lines(alloc: Global, title: &str) -> Result<String, AllocError>
     ensures { IfOk result (λ lines. string_bytes lines ≡ title_lines false title.now) }
 {
@@ -50,9 +26,8 @@ pub fn title_lines(alloc: Global, title: &str) -> Result<String, AllocError>
     let mut rest = title;
     while let Some(at) = memchr2(b'\n', b'\r', rest.as_bytes()) {
         lines.push_str(&rest[..at])?;
-        let behind = &rest[at..];
-        lines.push_str(line_feed_of(behind))?;
-        rest = behind_title_line(behind);
+        lines.push_str("\n")?;
+        rest = behind_separator(&rest[at..]);
     }
     lines.push_str(rest)?;
     Ok(lines)

@@ -4,7 +4,6 @@ ghost use Rattle.std.specs.Prelude.{◌≡◌, ◌<◌, ◌==◌, not, ◌||◌,
 ghost use Rattle.cmark_grammar.specs.Leaves.{is_empty};
 ghost use Rattle.cmark_grammar.specs.Letters.{first_is};
 ghost use Rattle.cmark_grammar.specs.LinkDefinitions.{behind_blanks, definition_in};
-ghost use Rattle.cmark_definitions.specs.Rests.{HasLineEnds};
 ghost use Rattle.cmark_definitions.specs.Settled.{ends_in, title_ends, end_settles, lacks_colon, label_settles, settles, IsSettled};
 ghost use Rattle.cmark_definitions.specs.Shown.{shown_definition, shown_part};
 
@@ -44,7 +43,6 @@ fn title_ends(text: &str) -> bool
 
 /// Whether the end of this definition is known, in front of this text.
 fn end_settles(title: Option<&str>, behind: &str) -> bool
-    requires { HasLineEnds behind.now }
     ensures { result ≡ end_settles (option_copied title.entry) behind.now }
 {
     match title {
@@ -77,7 +75,6 @@ fn label_settles(paragraph: &str) -> bool
 /// is known where a definition ended and something stands behind it that is no title which is still open, and where a label
 /// ends that no colon follows. `paragraph` is what `scan_definition` is given.
 pub fn is_settled(paragraph: &str) -> bool
-    requires line_ends { HasLineEnds paragraph.now }
     ensures value { result ≡ settles paragraph.now }
     ensures settled { IsTrue result → IsSettled paragraph.now }
 {

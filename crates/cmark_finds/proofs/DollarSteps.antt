@@ -12,7 +12,7 @@ use Rattle.cmark_grammar.specs.Letters.{first_is}
 use Rattle.cmark_grammar.specs.Formulas.{Braces, is_dollar, is_ink, no_braces, context_of, behind_byte, braces_behind, closes_formula, formula_to, inline_in, display_in}
 use Rattle.cmark_grammar.specs.LinkDefinitions.{Found, put, escapes_next}
 use Rattle.cmark_grammar.specs.Tokens.{slice}
-use Rattle.cmark_finds.specs.Dollars.{IsFormulaAt, dollar_here, dollars_from, dollars_in, closing, braces_at, formula_at, signs_of}
+use Rattle.cmark_finds.specs.Dollars.{IsFormulaAt, dollars_from, dollars_in, closing, braces_at, formula_at, signs_of}
 use Rattle.cmark_finds.specs.declared.dollars.Dollar.{Dollar}
 
 -- ## A byte more

@@ -1,6 +1,5 @@
 -- Line endings and what stands in their places.
 use Rattle.std.proofs.Common.{◌≡◌, ℕ, zero, suc, ◌+◌, ◌-◌, ◌<◌, ◌≤◌, Bool, true, false, ◌==◌, ◌&&◌, ◌||◌, not, if◌then◌else◌, List, [], ◌∷◌, ◌++◌, length, take, drop, get_or, None, Some, refl, sym, ap, subst, ◌∙◌, arith, ⊎_elim, eqb-true, append_assoc, drop-drop}
-use Rattle.std.specs.Prelude.{codes}
 use Rattle.std.specs.Str.{IsCharBoundary, IsUtf8}
 use Rattle.std.proofs.lemmas.Bool.{or_parts, or_cases, false_from_ne_true}
 use Rattle.std.proofs.lemmas.Str.{IsCharBoundary-before_ascii}
@@ -8,8 +7,7 @@ use Rattle.memchr.specs.Find.{IsFirstByte, is_byte2}
 use Rattle.cmark_grammar.specs.CodeSpans.{with_line_ends}
 use Rattle.cmark_grammar.specs.InlineHtml.{takes_lines}
 use Rattle.cmark_grammar.specs.Lines.{begins_with_line_feed, ending_len}
-use Rattle.cmark_grammar.specs.LinkTails.{title_lines}
-use Rattle.cmark_grammar.specs.Tokens.{title_lines as lines_of_title}
+use Rattle.cmark_grammar.specs.Tokens.{title_lines}
 use Rattle.cmark_definitions.proofs.TitleSteps.{plain_byte as plain_title_byte}
 use Rattle.cmark_scan_parts.proofs.Boundaries.{boundary_behind}
 use Rattle.cmark_scan_parts.proofs.Lists.{or_false}
@@ -67,12 +65,9 @@ module _ (mark : List ℕ) where
       (or_cases (b == 10) (b == 13) e)
 
 -- a title of one line stands as it is
-one_line : (bs : List ℕ) → takes_lines bs ≡ false → lines_of_title false bs ≡ bs
+pub one_line : (bs : List ℕ) → takes_lines bs ≡ false → title_lines false bs ≡ bs
 one_line [] e = refl
 one_line (b ∷ bs) e = let h = or_false (is_byte2 10 13 b) (takes_lines bs) e in plain_title_byte b bs h.0 ∙ ap (λ l. b ∷ l) (one_line bs h.1)
-
-pub no_title_lines : (bs : List ℕ) → takes_lines bs ≡ false → title_lines bs ≡ bs
-no_title_lines bs e = ap (lines_of_title false) (no_lines (codes "\n") bs e) ∙ one_line bs e
 
 -- the last byte of a line ending
 record EndsWithin (bs : List ℕ) : Type 0 where

@@ -8,9 +8,8 @@ ghost use Rattle.cmark_grammar.specs.LineBreaks.{ends_with_two_spaces, backslash
 ghost use Rattle.cmark_definitions.specs.Rests.{IsRest};
 ghost use Rattle.cmark_finds.specs.Shown.{shown_parting, shown_break, IsBreakAt};
 
-use crate::line_end::behind_ending;
 use crate::place::place_of;
-use cmark_definitions::{behind_blanks, behind_byte};
+use cmark_definitions::{behind_blanks, behind_byte, behind_ending};
 
 /// A break between two lines. The next line begins at its end.
 #[derive(Clone, Copy, Debug, PartialEq, Eq)]

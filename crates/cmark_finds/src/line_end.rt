@@ -1,53 +1,13 @@
 //! Line endings in a text: a line feed, a carriage return, and both in this order.
 
-ghost use Rattle.std.specs.Prelude.{◌≡◌, ◌<◌, ◌++◌, length, string_bytes, IfOk, IfSome, MatchOption, OnOk, option_copied};
+ghost use Rattle.std.specs.Prelude.{◌≡◌, ◌++◌, string_bytes, IfOk, MatchOption};
 ghost use Rattle.cmark_grammar.specs.CodeSpans.{with_line_ends};
 ghost use Rattle.cmark_grammar.specs.InlineHtml.{takes_lines};
 ghost use Rattle.cmark_grammar.specs.Lines.{ending_len};
-ghost use Rattle.cmark_grammar.specs.LinkTails.{behind_separator};
-ghost use Rattle.cmark_grammar.specs.Tags.{behind_ending};
-ghost use Rattle.cmark_definitions.specs.Rests.{IsRest, without_byte};
 ghost use Rattle.cmark_finds.specs.Ends.{HasNoEnd, EndsLine};
 
-use cmark_definitions::{behind_blanks, behind_byte};
 use cmark_search::find_line_end;
 use std::alloc::{AllocError, Global};
-
-/// The text without the line feed in front, if one stands there.
-fn without_line_feed(text: &str) -> &str
-    ensures value { result.now ≡ without_byte 10 text.entry.now }
-    ensures rest { IsRest text.entry.now result.now }
-{
-    match behind_byte(b'\n', text) {
-        Some(rest) => rest,
-        None => text,
-    }
-}
-
-/// The text behind the line ending in front, if one stands there.
-pub fn behind_ending(text: &str) -> Option<&str>
-    ensures value { option_copied result ≡ behind_ending text.entry.now }
-    ensures rest { IfSome result (λ rest. IsRest text.entry.now rest.now) }
-    ensures shorter { IfSome result (λ rest. length rest.now < length text.entry.now) }
-{
-    if let Some(rest) = behind_byte(b'\n', text) {
-        return Some(rest);
-    }
-    let rest = behind_byte(b'\r', text)?;
-    Some(without_line_feed(rest))
-}
-
-/// The text behind blanks with at most one line ending.
-pub fn behind_separator(text: &str) -> &str
-    ensures value { result.now ≡ behind_separator text.entry.now }
-    ensures rest { IsRest text.entry.now result.now }
-{
-    let here = behind_blanks(text);
-    match behind_ending(here) {
-        Some(line) => behind_blanks(line),
-        None => here,
-    }
-}
 
 /// Whether a line ends in the text.
 pub fn has_line_ending(text: &str) -> bool

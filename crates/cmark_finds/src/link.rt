@@ -1,20 +1,21 @@
 //! Inline links (CommonMark 6.3).
 
-ghost use Rattle.std.specs.Prelude.{◌≡◌, ◌<◌, Some, drop, IfOk, IfSome, option_map, option_copied};
+ghost use Rattle.std.specs.Prelude.{◌≡◌, ◌<◌, false, Some, drop, IfOk, IfSome, option_map, option_copied};
 ghost use Rattle.std.specs.Str.{IsCharBoundary};
 ghost use Rattle.cmark_grammar.specs.Destinations.{link_destination_in};
-ghost use Rattle.cmark_grammar.specs.LinkDefinitions.{title_in};
+ghost use Rattle.cmark_grammar.specs.LinkDefinitions.{behind_separator, title_in};
 ghost use Rattle.cmark_grammar.specs.InlineHtml.{takes_lines};
-ghost use Rattle.cmark_grammar.specs.LinkTails.{behind_separator, closed_tail, with_title, tail_inside, link_tail_in, title_lines};
+ghost use Rattle.cmark_grammar.specs.LinkTails.{closed_tail, with_title, tail_inside, link_tail_in};
+ghost use Rattle.cmark_grammar.specs.Tokens.{title_lines};
 ghost use Rattle.cmark_grammar.specs.Unescaped.{unescaped};
 ghost use Rattle.cmark_text.specs.Shown.{text_bytes};
 ghost use Rattle.cmark_definitions.specs.Rests.{IsRest};
 ghost use Rattle.cmark_definitions.specs.Shown.{shown_part};
 ghost use Rattle.cmark_finds.specs.Shown.{shown_tail, shown_inside};
 
-use crate::line_end::{behind_separator, has_line_ending, with_line_ends};
+use crate::line_end::has_line_ending;
 use crate::place::place_of;
-use cmark_definitions::{Part, behind_byte, title_in, title_lines};
+use cmark_definitions::{Part, behind_byte, behind_separator, title_in, title_lines};
 use cmark_scan_parts::{scan_link_dest, unescape};
 use cmark_text::{CowStr, EntityLookup};
 use std::alloc::{AllocError, Global};
@@ -113,12 +114,11 @@ pub fn title_text<'t, E: EntityLookup>(
     is_in_table: bool,
     entities: &E,
 ) -> Result<CowStr<'t>, AllocError>
-    ensures { IfOk result (λ made. text_bytes made ≡ unescaped (E.replacement entities.now) is_in_table (title_lines title.entry.now)) }
+    ensures { IfOk result (λ made. text_bytes made ≡ unescaped (E.replacement entities.now) is_in_table (title_lines false title.entry.now)) }
 {
     if !has_line_ending(title) {
         return unescape(alloc, CowStr::Borrowed(title), is_in_table, entities);
     }
-    let feeds = with_line_ends(alloc, title, "\n")?;
-    let lines = CowStr::from_string(title_lines(alloc, feeds.as_str())?)?;
+    let lines = CowStr::from_string(title_lines(alloc, title)?)?;
     unescape(alloc, lines, is_in_table, entities)
 }

@@ -13,8 +13,8 @@ use Rattle.cmark_grammar.specs.Formulas.{is_dollar, is_ink, Braces, context_of, 
 use Rattle.cmark_grammar.specs.InlineHtml.{behind_comment, declaration_in, cdata_in, opened_in, behind_opened, behind_markup}
 use Rattle.cmark_grammar.specs.Letters.{is_letter, first_is, starts, behind_all, behind_if, behind_start, behind_first, and_then}
 use Rattle.cmark_grammar.specs.LineBreaks.{LineBreak, hard_break, blank_break, backslash_break_in, blank_break_in, ends_with_two_spaces}
-use Rattle.cmark_grammar.specs.LinkDefinitions.{Found, put, is_label, label_if, label_in, escapes_next, up_to, ends_bare, bare_in, depth_after, title_in, behind_blanks}
-use Rattle.cmark_grammar.specs.LinkTails.{LinkTail, behind_next_line, behind_separator, closed_tail, with_title, title_behind, tail_inside, link_tail_in, reference_label_in, behind_collapsed}
+use Rattle.cmark_grammar.specs.LinkDefinitions.{Found, put, is_label, label_if, label_in, escapes_next, up_to, ends_bare, bare_in, depth_after, title_in, behind_blanks, behind_next_line, behind_separator}
+use Rattle.cmark_grammar.specs.LinkTails.{LinkTail, closed_tail, with_title, title_behind, tail_inside, link_tail_in, reference_label_in, behind_collapsed}
 use Rattle.cmark_grammar.specs.Tags.{is_name_byte, is_attribute_start, is_attribute_byte, is_value_byte, is_space_byte, behind_line_feed, behind_ending, behind_tag_name, behind_attribute_name, behind_bare_value, behind_greater, behind_open_end, behind_closing_tag, without_prefix, on_next_line, behind_space, prefix_behind, behind_quote, behind_value, behind_assigned, behind_attribute, behind_attributes, behind_open_tag, behind_tag_start, behind_tag}
 
 -- fewer than so many bytes are left, if the part was there

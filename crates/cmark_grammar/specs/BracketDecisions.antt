@@ -11,14 +11,14 @@ use Rattle.cmark_grammar.specs.LeafText.{Leaf}
 use Rattle.cmark_grammar.specs.Letters.{first_is}
 use Rattle.cmark_grammar.specs.Lines.{is_content}
 use Rattle.cmark_grammar.specs.LinkDefinitions.{Found}
-use Rattle.cmark_grammar.specs.LinkTails.{LinkTail, link_tail_in, title_lines, behind_collapsed, is_bracketed_label, reference_label_in}
+use Rattle.cmark_grammar.specs.LinkTails.{LinkTail, link_tail_in, behind_collapsed, is_bracketed_label, reference_label_in}
 use Rattle.cmark_grammar.specs.LinkType.{LinkType, Inline, Reference, Collapsed, Shortcut, to_unknown}
 use Rattle.cmark_grammar.specs.OpenBrackets.{Taken, nearest, used_up, doubled, undoubled, tried, inactive, behind_link, dropped}
 use Rattle.cmark_grammar.specs.Parts.{Formed, Linking, Footnote, Wiki}
 use Rattle.cmark_grammar.specs.Questions.{Question}
 use Rattle.cmark_grammar.specs.Readers.{Reader}
 use Rattle.cmark_grammar.specs.Tag.{Linked}
-use Rattle.cmark_grammar.specs.Tokens.{slice}
+use Rattle.cmark_grammar.specs.Tokens.{slice, title_lines}
 use Rattle.cmark_grammar.specs.Unescaped.{unescaped}
 
 abbrev pub linked : LinkType → Destination → (id : List ℕ) → Linked
@@ -76,7 +76,7 @@ module _ (reader : Reader) (leaf : Leaf) where
 
   abbrev pub tail_destination : LinkTail → Destination
   tail_destination tail =
-      record { url = unescaped reader.lookup leaf.is_cell tail.destination; title = unescaped reader.lookup leaf.is_cell (title_lines (or_empty tail.title)) }
+      record { url = unescaped reader.lookup leaf.is_cell tail.destination; title = unescaped reader.lookup leaf.is_cell (title_lines false (or_empty tail.title)) }
 
   abbrev pub inline_link : LinkTail → Taken → State → Outcome
   inline_link tail taken s = links taken (linked Inline (tail_destination tail) []) (place tail.behind) (place tail.behind) s

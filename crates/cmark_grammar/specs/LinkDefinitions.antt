@@ -3,6 +3,7 @@ use Rattle.std.specs.Prelude.{ℕ, suc, ◌-◌, Bool, true, false, ◌==◌, �
 use Rattle.cmark_grammar.specs.Columns.{is_blank_byte, bytes_of}
 use Rattle.cmark_grammar.specs.Rows.{Row, words_of}
 use Rattle.cmark_grammar.specs.Leaves.{is_empty}
+use Rattle.cmark_grammar.specs.Tags.{behind_ending}
 
 -- what was read, and the bytes behind it
 pub record Found : Type 0 where
@@ -86,13 +87,14 @@ title_in (b ∷ bs) =
 abbrev pub behind_blanks : List ℕ → List ℕ
 behind_blanks bs = drop (length (take_while is_blank_byte bs)) bs
 
-abbrev pub behind_line_end : List ℕ → List ℕ
-behind_line_end [] = []
-behind_line_end (b ∷ bs) = if b == 10 then bs else if b == 13 then drop 1 bs else b ∷ bs
+-- behind the blanks of the next line, where a line ends here
+abbrev pub behind_next_line : (here : List ℕ) → Option (List ℕ) → List ℕ
+behind_next_line here None = here
+behind_next_line here (Some line) = behind_blanks line
 
--- behind blanks with at most one line end
+-- behind blanks with at most one line ending: a line feed, a carriage return, or both in this order
 abbrev pub behind_separator : List ℕ → List ℕ
-behind_separator bs = behind_blanks (behind_line_end (behind_blanks bs))
+behind_separator bs = behind_next_line (behind_blanks bs) (behind_ending (behind_blanks bs))
 
 -- nothing on the line any more
 abbrev pub at_end : List ℕ → Bool

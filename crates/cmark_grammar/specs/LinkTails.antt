@@ -1,20 +1,8 @@
 -- What stands behind the closing bracket of a link (CommonMark 6.3): a destination and a title in parentheses, or a label.
 use Rattle.std.specs.Prelude.{ℕ, Bool, false, ◌==◌, ◌&&◌, ◌||◌, not, List, [], ◌∷◌, codes, Option, Some, None, option_map}
-use Rattle.cmark_grammar.specs.CodeSpans.{with_line_ends}
 use Rattle.cmark_grammar.specs.Destinations.{link_destination_in}
 use Rattle.cmark_grammar.specs.Letters.{behind_if, behind_start, and_then}
-use Rattle.cmark_grammar.specs.LinkDefinitions.{Found, escapes_next, is_label, label_in, title_in, behind_blanks}
-use Rattle.cmark_grammar.specs.Tags.{behind_ending}
-use Rattle.cmark_grammar.specs.Tokens.{title_lines as lines_of_title}
-
--- behind the blanks of the next line, where a line ends here
-abbrev pub behind_next_line : (here : List ℕ) → Option (List ℕ) → List ℕ
-behind_next_line here None = here
-behind_next_line here (Some line) = behind_blanks line
-
--- behind blanks with at most one line ending: a line feed, a carriage return, or both in this order
-abbrev pub behind_separator : List ℕ → List ℕ
-behind_separator bs = behind_next_line (behind_blanks bs) (behind_ending (behind_blanks bs))
+use Rattle.cmark_grammar.specs.LinkDefinitions.{Found, escapes_next, is_label, label_in, title_in, behind_separator}
 
 -- the destination and the title of an inline link, as they are written, and what is behind its closing parenthesis
 pub record LinkTail : Type 0 where
@@ -42,10 +30,6 @@ tail_inside bs = with_title (link_destination_in (behind_separator bs)) (title_b
 -- what stands in parentheses behind the bracket: a destination, which may be empty, and a title, if it has one
 abbrev pub link_tail_in : List ℕ → Option LinkTail
 link_tail_in bs = and_then (behind_if (λ b. b == 40) bs) tail_inside
-
--- a title in which each line ending and the blanks behind it are one line feed (this profile's own)
-abbrev pub title_lines : List ℕ → List ℕ
-title_lines bs = lines_of_title false (with_line_ends (codes "\n") bs)
 
 -- the label of a full reference behind the bracket
 abbrev pub reference_label_in : List ℕ → Option Found

@@ -7,6 +7,7 @@ use Rattle.cmark_grammar.specs.Attributes.{Attributes, before_braces, inside_bra
 use Rattle.cmark_grammar.specs.Columns.{Column, is_blank_byte, without_indent, drop_end, without_trailing_blanks, bytes_of}
 use Rattle.cmark_grammar.specs.Rows.{Row, is_bare, first_place, indent_of, begin_of, start_of}
 use Rattle.cmark_grammar.specs.Leaves.{Fence, closes_fence, is_empty}
+use Rattle.cmark_grammar.specs.Lines.{line_feed, carriage_return, ends_line}
 use Rattle.cmark_grammar.specs.HtmlBlocks.{is_alphanumeric, is_number, lower, first_is}
 use Rattle.cmark_grammar.specs.BlockDocument.{BlockKind, BlockDocument, Nil, Node, node, Text, OwnedText, Html}
 
@@ -113,13 +114,15 @@ resolved_from lookup escaped zero (b ∷ bs) =
 abbrev pub resolved : Lookup → List ℕ → List ℕ
 resolved lookup bs = resolved_from lookup false 0 bs
 
--- a title's lines: each line end and the blanks behind it are one line feed (this profile's own)
-abbrev pub title_byte : (front : Bool) → ℕ → List ℕ → List ℕ
-title_byte front b bs = if (b == 13) || (front && is_blank_byte b) then bs else b ∷ bs
-
-abbrev pub title_lines : (front : Bool) → List ℕ → List ℕ
-title_lines front [] = []
-title_lines front (b ∷ bs) = title_byte front b (title_lines ((b == 10) || (front && is_blank_byte b)) bs)
+-- the lines of a title: each line ending and the blanks behind it are one line feed (this profile's own); in front says that nothing
+-- but these was read since the last one
+abbrev pub title_lines : (in_front : Bool) → List ℕ → List ℕ
+title_lines in_front [] = []
+title_lines in_front (b ∷ bs) =
+    if ends_line b bs then line_feed ∷ title_lines true bs
+    else if in_front && is_blank_byte b then title_lines true bs
+    else if b == carriage_return then title_lines false bs
+    else b ∷ title_lines false bs
 
 -- a piece of a leaf: its bytes, and those that it takes in the text; owned if they differ
 pub record Piece : Type 0 where

@@ -1,12 +1,12 @@
 -- What a reference leads to: what its definition says, or what the callback answers.
-use Rattle.std.specs.Prelude.{◌≡◌, ◌+◌, ◌-◌, ℕ, length, List, [], drop, Option, Some, None, Bool, if◌then◌else◌, option_map}
+use Rattle.std.specs.Prelude.{◌≡◌, ◌+◌, ◌-◌, ℕ, length, List, [], drop, Option, Some, None, Bool, false, if◌then◌else◌, option_map}
 use Rattle.cmark_grammar.specs.LinkDefinitions.{Found}
-use Rattle.cmark_grammar.specs.LinkTails.{LinkTail, behind_collapsed, is_bracketed_label, reference_label_in, title_lines}
+use Rattle.cmark_grammar.specs.LinkTails.{LinkTail, behind_collapsed, is_bracketed_label, reference_label_in}
 use Rattle.cmark_grammar.specs.LinkType as link
 use Rattle.cmark_text.specs.declared.kind.LinkType.{LinkType}
 use Rattle.cmark_grammar.specs.Answers.{Lookup}
 use Rattle.cmark_grammar.specs.Options.{Options}
-use Rattle.cmark_grammar.specs.Tokens.{slice}
+use Rattle.cmark_grammar.specs.Tokens.{slice, title_lines}
 use Rattle.cmark_grammar.specs.Unescaped.{unescaped}
 use Rattle.cmark_items.specs.declared.definitions.LinkDef.{LinkDef}
 use Rattle.cmark_text.specs.Shown.{shown_link_type, text_bytes}
@@ -115,7 +115,7 @@ pub record InlineLink : Type 0 where
 
 abbrev pub resolved_title : Lookup → (is_cell : Bool) → Option (List ℕ) → List ℕ
 resolved_title lookup is_cell None = []
-resolved_title lookup is_cell (Some title) = unescaped lookup is_cell (title_lines title)
+resolved_title lookup is_cell (Some title) = unescaped lookup is_cell (title_lines false title)
 
 -- its destination and its title with escapes and entities resolved (CommonMark 6.3); in the cell of a table `\\|` is `|` in them (this
 -- profile's own)

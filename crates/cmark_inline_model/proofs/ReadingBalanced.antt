@@ -1,7 +1,7 @@
 -- The events of a reading are balanced: each start has its end, with the same bytes.
 use Rattle.cmark_inline_model.proofs.DocumentLeaves.{begins-start, StartsWith}
-use Rattle.std.specs.Prelude.{map, if◌then◌else◌}
-use Rattle.std.proofs.Common.{◌≡◌, ℕ, List, [], ◌∷◌, ◌++◌, refl, sym, ap, subst, ◌∙◌, Bool, true, false, zero, suc, ◌⊎◌, inl, inr, ⊎_elim}
+use Rattle.std.specs.Prelude.{map}
+use Rattle.std.proofs.Common.{◌≡◌, ℕ, List, [], ◌∷◌, ◌++◌, refl, sym, ap, subst, ◌∙◌, zero, suc, ◌⊎◌, inl, inr, ⊎_elim}
 use Rattle.std.proofs.lemmas.List.{append_assoc, map-append}
 use Rattle.cmark_grammar.specs.Balance as balance
 use Rattle.cmark_grammar.specs.Balance.{IsSingle, Balanced}

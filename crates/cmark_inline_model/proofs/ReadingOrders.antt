@@ -1,6 +1,6 @@
 -- The events of a reading stand in order in the text, each element around what is inside it, but for what the pipe of a wikilink cuts.
 use Rattle.std.specs.Prelude.{zero, suc, ◌-◌, get_or}
-use Rattle.std.proofs.Common.{◌≡◌, ◌⊎◌, ⊎_elim, Bool, true, false, inl, inr, ℕ, ◌<◌, ◌≤◌, true≢false, List, [], ◌∷◌, ◌++◌, length, refl, sym, ap, subst, arith, ◌∙◌, append_assoc, append-nil, zero, suc}
+use Rattle.std.proofs.Common.{◌≡◌, ⊎_elim, inl, inr, ℕ, ◌<◌, ◌≤◌, true≢false, List, [], ◌∷◌, ◌++◌, length, refl, sym, ap, subst, arith, ◌∙◌, append_assoc, append-nil, zero, suc}
 use Rattle.std.proofs.lemmas.Bool.{eq-eqb}
 use Rattle.cmark_grammar.specs.BlockDocument.{BlockKind, Paragraph, TightParagraph, Heading, ThematicBreak, IndentedCode, FencedCode, HtmlBlock, LinkDefinition, MetadataBlock, BlockQuote, BlockList, ListItem, TaskMarker, FootnoteDefinition, DefinitionList, DefinitionListTitle, DefinitionListDefinition, Text, OwnedText, Html, BlockNode, BlockDocument, Nil, Node, Table, TableHead, TableRow, TableCell}
 use Rattle.cmark_grammar.specs.BlockReading.{Reads as ReadsAs, Around, Inside, Alone, First, Silent, first_event, read_as, over, starts_before}
@@ -8,7 +8,7 @@ use Rattle.cmark_grammar.specs.BracketDecisions.{decide}
 use Rattle.cmark_grammar.specs.BracketReading.{Reads}
 use Rattle.cmark_grammar.specs.BracketStates.{State, Decision}
 use Rattle.cmark_grammar.specs.Balance.{IsSingle}
-use Rattle.cmark_grammar.specs.Event.{Event, Start, End, Ranged}
+use Rattle.cmark_grammar.specs.Event.{Start, End, Ranged}
 use Rattle.cmark_grammar.specs.InlineReading.{event_of, inline_events}
 use Rattle.cmark_grammar.specs.InlineTokens.{token}
 use Rattle.cmark_grammar.specs.Items.{Bracket, Token, Ends}

@@ -1,5 +1,5 @@
 -- The segments of a document: its blocks are no links and need no option of spans, and its leaves stand one behind the other.
-use Rattle.std.proofs.Common.{Bool, true, false, ◌≡◌, ℕ, ◌≤◌, List, [], ◌∷◌, ◌++◌, refl, arith, zero, suc}
+use Rattle.std.proofs.Common.{◌≡◌, ℕ, ◌≤◌, List, [], ◌∷◌, ◌++◌, refl, arith, zero, suc}
 use Rattle.cmark_grammar.specs.BlockDocument.{BlockKind, Paragraph, TightParagraph, Heading, ThematicBreak, IndentedCode, FencedCode, HtmlBlock, LinkDefinition, MetadataBlock, BlockQuote, BlockList, ListItem, TaskMarker, FootnoteDefinition, DefinitionList, DefinitionListTitle, DefinitionListDefinition, Text, OwnedText, Html, BlockNode, BlockDocument, Nil, Node, Table, TableHead, TableRow, TableCell}
 use Rattle.cmark_grammar.specs.BlockReading.{Reads, Around, Inside, Alone, First, Silent, starts_before, first_event, read_as, over}
 use Rattle.cmark_grammar.specs.Event.{Event, Start, End, Ranged}

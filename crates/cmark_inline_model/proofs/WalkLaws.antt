@@ -1,7 +1,7 @@
 -- What a walk gives is balanced, with ranges that cut no character.
 use Rattle.cmark_inline_model.proofs.DocumentLeaves.{StartsWith, begins-start}
-use Rattle.std.specs.Prelude.{IsUtf8, IsCharBoundary, if◌then◌else◌}
-use Rattle.std.proofs.Common.{◌≡◌, ℕ, List, [], ◌∷◌, ◌++◌, refl, sym, ap, subst, ◌∙◌, Bool, true, false, zero, suc}
+use Rattle.std.specs.Prelude.{IsUtf8, IsCharBoundary}
+use Rattle.std.proofs.Common.{◌≡◌, ℕ, List, [], ◌∷◌, ◌++◌, refl, sym, ap, subst, ◌∙◌, zero, suc}
 use Rattle.std.proofs.lemmas.List.{append_assoc}
 use Rattle.cmark_grammar.specs.Answers.{Lookup}
 use Rattle.cmark_grammar.specs.Balance.{IsSingle}

@@ -1,14 +1,9 @@
-use Rattle.std.proofs.Common.{◌≡◌, Some, None, option_map, sym, ap, ◌∙◌, subst}
+use Rattle.std.proofs.Common.{◌≡◌, Some, None, option_map, sym, ap, ◌∙◌}
 use Rattle.cmark_grammar.specs.LinkDefinitions.{definition_in}
-use Rattle.cmark_definitions.specs.Rests.{HasLineEnds}
 use Rattle.cmark_definitions.specs.Settled.{end_settles, settles_as, settles}
 use Rattle.cmark_definitions.specs.Shown.{shown_definition}
-use Rattle.cmark_definitions.proofs.RestSteps.{ends_behind}
 use Rattle.cmark_definitions.proofs.SettledSteps.{settled}
 use Rattle.cmark_definitions.proofs.settled.is_settled.Goals as goal
-
-pub end_settles-requires : goal.end_settles-requires
-end_settles-requires c = subst HasLineEnds (sym c.range_from.ensures.value) (ends_behind c.in-Some.definition.end c.args.paragraph.now c.requires.line_ends)
 
 pub returns-in-Some-clause-settled : goal.returns-in-Some-clause-settled
 returns-in-Some-clause-settled c h =

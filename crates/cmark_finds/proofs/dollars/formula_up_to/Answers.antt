@@ -1,6 +1,6 @@
-use Rattle.std.proofs.Common.{◌≡◌, ◌+◌, ◌-◌, sym, ap, subst, ◌∙◌, length, drop, get_or, List, ℕ}
+use Rattle.std.proofs.Common.{◌+◌, ◌-◌, sym, ap, subst, ◌∙◌, drop, get_or, List, ℕ}
 use Rattle.cmark_grammar.specs.Formulas.{closes_formula}
-use Rattle.cmark_finds.specs.Dollars.{IsFormulaAt, signs_of}
+use Rattle.cmark_finds.specs.Dollars.{IsFormulaAt}
 use Rattle.cmark_finds.proofs.DollarSteps.{closed-places}
 use Rattle.cmark_finds.proofs.dollars.formula_up_to.Goals as goal
 

@@ -1,4 +1,3 @@
-use Rattle.std.proofs.Common.{◌∙◌, ◌||◌, sym, ap}
 use Rattle.cmark_finds.proofs.SpecialSteps.{one_of_four}
 use Rattle.cmark_finds.proofs.special.has_one.Goals as goal
 

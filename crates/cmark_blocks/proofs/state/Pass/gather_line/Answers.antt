@@ -1,28 +1,16 @@
-use Rattle.std.proofs.Common.{◌≡◌, ◌++◌, ◌+◌, sym, ap, ◌∙◌, subst, arith, refl, append_assoc}
+use Rattle.std.proofs.Common.{◌≡◌, ◌++◌, ◌+◌, ap, ◌∙◌, arith, refl, append_assoc}
 use Rattle.std.specs.Prelude.{string_bytes}
 use Rattle.cmark_grammar.specs.Columns.{bytes_of}
 use Rattle.cmark_grammar.specs.LinkDefinitions.{line_end_of}
 use Rattle.cmark_lines.specs.Rests.{row_of}
-use Rattle.cmark_definitions.specs.Rests.{HasLineEnds}
-use Rattle.cmark_definitions.proofs.LineEnds.{no_return, ends_join, line_end_ends}
-use Rattle.cmark_blocks.proofs.GatherSteps.{rest-plain, holds-more}
+use Rattle.cmark_blocks.proofs.GatherSteps.{holds-more}
 use Rattle.cmark_blocks.proofs.state.Pass.gather_line.Goals as goal
 
 pub returns-clause-gathered : goal.returns-clause-gathered
 returns-clause-gathered g c =
-    let old = c.args.gathered.now in
-    let last = row_of old.last in
-    let line = bytes_of (row_of c.in-Some.rest).columns in
-    let bytes : string_bytes c.push_str-2.new.self ≡ string_bytes old.text ++ (line_end_of last ++ line) =
-    c.in_ok-push_str-2.ensures.bytes ∙ ap (λ bs. bs ++ c.bytes_in.result.now) c.in_ok-push_str.ensures.bytes ∙ append_assoc (string_bytes old.text) c.line_end_of.result.now c.bytes_in.result.now
-    ∙ ap (λ bs. string_bytes old.text ++ (bs ++ c.bytes_in.result.now)) c.line_end_of.ensures ∙ ap (λ bs. string_bytes old.text ++ (line_end_of last ++ bs)) c.bytes_in.ensures in
     record {
       read = record { placed = c.in-Some.ensures.placed; told = c.in-Some.ensures.told };
       few = omega (arith, c.in-Some.ensures.further, c.requires.gathered.few);
-      ends =
-          subst HasLineEnds (sym bytes)
-          (ends_join (string_bytes old.text) (line_end_of last ++ line) c.requires.gathered.ends
-          (ends_join (line_end_of last) line (line_end_ends last) (no_return line (rest-plain c.in-Some.rest))));
     }
 
 pub returns-clause-line : goal.returns-clause-line

@@ -1,4 +1,4 @@
-use Rattle.std.proofs.Common.{◌≡◌, ◌+◌, ◌<◌, ◌≤◌, sym, subst, ap, ◌∙◌, refl, length, drop, get_or, take, ℕ, List, false, arith}
+use Rattle.std.proofs.Common.{◌≡◌, ◌+◌, sym, subst, ap, ◌∙◌, drop, get_or, ℕ, List, false, arith}
 use Rattle.std.specs.List.{prefix_len}
 use Rattle.cmark_grammar.specs.Formulas.{no_braces, context_of}
 use Rattle.cmark_finds.specs.Dollars.{braces_at, closing}

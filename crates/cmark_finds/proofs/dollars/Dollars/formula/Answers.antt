@@ -1,8 +1,8 @@
-use Rattle.std.proofs.Common.{◌≡◌, ◌+◌, ◌≤◌, ◌||◌, Bool, true, ℕ, List, Option, None, Some, sym, ap, subst, ◌∙◌, drop, length, refl}
+use Rattle.std.proofs.Common.{◌≡◌, ◌+◌, ◌||◌, Bool, ℕ, List, None, Some, sym, ap, subst, ◌∙◌, drop}
 use Rattle.std.specs.Str.{IsCharBoundary}
 use Rattle.cmark_grammar.specs.Formulas.{is_dollar, is_ink, context_of}
 use Rattle.cmark_grammar.specs.Letters.{first_is}
-use Rattle.cmark_finds.specs.Dollars.{braces_at, closing, dollars_in, signs_of}
+use Rattle.cmark_finds.specs.Dollars.{braces_at}
 use Rattle.cmark_finds.proofs.DollarSteps.{behind-signs, formula-by, there-in}
 use Rattle.cmark_finds.proofs.dollars.Dollars.formula.Goals as goal
 

@@ -1,6 +1,6 @@
-use Rattle.std.proofs.Common.{◌≡◌, ◌+◌, ◌<◌, ◌≤◌, sym, subst, refl, length, take, ℕ, List, false, arith}
+use Rattle.std.proofs.Common.{◌≡◌, ◌+◌, ◌<◌, sym, subst, length, ℕ, List, false, arith}
 use Rattle.std.specs.List.{prefix_len}
-use Rattle.cmark_grammar.specs.Formulas.{no_braces, context_of, braces_behind}
+use Rattle.cmark_grammar.specs.Formulas.{no_braces}
 use Rattle.cmark_finds.specs.declared.dollars.Dollar.{Dollar}
 use Rattle.cmark_finds.proofs.DollarSteps.{stands_before, listed-at}
 use Rattle.cmark_finds.proofs.dollars.Dollars.index_of.Goals as goal
