@@ -10,8 +10,9 @@ use crate::watched::{PATIENCE, Watched};
 use std::alloc::Global;
 use std::io::Read;
 
-/// How many bytes one read asks for: as many as a pipe holds.
-const CHUNK: usize = 65_536;
+/// How many bytes one read asks for, as std's buffered readers do: they stand on the stack and are cleared first, which a short text
+/// pays for too.
+const CHUNK: usize = 8_192;
 
 /// All bytes that a reader has left, `limit` at most.
 ///
