@@ -16,7 +16,7 @@ use Rattle.cmark_inline_model.specs.SlotRows.{Mark, marked, spanned, start_in, e
 use Rattle.cmark_leaf_text.specs.Reads.{place_of}
 use Rattle.cmark_leaf_text.specs.declared.leaf_text.LeafText.{LeafText}
 use Rattle.cmark_text.specs.declared.text.CowStr.{CowStr}
-use Rattle.cmark_inline.specs.Marked.{AreAhead, AreBegun, AreReady, AreWhole, Merges, begun_as, ended, last_in, shown_mark, whole_to}
+use Rattle.cmark_inline.specs.Marked.{AreAhead, AreBegun, AreReady, AreWhole, BeganFrom, Merges, SameBefore, begun_as, ended, last_in, shown_mark, whole_to}
 use Rattle.cmark_inline.specs.SlotViews.{slot_as, shown_slot, shown_slots, shown_element, item_slot, first_of, past_of}
 use Rattle.cmark_inline.specs.Wikilinks.{Hides, hidden}
 use Rattle.cmark_inline.specs.declared.link.LinkParts.{LinkParts}
@@ -440,3 +440,26 @@ begun-behind old mid new first last at end e d same m n is lt within =
     ∙ ap (λ j. set (set old at a) j (begun_as e end (get_or (set old at a) j d))) same
     ∙ ap (λ j. set (set old at a) first (begun_as e j (get_or (set old at a) first d))) n
     ∙ ap (λ (s : Slot). set (set old at a) first (begun_as e (get_or old at d).end s)) (get_or-set_other old at first a d (λ (q : first ≡ at). absurd (omega (arith, q, lt))))
+
+-- ## Slots before all that is written
+
+pub began-first : (low first : ℕ) (before begun : List ℕ) → begun ≡ first ∷ before → BeganFrom low begun → (low ≤ first) × BeganFrom low before
+began-first low first before begun e h = subst (BeganFrom low) e h
+
+module _ (low : ℕ) (slots new : List Slot) (begun begun1 : List ℕ) (at : ℕ) (places : List ℕ) (others : List code_mark.Slot) where
+  pub blank-before : (s : Slot) → new ≡ set slots at s → low ≤ at → SameBefore low slots new
+  blank-before s e le = subst (SameBefore low slots) (sym e) (λ k d lt. (same-set at s slots).before k d (omega (arith, lt, le)))
+
+  pub some-before : (e : EndsLast slots begun at places others) → begun1 ≡ e.before → (s t : Slot) → new ≡ set (set slots at s) e.first t → BeganFrom low begun → SameBefore low slots new × BeganFrom low begun1
+  some-before e left s t is h =
+      let f = began-first low e.first e.before begun e.is h in
+      let le = f.0 in (
+        subst (SameBefore low slots) (sym is) (λ k d lt. (same-sets e.first at s t slots e.below).before k d (omega (arith, lt, le))),
+        subst (BeganFrom low) (sym left) f.1,
+      )
+
+  pub none-before : (e : EndsLast slots begun at places others) → begun1 ≡ e.before → Merges e.first at slots new → BeganFrom low begun → SameBefore low slots new × BeganFrom low begun1
+  none-before e left m h =
+      let f = began-first low e.first e.before begun e.is h in
+      let le = f.0 in
+      ((λ k d lt. (same-merges e.first at slots new m e.below).before k d (omega (arith, lt, le))), subst (BeganFrom low) (sym left) f.1)

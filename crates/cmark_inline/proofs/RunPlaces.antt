@@ -19,7 +19,7 @@ use Rattle.cmark_grammar.proofs.SpanEntries.{pairs-marked}
 use Rattle.cmark_inline_model.specs.SlotRows as row
 use Rattle.cmark_inline_model.specs.SlotRows.{Mark, marked, Stays, opening, closing, marks_by, marks_of, run_places}
 use Rattle.cmark_inline_model.proofs.SlotLaws.{entries-say}
-use Rattle.cmark_inline.specs.Marked.{AreAhead, AreReady, AreWhole, HaveBytes, places_of, shown_mark, siblings_from}
+use Rattle.cmark_inline.specs.Marked.{AreAhead, AreReady, AreWhole, HaveBytes, places_of, shown_mark, siblings_from, SameBefore}
 use Rattle.cmark_inline.specs.Tokens.{byte_slots}
 use Rattle.cmark_inline.specs.declared.delimiter.PlacedRun.{PlacedRun}
 use Rattle.cmark_inline.specs.declared.slot.Slot.{Slot}
@@ -208,3 +208,19 @@ marks-over options at left behind begun marks rows (inr e) =
 pub none-left : {X : Type 0} (xs : List X) → length xs ≡ 0 → xs ≡ []
 none-left [] e = refl
 none-left (x ∷ xs) e = absurd (omega (arith, e))
+
+-- ## Where the slots of runs begin
+
+abbrev pub RunsFrom : (low : ℕ) → List PlacedRun → Type 0
+RunsFrom low [] = Unit {0}
+RunsFrom low (p ∷ placed) = (low ≤ p.slot) × RunsFrom low placed
+
+pub runs-from : (low : ℕ) (slots : List Slot) (from place : ℕ) (placed : List PlacedRun) → low ≤ from → HaveBytes slots from place placed → RunsFrom low placed
+runs-from low slots from place [] le h = tt
+runs-from low slots from place (p ∷ placed) le h =
+    let f = h.1 in
+    (omega (arith, le, f), runs-from low slots (p.slot + p.run.size) (h.0 + p.run.size) placed (omega (arith, le, f)) h.4)
+
+-- what is the same before a slot stays so
+pub same-on : (low : ℕ) (old mid new : List Slot) → SameBefore low old mid → SameBefore low mid new → SameBefore low old new
+same-on low old mid new a b k d lt = b k d lt ∙ a k d lt

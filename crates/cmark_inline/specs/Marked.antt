@@ -102,3 +102,12 @@ pub record AreReady (slots : List Slot) (begun places : List ℕ) (marks : List 
   pub kinds : List code_kind.SpanKind
   pub balanced : AreBalanced kinds marks
   pub as_many : length kinds ≡ length begun
+
+-- spans began at no slot before one
+abbrev pub BeganFrom : (low : ℕ) → (begun : List ℕ) → Type 0
+BeganFrom low [] = Unit {0}
+BeganFrom low (first ∷ begun) = (low ≤ first) × BeganFrom low begun
+
+-- slots before one are the same
+abbrev pub SameBefore : (low : ℕ) → (old new : List Slot) → Type 0
+SameBefore low old new = (k : ℕ) (d : Slot) → k < low → get_or new k d ≡ get_or old k d

@@ -1,10 +1,10 @@
-use Rattle.std.proofs.Common.{rules, ◌≡◌, ◌∷◌, ◌⊎◌, inl, inr, ◌<◌, ◌-◌, ◌+◌, [], suc, length, refl, ap, subst, ◌∙◌, arith}
+use Rattle.std.proofs.Common.{rules, ◌≡◌, ◌∷◌, ◌≤◌, ◌⊎◌, inl, inr, ◌<◌, ◌-◌, ◌+◌, [], suc, length, refl, ap, subst, ◌∙◌, arith}
 use Rattle.std.specs.Prelude.{map, reverse}
 use Rattle.cmark_inline_model.specs.SlotRows.{marked, run_places}
 use Rattle.cmark_text.specs.Shown.{shown_options}
 use Rattle.cmark_inline.specs.Marked.{AreReady, shown_mark}
 use Rattle.cmark_inline.specs.SlotViews.{shown_slots}
-use Rattle.cmark_inline.proofs.RunPlaces.{marks-over, none-left, place-behind, ready-skip, run-next}
+use Rattle.cmark_inline.proofs.RunPlaces.{marks-over, same-on, none-left, place-behind, ready-skip, run-next}
 use Rattle.cmark_inline.proofs.delimiter.write_run.Goals as goal
 use Rattle.cmark_inline.proofs.delimiter.write_run.Goals.{else-loop-test, then-loop-test+in_default}
 
@@ -17,6 +17,7 @@ loop-init c =
       (λ behind r. subst (λ n. AreReady c.args.slots.now.items (reverse c.args.begun.now.items) (run_places c.args.placed.slot n behind) c.args.marks.now) all r),
       (λ leaf texts links behind r.
           ap (λ n. marked (shown_options c.args.options) (run_places c.args.placed.slot n behind) (map shown_mark c.args.marks.now) (shown_slots leaf texts links c.args.slots.now.items) (reverse c.args.begun.now.items)) all),
+      (λ low behind r h le. ((λ k d lt. refl), h, le)),
     )
 
 pub loop-preserved : goal.loop-preserved
@@ -48,6 +49,17 @@ loop-preserved c =
           ∙ c.in_ok-write_mark.ensures.marks leaf texts links (run_places c.saturating_add-slot.result (c.args.placed.run.size - (c.loop.counter + 1)) behind) c.in-Some.others.now
           (subst (λ ms. AreReady c.loop.slots.items (reverse c.loop.begun.items) (c.loop.slot ∷ run_places c.saturating_add-slot.result (c.args.placed.run.size - (c.loop.counter + 1)) behind) ms) e
           (subst (λ ps. AreReady c.loop.slots.items (reverse c.loop.begun.items) ps c.loop.rest.now) split now))),
+      (λ low behind r h le.
+          let now = i.3 behind r in
+          let next = place-behind c.loop.slots.items (reverse c.loop.begun.items) c.loop.slot c.saturating_add-slot.result (c.args.placed.run.size - c.loop.counter) (c.args.placed.run.size - (c.loop.counter + 1)) behind c.loop.rest.now less few
+          c.saturating_add-slot.ensures now in
+          let split = run-next c.loop.slot c.saturating_add-slot.result (c.args.placed.run.size - c.loop.counter) (c.args.placed.run.size - (c.loop.counter + 1)) behind less next in
+          let b = i.5 low behind r h le in
+          let at = b.2 in
+          let n = c.in_ok-write_mark.ensures.before low (run_places c.saturating_add-slot.result (c.args.placed.run.size - (c.loop.counter + 1)) behind) c.in-Some.others.now
+          (subst (λ ms. AreReady c.loop.slots.items (reverse c.loop.begun.items) (c.loop.slot ∷ run_places c.saturating_add-slot.result (c.args.placed.run.size - (c.loop.counter + 1)) behind) ms) e
+          (subst (λ ps. AreReady c.loop.slots.items (reverse c.loop.begun.items) ps c.loop.rest.now) split now)) b.1 b.2 in
+          (same-on low c.args.slots.now.items c.loop.slots.items c.write_mark.new.slots.items b.0 n.0, n.1, (let q : low ≤ c.saturating_add-slot.result = omega (arith, at, next) in q))),
     )
 
 pub returns-clause-ready : goal.returns-clause-ready
@@ -60,3 +72,8 @@ returns-clause-marks c = λ leaf texts links behind r.
     elim c.loop-test.branch [ else-loop-test w ↦ inl (let f = w.loop-test.false in omega (arith, f)) | then-loop-test+in_default w ↦ inr (none-left c.loop.rest.now w.in_default.ensures.cases) ] in
     c.loop.invariant.4 leaf texts links behind r
     ∙ marks-over (shown_options c.args.options) c.loop.slot (c.args.placed.run.size - c.loop.counter) behind (reverse c.loop.begun.items) c.loop.rest.now (shown_slots leaf texts links c.loop.slots.items) over
+
+pub returns-clause-before : goal.returns-clause-before
+returns-clause-before c = λ low behind r h le.
+    let b = c.loop.invariant.5 low behind r h le in
+    (b.0, b.1)

@@ -1,14 +1,14 @@
-use Rattle.std.proofs.Common.{rules, ◌≡◌, ◌∷◌, List, [], length, drop, refl, sym, ap, subst, ◌∙◌}
+use Rattle.std.proofs.Common.{rules, ◌≡◌, ◌∷◌, List, [], length, drop, refl, sym, ap, subst, ◌∙◌, arith}
 use Rattle.std.specs.Prelude.{map, reverse}
 use Rattle.cmark_emphasis.specs.Shown.{shown_run}
 use Rattle.cmark_emphasis.specs.Slots.{AreBalanced}
 use Rattle.cmark_grammar.specs.Emphasis.{places_taken, runs_of}
 use Rattle.cmark_inline_model.specs.SlotRows.{marked, marks_by}
 use Rattle.cmark_text.specs.Shown.{shown_options}
-use Rattle.cmark_inline.specs.Marked.{AreReady, places_of, shown_mark, siblings_from}
+use Rattle.cmark_inline.specs.Marked.{AreReady, BeganFrom, places_of, shown_mark, siblings_from}
 use Rattle.cmark_inline.specs.SlotViews.{shown_slots}
 use Rattle.cmark_inline.specs.declared.delimiter.PlacedRun.{PlacedRun}
-use Rattle.cmark_inline.proofs.RunPlaces.{marks-are, none-left, ready-first, stand-so}
+use Rattle.cmark_inline.proofs.RunPlaces.{RunsFrom, runs-from, same-on, marks-are, none-left, ready-first, stand-so}
 use Rattle.cmark_inline.proofs.delimiter.Delimiters.resolve.Goals as goal
 
 pub loop-placed-init : goal.loop-placed-init
@@ -25,6 +25,8 @@ loop-placed-init c =
       (λ leaf texts links from place h whole.
           ap (λ ps. marked (shown_options c.args.options) (places_of ps) (map shown_mark c.as_slice-marks.result.now) (shown_slots leaf texts links c.args.slots.now.items) []) (sym v)
           ∙ ap (λ b. marked (shown_options c.args.options) (places_of c.runs_from-rest.result.now) (map shown_mark c.as_slice-marks.result.now) (shown_slots leaf texts links c.args.slots.now.items) (reverse b)) (sym c.clear.ensures.items)),
+      (λ from place h whole.
+          ((λ k d lt. refl), subst (λ b. BeganFrom from (reverse b)) (sym c.clear.ensures.items) tt, subst (RunsFrom from) (sym v) (runs-from from c.args.slots.now.items from place (drop c.args.first c.args.self.now.placed.items) (omega arith) h))),
     )
 
 pub loop-placed-preserved : goal.loop-placed-preserved
@@ -41,6 +43,11 @@ loop-placed-preserved c =
           i.4 leaf texts links from place h whole
           ∙ ap (λ ps. marked (shown_options c.args.options) (places_of ps) (map shown_mark c.loop-placed.marks.now) (shown_slots leaf texts links c.loop-placed.slots.items) begun) e
           ∙ c.in_ok-marks.ensures.marks leaf texts links (places_of c.in-Some.others.now) (subst (λ ps. AreReady c.loop-placed.slots.items begun (places_of ps) c.loop-placed.marks.now) e (i.3 from place h whole))),
+      (λ from place h whole.
+          let b = i.5 from place h whole in
+          let runs = subst (RunsFrom from) e b.2 in
+          let n = c.in_ok-marks.ensures.before from (places_of c.in-Some.others.now) (subst (λ ps. AreReady c.loop-placed.slots.items begun (places_of ps) c.loop-placed.marks.now) e (i.3 from place h whole)) b.1 runs.0 in
+          (same-on from c.args.slots.now.items c.loop-placed.slots.items c.write_run.new.slots.items b.0 n.0, n.1, runs.1)),
     )
 
 pub returns-clause-marks : goal.returns-clause-marks
@@ -55,3 +62,6 @@ returns-clause-marks c = λ leaf texts links from place pairs spans h whole e.
     sym (ap (λ ms. marked (shown_options c.args.options) (places_of mine) ms (shown_slots leaf texts links c.args.slots.now.items) []) (sym marks)
     ∙ c.loop-placed.invariant.4 leaf texts links from place h whole
     ∙ ap (λ ps. marked (shown_options c.args.options) (places_of ps) (map shown_mark c.loop-placed.marks.now) (shown_slots leaf texts links c.loop-placed.slots.items) (reverse c.loop-placed.self.1.1.1.1.1.0.items)) over)
+
+pub returns-clause-before : goal.returns-clause-before
+returns-clause-before c = λ from place h whole. (c.loop-placed.invariant.5 from place h whole).0
