@@ -16,7 +16,7 @@ use Rattle.cmark_inline_model.specs.SlotRows.{Mark, marked, spanned, start_in, e
 use Rattle.cmark_leaf_text.specs.Reads.{place_of}
 use Rattle.cmark_leaf_text.specs.declared.leaf_text.LeafText.{LeafText}
 use Rattle.cmark_text.specs.declared.text.CowStr.{CowStr}
-use Rattle.cmark_inline.specs.Marked.{AreAhead, AreBegun, AreReady, AreWhole, BeganFrom, Merges, SameBefore, begun_as, ended, last_in, shown_mark, whole_to}
+use Rattle.cmark_inline.specs.Marked.{AreAhead, AreBegun, AreReady, AreWhole, BeganFrom, EndWithin, Merges, SameBefore, begun_as, ended, last_in, shown_mark, whole_to}
 use Rattle.cmark_inline.specs.SlotViews.{slot_as, shown_slot, shown_slots, shown_element, item_slot, first_of, past_of}
 use Rattle.cmark_inline.specs.Wikilinks.{Hides, hidden}
 use Rattle.cmark_inline.specs.declared.link.LinkParts.{LinkParts}
@@ -463,3 +463,43 @@ module _ (low : ℕ) (slots new : List Slot) (begun begun1 : List ℕ) (at : ℕ
       let f = began-first low e.first e.before begun e.is h in
       let le = f.0 in
       ((λ k d lt. (same-merges e.first at slots new m e.below).before k d (omega (arith, lt, le))), subst (BeganFrom low) (sym left) f.1)
+
+-- ## The last slots of whole texts
+
+pub within-set : (slots : List Slot) (at : ℕ) (s : Slot) → EndWithin slots → ((i : ℕ) → last_in s.kind i ≡ i) → EndWithin (set slots at s)
+within-set slots at s h alone i d lt =
+    let n = length-set slots at s in
+    let there : i < length slots = omega (arith, lt, n) in
+    subst (λ m. last_in (get_or (set slots at s) i d).kind i < m) (sym n)
+    (⊎_elim
+    (λ (e : i ≡ at).
+    let here : get_or (set slots at s) i d ≡ s = ap (λ j. get_or (set slots at s) j d) e ∙ get_or-set_same slots at s d (let q : at < length slots = omega (arith, there, e) in q) in
+    subst (λ (x : Slot). last_in x.kind i < length slots) (sym here) (subst (λ m. m < length slots) (sym (alone i)) there))
+    (λ other. subst (λ (x : Slot). last_in x.kind i < length slots) (sym (get_or-set_other slots at i s d other)) (h i d there))
+    (cases_eq i at))
+
+within-hides : (from to : ℕ) (old new : List Slot) → Hides from to old new → EndWithin old → EndWithin new
+within-hides from to old new x h i d lt =
+    let n = x.size in
+    let there : i < length old = omega (arith, lt, n) in
+    let same : get_or new i d ≡ get_or old i d → last_in (get_or new i d).kind i < length new =
+    λ e. subst (λ m. last_in (get_or new i d).kind i < m) (sym n) (subst (λ (s : Slot). last_in s.kind i < length old) (sym e) (h i d there)) in
+    ⊎_elim (λ (low : i < from). same (x.before i d low))
+    (λ (high : from ≤ i). ⊎_elim (λ (l : i < to). subst (λ (s : Slot). last_in s.kind i < length new) (sym (x.inside i d high l)) lt) (λ (g : to ≤ i). same (x.behind i d g)) (cases_lt i to))
+    (cases_lt i from)
+
+pub within-merges : (first last : ℕ) (old new : List Slot) → Merges first last old new → first < last → last < length old → EndWithin old → EndWithin new
+within-merges first last old new m le last_in_old h =
+    let s = whole_to last (get_or old last no-slot).end (get_or old first no-slot) in
+    let between = within-hides (first + 1) (last + 1) old m.between m.hides h in
+    subst EndWithin (sym (m.slots_are no-slot)) (λ i d lt.
+    let n = length-set m.between first s in
+    let size = m.hides.size in
+    let there : i < length m.between = omega (arith, lt, n) in
+    subst (λ k. last_in (get_or (set m.between first s) i d).kind i < k) (sym n)
+    (⊎_elim
+    (λ (e : i ≡ first).
+    let here : get_or (set m.between first s) i d ≡ s = ap (λ j. get_or (set m.between first s) j d) e ∙ get_or-set_same m.between first s d (let q : first < length m.between = omega (arith, there, e) in q) in
+    subst (λ (x : Slot). last_in x.kind i < length m.between) (sym here) (let q : max last i < length m.between = omega (arith, size, last_in_old, e, le) in q))
+    (λ other. subst (λ (x : Slot). last_in x.kind i < length m.between) (sym (get_or-set_other m.between first i s d other)) (between i d there))
+    (cases_eq i first)))

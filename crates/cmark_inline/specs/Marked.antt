@@ -54,6 +54,10 @@ last_in _ at = at
 abbrev pub AreWhole : List Slot → Type 0
 AreWhole slots = (i k : ℕ) (d : Slot) → i < k → k ≤ last_in (get_or slots i d).kind i → k < length slots → (get_or slots k d).kind ≡ kind.Nothing
 
+-- and its last is a slot
+abbrev pub EndWithin : List Slot → Type 0
+EndWithin slots = (i : ℕ) (d : Slot) → i < length slots → last_in (get_or slots i d).kind i < length slots
+
 -- ## Slots that are written
 
 abbrev pub ended : Slot → Slot

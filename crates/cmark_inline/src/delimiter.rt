@@ -11,7 +11,7 @@ ghost use Rattle.cmark_leaf_text.specs.declared.leaf_text.LeafText.{LeafText};
 ghost use Rattle.cmark_text.specs.Shown.{shown_options};
 ghost use Rattle.cmark_text.specs.declared.text.CowStr.{CowStr};
 ghost use Rattle.cmark_inline.specs.Elements.{IsElementOf};
-ghost use Rattle.cmark_inline.specs.Marked.{AreReady, AreWhole, BeganFrom, HaveBytes, Merges, SameBefore, begun_as, ended, places_of, shown_mark, siblings_from};
+ghost use Rattle.cmark_inline.specs.Marked.{AreReady, AreWhole, BeganFrom, EndWithin, HaveBytes, Merges, SameBefore, begun_as, ended, places_of, shown_mark, siblings_from};
 ghost use Rattle.cmark_inline.specs.SlotViews.{shown_element, shown_slots};
 ghost use Rattle.cmark_inline.specs.Stands.{AreSlots, NoNewLink, bytes_of, is_link};
 ghost use Rattle.cmark_inline.specs.declared.delimiter.PlacedRun.{PlacedRun as Placed};
@@ -110,6 +110,7 @@ impl Delimiters {
             → HaveBytes slots.old.items from place (drop first self.old.placed.items) → AreWhole slots.old.items → IsEmphasis (siblings_from 0 (drop first self.old.placed.items)) pairs spans
             → shown_slots leaf texts links slots.new.items
             ≡ marked (shown_options options) (places_of (drop first self.old.placed.items)) (marks_by (length (places_of (drop first self.old.placed.items))) pairs) (shown_slots leaf texts links slots.old.items) []) }
+        ensures within { OnOk result ((from place : ℕ) → HaveBytes slots.old.items from place (drop first self.old.placed.items) → AreWhole slots.old.items → EndWithin slots.old.items → EndWithin slots.new.items) }
         ensures before { OnOk result ((from place : ℕ) → HaveBytes slots.old.items from place (drop first self.old.placed.items) → AreWhole slots.old.items → SameBefore from slots.old.items slots.new.items) }
         ensures whole { OnOk result ((from place : ℕ) → HaveBytes slots.old.items from place (drop first self.old.placed.items) → AreWhole slots.old.items → AreWhole slots.new.items) }
         ensures placed { OnOk result (self.new.placed.items ≡ take first self.old.placed.items) }
@@ -184,6 +185,8 @@ fn write_run<'m>(
     ensures links { IfOk result (λ rest. NoNewLink slots.old.items slots.new.items) }
     ensures ready { IfOk result (λ rest. (behind : List ℕ) → AreReady slots.old.items (reverse begun.old.items) (run_places placed.slot placed.run.size behind) marks.entry.now
         → AreReady slots.new.items (reverse begun.new.items) behind rest.now) }
+    ensures within { IfOk result (λ rest. (behind : List ℕ) → AreReady slots.old.items (reverse begun.old.items) (run_places placed.slot placed.run.size behind) marks.entry.now
+        → EndWithin slots.old.items → EndWithin slots.new.items) }
     ensures before { IfOk result (λ rest. (low : ℕ) (behind : List ℕ) → AreReady slots.old.items (reverse begun.old.items) (run_places placed.slot placed.run.size behind) marks.entry.now
         → BeganFrom low (reverse begun.old.items) → low ≤ placed.slot → SameBefore low slots.old.items slots.new.items × BeganFrom low (reverse begun.new.items)) }
     ensures marks { IfOk result (λ rest. (leaf : LeafText) (texts : List CowStr) (links : List LinkParts) (behind : List ℕ)
@@ -217,6 +220,8 @@ fn write_mark(
     ensures links { OnOk result (NoNewLink slots.old.items slots.new.items) }
     ensures ready { OnOk result ((behind : List ℕ) (others : List Marks) → AreReady slots.old.items (reverse begun.old.items) (slot ∷ behind) (mark ∷ others)
         → AreReady slots.new.items (reverse begun.new.items) behind others) }
+    ensures within { OnOk result ((behind : List ℕ) (others : List Marks) → AreReady slots.old.items (reverse begun.old.items) (slot ∷ behind) (mark ∷ others)
+        → EndWithin slots.old.items → EndWithin slots.new.items) }
     ensures before { OnOk result ((low : ℕ) (behind : List ℕ) (others : List Marks) → AreReady slots.old.items (reverse begun.old.items) (slot ∷ behind) (mark ∷ others)
         → BeganFrom low (reverse begun.old.items) → low ≤ slot → SameBefore low slots.old.items slots.new.items × BeganFrom low (reverse begun.new.items)) }
     ensures marks { OnOk result ((leaf : LeafText) (texts : List CowStr) (links : List LinkParts) (behind : List ℕ) (others : List Marks)

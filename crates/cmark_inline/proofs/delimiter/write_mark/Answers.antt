@@ -1,11 +1,11 @@
-use Rattle.std.proofs.Common.{◌∷◌, get_or, refl, sym, ap, subst, ◌∙◌}
+use Rattle.std.proofs.Common.{◌∷◌, get_or, set, refl, sym, ap, subst, ◌∙◌}
 use Rattle.std.specs.Prelude.{map, reverse}
 use Rattle.cmark_inline_model.specs.SlotRows.{marked}
 use Rattle.cmark_text.specs.Shown.{shown_options}
-use Rattle.cmark_inline.specs.Marked.{AreReady, BeganFrom, begun_as, ended, shown_mark}
+use Rattle.cmark_inline.specs.Marked.{AreReady, BeganFrom, EndWithin, begun_as, ended, shown_mark}
 use Rattle.cmark_inline.specs.SlotViews.{shown_slots}
 use Rattle.cmark_inline.specs.Wikilinks.{hidden}
-use Rattle.cmark_inline.proofs.Marks.{no-slot, blank-before, some-before, none-before, ready-single, ready-begin, ready-blank, blank-view, ends-one, end-some, end-none, some-ready, none-ready}
+use Rattle.cmark_inline.proofs.Marks.{no-slot, within-set, within-merges, blank-before, some-before, none-before, ready-single, ready-begin, ready-blank, blank-view, ends-one, end-some, end-none, some-ready, none-ready}
 use Rattle.cmark_inline.proofs.RunPlaces.{pushed}
 use Rattle.cmark_inline.proofs.delimiter.write_mark.Goals as goal
 
@@ -84,3 +84,28 @@ returns-in-None-clause-before c = λ low behind others r h le.
     let e = ends-one old (reverse c.args.begun.now.items) c.args.slot behind others c.in-End.kind (subst (λ m. AreReady old (reverse c.args.begun.now.items) (c.args.slot ∷ behind) (m ∷ others)) c.in-End.is r) in
     none-before low old c.merge_last.new.slots.items (reverse c.args.begun.now.items) (reverse c.merge_last.new.begun.items) c.args.slot behind others e (c.merge_last.ensures.begun e.first e.before e.is)
     (c.merge_last.ensures.value e.first e.before e.is e.whole e.below e.within) h
+
+pub returns-in-Single-clause-within : goal.returns-in-Single-clause-within
+returns-in-Single-clause-within c = λ behind others r h. h
+
+pub returns-in-Blank-clause-within : goal.returns-in-Blank-clause-within
+returns-in-Blank-clause-within c = λ behind others r h.
+    let s = hidden (get_or c.args.slots.now.items c.args.slot no-slot) in
+    subst EndWithin (sym (c.use_up.ensures.hides no-slot refl r.ahead.2)) (within-set c.args.slots.now.items c.args.slot s h (λ i. refl))
+
+pub returns-in_ok-push-in-Begin-clause-within : goal.returns-in_ok-push-in-Begin-clause-within
+returns-in_ok-push-in-Begin-clause-within c = λ behind others r h. h
+
+pub returns-in-Some-clause-within : goal.returns-in-Some-clause-within
+returns-in-Some-clause-within c = λ behind others r h.
+    let old = c.args.slots.now.items in
+    let e = ends-one old (reverse c.args.begun.now.items) c.args.slot behind others c.in-End.kind (subst (λ m. AreReady old (reverse c.args.begun.now.items) (c.args.slot ∷ behind) (m ∷ others)) c.in-End.is r) in
+    let last = ended (get_or old c.args.slot no-slot) in
+    let first = begun_as c.in-Some.element (get_or old c.args.slot no-slot).end (get_or old e.first no-slot) in
+    subst EndWithin (sym (c.end_last.ensures.value e.first e.before no-slot e.is e.below e.within)) (within-set (set old c.args.slot last) e.first first (within-set old c.args.slot last h (λ i. refl)) (λ i. refl))
+
+pub returns-in-None-clause-within : goal.returns-in-None-clause-within
+returns-in-None-clause-within c = λ behind others r h.
+    let old = c.args.slots.now.items in
+    let e = ends-one old (reverse c.args.begun.now.items) c.args.slot behind others c.in-End.kind (subst (λ m. AreReady old (reverse c.args.begun.now.items) (c.args.slot ∷ behind) (m ∷ others)) c.in-End.is r) in
+    within-merges e.first c.args.slot old c.merge_last.new.slots.items (c.merge_last.ensures.value e.first e.before e.is e.whole e.below e.within) e.below e.within h

@@ -18,6 +18,7 @@ loop-init c =
       (λ leaf texts links behind r.
           ap (λ n. marked (shown_options c.args.options) (run_places c.args.placed.slot n behind) (map shown_mark c.args.marks.now) (shown_slots leaf texts links c.args.slots.now.items) (reverse c.args.begun.now.items)) all),
       (λ low behind r h le. ((λ k d lt. refl), h, le)),
+      (λ behind r h. h),
     )
 
 pub loop-preserved : goal.loop-preserved
@@ -60,6 +61,14 @@ loop-preserved c =
           (subst (λ ms. AreReady c.loop.slots.items (reverse c.loop.begun.items) (c.loop.slot ∷ run_places c.saturating_add-slot.result (c.args.placed.run.size - (c.loop.counter + 1)) behind) ms) e
           (subst (λ ps. AreReady c.loop.slots.items (reverse c.loop.begun.items) ps c.loop.rest.now) split now)) b.1 b.2 in
           (same-on low c.args.slots.now.items c.loop.slots.items c.write_mark.new.slots.items b.0 n.0, n.1, (let q : low ≤ c.saturating_add-slot.result = omega (arith, at, next) in q))),
+      (λ behind r h.
+          let now = i.3 behind r in
+          let next = place-behind c.loop.slots.items (reverse c.loop.begun.items) c.loop.slot c.saturating_add-slot.result (c.args.placed.run.size - c.loop.counter) (c.args.placed.run.size - (c.loop.counter + 1)) behind c.loop.rest.now less few
+          c.saturating_add-slot.ensures now in
+          let split = run-next c.loop.slot c.saturating_add-slot.result (c.args.placed.run.size - c.loop.counter) (c.args.placed.run.size - (c.loop.counter + 1)) behind less next in
+          c.in_ok-write_mark.ensures.within (run_places c.saturating_add-slot.result (c.args.placed.run.size - (c.loop.counter + 1)) behind) c.in-Some.others.now
+          (subst (λ ms. AreReady c.loop.slots.items (reverse c.loop.begun.items) (c.loop.slot ∷ run_places c.saturating_add-slot.result (c.args.placed.run.size - (c.loop.counter + 1)) behind) ms) e
+          (subst (λ ps. AreReady c.loop.slots.items (reverse c.loop.begun.items) ps c.loop.rest.now) split now)) (i.6 behind r h)),
     )
 
 pub returns-clause-ready : goal.returns-clause-ready
@@ -77,3 +86,6 @@ pub returns-clause-before : goal.returns-clause-before
 returns-clause-before c = λ low behind r h le.
     let b = c.loop.invariant.5 low behind r h le in
     (b.0, b.1)
+
+pub returns-clause-within : goal.returns-clause-within
+returns-clause-within c = λ behind r h. c.loop.invariant.6 behind r h

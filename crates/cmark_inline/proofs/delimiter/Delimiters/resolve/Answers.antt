@@ -27,6 +27,7 @@ loop-placed-init c =
           ∙ ap (λ b. marked (shown_options c.args.options) (places_of c.runs_from-rest.result.now) (map shown_mark c.as_slice-marks.result.now) (shown_slots leaf texts links c.args.slots.now.items) (reverse b)) (sym c.clear.ensures.items)),
       (λ from place h whole.
           ((λ k d lt. refl), subst (λ b. BeganFrom from (reverse b)) (sym c.clear.ensures.items) tt, subst (RunsFrom from) (sym v) (runs-from from c.args.slots.now.items from place (drop c.args.first c.args.self.now.placed.items) (omega arith) h))),
+      (λ from place h whole within. within),
     )
 
 pub loop-placed-preserved : goal.loop-placed-preserved
@@ -48,6 +49,8 @@ loop-placed-preserved c =
           let runs = subst (RunsFrom from) e b.2 in
           let n = c.in_ok-marks.ensures.before from (places_of c.in-Some.others.now) (subst (λ ps. AreReady c.loop-placed.slots.items begun (places_of ps) c.loop-placed.marks.now) e (i.3 from place h whole)) b.1 runs.0 in
           (same-on from c.args.slots.now.items c.loop-placed.slots.items c.write_run.new.slots.items b.0 n.0, n.1, runs.1)),
+      (λ from place h whole within.
+          c.in_ok-marks.ensures.within (places_of c.in-Some.others.now) (subst (λ ps. AreReady c.loop-placed.slots.items begun (places_of ps) c.loop-placed.marks.now) e (i.3 from place h whole)) (i.6 from place h whole within)),
     )
 
 pub returns-clause-marks : goal.returns-clause-marks
@@ -65,3 +68,6 @@ returns-clause-marks c = λ leaf texts links from place pairs spans h whole e.
 
 pub returns-clause-before : goal.returns-clause-before
 returns-clause-before c = λ from place h whole. (c.loop-placed.invariant.5 from place h whole).0
+
+pub returns-clause-within : goal.returns-clause-within
+returns-clause-within c = λ from place h whole within. c.loop-placed.invariant.6 from place h whole within
