@@ -39,7 +39,9 @@ impl Quotes {
         }
     }
 
-    pub fn clear(&mut self) {
+    pub fn clear(&mut self)
+        ensures { self.new.placed.items ≡ [] }
+    {
         self.placed.clear();
     }
 
