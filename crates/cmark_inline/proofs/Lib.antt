@@ -2,6 +2,11 @@ pub mod BoxedCallbacks
 pub mod Questions
 pub mod References
 pub mod Quotes
+pub mod SlotViews
+pub mod QuotedSlots
+pub mod Marks
+pub mod Merging
+pub mod RunPlaces
 pub mod Runs
 pub mod ShortSteps
 pub mod Steps

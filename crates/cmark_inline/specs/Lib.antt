@@ -4,8 +4,10 @@ pub mod Elements
 pub mod Footnoted
 pub mod FoundInSource
 pub mod Linked
+pub mod Marked
 pub mod Opens
 pub mod Quoted
+pub mod SlotViews
 pub mod Shorts
 pub mod SpecialReads
 pub mod Stands

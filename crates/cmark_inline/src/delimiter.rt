@@ -1,12 +1,22 @@
 //! Delimiter runs and the elements that they become (CommonMark 6.2).
 
-ghost use Rattle.std.specs.Prelude.{◌≡◌, ◌+◌, ◌<◌, ◌≤◌, ◌++◌, ◌∷◌, ℕ, false, List, [], get_or, length, map, take, OnOk, IfOk, IfSome};
+ghost use Rattle.std.specs.Prelude.{◌≡◌, ◌+◌, ◌<◌, ◌≤◌, ◌++◌, ◌∷◌, ℕ, false, List, [], Some, drop, get_or, length, map, max, reverse, set, take, OnOk, IfOk, IfSome};
 ghost use Rattle.cmark_emphasis.specs.Shown.{shown_kind, shown_run};
 ghost use Rattle.cmark_emphasis.specs.Slots.{AreRuns};
+ghost use Rattle.cmark_emphasis.specs.declared.slot.Slot.{Slot as Marks};
+ghost use Rattle.cmark_grammar.specs.Emphasis.{IsEmphasis, Pair, places_taken, runs_of};
+ghost use Rattle.cmark_grammar.specs.Spans.{Spans, span_tag};
+ghost use Rattle.cmark_inline_model.specs.SlotRows.{marked, marks_by, run_places};
+ghost use Rattle.cmark_leaf_text.specs.declared.leaf_text.LeafText.{LeafText};
 ghost use Rattle.cmark_text.specs.Shown.{shown_options};
+ghost use Rattle.cmark_text.specs.declared.text.CowStr.{CowStr};
 ghost use Rattle.cmark_inline.specs.Elements.{IsElementOf};
+ghost use Rattle.cmark_inline.specs.Marked.{AreReady, AreWhole, BeganFrom, EndWithin, HaveBytes, Merges, SameBefore, begun_as, ended, places_of, shown_mark, siblings_from};
+ghost use Rattle.cmark_inline.specs.SlotViews.{shown_element, shown_slots};
 ghost use Rattle.cmark_inline.specs.Stands.{AreSlots, NoNewLink, bytes_of, is_link};
 ghost use Rattle.cmark_inline.specs.declared.delimiter.PlacedRun.{PlacedRun as Placed};
+ghost use Rattle.cmark_inline.specs.declared.link.LinkParts.{LinkParts};
+ghost use Rattle.cmark_inline.specs.declared.slot.Slot.{Slot as Slots};
 
 use crate::slot::{Element, Slot, begin, merge, use_up};
 use bitflags::Flags;
@@ -96,6 +106,14 @@ impl Delimiters {
         ensures length { OnOk result (length slots.new.items ≡ length slots.old.items) }
         ensures links { OnOk result (NoNewLink slots.old.items slots.new.items) }
         ensures runs { OnOk result (bytes_of self.new.placed.items ≤ bytes_of self.old.placed.items) }
+        ensures marks { OnOk result ((leaf : LeafText) (texts : List CowStr) (links : List LinkParts) (from place : ℕ) (pairs : List Pair) (spans : Spans)
+            → HaveBytes slots.old.items from place (drop first self.old.placed.items) → AreWhole slots.old.items → IsEmphasis (siblings_from 0 (drop first self.old.placed.items)) pairs spans
+            → shown_slots leaf texts links slots.new.items
+            ≡ marked (shown_options options) (places_of (drop first self.old.placed.items)) (marks_by (length (places_of (drop first self.old.placed.items))) pairs) (shown_slots leaf texts links slots.old.items) []) }
+        ensures within { OnOk result ((from place : ℕ) → HaveBytes slots.old.items from place (drop first self.old.placed.items) → AreWhole slots.old.items → EndWithin slots.old.items → EndWithin slots.new.items) }
+        ensures before { OnOk result ((from place : ℕ) → HaveBytes slots.old.items from place (drop first self.old.placed.items) → AreWhole slots.old.items → SameBefore from slots.old.items slots.new.items) }
+        ensures whole { OnOk result ((from place : ℕ) → HaveBytes slots.old.items from place (drop first self.old.placed.items) → AreWhole slots.old.items → AreWhole slots.new.items) }
+        ensures placed { OnOk result (self.new.placed.items ≡ take first self.old.placed.items) }
     {
         if self.placed.len() <= first {
             return Ok(());
@@ -124,7 +142,8 @@ fn gather(
     bound: usize,
 ) -> Result<usize, AllocError>
     requires { bytes_of placed.now ≤ bound }
-    ensures { IfOk result (λ count. AreRuns count (map shown_run runs.new.items)) }
+    ensures runs { IfOk result (λ count. AreRuns count (map shown_run runs.new.items)) }
+    ensures value { IfOk result (λ count. (count ≡ places_taken (siblings_from 0 (drop first placed.now))) × (map shown_run runs.new.items ≡ runs_of (siblings_from 0 (drop first placed.now)))) }
 {
     runs.clear();
     let mut count = 0;
@@ -144,7 +163,8 @@ fn gather(
 
 /// The runs from this one on.
 fn runs_from(placed: &[PlacedRun], first: usize) -> &[PlacedRun]
-    ensures { bytes_of result.now ≤ bytes_of placed.entry.now }
+    ensures bytes { bytes_of result.now ≤ bytes_of placed.entry.now }
+    ensures value { result.now ≡ drop first placed.entry.now }
 {
     if first >= placed.len() {
         return &[];
@@ -163,6 +183,16 @@ fn write_run<'m>(
     ensures slots { IfOk result (λ rest. (text : List ℕ) (place : ℕ) → AreSlots text place slots.old.items → AreSlots text place slots.new.items) }
     ensures length { IfOk result (λ rest. length slots.new.items ≡ length slots.old.items) }
     ensures links { IfOk result (λ rest. NoNewLink slots.old.items slots.new.items) }
+    ensures ready { IfOk result (λ rest. (behind : List ℕ) → AreReady slots.old.items (reverse begun.old.items) (run_places placed.slot placed.run.size behind) marks.entry.now
+        → AreReady slots.new.items (reverse begun.new.items) behind rest.now) }
+    ensures within { IfOk result (λ rest. (behind : List ℕ) → AreReady slots.old.items (reverse begun.old.items) (run_places placed.slot placed.run.size behind) marks.entry.now
+        → EndWithin slots.old.items → EndWithin slots.new.items) }
+    ensures before { IfOk result (λ rest. (low : ℕ) (behind : List ℕ) → AreReady slots.old.items (reverse begun.old.items) (run_places placed.slot placed.run.size behind) marks.entry.now
+        → BeganFrom low (reverse begun.old.items) → low ≤ placed.slot → SameBefore low slots.old.items slots.new.items × BeganFrom low (reverse begun.new.items)) }
+    ensures marks { IfOk result (λ rest. (leaf : LeafText) (texts : List CowStr) (links : List LinkParts) (behind : List ℕ)
+        → AreReady slots.old.items (reverse begun.old.items) (run_places placed.slot placed.run.size behind) marks.entry.now
+        → marked (shown_options options) (run_places placed.slot placed.run.size behind) (map shown_mark marks.entry.now) (shown_slots leaf texts links slots.old.items) (reverse begun.old.items)
+        ≡ marked (shown_options options) behind (map shown_mark rest.now) (shown_slots leaf texts links slots.new.items) (reverse begun.new.items)) }
 {
     let mut rest = marks;
     let mut slot = placed.slot;
@@ -188,6 +218,16 @@ fn write_mark(
     ensures slots { OnOk result ((text : List ℕ) (place : ℕ) → AreSlots text place slots.old.items → AreSlots text place slots.new.items) }
     ensures length { OnOk result (length slots.new.items ≡ length slots.old.items) }
     ensures links { OnOk result (NoNewLink slots.old.items slots.new.items) }
+    ensures ready { OnOk result ((behind : List ℕ) (others : List Marks) → AreReady slots.old.items (reverse begun.old.items) (slot ∷ behind) (mark ∷ others)
+        → AreReady slots.new.items (reverse begun.new.items) behind others) }
+    ensures within { OnOk result ((behind : List ℕ) (others : List Marks) → AreReady slots.old.items (reverse begun.old.items) (slot ∷ behind) (mark ∷ others)
+        → EndWithin slots.old.items → EndWithin slots.new.items) }
+    ensures before { OnOk result ((low : ℕ) (behind : List ℕ) (others : List Marks) → AreReady slots.old.items (reverse begun.old.items) (slot ∷ behind) (mark ∷ others)
+        → BeganFrom low (reverse begun.old.items) → low ≤ slot → SameBefore low slots.old.items slots.new.items × BeganFrom low (reverse begun.new.items)) }
+    ensures marks { OnOk result ((leaf : LeafText) (texts : List CowStr) (links : List LinkParts) (behind : List ℕ) (others : List Marks)
+        → AreReady slots.old.items (reverse begun.old.items) (slot ∷ behind) (mark ∷ others)
+        → marked (shown_options options) (slot ∷ behind) (shown_mark mark ∷ map shown_mark others) (shown_slots leaf texts links slots.old.items) (reverse begun.old.items)
+        ≡ marked (shown_options options) behind (map shown_mark others) (shown_slots leaf texts links slots.new.items) (reverse begun.new.items)) }
 {
     match mark {
         Mark::Single => {}
@@ -206,6 +246,9 @@ fn merge_last(slots: &mut Vec<Slot>, slot: usize, begun: &mut Vec<usize>)
     ensures slots { (text : List ℕ) (place : ℕ) → AreSlots text place slots.old.items → AreSlots text place slots.new.items }
     ensures length { length slots.new.items ≡ length slots.old.items }
     ensures links { NoNewLink slots.old.items slots.new.items }
+    ensures begun { (first : ℕ) (others : List ℕ) → reverse begun.old.items ≡ first ∷ others → reverse begun.new.items ≡ others }
+    ensures value { (first : ℕ) (others : List ℕ) → reverse begun.old.items ≡ first ∷ others → AreWhole slots.old.items → first < slot → slot < length slots.old.items
+        → Merges first slot slots.old.items slots.new.items }
 {
     if let Some(first) = begun.pop() {
         merge(slots, first, slot);
@@ -218,6 +261,9 @@ fn end_last(slots: &mut Vec<Slot>, slot: usize, element: Element, begun: &mut Ve
     ensures slots { (text : List ℕ) (place : ℕ) → AreSlots text place slots.old.items → AreSlots text place slots.new.items }
     ensures length { length slots.new.items ≡ length slots.old.items }
     ensures links { NoNewLink slots.old.items slots.new.items }
+    ensures begun { (first : ℕ) (others : List ℕ) → reverse begun.old.items ≡ first ∷ others → slot < length slots.old.items → reverse begun.new.items ≡ others }
+    ensures value { (first : ℕ) (others : List ℕ) (d : Slots) → reverse begun.old.items ≡ first ∷ others → first < slot → slot < length slots.old.items
+        → slots.new.items ≡ set (set slots.old.items slot (ended (get_or slots.old.items slot d))) first (begun_as element (get_or slots.old.items slot d).end (get_or slots.old.items first d)) }
 {
     if slot < slots.len() {
         let end = slots[slot].end;
@@ -232,6 +278,7 @@ fn end_last(slots: &mut Vec<Slot>, slot: usize, element: Element, begun: &mut Ve
 fn element_of(kind: SpanKind, options: Options) -> Option<Element>
     ensures value { IsElementOf (shown_options options) (shown_kind kind) result }
     ensures links { IfSome result (λ element. is_link element ≡ false) }
+    ensures tag { IfSome result (λ element. (links : List LinkParts) → span_tag (shown_options options) (shown_kind kind) ≡ Some (shown_element links element)) }
 {
     match kind {
         SpanKind::Emphasis => Some(Element::Emphasis),

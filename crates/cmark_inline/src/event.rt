@@ -1,20 +1,24 @@
 //! The events of a leaf's slots, one after the other.
 
-ghost use Rattle.std.specs.Prelude.{◌≡◌, ◌⊎◌, ◌<◌, ◌≤◌, ◌+◌, ◌-◌, ℕ, false, List, [], IfOk, IfSome, OnOk, OnSome, length};
+ghost use Rattle.std.specs.Prelude.{◌≡◌, ◌⊎◌, ◌<◌, ◌≤◌, ◌+◌, ◌-◌, ◌∷◌, ℕ, false, List, [], None, Some, IfOk, IfSome, OnOk, OnSome, length};
 ghost use Rattle.std.specs.Str.{IsCharBoundary};
 ghost use Rattle.cmark_grammar.specs.CodeSpans.{code_text};
-ghost use Rattle.cmark_grammar.specs.Event.{InlineHtml, Text};
+ghost use Rattle.cmark_grammar.specs.Event.{InlineHtml, Start, End, Text};
 ghost use Rattle.cmark_grammar.specs.InlineHtml.{takes_lines};
 ghost use Rattle.cmark_grammar.specs.InlineTokens.{as_in, without_pipe_escapes};
+ghost use Rattle.cmark_grammar.specs.InlineReading.{over};
 ghost use Rattle.cmark_grammar.specs.LeafSpans.{IsInline, IsRange, IsSpan};
 ghost use Rattle.cmark_grammar.specs.Tokens.{slice};
 ghost use Rattle.cmark_leaf_text.specs.Reads.{IsRead, IsPart, is_cell_of, place_of, text_of, source_of};
 ghost use Rattle.cmark_scan_parts.specs.Shown.{IsBorrowed};
+ghost use Rattle.cmark_grammar.specs.Tag as grammar_tag;
 ghost use Rattle.cmark_grammar.specs.TagEnd.{end_of, Image, Link};
 ghost use Rattle.cmark_text.specs.Shown.{shown, shown_end, shown_tag, text_bytes, IsBoxed, IsInlined};
 ghost use Rattle.cmark_text.specs.ZeroCopy.{IsLentBy, IsPartIfBorrowed, IsZeroCopy};
 ghost use Rattle.cmark_inline.specs.Opens.{element_end, Follows, Gives, GivesZeroCopy, Passes, events_left, shown_given};
+ghost use Rattle.cmark_inline.specs.SlotViews.{AreLeft, CanBeGiven, IsFirst, KeepsOthers, event_in, events_of, events_to_come, link_of, linked_at, shown_element, shown_opened, shown_parts, text_at, text_named, with_given};
 ghost use Rattle.cmark_inline.specs.Stands.{AreOpened, AreSlots, IsSlot};
+ghost use Rattle.cmark_inline.specs.declared.slot.Slot.{Slot as Slots};
 
 use crate::link::LinkParts;
 use crate::slot::{Element, Slot, SlotKind};
@@ -78,6 +82,8 @@ impl<'a> InlineState<'a> {
         ensures fewer { IfOk result (λ given. OnSome given (events_left self.new < events_left self.old)) }
         ensures most { OnOk result (events_left self.new ≤ events_left self.old) }
         ensures few { OnOk result (length self.new.slots.items < 18446744073709551616) }
+        ensures events { AreLeft leaf.now self.old → IfOk result (λ given. IsFirst given (events_to_come leaf.now self.old) (events_to_come leaf.now self.new)) }
+        ensures left { AreLeft leaf.now self.old → OnOk result (AreLeft leaf.now self.new) }
     {
         while self.walk.next < self.slots.len() {
             let slot = self.slots[self.walk.next];
@@ -101,6 +107,11 @@ impl<'a> InlineState<'a> {
         ensures opened { AreOpened (source_of leaf.now) self.new.walk.opened.items }
         ensures gives { IfOk result (λ given. Passes (source_of leaf.now) self.old.walk.opened.items given self.new.walk.opened.items) }
         ensures lent { IfOk result (λ given. IfSome given (GivesZeroCopy (source_of leaf.now))) }
+        ensures events { (behind : List Slots) → CanBeGiven leaf.now self.old.texts.items self.old.links.items (slot ∷ behind)
+            → IfOk result (λ given. events_of leaf.now self.old.texts.items self.old.links.items (slot ∷ behind) self.old.walk.opened.items
+            ≡ with_given given (events_of leaf.now self.new.texts.items self.new.links.items behind self.new.walk.opened.items)) }
+        ensures left { (behind : List Slots) → CanBeGiven leaf.now self.old.texts.items self.old.links.items (slot ∷ behind)
+            → OnOk result (CanBeGiven leaf.now self.new.texts.items self.new.links.items behind) }
     {
         match slot.kind {
             SlotKind::Begin(element) => {
@@ -135,6 +146,10 @@ impl<'a> InlineState<'a> {
         ensures opened { AreOpened (source_of leaf.now) self.new.walk.opened.items }
         ensures gives { IfOk result (λ given. Follows (source_of leaf.now) self.old.walk.opened.items (shown_given given) self.new.walk.opened.items) }
         ensures lent { IfOk result (GivesZeroCopy (source_of leaf.now)) }
+        ensures event { IfOk result (λ given. shown_given given ≡ over (source_of leaf.now) (place_of leaf.now slot.start) (place_of leaf.now (slot.end - 1) + 1) (Start (shown_element self.old.links.items element))) }
+        ensures opens { OnOk result (shown_opened self.new.walk.opened.items ≡ over (source_of leaf.now) (place_of leaf.now slot.start) (place_of leaf.now (slot.end - 1) + 1) (End (end_of (shown_element self.old.links.items element))) ∷ shown_opened self.old.walk.opened.items) }
+        ensures links { KeepsOthers (link_of element) self.old.links.items self.new.links.items }
+        ensures texts { self.new.texts ≡ self.old.texts }
     {
         let range = leaf.range(slot.start, slot.end);
         // The push comes first: where memory is refused, nothing was taken that has to be dropped.
@@ -158,6 +173,9 @@ impl<'a> InlineState<'a> {
         ensures lent { (source : List ℕ) → IfSome result (GivesZeroCopy source) }
         ensures fewer { OnSome result (length self.new.walk.opened.items < length self.old.walk.opened.items) }
         ensures most { length self.new.walk.opened.items ≤ length self.old.walk.opened.items }
+        ensures first { IsFirst result (shown_opened self.old.walk.opened.items) (shown_opened self.new.walk.opened.items) }
+        ensures links { self.new.links ≡ self.old.links }
+        ensures texts { self.new.texts ≡ self.old.texts }
     {
         let opened = self.walk.opened.pop()?;
         Some(Given {
@@ -171,6 +189,9 @@ impl<'a> InlineState<'a> {
         ensures end { end_of (shown_tag result) ≡ element_end element }
         ensures slots { self.new.slots ≡ self.old.slots }
         ensures walk { self.new.walk ≡ self.old.walk }
+        ensures value { shown_tag result ≡ shown_element self.old.links.items element }
+        ensures links { KeepsOthers (link_of element) self.old.links.items self.new.links.items }
+        ensures texts { self.new.texts ≡ self.old.texts }
     {
         match element {
             Element::Emphasis => Tag::Emphasis,
@@ -186,6 +207,9 @@ impl<'a> InlineState<'a> {
     fn take_link(&mut self, index: usize) -> LinkParts<'a>
         ensures slots { self.new.slots ≡ self.old.slots }
         ensures walk { self.new.walk ≡ self.old.walk }
+        ensures value { shown_parts result ≡ linked_at self.old.links.items index }
+        ensures links { KeepsOthers (Some index) self.old.links.items self.new.links.items }
+        ensures texts { self.new.texts ≡ self.old.texts }
     {
         match self.links.get_mut(index) {
             Some(link) => std::mem::replace(link, LinkParts::none()),
@@ -196,6 +220,9 @@ impl<'a> InlineState<'a> {
     fn take_text(&mut self, index: usize) -> CowStr<'a>
         ensures slots { self.new.slots ≡ self.old.slots }
         ensures walk { self.new.walk ≡ self.old.walk }
+        ensures value { text_bytes result ≡ text_at self.old.texts.items index }
+        ensures texts { KeepsOthers (Some index) self.old.texts.items self.new.texts.items }
+        ensures links { self.new.links ≡ self.old.links }
     {
         match self.texts.get_mut(index) {
             Some(text) => std::mem::replace(text, CowStr::Borrowed("")),
@@ -211,6 +238,9 @@ impl<'a> InlineState<'a> {
         ensures walk { self.new.walk ≡ self.old.walk }
         ensures inline { IfOk result (λ event. IsInline (shown event)) }
         ensures lent { IfOk result (λ event. IsZeroCopy (source_of leaf.now) event (place_of leaf.now slot.start) (place_of leaf.now (slot.end - 1) + 1)) }
+        ensures value { IfOk result (λ event. shown event ≡ event_in leaf.now self.old.texts.items slot slot.kind) }
+        ensures texts { KeepsOthers (text_named slot.kind) self.old.texts.items self.new.texts.items }
+        ensures links { self.new.links ≡ self.old.links }
     {
         match slot.kind {
             SlotKind::OwnedText(index) => {
@@ -265,6 +295,7 @@ fn element_end(element: Element) -> TagEnd
 fn link_tag<'a>(link: LinkParts<'a>) -> Tag<'a>
     ensures span { IsSpan (shown_tag result) }
     ensures end { end_of (shown_tag result) ≡ Link }
+    ensures value { shown_tag result ≡ grammar_tag.Link (shown_parts link.entry) }
 {
     let LinkParts {
         link_type,
@@ -283,6 +314,7 @@ fn link_tag<'a>(link: LinkParts<'a>) -> Tag<'a>
 fn image_tag<'a>(link: LinkParts<'a>) -> Tag<'a>
     ensures span { IsSpan (shown_tag result) }
     ensures end { end_of (shown_tag result) ≡ Image }
+    ensures value { shown_tag result ≡ grammar_tag.Image (shown_parts link.entry) }
 {
     let LinkParts {
         link_type,

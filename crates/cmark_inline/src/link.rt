@@ -1,6 +1,6 @@
 //! Links and images: what stands behind their closing bracket (CommonMark 6.3 and 6.4).
 
-ghost use Rattle.std.specs.Prelude.{◌≡◌, ◌<◌, ◌≤◌, ◌+◌, List, ℕ, drop, IfOk, IfSome, length, option_copied, option_map};
+ghost use Rattle.std.specs.Prelude.{◌≡◌, ◌<◌, ◌≤◌, ◌+◌, List, None, ℕ, drop, IfOk, IfSome, length, option_copied, option_map};
 ghost use Rattle.std.specs.Str.{IsCharBoundary};
 ghost use Rattle.cmark_leaf_text.specs.Reads.{IsRead, IsPart, is_cell_of, text_of};
 ghost use Rattle.cmark_grammar.specs.Labels.{fold};
@@ -10,6 +10,7 @@ ghost use Rattle.cmark_text.specs.Shown.{shown_options, text_bytes};
 ghost use Rattle.cmark_items.specs.Definitions.{definition};
 ghost use Rattle.cmark_inline.specs.Footnoted.{as_label};
 ghost use Rattle.cmark_inline.specs.Linked.{by_own_label, inline_link, reference_behind, resolved_title, said_by, shown_asked, shown_destination, shown_target};
+ghost use Rattle.cmark_inline.specs.SlotViews.{linked_or_none, shown_parts};
 ghost use Rattle.cmark_inline.specs.Stands.{IsAsked, IsBracket, IsTarget};
 
 use crate::bracket::Bracket;
@@ -32,7 +33,9 @@ pub struct LinkParts<'a> {
 
 impl<'a> LinkParts<'a> {
     /// A link that was taken.
-    pub fn none() -> LinkParts<'a> {
+    pub fn none() -> LinkParts<'a>
+        ensures { shown_parts result ≡ linked_or_none None }
+    {
         LinkParts {
             link_type: LinkType::Inline,
             dest_url: CowStr::Borrowed(""),

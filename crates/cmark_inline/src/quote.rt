@@ -1,8 +1,14 @@
 //! Quotes, and the characters that they become (this profile's own).
 
 ghost use Rattle.std.specs.Prelude.{◌≡◌, ◌<◌, ◌≤◌, ◌++◌, ◌∷◌, ℕ, List, [], drop, take, get_or, length, map, OnOk};
+ghost use Rattle.cmark_inline_model.specs.SlotRows.{quoted};
+ghost use Rattle.cmark_leaf_text.specs.declared.leaf_text.LeafText.{LeafText};
+ghost use Rattle.cmark_text.specs.declared.text.CowStr.{CowStr};
+ghost use Rattle.cmark_inline.specs.Marked.{HaveTexts};
 ghost use Rattle.cmark_inline.specs.Quoted.{characters_of, with_characters};
+ghost use Rattle.cmark_inline.specs.SlotViews.{shown_slots};
 ghost use Rattle.cmark_inline.specs.Stands.{AreSlots, NoNewLink};
+ghost use Rattle.cmark_inline.specs.declared.link.LinkParts.{LinkParts};
 ghost use Rattle.cmark_inline.specs.declared.quote.PlacedQuote.{PlacedQuote};
 
 use crate::slot::{Slot, SlotKind, become_character};
@@ -33,7 +39,9 @@ impl Quotes {
         }
     }
 
-    pub fn clear(&mut self) {
+    pub fn clear(&mut self)
+        ensures { self.new.placed.items ≡ [] }
+    {
         self.placed.clear();
     }
 
@@ -77,6 +85,9 @@ impl Quotes {
         ensures slots { OnOk result ((text : List ℕ) (place : ℕ) → AreSlots text place slots.old.items → AreSlots text place slots.new.items) }
         ensures length { OnOk result (length slots.new.items ≡ length slots.old.items) }
         ensures links { OnOk result (NoNewLink slots.old.items slots.new.items) }
+        ensures quotes { OnOk result ((leaf : LeafText) (texts : List CowStr) (links : List LinkParts) → HaveTexts slots.old.items (drop first self.old.placed.items)
+            → shown_slots leaf texts links slots.new.items ≡ quoted (map (λ (p : PlacedQuote). p.slot) (drop first self.old.placed.items)) (characters_of (drop first self.old.placed.items)) (shown_slots leaf texts links slots.old.items)) }
+        ensures placed { OnOk result (self.new.placed.items ≡ take first self.old.placed.items) }
     {
         if self.placed.len() <= first {
             return Ok(());

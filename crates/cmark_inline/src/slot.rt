@@ -1,8 +1,9 @@
 //! Slots: what stands in a leaf's text, one behind the other.
 
-ghost use Rattle.std.specs.Prelude.{◌≡◌, ◌<◌, ◌≤◌, ◌+◌, ◌++◌, ◌∷◌, ◌&&◌, nat_lt, false, [], ℕ, List, get_or, length, set, OnOk};
+ghost use Rattle.std.specs.Prelude.{◌≡◌, ◌<◌, ◌≤◌, ◌+◌, ◌++◌, ◌∷◌, ◌&&◌, nat_lt, true, false, [], ℕ, List, get_or, length, set, OnOk};
 ghost use Rattle.std.specs.Str.{IsCharBoundary};
 ghost use Rattle.cmark_inline.specs.Footnoted.{put_at};
+ghost use Rattle.cmark_inline.specs.Marked.{AreWhole, Merges, begun_as, ended, last_in, whole_to};
 ghost use Rattle.cmark_inline.specs.Quoted.{with_character};
 ghost use Rattle.cmark_leaf_text.specs.Reads.{IsPart};
 ghost use Rattle.cmark_inline.specs.Stands.{AreSlots, HoldNoLink, IsContent, IsSlot, NoNewLink, PushesText, begins_link, is_link};
@@ -105,6 +106,7 @@ pub fn begin(slots: &mut Vec<Slot>, at: usize, element: Element, end: usize)
     ensures length { length slots.new.items ≡ length slots.old.items }
     ensures links { is_link element ≡ false → NoNewLink slots.old.items slots.new.items }
     ensures behind { HoldNoLink slots.old.items at → HoldNoLink slots.new.items (at + 1) }
+    ensures value { (d : Slots) → at < length slots.old.items → slots.new.items ≡ set slots.old.items at (begun_as element end (get_or slots.old.items at d)) }
 {
     if at < slots.len() {
         let slot = slots[at];
@@ -152,6 +154,7 @@ pub fn use_up(slots: &mut Vec<Slot>, at: usize, ends: bool)
     ensures length { length slots.new.items ≡ length slots.old.items }
     ensures links { NoNewLink slots.old.items slots.new.items }
     ensures hides { (d : Slots) → ends ≡ false → at < length slots.old.items → slots.new.items ≡ set slots.old.items at (hidden (get_or slots.old.items at d)) }
+    ensures ends { (d : Slots) → ends ≡ true → at < length slots.old.items → slots.new.items ≡ set slots.old.items at (ended (get_or slots.old.items at d)) }
 {
     if at < slots.len() {
         let slot = slots[at];
@@ -185,6 +188,7 @@ pub fn merge(slots: &mut Vec<Slot>, first: usize, last: usize)
     ensures slots { (text : List ℕ) (place : ℕ) → AreSlots text place slots.old.items → AreSlots text place slots.new.items }
     ensures length { length slots.new.items ≡ length slots.old.items }
     ensures links { NoNewLink slots.old.items slots.new.items }
+    ensures value { AreWhole slots.old.items → first < last → last < length slots.old.items → Merges first last slots.old.items slots.new.items }
 {
     if first < last && last < slots.len() {
         let end = slots[last].end;
@@ -198,6 +202,7 @@ fn become_whole(slots: &mut Vec<Slot>, at: usize, last: usize, end: usize)
     ensures slots { (text : List ℕ) (place : ℕ) → AreSlots text place slots.old.items → IsCharBoundary text end → end ≤ place → AreSlots text place slots.new.items }
     ensures length { length slots.new.items ≡ length slots.old.items }
     ensures links { NoNewLink slots.old.items slots.new.items }
+    ensures value { (d : Slots) → at < length slots.old.items → slots.new.items ≡ set slots.old.items at (whole_to last end (get_or slots.old.items at d)) }
 {
     if at < slots.len() {
         let slot = slots[at];
@@ -217,6 +222,7 @@ fn use_up_between(slots: &mut Vec<Slot>, first: usize, last: usize)
     ensures slots { (text : List ℕ) (place : ℕ) → AreSlots text place slots.old.items → AreSlots text place slots.new.items }
     ensures length { length slots.new.items ≡ length slots.old.items }
     ensures links { NoNewLink slots.old.items slots.new.items }
+    ensures hides { AreWhole slots.old.items → Hides (first + 1) (last + 1) slots.old.items slots.new.items }
 {
     let mut at = first;
     while at < last {
@@ -324,7 +330,8 @@ fn cut_kind(slot: Slot, text: &str) -> SlotKind
 
 // The index of the last slot that belongs to that of this index.
 fn last_of(kind: SlotKind, at: usize) -> usize
-    ensures { at ≤ result }
+    ensures order { at ≤ result }
+    ensures value { result ≡ last_in kind at }
 {
     match kind {
         SlotKind::Whole(last) => last.max(at),

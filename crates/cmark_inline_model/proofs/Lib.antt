@@ -55,6 +55,7 @@ pub mod SilentTokens
 pub mod SlotCells
 pub mod SlotExamples
 pub mod SlotLaws
+pub mod LikeSlots
 pub mod SlotMarks
 pub mod SlotQuotes
 pub mod SlotSpans

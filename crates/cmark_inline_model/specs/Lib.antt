@@ -4,6 +4,7 @@ pub mod CutRanges
 pub mod Expansion
 pub mod FormedParts
 pub mod LeafModel
+pub mod LikeSlots
 pub mod LinkRules
 pub mod NestedLinks
 pub mod OptionRules

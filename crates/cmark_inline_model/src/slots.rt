@@ -14,7 +14,8 @@ ghost use Rattle.cmark_grammar.specs.Quotes.{quote_characters};
 ghost use Rattle.cmark_grammar.specs.Readers.{Reader};
 ghost use Rattle.cmark_grammar.specs.Siblings.{Inline, IsDressed, Nil, dressed_all, gaps_of, quotes_of, runs_from, with_characters};
 ghost use Rattle.cmark_grammar.specs.Spans.{Spans};
-ghost use Rattle.cmark_inline_model.specs.SlotRows.{AreTight, LaysOut, Slot, StandBehind, byte_places, marked, marks_by, marks_of, quote_places, quoted, row_of, seen, slot_events, slots_of};
+ghost use Rattle.cmark_inline_model.specs.LikeSlots.{AreLike};
+ghost use Rattle.cmark_inline_model.specs.SlotRows.{AreTight, LaysOut, Mark, Slot, StandBehind, byte_places, marked, marks_by, marks_of, quote_places, quoted, row_of, seen, slot_events, slots_of};
 
 /// Siblings can be laid out as slots, from any place of a row on.
 pub fn siblings_have_slots()
@@ -68,4 +69,20 @@ pub fn events_of_a_leaf_are_read_off_its_slots()
     ensures { (reader : Reader) (exchanges : List Exchange) (leaf : Leaf) (before after : Between) (events : List Ranged) (reads : ReadsLeaf reader (IsNext exchanges) leaf before events after)
         → (slots : List Slot) (bytes quotes : List ℕ) → LaysOut 0 reads.are.siblings slots bytes quotes
         → slot_events reader.source (marked reader.options bytes (marks_by (length bytes) reads.are.dressed_so.pairs) (quoted quotes (quote_characters [] (quotes_of reads.are.siblings)) slots) []) [] ≡ events }
+{}
+
+/// Slots that give the same events, whatever their items are called, do so still when the same characters and the same marks were
+/// written into both.
+pub fn like_slots_stay_like()
+    ensures quotes { (source : List ℕ) (quotes characters : List ℕ) (slots others : List Slot) → AreLike source slots others
+        → AreLike source (quoted quotes characters slots) (quoted quotes characters others) }
+    ensures marks { (source : List ℕ) (options : Options) (bytes : List ℕ) (marks : List Mark) (slots others : List Slot) (begun : List ℕ) → AreLike source slots others
+        → AreLike source (marked options bytes marks slots begun) (marked options bytes marks others begun) }
+{}
+
+/// The events of a list of siblings are read off any slots that are like its own.
+pub fn events_are_read_off_like_slots()
+    ensures { (source : List ℕ) (options : Options) (siblings result : Inline) (so : IsDressed options siblings result)
+        → (slots others : List Slot) (bytes quotes : List ℕ) → LaysOut 0 siblings others bytes quotes → AreLike source slots others
+        → slot_events source (marked options bytes (marks_by (length bytes) so.pairs) (quoted quotes (quote_characters [] (quotes_of siblings)) slots) []) [] ≡ inline_events source result }
 {}

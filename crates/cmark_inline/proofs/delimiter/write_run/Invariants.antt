@@ -1,6 +1,27 @@
-use Rattle.std.proofs.Common.{◌≡◌, ℕ, List, length}
+use Rattle.std.proofs.Common.{◌≡◌, ◌≤◌, ◌-◌, ℕ, List, length}
+use Rattle.std.specs.Prelude.{map, reverse}
+use Rattle.cmark_inline_model.specs.SlotRows.{marked, run_places}
+use Rattle.cmark_leaf_text.specs.declared.leaf_text.LeafText.{LeafText}
+use Rattle.cmark_text.specs.Shown.{shown_options}
+use Rattle.cmark_text.specs.declared.text.CowStr.{CowStr}
+use Rattle.cmark_inline.specs.Marked.{AreReady, BeganFrom, EndWithin, SameBefore, shown_mark}
+use Rattle.cmark_inline.specs.SlotViews.{shown_slots}
 use Rattle.cmark_inline.specs.Stands.{AreSlots, NoNewLink}
+use Rattle.cmark_inline.specs.declared.link.LinkParts.{LinkParts}
 use Rattle.cmark_inline.proofs.delimiter.write_run.Given as goal
 
 abbrev pub invariant-loop : goal.invariant-loop
-invariant-loop l = ((text : List ℕ) (place : ℕ) → AreSlots text place l.initial.slots.items → AreSlots text place l.slots.items) × (length l.slots.items ≡ length l.initial.slots.items) × NoNewLink l.initial.slots.items l.slots.items
+invariant-loop l =
+    ((text : List ℕ) (place : ℕ) → AreSlots text place l.initial.slots.items → AreSlots text place l.slots.items)
+    × (length l.slots.items ≡ length l.initial.slots.items)
+    × NoNewLink l.initial.slots.items l.slots.items
+    × ((behind : List ℕ) → AreReady l.initial.slots.items (reverse l.initial.begun.items) (run_places l.fn.placed.slot l.fn.placed.run.size behind) l.marks
+    → AreReady l.slots.items (reverse l.begun.items) (run_places l.slot (l.end - l.counter) behind) l.rest)
+    × ((leaf : LeafText) (texts : List CowStr) (links : List LinkParts) (behind : List ℕ)
+    → AreReady l.initial.slots.items (reverse l.initial.begun.items) (run_places l.fn.placed.slot l.fn.placed.run.size behind) l.marks
+    → marked (shown_options l.options) (run_places l.fn.placed.slot l.fn.placed.run.size behind) (map shown_mark l.marks) (shown_slots leaf texts links l.initial.slots.items) (reverse l.initial.begun.items)
+    ≡ marked (shown_options l.options) (run_places l.slot (l.end - l.counter) behind) (map shown_mark l.rest) (shown_slots leaf texts links l.slots.items) (reverse l.begun.items))
+    × ((low : ℕ) (behind : List ℕ) → AreReady l.initial.slots.items (reverse l.initial.begun.items) (run_places l.fn.placed.slot l.fn.placed.run.size behind) l.marks
+    → BeganFrom low (reverse l.initial.begun.items) → low ≤ l.fn.placed.slot → SameBefore low l.initial.slots.items l.slots.items × BeganFrom low (reverse l.begun.items) × (low ≤ l.slot))
+    × ((behind : List ℕ) → AreReady l.initial.slots.items (reverse l.initial.begun.items) (run_places l.fn.placed.slot l.fn.placed.run.size behind) l.marks
+    → EndWithin l.initial.slots.items → EndWithin l.slots.items)

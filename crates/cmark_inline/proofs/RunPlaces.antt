@@ -1,0 +1,226 @@
+-- The bytes of placed runs, and the marks that are written into their slots.
+use Rattle.std.proofs.Common.{◌≡◌, ◌⊎◌, inl, inr, ⊎_elim, min, ℕ, zero, suc, ◌+◌, ◌<◌, ◌≤◌, List, [], ◌∷◌, ◌++◌, length, drop, take, get_or, refl, sym, ap, subst, append_assoc, ◌∙◌, arith}
+use Rattle.std.specs.Prelude.{map, reverse}
+use Rattle.std.proofs.Math.Seq.{drop-cons}
+use Rattle.std.proofs.lemmas.Bool.{cases_lt}
+use Rattle.std.proofs.lemmas.List.{drop_all, get_or_default, reverse-append, map-append}
+use Rattle.cmark_emphasis.specs.Shown.{shown_run}
+use Rattle.cmark_emphasis.specs.Slots.{AreBalanced, slots_of}
+use Rattle.cmark_emphasis.specs.Slots as code_sides
+use Rattle.cmark_emphasis.specs.declared.run.Run as code_run
+use Rattle.cmark_emphasis.specs.declared.slot.Slot as code_mark
+use Rattle.cmark_emphasis.specs.declared.slot.Slot.TheVariants as mark
+use Rattle.cmark_grammar.specs.Emphasis.{Pair, IsEmphasis, StandFrom, places_taken, runs_of}
+use Rattle.cmark_grammar.specs.EmphasisModel.{spans_of}
+use Rattle.cmark_grammar.specs.Options.{Options}
+use Rattle.cmark_grammar.specs.Spans.{SpanKind, Emphasis, Strong, SingleTilde, DoubleTilde, Caret, Spans, span_width}
+use Rattle.cmark_grammar.proofs.EmphasisOne.{one}
+use Rattle.cmark_grammar.proofs.SpanEntries.{pairs-marked}
+use Rattle.cmark_inline_model.specs.SlotRows as row
+use Rattle.cmark_inline_model.specs.SlotRows.{Mark, marked, Stays, opening, closing, marks_by, marks_of, run_places}
+use Rattle.cmark_inline_model.proofs.SlotLaws.{entries-say}
+use Rattle.cmark_inline.specs.Marked.{AreAhead, AreReady, AreWhole, HaveBytes, places_of, shown_mark, siblings_from, SameBefore}
+use Rattle.cmark_inline.specs.Tokens.{byte_slots}
+use Rattle.cmark_inline.specs.declared.delimiter.PlacedRun.{PlacedRun}
+use Rattle.cmark_inline.specs.declared.slot.Slot.{Slot}
+use Rattle.cmark_inline.specs.declared.slot.SlotKind.TheVariants as kind
+use Rattle.cmark_inline.proofs.Marks.{begun-further}
+
+-- ## Runs as siblings
+
+pub stand-so : (at : ℕ) (placed : List PlacedRun) → StandFrom at (siblings_from at placed)
+stand-so at [] = tt
+stand-so at (p ∷ placed) = (refl, refl, stand-so (at + p.run.size) placed)
+
+length-run : (at size : ℕ) (behind : List ℕ) → length (run_places at size behind) ≡ size + length behind
+length-run at zero behind = let e : length behind ≡ 0 + length behind = omega arith in e
+length-run at (suc size) behind = let h = length-run (suc at) size behind in let e : suc (length (run_places (suc at) size behind)) ≡ suc size + length behind = omega (arith, h) in e
+
+pub length-places : (at : ℕ) (placed : List PlacedRun) → length (places_of placed) ≡ places_taken (siblings_from at placed)
+length-places at [] = refl
+length-places at (p ∷ placed) = length-run p.slot p.run.size (places_of placed) ∙ ap (λ n. p.run.size + n) (length-places (at + p.run.size) placed)
+
+-- one more run is gathered, its bytes counted from there on
+pub gathered-more : (runs : List code_run.Run) (n : code_run.Run) (next : PlacedRun) (others : List PlacedRun) (count : ℕ)
+    → n ≡ record { mark = next.run.mark; size = next.run.size; at = count; left = next.run.size; opens = next.run.opens; closes = next.run.closes }
+    → map shown_run (runs ++ (n ∷ [])) ++ runs_of (siblings_from (count + next.run.size) others) ≡ map shown_run runs ++ runs_of (siblings_from count (next ∷ others))
+gathered-more runs n next others count e =
+    ap (λ l. l ++ runs_of (siblings_from (count + next.run.size) others)) (map-append shown_run runs (n ∷ []))
+    ∙ append_assoc (map shown_run runs) (shown_run n ∷ []) (runs_of (siblings_from (count + next.run.size) others))
+    ∙ ap (λ (r : code_run.Run). map shown_run runs ++ (shown_run r ∷ runs_of (siblings_from (count + next.run.size) others))) e
+
+-- ## Their marks
+
+opening-wide : (k : SpanKind) → length (opening k) ≡ span_width k
+opening-wide Emphasis = refl
+opening-wide Strong = refl
+opening-wide SingleTilde = refl
+opening-wide DoubleTilde = refl
+opening-wide Caret = refl
+
+closing-wide : (k : SpanKind) → length (closing k) ≡ span_width k
+closing-wide Emphasis = refl
+closing-wide Strong = refl
+closing-wide SingleTilde = refl
+closing-wide DoubleTilde = refl
+closing-wide Caret = refl
+
+opening-shown : (k : SpanKind) → map shown_mark (code_sides.opening k) ≡ opening k
+opening-shown Emphasis = refl
+opening-shown Strong = refl
+opening-shown SingleTilde = refl
+opening-shown DoubleTilde = refl
+opening-shown Caret = refl
+
+closing-shown : (k : SpanKind) → map shown_mark (code_sides.closing k) ≡ closing k
+closing-shown Emphasis = refl
+closing-shown Strong = refl
+closing-shown SingleTilde = refl
+closing-shown DoubleTilde = refl
+closing-shown Caret = refl
+
+pub marks-are : (placed : List PlacedRun) (marks : List code_mark.Slot) (pairs : List Pair) (spans : Spans) → IsEmphasis (siblings_from 0 placed) pairs spans → marks ≡ slots_of (spans_of (siblings_from 0 placed))
+    → map shown_mark marks ≡ marks_by (length (places_of placed)) pairs
+marks-are placed marks pairs spans e is =
+    let sib = siblings_from 0 placed in
+    ap (map shown_mark) is
+    ∙ entries-say code_mark.Slot mark.Single code_sides.opening code_sides.closing shown_mark refl opening-shown closing-shown (spans_of sib)
+    ∙ sym (pairs-marked Mark Stays opening closing opening-wide closing-wide sib (stand-so 0 placed))
+    ∙ ap (λ ps. marks_by (places_taken sib) ps) (sym (one sib pairs spans e).0)
+    ∙ ap (λ n. marks_by n pairs) (sym (length-places 0 placed))
+
+-- ## Their slots
+
+ahead-earlier : (slots : List Slot) (from from1 end end1 : ℕ) (places : List ℕ) → from1 ≤ from → end1 ≤ end → AreAhead slots from end places → AreAhead slots from1 end1 places
+ahead-earlier slots from from1 end end1 [] f e h = tt
+ahead-earlier slots from from1 end end1 (at ∷ places) f e h = let a = h.1 in let b = h.5 in (h.0, omega (arith, a, f), h.2, h.3, h.4, omega (arith, b, e), h.6)
+
+abbrev byte : (at : ℕ) → Slot
+byte at = record { kind = kind.Text; start = at; end = at + 1 }
+
+bytes-ahead : (size s at from end : ℕ) (slots : List Slot) (behind : List ℕ) → from ≤ s → end ≤ at → take size (drop s slots) ≡ byte_slots at size → AreAhead slots (s + size) (at + size) behind
+    → AreAhead slots from end (run_places s size behind)
+bytes-ahead zero s at from end slots behind f e is h = ahead-earlier slots (s + 0) from (at + 0) end behind (omega (arith, f)) (omega (arith, e)) h
+bytes-ahead (suc size) s at from end slots behind f e is h =
+    ⊎_elim (λ (lt : s < length slots). there lt (λ others more. bytes-ahead size (suc s) (at + 1) (suc s) (at + 1) slots behind (omega arith) (omega arith) others more)) (λ (le : length slots ≤ s). absurd (none (sym (ap (take (suc size)) (drop_all s slots le)) ∙ is))) (cases_lt s (length slots))
+  where
+    none : [] ≡ byte at ∷ byte_slots (at + 1) size → ⊥
+    none q = cc
+
+    there : s < length slots → (take size (drop (suc s) slots) ≡ byte_slots (at + 1) size → AreAhead slots (suc s + size) ((at + 1) + size) behind → AreAhead slots (suc s) (at + 1) (run_places (suc s) size behind))
+        → AreAhead slots from end (s ∷ run_places (suc s) size behind)
+    there lt go =
+        let split : get_or slots s (byte 0) ∷ take size (drop (suc s) slots) ≡ byte at ∷ byte_slots (at + 1) size = sym (ap (take (suc size)) (drop-cons slots s (byte 0) lt)) ∙ is in
+        let first : get_or slots s (byte 0) ≡ byte at = cc in
+        let others : take size (drop (suc s) slots) ≡ byte_slots (at + 1) size = cc in
+        let same : (d : Slot) → get_or slots s d ≡ byte at = λ d. get_or_default slots s d (byte 0) lt ∙ first in
+        let more : AreAhead slots (suc s + size) ((at + 1) + size) behind = subst (λ n. AreAhead slots n ((at + 1) + size) behind) (let q : s + suc size ≡ suc s + size = omega arith in q) (subst (λ n. AreAhead slots (s + suc size) n behind) (let q : at + suc size ≡ (at + 1) + size = omega arith in q) h) in (
+          at + 1,
+          f,
+          lt,
+          (λ d. ap (λ (x : Slot). x.kind) (same d)),
+          (λ d. ap (λ (x : Slot). x.end) (same d)),
+          omega (arith, e),
+          go others more,
+        )
+
+pub all-ahead : (slots : List Slot) (from place : ℕ) (placed : List PlacedRun) → HaveBytes slots from place placed → AreAhead slots from place (places_of placed)
+all-ahead slots from place [] h = tt
+all-ahead slots from place (p ∷ placed) h = bytes-ahead p.run.size p.slot h.0 from place slots (places_of placed) h.1 h.2 h.3 (all-ahead slots (p.slot + p.run.size) (h.0 + p.run.size) placed h.4)
+
+-- before the first mark
+pub ready-first : (slots : List Slot) (from place : ℕ) (placed : List PlacedRun) (marks : List code_mark.Slot) → HaveBytes slots from place placed → AreWhole slots → AreBalanced [] marks → AreReady slots [] (places_of placed) marks
+ready-first slots from place placed marks h whole balanced = record {
+  from = from;
+  end = place;
+  behind = tt;
+  ahead = all-ahead slots from place placed h;
+  whole = whole;
+  kinds = [];
+  balanced = balanced;
+  as_many = refl;
+}
+
+-- bytes whose marks are left out
+skipped : (slots : List Slot) (from end at size : ℕ) (behind : List ℕ) → AreAhead slots from end (run_places at size behind) → (from1 : ℕ) × (end1 : ℕ) × (from ≤ from1) × (end ≤ end1) × AreAhead slots from1 end1 behind
+skipped slots from end at zero behind h = (from, end, omega arith, omega arith, h)
+skipped slots from end at (suc size) behind h =
+    let r = skipped slots (suc at) h.0 (suc at) size behind h.6 in
+    let f = h.1 in
+    let e = h.5 in
+    let a = r.2 in
+    let b = r.3 in
+    (r.0, r.1, omega (arith, f, a), omega (arith, e, b), r.4)
+
+-- ## Spans that began
+
+-- the last that was put on is taken off
+pub popped : (old new : List ℕ) (last first : ℕ) (others : List ℕ) → old ≡ new ++ (last ∷ []) → reverse old ≡ first ∷ others → (last ≡ first) × (reverse new ≡ others)
+popped old new last first others e r =
+    let q : last ∷ reverse new ≡ first ∷ others = sym (reverse-append new (last ∷ [])) ∙ ap reverse (sym e) ∙ r in
+    (cc, cc)
+
+pub pushed : (old new : List ℕ) (last : ℕ) → new ≡ old ++ (last ∷ []) → reverse new ≡ last ∷ reverse old
+pushed old new last e = ap reverse e ∙ reverse-append old (last ∷ [])
+
+-- ## The bytes of one run
+
+pub ready-skip : (slots : List Slot) (begun : List ℕ) (at size : ℕ) (behind : List ℕ) (marks : List code_mark.Slot) → AreReady slots begun (run_places at size behind) marks → AreReady slots begun behind marks
+ready-skip slots begun at size behind marks r =
+    let s = skipped slots r.from r.end at size behind r.ahead in
+    record {
+      from = s.0;
+      end = s.1;
+      behind = begun-further slots r.from s.0 r.end s.1 begun r.behind s.2 s.3;
+      ahead = s.4;
+      whole = r.whole;
+      kinds = r.kinds;
+      balanced = r.balanced;
+      as_many = r.as_many;
+    }
+
+-- the first byte of what is left of one
+pub run-next : (at next left less : ℕ) (behind : List ℕ) → left ≡ suc less → next ≡ suc at → run_places at left behind ≡ at ∷ run_places next less behind
+run-next at next left less behind l n = ap (λ k. run_places at k behind) l ∙ ap (λ k. at ∷ run_places k less behind) (sym n)
+
+-- the place of a byte is one of the machine's, and so is the one behind it
+pub place-behind : (slots : List Slot) (begun : List ℕ) (at next left less : ℕ) (behind : List ℕ) (marks : List code_mark.Slot) → left ≡ suc less → length slots < 18446744073709551616 → next ≡ min (at + 1) 18446744073709551615
+    → AreReady slots begun (run_places at left behind) marks → next ≡ suc at
+place-behind slots begun at next left less behind marks l few n r =
+    let h = subst (λ ps. AreAhead slots r.from r.end ps) (ap (λ k. run_places at k behind) l) r.ahead in
+    let w = h.2 in
+    let q : next ≡ suc at = omega (arith, n, few, w) in q
+
+-- where no byte of a run is left, or no mark
+no-marks : (options : Options) (places : List ℕ) (rows : List row.Slot) (begun : List ℕ) → marked options places [] rows begun ≡ rows
+no-marks options [] rows begun = refl
+no-marks options (at ∷ places) rows begun = refl
+
+pub marks-over : (options : Options) (at left : ℕ) (behind begun : List ℕ) (marks : List code_mark.Slot) (rows : List row.Slot) → (left ≡ 0) ⊎ (marks ≡ [])
+    → marked options (run_places at left behind) (map shown_mark marks) rows begun ≡ marked options behind (map shown_mark marks) rows begun
+marks-over options at left behind begun marks rows (inl e) = ap (λ k. marked options (run_places at k behind) (map shown_mark marks) rows begun) e
+marks-over options at left behind begun marks rows (inr e) =
+    ap (λ ms. marked options (run_places at left behind) (map shown_mark ms) rows begun) e
+    ∙ no-marks options (run_places at left behind) rows begun
+    ∙ sym (no-marks options behind rows begun)
+    ∙ sym (ap (λ ms. marked options behind (map shown_mark ms) rows begun) e)
+
+pub none-left : {X : Type 0} (xs : List X) → length xs ≡ 0 → xs ≡ []
+none-left [] e = refl
+none-left (x ∷ xs) e = absurd (omega (arith, e))
+
+-- ## Where the slots of runs begin
+
+abbrev pub RunsFrom : (low : ℕ) → List PlacedRun → Type 0
+RunsFrom low [] = Unit {0}
+RunsFrom low (p ∷ placed) = (low ≤ p.slot) × RunsFrom low placed
+
+pub runs-from : (low : ℕ) (slots : List Slot) (from place : ℕ) (placed : List PlacedRun) → low ≤ from → HaveBytes slots from place placed → RunsFrom low placed
+runs-from low slots from place [] le h = tt
+runs-from low slots from place (p ∷ placed) le h =
+    let f = h.1 in
+    (omega (arith, le, f), runs-from low slots (p.slot + p.run.size) (h.0 + p.run.size) placed (omega (arith, le, f)) h.4)
+
+-- what is the same before a slot stays so
+pub same-on : (low : ℕ) (old mid new : List Slot) → SameBefore low old mid → SameBefore low mid new → SameBefore low old new
+same-on low old mid new a b k d lt = b k d lt ∙ a k d lt

@@ -1,0 +1,111 @@
+use Rattle.std.proofs.Common.{◌∷◌, get_or, set, refl, sym, ap, subst, ◌∙◌}
+use Rattle.std.specs.Prelude.{map, reverse}
+use Rattle.cmark_inline_model.specs.SlotRows.{marked}
+use Rattle.cmark_text.specs.Shown.{shown_options}
+use Rattle.cmark_inline.specs.Marked.{AreReady, BeganFrom, EndWithin, begun_as, ended, shown_mark}
+use Rattle.cmark_inline.specs.SlotViews.{shown_slots}
+use Rattle.cmark_inline.specs.Wikilinks.{hidden}
+use Rattle.cmark_inline.proofs.Marks.{no-slot, within-set, within-merges, blank-before, some-before, none-before, ready-single, ready-begin, ready-blank, blank-view, ends-one, end-some, end-none, some-ready, none-ready}
+use Rattle.cmark_inline.proofs.RunPlaces.{pushed}
+use Rattle.cmark_inline.proofs.delimiter.write_mark.Goals as goal
+
+pub returns-in-Single-clause-ready : goal.returns-in-Single-clause-ready
+returns-in-Single-clause-ready c = λ behind others r.
+    ready-single c.args.slots.now.items (reverse c.args.begun.now.items) c.args.slot behind others (subst (λ m. AreReady c.args.slots.now.items (reverse c.args.begun.now.items) (c.args.slot ∷ behind) (m ∷ others)) c.in-Single.is r)
+
+pub returns-in-Blank-clause-ready : goal.returns-in-Blank-clause-ready
+returns-in-Blank-clause-ready c = λ behind others r.
+    ready-blank c.args.slots.now.items (reverse c.args.begun.now.items) c.args.slot behind others c.use_up.new.slots.items (subst (λ m. AreReady c.args.slots.now.items (reverse c.args.begun.now.items) (c.args.slot ∷ behind) (m ∷ others)) c.in-Blank.is r) (λ d lt. c.use_up.ensures.hides d refl lt)
+
+pub returns-in-Blank-clause-marks : goal.returns-in-Blank-clause-marks
+returns-in-Blank-clause-marks c = λ leaf texts links behind others r.
+    ap (λ m. marked (shown_options c.args.options) (c.args.slot ∷ behind) (shown_mark m ∷ map shown_mark others) (shown_slots leaf texts links c.args.slots.now.items) (reverse c.args.begun.now.items)) c.in-Blank.is
+    ∙ ap (λ l. marked (shown_options c.args.options) behind (map shown_mark others) l (reverse c.args.begun.now.items))
+    (blank-view leaf texts links c.args.slots.now.items c.use_up.new.slots.items c.args.slot (get_or c.args.slots.now.items c.args.slot no-slot) (c.use_up.ensures.hides no-slot refl r.ahead.2))
+
+pub returns-in_ok-push-in-Begin-clause-ready : goal.returns-in_ok-push-in-Begin-clause-ready
+returns-in_ok-push-in-Begin-clause-ready c = λ behind others r.
+    let begun = reverse c.args.begun.now.items in
+    let made = ready-begin c.args.slots.now.items begun c.args.slot behind others c.in-Begin.field-0 (subst (λ m. AreReady c.args.slots.now.items begun (c.args.slot ∷ behind) (m ∷ others)) c.in-Begin.is r) in
+    subst (λ b. AreReady c.args.slots.now.items b behind others) (sym (pushed c.args.begun.now.items c.push.new.self.items c.args.slot c.in_ok-push-in-Begin.ensures.items)) made
+
+pub returns-in-Some-clause-ready : goal.returns-in-Some-clause-ready
+returns-in-Some-clause-ready c = λ behind others r.
+    let old = c.args.slots.now.items in
+    let e = ends-one old (reverse c.args.begun.now.items) c.args.slot behind others c.in-End.kind (subst (λ m. AreReady old (reverse c.args.begun.now.items) (c.args.slot ∷ behind) (m ∷ others)) c.in-End.is r) in
+    some-ready old c.end_last.new.slots.items (reverse c.args.begun.now.items) (reverse c.end_last.new.begun.items) c.args.slot behind others e (c.end_last.ensures.begun e.first e.before e.is e.within) c.in-Some.element
+    (c.end_last.ensures.value e.first e.before no-slot e.is e.below e.within)
+
+pub returns-in-Some-clause-marks : goal.returns-in-Some-clause-marks
+returns-in-Some-clause-marks c = λ leaf texts links behind others r.
+    let old = c.args.slots.now.items in
+    let e = ends-one old (reverse c.args.begun.now.items) c.args.slot behind others c.in-End.kind (subst (λ m. AreReady old (reverse c.args.begun.now.items) (c.args.slot ∷ behind) (m ∷ others)) c.in-End.is r) in
+    ap (λ m. marked (shown_options c.args.options) (c.args.slot ∷ behind) (shown_mark m ∷ map shown_mark others) (shown_slots leaf texts links c.args.slots.now.items) (reverse c.args.begun.now.items)) c.in-End.is
+    ∙ end-some leaf texts links (shown_options c.args.options) old c.end_last.new.slots.items (reverse c.args.begun.now.items) (reverse c.end_last.new.begun.items) c.args.slot behind others c.in-End.kind e
+    (c.end_last.ensures.begun e.first e.before e.is e.within) c.in-Some.element (c.end_last.ensures.value e.first e.before no-slot e.is e.below e.within) (c.in-Some.ensures.tag links)
+
+pub returns-in-None-clause-ready : goal.returns-in-None-clause-ready
+returns-in-None-clause-ready c = λ behind others r.
+    let old = c.args.slots.now.items in
+    let e = ends-one old (reverse c.args.begun.now.items) c.args.slot behind others c.in-End.kind (subst (λ m. AreReady old (reverse c.args.begun.now.items) (c.args.slot ∷ behind) (m ∷ others)) c.in-End.is r) in
+    none-ready old c.merge_last.new.slots.items (reverse c.args.begun.now.items) (reverse c.merge_last.new.begun.items) c.args.slot behind others e (c.merge_last.ensures.begun e.first e.before e.is)
+    (c.merge_last.ensures.value e.first e.before e.is e.whole e.below e.within)
+
+pub returns-in-None-clause-marks : goal.returns-in-None-clause-marks
+returns-in-None-clause-marks c = λ leaf texts links behind others r.
+    let old = c.args.slots.now.items in
+    let e = ends-one old (reverse c.args.begun.now.items) c.args.slot behind others c.in-End.kind (subst (λ m. AreReady old (reverse c.args.begun.now.items) (c.args.slot ∷ behind) (m ∷ others)) c.in-End.is r) in
+    ap (λ m. marked (shown_options c.args.options) (c.args.slot ∷ behind) (shown_mark m ∷ map shown_mark others) (shown_slots leaf texts links c.args.slots.now.items) (reverse c.args.begun.now.items)) c.in-End.is
+    ∙ end-none leaf texts links (shown_options c.args.options) old c.merge_last.new.slots.items (reverse c.args.begun.now.items) (reverse c.merge_last.new.begun.items) c.args.slot behind others c.in-End.kind e
+    (c.merge_last.ensures.begun e.first e.before e.is) (c.merge_last.ensures.value e.first e.before e.is e.whole e.below e.within) c.in-None.ensures.value
+
+pub returns-in-Single-clause-before : goal.returns-in-Single-clause-before
+returns-in-Single-clause-before c = λ low behind others r h le. ((λ k d lt. refl), h)
+
+pub returns-in-Blank-clause-before : goal.returns-in-Blank-clause-before
+returns-in-Blank-clause-before c = λ low behind others r h le.
+    let begun = reverse c.args.begun.now.items in
+    (blank-before low c.args.slots.now.items c.use_up.new.slots.items begun begun c.args.slot behind others (hidden (get_or c.args.slots.now.items c.args.slot no-slot)) (c.use_up.ensures.hides no-slot refl r.ahead.2) le, h)
+
+pub returns-in_ok-push-in-Begin-clause-before : goal.returns-in_ok-push-in-Begin-clause-before
+returns-in_ok-push-in-Begin-clause-before c = λ low behind others r h le.
+    ((λ k d lt. refl), subst (BeganFrom low) (sym (pushed c.args.begun.now.items c.push.new.self.items c.args.slot c.in_ok-push-in-Begin.ensures.items)) (le, h))
+
+pub returns-in-Some-clause-before : goal.returns-in-Some-clause-before
+returns-in-Some-clause-before c = λ low behind others r h le.
+    let old = c.args.slots.now.items in
+    let e = ends-one old (reverse c.args.begun.now.items) c.args.slot behind others c.in-End.kind (subst (λ m. AreReady old (reverse c.args.begun.now.items) (c.args.slot ∷ behind) (m ∷ others)) c.in-End.is r) in
+    some-before low old c.end_last.new.slots.items (reverse c.args.begun.now.items) (reverse c.end_last.new.begun.items) c.args.slot behind others e (c.end_last.ensures.begun e.first e.before e.is e.within)
+    (ended (get_or old c.args.slot no-slot)) (begun_as c.in-Some.element (get_or old c.args.slot no-slot).end (get_or old e.first no-slot)) (c.end_last.ensures.value e.first e.before no-slot e.is e.below e.within) h
+
+pub returns-in-None-clause-before : goal.returns-in-None-clause-before
+returns-in-None-clause-before c = λ low behind others r h le.
+    let old = c.args.slots.now.items in
+    let e = ends-one old (reverse c.args.begun.now.items) c.args.slot behind others c.in-End.kind (subst (λ m. AreReady old (reverse c.args.begun.now.items) (c.args.slot ∷ behind) (m ∷ others)) c.in-End.is r) in
+    none-before low old c.merge_last.new.slots.items (reverse c.args.begun.now.items) (reverse c.merge_last.new.begun.items) c.args.slot behind others e (c.merge_last.ensures.begun e.first e.before e.is)
+    (c.merge_last.ensures.value e.first e.before e.is e.whole e.below e.within) h
+
+pub returns-in-Single-clause-within : goal.returns-in-Single-clause-within
+returns-in-Single-clause-within c = λ behind others r h. h
+
+pub returns-in-Blank-clause-within : goal.returns-in-Blank-clause-within
+returns-in-Blank-clause-within c = λ behind others r h.
+    let s = hidden (get_or c.args.slots.now.items c.args.slot no-slot) in
+    subst EndWithin (sym (c.use_up.ensures.hides no-slot refl r.ahead.2)) (within-set c.args.slots.now.items c.args.slot s h (λ i. refl))
+
+pub returns-in_ok-push-in-Begin-clause-within : goal.returns-in_ok-push-in-Begin-clause-within
+returns-in_ok-push-in-Begin-clause-within c = λ behind others r h. h
+
+pub returns-in-Some-clause-within : goal.returns-in-Some-clause-within
+returns-in-Some-clause-within c = λ behind others r h.
+    let old = c.args.slots.now.items in
+    let e = ends-one old (reverse c.args.begun.now.items) c.args.slot behind others c.in-End.kind (subst (λ m. AreReady old (reverse c.args.begun.now.items) (c.args.slot ∷ behind) (m ∷ others)) c.in-End.is r) in
+    let last = ended (get_or old c.args.slot no-slot) in
+    let first = begun_as c.in-Some.element (get_or old c.args.slot no-slot).end (get_or old e.first no-slot) in
+    subst EndWithin (sym (c.end_last.ensures.value e.first e.before no-slot e.is e.below e.within)) (within-set (set old c.args.slot last) e.first first (within-set old c.args.slot last h (λ i. refl)) (λ i. refl))
+
+pub returns-in-None-clause-within : goal.returns-in-None-clause-within
+returns-in-None-clause-within c = λ behind others r h.
+    let old = c.args.slots.now.items in
+    let e = ends-one old (reverse c.args.begun.now.items) c.args.slot behind others c.in-End.kind (subst (λ m. AreReady old (reverse c.args.begun.now.items) (c.args.slot ∷ behind) (m ∷ others)) c.in-End.is r) in
+    within-merges e.first c.args.slot old c.merge_last.new.slots.items (c.merge_last.ensures.value e.first e.before e.is e.whole e.below e.within) e.below e.within h

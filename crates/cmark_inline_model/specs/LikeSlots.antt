@@ -1,0 +1,25 @@
+-- Slots that give the same events, whatever their items are called: a text is the same text, whether it is said to be bytes that stand
+-- for themselves, or a text of its own.
+use Rattle.std.specs.Prelude.{◌≡◌, ℕ, List, [], ◌∷◌}
+use Rattle.cmark_grammar.specs.InlineReading.{event_of}
+use Rattle.cmark_grammar.specs.Items.{Item}
+use Rattle.cmark_inline_model.specs.SlotRows.{Slot, ItemSlot, BeginSlot, EndSlot, NothingSlot}
+
+module _ (source : List ℕ) where
+  -- an item gives the event of another, and comes from the same bytes
+  pub record GivesTheSame (x y : Item) : Type 0 where
+    pub start : x.start ≡ y.start
+    pub end : x.end ≡ y.end
+    pub event : event_of source x x.kind ≡ event_of source y y.kind
+
+  abbrev pub IsLike : (one other : Slot) → Type 0
+  IsLike (ItemSlot x) (ItemSlot y) = GivesTheSame x y
+  IsLike (BeginSlot tag start end) other = other ≡ BeginSlot tag start end
+  IsLike EndSlot other = other ≡ EndSlot
+  IsLike NothingSlot other = other ≡ NothingSlot
+  IsLike (ItemSlot x) _ = ⊥
+
+  abbrev pub AreLike : (slots others : List Slot) → Type 0
+  AreLike [] others = others ≡ []
+  AreLike (one ∷ slots) [] = ⊥
+  AreLike (one ∷ slots) (other ∷ others) = IsLike one other × AreLike slots others
