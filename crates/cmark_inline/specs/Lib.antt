@@ -12,3 +12,5 @@ pub mod Stands
 pub mod Tokens
 pub mod Wikilinks
 pub mod PlainStretches
+pub mod BracketViews
+pub mod Decided
