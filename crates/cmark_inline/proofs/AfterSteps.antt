@@ -8,32 +8,11 @@ use Rattle.cmark_grammar.specs.Items as items
 use Rattle.cmark_grammar.specs.OpenBrackets.{Taken, nearest, doubled, doubled_behind, touches, undoubled, tried, used_up, inactive, behind_link, dropped}
 use Rattle.cmark_inline.specs.declared.bracket.Bracket.{Bracket}
 use Rattle.cmark_inline.specs.declared.bracket.Brackets.{Brackets}
+use Rattle.cmark_inline.specs.Closers.{UsesUp, Drops, Shuts, IsNone, NoneStand}
 use Rattle.cmark_inline.specs.BracketViews.{IsFresh, ArePlaced, IsPlaced, past_opening, with_last, standing_of, pairs_behind, pairs_of, AreInactive, PairsInactive, AreDoubledInactive, Holds, StandFor, IsTaken, TakenAs, IsTried, TriedAs}
 use Rattle.cmark_inline.specs.Doubled.{DropsBehind, nearest_of}
 use Rattle.cmark_inline.specs.Doubled as views
 use Rattle.cmark_inline.proofs.BracketSteps.{Takes, takes, TriesOne, Tries, tries, tried-placed, tried-standing, tried-rest, inactive-tried, TakesOne, EndBehind, IsCut, IsSplit, drops-split, standing-split, pairs-split, placed-cut, placed-lower, fresh-past, inactive-fewer, used-placed, inactive-used, used-pairs, doubled-used}
-
--- ## What the calls do
-
--- the last bracket is used up
-pub record UsesUp (old new : Brackets) : Type 0 where
-  pub others : new.standing.items ≡ take (length old.standing.items - 1) old.standing.items
-  pub shut : old.shut ≤ length old.standing.items → new.shut ≡ min old.shut (length new.standing.items)
-
--- so many last ones were dropped that end behind a place
-pub record Drops (place : ℕ) (old new : Brackets) : Type 0 where
-  pub drops : DropsBehind place old.standing.items new.standing.items
-  pub shut : new.shut ≡ min old.shut (length new.standing.items)
-
--- all that stand are inactive that open no image
-pub record Shuts (old new : Brackets) : Type 0 where
-  pub standing : new.standing ≡ old.standing
-  pub shut : new.shut ≡ length old.standing.items
-
--- none stands
-pub record IsNone (new : Brackets) : Type 0 where
-  pub standing : new.standing.items ≡ []
-  pub shut : new.shut ≡ 0
 
 -- ## What is changed of each of them
 
@@ -374,10 +353,6 @@ tried-one place at (o ∷ os) (b ∷ bs) st db new h u = go (doubled_behind o os
         )
 
 -- ## Something is formed
-
--- none of the first so many stands
-abbrev pub NoneStand : (n : ℕ) → List Opener → List Bracket → Type 0
-NoneStand n os bs = standing_of (drop n os) (drop n bs) ≡ standing_of os bs
 
 -- the doubled ones that end up to a place are those behind so many
 pairs_left : (wikilinks : Bool) (place : ℕ → ℕ) (at n : ℕ) (os : List Opener) (bs : List Bracket) (b : Bracket) (rest : List Bracket) (st db new : Brackets) → StandFor wikilinks place at os bs st db → drop n bs ≡ b ∷ rest → rest ≡ drop (suc n) bs → Drops b.start db new

@@ -30,3 +30,4 @@ pub mod LabelEnds
 pub mod DecisionSteps
 pub mod TargetSteps
 pub mod TargetMakes
+pub mod CloserSteps

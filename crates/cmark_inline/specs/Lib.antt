@@ -14,3 +14,4 @@ pub mod Wikilinks
 pub mod PlainStretches
 pub mod BracketViews
 pub mod Decided
+pub mod Closers

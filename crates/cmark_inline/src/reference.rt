@@ -14,6 +14,7 @@ ghost use Rattle.cmark_grammar.specs.BracketStates.{Opener};
 ghost use Rattle.cmark_grammar.specs.OpenBrackets.{nearest, used_up};
 ghost use Rattle.cmark_inline.specs.Asking.{AsksOnce};
 ghost use Rattle.cmark_inline.specs.BracketViews.{StandFor, TakenAs};
+ghost use Rattle.cmark_inline.specs.Closers.{Closes, LeavesElement, LinksTaken};
 ghost use Rattle.cmark_inline.specs.Decided.{EndsWithin, TargetDecides, is_full};
 ghost use Rattle.cmark_inline.specs.declared.bracket.Bracket.{Bracket as Opening};
 ghost use Rattle.cmark_inline.specs.Doubled.{DropsBehind, doubles};
@@ -118,6 +119,7 @@ impl<'a> InlineState<'a> {
         ensures spent { self.old.expansion ≡ 0 → (callback.new ≡ callback.old) × (self.new.expansion ≡ 0) }
         ensures moves { IfOk result (Moves text.now here.at self.new) }
         ensures footnotes { SameFootnotes footnotes.old footnotes.new }
+        ensures closes { IfOk result (λ next. Closes F.answers (shown_options reader.now.options) (E.replacement reader.now.entities.now) reader.now.references.now footnotes.old leaf.now text.now here.at self.old self.new next callback.old callback.new) }
     {
         self.flush(text, here, here.at)?;
         let behind_it = behind(text, here.at);
@@ -164,6 +166,7 @@ impl<'a> InlineState<'a> {
         ensures spent { self.old.expansion ≡ 0 → (callback.new ≡ callback.old) × (self.new.expansion ≡ 0) }
         ensures stands { IfOk result (λ next. next ≡ None → Stands text.now close self.new) }
         ensures moves { IfOk result (λ next. IfSome next (Moves text.now close self.new)) }
+        ensures links { IfOk result (λ next. LinksTaken F.answers (shown_options reader.now.options) (E.replacement reader.now.entities.now) reader.now.references.now leaf.now text.now taken close self.old self.new next callback.old callback.new) }
     {
         let Some(bracket) = taken else {
             return Ok(None);
@@ -323,6 +326,8 @@ impl<'a> InlineState<'a> {
         ensures doubled { OnOk result (DropsBehind bracket.start self.old.doubled.standing.items self.new.doubled.standing.items) }
         ensures inactive { OnOk result (bracket.is_image ≡ false → self.new.doubled.shut ≡ length self.new.doubled.standing.items) }
         ensures link { OnOk result (bracket.is_image ≡ false → HoldNoLink self.new.slots.items (bracket.slot + 1)) }
+        ensures leaves { OnOk result (LeavesElement bracket.is_image bracket.start self.old self.new) }
+        ensures label { self.new.shut_close ≡ self.old.shut_close }
     {
         let Target { parts, end, .. } = target;
         let index = self.links.len();
@@ -351,6 +356,7 @@ impl<'a> InlineState<'a> {
         requires { bytes_of self.old.delimiters.placed.items ≤ length self.old.slots.items }
         ensures table { self.new.links ≡ self.old.links }
         ensures expansion { self.new.expansion ≡ self.old.expansion }
+        ensures label { self.new.shut_close ≡ self.old.shut_close }
         ensures brackets { self.new.brackets ≡ self.old.brackets }
         ensures doubled { self.new.doubled ≡ self.old.doubled }
         ensures slots { OnOk result ((text : List ℕ) (place : ℕ) → AreSlots text place self.old.slots.items → IsEnd text place close end → AreSlots text place self.new.slots.items) }
