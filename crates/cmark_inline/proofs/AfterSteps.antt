@@ -9,10 +9,10 @@ use Rattle.cmark_grammar.specs.OpenBrackets.{Taken, nearest, doubled, doubled_be
 use Rattle.cmark_inline.specs.declared.bracket.Bracket.{Bracket}
 use Rattle.cmark_inline.specs.declared.bracket.Brackets.{Brackets}
 use Rattle.cmark_inline.specs.Closers.{UsesUp, Drops, Shuts, IsNone, NoneStand}
-use Rattle.cmark_inline.specs.BracketViews.{IsFresh, ArePlaced, IsPlaced, past_opening, with_last, standing_of, pairs_behind, pairs_of, AreInactive, PairsInactive, AreDoubledInactive, Holds, StandFor, IsTaken, TakenAs, IsTried, TriedAs}
+use Rattle.cmark_inline.specs.BracketViews.{IsFresh, ArePlaced, IsPlaced, past_opening, with_last, standing_of, pairs_behind, pairs_of, AreInactive, PairsInactive, AreDoubledInactive, Holds, StandFor, IsTaken, TakenAs}
 use Rattle.cmark_inline.specs.Doubled.{DropsBehind, nearest_of}
 use Rattle.cmark_inline.specs.Doubled as views
-use Rattle.cmark_inline.proofs.BracketSteps.{Takes, takes, TriesOne, Tries, tries, tried-placed, tried-standing, tried-rest, inactive-tried, TakesOne, EndBehind, IsCut, IsSplit, drops-split, standing-split, pairs-split, placed-cut, placed-lower, fresh-past, inactive-fewer, used-placed, inactive-used, used-pairs, doubled-used}
+use Rattle.cmark_inline.proofs.BracketSteps.{opening-up, Takes, takes, TriesOne, Tries, tries, tried-placed, tried-standing, tried-rest, inactive-tried, TakesOne, EndBehind, IsCut, IsSplit, drops-split, standing-split, pairs-split, placed-cut, placed-lower, fresh-past, inactive-fewer, used-placed, inactive-used, used-pairs, doubled-used}
 
 -- ## What is changed of each of them
 
@@ -293,27 +293,48 @@ took wikilinks place at os bs st new db h u = go (nearest os) (takes place at os
 
 -- ## A doubled bracket is tried
 
+-- the first bracket of the doubled one that is tried is this one of the grammar
+pub record IsTried (place : ℕ → ℕ) (at : ℕ) (bs : List Bracket) (t : Taken) (nearest : Option (Bracket × Bool)) : Type 0 where
+  pub bracket : Bracket
+  pub inner : ℕ
+  pub there : drop t.nearer bs ≡ bracket ∷ drop (suc t.nearer) bs
+  pub placed : IsPlaced place t.opener bracket
+  pub before : inner + 1 ≤ at
+  pub meets : place inner ≡ t.opener.bracket.end
+  pub next : place (inner + 1) ≡ suc (place inner)
+  pub is : nearest ≡ Some (record bracket { inside = inner + 1 }, not t.opener.is_inactive)
+
+abbrev pub TriedAs : (place : ℕ → ℕ) → (at : ℕ) → List Bracket → Option Taken → Option (Bracket × Bool) → Type 0
+TriedAs place at bs None nearest = nearest ≡ None
+TriedAs place at bs (Some t) nearest = IsTried place at bs t nearest
+
 abbrev pub tried_by : Option Taken → List Opener → List Opener
 tried_by None os = os
 tried_by (Some t) os = tried t.nearer os
 
 pub tried-one : (place : ℕ → ℕ) (at : ℕ) (os : List Opener) (bs : List Bracket) (st db new : Brackets) → StandFor true place at os bs st db → UsesUp db new
-    → StandFor true place at (tried_by (doubled os) os) bs st new × TriedAs place bs (doubled os) (views.nearest db)
+    → StandFor true place at (tried_by (doubled os) os) bs st new × TriedAs place at bs (doubled os) (views.nearest db)
 tried-one place at [] [] st db new h u =
     let d = h.doubled_are refl in
     let r = none-taken db new d.are (subst (λ l. db.shut ≤ length l) (sym d.are) d.few) u in
     (record { placed = h.placed; standing_are = h.standing_are; inactive = h.inactive; doubled_are = λ e. r.0; doubled_inactive = λ e. tt }, r.1)
 tried-one place at [] (b ∷ bs) st db new h u = absurd h.placed
 tried-one place at (o ∷ os) [] st db new h u = absurd h.placed
-tried-one place at (o ∷ os) (b ∷ bs) st db new h u = go (doubled_behind o os) (tries place b.start o b os bs db.shut h.placed.0 h.placed.2 (h.doubled_inactive refl))
+tried-one place at (o ∷ os) (b ∷ bs) st db new h u = go (doubled_behind o os) (tries place b.start at o b os bs db.shut h.placed.0 h.placed.2 (h.doubled_inactive refl) h.placed.1 begun)
   where
+    begun : b.start ≤ at
+    begun =
+        let w = h.placed.1 in
+        let up : b.start < b.inside = subst (λ m. b.start < m) (sym h.placed.0.in_text) (opening-up b.is_image b.start) in
+        omega (arith, w, up)
+
     d : Holds db (pairs_behind o b.inside os bs)
     d = h.doubled_are refl
 
     few : db.shut ≤ length db.standing.items
     few = subst (λ l. db.shut ≤ length l) (sym d.are) d.few
 
-    go : (t : Option Taken) → Tries place o b.inside os bs db.shut t → StandFor true place at (tried_by t (o ∷ os)) (b ∷ bs) st new × TriedAs place (b ∷ bs) t (views.nearest db)
+    go : (t : Option Taken) → Tries place at o b.inside os bs db.shut t → StandFor true place at (tried_by t (o ∷ os)) (b ∷ bs) st new × TriedAs place at (b ∷ bs) t (views.nearest db)
     go None i =
         let r = none-taken db new (d.are ∙ i) few u in
         let n : length (pairs_behind o b.inside os bs) ≡ 0 = ap length i in
@@ -346,11 +367,48 @@ tried-one place at (o ∷ os) (b ∷ bs) st db new h u = go (doubled_behind o os
             inner = i.inner;
             there = ap (λ n. drop n (b ∷ bs)) i.nearer_is ∙ i.there ∙ ap (λ n. i.bracket ∷ drop n bs) (sym i.nearer_is);
             placed = i.placed;
+            before = i.before;
             meets = i.meets;
             next = i.next;
             is = r.2 ∙ ap (λ z. Some (entry, not z)) (sym i.inactive);
           },
         )
+
+-- the one that is tried, whatever is left then
+pub tried-as : (place : ℕ → ℕ) (at : ℕ) (os : List Opener) (bs : List Bracket) (st db : Brackets) → StandFor true place at os bs st db → TriedAs place at bs (doubled os) (views.nearest db)
+tried-as place at [] [] st db h = ap (λ l. nearest_of (slice_get l (length l - 1)) (nat_lt db.shut (length l))) (h.doubled_are refl).are
+tried-as place at [] (b ∷ bs) st db h = absurd h.placed
+tried-as place at (o ∷ os) [] st db h = absurd h.placed
+tried-as place at (o ∷ os) (b ∷ bs) st db h = go (doubled_behind o os) (tries place b.start at o b os bs db.shut h.placed.0 h.placed.2 (h.doubled_inactive refl) h.placed.1 begun)
+  where
+    begun : b.start ≤ at
+    begun =
+        let w = h.placed.1 in
+        let up : b.start < b.inside = subst (λ m. b.start < m) (sym h.placed.0.in_text) (opening-up b.is_image b.start) in
+        omega (arith, w, up)
+
+    d : Holds db (pairs_behind o b.inside os bs)
+    d = h.doubled_are refl
+
+    go : (t : Option Taken) → Tries place at o b.inside os bs db.shut t → TriedAs place at (b ∷ bs) t (views.nearest db)
+    go None i = ap (λ l. nearest_of (slice_get l (length l - 1)) (nat_lt db.shut (length l))) (d.are ∙ i)
+    go (Some t) i =
+        let kept : List Bracket = pairs_behind o b.inside (tried i.more os) bs in
+        let entry : Bracket = record i.bracket { inside = i.inner + 1 } in
+        let e = d.are ∙ i.pairs in
+        record {
+          bracket = i.bracket;
+          inner = i.inner;
+          there = ap (λ n. drop n (b ∷ bs)) i.nearer_is ∙ i.there ∙ ap (λ n. i.bracket ∷ drop n bs) (sym i.nearer_is);
+          placed = i.placed;
+          before = i.before;
+          meets = i.meets;
+          next = i.next;
+          is = ap (λ l. nearest_of (slice_get l (length l - 1)) (nat_lt db.shut (length l))) e
+              ∙ ap (λ o. nearest_of o (nat_lt db.shut (length (kept ++ (entry ∷ []))))) (get-last kept entry)
+              ∙ ap (λ z. Some (entry, z)) (active entry.is_image db.shut (length kept) (length (kept ++ (entry ∷ []))) (grown entry kept))
+              ∙ ap (λ z. Some (entry, not z)) (sym i.inactive);
+        }
 
 -- ## Something is formed
 

@@ -116,6 +116,10 @@ inactive-used (o ∷ os) (b ∷ bs) shut h = go o.stands refl (inactive-used os 
     go true e i = ((λ f. absurd (true≢false (sym f))), h.1)
     go false e i = ((λ f. absurd (true≢false (sym f ∙ e))), i)
 
+pub opening-up : (z : Bool) (start : ℕ) → start < past_opening z start
+opening-up true start = omega arith
+opening-up false start = omega arith
+
 -- ## The doubled ones
 
 -- they touch by their brackets
@@ -184,22 +188,23 @@ doubled-used shut (o ∷ os) (b ∷ bs) h = go o.stands
     go false = inactive_used_behind shut o b.inside os bs h
 
 -- the doubled one that is tried: its first bracket, with another one directly behind it
-pub record TriesOne (place : ℕ → ℕ) (second : Opener) (inside : ℕ) (os : List Opener) (bs : List Bracket) (shut : ℕ) (t : Taken) : Type 0 where
+pub record TriesOne (place : ℕ → ℕ) (most : ℕ) (second : Opener) (inside : ℕ) (os : List Opener) (bs : List Bracket) (shut : ℕ) (t : Taken) : Type 0 where
   pub more : ℕ
   pub nearer_is : t.nearer ≡ suc more
   pub bracket : Bracket
   pub inner : ℕ
   pub there : drop more bs ≡ bracket ∷ drop (suc more) bs
   pub placed : IsPlaced place t.opener bracket
+  pub before : inner + 1 ≤ most
   pub meets : place inner ≡ t.opener.bracket.end
   pub next : place (inner + 1) ≡ suc (place inner)
   pub pairs : pairs_behind second inside os bs ≡ pairs_behind second inside (tried more os) bs ++ (record bracket { inside = inner + 1 } ∷ [])
   pub inactive : t.opener.is_inactive ≡ (not bracket.is_image && nat_lt (length (pairs_behind second inside (tried more os) bs)) shut)
   pub left : PairsInactive shut second inside (tried more os) bs
 
-abbrev pub Tries : (place : ℕ → ℕ) → (second : Opener) → (inside : ℕ) → (os : List Opener) → (bs : List Bracket) → (shut : ℕ) → Option Taken → Type 0
-Tries place second inside os bs shut None = pairs_behind second inside os bs ≡ []
-Tries place second inside os bs shut (Some t) = TriesOne place second inside os bs shut t
+abbrev pub Tries : (place : ℕ → ℕ) → (most : ℕ) → (second : Opener) → (inside : ℕ) → (os : List Opener) → (bs : List Bracket) → (shut : ℕ) → Option Taken → Type 0
+Tries place most second inside os bs shut None = pairs_behind second inside os bs ≡ []
+Tries place most second inside os bs shut (Some t) = TriesOne place most second inside os bs shut t
 
 and-left : (a b : Bool) → (a && b) ≡ true → a ≡ true
 and-left true b e = refl
@@ -213,12 +218,15 @@ not-true : (a : Bool) → not a ≡ true → a ≡ false
 not-true true e = absurd (true≢false (sym e))
 not-true false e = refl
 
-pub tries : (place : ℕ → ℕ) (at : ℕ) (second : Opener) (inner : Bracket) (os : List Opener) (bs : List Bracket) (shut : ℕ) → IsPlaced place second inner → ArePlaced place at os bs → PairsInactive shut second inner.inside os bs
-    → Tries place second inner.inside os bs shut (doubled_behind second os)
-tries place at second inner [] [] shut p h k = refl
-tries place at second inner [] (b ∷ bs) shut p h k = refl
-tries place at second inner (o ∷ os) [] shut p h k = absurd h
-tries place at second inner (o ∷ os) (b ∷ bs) shut p h k = go (o.doubles && touches second o) refl (tries place b.start o b os bs shut h.0 h.2 k.1)
+pub tries : (place : ℕ → ℕ) (at most : ℕ) (second : Opener) (inner : Bracket) (os : List Opener) (bs : List Bracket) (shut : ℕ) → IsPlaced place second inner → ArePlaced place at os bs → PairsInactive shut second inner.inside os bs → inner.inside ≤ most → at ≤ most
+    → Tries place most second inner.inside os bs shut (doubled_behind second os)
+tries place at most second inner [] [] shut p h k low up = refl
+tries place at most second inner [] (b ∷ bs) shut p h k low up = refl
+tries place at most second inner (o ∷ os) [] shut p h k low up = absurd h
+tries place at most second inner (o ∷ os) (b ∷ bs) shut p h k low up =
+    let w = h.1 in
+    let further : b.start < b.inside = subst (λ m. b.start < m) (sym h.0.in_text) (opening-up b.is_image b.start) in
+    go (o.doubles && touches second o) refl (tries place b.start most o b os bs shut h.0 h.2 k.1 (let q : b.inside ≤ most = omega (arith, w, up) in q) (let q : b.start ≤ most = omega (arith, w, up, further) in q))
   where
     entry : Bracket
     entry = record b { inside = inner.inside }
@@ -226,7 +234,7 @@ tries place at second inner (o ∷ os) (b ∷ bs) shut p h k = go (o.doubles && 
     front : List Bracket → Bool → List Bracket
     front l z = with_last z entry l
 
-    later : (o.doubles && touches second o) ≡ false → (t : Option Taken) → Tries place o b.inside os bs shut t → Tries place second inner.inside (o ∷ os) (b ∷ bs) shut (one_nearer t)
+    later : (o.doubles && touches second o) ≡ false → (t : Option Taken) → Tries place most o b.inside os bs shut t → Tries place most second inner.inside (o ∷ os) (b ∷ bs) shut (one_nearer t)
     later e None i = ap (front (pairs_behind o b.inside os bs)) e ∙ i
     later e (Some t) i =
         let same : pairs_behind second inner.inside (tried (suc i.more) (o ∷ os)) (b ∷ bs) ≡ pairs_behind o b.inside (tried i.more os) bs = ap (front (pairs_behind o b.inside (tried i.more os) bs)) e in
@@ -237,6 +245,7 @@ tries place at second inner (o ∷ os) (b ∷ bs) shut p h k = go (o.doubles && 
           inner = i.inner;
           there = i.there;
           placed = i.placed;
+          before = i.before;
           meets = i.meets;
           next = i.next;
           pairs = ap (front (pairs_behind o b.inside os bs)) e ∙ i.pairs ∙ ap (λ l. l ++ (record i.bracket { inside = i.inner + 1 } ∷ [])) (sym same);
@@ -244,8 +253,8 @@ tries place at second inner (o ∷ os) (b ∷ bs) shut p h k = go (o.doubles && 
           left = ((λ f. absurd (true≢false (sym f ∙ e))), i.left);
         }
 
-    go : (z : Bool) → (o.doubles && touches second o) ≡ z → Tries place o b.inside os bs shut (doubled_behind o os)
-        → Tries place second inner.inside (o ∷ os) (b ∷ bs) shut (if z then Some (record { nearer = 1; opener = o }) else one_nearer (doubled_behind o os))
+    go : (z : Bool) → (o.doubles && touches second o) ≡ z → Tries place most o b.inside os bs shut (doubled_behind o os)
+        → Tries place most second inner.inside (o ∷ os) (b ∷ bs) shut (if z then Some (record { nearer = 1; opener = o }) else one_nearer (doubled_behind o os))
     go true e i =
         let t = and-right o.doubles (touches second o) e in
         let plain : second.bracket.is_image ≡ false = not-true second.bracket.is_image (and-left (not second.bracket.is_image) (second.bracket.start == o.bracket.end) t) in
@@ -260,6 +269,7 @@ tries place at second inner (o ∷ os) (b ∷ bs) shut p h k = go (o.doubles && 
           inner = inner.start;
           there = refl;
           placed = h.0;
+          before = subst (λ m. m ≤ most) last low;
           meets = meets;
           next = ap place (sym last) ∙ p.in_source ∙ ap (λ z. past_opening z (place inner.start)) image ∙ (let q : place inner.start + 1 ≡ suc (place inner.start) = omega arith in q);
           pairs = ap (front (pairs_behind o b.inside os bs)) e ∙ ap (λ l. l ++ (entry ∷ [])) (sym same) ∙ ap (λ n. pairs_behind second inner.inside (undoubled o ∷ os) (b ∷ bs) ++ (record b { inside = n } ∷ [])) last;
@@ -304,10 +314,6 @@ EndBehind place zero bs = Unit {0}
 EndBehind place (suc n) [] = Unit {0}
 EndBehind place (suc n) (b ∷ bs) = (place < b.inside) × EndBehind place n bs
 
-opening_up : (z : Bool) (start : ℕ) → start < past_opening z start
-opening_up true start = omega arith
-opening_up false start = omega arith
-
 pub record IsCut (place : ℕ → ℕ) (at : ℕ) (os : List Opener) (bs : List Bracket) (n : ℕ) (b : Bracket) (rest : List Bracket) : Type 0 where
   pub before : b.inside ≤ at
   pub further : b.start < b.inside
@@ -324,7 +330,7 @@ placed-cut place at n [] (c ∷ bs) b rest h e = absurd h
 placed-cut place at zero (o ∷ os) (c ∷ bs) b rest h e =
     let same : c ≡ b = head e in
     let more : bs ≡ rest = tail e in
-    let q : c.start < c.inside = subst (λ m. c.start < m) (sym h.0.in_text) (opening_up c.is_image c.start) in
+    let q : c.start < c.inside = subst (λ m. c.start < m) (sym h.0.in_text) (opening-up c.is_image c.start) in
     let i : IsCut place at (o ∷ os) (c ∷ bs) 0 c bs = record { before = h.1; further = q; ends = (q, tt); behind = h.2 } in
     subst (λ (l : List Bracket). IsCut place at (o ∷ os) (c ∷ bs) 0 b l) more (subst (λ (x : Bracket). IsCut place at (o ∷ os) (c ∷ bs) 0 x bs) same i)
   where
@@ -335,7 +341,7 @@ placed-cut place at zero (o ∷ os) (c ∷ bs) b rest h e =
     tail q = let z : bs ≡ rest = cc in z
 placed-cut place at (suc n) (o ∷ os) (c ∷ bs) b rest h e =
     let i = placed-cut place c.start n os bs b rest h.2 e in
-    let up : c.start < c.inside = subst (λ m. c.start < m) (sym h.0.in_text) (opening_up c.is_image c.start) in
+    let up : c.start < c.inside = subst (λ m. c.start < m) (sym h.0.in_text) (opening-up c.is_image c.start) in
     let x = i.before in let y = i.further in let w = h.1 in
     record {
       before = (let q : b.inside ≤ at = omega (arith, x, up, w) in q);
@@ -410,7 +416,7 @@ standing-up-to place at [] bs h = λ k d lt. absurd (omega (arith, lt))
 standing-up-to place at (o ∷ os) [] h = λ k d lt. absurd (omega (arith, lt))
 standing-up-to place at (o ∷ os) (b ∷ bs) h =
     let i = standing-up-to place b.start os bs h.2 in
-    let up : b.start < b.inside = subst (λ m. b.start < m) (sym h.0.in_text) (opening_up b.is_image b.start) in
+    let up : b.start < b.inside = subst (λ m. b.start < m) (sym h.0.in_text) (opening-up b.is_image b.start) in
     let w = h.1 in
     up_to_last at o.stands b (standing_of os bs) h.1 (λ k d lt. (let x = i k d lt in let q : (get_or (standing_of os bs) k d).inside ≤ at = omega (arith, x, up, w) in q))
 
@@ -418,7 +424,7 @@ pairs_up_to : (place : ℕ → ℕ) (at : ℕ) (second : Opener) (inside : ℕ) 
 pairs_up_to place at second inside [] bs le h = λ k d lt. absurd (omega (arith, lt))
 pairs_up_to place at second inside (o ∷ os) [] le h = λ k d lt. absurd (omega (arith, lt))
 pairs_up_to place at second inside (o ∷ os) (b ∷ bs) le h =
-    let up : b.start < b.inside = subst (λ m. b.start < m) (sym h.0.in_text) (opening_up b.is_image b.start) in
+    let up : b.start < b.inside = subst (λ m. b.start < m) (sym h.0.in_text) (opening-up b.is_image b.start) in
     let w = h.1 in
     up_to_last at (o.doubles && touches second o) (record b { inside = inside }) (pairs_behind o b.inside os bs) le
     (pairs_up_to place at o b.inside os bs h.1 (placed-lower place b.start at os bs (let q : b.start ≤ at = omega (arith, up, w) in q) h.2))
@@ -438,7 +444,7 @@ pub pairs-split : (place : ℕ → ℕ) (at n : ℕ) (os : List Opener) (bs : Li
 pairs-split place at zero [] bs e h = split_none at [] (λ k d lt. absurd (omega (arith, lt)))
 pairs-split place at zero (o ∷ os) [] e h = split_none at [] (λ k d lt. absurd (omega (arith, lt)))
 pairs-split place at zero (o ∷ os) (b ∷ bs) e h =
-    let up : b.start < b.inside = subst (λ m. b.start < m) (sym h.0.in_text) (opening_up b.is_image b.start) in
+    let up : b.start < b.inside = subst (λ m. b.start < m) (sym h.0.in_text) (opening-up b.is_image b.start) in
     let w = h.1 in
     split_none at (pairs_behind o b.inside os bs) (pairs_up_to place at o b.inside os bs h.1 (placed-lower place b.start at os bs (let q : b.start ≤ at = omega (arith, up, w) in q) h.2))
 pairs-split place at (suc n) [] bs e h = split_none at [] (λ k d lt. absurd (omega (arith, lt)))

@@ -31,3 +31,4 @@ pub mod DecisionSteps
 pub mod TargetSteps
 pub mod TargetMakes
 pub mod CloserSteps
+pub mod CloserMakes

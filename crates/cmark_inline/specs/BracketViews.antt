@@ -95,18 +95,3 @@ pub record IsTaken (place : ℕ → ℕ) (bs : List Bracket) (t : Taken) (taken 
 abbrev pub TakenAs : (place : ℕ → ℕ) → List Bracket → Option Taken → Option Bracket → Type 0
 TakenAs place bs None taken = taken ≡ None
 TakenAs place bs (Some t) taken = IsTaken place bs t taken
-
--- the first bracket of the doubled one that is tried is this one of the grammar
-pub record IsTried (place : ℕ → ℕ) (bs : List Bracket) (t : Taken) (nearest : Option (Bracket × Bool)) : Type 0 where
-  pub bracket : Bracket
-  pub inner : ℕ
-  pub there : drop t.nearer bs ≡ bracket ∷ drop (suc t.nearer) bs
-  pub placed : IsPlaced place t.opener bracket
-  pub meets : place inner ≡ t.opener.bracket.end
-  pub next : place (inner + 1) ≡ suc (place inner)
-  pub is : nearest ≡ Some (record bracket { inside = inner + 1 }, not t.opener.is_inactive)
-
-abbrev pub TriedAs : (place : ℕ → ℕ) → List Bracket → Option Taken → Option (Bracket × Bool) → Type 0
-TriedAs place bs None nearest = nearest ≡ None
-TriedAs place bs (Some t) nearest = IsTried place bs t nearest
-
