@@ -1,8 +1,8 @@
 -- What a closing bracket comes to, in the states of the code and of the grammar.
-use Rattle.std.specs.Prelude.{◌≡◌, ◌==◌, ◌≤◌, ℕ, suc, ◌+◌, ◌-◌, Bool, true, false, List, [], ◌∷◌, ◌++◌, drop, length, min, take, Option, Some, None}
+use Rattle.std.specs.Prelude.{◌≡◌, ◌==◌, ◌≤◌, ◌<◌, ℕ, suc, ◌+◌, ◌-◌, Bool, true, false, List, [], ◌∷◌, ◌++◌, drop, length, min, take, Option, Some, None}
 use Rattle.cmark_grammar.specs.Answers.{Lookup}
 use Rattle.cmark_grammar.specs.BracketDecisions.{decide}
-use Rattle.cmark_grammar.specs.BracketStates.{Opener, State, Result, StaysText, Forms, Outcome}
+use Rattle.cmark_grammar.specs.BracketStates.{Opener, State, opened, Result, StaysText, Forms, Outcome}
 use Rattle.cmark_grammar.specs.Items as items
 use Rattle.cmark_grammar.specs.LeafText.{Leaf}
 use Rattle.cmark_grammar.specs.Options.{Options}
@@ -11,7 +11,7 @@ use Rattle.cmark_items.specs.declared.definitions.RefDefs.{RefDefs}
 use Rattle.cmark_items.specs.declared.footnotes.FootnoteDefs.{FootnoteDefs}
 use Rattle.cmark_leaf_text.specs.declared.leaf_text.LeafText.{LeafText}
 use Rattle.cmark_text.specs.declared.text.CowStr.{CowStr}
-use Rattle.cmark_inline.specs.BracketViews.{StandFor, IsFresh, standing_of}
+use Rattle.cmark_inline.specs.BracketViews.{StandFor, IsFresh, past_opening, standing_of}
 use Rattle.cmark_inline.specs.Decided.{ReadsSame, IsCloser, Remembers, ComesTo, EndsWithin, TargetDecides}
 use Rattle.cmark_inline.specs.Doubled.{DropsBehind}
 use Rattle.cmark_inline.specs.Stands.{SameSpans}
@@ -116,6 +116,14 @@ pub record ShowsState (wikilinks : Bool) (text : List ℕ) (place : ℕ → ℕ)
   pub openers : StandFor wikilinks place at s.openers bs state.brackets state.doubled
   pub fresh : IsFresh at state.brackets.shut s.openers bs
   pub remembers : Remembers text place s state
+
+-- an opening bracket from this place of the text to that one is opened: it is the nearest
+abbrev pub OpensAs : (wikilinks is_image : Bool) → (text : List ℕ) → (at inside : ℕ) → (old new : InlineState) → Type 0
+OpensAs wikilinks is_image text at inside old new =
+    (place : ℕ → ℕ) (bracket : items.Bracket) (s : State) (bs : List Bracket)
+    → ((k : ℕ) → k < at → place k < place at) → ShowsState wikilinks text place at s bs old → bracket ≡ record { is_image = is_image; start = place at; end = place inside }
+    → inside ≡ past_opening is_image at → place inside ≡ past_opening is_image (place at)
+    → (b : Bracket) × (new.brackets.standing.items ≡ old.brackets.standing.items ++ (b ∷ [])) × ShowsState wikilinks text place inside (opened bracket s) (b ∷ bs) new
 
 -- the opening brackets that are left
 abbrev pub left_of : Result → List Bracket → List Bracket

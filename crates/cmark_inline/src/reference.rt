@@ -14,7 +14,7 @@ ghost use Rattle.cmark_grammar.specs.BracketStates.{Opener};
 ghost use Rattle.cmark_grammar.specs.OpenBrackets.{nearest, used_up};
 ghost use Rattle.cmark_inline.specs.Asking.{AsksOnce};
 ghost use Rattle.cmark_inline.specs.BracketViews.{StandFor, TakenAs};
-ghost use Rattle.cmark_inline.specs.Closers.{Closes, LeavesElement, LinksTaken};
+ghost use Rattle.cmark_inline.specs.Closers.{Closes, LeavesElement, LinksTaken, OpensAs};
 ghost use Rattle.cmark_inline.specs.Decided.{EndsWithin, TargetDecides, is_full};
 ghost use Rattle.cmark_inline.specs.declared.bracket.Bracket.{Bracket as Opening};
 ghost use Rattle.cmark_inline.specs.Doubled.{DropsBehind, doubles};
@@ -80,6 +80,7 @@ impl<'a> InlineState<'a> {
         ensures at { IfOk result (λ next. (next.pending ≡ inside) × (next.at ≡ inside)) }
         ensures doubles { OnOk result (self.new.doubled.standing.items ≡ doubles (shown_options options) self.old.brackets is_image here.at inside self.old.doubled.standing.items) }
         ensures puts { OnOk result (PutsBracket is_image here.pending here.at inside self.old self.new) }
+        ensures opens { OnOk result (OpensAs (shown_options options).wikilinks is_image text.now here.at inside self.old self.new) }
     {
         self.flush(text, here, here.at)?;
         let bracket = Bracket {
