@@ -104,8 +104,8 @@ module _ (options : Options) (lookup : Lookup) (references : RefDefs) (footnotes
       let b = i.before in
       let size = ap length same in
       let start : suc first.opener.bracket.end ≡ reads.place_of leaf (i.inner + 1 - 1) + 1 =
-          ap suc (sym i.meets) ∙ (let q : suc (place i.inner) ≡ place i.inner + 1 = omega arith in q)
-          ∙ ap (λ n. n + 1) (sym (ap (reads.place_of leaf) (let q : i.inner + 1 - 1 ≡ i.inner = omega arith in q) ∙ r.bytes i.inner (let q : i.inner < length (text_of leaf) = omega (arith, b, w, size) in q))) in
+      ap suc (sym i.meets) ∙ (let q : suc (place i.inner) ≡ place i.inner + 1 = omega arith in q)
+      ∙ ap (λ n. n + 1) (sym (ap (reads.place_of leaf) (let q : i.inner + 1 - 1 ≡ i.inner = omega arith in q) ∙ r.bytes i.inner (let q : i.inner < length (text_of leaf) = omega (arith, b, w, size) in q))) in
       let end : closer.start ≡ reads.place_of leaf close = c.start ∙ sym (r.bytes close (let q : close < length (text_of leaf) = omega (arith, w, size) in q)) in
       ap (λ l. slice l (suc first.opener.bracket.end) closer.start) r.source
       ∙ ap (λ n. slice (source_of leaf) n closer.start) start

@@ -69,8 +69,8 @@ module _ {F : Type 0} (R : F → BrokenLink → Option (CowStr × CowStr) → F 
         asked = s.asked;
         comes = (
           same s label_close s.asked t named.link_type reference.destination (or_empty reference.title) (normal_form named.label) expansion named.end named.past
-          (ap shown_link_type refers.1.0 ∙ sym shown) destination title refers.1.1
-          (left ∙ ap (λ l. (s.expansion - length l) - length (text_bytes t.parts.title)) destination ∙ ap (λ l. (s.expansion - length reference.destination) - length l) title) e.0 e.1 label,
+              (ap shown_link_type refers.1.0 ∙ sym shown) destination title refers.1.1
+              (left ∙ ap (λ l. (s.expansion - length l) - length (text_bytes t.parts.title)) destination ∙ ap (λ l. (s.expansion - length reference.destination) - length l) title) e.0 e.1 label,
           refers.0,
         );
       }
@@ -120,8 +120,8 @@ module _ {F : Type 0} (R : F → BrokenLink → Option (CowStr × CowStr) → F 
               Some answer,
               record { link = h.0.0; told = Some (parted d); question_is = this h.0.0 h.0.1; answer_is = refl; run = h.0.2 },
               same s label_close (asked (Some answer)) t (link.to_unknown named.link_type) answer.url answer.title (normal_form named.label) expansion named.end named.past
-              (h.1.0 ∙ ap link.to_unknown (sym shown)) url title h.1.1
-              (l ∙ ap (λ z. (s.expansion - length z) - length (text_bytes t.parts.title)) url ∙ ap (λ z. (s.expansion - length answer.url) - length z) title) p.0 p.1 label,
+                  (h.1.0 ∙ ap link.to_unknown (sym shown)) url title h.1.1
+                  (l ∙ ap (λ z. (s.expansion - length z) - length (text_bytes t.parts.title)) url ∙ ap (λ z. (s.expansion - length answer.url) - length z) title) p.0 p.1 label,
             );
           }
 

@@ -71,9 +71,9 @@ touch place at (o ∷ os) (b ∷ bs) st p f h second inside plain start order = 
         let n = length-append (standing_of os bs) (b ∷ []) in
         let few : nat_lt st.shut (length (standing_of os bs ++ (b ∷ []))) ≡ true = lt-ltb st.shut (length (standing_of os bs ++ (b ∷ []))) (let q : st.shut < length (standing_of os bs ++ (b ∷ [])) = omega (arith, low, n) in q) in
         let found : touching at st ≡ Some b = by_stack at st (standing_of os bs ++ (b ∷ [])) list
-            ∙ ap (λ z. if z then if_ends at (slice_get (standing_of os bs ++ (b ∷ [])) (length (standing_of os bs ++ (b ∷ [])) - 1)) else None) few
-            ∙ ap (if_ends at) (get-last (standing_of os bs) b)
-            ∙ ap (λ z. if z then Some b else None) e in
+        ∙ ap (λ z. if z then if_ends at (slice_get (standing_of os bs ++ (b ∷ [])) (length (standing_of os bs ++ (b ∷ [])) - 1)) else None) few
+        ∙ ap (if_ends at) (get-last (standing_of os bs) b)
+        ∙ ap (λ z. if z then Some b else None) e in
         ap (λ t. with_double t inside doubled) found ∙ sym (ap (λ z. with_last (z && touches second o) entry doubled) is.1 ∙ ap (λ z. with_last z entry doubled) (meets same))
     go false e =
         let n = eqb-false b.inside at e in
@@ -109,13 +109,16 @@ pub pushed : (wikilinks : Bool) (place : ℕ → ℕ) (at : ℕ) (os : List Open
     → new.standing.items ≡ st.standing.items ++ (b ∷ []) → new.shut ≡ st.shut
     → ndb.standing.items ≡ (if not b.is_image && wikilinks then with_double (touching at st) b.inside db.standing.items else db.standing.items) → ndb.shut ≡ db.shut
     → StandFor wikilinks place b.inside (new_opener bracket ∷ os) (b ∷ bs) new ndb × IsFresh b.inside new.shut (new_opener bracket ∷ os) (b ∷ bs)
-pushed wikilinks place at os bs st new db ndb bracket b h f p begins order are shut pairs shut2 = (record {
-  placed = (p, (let q : b.inside ≤ b.inside = omega arith in q), subst (λ n. ArePlaced place n os bs) (sym begins) h.placed);
-  standing_are = record { are = are ∙ ap (λ l. l ++ (b ∷ [])) h.standing_are.are; few = (let x = h.standing_are.few in let n = length-append (standing_of os bs) (b ∷ []) in let q : new.shut ≤ length (standing_of os bs ++ (b ∷ [])) = omega (arith, x, n, shut) in q) };
-  inactive = subst (λ n. AreInactive n (new_opener bracket ∷ os) (b ∷ bs)) (sym shut) ((λ e. active b.is_image (length (standing_of os bs)) st.shut h.standing_are.few), h.inactive);
-  doubled_are = λ e. (let d = h.doubled_are e in let w = with_pair e in record { are = w; few = subst (λ n. n ≤ length (pairs_behind (new_opener bracket) b.inside os bs)) (sym shut2) (grows e) });
-  doubled_inactive = λ e. subst (λ n. PairsInactive n (new_opener bracket) b.inside os bs) (sym shut2) (new_pair os bs db.shut h.placed h.inactive f h.standing_are.few (h.doubled_are e).few (h.doubled_inactive e));
-}, λ e. (refl, refl, subst (λ n. n ≤ length (standing_of os bs)) (sym shut) h.standing_are.few))
+pushed wikilinks place at os bs st new db ndb bracket b h f p begins order are shut pairs shut2 = (
+  record {
+    placed = (p, (let q : b.inside ≤ b.inside = omega arith in q), subst (λ n. ArePlaced place n os bs) (sym begins) h.placed);
+    standing_are = record { are = are ∙ ap (λ l. l ++ (b ∷ [])) h.standing_are.are; few = (let x = h.standing_are.few in let n = length-append (standing_of os bs) (b ∷ []) in let q : new.shut ≤ length (standing_of os bs ++ (b ∷ [])) = omega (arith, x, n, shut) in q) };
+    inactive = subst (λ n. AreInactive n (new_opener bracket ∷ os) (b ∷ bs)) (sym shut) ((λ e. active b.is_image (length (standing_of os bs)) st.shut h.standing_are.few), h.inactive);
+    doubled_are = λ e. (let d = h.doubled_are e in let w = with_pair e in record { are = w; few = subst (λ n. n ≤ length (pairs_behind (new_opener bracket) b.inside os bs)) (sym shut2) (grows e) });
+    doubled_inactive = λ e. subst (λ n. PairsInactive n (new_opener bracket) b.inside os bs) (sym shut2) (new_pair os bs db.shut h.placed h.inactive f h.standing_are.few (h.doubled_are e).few (h.doubled_inactive e));
+  },
+  λ e. (refl, refl, subst (λ n. n ≤ length (standing_of os bs)) (sym shut) h.standing_are.few),
+)
   where
     active : (image : Bool) (n shut : ℕ) → shut ≤ n → false ≡ (not image && nat_lt n shut)
     active true n shut le = refl
@@ -156,12 +159,15 @@ pushed wikilinks place at os bs st new db ndb bracket b h f p begins order are s
         → PairsInactive dshut (new_opener bracket) b.inside ps cs
     new_pair [] cs dshut pl k fr few dfew di = tt
     new_pair (x ∷ ps) [] dshut pl k fr few dfew di = tt
-    new_pair (x ∷ ps) (c ∷ cs) dshut pl k fr few dfew di = ((λ e.
-        (let t = and-right (not bracket.is_image) (bracket.start == x.bracket.end) (and-right x.doubles (touches (new_opener bracket) x) e) in
-        let same : place at ≡ place c.inside = sym start ∙ eqb-true bracket.start x.bracket.end t ∙ ap (λ (y : items.Bracket). y.end) pl.0.bracket in
-        let met : c.inside ≡ at = one c.inside pl.1 same in
-        let is = fr met in
-        k.0 is.0 ∙ sym (active c.is_image (length (standing_of ps cs)) st.shut is.2) ∙ active c.is_image (length (pairs_behind x c.inside ps cs)) dshut dfew)), di)
+    new_pair (x ∷ ps) (c ∷ cs) dshut pl k fr few dfew di = (
+      (λ e.
+          (let t = and-right (not bracket.is_image) (bracket.start == x.bracket.end) (and-right x.doubles (touches (new_opener bracket) x) e) in
+          let same : place at ≡ place c.inside = sym start ∙ eqb-true bracket.start x.bracket.end t ∙ ap (λ (y : items.Bracket). y.end) pl.0.bracket in
+          let met : c.inside ≡ at = one c.inside pl.1 same in
+          let is = fr met in
+          k.0 is.0 ∙ sym (active c.is_image (length (standing_of ps cs)) st.shut is.2) ∙ active c.is_image (length (pairs_behind x c.inside ps cs)) dshut dfew)),
+      di,
+    )
       where
         one : (n : ℕ) → n ≤ at → place at ≡ place n → n ≡ at
         one n le e = go (nat_lt n at) refl

@@ -74,9 +74,11 @@ module _ {F : Type 0} (R : F → BrokenLink → Option (CowStr × CowStr) → F 
       let e = inline-named lookup cell reader read text place (places footnotes reader read place r) r.lookup_is r.cell close closer c taken s t lend past shown in
       record {
         asked = s.asked;
-        comes = subst (λ (d : Decision). ComesTo R d (target_outcome reader read place taken closer (with_left old.expansion (option_map place old.shut_close) s.asked s) (Some t)) before before) (sym e)
-            (ap (λ n. target_outcome reader read place taken closer (with_left n (option_map place old.shut_close) s.asked s) (Some t)) (sym mem.expansion)
-            ∙ ap (λ l. target_outcome reader read place taken closer (with_left s.expansion l s.asked s) (Some t)) (sym mem.label), refl);
+        comes = subst (λ (d : Decision). ComesTo R d (target_outcome reader read place taken closer (with_left old.expansion (option_map place old.shut_close) s.asked s) (Some t)) before before) (sym e) (
+          ap (λ n. target_outcome reader read place taken closer (with_left n (option_map place old.shut_close) s.asked s) (Some t)) (sym mem.expansion)
+              ∙ ap (λ l. target_outcome reader read place taken closer (with_left s.expansion l s.asked s) (Some t)) (sym mem.label),
+          refl,
+        );
       }
 
   module _ (no_inline : None ≡ option_map (linked.inline_link lookup cell) (link_tail_in rest)) (before : bracket.inside ≤ close) where

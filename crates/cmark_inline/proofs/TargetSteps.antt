@@ -156,10 +156,10 @@ module _ (options : Options) (is_cell : Bool) (reader : Reader) (leaf : Leaf) (t
       let pos = closes.0 in
       let end = place_end a.end found.behind lend ending in
       let last : place a.end - 1 ≡ place (a.end - 1) =
-          (let n = next-of reader leaf text place p (a.end - 1) 93 (let q : a.end - 1 < length text = omega (arith, pos, lend) in q) closes.1 refl in
-          let m : a.end - 1 + 1 ≡ a.end = omega (arith, pos) in
-          let o : place a.end ≡ suc (place (a.end - 1)) = ap place (sym m) ∙ n in
-          omega (arith, o)) in
+      (let n = next-of reader leaf text place p (a.end - 1) 93 (let q : a.end - 1 < length text = omega (arith, pos, lend) in q) closes.1 refl in
+      let m : a.end - 1 + 1 ≡ a.end = omega (arith, pos) in
+      let o : place a.end ≡ suc (place (a.end - 1)) = ap place (sym m) ∙ n in
+      omega (arith, o)) in
       record {
         same = same_named (decisions.as_label reader leaf found.bytes) (as_label is_cell a.label.now) link.Reference (shown_link_type a.link_type) (decisions.place reader leaf found.behind) (place a.end) (decisions.place reader leaf found.behind) (place a.past)
             (record s { label_close = Some (decisions.place reader leaf found.behind - 1) })
@@ -190,17 +190,17 @@ module _ (options : Options) (is_cell : Bool) (reader : Reader) (leaf : Leaf) (t
           let h = at link.Shortcut rest lend shown in
           let form = ap (λ (x : Reference). x.form) shown in (
             same_named (decisions.as_label reader leaf label) (as_label is_cell a.label.now) link.Shortcut (shown_link_type a.link_type) closer.end (place a.end) closer.end (place a.past) s
-            (label_is label ∙ ap (λ (x : Reference). as_label is_cell x.label) (sym shown)) (sym form) (sym h.0)
-            (sym (sym (place_end a.past rest lpast (ap (λ (x : Reference). x.past) shown)) ∙ place_end (close + 1) rest (let w = c.within in let q : close + 1 ≤ length text = omega (arith, w) in q) refl ∙ sym closer_place))
-            ∙ ap (λ z. refers reader leaf (named place is_cell a) taken closer (with_label (if is_full z then Some (place (a.end - 1)) else s.label_close) s)) (sym form),
+                (label_is label ∙ ap (λ (x : Reference). as_label is_cell x.label) (sym shown)) (sym form) (sym h.0)
+                (sym (sym (place_end a.past rest lpast (ap (λ (x : Reference). x.past) shown)) ∙ place_end (close + 1) rest (let w = c.within in let q : close + 1 ≤ length text = omega (arith, w) in q) refl ∙ sym closer_place))
+                ∙ ap (λ z. refers reader leaf (named place is_cell a) taken closer (with_label (if is_full z then Some (place (a.end - 1)) else s.label_close) s)) (sym form),
             h.1,
           )
       go (Some more) shown =
           let h = at link.Collapsed more lend shown in
           let form = ap (λ (x : Reference). x.form) shown in (
             same_named (decisions.as_label reader leaf label) (as_label is_cell a.label.now) link.Collapsed (shown_link_type a.link_type) closer.end (place a.end) (decisions.place reader leaf more) (place a.past) s
-            (label_is label ∙ ap (λ (x : Reference). as_label is_cell x.label) (sym shown)) (sym form) (sym h.0) (place_end a.past more lpast (ap (λ (x : Reference). x.past) shown))
-            ∙ ap (λ z. refers reader leaf (named place is_cell a) taken closer (with_label (if is_full z then Some (place (a.end - 1)) else s.label_close) s)) (sym form),
+                (label_is label ∙ ap (λ (x : Reference). as_label is_cell x.label) (sym shown)) (sym form) (sym h.0) (place_end a.past more lpast (ap (λ (x : Reference). x.past) shown))
+                ∙ ap (λ z. refers reader leaf (named place is_cell a) taken closer (with_label (if is_full z then Some (place (a.end - 1)) else s.label_close) s)) (sym form),
             h.1,
           )
 
@@ -393,14 +393,14 @@ inline-named lookup is_cell reader leaf text place p looks cell close closer c t
         let behind = ap (λ (x : InlineLink). x.behind) e in
         let end : decisions.place reader leaf tail.behind ≡ place t.end = ap (decisions.place reader leaf) (sym behind) ∙ p.ends t.end lend in
         ap Settled (
-          ap (λ d. links reader leaf taken (record { link_type = link.Inline; destination = d; title = unescaped reader.lookup leaf.is_cell (title_lines (or_empty tail.title)); id = [] }) (decisions.place reader leaf tail.behind) (decisions.place reader leaf tail.behind) s)
-              (ap (λ l. unescaped l leaf.is_cell tail.destination) looks ∙ ap (λ z. unescaped lookup z tail.destination) cell ∙ sym destination)
-          ∙ ap (λ d. links reader leaf taken (record { link_type = link.Inline; destination = text_bytes t.parts.dest_url; title = d; id = [] }) (decisions.place reader leaf tail.behind) (decisions.place reader leaf tail.behind) s)
-              (ap (λ l. unescaped l leaf.is_cell (title_lines (or_empty tail.title))) looks ∙ ap (λ z. unescaped lookup z (title_lines (or_empty tail.title))) cell ∙ title_same tail.title ∙ sym title)
-          ∙ ap (λ d. links reader leaf taken (record { link_type = link.Inline; destination = text_bytes t.parts.dest_url; title = text_bytes t.parts.title; id = d }) (decisions.place reader leaf tail.behind) (decisions.place reader leaf tail.behind) s) (sym id)
-          ∙ ap (λ d. links reader leaf taken (record { link_type = d; destination = text_bytes t.parts.dest_url; title = text_bytes t.parts.title; id = text_bytes t.parts.id }) (decisions.place reader leaf tail.behind) (decisions.place reader leaf tail.behind) s) (sym form)
-          ∙ ap (λ n. links reader leaf taken (shown_parts t.parts) n n s) end
-          ∙ ap (λ n. links reader leaf taken (shown_parts t.parts) (place t.end) (place n) s) (sym past)
+        ap (λ d. links reader leaf taken (record { link_type = link.Inline; destination = d; title = unescaped reader.lookup leaf.is_cell (title_lines (or_empty tail.title)); id = [] }) (decisions.place reader leaf tail.behind) (decisions.place reader leaf tail.behind) s)
+        (ap (λ l. unescaped l leaf.is_cell tail.destination) looks ∙ ap (λ z. unescaped lookup z tail.destination) cell ∙ sym destination)
+        ∙ ap (λ d. links reader leaf taken (record { link_type = link.Inline; destination = text_bytes t.parts.dest_url; title = d; id = [] }) (decisions.place reader leaf tail.behind) (decisions.place reader leaf tail.behind) s)
+        (ap (λ l. unescaped l leaf.is_cell (title_lines (or_empty tail.title))) looks ∙ ap (λ z. unescaped lookup z (title_lines (or_empty tail.title))) cell ∙ title_same tail.title ∙ sym title)
+        ∙ ap (λ d. links reader leaf taken (record { link_type = link.Inline; destination = text_bytes t.parts.dest_url; title = text_bytes t.parts.title; id = d }) (decisions.place reader leaf tail.behind) (decisions.place reader leaf tail.behind) s) (sym id)
+        ∙ ap (λ d. links reader leaf taken (record { link_type = d; destination = text_bytes t.parts.dest_url; title = text_bytes t.parts.title; id = text_bytes t.parts.id }) (decisions.place reader leaf tail.behind) (decisions.place reader leaf tail.behind) s) (sym form)
+        ∙ ap (λ n. links reader leaf taken (shown_parts t.parts) n n s) end
+        ∙ ap (λ n. links reader leaf taken (shown_parts t.parts) (place t.end) (place n) s) (sym past)
         )
       where
         one : Some (shown_target text t) ≡ Some (linked.inline_link lookup is_cell tail) → shown_target text t ≡ linked.inline_link lookup is_cell tail
