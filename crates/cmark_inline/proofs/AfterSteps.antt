@@ -1,18 +1,18 @@
 -- What the opening brackets are behind a closing one, on the stacks and in the grammar.
 use Rattle.std.specs.Prelude.{if◌then◌else◌, nat_lt, not, ◌&&◌, ◌||◌, min, drop, map, slice_get, Option, Some, None}
-use Rattle.std.proofs.Common.{◌≡◌, ℕ, zero, suc, ◌+◌, ◌-◌, ◌<◌, ◌≤◌, ◌==◌, Bool, true, false, true≢false, List, [], ◌∷◌, ◌++◌, length, take, get_or, refl, sym, ap, subst, ◌∙◌, arith, length-append}
+use Rattle.std.proofs.Common.{◌≡◌, ℕ, zero, suc, ◌+◌, ◌-◌, ◌<◌, ◌≤◌, Bool, true, false, true≢false, List, [], ◌∷◌, ◌++◌, length, take, refl, sym, ap, subst, ◌∙◌, arith, length-append}
 use Rattle.std.proofs.lemmas.Bool.{ltb-true, ltb-false, lt-ltb}
 use Rattle.std.proofs.Math.Seq.{take-append_seam}
-use Rattle.cmark_grammar.specs.BracketStates.{Opener, new_opener}
+use Rattle.cmark_grammar.specs.BracketStates.{Opener}
 use Rattle.cmark_grammar.specs.Items as items
-use Rattle.cmark_grammar.specs.OpenBrackets.{Taken, nearest, doubled, doubled_behind, touches, undoubled, tried, used_up, inactive, behind_link, dropped}
+use Rattle.cmark_grammar.specs.OpenBrackets.{Taken, nearest, doubled, doubled_behind, touches, undoubled, tried, used_up, inactive, dropped}
 use Rattle.cmark_inline.specs.declared.bracket.Bracket.{Bracket}
 use Rattle.cmark_inline.specs.declared.bracket.Brackets.{Brackets}
 use Rattle.cmark_inline.specs.Closers.{UsesUp, Drops, Shuts, IsNone, NoneStand}
-use Rattle.cmark_inline.specs.BracketViews.{IsFresh, ArePlaced, IsPlaced, past_opening, with_last, standing_of, pairs_behind, pairs_of, AreInactive, PairsInactive, AreDoubledInactive, Holds, StandFor, IsTaken, TakenAs}
+use Rattle.cmark_inline.specs.BracketViews.{ArePlaced, IsPlaced, with_last, standing_of, pairs_behind, pairs_of, AreInactive, PairsInactive, AreDoubledInactive, Holds, StandFor, TakenAs}
 use Rattle.cmark_inline.specs.Doubled.{DropsBehind, nearest_of}
 use Rattle.cmark_inline.specs.Doubled as views
-use Rattle.cmark_inline.proofs.BracketSteps.{opening-up, Takes, takes, TriesOne, Tries, tries, tried-placed, tried-standing, tried-rest, inactive-tried, TakesOne, EndBehind, IsCut, IsSplit, drops-split, standing-split, pairs-split, placed-cut, placed-lower, fresh-past, inactive-fewer, used-placed, inactive-used, used-pairs, doubled-used}
+use Rattle.cmark_inline.proofs.BracketSteps.{opening-up, Takes, takes, Tries, tries, tried-placed, tried-standing, inactive-tried, drops-split, standing-split, pairs-split, placed-cut, placed-lower, inactive-fewer, used-placed, inactive-used, used-pairs, doubled-used}
 
 -- ## What is changed of each of them
 

@@ -1,13 +1,13 @@
 -- Opening brackets that a closing one takes or tries, on the stacks and in the grammar.
-use Rattle.std.specs.Prelude.{if◌then◌else◌, nat_lt, not, ◌&&◌, ◌||◌, min, drop, map, Option, Some, None}
-use Rattle.std.proofs.Common.{◌≡◌, ◌⊎◌, inl, inr, ℕ, zero, suc, ◌+◌, ◌-◌, ◌<◌, ◌≤◌, ◌==◌, Bool, true, false, true≢false, List, [], ◌∷◌, ◌++◌, length, take, get_or, refl, sym, ap, subst, ◌∙◌, arith, append_assoc, length-append}
+use Rattle.std.specs.Prelude.{if◌then◌else◌, nat_lt, not, ◌&&◌, min, drop, Option, Some, None}
+use Rattle.std.proofs.Common.{◌≡◌, ℕ, zero, suc, ◌+◌, ◌-◌, ◌<◌, ◌≤◌, ◌==◌, Bool, true, false, true≢false, List, [], ◌∷◌, ◌++◌, length, take, get_or, refl, sym, ap, subst, ◌∙◌, arith, append_assoc, length-append}
 use Rattle.std.proofs.lemmas.Bool.{ltb-true, ltb-false}
 use Rattle.std.proofs.Common.{eqb-true}
 use Rattle.std.proofs.Math.Seq.{take-append_seam}
 use Rattle.std.proofs.lemmas.List.{append-nil, get_or_append_left, get_or-append_right}
 use Rattle.cmark_grammar.specs.BracketStates.{Opener}
 use Rattle.cmark_grammar.specs.Items as items
-use Rattle.cmark_grammar.specs.OpenBrackets.{Taken, one_nearer, nearest, used_up, touches, doubled_behind, doubled, undoubled, tried, inactive, behind_link, dropped}
+use Rattle.cmark_grammar.specs.OpenBrackets.{Taken, one_nearer, nearest, used_up, touches, doubled_behind, undoubled, tried}
 use Rattle.cmark_inline.specs.declared.bracket.Bracket.{Bracket}
 use Rattle.cmark_inline.specs.BracketViews.{IsFresh, ArePlaced, IsPlaced, past_opening, with_last, standing_of, pairs_behind, pairs_of, AreInactive, PairsInactive, AreDoubledInactive}
 use Rattle.cmark_inline.specs.Doubled.{DropsBehind}

@@ -1,12 +1,12 @@
 -- A closing bracket comes to what the grammar says.
-use Rattle.std.specs.Prelude.{if◌then◌else◌, nat_lt, not, ◌&&◌, ◌||◌, drop, map, min, take, Option, Some, None, is_some, option_map, IfSome}
-use Rattle.std.proofs.Common.{◌≡◌, ℕ, suc, ◌+◌, ◌-◌, ◌<◌, ◌≤◌, ◌==◌, Bool, true, false, true≢false, List, [], ◌∷◌, ◌++◌, length, get_or, refl, sym, ap, subst, ◌∙◌, arith, eqb-true}
+use Rattle.std.specs.Prelude.{if◌then◌else◌, nat_lt, not, ◌&&◌, ◌||◌, drop, map, min, take, Option, Some, None, option_map, IfSome}
+use Rattle.std.proofs.Common.{◌≡◌, ℕ, suc, ◌+◌, ◌-◌, ◌<◌, ◌≤◌, ◌==◌, Bool, true, false, true≢false, List, [], ◌∷◌, length, get_or, refl, sym, ap, subst, ◌∙◌, arith, eqb-true}
 use Rattle.std.proofs.lemmas.Bool.{ltb-true, ltb-false, eq-eqb}
 use Rattle.std.proofs.lemmas.List.{get_or-drop, length-drop}
 use Rattle.cmark_grammar.specs.Answers.{Lookup}
 use Rattle.cmark_grammar.specs.BracketDecisions as decisions
 use Rattle.cmark_grammar.specs.BracketDecisions.{decide, taking, wikilink_or, with_taken, link_or, stays, links, forms, wikilink, name_in, is_there}
-use Rattle.cmark_grammar.specs.BracketStates.{Opener, State, StaysText, Forms, Outcome, Decision, Settled, Asks}
+use Rattle.cmark_grammar.specs.BracketStates.{Opener, State, Decision, Settled}
 use Rattle.cmark_grammar.specs.Items as items
 use Rattle.cmark_grammar.specs.Labels.{normal_form}
 use Rattle.cmark_grammar.specs.LeafText.{Leaf}
@@ -15,7 +15,6 @@ use Rattle.cmark_grammar.specs.LinkTails.{link_tail_in}
 use Rattle.cmark_grammar.specs.OpenBrackets.{Taken, nearest, used_up, doubled, tried, undoubled, inactive, dropped, behind_link}
 use Rattle.cmark_grammar.specs.Options.{Options}
 use Rattle.cmark_grammar.specs.Parts.{Footnote}
-use Rattle.cmark_grammar.specs.Questions.{Exchange}
 use Rattle.cmark_grammar.specs.Readers.{Reader}
 use Rattle.cmark_grammar.specs.Tokens.{slice}
 use Rattle.cmark_items.specs.declared.definitions.RefDefs.{RefDefs}
@@ -24,11 +23,11 @@ use Rattle.cmark_leaf_text.specs.Reads as reads
 use Rattle.cmark_leaf_text.specs.Reads.{text_of, source_of, is_cell_of}
 use Rattle.cmark_leaf_text.specs.declared.leaf_text.LeafText.{LeafText}
 use Rattle.cmark_text.specs.declared.text.CowStr.{CowStr}
-use Rattle.cmark_inline.specs.BracketViews.{ArePlaced, IsFresh, IsPlaced, IsTaken, StandFor, TakenAs, standing_of}
-use Rattle.cmark_inline.specs.Closers.{ClosesAs, Formed, FormsTarget, LeavesElement, LeavesFootnote, LeavesWikilink, LinksTaken, NoneStand, ShowsState, TriesDoubled, left_of}
+use Rattle.cmark_inline.specs.BracketViews.{IsFresh, IsPlaced, IsTaken, StandFor, TakenAs, standing_of}
+use Rattle.cmark_inline.specs.Closers.{ClosesAs, Formed, FormsTarget, LeavesElement, LeavesFootnote, LeavesWikilink, LinksTaken, NoneStand, ShowsState, TriesDoubled}
 use Rattle.cmark_inline.specs.Decided.{ArePlaces, ComesTo, EndsWithin, IsCloser, ReadsSame, Remembers, TargetDecides, target_outcome, with_left}
 use Rattle.cmark_inline.specs.Doubled as stacks
-use Rattle.cmark_inline.specs.Footnoted.{as_label, footnote_behind, footnote_of, forms_footnote, is_accepted}
+use Rattle.cmark_inline.specs.Footnoted.{footnote_of, forms_footnote}
 use Rattle.cmark_inline.specs.Stands.{IsBracket}
 use Rattle.cmark_inline.specs.Wikilinks.{forms_wikilink, is_wikilink, wiki_text}
 use Rattle.cmark_inline.specs.declared.bracket.Bracket.{Bracket}

@@ -1,6 +1,6 @@
 -- What a closing bracket comes to, by the calls for it.
 use Rattle.std.specs.Prelude.{if◌then◌else◌, not, ◌&&◌, option_map, Option, Some, None}
-use Rattle.std.proofs.Common.{◌≡◌, ◌<◌, ℕ, Bool, List, [], ◌∷◌, ◌++◌, refl, sym, ap, subst, ◌∙◌}
+use Rattle.std.proofs.Common.{◌≡◌, ℕ, Bool, List, [], ◌∷◌, ◌++◌, refl, sym, ap, subst, ◌∙◌}
 use Rattle.cmark_grammar.specs.Answers.{Lookup}
 use Rattle.cmark_grammar.specs.BracketStates.{new_opener}
 use Rattle.cmark_grammar.specs.Options.{Options}
@@ -8,7 +8,7 @@ use Rattle.cmark_items.specs.declared.definitions.RefDefs.{RefDefs}
 use Rattle.cmark_leaf_text.specs.declared.leaf_text.LeafText.{LeafText}
 use Rattle.cmark_text.specs.declared.text.CowStr.{CowStr}
 use Rattle.cmark_inline.specs.BracketViews.{IsFresh, IsPlaced, StandFor, past_opening}
-use Rattle.cmark_inline.specs.Closers.{FormsTarget, LinksBracket, LinksTaken, OpensAs}
+use Rattle.cmark_inline.specs.Closers.{FormsTarget, LinksTaken, OpensAs}
 use Rattle.cmark_inline.specs.Doubled.{touching, with_double}
 use Rattle.cmark_inline.proofs.OpenSteps.{pushed}
 use Rattle.cmark_inline.specs.Decided.{EndsWithin, TargetDecides}

@@ -1,10 +1,9 @@
 -- What a reference comes to, in the code and in the grammar.
-use Rattle.std.specs.Prelude.{if◌then◌else◌, not, ◌&&◌, ◌||◌, drop, Option, Some, None, is_some, option_map}
-use Rattle.std.proofs.Common.{◌≡◌, ℕ, zero, suc, ◌+◌, ◌-◌, ◌<◌, ◌≤◌, ◌==◌, Bool, true, false, true≢false, List, [], ◌∷◌, ◌++◌, length, get_or, refl, sym, ap, subst, ◌∙◌, arith}
+use Rattle.std.specs.Prelude.{if◌then◌else◌, Option, Some, None, option_map}
+use Rattle.std.proofs.Common.{◌≡◌, ℕ, ◌-◌, ◌==◌, true, false, List, [], ◌∷◌, ◌++◌, length, refl, sym, ap, subst, ◌∙◌}
 use Rattle.cmark_grammar.specs.Answers as given
 use Rattle.cmark_grammar.specs.BlockDocument as block
-use Rattle.cmark_grammar.specs.BracketDecisions as decisions
-use Rattle.cmark_grammar.specs.BracketDecisions.{Named, links, stays, leads, refers, defined_or_asked, ask, answered, with_answer, question, linked, or_empty}
+use Rattle.cmark_grammar.specs.BracketDecisions.{Named, links, stays, refers, defined_or_asked, answered, with_answer, question, linked, or_empty}
 use Rattle.cmark_grammar.specs.BracketStates.{State, Outcome, Decision, Settled, Asks}
 use Rattle.cmark_grammar.specs.Items as items
 use Rattle.cmark_grammar.specs.Labels.{fold, normal_form}
@@ -17,8 +16,8 @@ use Rattle.cmark_items.specs.declared.definitions.LinkDef.{LinkDef}
 use Rattle.cmark_text.specs.Shown.{shown_link_type, text_bytes}
 use Rattle.cmark_text.specs.declared.kind.LinkType.{LinkType}
 use Rattle.cmark_text.specs.declared.text.CowStr.{CowStr}
-use Rattle.cmark_inline.specs.Decided.{said, shown_question, shown_answer, AsksThis, ComesTo, shown_parts, target_outcome, with_left, LeadsTo}
-use Rattle.cmark_inline.specs.Linked.{Said, said_by, said_in, Refers, Answers, IsAnswered, IsDefined, IsQuestion, parted, left_behind}
+use Rattle.cmark_inline.specs.Decided.{said, shown_question, target_outcome, with_left, LeadsTo}
+use Rattle.cmark_inline.specs.Linked.{Said, said_by, said_in, Refers, Answers, IsAnswered, IsQuestion, parted, left_behind}
 use Rattle.cmark_inline.specs.declared.callback.BrokenLink.{BrokenLink}
 use Rattle.cmark_inline.specs.declared.link.Destination.{Destination}
 use Rattle.cmark_inline.specs.declared.link.Target.{Target}

@@ -1,9 +1,9 @@
 -- A label ends with its closing bracket.
 use Rattle.std.specs.Prelude.{if◌then◌else◌, not, ◌&&◌, ◌||◌, drop, Option, Some, None}
-use Rattle.std.proofs.Common.{◌≡◌, ℕ, zero, suc, ◌+◌, ◌-◌, ◌<◌, ◌≤◌, ◌==◌, Bool, true, false, true≢false, List, [], ◌∷◌, ◌++◌, length, take, get_or, refl, sym, ap, subst, ◌∙◌, arith, length-append, length-drop, eqb-true}
+use Rattle.std.proofs.Common.{◌≡◌, ℕ, ◌+◌, ◌-◌, ◌<◌, ◌≤◌, ◌==◌, Bool, true, false, true≢false, List, [], ◌∷◌, ◌++◌, length, get_or, refl, sym, ap, subst, ◌∙◌, arith, length-append, length-drop, eqb-true}
 use Rattle.std.proofs.lemmas.List.{get_or-drop, get_or-append_right}
-use Rattle.cmark_grammar.specs.Letters.{behind_if, and_then}
-use Rattle.cmark_grammar.specs.LinkDefinitions.{Found, put, escapes_next, up_to_byte, up_to, is_label, label_if, label_in}
+use Rattle.cmark_grammar.specs.Letters.{and_then}
+use Rattle.cmark_grammar.specs.LinkDefinitions.{Found, put, escapes_next, up_to, is_label, label_if, label_in}
 use Rattle.cmark_grammar.specs.LinkTails.{reference_label_in}
 
 -- these bytes stand before a closing bracket, and those behind it

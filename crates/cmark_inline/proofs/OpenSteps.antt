@@ -1,6 +1,6 @@
 -- An opening bracket that comes onto the stacks.
-use Rattle.std.specs.Prelude.{if◌then◌else◌, nat_lt, not, ◌&&◌, ◌-◌, slice_get, Option, Some, None}
-use Rattle.std.proofs.Common.{◌≡◌, ◌⊎◌, inl, inr, ◌≢◌, ℕ, suc, ◌+◌, ◌<◌, ◌≤◌, ◌==◌, Bool, true, false, true≢false, List, [], ◌∷◌, ◌++◌, length, get_or, refl, sym, ap, subst, ◌∙◌, arith, length-append, eqb-true}
+use Rattle.std.specs.Prelude.{if◌then◌else◌, nat_lt, not, ◌&&◌, ◌-◌, slice_get, Some, None}
+use Rattle.std.proofs.Common.{◌≡◌, ◌⊎◌, inl, inr, ℕ, ◌<◌, ◌≤◌, ◌==◌, Bool, true, false, List, [], ◌∷◌, ◌++◌, length, get_or, refl, sym, ap, subst, ◌∙◌, arith, length-append, eqb-true}
 use Rattle.std.proofs.lemmas.Option.{slice_get_cases}
 use Rattle.std.proofs.lemmas.Bool.{ltb-true, ltb-false, lt-ltb, eq-eqb, ne_eqb, eqb-false}
 use Rattle.cmark_grammar.specs.BracketStates.{Opener, new_opener}
@@ -8,7 +8,7 @@ use Rattle.cmark_grammar.specs.Items as items
 use Rattle.cmark_grammar.specs.OpenBrackets.{touches}
 use Rattle.cmark_inline.specs.declared.bracket.Bracket.{Bracket}
 use Rattle.cmark_inline.specs.declared.bracket.Brackets.{Brackets}
-use Rattle.cmark_inline.specs.BracketViews.{IsFresh, ArePlaced, IsPlaced, past_opening, with_last, standing_of, pairs_behind, pairs_of, AreInactive, PairsInactive, AreDoubledInactive, Holds, StandFor}
+use Rattle.cmark_inline.specs.BracketViews.{IsFresh, ArePlaced, IsPlaced, with_last, standing_of, pairs_behind, pairs_of, AreInactive, PairsInactive, AreDoubledInactive, Holds, StandFor}
 use Rattle.cmark_inline.specs.Doubled.{touching, with_double, if_ends}
 use Rattle.cmark_inline.proofs.BracketSteps.{standing-up-to, AllUpTo, and-right}
 use Rattle.cmark_inline.proofs.AfterSteps.{get-last}

@@ -1,10 +1,10 @@
 -- The target that a closing bracket forms is the one that the grammar says.
-use Rattle.std.specs.Prelude.{if◌then◌else◌, drop, Option, Some, None, is_some, option_map}
-use Rattle.std.proofs.Common.{◌≡◌, ℕ, suc, ◌+◌, ◌-◌, ◌<◌, ◌≤◌, ◌==◌, Bool, true, false, List, length, refl, sym, ap, subst, ◌∙◌, arith, add-one}
+use Rattle.std.specs.Prelude.{if◌then◌else◌, drop, Option, Some, None, option_map}
+use Rattle.std.proofs.Common.{◌≡◌, ℕ, suc, ◌+◌, ◌-◌, ◌<◌, ◌≤◌, ◌==◌, Bool, true, false, List, length, refl, sym, ap, subst, ◌∙◌, arith}
 use Rattle.cmark_grammar.specs.Answers.{Lookup}
 use Rattle.cmark_grammar.specs.BracketDecisions as decisions
 use Rattle.cmark_grammar.specs.BracketDecisions.{is_there, link_or, reference_or, stays, unless_footnote}
-use Rattle.cmark_grammar.specs.BracketStates.{State, Decision, Settled}
+use Rattle.cmark_grammar.specs.BracketStates.{State, Decision}
 use Rattle.cmark_grammar.specs.Items as items
 use Rattle.cmark_grammar.specs.Labels.{fold, normal_form}
 use Rattle.cmark_grammar.specs.LeafText.{Leaf}
@@ -22,7 +22,7 @@ use Rattle.cmark_text.specs.Shown.{shown_link_type}
 use Rattle.cmark_text.specs.declared.text.CowStr.{CowStr}
 use Rattle.cmark_inline.specs.BracketViews.{IsPlaced, past_opening}
 use Rattle.cmark_inline.specs.Decided.{ArePlaces, ReadsSame, IsCloser, EndsWithin, Remembers, ComesTo, is_full, target_outcome, with_left, LeadsTo, TargetDecides}
-use Rattle.cmark_inline.specs.Footnoted.{as_label, footnote_behind, footnote_of, forms_footnote}
+use Rattle.cmark_inline.specs.Footnoted.{as_label}
 use Rattle.cmark_inline.specs.Linked as linked
 use Rattle.cmark_inline.specs.Linked.{Refers, left_behind, reference_behind, shown_asked, shown_target}
 use Rattle.cmark_inline.specs.declared.bracket.Bracket.{Bracket}
@@ -31,7 +31,7 @@ use Rattle.cmark_inline.specs.declared.link.Asked.{Asked}
 use Rattle.cmark_inline.specs.declared.link.Target.{Target}
 use Rattle.cmark_inline.specs.declared.state.InlineState.{InlineState}
 use Rattle.cmark_inline.proofs.DecisionSteps.{refers-spent, refers-led, stays-settled}
-use Rattle.cmark_inline.proofs.TargetSteps.{IsNamed, EndsSo, asked-named, asked-none, behind-is, inline-named, label_behind, named, next-of, there-same, with_label}
+use Rattle.cmark_inline.proofs.TargetSteps.{asked-named, asked-none, behind-is, inline-named, label_behind, named, next-of, there-same, with_label}
 
 -- the same label behind a reference
 label_kept : (place : ℕ → ℕ) (a : Asked) (old new : Option ℕ) (label : Option ℕ) → label ≡ option_map place old → new ≡ (if is_full (shown_link_type a.link_type) then Some (a.end - 1) else old) → option_map place new ≡ label_behind place a label

@@ -1,11 +1,11 @@
 -- What a closing bracket comes to with the opening one that it takes, in the code and in the grammar.
 use Rattle.std.specs.Prelude.{if◌then◌else◌, nat_lt, not, ◌&&◌, ◌||◌, drop, take, map, Option, Some, None, is_some, option_map}
-use Rattle.std.proofs.Common.{◌≡◌, ℕ, zero, suc, ◌+◌, ◌-◌, ◌<◌, ◌≤◌, ◌==◌, Bool, true, false, true≢false, List, [], ◌∷◌, ◌++◌, length, get_or, refl, sym, ap, subst, ◌∙◌, arith, length-drop, eqb-true}
+use Rattle.std.proofs.Common.{◌≡◌, ℕ, suc, ◌+◌, ◌-◌, ◌<◌, ◌≤◌, ◌==◌, Bool, true, false, true≢false, List, [], ◌∷◌, length, get_or, refl, sym, ap, subst, ◌∙◌, arith, length-drop, eqb-true}
 use Rattle.std.proofs.lemmas.Bool.{eq-eqb, ne_eqb, eqb-false, ltb-true, ltb-false}
 use Rattle.cmark_grammar.specs.Answers.{Lookup}
 use Rattle.cmark_grammar.specs.BracketDecisions as decisions
 use Rattle.cmark_grammar.specs.BracketDecisions.{or_empty, is_there, link_or, reference_or, by_own_label, refers, footnote_reference, forms, stays, links, between, inline_link, Named}
-use Rattle.cmark_grammar.specs.BracketStates.{State, Outcome, Decision, Settled, Asks}
+use Rattle.cmark_grammar.specs.BracketStates.{State, Decision, Settled}
 use Rattle.cmark_grammar.specs.InlineTokens.{from}
 use Rattle.cmark_grammar.specs.Items as items
 use Rattle.cmark_grammar.specs.Labels.{fold, normal_form}
@@ -24,15 +24,13 @@ use Rattle.cmark_grammar.specs.Unescaped.{unescaped}
 use Rattle.cmark_items.specs.Footnotes.{footnote}
 use Rattle.cmark_items.specs.declared.footnotes.FootnoteDefs.{FootnoteDefs}
 use Rattle.cmark_text.specs.Shown.{shown_link_type, text_bytes}
-use Rattle.cmark_text.specs.declared.text.CowStr.{CowStr}
-use Rattle.cmark_inline.specs.Decided.{ArePlaces, IsCloser, EndsWithin, is_full, shown_parts, target_outcome, with_left}
-use Rattle.cmark_inline.specs.Footnoted.{labels, no_leaf, as_label, is_footnote_label, footnote_label, footnote_behind, footnote_of, unless_footnote, is_accepted, forms_footnote}
+use Rattle.cmark_inline.specs.Decided.{ArePlaces, IsCloser, EndsWithin, is_full, shown_parts, target_outcome}
+use Rattle.cmark_inline.specs.Footnoted.{labels, no_leaf, as_label, is_footnote_label, footnote_label, footnote_behind, unless_footnote, is_accepted, forms_footnote}
 use Rattle.cmark_inline.specs.Linked as linked
 use Rattle.cmark_inline.specs.Linked.{InlineLink, Reference, shown_target, shown_asked, reference_behind, full_or_own, collapsed_or_shortcut}
 use Rattle.cmark_inline.specs.BracketViews.{IsPlaced}
 use Rattle.cmark_inline.specs.declared.bracket.Bracket.{Bracket}
 use Rattle.cmark_inline.specs.declared.link.Asked.{Asked}
-use Rattle.cmark_inline.specs.declared.callback.BrokenLink.{BrokenLink}
 use Rattle.cmark_inline.specs.declared.link.Target.{Target}
 use Rattle.cmark_inline.proofs.LabelEnds.{label-ends}
 

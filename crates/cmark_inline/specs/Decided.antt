@@ -1,5 +1,5 @@
 -- What a decision about a closing bracket comes to, where a callback answers its question.
-use Rattle.std.specs.Prelude.{◌≡◌, ◌≤◌, ◌<◌, ℕ, suc, Bool, true, false, List, [], drop, length, get_or, Option, Some, None, is_some, option_map}
+use Rattle.std.specs.Prelude.{◌≡◌, ◌≤◌, ◌<◌, ℕ, suc, Bool, true, false, List, drop, length, get_or, Option, Some, None, is_some, option_map}
 use Rattle.cmark_grammar.specs.Answers as answers
 use Rattle.cmark_grammar.specs.Answers.{Lookup}
 use Rattle.cmark_grammar.specs.BlockDocument as block

@@ -1,5 +1,5 @@
-use Rattle.std.specs.Prelude.{Bool, false, Option, IfSome, Some, None, is_some}
-use Rattle.std.proofs.Common.{◌≡◌, ◌+◌, ◌<◌, ◌≤◌, ℕ, List, refl, sym, ap, subst, ◌∙◌, arith}
+use Rattle.std.specs.Prelude.{false, Option, IfSome, is_some}
+use Rattle.std.proofs.Common.{◌≡◌, ◌+◌, refl, sym, ap, subst, ◌∙◌}
 use Rattle.cmark_grammar.specs.BracketDecisions.{is_there}
 use Rattle.cmark_leaf_text.specs.Reads.{is_cell_of}
 use Rattle.cmark_text.specs.Shown.{shown_options}

@@ -1,8 +1,7 @@
-use Rattle.std.specs.Prelude.{if◌then◌else◌, Option, Some, None}
-use Rattle.std.proofs.Common.{◌≡◌, Bool, ℕ, List, sym, ap, subst, ◌∙◌, rules}
+use Rattle.std.specs.Prelude.{if◌then◌else◌, Some, None}
+use Rattle.std.proofs.Common.{◌≡◌, sym, ap, subst, ◌∙◌, rules}
 use Rattle.cmark_grammar.specs.OpenBrackets.{nearest}
 use Rattle.cmark_inline.specs.BracketViews.{TakenAs}
-use Rattle.cmark_inline.specs.declared.bracket.Bracket.{Bracket}
 use Rattle.cmark_inline.proofs.AfterSteps.{took, taken_if}
 use Rattle.cmark_inline.proofs.state.InlineState.take_bracket.Goals as goal
 

@@ -1,15 +1,9 @@
-use Rattle.std.specs.Prelude.{Option, IfSome, Some, None, option_map}
-use Rattle.std.proofs.Common.{◌≡◌, ◌==◌, ◌+◌, ◌-◌, ◌≤◌, ℕ, Bool, false, List, length, drop, refl, sym, ap, subst, ◌∙◌, arith}
+use Rattle.std.specs.Prelude.{Option, IfSome, option_map}
+use Rattle.std.proofs.Common.{◌≡◌, ◌+◌, drop, sym, ap, subst, ◌∙◌}
 use Rattle.std.proofs.lemmas.Bool.{ne_eqb}
-use Rattle.cmark_grammar.specs.BracketDecisions.{is_there}
-use Rattle.cmark_grammar.specs.Labels.{fold, normal_form}
-use Rattle.cmark_grammar.specs.LinkTails.{link_tail_in}
 use Rattle.cmark_grammar.specs.Tokens.{slice}
-use Rattle.cmark_items.specs.Definitions.{definition}
-use Rattle.cmark_leaf_text.specs.Reads.{is_cell_of, place_of}
 use Rattle.cmark_text.specs.Shown.{shown_options}
-use Rattle.cmark_inline.specs.Footnoted.{as_label}
-use Rattle.cmark_inline.specs.Linked.{Refers, inline_link, left_behind, reference_behind, shown_asked, shown_target}
+use Rattle.cmark_inline.specs.Linked.{left_behind, reference_behind, shown_asked, shown_target}
 use Rattle.cmark_inline.specs.Stands.{IsAsked, IsTarget}
 use Rattle.cmark_inline.specs.declared.link.Asked.{Asked}
 use Rattle.cmark_inline.specs.declared.link.Target.{Target}
