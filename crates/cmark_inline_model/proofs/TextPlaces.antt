@@ -1,9 +1,9 @@
 -- The places of a leaf's text: what stands from a place on are the bytes of the text from one on, and the places are in order.
 use Rattle.std.specs.Prelude.{◌-◌, get_or, drop}
-use Rattle.std.proofs.Common.{◌≡◌, ℕ, suc, ◌+◌, ◌<◌, ◌≤◌, true, List, [], ◌∷◌, length, refl, sym, ap, ◌∙◌, subst, arith, length-drop}
+use Rattle.std.proofs.Common.{◌≡◌, ℕ, suc, ◌<◌, ◌≤◌, true, List, [], ◌∷◌, length, refl, sym, ap, ◌∙◌, subst, arith, length-drop}
 use Rattle.std.proofs.Math.Seq.{drop-cons}
 use Rattle.cmark_grammar.specs.InlineTokens.{from, place_of}
-use Rattle.cmark_grammar.specs.LeafText.{Leaf, Stretch, bytes_from, size_of, place_with, InTurn}
+use Rattle.cmark_grammar.specs.LeafText.{Leaf, Stretch, size_of, place_with, InTurn}
 use Rattle.cmark_grammar.specs.Lines.{is_content}
 use Rattle.cmark_grammar.specs.Readers.{Reader}
 use Rattle.cmark_inline_model.specs.LeafModel.{HaveLineEnds}

@@ -191,5 +191,4 @@ pub fn no_answers_are_no_callback()
 /// bytes of the text from this one on.
 pub fn a_text_stands_in_its_places()
     ensures { (reader : Reader) (leaf : Leaf) (size : ℕ) → InTurn 0 leaf.stretches size → size ≤ length reader.source → HaveLineEnds reader.source leaf.stretches → ArePlaces reader leaf (text_of reader leaf) (place_in reader leaf) }
-{
-}
+{}
