@@ -1,6 +1,6 @@
 -- A closing bracket comes to what the grammar says.
 use Rattle.std.specs.Prelude.{if◌then◌else◌, nat_lt, not, ◌&&◌, ◌||◌, drop, map, min, take, Option, Some, None, option_map, IfSome}
-use Rattle.std.proofs.Common.{◌≡◌, ℕ, suc, ◌+◌, ◌-◌, ◌<◌, ◌≤◌, ◌==◌, Bool, true, false, true≢false, List, [], ◌∷◌, length, get_or, refl, sym, ap, subst, ◌∙◌, arith, eqb-true}
+use Rattle.std.proofs.Common.{◌≡◌, ◌++◌, ℕ, suc, ◌+◌, ◌-◌, ◌<◌, ◌≤◌, ◌==◌, Bool, true, false, true≢false, List, [], ◌∷◌, length, get_or, refl, sym, ap, subst, ◌∙◌, arith, eqb-true}
 use Rattle.std.proofs.lemmas.Bool.{ltb-true, ltb-false, eq-eqb}
 use Rattle.std.proofs.lemmas.List.{get_or-drop, length-drop}
 use Rattle.cmark_grammar.specs.Answers.{Lookup}
@@ -27,7 +27,7 @@ use Rattle.cmark_inline.specs.BracketViews.{IsFresh, IsPlaced, IsTaken, StandFor
 use Rattle.cmark_inline.specs.Closers.{ClosesAs, Formed, FormsTarget, LeavesElement, LeavesFootnote, LeavesWikilink, LinksTaken, NoneStand, ShowsState, TriesDoubled}
 use Rattle.cmark_inline.specs.Decided.{ArePlaces, ComesTo, EndsWithin, IsCloser, ReadsSame, Remembers, TargetDecides, target_outcome, with_left}
 use Rattle.cmark_inline.specs.Doubled as stacks
-use Rattle.cmark_inline.specs.Footnoted.{footnote_of, forms_footnote}
+use Rattle.cmark_inline.specs.Footnoted.{KeepsLabel, footnote_of, forms_footnote}
 use Rattle.cmark_inline.specs.Stands.{IsBracket}
 use Rattle.cmark_inline.specs.Wikilinks.{forms_wikilink, is_wikilink, wiki_text}
 use Rattle.cmark_inline.specs.declared.bracket.Bracket.{Bracket}
@@ -215,7 +215,7 @@ module _ (options : Options) (lookup : Lookup) (references : RefDefs) (footnotes
 
   module _ {F : Type 0} (R : F → BrokenLink → Option (CowStr × CowStr) → F → Type 0) (next : Cursor) (new : InlineState) (before after : F) where
     abbrev Goal : Type 0
-    Goal = ClosesAs R options.wikilinks text reader read place closer s bs next new before after
+    Goal = ClosesAs R options.wikilinks text reader read place closer s bs next old new before after
 
     -- the state of an outcome
     shown : (os2 : List Opener) (bs2 : List Bracket) (s2 : State) → s2.openers ≡ os2 → close < next.at → StandFor options.wikilinks place close os2 bs2 new.brackets new.doubled → Remembers text place s2 new
@@ -269,6 +269,7 @@ module _ (options : Options) (lookup : Lookup) (references : RefDefs) (footnotes
                   (wikilink-formed options.wikilinks place close close first.nearer os bs i.bracket mid.brackets mid.doubled h here i.there (record new.brackets { shut = min mid.brackets.shut (length new.brackets.standing.items) }) new.brackets new.doubled
                   (record { drops = leaving.drops; shut = refl }) (record { standing = refl; shut = leaving.shut }) leaving.none)
                   (record { expansion = m.expansion; label = m.label; within = m.within });
+              notes = tt;
             }
 
     -- the taken bracket is there, and forms what it can
@@ -290,8 +291,9 @@ module _ (options : Options) (lookup : Lookup) (references : RefDefs) (footnotes
 
     -- a footnote reference
     pub footnote-closes : (mid : InlineState) (taken : Option Bracket) → IsReady mid.brackets mid.doubled → TakenAs place bs tk taken → Remembers text place s mid → true ≡ forms_footnote options footnotes (footnote_of options (is_cell_of leaf) (is_there close mid.shut_close) text close taken)
-        → IfSome taken (λ b. b.inside ≤ close) → IfSome taken (λ b. LeavesFootnote b.start mid new) → Remembers text place s new → next.at ≡ close + 1 → next.pending ≡ next.at → after ≡ before → Goal
-    footnote-closes mid taken ready takes m0 formed up leaves m at pending same_callback = go taken refl tk refl
+        → IfSome taken (λ b. b.inside ≤ close) → IfSome taken (λ b. LeavesFootnote b.start mid new) → Remembers text place s new → next.at ≡ close + 1 → next.pending ≡ next.at → after ≡ before
+        → IfSome (footnote_of options (is_cell_of leaf) (is_there close mid.shut_close) text close taken) (λ label. KeepsLabel label mid.texts.items new.texts.items) → mid.texts ≡ old.texts → Goal
+    footnote-closes mid taken ready takes m0 formed up leaves m at pending same_callback keeps texts = go taken refl tk refl
       where
         lt : close < next.at
         lt = let q = at in omega (arith, q)
@@ -306,14 +308,15 @@ module _ (options : Options) (lookup : Lookup) (references : RefDefs) (footnotes
             let i = taken_is t taken b (subst (λ d. TakenAs place bs d taken) f takes) e in
             let le = subst (λ (o : Option Bracket). IfSome o (λ b. b.inside ≤ close)) e up in
             let leaving = subst (λ (o : Option Bracket). IfSome o (λ b. LeavesFootnote b.start mid new)) e leaves in
-            by i le leaving (note_of (Some b)) refl (formed ∙ ap (λ b. forms_footnote options footnotes (note_of b)) e)
+            by i le leaving (subst (λ (o : Option Bracket). IfSome (note_of o) (λ label. KeepsLabel label mid.texts.items new.texts.items)) e keeps) (note_of (Some b)) refl (formed ∙ ap (λ b. forms_footnote options footnotes (note_of b)) e)
           where
             s2 : State
             s2 = with_openers ready.openers s
 
-            by : (t.opener.is_inactive ≡ false) × (drop t.nearer bs ≡ b ∷ drop (suc t.nearer) bs) × IsPlaced place t.opener b → b.inside ≤ close → LeavesFootnote b.start mid new → (n : Option (List ℕ)) → note_of (Some b) ≡ n → true ≡ forms_footnote options footnotes n → Goal
-            by i le leaving None g h = absurd (true≢false h)
-            by i le leaving (Some note) g h =
+            by : (t.opener.is_inactive ≡ false) × (drop t.nearer bs ≡ b ∷ drop (suc t.nearer) bs) × IsPlaced place t.opener b → b.inside ≤ close → LeavesFootnote b.start mid new → IfSome (note_of (Some b)) (λ label. KeepsLabel label mid.texts.items new.texts.items) → (n : Option (List ℕ)) → note_of (Some b) ≡ n → true ≡ forms_footnote options footnotes n → Goal
+            by i le leaving kept None g h = absurd (true≢false h)
+            by i le leaving kept (Some note) g h =
+                let owned = subst (λ (o : Option (List ℕ)). IfSome o (λ label. KeepsLabel label mid.texts.items new.texts.items)) g kept in
                 let w = c.within in
                 let shut = there-same reader read text place p close closer.start mid.shut_close s.label_close (let q : close ≤ length text = omega (arith, w) in q) m0.within c.start m0.label in
                 record {
@@ -328,6 +331,7 @@ module _ (options : Options) (lookup : Lookup) (references : RefDefs) (footnotes
                   shows = shown (map dropped (drop (suc t.nearer) ready.openers)) (drop (suc t.nearer) bs) (forms reader read t (Footnote (normal_form note) closer.end) closer.end (map dropped) s2).after refl lt
                       (footnote-formed options.wikilinks place close close t.nearer ready.openers bs b mid.brackets mid.doubled ready.view here i.1 new.brackets new.doubled leaving.none leaving.drops)
                       (record { expansion = m.expansion; label = m.label; within = m.within });
+                  notes = (owned.0, owned.1, owned.2 ∙ ap (λ v. v.items ++ (owned.0 ∷ [])) texts);
                 }
 
     -- a link or an image, or nothing
@@ -341,8 +345,8 @@ module _ (options : Options) (lookup : Lookup) (references : RefDefs) (footnotes
 
     pub target-closes : (st between : InlineState) (b : Bracket) (taken : Option Bracket) (target : Target) → IsReady st.brackets st.doubled → TakenAs place bs tk taken → taken ≡ Some b → Remembers text place s st → between.brackets ≡ st.brackets → between.doubled ≡ st.doubled
         → TargetDecides R options lookup references leaf text b close st between (Some target) before after → false ≡ forms_footnote options footnotes (footnote_of options (is_cell_of leaf) (is_there close st.shut_close) text close taken)
-        → close < target.past → target.past ≤ length text → EndsWithin text between.shut_close → FormsTarget b target between new next → Goal
-    target-closes st between b taken target ready takes e m same_brackets same_doubled decides no_note lt within label formed = go tk refl
+        → close < target.past → target.past ≤ length text → EndsWithin text between.shut_close → FormsTarget b target between new next → between.links ≡ old.links → Goal
+    target-closes st between b taken target ready takes e m same_brackets same_doubled decides no_note lt within label formed table = go tk refl
       where
         s2 : State
         s2 = with_openers ready.openers s
@@ -368,13 +372,14 @@ module _ (options : Options) (lookup : Lookup) (references : RefDefs) (footnotes
                   (subst (λ (v : Brackets). StandFor options.wikilinks place close ready.openers bs v between.doubled) (sym same_brackets) (subst (λ (v : Brackets). StandFor options.wikilinks place close ready.openers bs st.brackets v) (sym same_doubled) ready.view))
                   i.1 (ready.none t f) formed.leaves))
                   (record { expansion = sym formed.expansion; label = ap (option_map place) (sym formed.label); within = subst (EndsWithin text) (sym formed.label) label });
+              notes = (target.parts, refl, formed.links ∙ ap (λ v. v.items ++ (target.parts ∷ [])) table);
             }
 
     -- a text
     pub text-closes : (st between : InlineState) (taken : Option Bracket) → IsReady st.brackets st.doubled → TakenAs place bs tk taken → Remembers text place s st → false ≡ forms_footnote options footnotes (footnote_of options (is_cell_of leaf) (is_there close st.shut_close) text close taken)
         → LinksTaken R options lookup references leaf text taken close st between None before after
-        → new.brackets ≡ between.brackets → new.doubled ≡ between.doubled → new.expansion ≡ between.expansion → new.shut_close ≡ between.shut_close → next.at ≡ close + 1 → next.pending ≡ next.at → Goal
-    text-closes st between taken ready takes m no_note links same_brackets same_doubled left label at pending = go taken refl links
+        → new.brackets ≡ between.brackets → new.doubled ≡ between.doubled → new.expansion ≡ between.expansion → new.shut_close ≡ between.shut_close → next.at ≡ close + 1 → next.pending ≡ next.at → new.links ≡ between.links → st.links ≡ old.links → Goal
+    text-closes st between taken ready takes m no_note links same_brackets same_doubled left label at pending table old_table = go taken refl links
       where
         s2 : State
         s2 = with_openers ready.openers s
@@ -405,6 +410,7 @@ module _ (options : Options) (lookup : Lookup) (references : RefDefs) (footnotes
                     label = m.label ∙ ap (option_map place) (sym (label ∙ ap (λ (x : InlineState). x.shut_close) same_state));
                     within = subst (EndsWithin text) (sym (label ∙ ap (λ (x : InlineState). x.shut_close) same_state)) m.within;
                   });
+              notes = table ∙ ap (λ (x : InlineState). x.links) same_state ∙ old_table;
             }
         go (Some b) e l = by l.target refl l.formed tk refl
           where
@@ -431,12 +437,13 @@ module _ (options : Options) (lookup : Lookup) (references : RefDefs) (footnotes
                         label = ap (option_map place) (sym (label ∙ ap (λ (x : InlineState). x.shut_close) same_state));
                         within = subst (EndsWithin text) (sym (label ∙ ap (λ (x : InlineState). x.shut_close) same_state)) (l.label m.within);
                       });
+                  notes = table ∙ ap (λ (x : InlineState). x.links) same_state ∙ l.table ∙ old_table;
                 }
 
     -- what `link` did
     pub linked-closes : (st : InlineState) (taken : Option Bracket) → IsReady st.brackets st.doubled → TakenAs place bs tk taken → Remembers text place s st → false ≡ forms_footnote options footnotes (footnote_of options (is_cell_of leaf) (is_there close st.shut_close) text close taken)
-        → LinksTaken R options lookup references leaf text taken close st new (Some next) before after → close < next.at → next.at ≤ length text → Goal
-    linked-closes st taken ready takes m no_note links lt within = go taken refl links
+        → LinksTaken R options lookup references leaf text taken close st new (Some next) before after → close < next.at → next.at ≤ length text → st.links ≡ old.links → Goal
+    linked-closes st taken ready takes m no_note links lt within old_table = go taken refl links
       where
         go : (b : Option Bracket) → taken ≡ b → LinksTaken R options lookup references leaf text b close st new (Some next) before after → Goal
         go None e l = absurd (let q = l.0 in let z : ⊥ = cc in z)
@@ -448,7 +455,7 @@ module _ (options : Options) (lookup : Lookup) (references : RefDefs) (footnotes
                 let f = subst (λ t. Formed b t l.between new (Some next)) g formed in
                 let at = f.at in
                 target-closes st l.between b taken target ready takes e m l.same.brackets l.same.doubled (subst (λ (x : Option Target). TargetDecides R options lookup references leaf text b close st l.between x before after) g l.decides) no_note
-                (let q : close < target.past = omega (arith, lt, at) in q) (let q : target.past ≤ length text = omega (arith, within, at) in q) (l.label m.within) f
+                (let q : close < target.past = omega (arith, lt, at) in q) (let q : target.past ≤ length text = omega (arith, within, at) in q) (l.label m.within) f (l.table ∙ old_table)
 
   -- ## The calls on the way
 
@@ -456,6 +463,8 @@ module _ (options : Options) (lookup : Lookup) (references : RefDefs) (footnotes
   remembers-on st new m e f = record { expansion = m.expansion ∙ sym e; label = m.label ∙ ap (option_map place) (sym f); within = subst (EndsWithin text) (sym f) m.within }
 
   pub record IsStage (st : InlineState) (taken : Option Bracket) : Type 0 where
+    pub table : st.links ≡ old.links
+    pub texts : st.texts ≡ old.texts
     pub view : StandFor options.wikilinks place close os bs st.brackets st.doubled
     pub taken_as : TakenAs place bs tk taken
     pub remembers : Remembers text place s st
@@ -467,18 +476,24 @@ module _ (options : Options) (lookup : Lookup) (references : RefDefs) (footnotes
       let h : StandFor options.wikilinks place close s.openers bs flushed.brackets flushed.doubled = subst (λ (x : InlineState). StandFor options.wikilinks place close s.openers bs x.brackets x.doubled) (sym a) shows.openers in
       let t = takes options.wikilinks place s.openers bs h in
       record {
+        table = ap (λ (x : InlineState). x.links) b ∙ ap (λ (x : InlineState). x.links) a;
+        texts = ap (λ (x : InlineState). x.texts) b ∙ ap (λ (x : InlineState). x.texts) a;
         view = t.0;
         taken_as = t.1;
         remembers = remembers-on old took shows.remembers (ap (λ (x : InlineState). x.expansion) b ∙ ap (λ (x : InlineState). x.expansion) a) (ap (λ (x : InlineState). x.shut_close) b ∙ ap (λ (x : InlineState). x.shut_close) a);
       }
 
   pub record IsTriedStage (st : InlineState) (taken : Option Bracket) : Type 0 where
+    pub table : st.links ≡ old.links
+    pub texts : st.texts ≡ old.texts
     pub ready : IsReady st.brackets st.doubled
     pub taken_as : TakenAs place bs tk taken
     pub remembers : Remembers text place s st
 
   pub tried-stage : (took st : InlineState) (taken : Option Bracket) → IsStage took taken → st ≡ record took { doubled = st.doubled } → TriesDoubled tests took.doubled st.doubled → false ≡ forms_wikilink options leaf close took.doubled → IsTriedStage st taken
   tried-stage took st taken i a tries none = record {
+    table = ap (λ (x : InlineState). x.links) a ∙ i.table;
+    texts = ap (λ (x : InlineState). x.texts) a ∙ i.texts;
     ready = ready st.brackets took.doubled st.doubled (subst (λ (x : InlineState). StandFor options.wikilinks place close os bs x.brackets took.doubled) (sym a) i.view) tries none;
     taken_as = i.taken_as;
     remembers = remembers-on took st i.remembers (ap (λ (x : InlineState). x.expansion) a) (ap (λ (x : InlineState). x.shut_close) a);

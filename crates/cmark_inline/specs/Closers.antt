@@ -6,18 +6,21 @@ use Rattle.cmark_grammar.specs.BracketStates.{Opener, State, opened, Result, Sta
 use Rattle.cmark_grammar.specs.Items as items
 use Rattle.cmark_grammar.specs.LeafText.{Leaf}
 use Rattle.cmark_grammar.specs.Options.{Options}
+use Rattle.cmark_grammar.specs.Parts.{Linking, Footnote, Wiki}
 use Rattle.cmark_grammar.specs.Readers.{Reader}
 use Rattle.cmark_items.specs.declared.definitions.RefDefs.{RefDefs}
 use Rattle.cmark_items.specs.declared.footnotes.FootnoteDefs.{FootnoteDefs}
 use Rattle.cmark_leaf_text.specs.declared.leaf_text.LeafText.{LeafText}
+use Rattle.cmark_text.specs.Shown.{text_bytes}
 use Rattle.cmark_text.specs.declared.text.CowStr.{CowStr}
 use Rattle.cmark_inline.specs.BracketViews.{StandFor, IsFresh, past_opening, standing_of}
-use Rattle.cmark_inline.specs.Decided.{ReadsSame, IsCloser, Remembers, ComesTo, EndsWithin, TargetDecides}
+use Rattle.cmark_inline.specs.Decided.{ReadsSame, IsCloser, Remembers, ComesTo, EndsWithin, TargetDecides, shown_parts}
 use Rattle.cmark_inline.specs.Doubled.{DropsBehind}
 use Rattle.cmark_inline.specs.Stands.{SameSpans}
 use Rattle.cmark_inline.specs.declared.bracket.Bracket.{Bracket}
 use Rattle.cmark_inline.specs.declared.bracket.Brackets.{Brackets}
 use Rattle.cmark_inline.specs.declared.callback.BrokenLink.{BrokenLink}
+use Rattle.cmark_inline.specs.declared.link.LinkParts.{LinkParts}
 use Rattle.cmark_inline.specs.declared.link.Target.{Target}
 use Rattle.cmark_inline.specs.declared.state.InlineState.{InlineState}
 use Rattle.cmark_inline.specs.declared.step.Cursor.{Cursor}
@@ -103,6 +106,7 @@ pub record LinksBracket {F : Type 0} (R : F → BrokenLink → Option (CowStr ×
   pub decides : TargetDecides R options lookup references leaf text bracket close old between target before after
   pub same : SameSpans old between
   pub label : EndsWithin text old.shut_close → EndsWithin text between.shut_close
+  pub table : between.links ≡ old.links
   pub formed : Formed bracket target between new next
 
 abbrev pub LinksTaken : {F : Type 0} → (F → BrokenLink → Option (CowStr × CowStr) → F → Type 0) → Options → Lookup → RefDefs → LeafText → (text : List ℕ) → Option Bracket → (close : ℕ) → (old new : InlineState) → Option Cursor → (before after : F) → Type 0
@@ -130,17 +134,25 @@ abbrev pub left_of : Result → List Bracket → List Bracket
 left_of StaysText bs = bs
 left_of (Forms nearer formed) bs = drop (suc nearer) bs
 
+-- what is noted of it: the parts of a link or an image, or the label of a footnote reference
+abbrev pub Notes : Result → (old new : InlineState) → Type 0
+Notes (Forms nearer (Linking target)) old new = (parts : LinkParts) × (shown_parts parts ≡ target.linked) × (new.links.items ≡ old.links.items ++ (parts ∷ []))
+Notes (Forms nearer (Footnote label end)) old new = (text : CowStr) × (text_bytes text ≡ label) × (new.texts.items ≡ old.texts.items ++ (text ∷ []))
+Notes (Forms nearer (Wiki name display end)) old new = Unit {0}
+Notes StaysText old new = new.links ≡ old.links
+
 -- a closing bracket comes to what the grammar says for the answer that the callback gave, and asks what it says
 pub record ClosesAs {F : Type 0} (R : F → BrokenLink → Option (CowStr × CowStr) → F → Type 0) (wikilinks : Bool) (text : List ℕ) (reader : Reader) (read : Leaf) (place : ℕ → ℕ) (closer : items.Bracket) (s : State) (bs : List Bracket)
-    (next : Cursor) (new : InlineState) (before after : F) : Type 0 where
+    (next : Cursor) (old new : InlineState) (before after : F) : Type 0 where
   pub outcome : Outcome
   pub comes : ComesTo R (decide reader read s closer) outcome before after
   pub at : outcome.after.at ≡ place next.at
   pub pending : next.pending ≡ next.at
   pub shows : ShowsState wikilinks text place next.at outcome.after (left_of outcome.result bs) new
+  pub notes : Notes outcome.result old new
 
 abbrev pub Closes : {F : Type 0} → (F → BrokenLink → Option (CowStr × CowStr) → F → Type 0) → Options → Lookup → RefDefs → FootnoteDefs → LeafText → (text : List ℕ) → (at : ℕ) → (old new : InlineState) → (next : Cursor) → (before after : F) → Type 0
 Closes R options lookup references footnotes leaf text at old new next before after =
     (reader : Reader) (read : Leaf) (place : ℕ → ℕ) (closer : items.Bracket) (s : State) (bs : List Bracket)
     → ReadsSame options lookup references footnotes leaf reader read place → IsCloser text place at closer → ShowsState options.wikilinks text place at s bs old
-    → ClosesAs R options.wikilinks text reader read place closer s bs next new before after
+    → ClosesAs R options.wikilinks text reader read place closer s bs next old new before after

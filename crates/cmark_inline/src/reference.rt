@@ -214,6 +214,7 @@ impl<'a> InlineState<'a> {
         ensures asks { AsksOnce F.answers callback.old callback.new }
         ensures spent { self.old.expansion ≡ 0 → (callback.new ≡ callback.old) × (self.new.expansion ≡ 0) }
         ensures same { SameSpans self.old self.new }
+        ensures table { self.new.links ≡ self.old.links }
         ensures stands { Stands text.now close self.new }
         ensures target { IfOk result (λ found. IfSome found (IsTarget text.now close)) }
         ensures decides { IfOk result (λ found. TargetDecides F.answers (shown_options reader.now.options) (E.replacement reader.now.entities.now) reader.now.references.now leaf.now text.now bracket close self.old self.new found callback.old callback.new) }
@@ -263,6 +264,7 @@ impl<'a> InlineState<'a> {
             (place_of leaf.now start) (place_of leaf.now (asked.entry.end - 1) + 1) callback.old callback.new found) }
         ensures expansion { IfOk result (λ found. self.new.expansion ≡ left_behind self.old.expansion found) }
         ensures label { self.new.shut_close ≡ self.old.shut_close }
+        ensures table { self.new.links ≡ self.old.links }
         ensures same { SameSpans self.old self.new }
         ensures target { IfOk result (λ found. IfSome found (λ target. (target.end ≡ asked.entry.end) × (target.past ≡ asked.entry.past))) }
     {
@@ -292,6 +294,7 @@ impl<'a> InlineState<'a> {
         ensures past { result.past ≡ asked.entry.past }
         ensures expansion { self.new.expansion ≡ left_behind self.old.expansion (Some result) }
         ensures label { self.new.shut_close ≡ self.old.shut_close }
+        ensures table { self.new.links ≡ self.old.links }
         ensures same { SameSpans self.old self.new }
     {
         let Destination { dest_url, title } = found;
