@@ -25,7 +25,8 @@ use Rattle.cmark_leaf_text.specs.declared.leaf_text.LeafText.{LeafText}
 use Rattle.cmark_text.specs.declared.text.CowStr.{CowStr}
 use Rattle.cmark_inline.specs.BracketViews.{IsFresh, IsPlaced, IsTaken, StandFor, TakenAs, standing_of}
 use Rattle.cmark_inline.specs.Closers.{ClosesAs, Formed, FormsTarget, LeavesElement, LeavesFootnote, LeavesWikilink, LinksTaken, NoneStand, ShowsState, TriesDoubled}
-use Rattle.cmark_inline.specs.Decided.{ArePlaces, ComesTo, EndsWithin, IsCloser, ReadsSame, Remembers, TargetDecides, target_outcome, with_left}
+use Rattle.cmark_inline_model.specs.TextPlaces.{ArePlaces}
+use Rattle.cmark_inline.specs.Decided.{ComesTo, EndsWithin, IsCloser, ReadsSame, Remembers, TargetDecides, target_outcome, with_left}
 use Rattle.cmark_inline.specs.Doubled as stacks
 use Rattle.cmark_inline.specs.Footnoted.{KeepsLabel, footnote_of, forms_footnote}
 use Rattle.cmark_inline.specs.Stands.{IsBracket}

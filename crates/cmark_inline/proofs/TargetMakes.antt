@@ -21,7 +21,8 @@ use Rattle.cmark_leaf_text.specs.declared.leaf_text.LeafText.{LeafText}
 use Rattle.cmark_text.specs.Shown.{shown_link_type}
 use Rattle.cmark_text.specs.declared.text.CowStr.{CowStr}
 use Rattle.cmark_inline.specs.BracketViews.{IsPlaced, past_opening}
-use Rattle.cmark_inline.specs.Decided.{ArePlaces, ReadsSame, IsCloser, EndsWithin, Remembers, ComesTo, is_full, target_outcome, with_left, LeadsTo, TargetDecides}
+use Rattle.cmark_inline_model.specs.TextPlaces.{ArePlaces}
+use Rattle.cmark_inline.specs.Decided.{ReadsSame, IsCloser, EndsWithin, Remembers, ComesTo, is_full, target_outcome, with_left, LeadsTo, TargetDecides}
 use Rattle.cmark_inline.specs.Footnoted.{as_label}
 use Rattle.cmark_inline.specs.Linked as linked
 use Rattle.cmark_inline.specs.Linked.{Refers, left_behind, reference_behind, shown_asked, shown_target}

@@ -24,7 +24,8 @@ use Rattle.cmark_grammar.specs.Unescaped.{unescaped}
 use Rattle.cmark_items.specs.Footnotes.{footnote}
 use Rattle.cmark_items.specs.declared.footnotes.FootnoteDefs.{FootnoteDefs}
 use Rattle.cmark_text.specs.Shown.{shown_link_type, text_bytes}
-use Rattle.cmark_inline.specs.Decided.{ArePlaces, IsCloser, EndsWithin, is_full, shown_parts, target_outcome}
+use Rattle.cmark_inline_model.specs.TextPlaces.{ArePlaces}
+use Rattle.cmark_inline.specs.Decided.{IsCloser, EndsWithin, is_full, shown_parts, target_outcome}
 use Rattle.cmark_inline.specs.Footnoted.{labels, no_leaf, as_label, is_footnote_label, footnote_label, footnote_behind, unless_footnote, is_accepted, forms_footnote}
 use Rattle.cmark_inline.specs.Linked as linked
 use Rattle.cmark_inline.specs.Linked.{InlineLink, Reference, shown_target, shown_asked, reference_behind, full_or_own, collapsed_or_shortcut}

@@ -1,14 +1,12 @@
 -- What a decision about a closing bracket comes to, where a callback answers its question.
-use Rattle.std.specs.Prelude.{◌≡◌, ◌≤◌, ◌<◌, ℕ, suc, Bool, true, false, List, drop, length, get_or, Option, Some, None, is_some, option_map}
+use Rattle.std.specs.Prelude.{◌≡◌, ◌≤◌, ◌<◌, ℕ, suc, Bool, true, false, List, length, get_or, Option, Some, None, is_some, option_map}
 use Rattle.cmark_grammar.specs.Answers as answers
 use Rattle.cmark_grammar.specs.Answers.{Lookup}
 use Rattle.cmark_grammar.specs.BlockDocument as block
 use Rattle.cmark_grammar.specs.BracketDecisions.{behind, is_there, link_or, links, stays, or_empty}
 use Rattle.cmark_grammar.specs.BracketStates.{State, Outcome, Decision, Settled, Asks}
-use Rattle.cmark_grammar.specs.InlineTokens.{from, place_of}
 use Rattle.cmark_grammar.specs.Items as items
 use Rattle.cmark_grammar.specs.LeafText.{Leaf}
-use Rattle.cmark_grammar.specs.Lines.{is_content}
 use Rattle.cmark_grammar.specs.LinkTails.{link_tail_in}
 use Rattle.cmark_grammar.specs.LinkType as link
 use Rattle.cmark_grammar.specs.OpenBrackets.{Taken}
@@ -25,6 +23,7 @@ use Rattle.cmark_leaf_text.specs.Reads.{source_of, text_of, is_cell_of}
 use Rattle.cmark_leaf_text.specs.declared.leaf_text.LeafText.{LeafText}
 use Rattle.cmark_text.specs.Shown.{shown_link_type, shown_linked, text_bytes}
 use Rattle.cmark_text.specs.declared.text.CowStr.{CowStr}
+use Rattle.cmark_inline_model.specs.TextPlaces.{ArePlaces}
 use Rattle.cmark_inline.specs.BracketViews.{IsPlaced}
 use Rattle.cmark_inline.specs.Footnoted.{footnote_of, forms_footnote}
 use Rattle.cmark_inline.specs.Linked.{Said, said_by}
@@ -35,13 +34,6 @@ use Rattle.cmark_inline.specs.declared.link.LinkParts.{LinkParts}
 use Rattle.cmark_inline.specs.declared.link.Target.{Target}
 
 -- ## What is read
-
--- the bytes of a leaf's text have these places in the source, and so has its end: in order, and side by side but at line endings
-pub record ArePlaces (reader : Reader) (leaf : Leaf) (text : List ℕ) (place : ℕ → ℕ) : Type 0 where
-  pub rest : (k : ℕ) → k ≤ length text → from reader leaf (place k) ≡ drop k text
-  pub ends : (k : ℕ) → k ≤ length text → place_of reader leaf (drop k text) ≡ place k
-  pub next : (k : ℕ) → k < length text → is_content (get_or text k 0) ≡ true → place (suc k) ≡ suc (place k)
-  pub order : (j k : ℕ) → j < k → k ≤ length text → place j < place k
 
 abbrev pub said : block.Reference → Said
 said reference = record { destination = reference.destination; title = or_empty reference.title }
