@@ -43,9 +43,9 @@ module _ {E F : Type 0} where
       }
 
   -- an event more that owns nothing
-  pub so-far-short : (first parser new : Parser E F) (short : Short) (w next : Writing) (old mid out : List ℕ) → SoFar first parser w old mid → GivesAs parser (next.Short short) new
-      → out ≡ mid ++ piece w (shown_short short) → next ≡ moved w (shown_short short) → SoFar first new next old out
-  so-far-short first parser new short w next old mid out s h out_is next_is =
+  pub so-far-short : (first parser new : Parser E F) (short : Short) (w kept : Writing) (old mid out : List ℕ) → SoFar first parser w old mid → GivesAs parser (next.Short short) new
+      → out ≡ mid ++ piece w (shown_short short) → kept ≡ moved w (shown_short short) → SoFar first new kept old out
+  so-far-short first parser new short w kept old mid out s h out_is next_is =
       let r = h.answers.given in
       let same : shown_short short ≡ r.event = sym h.answers.is in
       let more : events_of (s.given ++ r ∷ []) ≡ events_of s.given ++ r.event ∷ [] = map_push Ranged.event s.given r in
@@ -53,7 +53,7 @@ module _ {E F : Type 0} where
         given = s.given ++ r ∷ [];
         back = λ events left. subst (Remains first) (sym (append_assoc s.given (r ∷ []) events)) (s.back (r ∷ events) (h.answers.gives events left));
         out_is = written_on w (events_of s.given) r.event s.writing_is old mid out s.out_is (out_is ∙ ap (λ e. mid ++ piece w e) same) ∙ ap (λ es. old ++ pieces es) (sym more);
-        writing_is = kept_on w (events_of s.given) r.event s.writing_is next (next_is ∙ ap (moved w) same) ∙ ap (moved_all at_line_start) (sym more);
+        writing_is = kept_on w (events_of s.given) r.event s.writing_is kept (next_is ∙ ap (moved w) same) ∙ ap (moved_all at_line_start) (sym more);
         can = h.can;
       }
 
