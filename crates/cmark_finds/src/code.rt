@@ -1,6 +1,6 @@
 //! Code spans (CommonMark 6.1).
 
-ghost use Rattle.std.specs.Prelude.{◌≡◌, ◌≤◌, not, count_by, false, length, drop, take, IfOk, IsOk, IfSome, option_map};
+ghost use Rattle.std.specs.Prelude.{◌≡◌, ◌≤◌, not, count_by, None, false, true, length, drop, take, IfOk, IsOk, IfSome, option_map};
 ghost use Rattle.std.specs.Str.{IsCharBoundary};
 ghost use Rattle.cmark_grammar.specs.CodeSpans.{backticks, up_to_run, code_in, is_space, is_padded, without_padding, code_text};
 ghost use Rattle.cmark_grammar.specs.InlineHtml.{takes_lines};
@@ -101,6 +101,18 @@ fn without_padding(text: &str) -> &str
     }
 }
 
+/// The text of what a code span holds, where no line ends in it (CommonMark 6.1): a part of that.
+pub fn code_part<'t>(content: &'t str) -> Option<&'t str>
+    ensures value { IfSome result (λ made. made.now ≡ code_text content.entry.now) }
+    ensures part { IfSome result (λ made. IsPartOf content.entry.now made.now) }
+    ensures none { result ≡ None → takes_lines content.entry.now ≡ true }
+{
+    if has_line_ending(content) {
+        return None;
+    }
+    Some(without_padding(content))
+}
+
 /// The text of what a code span holds (CommonMark 6.1): each line ending is a space, and then one space is taken from each
 /// end, if both ends are spaces and not all is. It is borrowed where no line ends in it; fails only where memory is refused.
 pub fn code_text<'t>(alloc: Global, content: &'t str) -> Result<CowStr<'t>, AllocError>
@@ -109,8 +121,8 @@ pub fn code_text<'t>(alloc: Global, content: &'t str) -> Result<CowStr<'t>, Allo
     ensures part { IfOk result (IsPartIfBorrowed content.entry.now) }
     ensures succeeds { takes_lines content.entry.now ≡ false → IsOk result }
 {
-    if !has_line_ending(content) {
-        return Ok(CowStr::Borrowed(without_padding(content)));
+    if let Some(part) = code_part(content) {
+        return Ok(CowStr::Borrowed(part));
     }
     let text = with_line_ends(alloc, content, " ")?;
     CowStr::Borrowed(without_padding(text.as_str())).into_static(alloc)

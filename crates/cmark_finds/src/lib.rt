@@ -20,7 +20,7 @@ mod special;
 
 pub use backtick_runs::BacktickRuns;
 pub use breaks::{LineBreak, line_break};
-pub use code::{CodeSpan, code_span, code_text};
+pub use code::{CodeSpan, code_part, code_span, code_text};
 pub use dollars::{Dollars, Formula};
 pub use html::inline_html;
 pub use label::{Label, collapsed_end, is_bracketed_label, reference_label};

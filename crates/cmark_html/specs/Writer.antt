@@ -1,5 +1,5 @@
 -- What the writer keeps, as the definition of HTML has it.
-use Rattle.std.specs.Prelude.{ℕ, List, map, option_map}
+use Rattle.std.specs.Prelude.{ℕ, Bool, List, map, option_map}
 use Rattle.cmark_grammar.specs.Html as html
 use Rattle.cmark_text.specs.Shown.{text_bytes, shown_alignment}
 use Rattle.cmark_html.specs.declared.footnote.FootnoteNames.{FootnoteNames}
@@ -24,3 +24,7 @@ writing writer = record {
   table = shown_table writer.table;
   names = shown_names writer.names;
 }
+
+-- the same at a line start, or not
+abbrev pub at_start : Bool → html.Writing → html.Writing
+at_start line_start w = record { line_start = line_start; image = w.image; in_metadata = w.in_metadata; table = w.table; names = w.names }

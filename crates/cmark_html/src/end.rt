@@ -55,6 +55,7 @@ fn heading_end_text(level: HeadingLevel) -> &'static str
 }
 
 /// Appends the piece of an end; in the head of a table or not.
+#[inline(always)]
 pub fn append_end(out: &mut String, in_head: bool, tag: TagEnd) -> Result<(), AllocError>
     ensures ok { OnOk result (string_bytes out.new ≡ string_bytes out.old ++ end_piece in_head (shown_end tag)) }
     ensures err { OnErr result (AppendsFront (string_bytes out.old) (string_bytes out.new) (end_piece in_head (shown_end tag))) }
@@ -63,6 +64,7 @@ pub fn append_end(out: &mut String, in_head: bool, tag: TagEnd) -> Result<(), Al
 }
 
 /// Whether the writer is at a line start behind an end.
+#[inline(always)]
 pub fn line_start_after_end(line_start: bool, tag: TagEnd) -> bool
     ensures { result ≡ line_start_after_end line_start (shown_end tag) }
 {

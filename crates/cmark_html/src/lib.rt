@@ -13,13 +13,15 @@ mod footnote;
 mod heading;
 mod image;
 mod parts;
+mod short;
 mod start;
 mod state;
 mod table;
 mod writer;
 
+pub use crate::short::write_short;
 pub use crate::state::Writer;
-pub use crate::writer::{finish, write_event, write_soft_break, write_text};
+pub use crate::writer::{finish, write_event};
 use cmark_text::Event;
 use std::alloc::AllocError;
 

@@ -1,9 +1,10 @@
 //! The pieces of starts.
 
 ghost use Rattle.std.specs.Prelude.{◌≡◌, ◌++◌, ◌∷◌, [], OnOk, OnErr, codes, option_map, string_bytes, take_while};
-ghost use Rattle.cmark_grammar.specs.Html.{start_piece, line_start_after_start, block_quote_start, code_block_start, fresh_line, is_within_word, language_start, list_start, link_start, scheme};
+ghost use Rattle.cmark_grammar.specs.Html.{digit, start_piece, line_start_after_start, block_quote_start, code_block_start, fresh_line, is_within_word, language_start, list_start, link_start, scheme};
 ghost use Rattle.cmark_text.specs.Appended.{AppendsFront};
-ghost use Rattle.cmark_text.specs.Shown.{shown_tag, shown_block_quote_kind, shown_code_block_kind, shown_link_type};
+ghost use Rattle.cmark_text.specs.Short.{shown_plain};
+ghost use Rattle.cmark_text.specs.Shown.{level_number, shown_tag, shown_block_quote_kind, shown_code_block_kind, shown_link_type};
 ghost use Rattle.cmark_html.specs.Parts.{linked};
 ghost use Rattle.cmark_html.specs.Writer.{writing};
 
@@ -12,7 +13,7 @@ use crate::heading::append_heading;
 use crate::image::append_image_start;
 use crate::parts::{Part, append, append_on_line, append_parts, new_line};
 use crate::state::Writer;
-use cmark_text::{BlockQuoteKind, CodeBlockKind, LinkType, Tag};
+use cmark_text::{BlockQuoteKind, CodeBlockKind, HeadingLevel, LinkType, PlainTag, Tag};
 use itoa::Buffer;
 use memchr::memchr;
 use std::alloc::AllocError;
@@ -28,25 +29,27 @@ pub fn append_start<'a>(
 {
     let line_start = writer.line_start;
     match tag {
-        Tag::Paragraph => append_on_line(out, line_start, "<p>"),
+        Tag::Paragraph => append_plain_start(out, writer, PlainTag::Paragraph),
         Tag::Heading {
             level,
             id,
             classes,
             attrs,
         } => append_heading(out, line_start, *level, id, classes, attrs),
-        Tag::BlockQuote(kind) => append_on_line(out, line_start, block_quote_text(*kind)),
+        Tag::BlockQuote(kind) => append_plain_start(out, writer, PlainTag::BlockQuote(*kind)),
         Tag::CodeBlock(kind) => append_code_block(out, line_start, kind),
-        Tag::List(first) => append_list(out, line_start, *first),
-        Tag::Item => append_on_line(out, line_start, "<li>"),
-        Tag::DefinitionList => append_on_line(out, line_start, "<dl>\n"),
-        Tag::DefinitionListTitle => append_on_line(out, line_start, "<dt>"),
-        Tag::DefinitionListDefinition => append_on_line(out, line_start, "<dd>"),
-        Tag::Emphasis => append(out, "<em>"),
-        Tag::Strong => append(out, "<strong>"),
-        Tag::Strikethrough => append(out, "<del>"),
-        Tag::Superscript => append(out, "<sup>"),
-        Tag::Subscript => append(out, "<sub>"),
+        Tag::List(first) => append_plain_start(out, writer, PlainTag::List(*first)),
+        Tag::Item => append_plain_start(out, writer, PlainTag::Item),
+        Tag::DefinitionList => append_plain_start(out, writer, PlainTag::DefinitionList),
+        Tag::DefinitionListTitle => append_plain_start(out, writer, PlainTag::DefinitionListTitle),
+        Tag::DefinitionListDefinition => {
+            append_plain_start(out, writer, PlainTag::DefinitionListDefinition)
+        }
+        Tag::Emphasis => append_plain_start(out, writer, PlainTag::Emphasis),
+        Tag::Strong => append_plain_start(out, writer, PlainTag::Strong),
+        Tag::Strikethrough => append_plain_start(out, writer, PlainTag::Strikethrough),
+        Tag::Superscript => append_plain_start(out, writer, PlainTag::Superscript),
+        Tag::Subscript => append_plain_start(out, writer, PlainTag::Subscript),
         Tag::Link {
             link_type,
             dest_url,
@@ -55,9 +58,9 @@ pub fn append_start<'a>(
         } => append_link(out, *link_type, dest_url.as_str(), title.as_str()),
         Tag::Image { dest_url, .. } => append_image_start(out, dest_url.as_str()),
         Tag::Table(_) => append(out, "<table>"),
-        Tag::TableHead => append(out, "<thead><tr>"),
-        Tag::TableRow => append(out, "<tr>"),
-        Tag::TableCell => writer.table.append_cell_start(out),
+        Tag::TableHead => append_plain_start(out, writer, PlainTag::TableHead),
+        Tag::TableRow => append_plain_start(out, writer, PlainTag::TableRow),
+        Tag::TableCell => append_plain_start(out, writer, PlainTag::TableCell),
         Tag::FootnoteDefinition(name) => append_numbered_start(
             out,
             line_start,
@@ -65,6 +68,64 @@ pub fn append_start<'a>(
             name,
         ),
         Tag::HtmlBlock | Tag::MetadataBlock(_) => Ok(()),
+    }
+}
+
+/// Appends the start of an element that has no text of its own.
+#[inline(always)]
+pub fn append_plain_start(
+    out: &mut String,
+    writer: &Writer<'_>,
+    tag: PlainTag,
+) -> Result<(), AllocError>
+    ensures ok { OnOk result (string_bytes out.new ≡ string_bytes out.old ++ start_piece (writing writer.now) (shown_plain tag)) }
+    ensures err { OnErr result (AppendsFront (string_bytes out.old) (string_bytes out.new) (start_piece (writing writer.now) (shown_plain tag))) }
+{
+    let line_start = writer.line_start;
+    match tag {
+        PlainTag::Paragraph => append_on_line(out, line_start, "<p>"),
+        PlainTag::Heading(level) => append_on_line(out, line_start, heading_start_text(level)),
+        PlainTag::BlockQuote(kind) => append_on_line(out, line_start, block_quote_text(kind)),
+        PlainTag::IndentedCode => append_on_line(out, line_start, "<pre><code>"),
+        PlainTag::List(first) => append_list(out, line_start, first),
+        PlainTag::Item => append_on_line(out, line_start, "<li>"),
+        PlainTag::DefinitionList => append_on_line(out, line_start, "<dl>\n"),
+        PlainTag::DefinitionListTitle => append_on_line(out, line_start, "<dt>"),
+        PlainTag::DefinitionListDefinition => append_on_line(out, line_start, "<dd>"),
+        PlainTag::TableHead => append(out, "<thead><tr>"),
+        PlainTag::TableRow => append(out, "<tr>"),
+        PlainTag::TableCell => writer.table.append_cell_start(out),
+        PlainTag::Emphasis => append(out, "<em>"),
+        PlainTag::Strong => append(out, "<strong>"),
+        PlainTag::Strikethrough => append(out, "<del>"),
+        PlainTag::Superscript => append(out, "<sup>"),
+        PlainTag::Subscript => append(out, "<sub>"),
+        PlainTag::HtmlBlock | PlainTag::MetadataBlock(_) => Ok(()),
+    }
+}
+
+/// Whether the writer is at a line start behind such a start.
+#[inline(always)]
+pub fn line_start_after_plain(line_start: bool, tag: PlainTag) -> bool
+    ensures { result ≡ line_start_after_start line_start (shown_plain tag) }
+{
+    match tag {
+        PlainTag::BlockQuote(_) | PlainTag::List(_) | PlainTag::DefinitionList => true,
+        PlainTag::HtmlBlock | PlainTag::MetadataBlock(_) => line_start,
+        PlainTag::Paragraph
+        | PlainTag::Heading(_)
+        | PlainTag::IndentedCode
+        | PlainTag::Item
+        | PlainTag::DefinitionListTitle
+        | PlainTag::DefinitionListDefinition
+        | PlainTag::TableHead
+        | PlainTag::TableRow
+        | PlainTag::TableCell
+        | PlainTag::Emphasis
+        | PlainTag::Strong
+        | PlainTag::Strikethrough
+        | PlainTag::Superscript
+        | PlainTag::Subscript => false,
     }
 }
 
@@ -93,6 +154,20 @@ pub fn line_start_after_start(line_start: bool, tag: &Tag<'_>) -> bool
         | Tag::Link { .. }
         | Tag::Image { .. } => false,
         Tag::HtmlBlock | Tag::MetadataBlock(_) => line_start,
+    }
+}
+
+/// The start of a heading without attributes.
+fn heading_start_text(level: HeadingLevel) -> &'static str
+    ensures { result.now ≡ codes "<h" ++ (digit (level_number level) ∷ codes ">") }
+{
+    match level {
+        HeadingLevel::H1 => "<h1>",
+        HeadingLevel::H2 => "<h2>",
+        HeadingLevel::H3 => "<h3>",
+        HeadingLevel::H4 => "<h4>",
+        HeadingLevel::H5 => "<h5>",
+        HeadingLevel::H6 => "<h6>",
     }
 }
 

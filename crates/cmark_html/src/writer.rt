@@ -2,8 +2,10 @@
 
 ghost use Rattle.std.specs.Prelude.{◌≡◌, ◌++◌, true, IfOk, OnOk, OnErr, None, codes, is_some, option_map, string_bytes};
 ghost use Rattle.cmark_grammar.specs.Escapes.{escaped_body_text, escaped_html};
-ghost use Rattle.cmark_grammar.specs.Event.{SoftBreak, Text};
+ghost use Rattle.cmark_grammar.specs.Event.{End, SoftBreak, Start, Text};
 ghost use Rattle.cmark_grammar.specs.Html.{piece, piece_outside, moved, moved_outside, metadata_after, table_after, table_after_start, names_after, names_after_start, names_after_inside, opened_by, opened_image, last_piece, line_start_after, line_start_after_html, ends_in_line_feed, task_list_marker};
+ghost use Rattle.cmark_grammar.specs.Tag.{Paragraph};
+ghost use Rattle.cmark_grammar.specs.TagEnd.{Paragraph as ParagraphEnd};
 ghost use Rattle.cmark_text.specs.Appended.{AppendsFront};
 ghost use Rattle.cmark_text.specs.Shown.{shown, shown_tag};
 ghost use Rattle.cmark_html.specs.Writer.{shown_image, shown_names, shown_table, writing};
@@ -59,7 +61,7 @@ fn write_outside<'a>(
 }
 
 /// Appends the piece of an event inside of an image.
-fn write_in_image<'a>(
+pub fn write_in_image<'a>(
     out: &mut String,
     writer: &mut Writer<'a>,
     event: Event<'a>,
@@ -75,43 +77,6 @@ fn write_in_image<'a>(
     writer.image = write_inside(out, image, &writer.names, &event)?;
     writer.line_start = false;
     keep_inside(&mut writer.names, event)
-}
-
-/// Appends the piece of a text.
-#[inline(always)]
-pub fn write_text<'a>(
-    out: &mut String,
-    writer: &mut Writer<'a>,
-    text: &'a str,
-) -> Result<(), AllocError>
-    ensures ok { OnOk result (string_bytes out.new ≡ string_bytes out.old ++ piece (writing writer.old) (Text text.entry.now)) }
-    ensures state { OnOk result (writing writer.new ≡ moved (writing writer.old) (Text text.entry.now)) }
-    ensures err { OnErr result (AppendsFront (string_bytes out.old) (string_bytes out.new) (piece (writing writer.old) (Text text.entry.now))) }
-{
-    if writer.image.is_some() {
-        return write_in_image(out, writer, Event::Text(CowStr::Borrowed(text)));
-    }
-    if writer.in_metadata {
-        return Ok(());
-    }
-    escape_html_body_text(out, text)?;
-    writer.line_start = ends_in_line_feed(text);
-    Ok(())
-}
-
-/// Appends the piece of a soft line break.
-#[inline(always)]
-pub fn write_soft_break<'a>(out: &mut String, writer: &mut Writer<'a>) -> Result<(), AllocError>
-    ensures ok { OnOk result (string_bytes out.new ≡ string_bytes out.old ++ piece (writing writer.old) SoftBreak) }
-    ensures state { OnOk result (writing writer.new ≡ moved (writing writer.old) SoftBreak) }
-    ensures err { OnErr result (AppendsFront (string_bytes out.old) (string_bytes out.new) (piece (writing writer.old) SoftBreak)) }
-{
-    if writer.image.is_some() {
-        return write_in_image(out, writer, Event::SoftBreak);
-    }
-    append(out, "\n")?;
-    writer.line_start = true;
-    Ok(())
 }
 
 /// Keeps what an event inside of an image says.
@@ -261,14 +226,14 @@ fn line_start_after(writer: &Writer<'_>, event: &Event<'_>) -> bool
 }
 
 /// Whether the last byte is a line feed.
-fn ends_in_line_feed(text: &str) -> bool
+pub fn ends_in_line_feed(text: &str) -> bool
     ensures { result ≡ ends_in_line_feed text.now }
 {
     text.as_bytes().ends_with(b"\n")
 }
 
 /// Whether the writer is at a line start behind HTML that is written as it is.
-fn line_start_after_html(line_start: bool, text: &str) -> bool
+pub fn line_start_after_html(line_start: bool, text: &str) -> bool
     ensures { result ≡ line_start_after_html line_start text.now }
 {
     if text.is_empty() {

@@ -28,6 +28,5 @@ mod wikilink;
 pub use callback::{BrokenLink, BrokenLinkCallback, DefaultBrokenLinkCallback, OwnedLinkCallback};
 pub use event::Given;
 pub use read::Reader;
-pub use short::Short;
 pub use special::{SpecialBytes, special_bytes};
 pub use state::InlineState;

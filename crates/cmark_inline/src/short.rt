@@ -1,51 +1,195 @@
-//! Texts and line endings of a leaf that are handed on without an event being made.
+//! The events of a leaf's slots that own nothing, of which no event of any kind is made.
 
-ghost use Rattle.std.specs.Prelude.{◌≡◌, ◌<◌, ◌+◌, None, IfSome, OnSome, get_or, length};
-ghost use Rattle.cmark_leaf_text.specs.Reads.{IsRead, text_of, source_of};
+ghost use Rattle.std.specs.Prelude.{◌≡◌, ◌<◌, ◌≤◌, ◌+◌, ◌-◌, ℕ, List, IfOk, IfSome, OnOk, get_or, length, option_map};
+ghost use Rattle.std.specs.Str.{IsCharBoundary};
+ghost use Rattle.cmark_grammar.specs.CodeSpans.{code_text};
+ghost use Rattle.cmark_grammar.specs.InlineTokens.{as_in};
+ghost use Rattle.cmark_grammar.specs.LeafSpans.{IsInline, IsSpan};
+ghost use Rattle.cmark_grammar.specs.TagEnd.{end_of};
+ghost use Rattle.cmark_grammar.specs.Tokens.{slice};
+ghost use Rattle.cmark_leaf_text.specs.Reads.{IsRead, is_cell_of, place_of, source_of, text_of};
+ghost use Rattle.cmark_text.specs.Short.{IsShortZeroCopy, shown_plain, shown_short};
+ghost use Rattle.cmark_text.specs.Shown.{shown_end};
+ghost use Rattle.cmark_text.specs.ZeroCopy.{IsPartOf};
+ghost use Rattle.cmark_inline.specs.Elements.{emphasis_tag};
 ghost use Rattle.cmark_inline.specs.Opens.{events_left};
-ghost use Rattle.cmark_inline.specs.Shorts.{GivesShort, StandsFor};
-ghost use Rattle.cmark_inline.specs.Stands.{AreOpened, AreSlots};
+ghost use Rattle.cmark_inline.specs.Shorts.{GivesNext, IfShort, LeavesFewer, PassesShort, StandsFor};
+ghost use Rattle.cmark_inline.specs.Stands.{AreOpened, AreSlots, IsSlot};
+ghost use Rattle.cmark_inline.specs.declared.event.Opened.{Opened as OpenedOnes};
+ghost use Rattle.cmark_inline.specs.declared.slot.SlotKind.TheVariants as kind;
 ghost use Rattle.cmark_inline.specs.declared.slot.Slot.{Slot as Slots};
+ghost use Rattle.cmark_leaf_text.specs.declared.leaf_text.LeafText.{LeafText as LeafTexts};
+ghost use Rattle.cmark_text.specs.declared.event.TagEnd.{TagEnd as TagEnds};
+ghost use Rattle.cmark_text.specs.declared.short.PlainTag.{PlainTag as PlainTags};
 
-use crate::slot::SlotKind;
+use crate::event::Opened;
+use crate::slot::{Element, Slot, SlotKind};
 use crate::state::InlineState;
+use cmark_finds::code_part;
 use cmark_leaf_text::LeafText;
-
-/// The events of which a text has most, without what an event of any kind has to have room for.
-#[derive(Clone, Copy, Debug)]
-pub enum Short<'a> {
-    /// A text that stands in the source as it is (CommonMark 6.9).
-    Text(&'a str),
-    /// A line ending that is no hard line break (CommonMark 6.8).
-    SoftBreak,
-}
+use cmark_text::{Next, PlainTag, Short, TagEnd};
+use std::alloc::AllocError;
 
 impl<'a> InlineState<'a> {
-    /// What `next` would give, where that is a text that stands in the source, or a soft line break: it then counts as given. Else
-    /// there is no answer, and nothing changes.
+    /// What `next` would give, where no event is made: one that owns nothing counts as given then, and one of another kind does not.
     #[inline(always)]
-    pub fn next_short(&mut self, leaf: &LeafText<'a>) -> Option<Short<'a>>
+    pub fn next_short(&mut self, leaf: &LeafText<'a>) -> Result<Next<'a>, AllocError>
         requires read { IsRead leaf.now }
         requires slots { AreSlots (text_of leaf.now) (length (text_of leaf.now)) self.old.slots.items }
         requires opened { AreOpened (source_of leaf.now) self.old.walk.opened.items }
-        ensures slot { IfSome result (λ short. (d : Slots) → StandsFor (text_of leaf.now) (get_or self.old.slots.items self.old.walk.next d) short) }
-        ensures next { OnSome result (self.new.walk.next ≡ self.old.walk.next + 1) }
-        ensures gives { IfSome result (λ short. GivesShort (source_of leaf.now) self.old.walk.opened.items short self.new.walk.opened.items) }
-        ensures none { result ≡ None → self.new ≡ self.old }
         ensures slots { self.new.slots ≡ self.old.slots }
         ensures opened { AreOpened (source_of leaf.now) self.new.walk.opened.items }
-        ensures fewer { OnSome result (events_left self.new < events_left self.old) }
+        ensures stands { IfOk result (λ next. IfShort next (λ short. (d : Slots) → StandsFor leaf.now (get_or self.old.slots.items (self.new.walk.next - 1) d) short)) }
+        ensures gives { IfOk result (λ next. GivesNext (source_of leaf.now) self.old.walk.opened.items next self.new.walk.opened.items) }
+        ensures fewer { IfOk result (λ next. LeavesFewer self.old next self.new) }
+        ensures most { OnOk result (events_left self.new ≤ events_left self.old) }
+        ensures few { OnOk result (length self.new.slots.items < 18446744073709551616) }
     {
-        if self.walk.next >= self.slots.len() {
-            return None;
+        while self.walk.next < self.slots.len() {
+            let slot = self.slots[self.walk.next];
+            match self.give_short(leaf, slot)? {
+                Next::Short(short) => {
+                    self.walk.next += 1;
+                    return Ok(Next::Short(short));
+                }
+                Next::Long => return Ok(Next::Long),
+                Next::Over => self.walk.next += 1,
+            }
         }
-        let slot = self.slots[self.walk.next];
-        let short = match slot.kind {
-            SlotKind::Text => Short::Text(leaf.slice(slot.start, slot.end)?),
-            SlotKind::SoftBreak => Short::SoftBreak,
-            _ => return None,
-        };
-        self.walk.next += 1;
-        Some(short)
+        Ok(self.end_short())
     }
+
+    // What a slot gives, where no event is made; that nothing is left stands for nothing here.
+    #[inline(always)]
+    fn give_short(&mut self, leaf: &LeafText<'a>, slot: Slot) -> Result<Next<'a>, AllocError>
+        requires read { IsRead leaf.now }
+        requires slot { IsSlot (text_of leaf.now) (length (text_of leaf.now)) slot }
+        requires opened { AreOpened (source_of leaf.now) self.old.walk.opened.items }
+        ensures slots { self.new.slots ≡ self.old.slots }
+        ensures place { self.new.walk.next ≡ self.old.walk.next }
+        ensures opened { AreOpened (source_of leaf.now) self.new.walk.opened.items }
+        ensures stands { IfOk result (λ next. IfShort next (StandsFor leaf.now slot)) }
+        ensures gives { IfOk result (λ next. PassesShort (source_of leaf.now) self.old.walk.opened.items next self.new.walk.opened.items) }
+    {
+        match slot.kind {
+            SlotKind::Begin(element) => self.begin_short(leaf, slot, element),
+            SlotKind::End => Ok(self.end_short()),
+            SlotKind::Nothing => Ok(Next::Over),
+            _ => Ok(single_short(leaf, slot)),
+        }
+    }
+
+    // An element begins; that of a link or an image is of another kind.
+    #[inline(always)]
+    fn begin_short(
+        &mut self,
+        leaf: &LeafText<'a>,
+        slot: Slot,
+        element: Element,
+    ) -> Result<Next<'a>, AllocError>
+        requires read { IsRead leaf.now }
+        requires slot { IsSlot (text_of leaf.now) (length (text_of leaf.now)) slot }
+        requires is { slot.kind ≡ kind.Begin element }
+        requires opened { AreOpened (source_of leaf.now) self.old.walk.opened.items }
+        ensures slots { self.new.slots ≡ self.old.slots }
+        ensures place { self.new.walk.next ≡ self.old.walk.next }
+        ensures opened { AreOpened (source_of leaf.now) self.new.walk.opened.items }
+        ensures stands { IfOk result (λ next. IfShort next (StandsFor leaf.now slot)) }
+        ensures gives { IfOk result (λ next. PassesShort (source_of leaf.now) self.old.walk.opened.items next self.new.walk.opened.items) }
+    {
+        let Some((tag, end)) = plain_element(element) else {
+            return Ok(Next::Long);
+        };
+        let range = leaf.range(slot.start, slot.end);
+        self.walk.opened.push(Opened {
+            tag: end,
+            start: range.start,
+            end: range.end,
+        })?;
+        Ok(Next::Short(Short::Start(tag)))
+    }
+
+    // The element that began last ends, if one is open.
+    #[inline(always)]
+    fn end_short(&mut self) -> Next<'a>
+        ensures slots { self.new.slots ≡ self.old.slots }
+        ensures place { self.new.walk.next ≡ self.old.walk.next }
+        ensures opened { (source : List ℕ) → AreOpened source self.old.walk.opened.items → AreOpened source self.new.walk.opened.items }
+        ensures gives { (source : List ℕ) → AreOpened source self.old.walk.opened.items → GivesNext source self.old.walk.opened.items result self.new.walk.opened.items }
+        ensures stands { (text : LeafTexts) (slot : Slots) → IfShort result (StandsFor text slot) }
+        ensures fewer { IfShort result (λ short. length self.new.walk.opened.items < length self.old.walk.opened.items) }
+        ensures most { length self.new.walk.opened.items ≤ length self.old.walk.opened.items }
+    {
+        match self.walk.opened.pop() {
+            Some(opened) => Next::Short(Short::End(opened.tag)),
+            None => Next::Over,
+        }
+    }
+}
+
+// The tag and the end of an element of emphasis, which has no text of its own.
+#[inline(always)]
+fn plain_element(element: Element) -> Option<(PlainTag, TagEnd)>
+    ensures value { option_map (λ (pair : PlainTags × TagEnds). shown_plain pair.0) result ≡ emphasis_tag element }
+    ensures span { IfSome result (λ pair. IsSpan (shown_plain pair.0)) }
+    ensures end { IfSome result (λ pair. end_of (shown_plain pair.0) ≡ shown_end pair.1) }
+{
+    match element {
+        Element::Emphasis => Some((PlainTag::Emphasis, TagEnd::Emphasis)),
+        Element::Strong => Some((PlainTag::Strong, TagEnd::Strong)),
+        Element::Strikethrough => Some((PlainTag::Strikethrough, TagEnd::Strikethrough)),
+        Element::Superscript => Some((PlainTag::Superscript, TagEnd::Superscript)),
+        Element::Subscript => Some((PlainTag::Subscript, TagEnd::Subscript)),
+        Element::Link(_) | Element::Autolink(_) | Element::Image(_) => None,
+    }
+}
+
+// The event of a slot that is no element, where it owns nothing.
+#[inline(always)]
+fn single_short<'a>(leaf: &LeafText<'a>, slot: Slot) -> Next<'a>
+    requires read { IsRead leaf.now }
+    requires slot { IsSlot (text_of leaf.now) (length (text_of leaf.now)) slot }
+    ensures stands { IfShort result (StandsFor leaf.now slot) }
+    ensures gives { (opened : List OpenedOnes) → PassesShort (source_of leaf.now) opened result opened }
+{
+    match part_of(leaf, slot) {
+        Some(short) => Next::Short(short),
+        None => Next::Long,
+    }
+}
+
+// The event of a slot that is no element, where its text is a part of the source.
+#[inline(always)]
+fn part_of<'a>(leaf: &LeafText<'a>, slot: Slot) -> Option<Short<'a>>
+    requires read { IsRead leaf.now }
+    requires slot { IsSlot (text_of leaf.now) (length (text_of leaf.now)) slot }
+    ensures stands { IfSome result (StandsFor leaf.now slot) }
+    ensures inline { IfSome result (λ short. IsInline (shown_short short)) }
+    ensures lent { IfSome result (λ short. IsShortZeroCopy (source_of leaf.now) short (place_of leaf.now slot.start) (place_of leaf.now (slot.end - 1) + 1)) }
+{
+    match slot.kind {
+        SlotKind::Text => Some(Short::Text(leaf.slice(slot.start, slot.end)?)),
+        SlotKind::SoftBreak => Some(Short::SoftBreak),
+        SlotKind::HardBreak => Some(Short::HardBreak),
+        SlotKind::Code(from, to) => Some(Short::Code(code_in(leaf, from, to)?)),
+        SlotKind::InlineHtml => Some(Short::InlineHtml(leaf.slice(slot.start, slot.end)?)),
+        SlotKind::Whole(_) => Some(Short::Text(leaf.source_between(slot.start, slot.end))),
+        _ => None,
+    }
+}
+
+// What a code span holds that stands in the source without a gap, where no line ends in it. In the cell of a table it may be a text of
+// its own (GFM 4.10).
+#[inline(always)]
+fn code_in<'a>(leaf: &LeafText<'a>, from: usize, to: usize) -> Option<&'a str>
+    requires read { IsRead leaf.now }
+    requires starts { IsCharBoundary (text_of leaf.now) from }
+    requires ends { IsCharBoundary (text_of leaf.now) to }
+    ensures value { IfSome result (λ part. part.now ≡ code_text (as_in (is_cell_of leaf.now) (slice (text_of leaf.now) from to))) }
+    ensures part { IfSome result (λ part. IsPartOf (source_of leaf.now) part.now) }
+{
+    if from >= to || leaf.is_cell() {
+        return None;
+    }
+    code_part(leaf.slice(from, to)?)
 }

@@ -1,5 +1,5 @@
 -- Steps of a walk with spans.
-use Rattle.std.proofs.Common.{◌≡◌, ◌⊎◌, inl, inr, ℕ, ◌<◌, ◌≤◌, ◌-◌, arith, Bool, true, false, List, [], ◌∷◌, ◌++◌, length, Some, refl, sym, ap, ◌∙◌, subst}
+use Rattle.std.proofs.Common.{◌≡◌, ◌⊎◌, inl, inr, ℕ, ◌<◌, ◌≤◌, ◌-◌, arith, Bool, true, false, List, [], ◌∷◌, ◌++◌, length, None, Some, refl, sym, ap, ◌∙◌, subst}
 use Rattle.std.specs.Global.{Vec}
 use Rattle.cmark_grammar.specs.Event.{Ranged}
 use Rattle.cmark_grammar.specs.LeafSpans.{AreGiven}
@@ -11,21 +11,23 @@ use Rattle.cmark_inline.specs.declared.event.Opened.{Opened}
 use Rattle.cmark_inline.specs.declared.slot.Slot.{Slot}
 use Rattle.cmark_inline.specs.declared.state.InlineState.{InlineState}
 use Rattle.cmark_inline.specs.Footnoted.{SameFootnotes}
-use Rattle.cmark_inline.specs.Opens.{Follows, shown_given}
-use Rattle.cmark_inline.specs.declared.short.Short.{Short}
+use Rattle.cmark_inline.specs.Opens as opens
+use Rattle.cmark_inline.specs.Opens.{Follows}
 use Rattle.cmark_inline.specs.Shorts.{GivesShort as LeafShort}
 use Rattle.cmark_inline.specs.Stands.{AreOpened, AreSlots}
 use Rattle.cmark_leaf_text.specs.declared.leaf_text.LeafText.{LeafText}
 use Rattle.cmark_leaf_text.specs.declared.stretch.LeafLine.{LeafLine}
 use Rattle.cmark_leaf_text.specs.Reads.{IsRead, is_cell_of, text_of}
 use Rattle.cmark_leaf_text.specs.Stretches.{leaf_bytes}
+use Rattle.cmark_text.specs.declared.short.Short.{Short}
+use Rattle.cmark_text.specs.Short.{IsShortZeroCopy}
 use Rattle.cmark_walk.specs.declared.reading.Ranged.{Ranged as Given}
 use Rattle.cmark_walk.specs.declared.walk.Walk.{Walk}
 use Rattle.cmark_walk.specs.Walking as walking
 use Rattle.cmark_walk.specs.Walking.{AreLinesOf, lines_of, shown_ranged}
 use Rattle.cmark_walk.proofs.OneRemainder.{one-remainder}
 use Rattle.cmark_span_walk.specs.declared.span_walk.SpanWalk.{SpanWalk}
-use Rattle.cmark_span_walk.specs.Walking.{BeforeLeaf, BlocksLeft, Completes, EntersLeaf, Gives, GivesShort, LeftIn, Remains, Stands, StandsIn, StandsInLeaf, definitions_of, events_left, footnotes_of, opened_of, source_of}
+use Rattle.cmark_span_walk.specs.Walking.{BeforeLeaf, BlocksLeft, Completes, EntersLeaf, Gives, GivesShort, KeepsLeft, LeftIn, Remains, Stands, StandsIn, StandsInLeaf, definitions_of, events_left, footnotes_of, opened_of, source_of}
 use Rattle.cmark_span_walk.proofs.Completing.{can-close, completes-nested}
 
 none-opened : (source : List ℕ) (opened : List Opened) → opened ≡ [] → AreOpened source opened
@@ -110,15 +112,34 @@ module _ {E F : Type 0} where
         are = inside-left walk s.0 (r ∷ events) inside (r ∷ h.0, h.1, ap (λ l. r ∷ l) h.2, (inline.walk.opened.items, follows, h.3), subst (λ l. AreGiven (source_of walk) l h.1) same h.4);
       }
 
-  -- a text or a soft break, handed on without an event
+  -- an event that owns nothing
   pub spanned-short : (walk : SpanWalk E F) (inline : InlineState) (short : Short) → Stands walk → walk.in_leaf ≡ true → LeafShort (source_of walk) (opened_of walk) short inline.walk.opened.items
-      → GivesShort walk short (record walk { inline = inline })
-  spanned-short walk inline short s inside h = record {
-    given = record { event = h.given.event; range = h.given.range };
+      → opens.events_left inline < opens.events_left walk.inline → GivesShort walk short (record walk { inline = inline })
+  spanned-short walk inline short s inside h less = record {
+    given = h.given;
     is = h.is;
-    gives = spanned-gives walk inline (shown_given h.given) s inside h.follows;
+    gives = spanned-gives walk inline h.given s inside h.follows;
     lent = h.lent;
+    fewer = omega (arith, less);
   }
+
+  -- an event of another kind, which was not given yet
+  pub spanned-long : (walk : SpanWalk E F) (inline : InlineState) → Stands walk → walk.in_leaf ≡ true → inline.walk.opened.items ≡ opened_of walk → opens.events_left inline ≤ opens.events_left walk.inline
+      → KeepsLeft walk (record walk { inline = inline })
+  spanned-long walk inline s inside opened most = record { back = back; most = omega (arith, most) }
+    where
+      new : SpanWalk E F
+      new = record walk { inline = inline }
+
+      back : (events : List Ranged) → Remains new events → Remains walk events
+      back events m =
+          let h = left-inside new m.left events inside m.are in
+          let same = one-left new m.left s.0 m.stands.blocks (left-same walk new s.0 refl refl refl s.1.blocks) in
+          record {
+            left = s.0;
+            stands = s.1;
+            are = inside-left walk s.0 events inside (h.0, h.1, h.2, subst (λ o. Completes (source_of walk) o h.0) opened h.3, subst (λ l. AreGiven (source_of walk) l h.1) same h.4);
+          }
 
   -- a leaf has no more spans
   abbrev pub closed : SpanWalk E F → InlineState → SpanWalk E F
@@ -168,6 +189,49 @@ module _ {E F : Type 0} where
   pub gives-back : (old mid new : SpanWalk E F) (given : Given) → Lasts old mid → Gives mid (Some given) new → Gives old (Some given) new
   gives-back old mid new given l g events r = l.back (shown_ranged given ∷ events) (g events r)
 
+  -- what was counted down since the call began
+  most-since : (old head new : SpanWalk E F) → Lasts old head → events_left new ≤ events_left head → (head.in_leaf ≡ true → length new.inline.slots.items < 18446744073709551616) → new.inline.slots ≡ head.inline.slots → new.budget ≡ head.budget
+      → events_left new ≤ events_left old
+  most-since old head new l most few slots budget = by l.most
+    where
+      by : (events_left head ≤ events_left old) ⊎ IsFresh old head → events_left new ≤ events_left old
+      by (inl le) = omega (arith, most, le)
+      by (inr fresh) =
+          let f = few fresh.inside in
+          let same = ap (λ (v : Vec Slot). length v.items) slots in
+          let none = ap length fresh.none_open in
+          let spent = fresh.spent in
+          omega (arith, most, f, same, none, spent, budget)
+
+  less-since : (old head new : SpanWalk E F) → Lasts old head → events_left new < events_left head → (head.in_leaf ≡ true → length new.inline.slots.items < 18446744073709551616) → new.inline.slots ≡ head.inline.slots → new.budget ≡ head.budget
+      → events_left new < events_left old
+  less-since old head new l less few slots budget = by l.most
+    where
+      by : (events_left head ≤ events_left old) ⊎ IsFresh old head → events_left new < events_left old
+      by (inl le) = omega (arith, less, le)
+      by (inr fresh) =
+          let f = few fresh.inside in
+          let same = ap (λ (v : Vec Slot). length v.items) slots in
+          let none = ap length fresh.none_open in
+          let spent = fresh.spent in
+          omega (arith, less, f, same, none, spent, budget)
+
+  -- an event that owns nothing is what comes next
+  pub since-short : (old head new : SpanWalk E F) (short : Short) → Lasts old head → GivesShort head short new → (head.in_leaf ≡ true → length new.inline.slots.items < 18446744073709551616) → new.inline.slots ≡ head.inline.slots
+      → new.budget ≡ head.budget → GivesShort old short new
+  since-short old head new short l h few slots budget = record {
+    given = h.given;
+    is = h.is;
+    gives = λ events r. l.back (h.given ∷ events) (h.gives events r);
+    lent = subst (λ t. IsShortZeroCopy t short h.given.start h.given.end) l.source h.lent;
+    fewer = less-since old head new l h.fewer few slots budget;
+  }
+
+  -- an event of another kind is what comes next
+  pub since-long : (old head new : SpanWalk E F) → Lasts old head → KeepsLeft head new → (head.in_leaf ≡ true → length new.inline.slots.items < 18446744073709551616) → new.inline.slots ≡ head.inline.slots
+      → new.budget ≡ head.budget → KeepsLeft old new
+  since-long old head new l h few slots budget = record { back = λ events r. l.back events (h.back events r); most = most-since old head new l h.most few slots budget }
+
   -- the next of the document, behind a leaf or another event
   module _ (mid : SpanWalk E F) (walk : Walk) (lines : Vec LeafLine) (s : Stands mid) (out : mid.in_leaf ≡ false) (same-text : walking.text_of walk ≡ walking.text_of mid.walk) where
     abbrev pub met-by : (budget : ℕ) → SpanWalk E F
@@ -194,9 +258,46 @@ module _ {E F : Type 0} where
         let behind = at-blocks (met-by budget) others events (blocks-behind budget (GivenOf r) others e remains less) out m in
         record { left = s.0; stands = s.1; are = outside-left mid s.0 (r ∷ events) out (subst (λ l. AreGiven (source_of mid) l (r ∷ events)) (sym e) (events, refl, behind)) }
 
+    -- an event of the document that owns nothing is what comes next
+    pub met-short : (old head : SpanWalk E F) (budget : ℕ) (short : Short) → walking.GivesShort mid.walk short walk → Lasts old head → ((events : List Ranged) → Remains mid events → Remains head events) → source_of mid ≡ source_of head
+        → events_left mid ≤ events_left head → (head.in_leaf ≡ true → length mid.inline.slots.items < 18446744073709551616) → mid.inline.slots ≡ head.inline.slots → mid.budget ≡ head.budget → budget ≡ mid.budget - 1
+        → GivesShort old short (met-by budget)
+    met-short old head budget short g l back source most few slots same less =
+        let first = g.gives s.0 s.1.blocks.remains in
+        record {
+          given = g.given;
+          is = g.is;
+          gives = λ events r. l.back (g.given ∷ events) (back (g.given ∷ events) (event-back budget g.given first.0 first.1 first.2 less events r));
+          lent = subst (λ t. IsShortZeroCopy t short g.given.start g.given.end) (s.1.blocks.same_text ∙ source ∙ l.source) g.lent;
+          fewer =
+              let counted = most-since old head mid l most few slots same in
+              let some = not-spent (GivenOf g.given) first.0 first.1 in
+              omega (arith, counted, some, less);
+        }
+
+    pub met-short-stands : (budget : ℕ) (short : Short) → walking.GivesShort mid.walk short walk → budget ≡ mid.budget - 1 → Stands (met-by budget)
+    met-short-stands budget short g less = let first = g.gives s.0 s.1.blocks.remains in event-stands budget g.given first.0 first.1 first.2 less
+
+    -- an event of another kind, which was not met yet
+    same-blocks : walking.Remains walk s.0 → BlocksLeft (met-by mid.budget) s.0
+    same-blocks r = record { remains = r; few = s.1.blocks.few; same_text = text-same }
+
+    pub met-long-stands : walking.Remains walk s.0 → Stands (met-by mid.budget)
+    met-long-stands r = (s.0, record { blocks = same-blocks r; leaf = outside (met-by mid.budget) out })
+
+    pub met-long : (old head : SpanWalk E F) → walking.Remains walk s.0 → Lasts old head → ((events : List Ranged) → Remains mid events → Remains head events)
+        → events_left mid ≤ events_left head → (head.in_leaf ≡ true → length mid.inline.slots.items < 18446744073709551616) → mid.inline.slots ≡ head.inline.slots → mid.budget ≡ head.budget → KeepsLeft old (met-by mid.budget)
+    met-long old head r l back most few slots same = record {
+      back = λ events m. l.back events (back events (record { left = s.0; stands = s.1; are = outside-left mid s.0 events out (at-blocks (met-by mid.budget) s.0 events (same-blocks r) out m) }));
+      most = most-since old head mid l most few slots same;
+    }
+
     -- nothing
     pub over-back : s.0 ≡ [] → Remains mid []
     over-back e = record { left = s.0; stands = s.1; are = outside-left mid s.0 [] out (subst (λ l. AreGiven (source_of mid) l []) (sym e) refl) }
+
+    pub next-over : (old head : SpanWalk E F) → Lasts old head → ((events : List Ranged) → Remains mid events → Remains head events) → s.0 ≡ [] → Remains old []
+    next-over old head l back e = l.back [] (back [] (over-back e))
 
     pub over-stands : s.0 ≡ [] → walking.Remains walk [] → Stands (met-by mid.budget)
     over-stands e r =

@@ -1,5 +1,5 @@
 -- Where a walk with spans stands, and what it still has to give.
-use Rattle.std.specs.Prelude.{◌≡◌, ℕ, ◌+◌, ◌*◌, ◌<◌, Bool, true, false, List, [], ◌∷◌, ◌++◌, length, Option, Some, None}
+use Rattle.std.specs.Prelude.{◌≡◌, ℕ, ◌+◌, ◌*◌, ◌<◌, ◌≤◌, Bool, true, false, List, [], ◌∷◌, ◌++◌, length, Option, Some, None}
 use Rattle.cmark_grammar.specs.Event.{Ranged}
 use Rattle.cmark_grammar.specs.LeafSpans.{AreGiven}
 use Rattle.cmark_grammar.specs.LeafText.{Leaf}
@@ -7,14 +7,16 @@ use Rattle.cmark_grammar.specs.SpanDocuments.{Segment}
 use Rattle.cmark_items.specs.declared.definitions.RefDefs.{RefDefs}
 use Rattle.cmark_items.specs.declared.footnotes.FootnoteDefs.{FootnoteDefs}
 use Rattle.cmark_inline.specs.declared.event.Opened.{Opened}
-use Rattle.cmark_inline.specs.declared.short.Short.{Short}
 use Rattle.cmark_inline.specs.Opens as opens
 use Rattle.cmark_inline.specs.Opens.{Follows}
-use Rattle.cmark_inline.specs.Shorts.{event_of}
 use Rattle.cmark_inline.specs.Stands.{AreOpened, AreSlots}
 use Rattle.cmark_leaf_text.specs.Reads as reads
 use Rattle.cmark_leaf_text.specs.Reads.{IsRead, is_cell_of, text_of}
 use Rattle.cmark_leaf_text.specs.Stretches.{leaf_bytes}
+use Rattle.cmark_text.specs.declared.short.Next.{Next}
+use Rattle.cmark_text.specs.declared.short.Next.TheVariants as next
+use Rattle.cmark_text.specs.declared.short.Short.{Short}
+use Rattle.cmark_text.specs.Short.{IsShortZeroCopy, shown_short}
 use Rattle.cmark_text.specs.ZeroCopy.{IsZeroCopy}
 use Rattle.cmark_walk.specs.declared.reading.Ranged.{Ranged as Given}
 use Rattle.cmark_walk.specs.Walking as walking
@@ -80,6 +82,10 @@ module _ {E F : Type 0} where
     pub stands : StandsAt walk left
     pub are : LeftIn walk.in_leaf walk left events
 
+  -- more than the number of all events that are left, where a leaf has fewer than 2^66
+  abbrev pub events_left : SpanWalk E F → ℕ
+  events_left walk = walk.budget * 73786976294838206464 + opens.events_left walk.inline
+
   -- a call gives the first of the events that are left, however they go on; or nothing was left
   abbrev pub Gives : SpanWalk E F → Option Given → SpanWalk E F → Type 0
   Gives old None new = Remains old []
@@ -87,19 +93,33 @@ module _ {E F : Type 0} where
 
   -- the event that such an answer stands for, with some range, is the first of those that are left
   pub record GivesShort (old : SpanWalk E F) (short : Short) (new : SpanWalk E F) : Type 0 where
-    pub given : Given
-    pub is : given.event ≡ event_of short
-    pub gives : Gives old (Some given) new
-    pub lent : GivesZeroCopy (source_of old) given
+    pub given : Ranged
+    pub is : given.event ≡ shown_short short
+    pub gives : (events : List Ranged) → Remains new events → Remains old (given ∷ events)
+    pub lent : IsShortZeroCopy (source_of old) short given.start given.end
+    pub fewer : events_left new < events_left old
+
+  -- no event was given, and the same are left
+  pub record KeepsLeft (old new : SpanWalk E F) : Type 0 where
+    pub back : (events : List Ranged) → Remains new events → Remains old events
+    pub most : events_left new ≤ events_left old
+
+  -- an event that owns nothing is the first of those that are left; where it is of another kind, it was not given yet; or nothing was left
+  abbrev pub GivesNext : SpanWalk E F → Next → SpanWalk E F → Type 0
+  GivesNext old (next.Short short) new = GivesShort old short new
+  GivesNext old next.Long new = KeepsLeft old new
+  GivesNext old next.Over new = Remains old []
+
+  -- the same in a leaf; where nothing is left there, the walk then stands in no leaf, and before the same events
+  abbrev pub GivesInLeaf : SpanWalk E F → Next → SpanWalk E F → Type 0
+  GivesInLeaf old (next.Short short) new = GivesShort old short new
+  GivesInLeaf old next.Long new = KeepsLeft old new
+  GivesInLeaf old next.Over new = (new.in_leaf ≡ false) × ((events : List Ranged) → Remains new events → Remains old events)
 
   -- a call gives the first of the events that are left, in a leaf; or the walk then stands in no leaf, and before the same events
   abbrev pub GivesSpan : SpanWalk E F → Option Given → SpanWalk E F → Type 0
   GivesSpan old None new = (new.in_leaf ≡ false) × ((events : List Ranged) → Remains new events → Remains old events)
   GivesSpan old (Some given) new = Gives old (Some given) new
-
-  -- more than the number of all events that are left, where a leaf has fewer than 2^66
-  abbrev pub events_left : SpanWalk E F → ℕ
-  events_left walk = walk.budget * 73786976294838206464 + opens.events_left walk.inline
 
   -- the lines of a leaf were met, before these events and leaves of the document, and whether it is the cell of a table
   pub record BeforeLeaf (walk : SpanWalk E F) (is_cell : Bool) (leaf : Leaf) (others : List Segment) : Type 0 where

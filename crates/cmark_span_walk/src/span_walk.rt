@@ -10,13 +10,11 @@ ghost use Rattle.cmark_inline.specs.Opens.{shown_given, GivesZeroCopy as SpanZer
 ghost use Rattle.cmark_walk.specs.Walking.{Remains as BlocksRemain, definitions_of as block_definitions, shown_ranged, text_of};
 ghost use Rattle.cmark_span_walk.specs.Walking.{GivesZeroCopy};
 
-use cmark_inline::{
-    BrokenLinkCallback, Given, InlineState, Reader, Short, SpecialBytes, special_bytes,
-};
+use cmark_inline::{BrokenLinkCallback, Given, InlineState, Reader, SpecialBytes, special_bytes};
 use cmark_items::{FootnoteDefs, RefDefs};
 use cmark_leaf_text::{LeafLine, LeafText};
-use cmark_text::{EntityLookup, Options};
-use cmark_walk::{Met, Ranged, Walk};
+use cmark_text::{EntityLookup, Next, Options};
+use cmark_walk::{Brief, Met, Ranged, Walk};
 use std::alloc::{AllocError, Global};
 
 /// A walk over the events of a document, in which the spans of each leaf stand in the place of its lines.
@@ -38,7 +36,7 @@ pub struct SpanWalk<'input, 'e, E, F> {
 }
 
 impl<'input, 'e, E: EntityLookup, F: BrokenLinkCallback<'input> + Drop> SpanWalk<'input, 'e, E, F> {
-    ghost use Rattle.cmark_span_walk.specs.Walking.{definitions_of, footnotes_of, source_of, events_left, Stands, Remains, Gives, GivesShort, GivesSpan, BeforeLeaf, EntersLeaf};
+    ghost use Rattle.cmark_span_walk.specs.Walking.{definitions_of, footnotes_of, source_of, events_left, Stands, Remains, Gives, GivesNext, GivesInLeaf, GivesSpan, BeforeLeaf, EntersLeaf};
 
     /// A walk over what this walk over the text meets, which are fewer events and leaves than `budget`. `entities` says what the
     /// entity names stand for; `footnotes` are those that the text defines, of which each counts its references; `callback` is asked
@@ -110,32 +108,71 @@ impl<'input, 'e, E: EntityLookup, F: BrokenLinkCallback<'input> + Drop> SpanWalk
                     self.budget -= 1;
                     return Ok(Some(given));
                 }
+                Met::Over => return Ok(None),
                 Met::Leaf { is_cell } => {
                     self.budget -= 1;
                     self.enter_leaf(is_cell)?;
                 }
-                Met::Over => return Ok(None),
             }
         }
     }
 
-    /// What `next` would give, where that is a text of a leaf that stands in the source, or a soft line break: it then counts as
-    /// given. Else there is no answer, and nothing changes.
+    /// What `next` would give, where no event is made: one that owns nothing counts as given then, and one of another kind does not.
     #[inline(always)]
-    pub fn next_short(&mut self) -> Option<Short<'input>>
+    pub fn next_short(&mut self) -> Result<Next<'input>, AllocError>
         requires { Stands self.old }
-        ensures stands { Stands self.new }
-        ensures given { IfSome result (λ short. GivesShort self.old short self.new) }
-        ensures none { result ≡ None → self.new ≡ self.old }
-        ensures fewer { OnSome result (events_left self.new < events_left self.old) }
+        ensures stands { OnOk result (Stands self.new) }
+        ensures given { IfOk result (λ next. GivesNext self.old next self.new) }
         ensures definitions { definitions_of self.new ≡ definitions_of self.old }
-        ensures footnotes { footnotes_of self.new ≡ footnotes_of self.old }
+        ensures footnotes { SameFootnotes (footnotes_of self.old) (footnotes_of self.new) }
         ensures source { source_of self.new ≡ source_of self.old }
     {
-        if !self.in_leaf {
-            return None;
+        loop {
+            match self.next_in_leaf()? {
+                Next::Short(short) => return Ok(Next::Short(short)),
+                Next::Long => return Ok(Next::Long),
+                Next::Over => {}
+            }
+            match self.walk.next_short(&mut self.lines)? {
+                Brief::Short(short) => {
+                    self.budget -= 1;
+                    return Ok(Next::Short(short));
+                }
+                Brief::Leaf { is_cell } => {
+                    self.budget -= 1;
+                    self.enter_leaf(is_cell)?;
+                }
+                Brief::Long => return Ok(Next::Long),
+                Brief::Over => return Ok(Next::Over),
+            }
         }
-        self.inline.next_short(&self.leaf)
+    }
+
+    // The same of the leaf at hand; where there is no leaf or it has no more events, nothing is left there, and the walk then stands in none.
+    #[inline(always)]
+    fn next_in_leaf(&mut self) -> Result<Next<'input>, AllocError>
+        requires { Stands self.old }
+        ensures stands { OnOk result (Stands self.new) }
+        ensures given { IfOk result (λ next. GivesInLeaf self.old next self.new) }
+        ensures most { OnOk result (events_left self.new ≤ events_left self.old) }
+        ensures few { OnOk result (self.old.in_leaf ≡ true → length self.new.inline.slots.items < 18446744073709551616) }
+        ensures slots { OnOk result (self.new.inline.slots ≡ self.old.inline.slots) }
+        ensures budget { self.new.budget ≡ self.old.budget }
+        ensures source { source_of self.new ≡ source_of self.old }
+        ensures definitions { definitions_of self.new ≡ definitions_of self.old }
+        ensures footnotes { footnotes_of self.new ≡ footnotes_of self.old }
+    {
+        if !self.in_leaf {
+            return Ok(Next::Over);
+        }
+        match self.inline.next_short(&self.leaf)? {
+            Next::Short(short) => Ok(Next::Short(short)),
+            Next::Long => Ok(Next::Long),
+            Next::Over => {
+                self.in_leaf = false;
+                Ok(Next::Over)
+            }
+        }
     }
 
     // The next event of the leaf at hand; `None` where there is no leaf or it has no more, and the walk then stands in none.

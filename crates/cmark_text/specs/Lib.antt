@@ -2,5 +2,6 @@ pub mod Appended
 pub mod InPlace
 pub mod Labelled
 pub mod Marks
+pub mod Short
 pub mod Shown
 pub mod ZeroCopy

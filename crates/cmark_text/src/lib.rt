@@ -11,6 +11,7 @@ mod kind;
 mod label;
 mod lending;
 mod options;
+mod short;
 mod text;
 
 pub use entity::{BasicEntities, EntityLookup};
@@ -23,4 +24,5 @@ pub use kind::{
 };
 pub use label::{FootnoteLabel, LinkLabel};
 pub use options::Options;
+pub use short::{Next, PlainTag, Short};
 pub use text::CowStr;

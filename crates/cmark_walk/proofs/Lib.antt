@@ -10,4 +10,5 @@ pub mod MarkerSteps
 pub mod NewSteps
 pub mod OneRemainder
 pub mod Paths
+pub mod ShortSteps
 pub mod WalkSteps

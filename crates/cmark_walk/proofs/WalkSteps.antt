@@ -15,6 +15,7 @@ use Rattle.cmark_text.specs.declared.event.Event.{Event as TextEvent}
 use Rattle.cmark_text.specs.declared.event.Event.TheVariants as text_event
 use Rattle.cmark_text.specs.declared.event.Tag.{Tag as TextTag}
 use Rattle.cmark_text.specs.Shown.{shown, shown_tag}
+use Rattle.cmark_grammar.specs.Tag as tag
 use Rattle.cmark_grammar.specs.TagEnd.{end_of}
 use Rattle.cmark_grammar.specs.Event as event
 use Rattle.cmark_grammar.specs.BlockDocument as document
@@ -33,7 +34,7 @@ use Rattle.cmark_walk.specs.declared.reading.Stage.TheVariants as stage
 use Rattle.cmark_walk.specs.declared.reading.Step.{Step}
 use Rattle.cmark_walk.specs.declared.reading.Step.TheVariants as step
 use Rattle.cmark_walk.specs.Reads.{tag_in}
-use Rattle.cmark_walk.specs.Walking.{Drawn, Draws, Outer, StandsBelow, StandsAt, Remains, Goes, GivesStep, GivesRanged, IsAt, IsStaged, left_from, left_above, leaving, tight_below, text_of, texts_of, definitions_of}
+use Rattle.cmark_walk.specs.Walking.{Drawn, Draws, Outer, StandsBelow, StandsAt, Remains, Goes, GivesStep, GivesRanged, IsFirst, IsAt, IsStaged, left_from, left_above, leaving, tight_below, text_of, texts_of, definitions_of}
 use Rattle.cmark_walk.proofs.LeafKinds.{leaf-within, inside-leaf, inside-block, settled-leaf, only-leaves-inside}
 
 -- the walk with its tree in another place
@@ -162,6 +163,9 @@ gives-step e item (step.Leaf is_cell) lines left others walk g eq r = absurd g
 gives-step e item step.Silent lines left others walk g eq r = absurd g
 gives-step e item step.Over lines left others walk g eq r = absurd g
 
+pub first-step : (e : TextEvent) (item : Item) (s : Step) (lines : List LeafLine) (left : List Segment) (walk : Walk) → GivesRanged e item s → IsFirst left (at_range (shown e) item) walk → GivesStep left s lines walk
+first-step e item s lines left walk g f = gives-step e item s lines left f.0 walk g f.1 f.2
+
 pub goes-after : (left : List Segment) (s : Step) (lines : List LeafLine) (walk : Walk) → GivesStep left s lines walk → Goes walk
 goes-after left (step.Event given) lines walk g = (g.0, g.2)
 goes-after left (step.Leaf is_cell) lines walk g = (g.1, g.4)
@@ -224,20 +228,25 @@ module _ (walk : Walk) (item : Item) (ix : TreeIndex) (t : Tree Item) (at : IsFo
       inside-leaf (kind_at above node) (settled (tight_within (tight_below above) node.kind) inside) (segments (settled (tight_within (tight_below above) node.kind) inside)) (leaf-within (tight_below above) node.kind ∙ e)
       ∙ ap (λ leaf. Content leaf ∷ []) (settled-leaf (tight_below above) node.kind (tight_within (tight_below above) node.kind) inside)
 
-  pub enters-around : (tag : TextTag) (s : Step) → Reads-at walk item (reads.Around (shown_tag tag)) → Leaf-at walk item false → ((z : Zip Item) → Holds walk.tree z → HasFocus z → Holds t (pushed z))
-      → GivesRanged (text_event.Start tag) item s
-      → (left : List Segment) (lines : List LeafLine) → Remains walk left → GivesStep left s lines (moved walk t)
-  enters-around tag s read leaf push g left lines r =
+  pub enters-around-as : (tag : tag.Tag) → Reads-at walk item (reads.Around tag) → Leaf-at walk item false → ((z : Zip Item) → Holds walk.tree z → HasFocus z → Holds t (pushed z))
+      → (left : List Segment) → Remains walk left → IsFirst left (at_range (event.Start tag) item) (moved walk t)
+  enters-around-as tag read leaf push left r =
       let f = at-focus r.z r.here r.above r.stands in
       let at-node = read r.z r.above f.node r.stands.below f.drawn in
       let below : List Outer = record { node = f.node; after = f.after } ∷ r.above in
-      let rest : List Segment = leaving (read_as (kind_at r.above f.node)) f.node ++ (after_at r.above f.after ++ left_above r.above) in
-      gives-step (text_event.Start tag) item s lines left (left_from stage.Before f.inside below) (moved walk t) g
-      (before-node left r f
-      ∙ left-around (shown_tag tag) (read_as (kind_at r.above f.node)) (element_at r.above f.after) (kind_at r.above f.node) f.node (inside_at r.above f.node f.inside) (after_at r.above f.after) (left_above r.above) at-node
-      ∙ ap (λ I. Given (over f.node (event.Start (shown_tag tag))) ∷ (I ++ rest)) (no-leaf-inside r.above f.node f.inside (sym (leaf walk.text.now (texts_of walk) f.node f.drawn)))
-      ∙ ap (λ x. Given x ∷ left_from stage.Before f.inside below) (over-range walk.text.now (texts_of walk) item f.node (event.Start (shown_tag tag)) f.drawn))
-      (remains-before (moved walk t) (left_from stage.Before f.inside below) (down walk item ix t r.z r.here f) f.inside below before (into walk item ix t r.z r.here r.above r.stands is f push) refl)
+      let rest : List Segment = leaving (read_as (kind_at r.above f.node)) f.node ++ (after_at r.above f.after ++ left_above r.above) in (
+        left_from stage.Before f.inside below,
+        before-node left r f
+            ∙ left-around tag (read_as (kind_at r.above f.node)) (element_at r.above f.after) (kind_at r.above f.node) f.node (inside_at r.above f.node f.inside) (after_at r.above f.after) (left_above r.above) at-node
+            ∙ ap (λ I. Given (over f.node (event.Start tag)) ∷ (I ++ rest)) (no-leaf-inside r.above f.node f.inside (sym (leaf walk.text.now (texts_of walk) f.node f.drawn)))
+            ∙ ap (λ x. Given x ∷ left_from stage.Before f.inside below) (over-range walk.text.now (texts_of walk) item f.node (event.Start tag) f.drawn),
+        remains-before (moved walk t) (left_from stage.Before f.inside below) (down walk item ix t r.z r.here f) f.inside below before (into walk item ix t r.z r.here r.above r.stands is f push) refl,
+      )
+
+  pub enters-around : (tag : TextTag) (s : Step) → Reads-at walk item (reads.Around (shown_tag tag)) → Leaf-at walk item false → ((z : Zip Item) → Holds walk.tree z → HasFocus z → Holds t (pushed z))
+      → GivesRanged (text_event.Start tag) item s
+      → (left : List Segment) (lines : List LeafLine) → Remains walk left → GivesStep left s lines (moved walk t)
+  enters-around tag s read leaf push g left lines r = first-step (text_event.Start tag) item s lines left (moved walk t) g (enters-around-as (shown_tag tag) read leaf push left r)
 
   -- before the lines of a leaf
   at-lines : (left : List Segment) (r : Remains walk left) (f : Focus walk item ix r.z r.here) → is_leaf f.node.kind ≡ true → Remains (staged walk stage.Lines) (left_from stage.Lines r.here r.above)
@@ -256,20 +265,24 @@ module _ (walk : Walk) (item : Item) (ix : TreeIndex) (t : Tree Item) (at : IsFo
       ap (λ l. Content (leaf_of f.node.kind f.inside) ∷ l) (sym (append_assoc (leaving (read_as (kind_at r.above f.node)) f.node) (after_at r.above f.after) (left_above r.above)))
       ∙ ap (λ h. left_from stage.Lines h r.above) (sym f.here_is)
 
-  pub enters-leaf : (tag : TextTag) (s : Step) → Reads-at walk item (reads.Around (shown_tag tag)) → Leaf-at walk item true → GivesRanged (text_event.Start tag) item s
-      → (left : List Segment) (lines : List LeafLine) → Remains walk left → GivesStep left s lines (staged walk stage.Lines)
-  enters-leaf tag s read leaf g left lines r =
+  pub enters-leaf-as : (tag : tag.Tag) → Reads-at walk item (reads.Around tag) → Leaf-at walk item true → (left : List Segment) → Remains walk left → IsFirst left (at_range (event.Start tag) item) (staged walk stage.Lines)
+  enters-leaf-as tag read leaf left r =
       let f = at-focus r.z r.here r.above r.stands in
       let at-node = read r.z r.above f.node r.stands.below f.drawn in
       let is-leaf : is_leaf f.node.kind ≡ true = sym (leaf walk.text.now (texts_of walk) f.node f.drawn) in
-      let rest : List Segment = leaving (read_as (kind_at r.above f.node)) f.node ++ (after_at r.above f.after ++ left_above r.above) in
-      gives-step (text_event.Start tag) item s lines left (left_from stage.Lines r.here r.above) (staged walk stage.Lines) g
-      (before-node left r f
-      ∙ left-around (shown_tag tag) (read_as (kind_at r.above f.node)) (element_at r.above f.after) (kind_at r.above f.node) f.node (inside_at r.above f.node f.inside) (after_at r.above f.after) (left_above r.above) at-node
-      ∙ ap (λ I. Given (over f.node (event.Start (shown_tag tag))) ∷ (I ++ rest)) (leaf-inside r.above f.node f.inside is-leaf)
-      ∙ ap (λ l. Given (over f.node (event.Start (shown_tag tag))) ∷ l) (lines-left left r f)
-      ∙ ap (λ x. Given x ∷ left_from stage.Lines r.here r.above) (over-range walk.text.now (texts_of walk) item f.node (event.Start (shown_tag tag)) f.drawn))
-      (at-lines left r f is-leaf)
+      let rest : List Segment = leaving (read_as (kind_at r.above f.node)) f.node ++ (after_at r.above f.after ++ left_above r.above) in (
+        left_from stage.Lines r.here r.above,
+        before-node left r f
+            ∙ left-around tag (read_as (kind_at r.above f.node)) (element_at r.above f.after) (kind_at r.above f.node) f.node (inside_at r.above f.node f.inside) (after_at r.above f.after) (left_above r.above) at-node
+            ∙ ap (λ I. Given (over f.node (event.Start tag)) ∷ (I ++ rest)) (leaf-inside r.above f.node f.inside is-leaf)
+            ∙ ap (λ l. Given (over f.node (event.Start tag)) ∷ l) (lines-left left r f)
+            ∙ ap (λ x. Given x ∷ left_from stage.Lines r.here r.above) (over-range walk.text.now (texts_of walk) item f.node (event.Start tag) f.drawn),
+        at-lines left r f is-leaf,
+      )
+
+  pub enters-leaf : (tag : TextTag) (s : Step) → Reads-at walk item (reads.Around (shown_tag tag)) → Leaf-at walk item true → GivesRanged (text_event.Start tag) item s
+      → (left : List Segment) (lines : List LeafLine) → Remains walk left → GivesStep left s lines (staged walk stage.Lines)
+  enters-leaf tag s read leaf g left lines r = first-step (text_event.Start tag) item s lines left (staged walk stage.Lines) g (enters-leaf-as (shown_tag tag) read leaf left r)
 
   pub enters-inside : Reads-at walk item reads.Inside → (left : List Segment) → Remains walk left → Remains (staged walk stage.Lines) left
   enters-inside read left r =
@@ -283,15 +296,20 @@ module _ (walk : Walk) (item : Item) (ix : TreeIndex) (t : Tree Item) (at : IsFo
       ∙ ap (λ I. I ++ rest) (leaf-inside r.above f.node f.inside is-leaf) ∙ lines-left left r f))
       (at-lines left r f is-leaf)
 
+  pub passes-alone-as : (e : event.Event) → Reads-at walk item (reads.Alone e) → ((z : Zip Item) (s : Sibling z ix.ix) → Holds walk.tree z → Holds t (past z ix.ix s))
+      → (left : List Segment) → Remains walk left → IsFirst left (at_range e item) (moved walk t)
+  passes-alone-as e read next left r =
+      let f = at-focus r.z r.here r.above r.stands in
+      let at-node = read r.z r.above f.node r.stands.below f.drawn in (
+        left_from stage.Before f.after r.above,
+        before-node left r f ∙ left-alone e (read_as (kind_at r.above f.node)) (element_at r.above f.after) (kind_at r.above f.node) f.node (inside_at r.above f.node f.inside) (after_at r.above f.after) (left_above r.above) at-node
+            ∙ ap (λ x. Given x ∷ left_from stage.Before f.after r.above) (over-range walk.text.now (texts_of walk) item f.node e f.drawn),
+        remains-before (moved walk t) (left_from stage.Before f.after r.above) (beyond walk item ix t r.z r.here f) f.after r.above before (passed walk item ix t r.z r.here r.above r.stands f next) refl,
+      )
+
   pub passes-alone : (e : TextEvent) (s : Step) → Reads-at walk item (reads.Alone (shown e)) → ((z : Zip Item) (s : Sibling z ix.ix) → Holds walk.tree z → Holds t (past z ix.ix s)) → GivesRanged e item s
       → (left : List Segment) (lines : List LeafLine) → Remains walk left → GivesStep left s lines (moved walk t)
-  passes-alone e s read next g left lines r =
-      let f = at-focus r.z r.here r.above r.stands in
-      let at-node = read r.z r.above f.node r.stands.below f.drawn in
-      gives-step e item s lines left (left_from stage.Before f.after r.above) (moved walk t) g
-      (before-node left r f ∙ left-alone (shown e) (read_as (kind_at r.above f.node)) (element_at r.above f.after) (kind_at r.above f.node) f.node (inside_at r.above f.node f.inside) (after_at r.above f.after) (left_above r.above) at-node
-      ∙ ap (λ x. Given x ∷ left_from stage.Before f.after r.above) (over-range walk.text.now (texts_of walk) item f.node (shown e) f.drawn))
-      (remains-before (moved walk t) (left_from stage.Before f.after r.above) (beyond walk item ix t r.z r.here f) f.after r.above before (passed walk item ix t r.z r.here r.above r.stands f next) refl)
+  passes-alone e s read next g left lines r = first-step e item s lines left (moved walk t) g (passes-alone-as (shown e) read next left r)
 
 -- what the calls of a step ask
 module _ (walk : Walk) (item : Item) (ix : TreeIndex) (at : IsFocusAt walk ix) (is : IsItem walk.tree ix item) where

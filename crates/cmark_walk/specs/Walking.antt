@@ -3,6 +3,8 @@ use Rattle.std.specs.Prelude.{◌≡◌, ◌⊎◌, if◌then◌else◌, ℕ, �
 use Rattle.std.specs.Str.{IsCharBoundary}
 use Rattle.cmark_text.specs.declared.text.CowStr.{CowStr}
 use Rattle.cmark_text.specs.declared.event.Event.{Event as TextEvent}
+use Rattle.cmark_text.specs.declared.short.Short.{Short}
+use Rattle.cmark_text.specs.Short.{IsShortZeroCopy, shown_plain, shown_short}
 use Rattle.cmark_text.specs.Shown.{shown}
 use Rattle.cmark_text.specs.ZeroCopy.{IsZeroCopy}
 use Rattle.cmark_tree.specs.Forest as forest
@@ -36,6 +38,10 @@ use Rattle.cmark_leaf_text.specs.Stretches.{AreLines}
 use Rattle.cmark_walk.specs.declared.walk.Walk.{Walk}
 use Rattle.cmark_walk.specs.declared.reading.Met.{Met}
 use Rattle.cmark_walk.specs.declared.reading.Met.TheVariants as met
+use Rattle.cmark_walk.specs.declared.reading.Brief.{Brief}
+use Rattle.cmark_walk.specs.declared.reading.Brief.TheVariants as brief
+use Rattle.cmark_walk.specs.declared.reading.Glance.{Glance}
+use Rattle.cmark_walk.specs.declared.reading.Glance.TheVariants as glance
 use Rattle.cmark_walk.specs.declared.reading.Stage.{Stage}
 use Rattle.cmark_walk.specs.declared.reading.Stage.TheVariants as stage
 use Rattle.cmark_walk.specs.declared.reading.Ranged.{Ranged}
@@ -222,6 +228,46 @@ GivesStep left (step.Leaf is_cell) lines walk = Gives left (met.Leaf is_cell) li
 GivesStep left step.Silent lines walk = Remains walk left
 GivesStep left step.Over lines walk = Gives left met.Over lines walk
 
+-- the zero-copy law of what is met
+abbrev pub MeetsZeroCopy : List ℕ → Met → Type 0
+MeetsZeroCopy text (met.Event given) = IsZeroCopy text given.event given.range.start given.range.end
+MeetsZeroCopy text (met.Leaf is_cell) = Unit {0}
+MeetsZeroCopy text met.Over = Unit {0}
+
+-- this event is the first of what is left, and the others remain
+abbrev pub IsFirst : List Segment → event.Ranged → Walk → Type 0
+IsFirst left given walk = (others : List Segment) × (left ≡ Given given ∷ others) × Remains walk others
+
+-- the event that such an answer stands for, with some range, is the first of what is left, and the others remain
+pub record GivesShort (old : Walk) (short : Short) (new : Walk) : Type 0 where
+  pub given : event.Ranged
+  pub is : given.event ≡ shown_short short
+  pub gives : (left : List Segment) → Remains old left → IsFirst left given new
+  pub lent : IsShortZeroCopy (text_of old) short given.start given.end
+
+-- a call gives the first of what is left, and the others remain; where that is an event of another kind, the same remains
+abbrev pub GivesBrief : Walk → Brief → List LeafLine → Walk → Type 0
+GivesBrief old (brief.Short short) lines new = GivesShort old short new
+GivesBrief old (brief.Leaf is_cell) lines new = (left : List Segment) → Remains old left → Gives left (met.Leaf is_cell) lines new
+GivesBrief old brief.Long lines new = (left : List Segment) → Remains old left → Remains new left
+GivesBrief old brief.Over lines new = (left : List Segment) → Remains old left → Gives left met.Over lines new
+
+-- the same of a step, which may give nothing
+abbrev pub GivesShortStep : Walk → Option Brief → List LeafLine → Walk → Type 0
+GivesShortStep old None lines new = (left : List Segment) → Remains old left → Remains new left
+GivesShortStep old (Some brief) lines new = GivesBrief old brief lines new
+
+-- an item is read so, or has a text of its own
+abbrev pub ReadsAs : Glance → Reads → Type 0
+ReadsAs (glance.Around tag) R = reads.Around (shown_plain tag) ≡ R
+ReadsAs (glance.Alone short) R = reads.Alone (shown_short short) ≡ R
+ReadsAs glance.Inside R = reads.Inside ≡ R
+ReadsAs glance.Long R = Unit {0}
+
+abbrev pub GlancesZeroCopy : List ℕ → Item → Glance → Type 0
+GlancesZeroCopy text item (glance.Alone short) = IsShortZeroCopy text short item.start item.end
+GlancesZeroCopy text item _ = Unit {0}
+
 -- these are the lines of the leaf at the focus
 abbrev pub HoldsLines : Walk → List LeafLine → Type 0
 HoldsLines walk lines = (z : Zip Item) (here : BlockDocument) (above : List Outer) → StandsAt walk z here above → AreLinesOf walk.text.now (leaf_at here) lines
@@ -292,16 +338,11 @@ GivesRanged event item (step.Leaf is_cell) = ⊥
 GivesRanged event item step.Silent = ⊥
 GivesRanged event item step.Over = ⊥
 
--- the zero-copy law of what is read, met and given: of an event over these bytes of the text
+-- the zero-copy law of what is read and given: of an event over these bytes of the text
 abbrev pub ReadsZeroCopy : List ℕ → Item → Reading → Type 0
 ReadsZeroCopy text item (reading.Around tag) = Unit {0}
 ReadsZeroCopy text item (reading.Alone event) = IsZeroCopy text event item.start item.end
 ReadsZeroCopy text item reading.Inside = Unit {0}
-
-abbrev pub MeetsZeroCopy : List ℕ → Met → Type 0
-MeetsZeroCopy text (met.Event given) = IsZeroCopy text given.event given.range.start given.range.end
-MeetsZeroCopy text (met.Leaf is_cell) = Unit {0}
-MeetsZeroCopy text met.Over = Unit {0}
 
 abbrev pub StepsZeroCopy : List ℕ → Step → Type 0
 StepsZeroCopy text (step.Event given) = IsZeroCopy text given.event given.range.start given.range.end

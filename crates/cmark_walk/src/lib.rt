@@ -3,7 +3,8 @@
 
 pub mod laws;
 mod reading;
+mod short;
 mod walk;
 
-pub use reading::{Met, Ranged};
+pub use reading::{Brief, Met, Ranged};
 pub use walk::Walk;

@@ -1,6 +1,6 @@
 //! What a step of a walk reads, and what it gives.
 
-use cmark_text::{Event, Tag};
+use cmark_text::{Event, PlainTag, Short, Tag};
 use std::ops::Range;
 
 /// An event, and the bytes of the text that it comes from. A start and its end have the range of the whole element.
@@ -22,6 +22,22 @@ pub enum Met<'a> {
         /// Whether it is the cell of a table.
         is_cell: bool,
     },
+    /// Nothing: the document is over.
+    Over,
+}
+
+/// What a walk meets next, of which no event is made.
+#[derive(Clone, Copy, Debug)]
+pub enum Brief<'a> {
+    /// An event that owns nothing.
+    Short(Short<'a>),
+    /// The content of a leaf, whose lines are handed over beside this.
+    Leaf {
+        /// Whether it is the cell of a table.
+        is_cell: bool,
+    },
+    /// An event of another kind, which was not met yet.
+    Long,
     /// Nothing: the document is over.
     Over,
 }
@@ -66,6 +82,19 @@ pub(crate) enum Reading<'a> {
     Alone(Event<'a>),
     /// As what is inside it.
     Inside,
+}
+
+/// How an item is read, of which no event is made.
+#[derive(Clone, Copy)]
+pub(crate) enum Glance<'a> {
+    /// As its start, what is inside it, and its end.
+    Around(PlainTag),
+    /// As one event.
+    Alone(Short<'a>),
+    /// As what is inside it.
+    Inside,
+    /// As something that has a text of its own.
+    Long,
 }
 
 /// What a step of a walk gives.

@@ -42,11 +42,11 @@ use std::alloc::{AllocError, Global};
 /// list is met as its lines alone (CommonMark 5.3).
 #[derive(Drop)]
 pub struct Walk<'a> {
-    text: &'a str,
-    tree: Tree<Item>,
+    pub(crate) text: &'a str,
+    pub(crate) tree: Tree<Item>,
     allocations: Allocations<'a>,
     alloc: Global,
-    stage: Stage,
+    pub(crate) stage: Stage,
 }
 
 impl<'a> Walk<'a> {
@@ -322,7 +322,11 @@ impl<'a> Walk<'a> {
 
     // The lines of the leaf in the focus, and behind them. Whether it is the cell of a table.
     #[inline(always)]
-    fn meet_leaf(&mut self, ix: TreeIndex, lines: &mut Vec<LeafLine>) -> Result<bool, AllocError>
+    pub(crate) fn meet_leaf(
+        &mut self,
+        ix: TreeIndex,
+        lines: &mut Vec<LeafLine>,
+    ) -> Result<bool, AllocError>
         requires at { IsAt self.old ix }
         requires before { self.old.stage ≡ stage.Lines }
         ensures given { IfOk result (λ is_cell. (left : List Segment) → Remains self.old left → Gives left (met.Leaf is_cell) lines.new.items self.new) }
@@ -444,7 +448,7 @@ impl<'a> Walk<'a> {
 
     // The text that an item stands over.
     #[inline(always)]
-    fn slice(&self, item: Item) -> CowStr<'a>
+    pub(crate) fn slice(&self, item: Item) -> CowStr<'a>
         requires { IsDrawn self.now item }
         ensures value { text_bytes result ≡ slice self.now.text.now item.start item.end }
         ensures lent { IsLentBy (slice self.now.text.now item.start item.end) result }
@@ -547,7 +551,7 @@ impl<'a> Walk<'a> {
 
     // The end of such an element.
     #[inline(always)]
-    fn end(&self, item: Item) -> Option<TagEnd>
+    pub(crate) fn end(&self, item: Item) -> Option<TagEnd>
         requires below { IsBelow self.now }
         ensures { (z : Zip Item) (above : List Outer) (node : BlockNode) → StandsBelow self.now z above → Drawn self.now.text.now (texts_of self.now) item node
             → option_map shown_end result ≡ end_in (read_as (kind_within (tight_below above) node.kind)) }
@@ -584,7 +588,7 @@ impl<'a> Walk<'a> {
 
     // Whether a paragraph among the siblings at hand stands directly in an item or a definition of a tight list (CommonMark 5.3).
     // In a document the parent of these is a list, so this looks at two nodes.
-    fn is_tight(&self) -> bool
+    pub(crate) fn is_tight(&self) -> bool
         requires { IsBelow self.now }
         ensures { (z : Zip Item) (above : List Outer) → StandsBelow self.now z above → result ≡ tight_below above }
     {
@@ -614,7 +618,7 @@ fn task_of(item: Item) -> Option<bool>
 
 // Whether an item is a leaf, whose lines have spans (CommonMark 4.2, 4.3 and 4.8, GFM 4.10).
 #[inline(always)]
-fn is_leaf(item: Item) -> bool
+pub(crate) fn is_leaf(item: Item) -> bool
     ensures { (text : List ℕ) (texts : List CowStr) (node : BlockNode) → Drawn text texts item node → result ≡ is_leaf node.kind }
 {
     match item.body {
@@ -679,7 +683,7 @@ fn table<'a>(alloc: Global, row: &str) -> Result<Tag<'a>, AllocError>
 
 // The number of the first item of a list with this character, if it is ordered (CommonMark 5.2).
 #[inline(always)]
-fn first_number(mark: u8, number: u64) -> Option<u64>
+pub(crate) fn first_number(mark: u8, number: u64) -> Option<u64>
     ensures { result ≡ list_number mark number }
 {
     if mark == b'.' || mark == b')' {

@@ -1,5 +1,5 @@
 -- What a parser still has to give, and the definitions of links and of footnotes that it found.
-use Rattle.std.specs.Prelude.{◌≡◌, ◌<◌, ℕ, suc, Bool, true, false, if◌then◌else◌, List, [], ◌∷◌, OnSome, Option, Some, option_map, Result, Ok}
+use Rattle.std.specs.Prelude.{◌≡◌, ◌<◌, ◌≤◌, ℕ, suc, Bool, true, false, if◌then◌else◌, List, [], ◌∷◌, OnSome, Option, Some, option_map, Result, Ok, Err}
 use Rattle.std.specs.declared.alloc.AllocError.{AllocError}
 use Rattle.std.specs.declared.ops.Range.{Range}
 use Rattle.cmark_blocks.specs.Footnotes.{HasLabels}
@@ -13,13 +13,15 @@ use Rattle.cmark_grammar.specs.Options.{Options}
 use Rattle.cmark_grammar.specs.References.{first_with, references}
 use Rattle.cmark_grammar.specs.SpanDocuments.{footnote_labels}
 use Rattle.cmark_inline.specs.Footnoted.{SameFootnotes}
-use Rattle.cmark_inline.specs.Shorts.{event_of}
-use Rattle.cmark_inline.specs.declared.short.Short.{Short}
 use Rattle.cmark_items.specs.Definitions.{definition, shown_definition}
 use Rattle.cmark_items.specs.declared.definitions.RefDefs.{RefDefs}
 use Rattle.cmark_items.specs.declared.footnotes.FootnoteDefs.{FootnoteDefs}
 use Rattle.cmark_span_walk.specs.Walking as walking
 use Rattle.cmark_text.specs.declared.event.Event.{Event}
+use Rattle.cmark_text.specs.declared.short.Next.{Next}
+use Rattle.cmark_text.specs.declared.short.Next.TheVariants as next
+use Rattle.cmark_text.specs.declared.short.Short.{Short}
+use Rattle.cmark_text.specs.Short.{IsShortZeroCopy, shown_short}
 use Rattle.cmark_text.specs.Shown.{shown}
 use Rattle.cmark_text.specs.ZeroCopy.{IsZeroCopy}
 use Rattle.cmark_walk.specs.declared.reading.Ranged.{Ranged as Given}
@@ -48,6 +50,13 @@ pub record ShowsRanged (text : List ℕ) (item : Event × Range ℕ) (r : Ranged
 abbrev pub AreZeroCopy : (text : List ℕ) → List (Event × Range ℕ) → Type 0
 AreZeroCopy text [] = Unit {0}
 AreZeroCopy text (item ∷ items) = IsZeroCopy text item.0 item.1.start item.1.end × AreZeroCopy text items
+
+-- nothing is given behind such an answer
+abbrev pub is_last : Result Next AllocError → Bool
+is_last (Ok (next.Short short)) = false
+is_last (Ok next.Long) = false
+is_last (Ok next.Over) = true
+is_last (Err e) = true
 
 module _ {E F : Type 0} where
   -- how many events are left at most
@@ -96,11 +105,36 @@ module _ {E F : Type 0} where
     pub footnotes : SameFootnotes (footnotes old) (footnotes new)
     pub fewer : OnSome given (events_left new < events_left old)
 
-  -- the event that such an answer stands for, with some range, is given
+  -- the event that such an answer stands for, with some range, is the first of what was left
   pub record GivesShort (old : Parser E F) (short : Short) (new : Parser E F) : Type 0 where
-    pub given : Given
-    pub is : given.event ≡ event_of short
-    pub gives : GivesStep old (Some (Ok given)) new
+    pub given : Ranged
+    pub is : given.event ≡ shown_short short
+    pub gives : (events : List Ranged) → Remains new events → Remains old (given ∷ events)
+    pub lent : IsShortZeroCopy (text_of old) short given.start given.end
+    pub fewer : events_left new < events_left old
+
+  -- no event was given, and the same are left
+  pub record KeepsLeft (old new : Parser E F) : Type 0 where
+    pub back : (events : List Ranged) → Remains new events → Remains old events
+    pub most : events_left new ≤ events_left old
+
+  -- an event that owns nothing is the first of what was left; where it is of another kind, it was not given yet; or nothing was left
+  abbrev pub Answers : Parser E F → Next → Parser E F → Type 0
+  Answers old (next.Short short) new = GivesShort old short new
+  Answers old next.Long new = KeepsLeft old new
+  Answers old next.Over new = Remains old [] × IsOver new
+
+  pub record GivesAs (old : Parser E F) (next : Next) (new : Parser E F) : Type 0 where
+    pub answers : Answers old next new
+    pub can : CanGo new
+    pub text : text_of new ≡ text_of old
+    pub definitions : definitions new ≡ definitions old
+    pub footnotes : SameFootnotes (footnotes old) (footnotes new)
+
+  -- such an answer is given, or the error item, and nothing any more
+  abbrev pub GivesOrErr : Parser E F → Result Next AllocError → Parser E F → Type 0
+  GivesOrErr old (Ok next) new = GivesAs old next new
+  GivesOrErr old (Err e) new = GivesStep old (Some (Err e)) new
 
   -- the parser is at the start of a walk over a document that the text derives
   abbrev pub Reads : List ℕ → Options → Lookup → Parser E F → Type 0

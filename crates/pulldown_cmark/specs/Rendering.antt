@@ -1,9 +1,13 @@
 -- The HTML of a text.
-use Rattle.std.specs.Prelude.{◌≡◌, ℕ, List, map}
+use Rattle.std.specs.Prelude.{◌≡◌, ℕ, Bool, true, false, List, ◌++◌, map, None, Some, Ok}
 use Rattle.cmark_grammar.specs.Answers.{Lookup}
 use Rattle.cmark_grammar.specs.Event.{Event, Ranged}
-use Rattle.cmark_grammar.specs.Html.{html}
+use Rattle.cmark_grammar.specs.Html.{Writing, html, moved, piece}
 use Rattle.cmark_grammar.specs.Options.{Options}
+use Rattle.cmark_text.specs.Shown.{shown}
+use Rattle.cmark_walk.specs.declared.reading.Ranged.{Ranged as Given}
+use Rattle.pulldown_cmark.specs.declared.parse.Parser.{Parser}
+use Rattle.pulldown_cmark.specs.Parsing.{GivesStep}
 use Rattle.pulldown_cmark.specs.Walking.{IsReading}
 
 -- the events without their ranges
@@ -15,3 +19,24 @@ pub record IsHtmlOf (text : List ℕ) (options : Options) (lookup : Lookup) (out
   pub events : List Ranged
   pub reading : IsReading text options lookup events
   pub output_is : output ≡ html (events_of events)
+
+-- what a writer keeps, and all that was written
+pub record Written : Type 0 where
+  pub writing : Writing
+  pub bytes : List ℕ
+
+abbrev pub written : Writing → List ℕ → Written
+written writing bytes = record { writing = writing; bytes = bytes }
+
+module _ {E F : Type 0} where
+  -- the first event of what was left was given, and its piece was appended
+  pub record WritesEvent (old : Parser E F) (before : Written) (new : Parser E F) (after : Written) : Type 0 where
+    pub given : Given
+    pub gives : GivesStep old (Some (Ok given)) new
+    pub bytes : after.bytes ≡ before.bytes ++ piece before.writing (shown given.event)
+    pub writing : after.writing ≡ moved before.writing (shown given.event)
+
+  -- so it was, or nothing was left, and nothing was appended
+  abbrev pub WritesNext : (is_given : Bool) → Parser E F → Written → Parser E F → Written → Type 0
+  WritesNext true old before new after = WritesEvent old before new after
+  WritesNext false old before new after = GivesStep old None new × (after ≡ before)

@@ -2,18 +2,17 @@
 
 ghost use Rattle.std.specs.Prelude.{◌≡◌, ◌++◌, List, IfOk, OnOk, string_bytes};
 ghost use Rattle.cmark_grammar.specs.Event.{Ranged};
-ghost use Rattle.cmark_grammar.specs.Html.{html, piece, moved};
+ghost use Rattle.cmark_grammar.specs.Html.{html};
 ghost use Rattle.cmark_html.specs.Writer.{writing};
-ghost use Rattle.cmark_inline.specs.Shorts.{event_of};
-ghost use Rattle.cmark_text.specs.Shown.{shown, shown_options};
+ghost use Rattle.cmark_text.specs.Shown.{shown_options};
 ghost use Rattle.pulldown_cmark.specs.Parsing.{CanGo, Remains};
-ghost use Rattle.pulldown_cmark.specs.Rendering.{IsHtmlOf, events_of};
+ghost use Rattle.pulldown_cmark.specs.Rendering.{IsHtmlOf, WritesNext, events_of, written};
 
 use crate::parse::Parser;
 pub use cmark_html::push_html;
-use cmark_html::{Writer, finish, write_event, write_soft_break, write_text};
-use cmark_inline::{BrokenLinkCallback, Short};
-use cmark_text::{EntityLookup, Options};
+use cmark_html::{Writer, finish, write_event, write_short};
+use cmark_inline::BrokenLinkCallback;
+use cmark_text::{EntityLookup, Next, Options};
 use std::alloc::{AllocError, Global};
 
 /// The HTML of a text with these options. `entities` says what the entity names stand for. Fails where memory is refused.
@@ -38,8 +37,7 @@ pub fn to_html<E: EntityLookup>(
     Ok(html)
 }
 
-// Appends the HTML of the events that a parser still has to give. Most of them are texts and soft line breaks, of which no event is
-// made.
+// Appends the HTML of the events that a parser still has to give. Of most of them no event is made.
 fn render<'a, E: EntityLookup, F: BrokenLinkCallback<'a> + Drop>(
     out: &mut String,
     parser: &mut Parser<'a, E, F>,
@@ -50,29 +48,36 @@ fn render<'a, E: EntityLookup, F: BrokenLinkCallback<'a> + Drop>(
 {
     let mut writer = Writer::new(*out.allocator());
     loop {
-        if let Some(short) = parser.next_short() {
-            write_short(out, &mut writer, short)?;
-            continue;
-        }
-        match parser.advance() {
-            Some(given) => write_event(out, &mut writer, given?.event)?,
-            None => return finish(out, &writer),
+        match parser.next_short()? {
+            Next::Short(short) => write_short(out, &mut writer, short)?,
+            Next::Long => {
+                let is_given = write_next(out, &mut writer, parser)?;
+                if !is_given {
+                    return finish(out, &writer);
+                }
+            }
+            Next::Over => return finish(out, &writer),
         }
     }
 }
 
-// Appends the piece of a text or of a soft line break.
-#[inline(always)]
-fn write_short<'a>(
+// Appends the piece of the next event, of any kind, and says whether there is one. It is apart, so that no other event waits for the room that
+// one of any kind takes.
+#[inline(never)]
+fn write_next<'a, E: EntityLookup, F: BrokenLinkCallback<'a> + Drop>(
     out: &mut String,
     writer: &mut Writer<'a>,
-    short: Short<'a>,
-) -> Result<(), AllocError>
-    ensures ok { OnOk result (string_bytes out.new ≡ string_bytes out.old ++ piece (writing writer.old) (shown (event_of short.entry))) }
-    ensures state { OnOk result (writing writer.new ≡ moved (writing writer.old) (shown (event_of short.entry))) }
+    parser: &mut Parser<'a, E, F>,
+) -> Result<bool, AllocError>
+    requires { CanGo parser.old }
+    ensures { IfOk result (λ is_given. WritesNext is_given parser.old (written (writing writer.old) (string_bytes out.old)) parser.new (written (writing writer.new) (string_bytes out.new))) }
 {
-    match short {
-        Short::Text(text) => write_text(out, writer, text),
-        Short::SoftBreak => write_soft_break(out, writer),
+    match parser.advance() {
+        Some(Ok(given)) => {
+            write_event(out, writer, given.event)?;
+            Ok(true)
+        }
+        Some(Err(error)) => Err(error),
+        None => Ok(false),
     }
 }

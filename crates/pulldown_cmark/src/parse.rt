@@ -1,16 +1,17 @@
 //! The parser: iterators over the events of a text's document.
 
-ghost use Rattle.std.specs.Prelude.{◌≡◌, None, IfOk, IfSome};
+ghost use Rattle.std.specs.Prelude.{◌≡◌, IfOk};
 ghost use Rattle.std.specs.Iterator.{at_most};
 ghost use Rattle.cmark_grammar.specs.Options.{no_options};
 ghost use Rattle.cmark_text.specs.Shown.{shown_options};
+ghost use Rattle.pulldown_cmark.specs.Parsing.{is_last};
 
 use bitflags::Flags;
 use cmark_blocks::{FirstPass, run_first_pass};
-use cmark_inline::{BrokenLinkCallback, DefaultBrokenLinkCallback, Short};
+use cmark_inline::{BrokenLinkCallback, DefaultBrokenLinkCallback};
 use cmark_items::{FootnoteDefs, RefDefs};
 use cmark_span_walk::{OptionalCallback, SpanWalk};
-use cmark_text::{EntityLookup, Event, Options};
+use cmark_text::{EntityLookup, Event, Next, Options};
 use cmark_walk::{Ranged, Walk};
 use std::alloc::{AllocError, Global};
 use std::mem;
@@ -78,7 +79,7 @@ impl<'input, E: EntityLookup> Parser<'input, E> {
 }
 
 impl<'input, E: EntityLookup, F: BrokenLinkCallback<'input> + Drop> Parser<'input, E, F> {
-    ghost use Rattle.pulldown_cmark.specs.Parsing.{Reads, Defines, DefinesFootnotes, CanGo, CanGoRanged, GivesShort, GivesStep, definitions, text_of, walk_of};
+    ghost use Rattle.pulldown_cmark.specs.Parsing.{Reads, Defines, DefinesFootnotes, CanGo, CanGoRanged, GivesOrErr, GivesStep, definitions, text_of, walk_of};
 
     /// A parser of `text` with these options, which asks the callback, if there is one, for each reference without a
     /// definition. The callback is asked while the events are given.
@@ -128,18 +129,19 @@ impl<'input, E: EntityLookup, F: BrokenLinkCallback<'input> + Drop> Parser<'inpu
         OffsetIter { parser: self }
     }
 
-    // What `next` would give, where that is a text that stands in the source, or a soft line break: it then counts as given. Else
-    // there is no answer, and nothing changes.
+    // What `next` would give, where no event is made: one that owns nothing counts as given then, and one of another kind does not. Where
+    // memory is refused, nothing is given any more.
     #[inline(always)]
-    pub(crate) fn next_short(&mut self) -> Option<Short<'input>>
+    pub(crate) fn next_short(&mut self) -> Result<Next<'input>, AllocError>
         requires { CanGo self.old }
-        ensures given { IfSome result (λ short. GivesShort self.old short self.new) }
-        ensures none { result ≡ None → self.new ≡ self.old }
+        ensures { GivesOrErr self.old result self.new }
     {
         if !self.is_over {
-            return self.spans.next_short();
+            let given = self.spans.next_short();
+            self.is_over = is_last(&given);
+            return given;
         }
-        None
+        Ok(Next::Over)
     }
 
     // The next event with its range. Where memory is refused, this is the last item.
@@ -162,6 +164,17 @@ impl<'input, E: EntityLookup, F: BrokenLinkCallback<'input> + Drop> Parser<'inpu
                 Some(Err(error))
             }
         }
+    }
+}
+
+// Whether nothing is given behind this: it says that the document is over, or that memory was refused.
+#[inline(always)]
+fn is_last(given: &Result<Next<'_>, AllocError>) -> bool
+    ensures { result ≡ is_last given.now }
+{
+    match given {
+        Ok(Next::Short(_) | Next::Long) => false,
+        Ok(Next::Over) | Err(_) => true,
     }
 }
 

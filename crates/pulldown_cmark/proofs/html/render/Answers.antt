@@ -1,31 +1,41 @@
-use Rattle.std.proofs.Common.{None, Ok, Some, ◌++◌, sym, ap, ◌∙◌, string_bytes, subst}
+use Rattle.std.proofs.Common.{◌++◌, ap, ◌∙◌, string_bytes, subst}
 use Rattle.std.proofs.lemmas.Result.{on_ok_weaker}
-use Rattle.cmark_grammar.specs.Html.{piece, moved}
+use Rattle.cmark_grammar.specs.Html.{last_piece}
 use Rattle.cmark_html.specs.Writer.{writing}
-use Rattle.cmark_text.specs.Shown.{shown}
-use Rattle.pulldown_cmark.specs.Parsing.{GivesStep}
-use Rattle.pulldown_cmark.proofs.RenderSteps.{so-far-end, so-far-more}
+use Rattle.pulldown_cmark.specs.Parsing.{GivesAs}
+use Rattle.pulldown_cmark.specs.Rendering.{WritesNext, Written, written}
+use Rattle.pulldown_cmark.proofs.RenderSteps.{so-far-end, so-far-long, so-far-more, so-far-short}
 use Rattle.pulldown_cmark.proofs.html.render.Goals as goal
 
-pub loop-short-preserved-in-Some : goal.loop-short-preserved-in-Some
-loop-short-preserved-in-Some g c =
-    let h = c.in-Some.ensures.given in
-    let w = writing c.loop-short.writer in
-    let mid = string_bytes c.loop-short.out in
-    so-far-more c.args.parser.now c.loop-short.parser c.next_short.new.self h.given w (writing c.write_short.new.writer) (string_bytes c.args.out.now) mid (string_bytes c.write_short.new.out) c.loop-short.invariant h.gives
-    (c.in_ok-write_short.ensures.ok ∙ ap (λ e. mid ++ piece w (shown e)) (sym h.is)) (c.in_ok-write_short.ensures.state ∙ ap (λ e. moved w (shown e)) (sym h.is))
+pub loop-writer-preserved-in-Continue-branch-3 : goal.loop-writer-preserved-in-Continue-branch-3
+loop-writer-preserved-in-Continue-branch-3 g c =
+    let h = subst (λ n. GivesAs c.loop-writer.parser n c.next_short.new.self) c.in-Short.is c.in_ok-short.ensures in
+    so-far-short c.args.parser.now c.loop-writer.parser c.next_short.new.self c.in-Short.short (writing c.loop-writer.writer) (writing c.write_short.new.writer) (string_bytes c.args.out.now) (string_bytes c.loop-writer.out)
+    (string_bytes c.write_short.new.out) c.loop-writer.invariant h c.in_ok-write_short-in-Short.ensures.ok c.in_ok-write_short-in-Short.ensures.state
 
-pub loop-short-preserved : goal.loop-short-preserved
-loop-short-preserved g c =
-    let same = c.next_short.ensures.none c.in_default.is in
-    let item = c.in_ok-given-in-Some-advance.field-0 in
-    let given = subst (λ o. GivesStep c.next_short.new.self o c.advance.new.self) (c.in-Some-advance.is ∙ ap Some c.in_ok-given-in-Some-advance.was) c.advance.ensures in
-    so-far-more c.args.parser.now c.loop-short.parser c.advance.new.self item (writing c.loop-short.writer) (writing c.write_event.new.writer) (string_bytes c.args.out.now) (string_bytes c.loop-short.out) (string_bytes c.write_event.new.out) c.loop-short.invariant
-    (subst (λ p. GivesStep p (Some (Ok item)) c.advance.new.self) same given) c.in_ok-write_event-in-Some-advance.ensures.ok c.in_ok-write_event-in-Some-advance.ensures.state
+pub loop-writer-preserved : goal.loop-writer-preserved
+loop-writer-preserved g c =
+    let w = writing c.loop-writer.writer in
+    let old = string_bytes c.args.out.now in
+    let mid = string_bytes c.loop-writer.out in
+    let h = subst (λ n. GivesAs c.loop-writer.parser n c.next_short.new.self) c.in-Long.is c.in_ok-short.ensures in
+    let long = so-far-long c.args.parser.now c.loop-writer.parser c.next_short.new.self w old mid c.loop-writer.invariant h in
+    let wrote = subst (λ b. WritesNext b c.next_short.new.self (written w mid) c.write_next.new.parser (written (writing c.write_next.new.writer) (string_bytes c.write_next.new.out))) c.if-not-is_given.false c.in_ok-is_given-in-Long.ensures in
+    so-far-more c.args.parser.now c.next_short.new.self c.write_next.new.parser wrote.given w (writing c.write_next.new.writer) old mid (string_bytes c.write_next.new.out) long wrote.gives wrote.bytes wrote.writing
 
-pub returns-in-None : goal.returns-in-None
-returns-in-None g c =
-    let same = c.next_short.ensures.none c.in_default.is in
-    let given = subst (λ p. GivesStep p None c.advance.new.self) same (subst (λ o. GivesStep c.next_short.new.self o c.advance.new.self) c.in-None.is c.advance.ensures) in
+pub returns-then-not-is_given : goal.returns-then-not-is_given
+returns-then-not-is_given g c =
+    let w = writing c.loop-writer.writer in
+    let old = string_bytes c.args.out.now in
+    let mid = string_bytes c.loop-writer.out in
+    let h = subst (λ n. GivesAs c.loop-writer.parser n c.next_short.new.self) c.in-Long.is c.in_ok-short.ensures in
+    let long = so-far-long c.args.parser.now c.loop-writer.parser c.next_short.new.self w old mid c.loop-writer.invariant h in
+    let wrote = subst (λ b. WritesNext b c.next_short.new.self (written w mid) c.write_next.new.parser (written (writing c.write_next.new.writer) (string_bytes c.write_next.new.out))) c.if-not-is_given.true c.in_ok-is_given-in-Long.ensures in
     on_ok_weaker c.finish.result
-    (λ more. so-far-end c.args.parser.now c.loop-short.parser c.advance.new.self (writing c.loop-short.writer) (string_bytes c.args.out.now) (string_bytes c.loop-short.out) (string_bytes c.finish.new.out) c.loop-short.invariant given more) c.finish.ensures.ok
+    (λ more. so-far-end c.args.parser.now c.next_short.new.self w old mid (string_bytes c.finish.new.out) long wrote.0.next.first.0 (more ∙ ap (λ (s : Written). s.bytes ++ last_piece s.writing.image) wrote.1)) c.finish.ensures.ok
+
+pub returns-in-Over : goal.returns-in-Over
+returns-in-Over g c =
+    let h = subst (λ n. GivesAs c.loop-writer.parser n c.next_short.new.self) c.in-Over.is c.in_ok-short.ensures in
+    on_ok_weaker c.finish-in-Over.result
+    (λ more. so-far-end c.args.parser.now c.loop-writer.parser (writing c.loop-writer.writer) (string_bytes c.args.out.now) (string_bytes c.loop-writer.out) (string_bytes c.finish-in-Over.new.out) c.loop-writer.invariant h.answers.0 more) c.finish-in-Over.ensures.ok

@@ -1,0 +1,177 @@
+//! The pieces of events that own nothing.
+
+ghost use Rattle.std.specs.Prelude.{◌≡◌, ◌++◌, true, IfOk, OnOk, OnErr, None, codes, is_some, string_bytes};
+ghost use Rattle.cmark_grammar.specs.Event.{Code, End, Html, Start, Text};
+ghost use Rattle.cmark_grammar.specs.Html.{piece, piece_outside, moved, moved_outside};
+ghost use Rattle.cmark_text.specs.Appended.{AppendsFront};
+ghost use Rattle.cmark_text.specs.Short.{shown_plain, shown_short};
+ghost use Rattle.cmark_text.specs.Shown.{shown_end};
+ghost use Rattle.cmark_html.specs.Writer.{at_start, writing};
+
+use crate::end::{append_end, line_start_after_end};
+use crate::parts::{append, append_on_line};
+use crate::start::{append_plain_start, line_start_after_plain};
+use crate::state::Writer;
+use crate::writer::{ends_in_line_feed, line_start_after_html, write_in_image};
+use cmark_text::escape::escape_html_body_text;
+use cmark_text::{PlainTag, Short, TagEnd};
+use std::alloc::AllocError;
+
+/// Appends the piece of an event that owns nothing.
+#[inline(always)]
+pub fn write_short<'a>(
+    out: &mut String,
+    writer: &mut Writer<'a>,
+    short: Short<'a>,
+) -> Result<(), AllocError>
+    ensures ok { OnOk result (string_bytes out.new ≡ string_bytes out.old ++ piece (writing writer.old) (shown_short short.entry)) }
+    ensures state { OnOk result (writing writer.new ≡ moved (writing writer.old) (shown_short short.entry)) }
+    ensures err { OnErr result (AppendsFront (string_bytes out.old) (string_bytes out.new) (piece (writing writer.old) (shown_short short.entry))) }
+{
+    if writer.image.is_none() {
+        write_short_outside(out, writer, short)
+    } else {
+        write_short_in_image(out, writer, short)
+    }
+}
+
+/// Appends the piece of such an event inside of an image. It is apart, so that no other piece waits for the room that an event takes.
+#[inline(never)]
+fn write_short_in_image<'a>(
+    out: &mut String,
+    writer: &mut Writer<'a>,
+    short: Short<'a>,
+) -> Result<(), AllocError>
+    requires { is_some writer.old.image ≡ true }
+    ensures ok { OnOk result (string_bytes out.new ≡ string_bytes out.old ++ piece (writing writer.old) (shown_short short.entry)) }
+    ensures state { OnOk result (writing writer.new ≡ moved (writing writer.old) (shown_short short.entry)) }
+    ensures err { OnErr result (AppendsFront (string_bytes out.old) (string_bytes out.new) (piece (writing writer.old) (shown_short short.entry))) }
+{
+    let event = short.event(*out.allocator());
+    write_in_image(out, writer, event)
+}
+
+/// Appends the piece of such an event outside of images.
+#[inline(always)]
+fn write_short_outside<'a>(
+    out: &mut String,
+    writer: &mut Writer<'a>,
+    short: Short<'a>,
+) -> Result<(), AllocError>
+    requires { writer.old.image ≡ None }
+    ensures ok { OnOk result (string_bytes out.new ≡ string_bytes out.old ++ piece_outside (writing writer.old) (shown_short short.entry)) }
+    ensures state { OnOk result (writing writer.new ≡ moved_outside (writing writer.old) (shown_short short.entry)) }
+    ensures err { OnErr result (AppendsFront (string_bytes out.old) (string_bytes out.new) (piece_outside (writing writer.old) (shown_short short.entry))) }
+{
+    match short {
+        Short::Text(text) => write_text(out, writer, text),
+        Short::Start(tag) => write_start(out, writer, tag),
+        Short::End(tag) => write_end(out, writer, tag),
+        Short::Code(text) => write_code(out, writer, text),
+        Short::Html(text) => write_html(out, writer, text),
+        Short::InlineHtml(text) => write_html(out, writer, text),
+        Short::SoftBreak => write_line(out, writer, "\n"),
+        Short::HardBreak => write_line(out, writer, "<br />\n"),
+        Short::Rule => {
+            append_on_line(out, writer.line_start, "<hr />\n")?;
+            writer.line_start = true;
+            Ok(())
+        }
+    }
+}
+
+/// Appends the piece of a text.
+#[inline(always)]
+fn write_text(out: &mut String, writer: &mut Writer<'_>, text: &str) -> Result<(), AllocError>
+    requires { writer.old.image ≡ None }
+    ensures ok { OnOk result (string_bytes out.new ≡ string_bytes out.old ++ piece_outside (writing writer.old) (Text text.now)) }
+    ensures state { OnOk result (writing writer.new ≡ moved_outside (writing writer.old) (Text text.now)) }
+    ensures err { OnErr result (AppendsFront (string_bytes out.old) (string_bytes out.new) (piece_outside (writing writer.old) (Text text.now))) }
+{
+    if writer.in_metadata {
+        return Ok(());
+    }
+    escape_html_body_text(out, text)?;
+    writer.line_start = ends_in_line_feed(text);
+    Ok(())
+}
+
+/// Appends the piece of a code span.
+#[inline(always)]
+fn write_code(out: &mut String, writer: &mut Writer<'_>, text: &str) -> Result<(), AllocError>
+    requires { writer.old.image ≡ None }
+    ensures ok { OnOk result (string_bytes out.new ≡ string_bytes out.old ++ piece_outside (writing writer.old) (Code text.now)) }
+    ensures state { OnOk result (writing writer.new ≡ moved_outside (writing writer.old) (Code text.now)) }
+    ensures err { OnErr result (AppendsFront (string_bytes out.old) (string_bytes out.new) (piece_outside (writing writer.old) (Code text.now))) }
+{
+    append(out, "<code>")?;
+    escape_html_body_text(out, text)?;
+    append(out, "</code>")?;
+    writer.line_start = false;
+    Ok(())
+}
+
+/// Appends the piece of HTML, in a line or in a block.
+#[inline(always)]
+fn write_html(out: &mut String, writer: &mut Writer<'_>, text: &str) -> Result<(), AllocError>
+    requires { writer.old.image ≡ None }
+    ensures ok { OnOk result (string_bytes out.new ≡ string_bytes out.old ++ piece_outside (writing writer.old) (Html text.now)) }
+    ensures state { OnOk result (writing writer.new ≡ moved_outside (writing writer.old) (Html text.now)) }
+    ensures err { OnErr result (AppendsFront (string_bytes out.old) (string_bytes out.new) (piece_outside (writing writer.old) (Html text.now))) }
+{
+    append(out, text)?;
+    writer.line_start = line_start_after_html(writer.line_start, text);
+    Ok(())
+}
+
+/// Appends a text that ends a line.
+#[inline(always)]
+fn write_line(out: &mut String, writer: &mut Writer<'_>, text: &str) -> Result<(), AllocError>
+    ensures ok { OnOk result (string_bytes out.new ≡ string_bytes out.old ++ text.now) }
+    ensures state { OnOk result (writing writer.new ≡ at_start true (writing writer.old)) }
+    ensures err { OnErr result (AppendsFront (string_bytes out.old) (string_bytes out.new) text.now) }
+{
+    append(out, text)?;
+    writer.line_start = true;
+    Ok(())
+}
+
+/// Appends the piece of the start of an element that has no text of its own.
+#[inline(always)]
+fn write_start(out: &mut String, writer: &mut Writer<'_>, tag: PlainTag) -> Result<(), AllocError>
+    requires { writer.old.image ≡ None }
+    ensures ok { OnOk result (string_bytes out.new ≡ string_bytes out.old ++ piece_outside (writing writer.old) (Start (shown_plain tag))) }
+    ensures state { OnOk result (writing writer.new ≡ moved_outside (writing writer.old) (Start (shown_plain tag))) }
+    ensures err { OnErr result (AppendsFront (string_bytes out.old) (string_bytes out.new) (piece_outside (writing writer.old) (Start (shown_plain tag)))) }
+{
+    append_plain_start(out, writer, tag)?;
+    writer.line_start = line_start_after_plain(writer.line_start, tag);
+    match tag {
+        PlainTag::TableHead => {
+            writer.table.in_head = true;
+            writer.table.column = 0;
+        }
+        PlainTag::TableRow => writer.table.column = 0,
+        PlainTag::MetadataBlock(_) => writer.in_metadata = true,
+        _ => {}
+    }
+    Ok(())
+}
+
+/// Appends the piece of an end.
+#[inline(always)]
+fn write_end(out: &mut String, writer: &mut Writer<'_>, tag: TagEnd) -> Result<(), AllocError>
+    requires { writer.old.image ≡ None }
+    ensures ok { OnOk result (string_bytes out.new ≡ string_bytes out.old ++ piece_outside (writing writer.old) (End (shown_end tag))) }
+    ensures state { OnOk result (writing writer.new ≡ moved_outside (writing writer.old) (End (shown_end tag))) }
+    ensures err { OnErr result (AppendsFront (string_bytes out.old) (string_bytes out.new) (piece_outside (writing writer.old) (End (shown_end tag)))) }
+{
+    append_end(out, writer.table.in_head, tag)?;
+    writer.line_start = line_start_after_end(writer.line_start, tag);
+    match tag {
+        TagEnd::MetadataBlock(_) => writer.in_metadata = false,
+        TagEnd::TableHead | TagEnd::TableCell => return writer.table.end(tag),
+        _ => {}
+    }
+    Ok(())
+}

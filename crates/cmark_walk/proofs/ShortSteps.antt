@@ -1,0 +1,75 @@
+-- Steps of a walk of which no event is made.
+use Rattle.std.proofs.Common.{◌≡◌, List, [], ◌∷◌, Bool, true, false, Option, Some, None, Result, Ok, Err, IfOk, OnErr, refl, sym, ap, ◌∙◌, subst}
+use Rattle.cmark_tree.specs.declared.tree.Tree.{Tree}
+use Rattle.cmark_tree.specs.declared.tree_index.TreeIndex.{TreeIndex}
+use Rattle.cmark_tree.specs.Zip.{Zip, pushed, past, Sibling, HasFocus}
+use Rattle.cmark_tree.specs.Tree.{Holds}
+use Rattle.cmark_grammar.specs.BlockReading as reads
+use Rattle.cmark_grammar.specs.Event as event
+use Rattle.cmark_grammar.specs.SpanDocuments.{Segment}
+use Rattle.cmark_items.specs.declared.item.Item.{Item}
+use Rattle.cmark_leaf_text.specs.declared.stretch.LeafLine.{LeafLine}
+use Rattle.cmark_text.specs.declared.event.Event.TheVariants as text_event
+use Rattle.cmark_text.specs.declared.event.TagEnd.{TagEnd}
+use Rattle.cmark_text.specs.declared.short.PlainTag.{PlainTag}
+use Rattle.cmark_text.specs.declared.short.Short.{Short}
+use Rattle.cmark_text.specs.declared.short.Short.TheVariants as short
+use Rattle.cmark_text.specs.Short.{IsShortZeroCopy, shown_plain, shown_short}
+use Rattle.cmark_text.specs.Shown.{shown_end}
+use Rattle.cmark_walk.specs.declared.reading.Brief.{Brief}
+use Rattle.cmark_walk.specs.declared.reading.Brief.TheVariants as brief
+use Rattle.cmark_walk.specs.declared.reading.Ranged.{Ranged}
+use Rattle.cmark_walk.specs.declared.reading.Stage.TheVariants as stage
+use Rattle.cmark_walk.specs.declared.reading.Step.TheVariants as step
+use Rattle.cmark_walk.specs.declared.walk.Walk.{Walk}
+use Rattle.cmark_walk.specs.Walking.{GivesBrief, GivesShort, GivesShortStep, GivesStep, Goes, Remains, definitions_of, text_of}
+use Rattle.cmark_walk.proofs.WalkSteps.{IsFocusAt, IsItem, Lasts, Leaf-at, Reads-at, at_range, enters-around-as, enters-leaf-as, moved, passes-alone-as, staged}
+
+-- an event with the range of an item
+abbrev pub ranged_end : TagEnd → Item → Ranged
+ranged_end end item = record { event = text_event.End end; range = record { start = item.start; end = item.end } }
+
+module _ (walk : Walk) (item : Item) (ix : TreeIndex) (t : Tree Item) (at : IsFocusAt walk ix) (is : IsItem walk.tree ix item) (before : walk.stage ≡ stage.Before) where
+  pub enters-leaf-short : (tag : PlainTag) → Reads-at walk item (reads.Around (shown_plain tag)) → Leaf-at walk item true → GivesShort walk (short.Start tag) (staged walk stage.Lines)
+  enters-leaf-short tag read leaf = record {
+    given = at_range (event.Start (shown_plain tag)) item;
+    is = refl;
+    gives = enters-leaf-as walk item ix t at is before (shown_plain tag) read leaf;
+    lent = tt;
+  }
+
+  pub enters-around-short : (tag : PlainTag) → Reads-at walk item (reads.Around (shown_plain tag)) → Leaf-at walk item false → ((z : Zip Item) → Holds walk.tree z → HasFocus z → Holds t (pushed z))
+      → GivesShort walk (short.Start tag) (moved walk t)
+  enters-around-short tag read leaf push = record {
+    given = at_range (event.Start (shown_plain tag)) item;
+    is = refl;
+    gives = enters-around-as walk item ix t at is before (shown_plain tag) read leaf push;
+    lent = tt;
+  }
+
+  pub passes-short : (s : Short) → Reads-at walk item (reads.Alone (shown_short s)) → ((z : Zip Item) (s : Sibling z ix.ix) → Holds walk.tree z → Holds t (past z ix.ix s))
+      → IsShortZeroCopy (text_of walk) s item.start item.end → GivesShort walk s (moved walk t)
+  passes-short s read next lent = record {
+    given = at_range (shown_short s) item;
+    is = refl;
+    gives = passes-alone-as walk item ix t at is before (shown_short s) read next;
+    lent = lent;
+  }
+
+-- an end with the range of an item
+pub ends-short : (old new : Walk) (end : TagEnd) (item : Item) → ((left : List Segment) (lines : List LeafLine) → Remains old left → GivesStep left (step.Event (ranged_end end item)) lines new) → GivesShort old (short.End end) new
+ends-short old new end item gives = record { given = at_range (event.End (shown_end end)) item; is = refl; gives = λ left r. gives left [] r; lent = tt }
+
+-- the walk goes on
+pub goes-short : (old new : Walk) (s : Short) → GivesShort old s new → Goes old → Goes new
+goes-short old new s g goes = let first = g.gives goes.0 goes.1 in (first.0, first.2)
+
+-- what a step gives that steps without an event stood before
+pub after-lasting : (old walk new : Walk) (b : Brief) (lines : List LeafLine) → Lasts old walk → GivesBrief walk b lines new → GivesBrief old b lines new
+after-lasting old walk new (brief.Short s) lines l g = record { given = g.given; is = g.is; gives = λ left r. g.gives left (l.remains left r); lent = subst (λ text. IsShortZeroCopy text s g.given.start g.given.end) l.text g.lent }
+after-lasting old walk new (brief.Leaf is_cell) lines l g = λ left r. g left (l.remains left r)
+after-lasting old walk new brief.Long lines l g = λ left r. g left (l.remains left r)
+after-lasting old walk new brief.Over lines l g = λ left r. g left (l.remains left r)
+
+pub lasts-on : (old walk new : Walk) → Lasts old walk → ((left : List Segment) → Remains walk left → Remains new left) → Goes new → definitions_of new ≡ definitions_of walk → text_of new ≡ text_of walk → Lasts old new
+lasts-on old walk new l step goes definitions text = record { remains = λ left r. step left (l.remains left r); goes = goes; definitions = definitions ∙ l.definitions; text = text ∙ l.text }

@@ -1,0 +1,190 @@
+//! The walk over a document's tree, of which no event is made.
+
+ghost use Rattle.std.specs.Prelude.{◌≡◌, List, IfOk, OnErr};
+ghost use Rattle.cmark_tree.specs.Zip.{Zip};
+ghost use Rattle.cmark_grammar.specs.BlockDocument.{BlockNode};
+ghost use Rattle.cmark_grammar.specs.BlockReading.{read_as};
+ghost use Rattle.cmark_grammar.specs.DrawnDocument.{kind_within};
+ghost use Rattle.cmark_grammar.specs.SpanDocuments.{Segment};
+ghost use Rattle.cmark_grammar.specs.Tokens.{slice};
+ghost use Rattle.cmark_leaf_text.specs.declared.stretch.LeafLine.{LeafLine as LeafLines};
+ghost use Rattle.cmark_walk.specs.declared.reading.Stage.TheVariants as stage;
+ghost use Rattle.cmark_walk.specs.Walking.{Drawn, GivesBrief, GivesShortStep, GlancesZeroCopy, Goes, IsAt, IsBelow, IsDrawn, IsPast, Outer, ReadsAs, Remains, StandsBelow, definitions_of, text_of, texts_of, tight_below};
+
+use crate::reading::{Brief, Glance, Stage};
+use crate::walk::{Walk, first_number, is_leaf};
+use cmark_items::{Item, ItemBody};
+use cmark_leaf_text::LeafLine;
+use cmark_text::{PlainTag, Short};
+use cmark_tree::TreeIndex;
+use std::alloc::AllocError;
+
+impl<'a> Walk<'a> {
+    /// What `next` would give, where no event is made: one that owns nothing counts as given then, and one of another kind does not. The lines
+    /// of a leaf then stand in `lines` alone, as those of `next`.
+    #[inline(always)]
+    pub fn next_short(&mut self, lines: &mut Vec<LeafLine>) -> Result<Brief<'a>, AllocError>
+        requires { Goes self.old }
+        ensures given { IfOk result (λ brief. GivesBrief self.old brief lines.new.items self.new) }
+        ensures refused { OnErr result ((left : List Segment) → Remains self.old left → Remains self.new left) }
+        ensures goes { Goes self.new }
+        ensures definitions { definitions_of self.new ≡ definitions_of self.old }
+        ensures text { text_of self.new ≡ text_of self.old }
+    {
+        // Only paragraphs of tight lists give nothing, each at its begin and at its end: no memory holds so many nodes that the
+        // count is reached.
+        for _ in 0..u64::MAX {
+            if let Some(brief) = self.short_step(lines)? {
+                return Ok(brief);
+            }
+        }
+        Err(AllocError)
+    }
+
+    // Into the focus or past it, or up from behind the last sibling; nothing where a paragraph of a tight list begins or ends.
+    #[inline(always)]
+    fn short_step(&mut self, lines: &mut Vec<LeafLine>) -> Result<Option<Brief<'a>>, AllocError>
+        requires { Goes self.old }
+        ensures given { IfOk result (λ brief. GivesShortStep self.old brief lines.new.items self.new) }
+        ensures refused { OnErr result ((left : List Segment) → Remains self.old left → Remains self.new left) }
+        ensures goes { Goes self.new }
+        ensures definitions { definitions_of self.new ≡ definitions_of self.old }
+        ensures text { text_of self.new ≡ text_of self.old }
+    {
+        let Some(ix) = self.tree.cur() else {
+            return Ok(self.leave_short());
+        };
+        match self.stage {
+            Stage::Before => self.enter_short(ix),
+            Stage::Lines => {
+                let is_cell = self.meet_leaf(ix, lines)?;
+                Ok(Some(Brief::Leaf { is_cell }))
+            }
+            Stage::Behind => Ok(self.leave_leaf_short(ix)),
+            Stage::Marked { .. } | Stage::Listed { .. } => Ok(Some(Brief::Long)),
+        }
+    }
+
+    // Into the focus, or past it if it is one event.
+    #[inline(always)]
+    fn enter_short(&mut self, ix: TreeIndex) -> Result<Option<Brief<'a>>, AllocError>
+        requires at { IsAt self.old ix }
+        requires before { self.old.stage ≡ stage.Before }
+        ensures given { IfOk result (λ brief. (lines : List LeafLines) → GivesShortStep self.old brief lines self.new) }
+        ensures refused { OnErr result ((left : List Segment) → Remains self.old left → Remains self.new left) }
+        ensures goes { Goes self.new }
+        ensures definitions { definitions_of self.new ≡ definitions_of self.old }
+        ensures text { text_of self.new ≡ text_of self.old }
+    {
+        let item = *self.tree.item(ix);
+        match self.glance(item) {
+            Glance::Around(tag) => {
+                if is_leaf(item) {
+                    self.stage = Stage::Lines;
+                    return Ok(Some(Brief::Short(Short::Start(tag))));
+                }
+                self.tree.push()?;
+                Ok(Some(Brief::Short(Short::Start(tag))))
+            }
+            Glance::Alone(short) => {
+                self.tree.next_sibling(ix);
+                Ok(Some(Brief::Short(short)))
+            }
+            Glance::Inside => {
+                self.stage = Stage::Lines;
+                Ok(None)
+            }
+            Glance::Long => Ok(Some(Brief::Long)),
+        }
+    }
+
+    // Out of the leaf in the focus, and past it.
+    #[inline(always)]
+    fn leave_leaf_short(&mut self, ix: TreeIndex) -> Option<Brief<'a>>
+        requires at { IsAt self.old ix }
+        requires behind { self.old.stage ≡ stage.Behind }
+        ensures given { (lines : List LeafLines) → GivesShortStep self.old result lines self.new }
+        ensures goes { Goes self.new }
+        ensures definitions { definitions_of self.new ≡ definitions_of self.old }
+        ensures text { text_of self.new ≡ text_of self.old }
+    {
+        let item = *self.tree.item(ix);
+        let end = self.end(item);
+        self.tree.next_sibling(ix);
+        self.stage = Stage::Before;
+        match end {
+            Some(end) => Some(Brief::Short(Short::End(end))),
+            None => None,
+        }
+    }
+
+    // Up from behind the last sibling, and past the parent.
+    #[inline(always)]
+    fn leave_short(&mut self) -> Option<Brief<'a>>
+        requires { IsPast self.old }
+        ensures given { (lines : List LeafLines) → GivesShortStep self.old result lines self.new }
+        ensures goes { Goes self.new }
+        ensures definitions { definitions_of self.new ≡ definitions_of self.old }
+        ensures text { text_of self.new ≡ text_of self.old }
+    {
+        let Some(ix) = self.tree.pop() else {
+            return Some(Brief::Over);
+        };
+        let item = *self.tree.item(ix);
+        let end = self.end(item);
+        self.tree.next_sibling(ix);
+        match end {
+            Some(end) => Some(Brief::Short(Short::End(end))),
+            None => None,
+        }
+    }
+
+    // How an item among the siblings at hand is read, where it has no text of its own.
+    #[inline(always)]
+    fn glance(&self, item: Item) -> Glance<'a>
+        requires below { IsBelow self.now }
+        requires drawn { IsDrawn self.now item }
+        ensures value { (z : Zip Item) (above : List Outer) (node : BlockNode) → StandsBelow self.now z above → Drawn self.now.text.now (texts_of self.now) item node
+            → ReadsAs result (read_as (kind_within (tight_below above) node.kind)) }
+        ensures lent { GlancesZeroCopy (text_of self.now) item result }
+    {
+        match item.body {
+            ItemBody::Text { .. } => Glance::Alone(Short::Text(self.part(item))),
+            ItemBody::Html => Glance::Alone(Short::Html(self.part(item))),
+            ItemBody::Rule => Glance::Alone(Short::Rule),
+            ItemBody::Paragraph => {
+                if self.is_tight() {
+                    Glance::Inside
+                } else {
+                    Glance::Around(PlainTag::Paragraph)
+                }
+            }
+            ItemBody::Heading(level, None) => Glance::Around(PlainTag::Heading(level)),
+            ItemBody::IndentCodeBlock => Glance::Around(PlainTag::IndentedCode),
+            ItemBody::HtmlBlock => Glance::Around(PlainTag::HtmlBlock),
+            ItemBody::TableHead => Glance::Around(PlainTag::TableHead),
+            ItemBody::TableRow => Glance::Around(PlainTag::TableRow),
+            ItemBody::TableCell => Glance::Around(PlainTag::TableCell),
+            ItemBody::MetadataBlock(kind) => Glance::Around(PlainTag::MetadataBlock(kind)),
+            ItemBody::BlockQuote(kind) => Glance::Around(PlainTag::BlockQuote(kind)),
+            ItemBody::List(_, mark, number) => {
+                Glance::Around(PlainTag::List(first_number(mark, number)))
+            }
+            ItemBody::ListItem(_) => Glance::Around(PlainTag::Item),
+            ItemBody::DefinitionList(_) => Glance::Around(PlainTag::DefinitionList),
+            ItemBody::DefinitionListTitle => Glance::Around(PlainTag::DefinitionListTitle),
+            ItemBody::DefinitionListDefinition(_) => {
+                Glance::Around(PlainTag::DefinitionListDefinition)
+            }
+            _ => Glance::Long,
+        }
+    }
+    // The part of the text that an item stands over.
+    #[inline(always)]
+    fn part(&self, item: Item) -> &'a str
+        requires { IsDrawn self.now item }
+        ensures { result.now ≡ slice self.now.text.now item.start item.end }
+    {
+        &self.text[item.start..item.end]
+    }
+}
