@@ -13,13 +13,13 @@ use Rattle.cmark_grammar.specs.LabelsOverLines.{as_in_cell}
 use Rattle.cmark_grammar.specs.LeafText.{Leaf}
 use Rattle.cmark_grammar.specs.Lines.{is_content}
 use Rattle.cmark_grammar.specs.LinkDefinitions.{Found}
-use Rattle.cmark_grammar.specs.LinkTails.{LinkTail, title_lines, link_tail_in, reference_label_in, behind_collapsed, is_bracketed_label}
+use Rattle.cmark_grammar.specs.LinkTails.{LinkTail, link_tail_in, reference_label_in, behind_collapsed, is_bracketed_label}
 use Rattle.cmark_grammar.specs.LinkType as link
 use Rattle.cmark_grammar.specs.OpenBrackets.{Taken, dropped}
 use Rattle.cmark_grammar.specs.Options.{Options}
 use Rattle.cmark_grammar.specs.Parts.{Footnote}
 use Rattle.cmark_grammar.specs.Readers.{Reader}
-use Rattle.cmark_grammar.specs.Tokens.{slice}
+use Rattle.cmark_grammar.specs.Tokens.{slice, title_lines}
 use Rattle.cmark_grammar.specs.Unescaped.{unescaped}
 use Rattle.cmark_items.specs.Footnotes.{footnote}
 use Rattle.cmark_items.specs.declared.footnotes.FootnoteDefs.{FootnoteDefs}
@@ -392,10 +392,10 @@ inline-named lookup is_cell reader leaf text place p looks cell close closer c t
         let behind = ap (λ (x : InlineLink). x.behind) e in
         let end : decisions.place reader leaf tail.behind ≡ place t.end = ap (decisions.place reader leaf) (sym behind) ∙ p.ends t.end lend in
         ap Settled (
-        ap (λ d. links reader leaf taken (record { link_type = link.Inline; destination = d; title = unescaped reader.lookup leaf.is_cell (title_lines (or_empty tail.title)); id = [] }) (decisions.place reader leaf tail.behind) (decisions.place reader leaf tail.behind) s)
+        ap (λ d. links reader leaf taken (record { link_type = link.Inline; destination = d; title = unescaped reader.lookup leaf.is_cell (title_lines false (or_empty tail.title)); id = [] }) (decisions.place reader leaf tail.behind) (decisions.place reader leaf tail.behind) s)
         (ap (λ l. unescaped l leaf.is_cell tail.destination) looks ∙ ap (λ z. unescaped lookup z tail.destination) cell ∙ sym destination)
         ∙ ap (λ d. links reader leaf taken (record { link_type = link.Inline; destination = text_bytes t.parts.dest_url; title = d; id = [] }) (decisions.place reader leaf tail.behind) (decisions.place reader leaf tail.behind) s)
-        (ap (λ l. unescaped l leaf.is_cell (title_lines (or_empty tail.title))) looks ∙ ap (λ z. unescaped lookup z (title_lines (or_empty tail.title))) cell ∙ title_same tail.title ∙ sym title)
+        (ap (λ l. unescaped l leaf.is_cell (title_lines false (or_empty tail.title))) looks ∙ ap (λ z. unescaped lookup z (title_lines false (or_empty tail.title))) cell ∙ title_same tail.title ∙ sym title)
         ∙ ap (λ d. links reader leaf taken (record { link_type = link.Inline; destination = text_bytes t.parts.dest_url; title = text_bytes t.parts.title; id = d }) (decisions.place reader leaf tail.behind) (decisions.place reader leaf tail.behind) s) (sym id)
         ∙ ap (λ d. links reader leaf taken (record { link_type = d; destination = text_bytes t.parts.dest_url; title = text_bytes t.parts.title; id = text_bytes t.parts.id }) (decisions.place reader leaf tail.behind) (decisions.place reader leaf tail.behind) s) (sym form)
         ∙ ap (λ n. links reader leaf taken (shown_parts t.parts) n n s) end
@@ -405,10 +405,10 @@ inline-named lookup is_cell reader leaf text place p looks cell close closer c t
         one : Some (shown_target text t) ≡ Some (linked.inline_link lookup is_cell tail) → shown_target text t ≡ linked.inline_link lookup is_cell tail
         one r = let z : shown_target text t ≡ linked.inline_link lookup is_cell tail = cc in z
 
-        title_same : (m : Option (List ℕ)) → unescaped lookup is_cell (title_lines (or_empty m)) ≡ linked.resolved_title lookup is_cell m
+        title_same : (m : Option (List ℕ)) → unescaped lookup is_cell (title_lines false (or_empty m)) ≡ linked.resolved_title lookup is_cell m
         title_same None = nothing is_cell
           where
-            nothing : (z : Bool) → unescaped lookup z (title_lines []) ≡ []
+            nothing : (z : Bool) → unescaped lookup z (title_lines false []) ≡ []
             nothing true = refl
             nothing false = refl
         title_same (Some bytes) = refl
