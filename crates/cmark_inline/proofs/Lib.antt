@@ -23,3 +23,12 @@ pub mod FootnoteSteps
 pub mod FormulaSteps
 pub mod WikiSteps
 pub mod PlainSteps
+pub mod BracketSteps
+pub mod AfterSteps
+pub mod OpenSteps
+pub mod LabelEnds
+pub mod DecisionSteps
+pub mod TargetSteps
+pub mod TargetMakes
+pub mod CloserSteps
+pub mod CloserMakes

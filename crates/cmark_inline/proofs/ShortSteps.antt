@@ -1,6 +1,5 @@
 -- A text, or a soft break, that is handed on without an event.
 use Rattle.std.proofs.Common.{◌≡◌, ℕ, zero, suc, ◌+◌, ◌-◌, ◌<◌, List, [], ◌∷◌, get_or, length, refl, arith}
-use Rattle.cmark_grammar.specs.Tokens.{slice}
 use Rattle.cmark_leaf_text.specs.declared.leaf_text.LeafText.{LeafText}
 use Rattle.cmark_leaf_text.specs.Reads.{IsRead, IsPart, place_of, source_of, text_of}
 use Rattle.cmark_leaf_text.proofs.StretchSteps.{part-there}

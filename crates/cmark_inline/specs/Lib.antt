@@ -12,3 +12,6 @@ pub mod Stands
 pub mod Tokens
 pub mod Wikilinks
 pub mod PlainStretches
+pub mod BracketViews
+pub mod Decided
+pub mod Closers

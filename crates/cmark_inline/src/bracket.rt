@@ -1,6 +1,6 @@
 //! Brackets that may open a link or an image (CommonMark 6.3 and 6.4).
 
-ghost use Rattle.std.specs.Prelude.{◌≡◌, true, false, ◌-◌, ◌++◌, ◌∷◌, [], ℕ, List, length, take, OnOk, IfSome};
+ghost use Rattle.std.specs.Prelude.{◌≡◌, ◌≤◌, min, true, false, ◌-◌, ◌++◌, ◌∷◌, [], ℕ, List, length, take, OnOk, IfSome};
 ghost use Rattle.cmark_inline.specs.Doubled.{DropsBehind, doubles, nearest, touching};
 ghost use Rattle.cmark_text.specs.Shown.{shown_options};
 ghost use Rattle.cmark_inline.specs.Stands.{AreBrackets, AreFree, HoldNoLink, IsBracket};
@@ -63,6 +63,7 @@ impl Brackets {
     pub fn take(&mut self) -> Option<(Bracket, bool)>
         ensures value { result ≡ nearest self.old }
         ensures others { self.new.standing.items ≡ take (length self.old.standing.items - 1) self.old.standing.items }
+        ensures shut { self.old.shut ≤ length self.old.standing.items → self.new.shut ≡ min self.old.shut (length self.new.standing.items) }
         ensures brackets { (text : List ℕ) (at : ℕ) → AreBrackets text at self.old.standing.items → AreBrackets text at self.new.standing.items }
         ensures free { (slots : List Slot) → AreFree slots self.old.standing.items self.old.shut → AreFree slots self.new.standing.items self.new.shut }
         ensures link { (slots : List Slot) → AreFree slots self.old.standing.items self.old.shut → IfSome result (λ taken. taken.1 ≡ true → taken.0.is_image ≡ false → HoldNoLink slots taken.0.slot) }
@@ -101,6 +102,7 @@ impl Brackets {
         options: Options,
         second: Bracket,
     ) -> Result<(), AllocError>
+        ensures shut { self.new.shut ≡ self.old.shut }
         ensures doubled { OnOk result (self.new.standing.items ≡ doubles (shown_options options) single.now second.is_image second.start second.inside self.old.standing.items) }
         ensures brackets { OnOk result ((text : List ℕ) (at : ℕ) → AreBrackets text at single.now.standing.items → AreBrackets text at self.old.standing.items → IsBracket text at second → AreBrackets text at self.new.standing.items) }
         ensures free { OnOk result ((slots : List Slot) → AreFree slots single.now.standing.items single.now.shut → AreFree slots self.old.standing.items self.old.shut → AreFree slots self.new.standing.items self.new.shut) }
@@ -120,6 +122,7 @@ impl Brackets {
     /// Drops the last brackets, as many as end behind a place.
     pub fn drop_behind(&mut self, place: usize)
         ensures drops { DropsBehind place self.old.standing.items self.new.standing.items }
+        ensures shut { self.new.shut ≡ min self.old.shut (length self.new.standing.items) }
         ensures brackets { (text : List ℕ) (at : ℕ) → AreBrackets text at self.old.standing.items → AreBrackets text at self.new.standing.items }
         ensures free { (slots : List Slot) → AreFree slots self.old.standing.items self.old.shut → AreFree slots self.new.standing.items self.new.shut }
     {

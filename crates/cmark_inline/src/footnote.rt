@@ -10,6 +10,7 @@ ghost use Rattle.cmark_grammar.specs.Tokens.{slice};
 ghost use Rattle.cmark_items.specs.Footnotes.{Counts};
 ghost use Rattle.cmark_leaf_text.specs.Reads.{IsPart, is_cell_of};
 ghost use Rattle.cmark_text.specs.Shown.{shown_options, text_bytes};
+ghost use Rattle.cmark_inline.specs.Closers.{LeavesFootnote};
 ghost use Rattle.cmark_inline.specs.Doubled.{DropsBehind};
 ghost use Rattle.cmark_inline.specs.Footnoted.{CountsOf, KeepsLabel, PutsReference, SameFootnotes, fits_footnote, footnote_behind, footnote_label, footnote_of, forms_footnote, is_accepted, is_footnote_label, reference_as, reference_slot, reference_start, unless_footnote, with_mark};
 ghost use Rattle.cmark_inline.specs.Stands.{AreSlots, IsBracket, IsSlot, Moves, NoNewLink, Stands, begins_link};
@@ -174,6 +175,8 @@ impl<'a> InlineState<'a> {
         ensures off { (shown_options options).footnotes ≡ false → (self.new ≡ self.old) × (footnotes.new ≡ footnotes.old) }
         ensures counts { OnOk result (CountsOf (footnote_of (shown_options options) (is_cell_of leaf.now) (is_there close self.old.shut_close) text.now close taken) footnotes.old footnotes.new) }
         ensures same { SameFootnotes footnotes.old footnotes.new }
+        ensures leaves { IfOk result (λ next. IfSome next (λ next. IfSome taken (λ bracket. LeavesFootnote bracket.start self.old self.new))) }
+        ensures shut { self.new.shut_close ≡ self.old.shut_close }
         ensures expansion { self.new.expansion ≡ self.old.expansion }
         ensures label { IfOk result (λ next. IfSome next (λ next. IfSome (footnote_of (shown_options options) (is_cell_of leaf.now) (is_there close self.old.shut_close) text.now close taken) (λ label. KeepsLabel label self.old.texts.items self.new.texts.items))) }
     {
@@ -222,6 +225,8 @@ impl<'a> InlineState<'a> {
         requires bracket { IsBracket text.now close bracket }
         requires close { IsPart text.now close (close + 1) }
         ensures expansion { self.new.expansion ≡ self.old.expansion }
+        ensures leaves { OnOk result (LeavesFootnote bracket.start self.old self.new) }
+        ensures shut { self.new.shut_close ≡ self.old.shut_close }
         ensures stands { OnOk result (Stands text.now (close + 1) self.new) }
         ensures texts { OnOk result (self.new.texts.items ≡ self.old.texts.items ++ (name.entry ∷ [])) }
         ensures slots { OnOk result (PutsReference bracket (reference_as bracket (length self.old.texts.items) (close + 1)) self.old.slots.items self.new.slots.items) }

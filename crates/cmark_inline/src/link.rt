@@ -63,6 +63,7 @@ fn inline_in<'t, E: EntityLookup>(
     requires { IsCharBoundary text.now at }
     ensures value { IfOk result (λ found. option_map (shown_target text.entry.now) found ≡ option_map (inline_link (E.replacement entities.now) is_cell) (link_tail_in (drop at text.entry.now))) }
     ensures target { IfOk result (λ found. IfSome found (IsTarget text.entry.now at)) }
+    ensures past { IfOk result (λ found. IfSome found (λ target. target.past ≡ target.end)) }
 {
     let Some(tail) = link_tail(text, at) else {
         return Ok(None);
@@ -136,6 +137,7 @@ pub fn inline_target<'a, E: EntityLookup>(
     requires place { IsCharBoundary text.now at }
     ensures value { IfOk result (λ found. option_map (shown_target text.now) found ≡ option_map (inline_link (E.replacement entities.now) (is_cell_of leaf.now)) (link_tail_in (drop at text.now))) }
     ensures target { IfOk result (λ found. IfSome found (IsTarget text.now at)) }
+    ensures past { IfOk result (λ found. IfSome found (λ target. target.past ≡ target.end)) }
 {
     let is_cell = leaf.is_cell();
     if let Some(source) = leaf.as_source() {

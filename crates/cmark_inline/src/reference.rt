@@ -1,6 +1,6 @@
 //! Brackets, and the links and images that they form (CommonMark 6.3 and 6.4).
 
-ghost use Rattle.std.specs.Prelude.{◌≡◌, ◌⊎◌, true, false, ◌<◌, ◌≤◌, ◌+◌, ◌-◌, ◌++◌, ◌∷◌, ℕ, Bool, List, [], length, slice_index, IfOk, OnOk, IfSome, None, Some};
+ghost use Rattle.std.specs.Prelude.{◌≡◌, ◌⊎◌, if◌then◌else◌, Bool, true, false, ◌<◌, ◌≤◌, ◌+◌, ◌-◌, ◌++◌, ◌∷◌, ℕ, List, [], length, slice_index, IfOk, OnOk, IfSome, None, Some};
 ghost use Rattle.std.specs.Str.{IsCharBoundary};
 ghost use Rattle.cmark_leaf_text.specs.Reads.{IsRead, IsPart, is_cell_of, place_of, text_of};
 ghost use Rattle.cmark_grammar.specs.Labels.{fold, normal_form};
@@ -9,8 +9,14 @@ ghost use Rattle.cmark_text.specs.Labelled.{link_text};
 ghost use Rattle.cmark_inline.specs.Linked.{Answers, Refers, left_behind};
 ghost use Rattle.cmark_grammar.specs.Answers.{Lookup};
 ghost use Rattle.cmark_grammar.specs.Options.{Options as Extensions};
-ghost use Rattle.cmark_text.specs.Shown.{shown_options};
+ghost use Rattle.cmark_text.specs.Shown.{shown_link_type, shown_options};
+ghost use Rattle.cmark_grammar.specs.BracketStates.{Opener};
+ghost use Rattle.cmark_grammar.specs.OpenBrackets.{nearest, used_up};
 ghost use Rattle.cmark_inline.specs.Asking.{AsksOnce};
+ghost use Rattle.cmark_inline.specs.BracketViews.{StandFor, TakenAs};
+ghost use Rattle.cmark_inline.specs.Closers.{Closes, LeavesElement, LinksTaken, OpensAs};
+ghost use Rattle.cmark_inline.specs.Decided.{EndsWithin, TargetDecides, is_full};
+ghost use Rattle.cmark_inline.specs.declared.bracket.Bracket.{Bracket as Opening};
 ghost use Rattle.cmark_inline.specs.Doubled.{DropsBehind, doubles};
 ghost use Rattle.cmark_inline.specs.Footnoted.{SameFootnotes, as_label};
 ghost use Rattle.cmark_inline.specs.Tokens.{OpensBracket, Passes, PutsBracket};
@@ -74,6 +80,7 @@ impl<'a> InlineState<'a> {
         ensures at { IfOk result (λ next. (next.pending ≡ inside) × (next.at ≡ inside)) }
         ensures doubles { OnOk result (self.new.doubled.standing.items ≡ doubles (shown_options options) self.old.brackets is_image here.at inside self.old.doubled.standing.items) }
         ensures puts { OnOk result (PutsBracket is_image here.pending here.at inside self.old self.new) }
+        ensures opens { OnOk result (OpensAs (shown_options options).wikilinks is_image text.now here.at inside self.old self.new) }
     {
         self.flush(text, here, here.at)?;
         let bracket = Bracket {
@@ -113,6 +120,7 @@ impl<'a> InlineState<'a> {
         ensures spent { self.old.expansion ≡ 0 → (callback.new ≡ callback.old) × (self.new.expansion ≡ 0) }
         ensures moves { IfOk result (Moves text.now here.at self.new) }
         ensures footnotes { SameFootnotes footnotes.old footnotes.new }
+        ensures closes { IfOk result (λ next. Closes F.answers (shown_options reader.now.options) (E.replacement reader.now.entities.now) reader.now.references.now footnotes.old leaf.now text.now here.at self.old self.new next callback.old callback.new) }
     {
         self.flush(text, here, here.at)?;
         let behind_it = behind(text, here.at);
@@ -159,6 +167,7 @@ impl<'a> InlineState<'a> {
         ensures spent { self.old.expansion ≡ 0 → (callback.new ≡ callback.old) × (self.new.expansion ≡ 0) }
         ensures stands { IfOk result (λ next. next ≡ None → Stands text.now close self.new) }
         ensures moves { IfOk result (λ next. IfSome next (Moves text.now close self.new)) }
+        ensures links { IfOk result (λ next. LinksTaken F.answers (shown_options reader.now.options) (E.replacement reader.now.entities.now) reader.now.references.now leaf.now text.now taken close self.old self.new next callback.old callback.new) }
     {
         let Some(bracket) = taken else {
             return Ok(None);
@@ -181,6 +190,8 @@ impl<'a> InlineState<'a> {
         ensures expansion { self.new.expansion ≡ self.old.expansion }
         ensures bracket { IfSome result (IsBracket text.now at) }
         ensures link { IfSome result (λ bracket. bracket.is_image ≡ false → HoldNoLink self.new.slots.items bracket.slot) }
+        ensures others { self.new ≡ record self.old { brackets = self.new.brackets } }
+        ensures takes { (wikilinks : Bool) (place : ℕ → ℕ) (openers : List Opener) (bs : List Opening) → StandFor wikilinks place at openers bs self.old.brackets self.old.doubled → StandFor wikilinks place at (used_up openers) bs self.new.brackets self.new.doubled × TakenAs place bs (nearest openers) result }
     {
         let (bracket, forms) = self.brackets.take()?;
         if forms { Some(bracket) } else { None }
@@ -203,8 +214,11 @@ impl<'a> InlineState<'a> {
         ensures asks { AsksOnce F.answers callback.old callback.new }
         ensures spent { self.old.expansion ≡ 0 → (callback.new ≡ callback.old) × (self.new.expansion ≡ 0) }
         ensures same { SameSpans self.old self.new }
+        ensures table { self.new.links ≡ self.old.links }
         ensures stands { Stands text.now close self.new }
         ensures target { IfOk result (λ found. IfSome found (IsTarget text.now close)) }
+        ensures decides { IfOk result (λ found. TargetDecides F.answers (shown_options reader.now.options) (E.replacement reader.now.entities.now) reader.now.references.now leaf.now text.now bracket close self.old self.new found callback.old callback.new) }
+        ensures label { OnOk result (EndsWithin text.now self.old.shut_close → EndsWithin text.now self.new.shut_close) }
     {
         if let Some(target) = inline_target(self.alloc, leaf, text, close + 1, reader.entities)? {
             return Ok(Some(target));
@@ -213,14 +227,23 @@ impl<'a> InlineState<'a> {
         let Some(asked) = asked_at(reader.options, text, bracket, close, is_shut) else {
             return Ok(None);
         };
-        if asked.link_type == LinkType::Reference {
-            self.shut_close = Some(asked.end - 1);
-        }
+        self.remember_label(asked);
         if self.expansion == 0 {
             return Ok(None);
         }
         let found = self.reference(leaf, reader, callback, text, bracket.start, asked)?;
         Ok(found)
+    }
+
+    // The bracket that closes the label of a full reference closes no other reference.
+    fn remember_label(&mut self, asked: Asked<'_>)
+        requires { 0 < asked.end }
+        ensures label { self.new.shut_close ≡ (if is_full (shown_link_type asked.entry.link_type) then Some (asked.entry.end - 1) else self.old.shut_close) }
+        ensures others { self.new ≡ record self.old { shut_close = self.new.shut_close } }
+    {
+        if asked.link_type == LinkType::Reference {
+            self.shut_close = Some(asked.end - 1);
+        }
     }
 
     // What a reference leads to, and what it takes off the expansion.
@@ -240,6 +263,8 @@ impl<'a> InlineState<'a> {
         ensures refers { IfOk result (λ found. Refers F.answers (definition reader.now.references.now (fold (as_label (is_cell_of leaf.now) asked.entry.label.now))) asked.entry.link_type (normal_form (as_label (is_cell_of leaf.now) asked.entry.label.now))
             (place_of leaf.now start) (place_of leaf.now (asked.entry.end - 1) + 1) callback.old callback.new found) }
         ensures expansion { IfOk result (λ found. self.new.expansion ≡ left_behind self.old.expansion found) }
+        ensures label { self.new.shut_close ≡ self.old.shut_close }
+        ensures table { self.new.links ≡ self.old.links }
         ensures same { SameSpans self.old self.new }
         ensures target { IfOk result (λ found. IfSome found (λ target. (target.end ≡ asked.entry.end) × (target.past ≡ asked.entry.past))) }
     {
@@ -268,6 +293,8 @@ impl<'a> InlineState<'a> {
         ensures end { result.end ≡ asked.entry.end }
         ensures past { result.past ≡ asked.entry.past }
         ensures expansion { self.new.expansion ≡ left_behind self.old.expansion (Some result) }
+        ensures label { self.new.shut_close ≡ self.old.shut_close }
+        ensures table { self.new.links ≡ self.old.links }
         ensures same { SameSpans self.old self.new }
     {
         let Destination { dest_url, title } = found;
@@ -303,6 +330,8 @@ impl<'a> InlineState<'a> {
         ensures doubled { OnOk result (DropsBehind bracket.start self.old.doubled.standing.items self.new.doubled.standing.items) }
         ensures inactive { OnOk result (bracket.is_image ≡ false → self.new.doubled.shut ≡ length self.new.doubled.standing.items) }
         ensures link { OnOk result (bracket.is_image ≡ false → HoldNoLink self.new.slots.items (bracket.slot + 1)) }
+        ensures leaves { OnOk result (LeavesElement bracket.is_image bracket.start self.old self.new) }
+        ensures label { self.new.shut_close ≡ self.old.shut_close }
     {
         let Target { parts, end, .. } = target;
         let index = self.links.len();
@@ -331,6 +360,7 @@ impl<'a> InlineState<'a> {
         requires { bytes_of self.old.delimiters.placed.items ≤ length self.old.slots.items }
         ensures table { self.new.links ≡ self.old.links }
         ensures expansion { self.new.expansion ≡ self.old.expansion }
+        ensures label { self.new.shut_close ≡ self.old.shut_close }
         ensures brackets { self.new.brackets ≡ self.old.brackets }
         ensures doubled { self.new.doubled ≡ self.old.doubled }
         ensures slots { OnOk result ((text : List ℕ) (place : ℕ) → AreSlots text place self.old.slots.items → IsEnd text place close end → AreSlots text place self.new.slots.items) }

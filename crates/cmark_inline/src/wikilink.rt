@@ -1,11 +1,13 @@
 //! Wikilinks (this profile's own).
 
-ghost use Rattle.std.specs.Prelude.{◌≡◌, ◌⊎◌, ◌≤◌, ◌<◌, ◌+◌, ◌++◌, ◌∷◌, true, false, is_some, ℕ, List, [], length, IfOk, OnOk, IfSome, None};
+ghost use Rattle.std.specs.Prelude.{◌≡◌, ◌⊎◌, ◌≤◌, ◌<◌, ◌+◌, ◌++◌, ◌∷◌, ◌&&◌, ◌==◌, drop, true, false, is_some, ℕ, List, [], length, IfOk, OnOk, IfSome, None};
 ghost use Rattle.std.specs.Str.{IsCharBoundary};
 ghost use Rattle.cmark_grammar.specs.BracketDecisions.{name_in};
 ghost use Rattle.cmark_leaf_text.specs.Reads.{IsRead, IsPart, text_of};
 ghost use Rattle.cmark_text.specs.Shown.{shown_options};
-ghost use Rattle.cmark_inline.specs.Doubled.{DropsBehind};
+ghost use Rattle.cmark_grammar.specs.Letters.{first_is};
+ghost use Rattle.cmark_inline.specs.Closers.{LeavesWikilink, TriesDoubled};
+ghost use Rattle.cmark_inline.specs.Doubled.{DropsBehind, nearest};
 ghost use Rattle.cmark_inline.specs.Stands.{AreSlots, HoldNoLink, IsBracket, Moves, NoNewLink, Stands};
 ghost use Rattle.cmark_inline.specs.Wikilinks.{IsNamed, IsWikilink, Shows, forms_wikilink, wiki_text};
 ghost use Rattle.cmark_inline.specs.declared.link.LinkParts.{LinkParts as Parts};
@@ -98,6 +100,9 @@ impl<'a> InlineState<'a> {
         ensures others { IfOk result (λ next. next ≡ None → self.new ≡ record self.old { doubled = self.new.doubled }) }
         ensures off { (shown_options options).wikilinks ≡ false → self.new ≡ self.old }
         ensures expansion { self.new.expansion ≡ self.old.expansion }
+        ensures tries { IfOk result (λ next. next ≡ None → TriesDoubled ((shown_options options).wikilinks && first_is (λ b. b == 93) (drop (close + 1) text.now)) self.old.doubled self.new.doubled) }
+        ensures leaves { IfOk result (λ next. IfSome next (λ next. IfSome (nearest self.old.doubled) (λ tried. LeavesWikilink tried.0.start self.old self.new))) }
+        ensures shut { self.new.shut_close ≡ self.old.shut_close }
     {
         if !options.contains(Options::ENABLE_WIKILINKS) || !is_followed_by(text, close, b']') {
             return Ok(None);
@@ -143,6 +148,8 @@ impl<'a> InlineState<'a> {
         ensures brackets { OnOk result (DropsBehind doubled.start self.old.brackets.standing.items self.new.brackets.standing.items) }
         ensures inactive { OnOk result (self.new.brackets.shut ≡ length self.new.brackets.standing.items) }
         ensures tried { OnOk result (self.new.doubled.standing.items ≡ []) }
+        ensures leaves { OnOk result (LeavesWikilink doubled.start self.old self.new) }
+        ensures shut { self.new.shut_close ≡ self.old.shut_close }
     {
         let end = close + 2;
         let index = self.links.len();

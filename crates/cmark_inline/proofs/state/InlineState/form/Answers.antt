@@ -1,4 +1,5 @@
-use Rattle.std.proofs.Common.{◌≤◌, ◌<◌, ◌+◌, List, ℕ, length, refl, sym, ap, subst, arith}
+use Rattle.std.proofs.Common.{◌≡◌, ◌≤◌, ◌<◌, ◌+◌, List, ℕ, length, refl, sym, ap, subst, ◌∙◌, arith}
+use Rattle.cmark_inline.specs.Closers.{LeavesElement}
 use Rattle.cmark_inline.specs.Stands.{IsSlot, IsTarget, AreBrackets, AreFree, bytes_of}
 use Rattle.cmark_leaf_text.specs.Reads.{IsPart}
 use Rattle.cmark_inline.specs.declared.bracket.Brackets.{Brackets}
@@ -69,3 +70,14 @@ returns-clause-stands c =
 
 pub returns-clause-link : goal.returns-clause-link
 returns-clause-link c = λ plain. c.in_ok-finish-2.ensures.links (c.args.bracket.slot + 1) (c.begin-2.ensures.behind (c.requires.free plain))
+
+pub returns-clause-leaves : goal.returns-clause-leaves
+returns-clause-leaves c =
+    let before : c.finish-2.new.self.brackets ≡ c.args.self.now.brackets = c.finish-2.ensures.brackets in
+    let pairs : c.finish-2.new.self.doubled ≡ c.drop_behind.new.self = c.finish-2.ensures.doubled in
+    subst (λ z. LeavesElement z c.args.bracket.start c.args.self.now (record c.finish-2.new.self { brackets = c.shut_all.new.self; doubled = c.shut_all-2.new.self })) (sym c.if-bracket.false) (record {
+      shuts = record { standing = c.shut_all.ensures.standing ∙ ap (λ (v : Brackets). v.standing) before; shut = c.shut_all.ensures.shut ∙ ap (λ (v : Brackets). length v.standing.items) before };
+      between = c.drop_behind.new.self;
+      drops = record { drops = c.drop_behind.ensures.drops; shut = c.drop_behind.ensures.shut };
+      shuts_doubled = record { standing = c.shut_all-2.ensures.standing ∙ ap (λ (v : Brackets). v.standing) pairs; shut = c.shut_all-2.ensures.shut ∙ ap (λ (v : Brackets). length v.standing.items) pairs };
+    })

@@ -1,5 +1,10 @@
-use Rattle.std.proofs.Common.{rules, ◌≡◌, ◌≤◌, ◌<◌, List, ℕ, length, refl, sym, subst, arith}
+use Rattle.std.proofs.Common.{rules, ◌≡◌, ◌≤◌, ◌<◌, List, [], ◌∷◌, ◌++◌, ℕ, length, refl, sym, ap, subst, ◌∙◌, arith}
 use Rattle.std.proofs.lemmas.List.Elements.{All-push}
+use Rattle.cmark_text.specs.Shown.{shown_options}
+use Rattle.cmark_inline.specs.Doubled.{doubles}
+use Rattle.cmark_inline.specs.declared.bracket.Bracket.{Bracket}
+use Rattle.cmark_inline.specs.declared.state.InlineState.{InlineState}
+use Rattle.cmark_inline.proofs.CloserSteps.{opens-as}
 use Rattle.cmark_inline.specs.Stands.{AreBrackets, AreFree, HoldNoLink, IsBracket, bytes_of}
 use Rattle.cmark_inline.specs.declared.bracket.Brackets.{Brackets}
 use Rattle.cmark_inline.specs.declared.slot.Slot.{Slot}
@@ -40,3 +45,18 @@ returns-clause-moves c =
       cursor = record { pending = p.ends; at = p.ends; ordered = (let q : inside ≤ inside = omega arith in q) };
       further = lt;
     }
+
+pub returns-clause-opens : goal.returns-clause-opens
+returns-clause-opens c =
+    let o = shown_options c.args.options in
+    let b : Bracket = record { slot = c.len.result; runs = c.len-2.result; quotes = c.len-3.result; start = c.args.here.at; inside = c.args.inside; is_image = c.args.is_image } in
+    let kept = c.in_ok-flush.ensures.others in
+    let before : c.flush.new.self.brackets ≡ c.args.self.now.brackets = ap (λ (s : InlineState). s.brackets) kept in
+    let pairs : c.flush.new.self.doubled ≡ c.args.self.now.doubled = ap (λ (s : InlineState). s.doubled) kept in
+    opens-as o.wikilinks c.args.is_image c.args.text.now c.args.here.at c.args.inside c.args.self.now (record c.flush.new.self { slots = c.push_slot.new.slots; brackets = c.push.new.self; doubled = c.double.new.self }) b refl refl refl
+    (c.in_ok-push.ensures.brackets ∙ ap (λ (v : Brackets). v.standing.items ++ (b ∷ [])) before)
+    (c.push.ensures.shut ∙ ap (λ (v : Brackets). v.shut) before)
+    (c.in_ok-double.ensures.doubled ∙ ap (λ (v : Brackets). doubles o v c.args.is_image c.args.here.at c.args.inside c.flush.new.self.doubled.standing.items) before ∙ ap (λ (v : Brackets). doubles o c.args.self.now.brackets c.args.is_image c.args.here.at c.args.inside v.standing.items) pairs)
+    (c.double.ensures.shut ∙ ap (λ (v : Brackets). v.shut) pairs)
+    c.flush.ensures.expansion
+    (ap (λ (s : InlineState). s.shut_close) kept)

@@ -1,3 +1,8 @@
+use Rattle.std.specs.Prelude.{if◌then◌else◌, Some, None}
+use Rattle.std.proofs.Common.{◌≡◌, sym, ap, subst, ◌∙◌, rules}
+use Rattle.cmark_grammar.specs.OpenBrackets.{nearest}
+use Rattle.cmark_inline.specs.BracketViews.{TakenAs}
+use Rattle.cmark_inline.proofs.AfterSteps.{took, taken_if}
 use Rattle.cmark_inline.proofs.state.InlineState.take_bracket.Goals as goal
 
 pub returns-in_err-bracket-clause-stands : goal.returns-in_err-bracket-clause-stands
@@ -11,3 +16,19 @@ returns-then-forms-clause-bracket c = c.in_ok-bracket.ensures.bracket c.args.tex
 
 pub returns-else-forms-clause-stands : goal.returns-else-forms-clause-stands
 returns-else-forms-clause-stands c = record { slots = c.requires.slots; brackets = c.take.ensures.brackets c.args.text.now c.args.at c.requires.brackets; few = c.requires.few; free = c.take.ensures.free c.args.self.now.slots.items c.requires.free; doubled = c.requires.doubled; doubled_free = c.requires.doubled_free; runs = c.requires.runs }
+
+pub returns-in_err-bracket-clause-takes : goal.returns-in_err-bracket-clause-takes
+returns-in_err-bracket-clause-takes c = λ wikilinks place openers bs h.
+    let r = took wikilinks place c.args.at openers bs c.args.self.now.brackets c.take.new.self c.args.self.now.doubled h (record { others = c.take.ensures.others; shut = c.take.ensures.shut }) in
+    let e = ap taken_if (sym c.take.ensures.value ∙ c.in_err-bracket.was) in
+    (r.0, subst (TakenAs place bs (nearest openers)) (let q : taken_if _ ≡ c.from_residual.result = search (rules, e) in q) r.1)
+
+pub returns-then-forms-clause-takes : goal.returns-then-forms-clause-takes
+returns-then-forms-clause-takes c = λ wikilinks place openers bs h.
+    let r = took wikilinks place c.args.at openers bs c.args.self.now.brackets c.take.new.self c.args.self.now.doubled h (record { others = c.take.ensures.others; shut = c.take.ensures.shut }) in
+    (r.0, subst (TakenAs place bs (nearest openers)) (ap taken_if (sym c.take.ensures.value ∙ c.in_ok-bracket.was) ∙ ap (λ z. if z then Some c.in_ok-bracket.bracket else None) c.if-forms.true) r.1)
+
+pub returns-else-forms-clause-takes : goal.returns-else-forms-clause-takes
+returns-else-forms-clause-takes c = λ wikilinks place openers bs h.
+    let r = took wikilinks place c.args.at openers bs c.args.self.now.brackets c.take.new.self c.args.self.now.doubled h (record { others = c.take.ensures.others; shut = c.take.ensures.shut }) in
+    (r.0, subst (TakenAs place bs (nearest openers)) (ap taken_if (sym c.take.ensures.value ∙ c.in_ok-bracket.was) ∙ ap (λ z. if z then Some c.in_ok-bracket.bracket else None) c.if-forms.false) r.1)

@@ -1,0 +1,90 @@
+use Rattle.std.specs.Prelude.{false, Option, IfSome, is_some}
+use Rattle.std.proofs.Common.{◌≡◌, ◌+◌, refl, sym, ap, subst, ◌∙◌}
+use Rattle.cmark_grammar.specs.BracketDecisions.{is_there}
+use Rattle.cmark_leaf_text.specs.Reads.{is_cell_of}
+use Rattle.cmark_text.specs.Shown.{shown_options}
+use Rattle.cmark_inline.specs.Footnoted.{KeepsLabel, footnote_of, forms_footnote}
+use Rattle.cmark_inline.specs.Closers.{LeavesFootnote, LeavesWikilink, LinksTaken}
+use Rattle.cmark_inline.specs.Doubled.{nearest}
+use Rattle.cmark_inline.specs.Stands.{Moves}
+use Rattle.cmark_inline.specs.declared.bracket.Bracket.{Bracket}
+use Rattle.cmark_inline.specs.declared.state.InlineState.{InlineState}
+use Rattle.cmark_inline.specs.declared.step.Cursor.{Cursor}
+use Rattle.cmark_inline.proofs.CloserMakes.{footnote-closes, inside-up, linked-closes, remembers-on, taken-stage, text-closes, tried-stage, wikilink-closes, IsTriedStage}
+use Rattle.cmark_inline.proofs.state.InlineState.close_bracket.Goals as goal
+
+pub returns-in-Some-clause-closes : goal.returns-in-Some-clause-closes
+returns-in-Some-clause-closes g c = λ reader read place closer s bs r at shows.
+    let o = shown_options c.args.reader.now.options in
+    let l = g.E.EntityLookup.replacement c.args.reader.now.entities.now in
+    let refs = c.args.reader.now.references.now in
+    let notes = c.args.footnotes.now in
+    let took : InlineState = c.take_bracket-taken.new.self in
+    let new : InlineState = c.wikilink.new.self in
+    let i = taken-stage o l refs notes c.args.leaf.now c.args.text.now c.requires.same reader read place closer s bs c.args.here.at r at c.args.self.now shows c.flush.new.self took c.take_bracket-taken.result c.in_ok-flush.ensures.others c.take_bracket-taken.ensures.others c.take_bracket-taken.ensures.takes in
+    let next = subst (λ (x : Option Cursor). IfSome x (λ (next : Cursor). (next.pending ≡ c.args.here.at + 2) × (next.at ≡ c.args.here.at + 2))) c.in-Some.is c.in_ok-next.ensures.next in
+    wikilink-closes o l refs notes c.args.leaf.now c.args.text.now c.requires.same reader read place closer s bs c.args.here.at r at c.args.self.now shows
+    g.F.BrokenLinkCallback.answers c.in-Some.next new c.args.callback.now c.args.callback.now took i.view
+    (ap is_some (sym c.in-Some.is) ∙ c.in_ok-next.ensures.forms)
+    (subst (λ (x : Option Cursor). IfSome x (λ next. IfSome (nearest took.doubled) (λ tried. LeavesWikilink tried.0.start took new))) c.in-Some.is c.in_ok-next.ensures.leaves)
+    (remembers-on o l refs notes c.args.leaf.now c.args.text.now c.requires.same reader read place closer s bs c.args.here.at r at c.args.self.now shows took new i.remembers c.wikilink.ensures.expansion c.wikilink.ensures.shut)
+    next.1 (next.0 ∙ sym next.1) refl
+
+pub returns-in-Some-2-clause-closes : goal.returns-in-Some-2-clause-closes
+returns-in-Some-2-clause-closes g c = λ reader read place closer s bs r at shows.
+    let o = shown_options c.args.reader.now.options in
+    let l = g.E.EntityLookup.replacement c.args.reader.now.entities.now in
+    let refs = c.args.reader.now.references.now in
+    let notes = c.args.footnotes.now in
+    let took : InlineState = c.take_bracket-taken.new.self in
+    let st : InlineState = c.wikilink.new.self in
+    let new : InlineState = c.footnote.new.self in
+    let i = taken-stage o l refs notes c.args.leaf.now c.args.text.now c.requires.same reader read place closer s bs c.args.here.at r at c.args.self.now shows c.flush.new.self took c.take_bracket-taken.result c.in_ok-flush.ensures.others c.take_bracket-taken.ensures.others c.take_bracket-taken.ensures.takes in
+    let j = tried-stage o l refs notes c.args.leaf.now c.args.text.now c.requires.same reader read place closer s bs c.args.here.at r at c.args.self.now shows took st c.take_bracket-taken.result i (c.in_ok-next.ensures.others c.in_default.is) (c.in_ok-next.ensures.tries c.in_default.is) (ap is_some (sym c.in_default.is) ∙ c.in_ok-next.ensures.forms) in
+    let next = subst (λ (x : Option Cursor). IfSome x (λ (next : Cursor). (next.pending ≡ c.args.here.at + 1) × (next.at ≡ c.args.here.at + 1))) c.in-Some-2.is c.in_ok-next-2.ensures.next in
+    footnote-closes o l refs notes c.args.leaf.now c.args.text.now c.requires.same reader read place closer s bs c.args.here.at r at c.args.self.now shows
+    g.F.BrokenLinkCallback.answers c.in-Some-2.next new c.args.callback.now c.args.callback.now st c.take_bracket-taken.result j.ready j.taken_as j.remembers
+    (ap is_some (sym c.in-Some-2.is) ∙ c.in_ok-next-2.ensures.forms)
+    (inside-up c.args.text.now c.args.here.at c.take_bracket-taken.result c.take_bracket-taken.ensures.bracket)
+    (subst (λ (x : Option Cursor). IfSome x (λ next. IfSome c.take_bracket-taken.result (λ (bracket : Bracket). LeavesFootnote bracket.start st new))) c.in-Some-2.is c.in_ok-next-2.ensures.leaves)
+    (remembers-on o l refs notes c.args.leaf.now c.args.text.now c.requires.same reader read place closer s bs c.args.here.at r at c.args.self.now shows st new j.remembers c.footnote.ensures.expansion c.footnote.ensures.shut)
+    next.1 (next.0 ∙ sym next.1) refl (subst (λ (x : Option Cursor). IfSome x (λ next. IfSome (footnote_of o (is_cell_of c.args.leaf.now) (is_there c.args.here.at st.shut_close) c.args.text.now c.args.here.at c.take_bracket-taken.result) (λ label. KeepsLabel label st.texts.items new.texts.items))) c.in-Some-2.is c.in_ok-next-2.ensures.label) j.texts
+
+pub returns-in-Some-3-clause-closes : goal.returns-in-Some-3-clause-closes
+returns-in-Some-3-clause-closes g c = λ reader read place closer s bs r at shows.
+    let o = shown_options c.args.reader.now.options in
+    let l = g.E.EntityLookup.replacement c.args.reader.now.entities.now in
+    let refs = c.args.reader.now.references.now in
+    let notes = c.args.footnotes.now in
+    let took : InlineState = c.take_bracket-taken.new.self in
+    let st : InlineState = c.wikilink.new.self in
+    let i = taken-stage o l refs notes c.args.leaf.now c.args.text.now c.requires.same reader read place closer s bs c.args.here.at r at c.args.self.now shows c.flush.new.self took c.take_bracket-taken.result c.in_ok-flush.ensures.others c.take_bracket-taken.ensures.others c.take_bracket-taken.ensures.takes in
+    let j = tried-stage o l refs notes c.args.leaf.now c.args.text.now c.requires.same reader read place closer s bs c.args.here.at r at c.args.self.now shows took st c.take_bracket-taken.result i (c.in_ok-next.ensures.others c.in_default.is) (c.in_ok-next.ensures.tries c.in_default.is) (ap is_some (sym c.in_default.is) ∙ c.in_ok-next.ensures.forms) in
+    let same : c.footnote.new.self ≡ st = c.in_ok-next-2.ensures.others c.in_default-2.is in
+    let k = subst (λ (x : InlineState). IsTriedStage o l refs notes c.args.leaf.now c.args.text.now c.requires.same reader read place closer s bs c.args.here.at r at c.args.self.now shows x c.take_bracket-taken.result) (sym same) j in
+    let moves = subst (λ (x : Option Cursor). IfSome x (Moves c.args.text.now c.args.here.at c.link.new.self)) c.in-Some-3.is c.in_ok-next-3.ensures.moves in
+    linked-closes o l refs notes c.args.leaf.now c.args.text.now c.requires.same reader read place closer s bs c.args.here.at r at c.args.self.now shows
+    g.F.BrokenLinkCallback.answers c.in-Some-3.next c.link.new.self c.args.callback.now c.link.new.callback c.footnote.new.self c.take_bracket-taken.result k.ready k.taken_as k.remembers
+    (subst (λ (x : InlineState). false ≡ forms_footnote o notes (footnote_of o (is_cell_of c.args.leaf.now) (is_there c.args.here.at x.shut_close) c.args.text.now c.args.here.at c.take_bracket-taken.result)) (sym same) (ap is_some (sym c.in_default-2.is) ∙ c.in_ok-next-2.ensures.forms))
+    (subst (λ (x : Option Cursor). LinksTaken g.F.BrokenLinkCallback.answers o l refs c.args.leaf.now c.args.text.now c.take_bracket-taken.result c.args.here.at c.footnote.new.self c.link.new.self x c.args.callback.now c.link.new.callback) c.in-Some-3.is c.in_ok-next-3.ensures.links)
+    moves.further moves.cursor.at.0 k.table
+
+pub returns-clause-closes : goal.returns-clause-closes
+returns-clause-closes g c = λ reader read place closer s bs r at shows.
+    let o = shown_options c.args.reader.now.options in
+    let l = g.E.EntityLookup.replacement c.args.reader.now.entities.now in
+    let refs = c.args.reader.now.references.now in
+    let notes = c.args.footnotes.now in
+    let took : InlineState = c.take_bracket-taken.new.self in
+    let st : InlineState = c.wikilink.new.self in
+    let i = taken-stage o l refs notes c.args.leaf.now c.args.text.now c.requires.same reader read place closer s bs c.args.here.at r at c.args.self.now shows c.flush.new.self took c.take_bracket-taken.result c.in_ok-flush.ensures.others c.take_bracket-taken.ensures.others c.take_bracket-taken.ensures.takes in
+    let j = tried-stage o l refs notes c.args.leaf.now c.args.text.now c.requires.same reader read place closer s bs c.args.here.at r at c.args.self.now shows took st c.take_bracket-taken.result i (c.in_ok-next.ensures.others c.in_default.is) (c.in_ok-next.ensures.tries c.in_default.is) (ap is_some (sym c.in_default.is) ∙ c.in_ok-next.ensures.forms) in
+    let same : c.footnote.new.self ≡ st = c.in_ok-next-2.ensures.others c.in_default-2.is in
+    let k = subst (λ (x : InlineState). IsTriedStage o l refs notes c.args.leaf.now c.args.text.now c.requires.same reader read place closer s bs c.args.here.at r at c.args.self.now shows x c.take_bracket-taken.result) (sym same) j in
+    let put = c.in_ok-next-4.ensures.others in
+    text-closes o l refs notes c.args.leaf.now c.args.text.now c.requires.same reader read place closer s bs c.args.here.at r at c.args.self.now shows
+    g.F.BrokenLinkCallback.answers c.in_ok-next-4.next c.put.new.self c.args.callback.now c.link.new.callback c.footnote.new.self c.link.new.self c.take_bracket-taken.result k.ready k.taken_as k.remembers
+    (subst (λ (x : InlineState). false ≡ forms_footnote o notes (footnote_of o (is_cell_of c.args.leaf.now) (is_there c.args.here.at x.shut_close) c.args.text.now c.args.here.at c.take_bracket-taken.result)) (sym same) (ap is_some (sym c.in_default-2.is) ∙ c.in_ok-next-2.ensures.forms))
+    (subst (λ (x : Option Cursor). LinksTaken g.F.BrokenLinkCallback.answers o l refs c.args.leaf.now c.args.text.now c.take_bracket-taken.result c.args.here.at c.footnote.new.self c.link.new.self x c.args.callback.now c.link.new.callback) c.in_default-3.is c.in_ok-next-3.ensures.links)
+    (ap (λ (x : InlineState). x.brackets) put) (ap (λ (x : InlineState). x.doubled) put) (ap (λ (x : InlineState). x.expansion) put) (ap (λ (x : InlineState). x.shut_close) put)
+    (c.in_ok-next-4.ensures.at ∙ c.behind-behind_it.ensures.value) (c.in_ok-next-4.ensures.end ∙ sym c.in_ok-next-4.ensures.at) (ap (λ (x : InlineState). x.links) put) k.table

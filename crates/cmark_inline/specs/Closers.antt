@@ -1,0 +1,158 @@
+-- What a closing bracket comes to, in the states of the code and of the grammar.
+use Rattle.std.specs.Prelude.{◌≡◌, ◌≤◌, ◌<◌, ℕ, suc, ◌-◌, Bool, true, false, List, [], ◌∷◌, ◌++◌, drop, length, min, take, Option, Some, None}
+use Rattle.cmark_grammar.specs.Answers.{Lookup}
+use Rattle.cmark_grammar.specs.BracketDecisions.{decide}
+use Rattle.cmark_grammar.specs.BracketStates.{Opener, State, opened, Result, StaysText, Forms, Outcome}
+use Rattle.cmark_grammar.specs.Items as items
+use Rattle.cmark_grammar.specs.LeafText.{Leaf}
+use Rattle.cmark_grammar.specs.Options.{Options}
+use Rattle.cmark_grammar.specs.Parts.{Linking, Footnote, Wiki}
+use Rattle.cmark_grammar.specs.Readers.{Reader}
+use Rattle.cmark_items.specs.declared.definitions.RefDefs.{RefDefs}
+use Rattle.cmark_items.specs.declared.footnotes.FootnoteDefs.{FootnoteDefs}
+use Rattle.cmark_leaf_text.specs.declared.leaf_text.LeafText.{LeafText}
+use Rattle.cmark_text.specs.Shown.{text_bytes}
+use Rattle.cmark_text.specs.declared.text.CowStr.{CowStr}
+use Rattle.cmark_inline.specs.BracketViews.{StandFor, IsFresh, past_opening, standing_of}
+use Rattle.cmark_inline.specs.Decided.{ReadsSame, IsCloser, Remembers, ComesTo, EndsWithin, TargetDecides, shown_parts}
+use Rattle.cmark_inline.specs.Doubled.{DropsBehind}
+use Rattle.cmark_inline.specs.Stands.{SameSpans}
+use Rattle.cmark_inline.specs.declared.bracket.Bracket.{Bracket}
+use Rattle.cmark_inline.specs.declared.bracket.Brackets.{Brackets}
+use Rattle.cmark_inline.specs.declared.callback.BrokenLink.{BrokenLink}
+use Rattle.cmark_inline.specs.declared.link.LinkParts.{LinkParts}
+use Rattle.cmark_inline.specs.declared.link.Target.{Target}
+use Rattle.cmark_inline.specs.declared.state.InlineState.{InlineState}
+use Rattle.cmark_inline.specs.declared.step.Cursor.{Cursor}
+
+-- ## What becomes of the stacks
+
+-- the last bracket is used up
+pub record UsesUp (old new : Brackets) : Type 0 where
+  pub others : new.standing.items ≡ take (length old.standing.items - 1) old.standing.items
+  pub shut : old.shut ≤ length old.standing.items → new.shut ≡ min old.shut (length new.standing.items)
+
+-- so many last ones were dropped that end behind a place
+pub record Drops (place : ℕ) (old new : Brackets) : Type 0 where
+  pub drops : DropsBehind place old.standing.items new.standing.items
+  pub shut : new.shut ≡ min old.shut (length new.standing.items)
+
+-- all that stand are inactive that open no image
+pub record Shuts (old new : Brackets) : Type 0 where
+  pub standing : new.standing ≡ old.standing
+  pub shut : new.shut ≡ length old.standing.items
+
+-- none stands
+pub record IsNone (new : Brackets) : Type 0 where
+  pub standing : new.standing.items ≡ []
+  pub shut : new.shut ≡ 0
+
+-- none of the first so many stands
+abbrev pub NoneStand : (n : ℕ) → List Opener → List Bracket → Type 0
+NoneStand n os bs = standing_of (drop n os) (drop n bs) ≡ standing_of os bs
+
+-- the doubled bracket is tried that is the nearest, where wikilinks are read and another closing bracket follows
+abbrev pub TriesDoubled : (tries : Bool) → (old new : Brackets) → Type 0
+TriesDoubled true old new = UsesUp old new
+TriesDoubled false old new = new ≡ old
+
+-- behind a wikilink, which begins at this place, no doubled bracket is tried, and no bracket forms a link
+pub record LeavesWikilink (start : ℕ) (old new : InlineState) : Type 0 where
+  pub drops : DropsBehind start old.brackets.standing.items new.brackets.standing.items
+  pub shut : new.brackets.shut ≡ length new.brackets.standing.items
+  pub none : IsNone new.doubled
+
+-- behind a footnote reference no bracket stands
+pub record LeavesFootnote (start : ℕ) (old new : InlineState) : Type 0 where
+  pub none : IsNone new.brackets
+  pub drops : Drops start old.doubled new.doubled
+
+-- behind a link no bracket forms another one
+pub record LeavesLink (start : ℕ) (old new : InlineState) : Type 0 where
+  pub shuts : Shuts old.brackets new.brackets
+  pub between : Brackets
+  pub drops : Drops start old.doubled between
+  pub shuts_doubled : Shuts between new.doubled
+
+pub record LeavesImage (start : ℕ) (old new : InlineState) : Type 0 where
+  pub same : new.brackets ≡ old.brackets
+  pub drops : Drops start old.doubled new.doubled
+
+abbrev pub LeavesElement : (is_image : Bool) → (start : ℕ) → (old new : InlineState) → Type 0
+LeavesElement true start old new = LeavesImage start old new
+LeavesElement false start old new = LeavesLink start old new
+
+-- ## Links and images
+
+-- the link or the image with this target is formed, and the text is read on behind it
+pub record FormsTarget (bracket : Bracket) (target : Target) (old new : InlineState) (next : Cursor) : Type 0 where
+  pub pending : next.pending ≡ target.past
+  pub at : next.at ≡ target.past
+  pub leaves : LeavesElement bracket.is_image bracket.start old new
+  pub links : new.links.items ≡ old.links.items ++ (target.parts ∷ [])
+  pub expansion : new.expansion ≡ old.expansion
+  pub label : new.shut_close ≡ old.shut_close
+
+abbrev pub Formed : Bracket → Option Target → (old new : InlineState) → Option Cursor → Type 0
+Formed bracket None old new None = new ≡ old
+Formed bracket (Some target) old new (Some next) = FormsTarget bracket target old new next
+Formed bracket _ old new _ = ⊥
+
+-- with the bracket that was taken the target is formed, if there is one
+pub record LinksBracket {F : Type 0} (R : F → BrokenLink → Option (CowStr × CowStr) → F → Type 0) (options : Options) (lookup : Lookup) (references : RefDefs) (leaf : LeafText) (text : List ℕ) (bracket : Bracket) (close : ℕ)
+    (old new : InlineState) (next : Option Cursor) (before after : F) : Type 0 where
+  pub target : Option Target
+  pub between : InlineState
+  pub decides : TargetDecides R options lookup references leaf text bracket close old between target before after
+  pub same : SameSpans old between
+  pub label : EndsWithin text old.shut_close → EndsWithin text between.shut_close
+  pub table : between.links ≡ old.links
+  pub formed : Formed bracket target between new next
+
+abbrev pub LinksTaken : {F : Type 0} → (F → BrokenLink → Option (CowStr × CowStr) → F → Type 0) → Options → Lookup → RefDefs → LeafText → (text : List ℕ) → Option Bracket → (close : ℕ) → (old new : InlineState) → Option Cursor → (before after : F) → Type 0
+LinksTaken R options lookup references leaf text None close old new next before after = (next ≡ None) × (new ≡ old) × (after ≡ before)
+LinksTaken R options lookup references leaf text (Some bracket) close old new next before after = LinksBracket R options lookup references leaf text bracket close old new next before after
+
+-- ## What a closing bracket comes to
+
+-- the grammar's state is this one, which has read the text up to a place: these are its opening brackets
+pub record ShowsState (wikilinks : Bool) (text : List ℕ) (place : ℕ → ℕ) (at : ℕ) (s : State) (bs : List Bracket) (state : InlineState) : Type 0 where
+  pub openers : StandFor wikilinks place at s.openers bs state.brackets state.doubled
+  pub fresh : IsFresh at state.brackets.shut s.openers bs
+  pub remembers : Remembers text place s state
+
+-- an opening bracket from this place of the text to that one is opened: it is the nearest
+abbrev pub OpensAs : (wikilinks is_image : Bool) → (text : List ℕ) → (at inside : ℕ) → (old new : InlineState) → Type 0
+OpensAs wikilinks is_image text at inside old new =
+    (place : ℕ → ℕ) (bracket : items.Bracket) (s : State) (bs : List Bracket)
+    → ((k : ℕ) → k < at → place k < place at) → ShowsState wikilinks text place at s bs old → bracket ≡ record { is_image = is_image; start = place at; end = place inside }
+    → inside ≡ past_opening is_image at → place inside ≡ past_opening is_image (place at)
+    → (b : Bracket) × (new.brackets.standing.items ≡ old.brackets.standing.items ++ (b ∷ [])) × ShowsState wikilinks text place inside (opened bracket s) (b ∷ bs) new
+
+-- the opening brackets that are left
+abbrev pub left_of : Result → List Bracket → List Bracket
+left_of StaysText bs = bs
+left_of (Forms nearer formed) bs = drop (suc nearer) bs
+
+-- what is noted of it: the parts of a link or an image, or the label of a footnote reference
+abbrev pub Notes : Result → (old new : InlineState) → Type 0
+Notes (Forms nearer (Linking target)) old new = (parts : LinkParts) × (shown_parts parts ≡ target.linked) × (new.links.items ≡ old.links.items ++ (parts ∷ []))
+Notes (Forms nearer (Footnote label end)) old new = (text : CowStr) × (text_bytes text ≡ label) × (new.texts.items ≡ old.texts.items ++ (text ∷ []))
+Notes (Forms nearer (Wiki name display end)) old new = Unit {0}
+Notes StaysText old new = new.links ≡ old.links
+
+-- a closing bracket comes to what the grammar says for the answer that the callback gave, and asks what it says
+pub record ClosesAs {F : Type 0} (R : F → BrokenLink → Option (CowStr × CowStr) → F → Type 0) (wikilinks : Bool) (text : List ℕ) (reader : Reader) (read : Leaf) (place : ℕ → ℕ) (closer : items.Bracket) (s : State) (bs : List Bracket)
+    (next : Cursor) (old new : InlineState) (before after : F) : Type 0 where
+  pub outcome : Outcome
+  pub comes : ComesTo R (decide reader read s closer) outcome before after
+  pub at : outcome.after.at ≡ place next.at
+  pub pending : next.pending ≡ next.at
+  pub shows : ShowsState wikilinks text place next.at outcome.after (left_of outcome.result bs) new
+  pub notes : Notes outcome.result old new
+
+abbrev pub Closes : {F : Type 0} → (F → BrokenLink → Option (CowStr × CowStr) → F → Type 0) → Options → Lookup → RefDefs → FootnoteDefs → LeafText → (text : List ℕ) → (at : ℕ) → (old new : InlineState) → (next : Cursor) → (before after : F) → Type 0
+Closes R options lookup references footnotes leaf text at old new next before after =
+    (reader : Reader) (read : Leaf) (place : ℕ → ℕ) (closer : items.Bracket) (s : State) (bs : List Bracket)
+    → ReadsSame options lookup references footnotes leaf reader read place → IsCloser text place at closer → ShowsState options.wikilinks text place at s bs old
+    → ClosesAs R options.wikilinks text reader read place closer s bs next old new before after

@@ -1,0 +1,132 @@
+-- What a decision about a closing bracket comes to, where a callback answers its question.
+use Rattle.std.specs.Prelude.{◌≡◌, ◌≤◌, ◌<◌, ℕ, suc, Bool, true, false, List, drop, length, get_or, Option, Some, None, is_some, option_map}
+use Rattle.cmark_grammar.specs.Answers as answers
+use Rattle.cmark_grammar.specs.Answers.{Lookup}
+use Rattle.cmark_grammar.specs.BlockDocument as block
+use Rattle.cmark_grammar.specs.BracketDecisions.{behind, is_there, link_or, links, stays, or_empty}
+use Rattle.cmark_grammar.specs.BracketStates.{State, Outcome, Decision, Settled, Asks}
+use Rattle.cmark_grammar.specs.InlineTokens.{from, place_of}
+use Rattle.cmark_grammar.specs.Items as items
+use Rattle.cmark_grammar.specs.LeafText.{Leaf}
+use Rattle.cmark_grammar.specs.Lines.{is_content}
+use Rattle.cmark_grammar.specs.LinkTails.{link_tail_in}
+use Rattle.cmark_grammar.specs.LinkType as link
+use Rattle.cmark_grammar.specs.OpenBrackets.{Taken}
+use Rattle.cmark_grammar.specs.Options.{Options}
+use Rattle.cmark_grammar.specs.Questions.{Question, Exchange}
+use Rattle.cmark_grammar.specs.Readers.{Reader}
+use Rattle.cmark_grammar.specs.Tag.{Linked}
+use Rattle.cmark_items.specs.Definitions.{definition}
+use Rattle.cmark_items.specs.Footnotes.{footnote}
+use Rattle.cmark_items.specs.declared.definitions.RefDefs.{RefDefs}
+use Rattle.cmark_items.specs.declared.footnotes.FootnoteDefs.{FootnoteDefs}
+use Rattle.cmark_leaf_text.specs.Reads as reads
+use Rattle.cmark_leaf_text.specs.Reads.{source_of, text_of, is_cell_of}
+use Rattle.cmark_leaf_text.specs.declared.leaf_text.LeafText.{LeafText}
+use Rattle.cmark_text.specs.Shown.{shown_link_type, shown_linked, text_bytes}
+use Rattle.cmark_text.specs.declared.text.CowStr.{CowStr}
+use Rattle.cmark_inline.specs.BracketViews.{IsPlaced}
+use Rattle.cmark_inline.specs.Footnoted.{footnote_of, forms_footnote}
+use Rattle.cmark_inline.specs.Linked.{Said, said_by}
+use Rattle.cmark_inline.specs.declared.bracket.Bracket.{Bracket}
+use Rattle.cmark_inline.specs.declared.state.InlineState.{InlineState}
+use Rattle.cmark_inline.specs.declared.callback.BrokenLink.{BrokenLink}
+use Rattle.cmark_inline.specs.declared.link.LinkParts.{LinkParts}
+use Rattle.cmark_inline.specs.declared.link.Target.{Target}
+
+-- ## What is read
+
+-- the bytes of a leaf's text have these places in the source, and so has its end: in order, and side by side but at line endings
+pub record ArePlaces (reader : Reader) (leaf : Leaf) (text : List ℕ) (place : ℕ → ℕ) : Type 0 where
+  pub rest : (k : ℕ) → k ≤ length text → from reader leaf (place k) ≡ drop k text
+  pub ends : (k : ℕ) → k ≤ length text → place_of reader leaf (drop k text) ≡ place k
+  pub next : (k : ℕ) → k < length text → is_content (get_or text k 0) ≡ true → place (suc k) ≡ suc (place k)
+  pub order : (j k : ℕ) → j < k → k ≤ length text → place j < place k
+
+abbrev pub said : block.Reference → Said
+said reference = record { destination = reference.destination; title = or_empty reference.title }
+
+-- the grammar reads the same leaf, with the same options, entities, definitions and footnotes, and a callback
+pub record ReadsSame (options : Options) (lookup : Lookup) (references : RefDefs) (footnotes : FootnoteDefs) (leaf : LeafText) (reader : Reader) (read : Leaf) (place : ℕ → ℕ) : Type 0 where
+  pub source : reader.source ≡ source_of leaf
+  pub options_are : reader.options ≡ options
+  pub lookup_is : reader.lookup ≡ lookup
+  pub definitions : (folded : List ℕ) → option_map said (reader.definition folded) ≡ option_map said_by (definition references folded)
+  pub footnotes_are : (folded : List ℕ) → reader.has_footnote folded ≡ is_some (footnote footnotes folded)
+  pub callback : reader.has_callback ≡ true
+  pub cell : read.is_cell ≡ is_cell_of leaf
+  pub places : ArePlaces reader read (text_of leaf) place
+  pub bytes : (k : ℕ) → k < length (text_of leaf) → reads.place_of leaf k ≡ place k
+
+-- the closing bracket of the grammar is the one at this place of the text
+pub record IsCloser (text : List ℕ) (place : ℕ → ℕ) (close : ℕ) (closer : items.Bracket) : Type 0 where
+  pub within : close < length text
+  pub byte : get_or text close 0 ≡ 93
+  pub start : closer.start ≡ place close
+  pub end : closer.end ≡ suc (place close)
+
+abbrev pub EndsWithin : (text : List ℕ) → Option ℕ → Type 0
+EndsWithin text None = Unit {0}
+EndsWithin text (Some place) = place ≤ length text
+
+-- a full reference (CommonMark 6.3)
+abbrev pub is_full : link.LinkType → Bool
+is_full link.Reference = true
+is_full _ = false
+
+-- the state has the same left of the expansion limit, and the same closing bracket of a full reference's label
+pub record Remembers (text : List ℕ) (place : ℕ → ℕ) (s : State) (state : InlineState) : Type 0 where
+  pub expansion : s.expansion ≡ state.expansion
+  pub label : s.label_close ≡ option_map place state.shut_close
+  pub within : EndsWithin text state.shut_close
+
+-- ## What is asked
+
+abbrev pub shown_question : BrokenLink → Question
+shown_question link = record { start = link.span.start; end = link.span.end; link_type = shown_link_type link.link_type; reference = text_bytes link.reference }
+
+abbrev pub shown_answer : CowStr × CowStr → answers.Destination
+shown_answer answer = record { url = text_bytes answer.0; title = text_bytes answer.1 }
+
+-- a callback was asked this, and answered so
+pub record AsksThis {F : Type 0} (R : F → BrokenLink → Option (CowStr × CowStr) → F → Type 0) (question : Question) (answer : Option answers.Destination) (before after : F) : Type 0 where
+  pub link : BrokenLink
+  pub told : Option (CowStr × CowStr)
+  pub question_is : shown_question link ≡ question
+  pub answer_is : option_map shown_answer told ≡ answer
+  pub run : R before link told after
+
+-- a decision comes to this: nothing is asked where it is settled, and else its question alone
+abbrev pub ComesTo : {F : Type 0} → (F → BrokenLink → Option (CowStr × CowStr) → F → Type 0) → Decision → Outcome → (before after : F) → Type 0
+ComesTo R (Settled settled) outcome before after = (outcome ≡ settled) × (after ≡ before)
+ComesTo R (Asks question answered) outcome before after = (answer : Option answers.Destination) × AsksThis R question answer before after × (outcome ≡ answered answer)
+
+-- ## What is formed
+
+abbrev pub shown_parts : LinkParts → Linked
+shown_parts parts = shown_linked parts.link_type parts.dest_url parts.title parts.id
+
+-- a link or an image with this target; where there is none, the closing bracket is a text
+abbrev pub target_outcome : Reader → Leaf → (place : ℕ → ℕ) → Taken → (closer : items.Bracket) → State → Option Target → Outcome
+target_outcome reader leaf place taken closer s None = stays reader leaf closer s
+target_outcome reader leaf place taken closer s (Some target) = links reader leaf taken (shown_parts target.parts) (place target.end) (place target.past) s
+
+-- the state with what is left of the expansion limit, the closing bracket of a full reference's label, and the questions
+abbrev pub with_left : (expansion : ℕ) → (label_close : Option ℕ) → List Exchange → State → State
+with_left expansion label_close asked s = record { at = s.at; expansion = expansion; label_close = label_close; asked = asked; openers = s.openers }
+
+-- a decision comes to a link or an image with this target, or to nothing, and leaves so much of the expansion limit, and the closing
+-- bracket of a label
+pub record LeadsTo {F : Type 0} (R : F → BrokenLink → Option (CowStr × CowStr) → F → Type 0) (reader : Reader) (leaf : Leaf) (place : ℕ → ℕ) (taken : Taken) (closer : items.Bracket) (decision : Decision) (s : State) (expansion : ℕ)
+    (label_close : Option ℕ) (found : Option Target) (before after : F) : Type 0 where
+  pub asked : List Exchange
+  pub comes : ComesTo R decision (target_outcome reader leaf place taken closer (with_left expansion label_close asked s) found) before after
+
+-- with the bracket that it takes a closing bracket forms what the grammar says where it is no footnote reference: with this target, or
+-- nothing
+abbrev pub TargetDecides : {F : Type 0} → (F → BrokenLink → Option (CowStr × CowStr) → F → Type 0) → Options → Lookup → RefDefs → LeafText → (text : List ℕ) → Bracket → (close : ℕ) → (old new : InlineState) → Option Target → (before after : F) → Type 0
+TargetDecides R options lookup references leaf text bracket close old new found before after =
+    (footnotes : FootnoteDefs) (reader : Reader) (read : Leaf) (place : ℕ → ℕ) (taken : Taken) (closer : items.Bracket) (s : State)
+    → ReadsSame options lookup references footnotes leaf reader read place → IsCloser text place close closer → IsPlaced place taken.opener bracket → Remembers text place s old
+    → forms_footnote options footnotes (footnote_of options (is_cell_of leaf) (is_there close old.shut_close) text close (Some bracket)) ≡ false
+    → LeadsTo R reader read place taken closer (link_or reader read (link_tail_in (behind reader read closer.end)) taken closer s) s new.expansion (option_map place new.shut_close) found before after
