@@ -38,19 +38,19 @@ slice_none source start end h = none (slice source start end) (let t = length-ta
     none (b ∷ l) e = cc
 
 -- in front of all stretches all their bytes stand behind a place
-bytes_low : (source : List ℕ) (at from : ℕ) (st : List Stretch) (size : ℕ) → at ≤ from → InTurn from st size → bytes_from source st at ≡ all_bytes source st
-bytes_low source at from [] size h k = refl
-bytes_low source at from (s ∷ more) size h k =
+pub bytes-low : (source : List ℕ) (at from : ℕ) (st : List Stretch) (size : ℕ) → at ≤ from → InTurn from st size → bytes_from source st at ≡ all_bytes source st
+bytes-low source at from [] size h k = refl
+bytes-low source at from (s ∷ more) size h k =
     let x = k.0 in let y = k.1 in
     let e : max at s.start ≡ s.start = omega arith in
-    ap (λ n. slice source n s.end ++ bytes_from source more at) e ∙ ap (λ l. slice source s.start s.end ++ l) (bytes_low source at s.end more size (omega arith) k.2)
+    ap (λ n. slice source n s.end ++ bytes_from source more at) e ∙ ap (λ l. slice source s.start s.end ++ l) (bytes-low source at s.end more size (omega arith) k.2)
 
 -- the last bytes begin behind the beginning of the stretches
-place_low : (from : ℕ) (s : Stretch) (more : List Stretch) (size left : ℕ) → InTurn from (s ∷ more) size → left ≤ size_of (s ∷ more) → s.start ≤ place_with left (s ∷ more)
-place_low from s [] size left h k = let x = h.1 in omega arith
-place_low from s (t ∷ more) size left h k =
+pub place-low : (from : ℕ) (s : Stretch) (more : List Stretch) (size left : ℕ) → InTurn from (s ∷ more) size → left ≤ size_of (s ∷ more) → s.start ≤ place_with left (s ∷ more)
+place-low from s [] size left h k = let x = h.1 in omega arith
+place-low from s (t ∷ more) size left h k =
     by_size (λ p. s.start ≤ p) (size_of (t ∷ more)) left (s.end - (left - size_of (t ∷ more))) (place_with left (t ∷ more)) (λ lt. (let x = h.1 in omega arith))
-    (λ le. (let i = place_low s.end t more size left h.2 le in let x = h.1 in let y = h.2.0 in omega arith))
+    (λ le. (let i = place-low s.end t more size left h.2 le in let x = h.1 in let y = h.2.0 in omega arith))
 
 -- the stretches begin where all their bytes are left
 pub place-first : (source : List ℕ) (s : Stretch) (more : List Stretch) → HaveLineEnds source (s ∷ more) → place_with (size_of (s ∷ more)) (s ∷ more) ≡ s.start
@@ -84,7 +84,7 @@ bytes_at source from (s ∷ (t ∷ more)) size left h w k =
         let d : size_of (s ∷ (t ∷ more)) - left ≡ at - s.start = omega arith in
         let l = slice_size source s.start s.end ends in
         ap (λ n. slice source n s.end ++ bytes_from source (t ∷ more) at) e
-        ∙ ap (λ b. slice source at s.end ++ b) (bytes_low source at s.end (t ∷ more) size (omega arith) h.2)
+        ∙ ap (λ b. slice source at s.end ++ b) (bytes-low source at s.end (t ∷ more) size (omega arith) h.2)
         ∙ ap (λ b. b ++ all_bytes source (t ∷ more)) (sym (slice_drop source s.start at s.end (omega arith) (omega arith)))
         ∙ sym (drop-append-le (at - s.start) (slice source s.start s.end) (all_bytes source (t ∷ more)) (omega arith))
         ∙ ap (λ n. drop n (all_bytes source (s ∷ (t ∷ more)))) (sym d)
@@ -97,7 +97,7 @@ bytes_at source from (s ∷ (t ∷ more)) size left h w k =
         → bytes_from source (s ∷ (t ∷ more)) (place_with left (t ∷ more)) ≡ drop (size_of (s ∷ (t ∷ more)) - left) (all_bytes source (s ∷ (t ∷ more)))
     later le i =
         let at = place_with left (t ∷ more) in
-        let low = place_low s.end t more size left h.2 le in
+        let low = place-low s.end t more size left h.2 le in
         let x = h.1 in let y = h.2.0 in
         let ends : s.end ≤ length source = up s.end (t ∷ more) h.2 in
         let l = slice_size source s.start s.end ends in
@@ -111,10 +111,10 @@ bytes_at source from (s ∷ (t ∷ more)) size left h w k =
         up low [] i = let x : low ≤ size = i in omega arith
         up low (r ∷ rs) i = let j = up r.end rs i.2 in let a = i.0 in let b = i.1 in omega arith
 
-all_size : (source : List ℕ) (from : ℕ) (st : List Stretch) (size : ℕ) → InTurn from st size → size ≤ length source → length (all_bytes source st) ≡ size_of st
-all_size source from [] size h w = refl
-all_size source from (s ∷ more) size h w =
-    let i = all_size source s.end more size h.2 w in
+pub all-size : (source : List ℕ) (from : ℕ) (st : List Stretch) (size : ℕ) → InTurn from st size → size ≤ length source → length (all_bytes source st) ≡ size_of st
+all-size source from [] size h w = refl
+all-size source from (s ∷ more) size h w =
+    let i = all-size source s.end more size h.2 w in
     let e = length-append (slice source s.start s.end) (all_bytes source more) in
     let l = slice_size source s.start s.end (up s.end more h.2) in
     omega arith
@@ -221,7 +221,7 @@ module _ (source : List ℕ) (st : List Stretch) (size : ℕ) (turn : InTurn 0 s
   at-size left at h =
       let e = ap length (ap (bytes_from source st) h.1 ∙ bytes_at source 0 st size left turn within h.0) in
       let d = length-drop (size_of st - left) (all_bytes source st) in
-      let s = all_size source 0 st size turn within in
+      let s = all-size source 0 st size turn within in
       let x = h.0 in
       omega arith
 

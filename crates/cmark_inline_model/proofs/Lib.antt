@@ -75,3 +75,4 @@ pub mod TokenSizes
 pub mod WalkLaws
 pub mod WikiGaps
 pub mod WordBytes
+pub mod TextPlaces

@@ -16,3 +16,4 @@ pub mod ReadingQuestions
 pub mod ReadingRanges
 pub mod SlotRows
 pub mod Unanswered
+pub mod TextPlaces

@@ -17,7 +17,8 @@ ghost use Rattle.cmark_grammar.specs.References.{first_with, references};
 ghost use Rattle.cmark_grammar.specs.Siblings.{AreSpans, Inline};
 ghost use Rattle.cmark_grammar.specs.SiblingsModel.{spans_in};
 ghost use Rattle.cmark_grammar.specs.SpanDocuments.{Content, Given, IsReading, Left, Profile, Segment, reader_of, segments};
-ghost use Rattle.cmark_inline_model.specs.LeafModel.{AreLeavesInTurn, AreLeavesOfLines};
+ghost use Rattle.cmark_inline_model.specs.LeafModel.{AreLeavesInTurn, AreLeavesOfLines, HaveLineEnds};
+ghost use Rattle.cmark_inline_model.specs.TextPlaces.{ArePlaces, place_in, text_of};
 ghost use Rattle.cmark_grammar.specs.BracketReading.{Reads, ReadsWhole};
 ghost use Rattle.cmark_grammar.specs.BracketStates.{Decision, State};
 ghost use Rattle.cmark_grammar.specs.Items.{Bracket, Token};
@@ -184,4 +185,10 @@ pub fn what_is_left_grows_backwards()
 pub fn no_answers_are_no_callback()
     ensures { (text : List ℕ) (profile : Profile) (exchanges : List Exchange) (events : List Ranged)
         → AreUnanswered exchanges → IsReading text profile exchanges events → IsReading text (without_callback profile) [] events }
+{}
+
+/// Each byte of a leaf whose lines end with line endings has its place in the source, in order, and what stands from there on are the
+/// bytes of the text from this one on.
+pub fn a_text_stands_in_its_places()
+    ensures { (reader : Reader) (leaf : Leaf) (size : ℕ) → InTurn 0 leaf.stretches size → size ≤ length reader.source → HaveLineEnds reader.source leaf.stretches → ArePlaces reader leaf (text_of reader leaf) (place_in reader leaf) }
 {}
