@@ -32,3 +32,4 @@ pub mod TargetSteps
 pub mod TargetMakes
 pub mod CloserSteps
 pub mod CloserMakes
+pub mod LeafPlaces
