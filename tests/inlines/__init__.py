@@ -1,4 +1,4 @@
 """The written definitions of inlines as Python: each function has the name of its definition in crates/cmark_grammar/specs.
 
-Texts are bytes, and places are places of the source. Left out is what no program reads yet: cells of tables, and callbacks.
+Texts are bytes, and places are places of the source. Left out are callbacks, which no program has.
 """

@@ -58,9 +58,8 @@ impl<'input, E: EntityLookup> Parser<'input, E> {
         Ok(parser)
     }
 
-    /// A parser of `text` with these options. An option that is off changes nothing; that for definition lists has no effect yet, and
-    /// that for heading attributes none on setext headings. `entities` says what the entity names stand for. Where memory is refused
-    /// there is no parser.
+    /// A parser of `text` with these options; an option that is off changes nothing. `entities` says what the entity names stand for.
+    /// Where memory is refused there is no parser.
     pub fn new_ext(
         alloc: Global,
         text: &'input str,
