@@ -51,6 +51,7 @@ pub mod ReadingLinkLaws
 pub mod ReadingOrders
 pub mod ReadingPlaces
 pub mod ReadingQuestionLaws
+pub mod RowParts
 pub mod SampleReading
 pub mod SegmentLaws
 pub mod SiblingsOne

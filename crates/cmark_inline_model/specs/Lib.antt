@@ -16,6 +16,7 @@ pub mod Progress
 pub mod ReadingLinks
 pub mod ReadingQuestions
 pub mod ReadingRanges
+pub mod RowParts
 pub mod SlotRows
 pub mod Unanswered
 pub mod TextPlaces
