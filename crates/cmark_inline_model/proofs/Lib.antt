@@ -7,6 +7,7 @@ pub mod BracketsOne
 pub mod BracketsShifted
 pub mod BracketsSound
 pub mod BracketsStep
+pub mod BreakRests
 pub mod CostLists
 pub mod DecisionLaws
 pub mod DecisionRules
@@ -16,8 +17,10 @@ pub mod DocumentExamples1
 pub mod DocumentExamples2
 pub mod DocumentLaws
 pub mod DocumentLeaves
+pub mod FindRests
 pub mod ForwardLaws
 pub mod KindViews
+pub mod LeafCuts
 pub mod LeafExamples1
 pub mod LeafExamples2
 pub mod LeafExamples3
@@ -36,6 +39,8 @@ pub mod Openers
 pub mod OptionExamples
 pub mod PartCuts
 pub mod PartOrders
+pub mod PlacedTokens
+pub mod PlainTokens
 pub mod QuestionExamples
 pub mod RangeExamples
 pub mod ReadingBalanced
@@ -46,6 +51,7 @@ pub mod ReadingLinkLaws
 pub mod ReadingOrders
 pub mod ReadingPlaces
 pub mod ReadingQuestionLaws
+pub mod RowParts
 pub mod SampleReading
 pub mod SegmentLaws
 pub mod SiblingsOne

@@ -1,7 +1,7 @@
 -- Siblings that are laid out as slots, cut at the bytes of their runs: what stands before them, and each byte with what stands behind it.
 use Rattle.std.proofs.Common.{◌≡◌, ℕ, zero, suc, ◌+◌, List, [], ◌∷◌, ◌++◌, length, get_or, refl, sym, ap, ◌∙◌, subst, arith, append_assoc, length-append}
 use Rattle.cmark_grammar.specs.Emphasis.{StandFrom, places_taken}
-use Rattle.cmark_grammar.specs.Items.{ItemKind, Own, Quoted, Delimiters, Item}
+use Rattle.cmark_grammar.specs.Items.{ItemKind, Own, Quoted, Delimiters, FootnoteReference, Item}
 use Rattle.cmark_grammar.specs.Siblings.{Inline, Nil, Single, Around, append, item, run_then, runs_from, bytes_then, run_bytes_then, run_bytes, put_gap, no_gaps, gap_then, gaps_of, no_item}
 use Rattle.cmark_inline_model.specs.SlotRows.{Slot, ItemSlot, BeginSlot, EndSlot, NothingSlot, seen, slots_of, run_slots, run_places, LaysItem, LaysOut, item_slots, row_of, item_places, byte_places, item_quotes, quote_places}
 use Rattle.cmark_inline_model.proofs.SlotMarks.{Cell, no_cell, flatten, places_from}
@@ -121,6 +121,12 @@ item-cells (Delimiters run) x after ih at slots places quotes h =
     (subst (AreCells at (no_gaps run.size (gaps_of after)) (bytes_then x.start run.size (run_bytes after)) (run_slots x.start run.size h.0)) (sym h.3)
     (run-cells run.size x.start at (gaps_of after) (run_bytes after) h.0 h.1 (ih (at + run.size) h.0 h.1 quotes h.4)))
 item-cells (Quoted quote) x after ih at slots places quotes h = single-cells x at (gaps_of after) (run_bytes after) h.0 slots places h.2 (ih (suc at) h.0 places h.1 h.4)
+item-cells (FootnoteReference label) x after ih at slots places quotes h =
+    let own = ItemSlot x ∷ h.0 in
+    let e : at + (length h.0 + 1) ≡ at + length own = omega arith in
+    subst (λ l. AreCells at (put_gap (Single x) (gaps_of after)) (run_bytes after) l places) (sym h.3)
+    (put-cells at own (Single x) (gaps_of after) (run_bytes after) h.1 places (λ g. ap (λ l. ItemSlot x ∷ (l ++ slots_of g)) h.2)
+    (subst (λ n. AreCells n (gaps_of after) (run_bytes after) h.1 places) e (ih (at + (length h.0 + 1)) h.1 places quotes h.4)))
 item-cells kind x after ih at slots places quotes h = single-cells x at (gaps_of after) (run_bytes after) h.0 slots places h.1 (ih (suc at) h.0 places quotes h.2)
 
 pub cells-of : (siblings : Inline) → Cells siblings
@@ -158,6 +164,7 @@ item-laid : (kind : ItemKind) (x : Item) (after : Inline) → HasRow after
     → (at : ℕ) → LaysItem kind x (λ a b c d. LaysOut a after b c d) at (item_slots kind x (row_of after)) (item_places kind at (λ a. byte_places a after)) (item_quotes kind at (λ a. quote_places a after))
 item-laid (Delimiters run) x after ih at = (row_of after, byte_places (at + run.size) after, refl, refl, ih (at + run.size))
 item-laid (Quoted quote) x after ih at = (row_of after, quote_places (suc at) after, refl, refl, ih (suc at))
+item-laid (FootnoteReference label) x after ih at = ([], row_of after, refl, refl, subst (λ n. LaysOut n after (row_of after) (byte_places (suc at) after) (quote_places (suc at) after)) (let e : suc at ≡ at + 1 = omega arith in e) (ih (suc at)))
 item-laid kind x after ih at = (row_of after, refl, ih (suc at))
 
 pub laid-out : (siblings : Inline) → HasRow siblings

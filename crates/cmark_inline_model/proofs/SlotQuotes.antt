@@ -1,7 +1,7 @@
 -- The characters of quotes, written into their slots, make the slots of the siblings in which the quotes are these characters.
 use Rattle.std.proofs.Common.{◌≡◌, ℕ, zero, suc, ◌+◌, List, [], ◌∷◌, ◌++◌, length, drop, get_or, set, refl, sym, ap, ◌∙◌, subst, arith, append_assoc, length-append}
 use Rattle.std.specs.Prelude.{encode_utf8}
-use Rattle.cmark_grammar.specs.Items.{ItemKind, Own, Written, Quoted, Delimiters, Item}
+use Rattle.cmark_grammar.specs.Items.{ItemKind, Own, Written, Quoted, Delimiters, FootnoteReference, Item}
 use Rattle.cmark_grammar.specs.Siblings.{Inline, Nil, Single, Around, item, with_characters}
 use Rattle.cmark_inline_model.specs.SlotRows.{Slot, ItemSlot, BeginSlot, EndSlot, NothingSlot, run_slots, LaysItem, LaysOut, character_slot, quoted}
 use Rattle.cmark_inline_model.proofs.SlotMarks.{set_here, get_here}
@@ -66,6 +66,16 @@ item-quoted (Quoted quote) start end after ih before slots bytes quotes cs h =
           ∙ ap (quoted h.1 (drop 1 cs)) (set_here before (length before) (ItemSlot x) (ItemSlot (character_item x cs)) h.0 refl)
           ∙ regroup before own h.0 r.now h.1 (drop 1 cs) r.cut;
       laid = (r.now, refl, subst (λ k. LaysOut k (with_characters after (drop 1 cs)) r.now bytes []) n r.laid);
+    }
+item-quoted (FootnoteReference label) start end after ih before slots bytes quotes cs h =
+    let x : Item = record { kind = FootnoteReference label; start = start; end = end } in
+    let own = ItemSlot x ∷ h.0 in
+    let n = behind before own (length h.0 + 1) (let e : length own ≡ length h.0 + 1 = omega arith in e) in
+    let r = ih (before ++ own) h.1 bytes quotes cs (subst (λ k. LaysOut k after h.1 bytes quotes) (sym n) h.4) in
+    record {
+      now = ItemSlot x ∷ (h.0 ++ r.now);
+      cut = ap (λ l. quoted quotes cs (before ++ l)) h.3 ∙ regroup before own h.1 r.now quotes cs r.cut;
+      laid = (h.0, r.now, h.2, refl, subst (λ k. LaysOut k (with_characters after cs) r.now bytes []) n r.laid);
     }
 item-quoted kind start end after ih before slots bytes quotes cs h =
     let x : Item = record { kind = kind; start = start; end = end } in

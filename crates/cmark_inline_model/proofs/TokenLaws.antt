@@ -236,8 +236,8 @@ module _ (reader : Reader) (leaf : Leaf) (size : ℕ) (turn : InTurn 0 leaf.stre
         (when at (reader.options.math && is_dollar b) (dollar reader leaf at bs (braces_behind false (before reader leaf at) no_braces)) c9 (λ e. dollar_onward (braces_behind false (before reader leaf at) no_braces))
         (when at reader.options.smart_punctuation (smart_or reader leaf at b) plain (λ e. smart_onward) (byte_onward Plain)))))))))))
 
-  begins_at_onward : (at : ℕ) → Onward at (begins_at reader leaf at)
-  begins_at_onward at = go (from reader leaf at) refl
+  pub begins-at-onward : (at : ℕ) → Onward at (begins_at reader leaf at)
+  begins-at-onward at = go (from reader leaf at) refl
     where
       go : (l : List ℕ) → from reader leaf at ≡ l → Onward at (begins reader leaf at l)
       go [] e = tt
@@ -256,7 +256,7 @@ module _ (reader : Reader) (leaf : Leaf) (size : ℕ) (turn : InTurn 0 leaf.stre
 
   plain_within : (n stop : ℕ) → stop ≤ end → (stop ≤ plain_end reader leaf n stop) × (plain_end reader leaf n stop ≤ end)
   plain_within zero stop h = (omega arith, h)
-  plain_within (suc n) stop h = goes_within (begins_at reader leaf stop) stop (plain_end reader leaf n) h (begins_at_onward stop) (λ x k. plain_within n x k)
+  plain_within (suc n) stop h = goes_within (begins_at reader leaf stop) stop (plain_end reader leaf n) h (begins-at-onward stop) (λ x k. plain_within n x k)
 
   longest_onward : (at : ℕ) (t : Token) → Onward at t → Onward at (longest reader leaf t)
   longest_onward at (Stands item past) h =
@@ -270,7 +270,7 @@ module _ (reader : Reader) (leaf : Leaf) (size : ℕ) (turn : InTurn 0 leaf.stre
 
   pub token-onward : (at : ℕ) → Onward at (token reader leaf at)
   unfolding token
-  token-onward at = longest_onward at (begins_at reader leaf at) (begins_at_onward at)
+  token-onward at = longest_onward at (begins_at reader leaf at) (begins-at-onward at)
 
   pub token-ends : (at : ℕ) → end ≤ at → token reader leaf at ≡ Ends
   unfolding token

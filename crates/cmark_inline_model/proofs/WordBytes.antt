@@ -142,8 +142,8 @@ leads_both Q m n l h k = let e = length-drop m l in let a = h.fits in let b = k.
 pub leads-cons : (Q : ℕ → Type 0) (b n : ℕ) (l : List ℕ) → Q b → Leads Q n l → Leads Q (suc n) (b ∷ l)
 leads-cons Q b n l q h = let a = h.fits in record { front = (q, h.front); fits = omega arith }
 
-while_leads : (Q : ℕ → Type 0) (p : ℕ → Bool) → ((b : ℕ) → p b ≡ true → Q b) → (l : List ℕ) → Leads Q (length (take_while p l)) l
-while_leads Q p f l = record { front = prefix-front p Q f l; fits = fits l }
+pub while-leads : (Q : ℕ → Type 0) (p : ℕ → Bool) → ((b : ℕ) → p b ≡ true → Q b) → (l : List ℕ) → Leads Q (length (take_while p l)) l
+while-leads Q p f l = record { front = prefix-front p Q f l; fits = fits l }
   where
     fits : (l : List ℕ) → length (take_while p l) ≤ length l
     fits [] = omega arith
@@ -160,7 +160,7 @@ EntityLeads l (Some entity) = (size : ℕ) × (entity.size ≡ suc size) × Lead
 
 closed_leads : (p : ℕ → Bool) → ((b : ℕ) → p b ≡ true → IsWord b) → (l : List ℕ) → first_is (λ b. b == 59) (drop (length (take_while p l)) l) ≡ true → Leads IsWord (length (take_while p l) + 1) l
 closed_leads p f l e =
-    leads_both IsWord (length (take_while p l)) 1 l (while_leads IsWord p f l)
+    leads_both IsWord (length (take_while p l)) 1 l (while-leads IsWord p f l)
     (first-leads IsWord (λ b. b == 59) (drop (length (take_while p l)) l) (λ b x. word-is b 59 refl (omega arith) x) e)
 
 when : {A : Type 0} (P : A → Type 0) (b : Bool) (x y : A) → (b ≡ true → P x) → (b ≡ false → P y) → P (if b then x else y)

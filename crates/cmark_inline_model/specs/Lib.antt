@@ -11,10 +11,12 @@ pub mod OptionRules
 pub mod PartLists
 pub mod PartRanges
 pub mod PassSteps
+pub mod PlacedTokens
 pub mod Progress
 pub mod ReadingLinks
 pub mod ReadingQuestions
 pub mod ReadingRanges
+pub mod RowParts
 pub mod SlotRows
 pub mod Unanswered
 pub mod TextPlaces

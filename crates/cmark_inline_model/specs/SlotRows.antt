@@ -4,7 +4,7 @@ use Rattle.std.specs.Prelude.{◌≡◌, ℕ, zero, suc, ◌+◌, ◌-◌, List,
 use Rattle.cmark_grammar.specs.Emphasis.{Pair}
 use Rattle.cmark_grammar.specs.Event.{Start, End, Ranged}
 use Rattle.cmark_grammar.specs.InlineReading.{event_of, over}
-use Rattle.cmark_grammar.specs.Items.{ItemKind, Own, Written, Quoted, Delimiters, Item}
+use Rattle.cmark_grammar.specs.Items.{ItemKind, Own, Written, Quoted, Delimiters, FootnoteReference, Item}
 use Rattle.cmark_grammar.specs.Options.{Options}
 use Rattle.cmark_grammar.specs.Siblings.{Inline, Nil, Single, Around, item}
 use Rattle.cmark_grammar.specs.SpanEntries.{stays, entries_of, mark_pairs}
@@ -50,10 +50,13 @@ LaysItem (Delimiters run) x After at slots bytes quotes =
     (more : List Slot) × (others : List ℕ) × (slots ≡ run_slots x.start run.size more) × (bytes ≡ run_places at run.size others) × After (at + run.size) more others quotes
 LaysItem (Quoted quote) x After at slots bytes quotes =
     (more : List Slot) × (others : List ℕ) × (slots ≡ ItemSlot x ∷ more) × (quotes ≡ at ∷ others) × After (suc at) more bytes others
+LaysItem (FootnoteReference label) x After at slots bytes quotes =
+    (hidden more : List Slot) × (seen hidden ≡ []) × (slots ≡ ItemSlot x ∷ (hidden ++ more)) × After (at + (length hidden + 1)) more bytes quotes
 LaysItem _ x After at slots bytes quotes = (more : List Slot) × (slots ≡ ItemSlot x ∷ more) × After (suc at) more bytes quotes
 
 -- siblings laid out as slots from this place of the row on, with the places of the bytes of their runs and those of their quotes: each
--- item has a slot, and an element one for its begin, those of what is inside it, and one for its end
+-- item has a slot, and an element one for its begin, those of what is inside it, and one for its end. Behind a footnote reference stand
+-- the slots of what its brackets held, which are nothing any more
 abbrev pub LaysOut : (at : ℕ) → Inline → List Slot → (bytes quotes : List ℕ) → Type 0
 LaysOut at Nil slots bytes quotes = (slots ≡ []) × (bytes ≡ []) × (quotes ≡ [])
 LaysOut at (Single x after) slots bytes quotes = LaysItem x.kind x (λ a b c d. LaysOut a after b c d) at slots bytes quotes

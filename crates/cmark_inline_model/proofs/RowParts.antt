@@ -1,0 +1,455 @@
+-- Rows of parts grow behind, and are cut at an opening bracket.
+use Rattle.std.specs.Prelude.{drop, take, get_or, encode_utf8, Some}
+use Rattle.std.proofs.Common.{◌≡◌, Bool, true, false, None, ℕ, zero, suc, ◌+◌, ◌<◌, List, [], ◌∷◌, ◌++◌, length, set, refl, sym, ap, ◌∙◌, subst, arith, append_assoc, append-nil, length-append}
+use Rattle.std.proofs.lemmas.List.{length-set}
+use Rattle.std.proofs.Math.Seq.{drop-append_seam, take-append_seam}
+use Rattle.cmark_grammar.specs.Emphasis.{Run, Delimiter, Pair, IsEmphasis}
+use Rattle.cmark_grammar.specs.Items.{ItemKind, Written, Quoted, Delimiters, FootnoteReference, Autolink, Own, Item, Bracket}
+use Rattle.cmark_grammar.specs.Options.{Options}
+use Rattle.cmark_grammar.specs.Parts.{Parts, Nil as NoParts, Single as SinglePart, Form, Closing, Opening, Linking, Footnote, Wiki, openings}
+use Rattle.cmark_grammar.specs.Quotes.{Quote, quote_characters}
+use Rattle.cmark_grammar.specs.Siblings.{Inline, Nil, Single, Around, append, item, item_then, text_then, footnote_then, tag_by, wiki_tag, name_text, display_from, quote_then, quotes_of, quote_as, with_characters, with_quotes, run_then, runs_from, dressed_all}
+use Rattle.cmark_grammar.specs.SiblingsModel.{dress, siblings_of}
+use Rattle.cmark_grammar.specs.Spans.{Spans}
+use Rattle.cmark_grammar.specs.Tag.{Tag}
+use Rattle.cmark_grammar.proofs.EmphasisOne.{one}
+use Rattle.cmark_inline_model.specs.PartLists.{join, Cut, cut_at}
+use Rattle.cmark_inline_model.specs.RowParts.{run_before, runs_in, bytes_in, counted, BracketPlace, text_slot, LaysParts, IsRow, CutsRow}
+use Rattle.cmark_inline_model.specs.SlotRows.{Slot, ItemSlot, BeginSlot, EndSlot, NothingSlot, seen, slots_of, run_slots, run_places, LaysItem, LaysOut, character_slot, quoted, marked, marks_by, marks_of, StandBehind}
+use Rattle.cmark_inline_model.proofs.PartCuts.{join_assoc, openings-join, cut-is, Cuts, cuts}
+use Rattle.cmark_inline_model.proofs.SlotLaws.{pairs-write, marks-make}
+use Rattle.cmark_inline_model.proofs.SlotQuotes.{quotes-written}
+
+-- ## Siblings one behind the other
+
+item-then-append : (kind : ItemKind) (x : Item) (a b : Inline) → item_then kind x (append a b) ≡ append (item_then kind x a) b
+item-then-append (Autolink uri) x a b = refl
+item-then-append kind x a b = refl
+
+footnote-then-append : (is_image : Bool) (start : ℕ) (label : List ℕ) (end : ℕ) (a b : Inline) → footnote_then is_image start label end (append a b) ≡ append (footnote_then is_image start label end a) b
+footnote-then-append true start label end a b = refl
+footnote-then-append false start label end a b = refl
+
+run-slots-grow : (start size : ℕ) (a b : List Slot) → run_slots start size a ++ b ≡ run_slots start size (a ++ b)
+run-slots-grow start zero a b = refl
+run-slots-grow start (suc size) a b = ap (λ l. ItemSlot (item Own start (suc start)) ∷ l) (run-slots-grow (suc start) size a b)
+
+run-places-grow : (at size : ℕ) (a b : List ℕ) → run_places at size a ++ b ≡ run_places at size (a ++ b)
+run-places-grow at zero a b = refl
+run-places-grow at (suc size) a b = ap (λ l. at ∷ l) (run-places-grow (suc at) size a b)
+
+length-run-slots : (start size : ℕ) (a : List Slot) → length (run_slots start size a) ≡ size + length a
+length-run-slots start zero a = omega arith
+length-run-slots start (suc size) a = let i = length-run-slots (suc start) size a in omega arith
+
+abbrev Grows : Inline → Inline → Type 0
+Grows x y = (at : ℕ) (s t : List Slot) (b c q r : List ℕ) → LaysOut at x s b q → LaysOut (at + length s) y t c r → LaysOut at (append x y) (s ++ t) (b ++ c) (q ++ r)
+
+item-grows : (kind : ItemKind) (x : Item) (after y : Inline) → Grows after y → (at : ℕ) (s t : List Slot) (b c q r : List ℕ)
+    → LaysItem kind x (λ i j k l. LaysOut i after j k l) at s b q → LaysOut (at + length s) y t c r
+    → LaysItem kind x (λ i j k l. LaysOut i (append after y) j k l) at (s ++ t) (b ++ c) (q ++ r)
+item-grows (Delimiters run) x after y ih at s t b c q r h k =
+    let n = ap length h.2 ∙ length-run-slots x.start run.size h.0 in (
+      h.0 ++ t,
+      h.1 ++ c,
+      ap (λ l. l ++ t) h.2 ∙ run-slots-grow x.start run.size h.0 t,
+      ap (λ l. l ++ c) h.3 ∙ run-places-grow at run.size h.1 c,
+      ih (at + run.size) h.0 t h.1 c q r h.4 (subst (λ i. LaysOut i y t c r) (let e : at + length s ≡ (at + run.size) + length h.0 = omega arith in e) k),
+    )
+item-grows (Quoted quote) x after y ih at s t b c q r h k =
+    let n = ap length h.2 in (
+      h.0 ++ t,
+      h.1 ++ r,
+      ap (λ l. l ++ t) h.2,
+      ap (λ l. l ++ r) h.3,
+      ih (suc at) h.0 t b c h.1 r h.4 (subst (λ i. LaysOut i y t c r) (let e : at + length s ≡ suc at + length h.0 = omega arith in e) k),
+    )
+item-grows (FootnoteReference label) x after y ih at s t b c q r h k =
+    let n = ap length h.3 in
+    let m = length-append h.0 h.1 in (
+      h.0,
+      h.1 ++ t,
+      h.2,
+      ap (λ l. l ++ t) h.3 ∙ ap (λ l. ItemSlot x ∷ l) (append_assoc h.0 h.1 t),
+      ih (at + (length h.0 + 1)) h.1 t b c q r h.4 (subst (λ i. LaysOut i y t c r) (let e : at + length s ≡ (at + (length h.0 + 1)) + length h.1 = omega arith in e) k),
+    )
+item-grows kind x after y ih at s t b c q r h k =
+    let n = ap length h.1 in (
+      h.0 ++ t,
+      ap (λ l. l ++ t) h.1,
+      ih (suc at) h.0 t b c q r h.2 (subst (λ i. LaysOut i y t c r) (let e : at + length s ≡ suc at + length h.0 = omega arith in e) k),
+    )
+
+pub rows-grow : (x y : Inline) → Grows x y
+rows-grow Nil y at s t b c q r h k =
+    subst (λ l. LaysOut at y (l ++ t) (b ++ c) (q ++ r)) (sym h.0)
+    (subst (λ l. LaysOut at y t (l ++ c) (q ++ r)) (sym h.1) (subst (λ l. LaysOut at y t c (l ++ r)) (sym h.2) (subst (λ i. LaysOut i y t c r) (let n = ap length h.0 in let e : at + length s ≡ at = omega arith in e) k)))
+rows-grow (Single x after) y at s t b c q r h k = item-grows x.kind x after y (rows-grow after y) at s t b c q r h k
+rows-grow (Around tag start end inside after) y at s t b c q r h k =
+    let n = ap length h.3 in
+    let m = length-append h.0 (EndSlot ∷ h.1) in (
+      h.0,
+      h.1 ++ t,
+      h.2,
+      ap (λ l. l ++ t) h.3 ∙ ap (λ l. BeginSlot tag start end ∷ l) (append_assoc h.0 (EndSlot ∷ h.1) t),
+      rows-grow after y (at + (length h.0 + 2)) h.1 t b c q r h.4 (subst (λ i. LaysOut i y t c r) (let e : at + length s ≡ (at + (length h.0 + 2)) + length h.1 = omega arith in e) k),
+    )
+
+-- ## Runs and quotes
+
+run-grows : (kind : ItemKind) (a b : List Run) → run_before kind (a ++ b) ≡ run_before kind a ++ b
+run-grows (Delimiters run) a b = refl
+run-grows kind a b = refl
+
+runs-append : (a b : Inline) → runs_in (append a b) ≡ runs_in a ++ runs_in b
+runs-append Nil b = refl
+runs-append (Single x after) b = ap (run_before x.kind) (runs-append after b) ∙ run-grows x.kind (runs_in after) (runs_in b)
+runs-append (Around tag start end inside after) b = runs-append after b
+
+quote-grows : (kind : ItemKind) (a b : List Quote) → quote_then kind (a ++ b) ≡ quote_then kind a ++ b
+quote-grows (Quoted quote) a b = refl
+quote-grows kind a b = refl
+
+quotes-append : (a b : Inline) → quotes_of (append a b) ≡ quotes_of a ++ quotes_of b
+quotes-append Nil b = refl
+quotes-append (Single x after) b = ap (quote_then x.kind) (quotes-append after b) ∙ quote-grows x.kind (quotes_of after) (quotes_of b)
+quotes-append (Around tag start end inside after) b = quotes-append after b
+
+run-counted : (kind : ItemKind) (n : ℕ) (after : Inline) → ((m : ℕ) → runs_from after m ≡ counted m (runs_in after)) → run_then n kind (runs_from after) ≡ counted n (run_before kind (runs_in after))
+run-counted (Delimiters run) n after ih = ap (λ l. Delimiter (record { mark = run.mark; size = run.size; at = n; left = run.size; opens = run.opens; closes = run.closes }) ∷ l) (ih (n + run.size))
+run-counted kind n after ih = ih n
+
+pub runs-counted : (x : Inline) (n : ℕ) → runs_from x n ≡ counted n (runs_in x)
+runs-counted Nil n = refl
+runs-counted (Single x after) n = run-counted x.kind n after (runs-counted after)
+runs-counted (Around tag start end inside after) n = runs-counted after n
+
+-- characters in the place of quotes leave the runs
+run-quoted : (kind : ItemKind) (x : Item) (after : Inline) (cs : List ℕ) → x.kind ≡ kind → ((ds : List ℕ) → runs_in (with_characters after ds) ≡ runs_in after)
+    → runs_in (quote_as (λ ds. Single (item (Written (encode_utf8 (get_or ds 0 0))) x.start x.end) (with_characters after (drop 1 ds))) (λ ds. Single x (with_characters after ds)) kind cs) ≡ run_before kind (runs_in after)
+run-quoted (Quoted quote) x after cs e ih = ih (drop 1 cs)
+run-quoted kind x after cs e ih = ap (λ k. run_before k (runs_in (with_characters after cs))) e ∙ ap (run_before kind) (ih cs)
+
+runs-quoted : (x : Inline) (cs : List ℕ) → runs_in (with_characters x cs) ≡ runs_in x
+runs-quoted Nil cs = refl
+runs-quoted (Single x after) cs = run-quoted x.kind x after cs refl (runs-quoted after)
+runs-quoted (Around tag start end inside after) cs = runs-quoted after cs
+
+length-run-places : (at size : ℕ) (a : List ℕ) → length (run_places at size a) ≡ size + length a
+length-run-places at zero a = omega arith
+length-run-places at (suc size) a = let i = length-run-places (suc at) size a in omega arith
+
+-- as many places as there are bytes of runs, and quotes
+abbrev Counts : Inline → Type 0
+Counts x = (at : ℕ) (s : List Slot) (b q : List ℕ) → LaysOut at x s b q → (length b ≡ bytes_in (runs_in x)) × (length q ≡ length (quotes_of x))
+
+item-counts : (kind : ItemKind) (x : Item) (after : Inline) → Counts after → (at : ℕ) (s : List Slot) (b q : List ℕ) → LaysItem kind x (λ i j k l. LaysOut i after j k l) at s b q
+    → (length b ≡ bytes_in (run_before kind (runs_in after))) × (length q ≡ length (quote_then kind (quotes_of after)))
+item-counts (Delimiters run) x after ih at s b q h = let i = ih (at + run.size) h.0 h.1 q h.4 in let n = ap length h.3 ∙ length-run-places at run.size h.1 in let j = i.0 in (omega arith, i.1)
+item-counts (Quoted quote) x after ih at s b q h = let i = ih (suc at) h.0 b h.1 h.4 in (i.0, ap length h.3 ∙ ap suc i.1)
+item-counts (FootnoteReference label) x after ih at s b q h = ih (at + (length h.0 + 1)) h.1 b q h.4
+item-counts kind x after ih at s b q h = ih (suc at) h.0 b q h.2
+
+pub lays-count : (x : Inline) → Counts x
+lays-count Nil at s b q h = (ap length h.1, ap length h.2)
+lays-count (Single x after) at s b q h = item-counts x.kind x after (lays-count after) at s b q h
+lays-count (Around tag start end inside after) at s b q h = lays-count after (at + (length h.0 + 2)) h.1 b q h.4
+
+quoted_length : (quotes cs : List ℕ) (slots : List Slot) → length (quoted quotes cs slots) ≡ length slots
+quoted_length [] cs slots = refl
+quoted_length (at ∷ quotes) cs slots =
+    let slot = character_slot (get_or cs 0 0) (get_or slots at NothingSlot) in
+    quoted_length quotes (drop 1 cs) (set slots at slot) ∙ length-set slots at slot
+
+module _ (options : Options) where
+  pub siblings-join : (a b : Parts) → siblings_of options (join a b) ≡ append (siblings_of options a) (siblings_of options b)
+  siblings-join NoParts b = refl
+  siblings-join (SinglePart x after) b = ap (item_then x.kind x) (siblings-join after b) ∙ item-then-append x.kind x (siblings_of options after) (siblings_of options b)
+  siblings-join (Form opener inside closer (Linking target) after) b = ap (λ l. Around (tag_by opener.is_image target.linked) opener.start target.end (dress options (siblings_of options inside)) l) (siblings-join after b)
+  siblings-join (Form opener inside closer (Footnote label end) after) b =
+      ap (footnote_then opener.is_image opener.start label end) (siblings-join after b) ∙ footnote-then-append opener.is_image opener.start label end (siblings_of options after) (siblings_of options b)
+  siblings-join (Form opener inside closer (Wiki name None end) after) b = ap (λ l. Around (wiki_tag opener.is_image name false) opener.start end (name_text opener closer) l) (siblings-join after b)
+  siblings-join (Form opener inside closer (Wiki name (Some place) end) after) b =
+      ap (λ l. Around (wiki_tag opener.is_image name true) opener.start end (dress options (display_from place closer.start (siblings_of options inside))) l) (siblings-join after b)
+  siblings-join (Closing closer after) b = ap (text_then closer) (siblings-join after b)
+  siblings-join (Opening opener after) b = ap (text_then opener) (siblings-join after b)
+
+  -- parts behind others
+  parts-grow : (a p : Parts) (at : ℕ) (s t : List Slot) (b c q r : List ℕ) → LaysOut at (siblings_of options a) s b q → LaysOut (at + length s) (siblings_of options p) t c r → LaysOut at (siblings_of options (join a p)) (s ++ t) (b ++ c) (q ++ r)
+  parts-grow a p at s t b c q r h k =
+      subst (λ x. LaysOut at x (s ++ t) (b ++ c) (q ++ r)) (sym (siblings-join a p)) (rows-grow (siblings_of options a) (siblings_of options p) at s t b c q r h k)
+
+  -- ## Rows with their opening brackets
+  -- behind an opening bracket, as one list
+  opening-grow : (before inside : Parts) (opener : Bracket) (front behind : List Slot) (fb bb fq bq : List ℕ) → LaysOut 0 (siblings_of options before) front fb fq → LaysOut (suc (length front)) (siblings_of options inside) behind bb bq
+      → LaysOut 0 (siblings_of options (join before (Opening opener inside))) (front ++ (text_slot opener ∷ behind)) (fb ++ bb) (fq ++ bq)
+  opening-grow before inside opener front behind fb bb fq bq h k = parts-grow before (Opening opener inside) 0 front (text_slot opener ∷ behind) fb bb fq bq h (behind, refl, subst (λ i. LaysOut i (siblings_of options inside) behind bb bq) (let e : suc (length front) ≡ suc (0 + length front) = omega arith in e) k)
+
+  pub row-whole : (bs : List BracketPlace) (parts : Parts) (slots : List Slot) (bytes quotes : List ℕ) → LaysParts options bs parts slots bytes quotes → LaysOut 0 (siblings_of options parts) slots bytes quotes
+  row-whole [] parts slots bytes quotes h = h.1
+  row-whole (b ∷ bs) parts slots bytes quotes h =
+      let w = opening-grow h.before h.inside h.opener h.front h.behind h.front_bytes h.behind_bytes h.front_quotes h.behind_quotes (row-whole bs h.before h.front h.front_bytes h.front_quotes h.laid_before) h.laid_behind in
+      subst (λ p. LaysOut 0 (siblings_of options p) slots bytes quotes) (sym h.parts_are)
+      (subst (λ l. LaysOut 0 (siblings_of options (join h.before (Opening h.opener h.inside))) l bytes quotes) (sym h.slots_are)
+      (subst (λ l. LaysOut 0 (siblings_of options (join h.before (Opening h.opener h.inside))) (h.front ++ (text_slot h.opener ∷ h.behind)) l quotes) (sym h.bytes_are)
+      (subst (λ l. LaysOut 0 (siblings_of options (join h.before (Opening h.opener h.inside))) (h.front ++ (text_slot h.opener ∷ h.behind)) (h.front_bytes ++ h.behind_bytes) l) (sym h.quotes_are) w)))
+
+  -- more parts behind, none of them an opening bracket
+  row-grows : (bs : List BracketPlace) (parts piece : Parts) (slots more : List Slot) (bytes more_bytes quotes more_quotes : List ℕ) → LaysParts options bs parts slots bytes quotes → openings piece ≡ 0
+      → LaysOut (length slots) (siblings_of options piece) more more_bytes more_quotes → LaysParts options bs (join parts piece) (slots ++ more) (bytes ++ more_bytes) (quotes ++ more_quotes)
+  row-grows [] parts piece slots more bytes more_bytes quotes more_quotes h none k =
+      let o = openings-join parts piece in
+      let z = h.0 in
+      (omega arith, parts-grow parts piece 0 slots more bytes more_bytes quotes more_quotes h.1 (subst (λ i. LaysOut i (siblings_of options piece) more more_bytes more_quotes) (let e : length slots ≡ 0 + length slots = omega arith in e) k))
+  row-grows (b ∷ bs) parts piece slots more bytes more_bytes quotes more_quotes h none k =
+      let o = openings-join h.inside piece in
+      let z = h.none in
+      let n = ap length h.slots_are ∙ length-append h.front (text_slot h.opener ∷ h.behind) in
+      record {
+        before = h.before;
+        opener = h.opener;
+        inside = join h.inside piece;
+        parts_are = ap (λ p. join p piece) h.parts_are ∙ join_assoc h.before (Opening h.opener h.inside) piece;
+        none = omega arith;
+        front = h.front;
+        behind = h.behind ++ more;
+        slots_are = ap (λ l. l ++ more) h.slots_are ∙ append_assoc h.front (text_slot h.opener ∷ h.behind) more;
+        slot_is = h.slot_is;
+        runs_is = h.runs_is;
+        quotes_is = h.quotes_is;
+        front_bytes = h.front_bytes;
+        behind_bytes = h.behind_bytes ++ more_bytes;
+        bytes_are = ap (λ l. l ++ more_bytes) h.bytes_are ∙ append_assoc h.front_bytes h.behind_bytes more_bytes;
+        front_quotes = h.front_quotes;
+        behind_quotes = h.behind_quotes ++ more_quotes;
+        quotes_are = ap (λ l. l ++ more_quotes) h.quotes_are ∙ append_assoc h.front_quotes h.behind_quotes more_quotes;
+        laid_before = h.laid_before;
+        laid_behind = parts-grow h.inside piece (suc (length h.front)) h.behind more h.behind_bytes more_bytes h.behind_quotes more_quotes h.laid_behind
+            (subst (λ i. LaysOut i (siblings_of options piece) more more_bytes more_quotes) (let e : length slots ≡ suc (length h.front) + length h.behind = omega arith in e) k);
+      }
+
+  -- an opening bracket behind
+  row-opens : (bs : List BracketPlace) (parts : Parts) (opener : Bracket) (slots : List Slot) (bytes quotes : List ℕ) → LaysParts options bs parts slots bytes quotes
+      → LaysParts options (record { slot = length slots; runs = length (runs_in (siblings_of options parts)); quotes = length (quotes_of (siblings_of options parts)) } ∷ bs) (join parts (Opening opener NoParts))
+      (slots ++ (text_slot opener ∷ [])) bytes quotes
+  row-opens bs parts opener slots bytes quotes h = record {
+    before = parts;
+    opener = opener;
+    inside = NoParts;
+    parts_are = refl;
+    none = refl;
+    front = slots;
+    behind = [];
+    slots_are = refl;
+    slot_is = refl;
+    runs_is = refl;
+    quotes_is = refl;
+    front_bytes = bytes;
+    behind_bytes = [];
+    bytes_are = sym (append-nil bytes);
+    front_quotes = quotes;
+    behind_quotes = [];
+    quotes_are = sym (append-nil quotes);
+    laid_before = h;
+    laid_behind = (refl, refl, refl);
+  }
+
+  -- cut at an opening bracket
+  record Cutting (nearer : ℕ) (bs : List BracketPlace) (parts : Parts) (slots : List Slot) (bytes quotes : List ℕ) : Type 0 where
+    cut : Cut
+    cut_is : cut_at nearer parts ≡ Some cut
+    parts_are : parts ≡ join cut.before (Opening cut.opener cut.inside)
+    place : BracketPlace
+    place_is : drop nearer bs ≡ place ∷ drop (suc nearer) bs
+    front : List Slot
+    behind : List Slot
+    slots_are : slots ≡ front ++ (text_slot cut.opener ∷ behind)
+    slot_is : place.slot ≡ length front
+    runs_is : place.runs ≡ length (runs_in (siblings_of options cut.before))
+    quotes_is : place.quotes ≡ length (quotes_of (siblings_of options cut.before))
+    front_bytes : List ℕ
+    behind_bytes : List ℕ
+    bytes_are : bytes ≡ front_bytes ++ behind_bytes
+    front_quotes : List ℕ
+    behind_quotes : List ℕ
+    quotes_are : quotes ≡ front_quotes ++ behind_quotes
+    laid_before : LaysParts options (drop (suc nearer) bs) cut.before front front_bytes front_quotes
+    laid_behind : LaysOut (suc (length front)) (siblings_of options cut.inside) behind behind_bytes behind_quotes
+
+  cutting : (nearer : ℕ) (bs : List BracketPlace) (parts : Parts) (slots : List Slot) (bytes quotes : List ℕ) → nearer < length bs → LaysParts options bs parts slots bytes quotes → Cutting nearer bs parts slots bytes quotes
+  cutting nearer [] parts slots bytes quotes lt h = absurd (omega arith)
+  cutting zero (b ∷ bs) parts slots bytes quotes lt h = record {
+    cut = record { before = h.before; opener = h.opener; inside = h.inside };
+    cut_is = ap (cut_at 0) h.parts_are ∙ ap (λ n. cut_at n (join h.before (Opening h.opener h.inside))) (sym h.none) ∙ cut-is h.before h.opener h.inside;
+    parts_are = h.parts_are;
+    place = b;
+    place_is = refl;
+    front = h.front;
+    behind = h.behind;
+    slots_are = h.slots_are;
+    slot_is = h.slot_is;
+    runs_is = h.runs_is;
+    quotes_is = h.quotes_is;
+    front_bytes = h.front_bytes;
+    behind_bytes = h.behind_bytes;
+    bytes_are = h.bytes_are;
+    front_quotes = h.front_quotes;
+    behind_quotes = h.behind_quotes;
+    quotes_are = h.quotes_are;
+    laid_before = h.laid_before;
+    laid_behind = h.laid_behind;
+  }
+  cutting (suc nearer) (b ∷ bs) parts slots bytes quotes lt h = further (cutting nearer bs h.before h.front h.front_bytes h.front_quotes (omega arith) h.laid_before)
+    where
+      further : Cutting nearer bs h.before h.front h.front_bytes h.front_quotes → Cutting (suc nearer) (b ∷ bs) parts slots bytes quotes
+      further c =
+          let inside : Parts = join c.cut.inside (Opening h.opener h.inside) in
+          let is = subst (Cuts nearer h.before) c.cut_is (cuts nearer h.before) in
+          let count : openings inside ≡ suc nearer = (let o = openings-join c.cut.inside (Opening h.opener h.inside) in let a = is.more_is in let z = h.none in omega arith) in
+          let whole : parts ≡ join c.cut.before (Opening c.cut.opener inside) =
+          h.parts_are ∙ ap (λ p. join p (Opening h.opener h.inside)) c.parts_are ∙ join_assoc c.cut.before (Opening c.cut.opener c.cut.inside) (Opening h.opener h.inside) in
+          let n = ap length c.slots_are ∙ length-append c.front (text_slot c.cut.opener ∷ c.behind) in
+          record {
+            cut = record { before = c.cut.before; opener = c.cut.opener; inside = inside };
+            cut_is = ap (cut_at (suc nearer)) whole ∙ ap (λ n. cut_at n (join c.cut.before (Opening c.cut.opener inside))) (sym count) ∙ cut-is c.cut.before c.cut.opener inside;
+            parts_are = whole;
+            place = c.place;
+            place_is = c.place_is;
+            front = c.front;
+            behind = c.behind ++ (text_slot h.opener ∷ h.behind);
+            slots_are = h.slots_are ∙ ap (λ l. l ++ (text_slot h.opener ∷ h.behind)) c.slots_are ∙ append_assoc c.front (text_slot c.cut.opener ∷ c.behind) (text_slot h.opener ∷ h.behind);
+            slot_is = c.slot_is;
+            runs_is = c.runs_is;
+            quotes_is = c.quotes_is;
+            front_bytes = c.front_bytes;
+            behind_bytes = c.behind_bytes ++ h.behind_bytes;
+            bytes_are = h.bytes_are ∙ ap (λ l. l ++ h.behind_bytes) c.bytes_are ∙ append_assoc c.front_bytes c.behind_bytes h.behind_bytes;
+            front_quotes = c.front_quotes;
+            behind_quotes = c.behind_quotes ++ h.behind_quotes;
+            quotes_are = h.quotes_are ∙ ap (λ l. l ++ h.behind_quotes) c.quotes_are ∙ append_assoc c.front_quotes c.behind_quotes h.behind_quotes;
+            laid_before = c.laid_before;
+            laid_behind = parts-grow c.cut.inside (Opening h.opener h.inside) (suc (length c.front)) c.behind (text_slot h.opener ∷ h.behind) c.behind_bytes h.behind_bytes c.behind_quotes h.behind_quotes c.laid_behind
+                (h.behind, refl, subst (λ i. LaysOut i (siblings_of options h.inside) h.behind h.behind_bytes h.behind_quotes) (let e : suc (length h.front) ≡ suc (suc (length c.front) + length c.behind) = omega arith in e) h.laid_behind);
+          }
+
+  -- ## The same with runs and quotes
+  runs-join : (a b : Parts) → runs_in (siblings_of options (join a b)) ≡ runs_in (siblings_of options a) ++ runs_in (siblings_of options b)
+  runs-join a b = ap runs_in (siblings-join a b) ∙ runs-append (siblings_of options a) (siblings_of options b)
+
+  quotes-join : (a b : Parts) → quotes_of (siblings_of options (join a b)) ≡ quotes_of (siblings_of options a) ++ quotes_of (siblings_of options b)
+  quotes-join a b = ap quotes_of (siblings-join a b) ∙ quotes-append (siblings_of options a) (siblings_of options b)
+
+  pub grown-row : (bs : List BracketPlace) (parts piece : Parts) (slots more : List Slot) (bytes more_bytes quotes more_quotes : List ℕ) (runs : List Run) (quoted : List Quote) → IsRow options bs parts slots bytes quotes runs quoted
+      → openings piece ≡ 0 → LaysOut (length slots) (siblings_of options piece) more more_bytes more_quotes
+      → IsRow options bs (join parts piece) (slots ++ more) (bytes ++ more_bytes) (quotes ++ more_quotes) (runs ++ runs_in (siblings_of options piece)) (quoted ++ quotes_of (siblings_of options piece))
+  grown-row bs parts piece slots more bytes more_bytes quotes more_quotes runs quoted h none k = record {
+    laid = row-grows bs parts piece slots more bytes more_bytes quotes more_quotes h.laid none k;
+    runs_are = runs-join parts piece ∙ ap (λ l. l ++ runs_in (siblings_of options piece)) h.runs_are;
+    quoted_are = quotes-join parts piece ∙ ap (λ l. l ++ quotes_of (siblings_of options piece)) h.quoted_are;
+  }
+
+  pub opened-row : (bs : List BracketPlace) (parts : Parts) (opener : Bracket) (slots : List Slot) (bytes quotes : List ℕ) (runs : List Run) (quoted : List Quote) → IsRow options bs parts slots bytes quotes runs quoted
+      → IsRow options (record { slot = length slots; runs = length runs; quotes = length quoted } ∷ bs) (join parts (Opening opener NoParts)) (slots ++ (text_slot opener ∷ [])) bytes quotes runs quoted
+  opened-row bs parts opener slots bytes quotes runs quoted h = record {
+    laid = subst (λ l. LaysParts options (record { slot = length slots; runs = length l; quotes = length quoted } ∷ bs) (join parts (Opening opener NoParts)) (slots ++ (text_slot opener ∷ [])) bytes quotes) h.runs_are
+        (subst (λ l. LaysParts options (record { slot = length slots; runs = length (runs_in (siblings_of options parts)); quotes = length l } ∷ bs) (join parts (Opening opener NoParts)) (slots ++ (text_slot opener ∷ [])) bytes quotes) h.quoted_are
+        (row-opens bs parts opener slots bytes quotes h.laid));
+    runs_are = runs-join parts (Opening opener NoParts) ∙ append-nil (runs_in (siblings_of options parts)) ∙ h.runs_are;
+    quoted_are = quotes-join parts (Opening opener NoParts) ∙ append-nil (quotes_of (siblings_of options parts)) ∙ h.quoted_are;
+  }
+
+  pub cut-row : (nearer : ℕ) (bs : List BracketPlace) (parts : Parts) (slots : List Slot) (bytes quotes : List ℕ) (runs : List Run) (quoted : List Quote) → nearer < length bs → IsRow options bs parts slots bytes quotes runs quoted
+      → CutsRow options nearer bs parts slots bytes quotes runs quoted
+  cut-row nearer bs parts slots bytes quotes runs quoted lt h =
+      let c = cutting nearer bs parts slots bytes quotes lt h.laid in
+      let before = runs_in (siblings_of options c.cut.before) in
+      let inside = runs_in (siblings_of options c.cut.inside) in
+      let qbefore = quotes_of (siblings_of options c.cut.before) in
+      let qinside = quotes_of (siblings_of options c.cut.inside) in
+      let all : runs ≡ before ++ inside = sym h.runs_are ∙ ap (λ p. runs_in (siblings_of options p)) c.parts_are ∙ runs-join c.cut.before (Opening c.cut.opener c.cut.inside) in
+      let qall : quoted ≡ qbefore ++ qinside = sym h.quoted_are ∙ ap (λ p. quotes_of (siblings_of options p)) c.parts_are ∙ quotes-join c.cut.before (Opening c.cut.opener c.cut.inside) in
+      let front : before ≡ take c.place.runs runs = sym (ap (take c.place.runs) all ∙ ap (λ n. take n (before ++ inside)) c.runs_is ∙ take-append_seam before inside) in
+      let behind : inside ≡ drop c.place.runs runs = sym (ap (drop c.place.runs) all ∙ ap (λ n. drop n (before ++ inside)) c.runs_is ∙ drop-append_seam before inside) in
+      let qfront : qbefore ≡ take c.place.quotes quoted = sym (ap (take c.place.quotes) qall ∙ ap (λ n. take n (qbefore ++ qinside)) c.quotes_is ∙ take-append_seam qbefore qinside) in
+      let qbehind : qinside ≡ drop c.place.quotes quoted = sym (ap (drop c.place.quotes) qall ∙ ap (λ n. drop n (qbefore ++ qinside)) c.quotes_is ∙ drop-append_seam qbefore qinside) in
+      let n = lays-count (siblings_of options c.cut.before) 0 c.front c.front_bytes c.front_quotes (row-whole (drop (suc nearer) bs) c.cut.before c.front c.front_bytes c.front_quotes c.laid_before) in
+      record {
+        cut = c.cut;
+        cut_is = c.cut_is;
+        place = c.place;
+        place_is = c.place_is;
+        front = c.front;
+        behind = c.behind;
+        slots_are = c.slots_are;
+        slot_is = c.slot_is;
+        front_bytes = c.front_bytes;
+        behind_bytes = c.behind_bytes;
+        bytes_are = c.bytes_are;
+        bytes_count = n.0 ∙ ap bytes_in front;
+        front_quotes = c.front_quotes;
+        behind_quotes = c.behind_quotes;
+        quotes_are = c.quotes_are;
+        quotes_count = n.1 ∙ sym c.quotes_is;
+        before = record { laid = c.laid_before; runs_are = front; quoted_are = qfront };
+        laid_behind = c.laid_behind;
+        runs_behind = behind;
+        quoted_behind = qbehind;
+      }
+
+  -- ## What brackets form
+  -- an element around what stands for the siblings inside it
+  element-laid : (at : ℕ) (tag : Tag) (start end : ℕ) (inside : Inline) (own : List Slot) → seen own ≡ slots_of inside → LaysOut at (Around tag start end inside Nil) (BeginSlot tag start end ∷ (own ++ (EndSlot ∷ []))) [] []
+  element-laid at tag start end inside own e = (own, [], e, refl, (refl, refl, refl))
+
+  -- in the place of what stands behind the bracket that was cut at
+  pub formed-row : (nearer : ℕ) (bs : List BracketPlace) (parts piece : Parts) (slots more : List Slot) (bytes quotes : List ℕ) (runs : List Run) (quoted : List Quote) (c : CutsRow options nearer bs parts slots bytes quotes runs quoted) → openings piece ≡ 0
+      → runs_in (siblings_of options piece) ≡ [] → quotes_of (siblings_of options piece) ≡ [] → LaysOut (length c.front) (siblings_of options piece) more [] []
+      → IsRow options (drop (suc nearer) bs) (join c.cut.before piece) (c.front ++ more) c.front_bytes c.front_quotes (take c.place.runs runs) (take c.place.quotes quoted)
+  formed-row nearer bs parts piece slots more bytes quotes runs quoted c none no_runs no_quotes k =
+      let others = drop (suc nearer) bs in
+      let rs = take c.place.runs runs in
+      let qs = take c.place.quotes quoted in
+      let r = grown-row others c.cut.before piece c.front more c.front_bytes [] c.front_quotes [] rs qs c.before none k in
+      let p = join c.cut.before piece in
+      let s = c.front ++ more in
+      subst (λ l. IsRow options others p s l c.front_quotes rs qs) (append-nil c.front_bytes)
+      (subst (λ l. IsRow options others p s (c.front_bytes ++ []) l rs qs) (append-nil c.front_quotes)
+      (subst (λ l. IsRow options others p s (c.front_bytes ++ []) (c.front_quotes ++ []) l qs) (ap (λ l. rs ++ l) no_runs ∙ append-nil rs)
+      (subst (λ l. IsRow options others p s (c.front_bytes ++ []) (c.front_quotes ++ []) (rs ++ runs_in (siblings_of options piece)) l) (ap (λ l. qs ++ l) no_quotes ∙ append-nil qs) r)))
+
+  -- siblings that are laid out behind others become their spans, once their quotes and the pairs of their runs have written into the row
+  pub row-dressed : (siblings : Inline) (before behind slots : List Slot) (bytes quotes : List ℕ) (runs : List Run) (quotes_are : List Quote) → slots ≡ before ++ behind → LaysOut (length before) siblings behind bytes quotes → runs_in siblings ≡ runs
+      → quotes_of siblings ≡ quotes_are → (pairs : List Pair) (spans : Spans) → IsEmphasis (counted 0 runs) pairs spans
+      → StandBehind before behind (dress options siblings) (marked options bytes (marks_by (length bytes) pairs) (quoted quotes (quote_characters [] quotes_are) slots) [])
+  row-dressed siblings before behind slots bytes quotes runs quotes_are cut laid runs_is quotes_is pairs spans e =
+      let cs = quote_characters [] (quotes_of siblings) in
+      let q = quotes-written siblings before behind bytes quotes cs laid in
+      let counted_is : counted 0 runs ≡ runs_from (with_quotes siblings) 0 = ap (counted 0) (sym runs_is ∙ sym (runs-quoted siblings cs)) ∙ sym (runs-counted (with_quotes siblings) 0) in
+      let emphasis : IsEmphasis (runs_from (with_quotes siblings) 0) pairs spans = subst (λ r. IsEmphasis r pairs spans) counted_is e in
+      let m = marks-make options (with_quotes siblings) pairs spans emphasis before q.now bytes [] q.laid in
+      let written : marked options bytes (marks_by (length bytes) pairs) (quoted quotes (quote_characters [] quotes_are) slots) [] ≡ marked options bytes (marks_of spans) (before ++ q.now) [] =
+      ap (λ l. marked options bytes (marks_by (length bytes) pairs) (quoted quotes (quote_characters [] l) slots) []) (sym quotes_is)
+      ∙ ap (λ l. marked options bytes (marks_by (length bytes) pairs) (quoted quotes cs l) []) cut
+      ∙ ap (λ l. marked options bytes (marks_by (length bytes) pairs) l []) q.cut
+      ∙ ap (λ l. marked options bytes l (before ++ q.now) []) (pairs-write (with_quotes siblings) pairs spans emphasis (length before) q.now bytes [] q.laid) in
+      record {
+        own = m.own;
+        cut = written ∙ m.cut;
+        as_many = m.as_many ∙ as_many q.now behind (quoted_length quotes cs (before ++ behind)) q.cut;
+        stand_for = m.stand_for ∙ ap (λ sp. slots_of (dressed_all options (with_quotes siblings) sp)) (one (runs_from (with_quotes siblings) 0) pairs spans emphasis).1;
+      }
+    where
+      as_many : (now behind : List Slot) → length (quoted quotes (quote_characters [] (quotes_of siblings)) (before ++ behind)) ≡ length (before ++ behind)
+          → quoted quotes (quote_characters [] (quotes_of siblings)) (before ++ behind) ≡ before ++ now → length now ≡ length behind
+      as_many now behind l e = let a = length-append before now in let b = length-append before behind in let n = ap length e in omega arith
+
+  -- what stands behind the bracket becomes the spans of these siblings, once their quotes and the pairs of their runs have written into it
+  pub dressed-behind : (nearer : ℕ) (bs : List BracketPlace) (parts : Parts) (slots : List Slot) (bytes quotes : List ℕ) (runs : List Run) (quoted_quotes : List Quote) (c : CutsRow options nearer bs parts slots bytes quotes runs quoted_quotes)
+      → (pairs : List Pair) (spans : Spans) → IsEmphasis (counted 0 (drop c.place.runs runs)) pairs spans
+      → StandBehind (c.front ++ (text_slot c.cut.opener ∷ [])) c.behind (dress options (siblings_of options c.cut.inside))
+      (marked options c.behind_bytes (marks_by (length c.behind_bytes) pairs) (quoted c.behind_quotes (quote_characters [] (drop c.place.quotes quoted_quotes)) slots) [])
+  dressed-behind nearer bs parts slots bytes quotes runs quoted_quotes c pairs spans e =
+      row-dressed (siblings_of options c.cut.inside) (c.front ++ (text_slot c.cut.opener ∷ [])) c.behind slots c.behind_bytes c.behind_quotes (drop c.place.runs runs) (drop c.place.quotes quoted_quotes)
+      (c.slots_are ∙ sym (append_assoc c.front (text_slot c.cut.opener ∷ []) c.behind))
+      (subst (λ i. LaysOut i (siblings_of options c.cut.inside) c.behind c.behind_bytes c.behind_quotes) (let l = length-append c.front (text_slot c.cut.opener ∷ []) in let q : suc (length c.front) ≡ length (c.front ++ (text_slot c.cut.opener ∷ [])) = omega arith in q) c.laid_behind)
+      c.runs_behind c.quoted_behind pairs spans e

@@ -1,0 +1,68 @@
+-- What begins at a place of a leaf, by what begins in the leaf's text where that is read as a leaf of one stretch.
+use Rattle.std.specs.Prelude.{◌≡◌, ◌≤◌, ◌<◌, ◌-◌, ℕ, suc, Bool, false, ◌==◌, ◌&&◌, ◌||◌, List, [], ◌∷◌, get_or, drop, take, length, None}
+use Rattle.cmark_grammar.specs.Answers.{Lookup}
+use Rattle.cmark_grammar.specs.InlineTokens.{from, before}
+use Rattle.cmark_grammar.specs.Items.{Item, Bracket, Token, Stands, Opens, Closes, Ends}
+use Rattle.cmark_grammar.specs.LeafText.{Leaf}
+use Rattle.cmark_grammar.specs.Letters.{first_is}
+use Rattle.cmark_grammar.specs.Options.{Options}
+use Rattle.cmark_grammar.specs.Readers.{Reader}
+use Rattle.cmark_inline_model.specs.TextPlaces.{ArePlaces}
+
+-- ## The text as a leaf of its own
+
+abbrev pub one_stretch : (is_cell : Bool) → (text : List ℕ) → Leaf
+one_stretch is_cell text = record { stretches = record { start = 0; end = length text } ∷ []; is_cell = is_cell }
+
+-- what begins in it depends on the options and on the entities
+abbrev pub text_reader : Options → Lookup → (text : List ℕ) → Reader
+text_reader options lookup text = record {
+  source = text;
+  options = options;
+  lookup = lookup;
+  definition = λ folded. None;
+  has_footnote = λ folded. false;
+  has_callback = false;
+}
+
+-- ## Places
+
+-- so many bytes of the text stand before a place of the source, and the others at it or behind it
+pub record IsParted (size : ℕ) (place : ℕ → ℕ) (x count : ℕ) : Type 0 where
+  pub within : count ≤ size
+  pub earlier : (k : ℕ) → k < count → place k < x
+  pub later : (k : ℕ) → count ≤ k → k < size → x ≤ place k
+
+-- a carriage return and the line feed behind it, which are one line ending, stand side by side
+abbrev pub HaveWholeEndings : (text : List ℕ) → (place : ℕ → ℕ) → Type 0
+HaveWholeEndings text place = (k : ℕ) → suc k < length text → get_or text k 0 ≡ 13 → get_or text (suc k) 0 ≡ 10 → place (suc k) ≡ suc (place k)
+
+-- The bytes of a leaf's text have these places in the source, and no line ending is parted. What stands before any place of the source
+-- and behind it are the bytes of the text that have earlier places, and the others
+pub record AreLeafPlaces (reader : Reader) (leaf : Leaf) (text : List ℕ) (place : ℕ → ℕ) : Type 0 where
+  pub places : ArePlaces reader leaf text place
+  pub front : (x count : ℕ) → IsParted (length text) place x count → before reader leaf x ≡ take count text
+  pub rest : (x count : ℕ) → IsParted (length text) place x count → from reader leaf x ≡ drop count text
+  pub bytes : (k : ℕ) → k < length text → get_or reader.source (place k) 0 ≡ get_or text k 0
+  pub endings : HaveWholeEndings text place
+
+-- ## Tokens
+
+-- an item ends behind the last byte that it takes, which is not where the next byte of the leaf stands if a line ends there
+abbrev pub placed_item : (place : ℕ → ℕ) → Item → Item
+placed_item place x = record { kind = x.kind; start = place x.start; end = suc (place (x.end - 1)) }
+
+abbrev pub placed_bracket : (place : ℕ → ℕ) → Bracket → Bracket
+placed_bracket place b = record { is_image = b.is_image; start = place b.start; end = place b.end }
+
+-- what begins in the text, in the places of the source
+abbrev pub placed : (place : ℕ → ℕ) → Token → Token
+placed place (Stands x past) = Stands (placed_item place x) (place past)
+placed place (Opens b) = Opens (placed_bracket place b)
+placed place (Closes b) = Closes (placed_bracket place b)
+placed place Ends = Ends
+
+-- markup that is sought in the source may open there: a comment, a declaration, a CDATA section or a processing instruction
+abbrev pub may_open_markup : List ℕ → Bool
+may_open_markup [] = false
+may_open_markup (b ∷ bs) = (b == 60) && first_is (λ c. (c == 33) || (c == 63)) bs

@@ -1,0 +1,53 @@
+//! Theorems over the row of slots of the parts that a pass has read (`RowParts`), each the contract of a function that does nothing: the
+//! row grows behind, it is cut at an opening bracket, and what brackets form takes the place of what stands behind the cut.
+
+ghost use Rattle.std.specs.Prelude.{◌≡◌, ◌<◌, ℕ, suc, List, [], ◌∷◌, ◌++◌, drop, length, take};
+ghost use Rattle.cmark_grammar.specs.Emphasis.{IsEmphasis, Pair, Run};
+ghost use Rattle.cmark_grammar.specs.Items.{Bracket};
+ghost use Rattle.cmark_grammar.specs.Options.{Options};
+ghost use Rattle.cmark_grammar.specs.Parts.{Nil, Opening, Parts, openings};
+ghost use Rattle.cmark_grammar.specs.Quotes.{Quote, quote_characters};
+ghost use Rattle.cmark_grammar.specs.Siblings.{quotes_of};
+ghost use Rattle.cmark_grammar.specs.SiblingsModel.{dress, siblings_of};
+ghost use Rattle.cmark_grammar.specs.Spans.{Spans};
+ghost use Rattle.cmark_inline_model.specs.PartLists.{join};
+ghost use Rattle.cmark_inline_model.specs.RowParts.{BracketPlace, CutsRow, IsRow, counted, runs_in, text_slot};
+ghost use Rattle.cmark_inline_model.specs.SlotRows.{LaysOut, Slot, StandBehind, marked, marks_by, quoted};
+
+/// A row is one list of siblings laid out (`whole`). With more parts behind, none of them an opening bracket, it has their slots, runs and
+/// quotes behind its own (`grows`); with an opening bracket it has one slot more, and knows where that stands (`opens`).
+pub fn rows_grow_with_the_parts()
+    ensures whole { (options : Options) (bs : List BracketPlace) (parts : Parts) (slots : List Slot) (bytes quotes : List ℕ) (runs : List Run) (quoted : List Quote)
+        → IsRow options bs parts slots bytes quotes runs quoted → LaysOut 0 (siblings_of options parts) slots bytes quotes }
+    ensures grows { (options : Options) (bs : List BracketPlace) (parts piece : Parts) (slots more : List Slot) (bytes more_bytes quotes more_quotes : List ℕ) (runs : List Run) (quoted : List Quote)
+        → IsRow options bs parts slots bytes quotes runs quoted → openings piece ≡ 0 → LaysOut (length slots) (siblings_of options piece) more more_bytes more_quotes
+        → IsRow options bs (join parts piece) (slots ++ more) (bytes ++ more_bytes) (quotes ++ more_quotes) (runs ++ runs_in (siblings_of options piece)) (quoted ++ quotes_of (siblings_of options piece)) }
+    ensures opens { (options : Options) (bs : List BracketPlace) (parts : Parts) (opener : Bracket) (slots : List Slot) (bytes quotes : List ℕ) (runs : List Run) (quoted : List Quote)
+        → IsRow options bs parts slots bytes quotes runs quoted
+        → IsRow options (record { slot = length slots; runs = length runs; quotes = length quoted } ∷ bs) (join parts (Opening opener Nil)) (slots ++ (text_slot opener ∷ [])) bytes quotes runs quoted }
+{}
+
+/// Where the parts are cut at an opening bracket, the row is cut at the place that is noted of this one: its slots, the bytes of its runs,
+/// and its quotes.
+pub fn rows_are_cut_where_their_parts_are()
+    ensures { (options : Options) (nearer : ℕ) (bs : List BracketPlace) (parts : Parts) (slots : List Slot) (bytes quotes : List ℕ) (runs : List Run) (quoted : List Quote)
+        → nearer < length bs → IsRow options bs parts slots bytes quotes runs quoted → CutsRow options nearer bs parts slots bytes quotes runs quoted }
+{}
+
+/// Behind the cut the characters of the quotes and the marks of the pairs of the runs make the slots of the spans that the parts there
+/// become; the slots up to the bracket's own stay.
+pub fn what_stands_behind_a_bracket_becomes_spans()
+    ensures { (options : Options) (nearer : ℕ) (bs : List BracketPlace) (parts : Parts) (slots : List Slot) (bytes quotes : List ℕ) (runs : List Run) (quotes_are : List Quote)
+        → (c : CutsRow options nearer bs parts slots bytes quotes runs quotes_are) → (pairs : List Pair) (spans : Spans) → IsEmphasis (counted 0 (drop c.place.runs runs)) pairs spans
+        → StandBehind (c.front ++ (text_slot c.cut.opener ∷ [])) c.behind (dress options (siblings_of options c.cut.inside))
+        (marked options c.behind_bytes (marks_by (length c.behind_bytes) pairs) (quoted c.behind_quotes (quote_characters [] (drop c.place.quotes quotes_are)) slots) []) }
+{}
+
+/// What brackets form, which has no runs and no quotes of its own, takes the place of the opening bracket and all that stands behind it;
+/// the opening brackets before that stay where they are.
+pub fn what_brackets_form_closes_the_row()
+    ensures { (options : Options) (nearer : ℕ) (bs : List BracketPlace) (parts piece : Parts) (slots more : List Slot) (bytes quotes : List ℕ) (runs : List Run) (quoted : List Quote)
+        → (c : CutsRow options nearer bs parts slots bytes quotes runs quoted) → openings piece ≡ 0 → runs_in (siblings_of options piece) ≡ [] → quotes_of (siblings_of options piece) ≡ []
+        → LaysOut (length c.front) (siblings_of options piece) more [] []
+        → IsRow options (drop (suc nearer) bs) (join c.cut.before piece) (c.front ++ more) c.front_bytes c.front_quotes (take c.place.runs runs) (take c.place.quotes quoted) }
+{}

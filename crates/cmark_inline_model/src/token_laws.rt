@@ -1,0 +1,35 @@
+//! Theorems over what begins at the places of a leaf, each the contract of a function that does nothing: it is what begins in the leaf's
+//! text where that is read as a leaf of one stretch, in the places of the source.
+
+ghost use Rattle.std.specs.Prelude.{◌≡◌, ◌≤◌, ℕ, false, List, drop, length};
+ghost use Rattle.cmark_grammar.specs.InlineTokens.{begins_at, read_on, token};
+ghost use Rattle.cmark_grammar.specs.LeafText.{InTurn, Leaf};
+ghost use Rattle.cmark_grammar.specs.Readers.{Reader};
+ghost use Rattle.cmark_inline_model.specs.LeafModel.{HaveLineEnds};
+ghost use Rattle.cmark_inline_model.specs.PlacedTokens.{AreLeafPlaces, HaveWholeEndings, IsParted, may_open_markup, one_stretch, placed, text_reader};
+ghost use Rattle.cmark_inline_model.specs.TextPlaces.{place_in, text_of};
+
+/// Each place of the source parts the text of a leaf whose lines end with line endings.
+pub fn places_part_the_text()
+    ensures { (reader : Reader) (leaf : Leaf) (size : ℕ) → InTurn 0 leaf.stretches size → size ≤ length reader.source → HaveLineEnds reader.source leaf.stretches
+        → HaveWholeEndings (text_of reader leaf) (place_in reader leaf) → AreLeafPlaces reader leaf (text_of reader leaf) (place_in reader leaf) }
+{}
+
+/// At the place of a byte begins what begins at this byte of the text, with the items, their ranges and the place from which on the text is
+/// read in the places of the source: each byte that stands for itself (`begins`), and the longest text (`token`). Markup that is sought in
+/// the source is left out.
+pub fn tokens_stand_in_their_places()
+    ensures begins { (reader : Reader) (leaf : Leaf) (text : List ℕ) (place : ℕ → ℕ) → AreLeafPlaces reader leaf text place
+        → (k : ℕ) → k ≤ length text → may_open_markup (drop k text) ≡ false
+        → begins_at reader leaf (place k) ≡ placed place (begins_at (text_reader reader.options reader.lookup text) (one_stretch leaf.is_cell text) k) }
+    ensures token { (reader : Reader) (leaf : Leaf) (text : List ℕ) (place : ℕ → ℕ) → AreLeafPlaces reader leaf text place
+        → (k : ℕ) → k ≤ length text → may_open_markup (drop k text) ≡ false
+        → token reader leaf (place k) ≡ placed place (token (text_reader reader.options reader.lookup text) (one_stretch leaf.is_cell text) k) }
+{}
+
+/// Behind any place of the source the text is read on where it is behind the bytes that have earlier places.
+pub fn the_text_is_read_on_in_its_places()
+    ensures { (reader : Reader) (leaf : Leaf) (text : List ℕ) (place : ℕ → ℕ) → AreLeafPlaces reader leaf text place
+        → (x count : ℕ) → IsParted (length text) place x count
+        → read_on reader leaf x ≡ place (read_on (text_reader reader.options reader.lookup text) (one_stretch leaf.is_cell text) count) }
+{}
