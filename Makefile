@@ -71,7 +71,7 @@ outside:
 	tests/program
 	tests/walks 2000 1
 	tests/inline_definitions 2000 1
-	tests/block_definitions 1000 1 gfm tables footnotes tasklists definition-list heading-attributes yaml-metadata plus-metadata
-	tests/block_definitions 500 2 gfm tables tasklists definition-list heading-attributes old-footnotes
+	tests/block_definitions 1000 1
+	tests/block_definitions 500 2 gfm tables footnotes tasklists definition-list heading-attributes yaml-metadata plus-metadata
 	tests/vectors
 	tests/bindings

@@ -26,7 +26,7 @@ abbrev pub whole : Row → Row
 whole r = record r { lazy = false }
 
 pub whole-same : (r : Row) → r.lazy ≡ false → whole r ≡ r
-whole-same r e = ap (λ z. record { columns = r.columns; at = r.at; stop = r.stop; past = r.past; lazy = z }) (sym e)
+whole-same r e = ap (λ z. record { columns = r.columns; at = r.at; stop = r.stop; past = r.past; lazy = z; held = r.held }) (sym e)
 
 abbrev pub last_of : Row → List Row → Row
 last_of first [] = first

@@ -13,7 +13,7 @@ use Rattle.cmark_grammar.specs.Leaves.{underlines}
 use Rattle.cmark_grammar.specs.Openings.{interrupts, text_lines, put_if, is_none}
 use Rattle.cmark_blocks.specs.TablesAhead.{block_interrupts}
 use Rattle.cmark_lines.proofs.LazyRows.{whole-texts}
-use Rattle.cmark_grammar.proofs.RowPlaces.{kept-without}
+use Rattle.cmark_grammar.proofs.RowPlaces.{kept-behind}
 use Rattle.cmark_block_model.specs.BlockPass.{Kept, kept_by, kept_if, ahead_in}
 use Rattle.cmark_block_model.specs.OpenBlocks.{OpenContainer}
 
@@ -38,8 +38,8 @@ module _ (text : List ℕ) (options : Options) (lookup : Lookup) where
 
       go : (o : Option Row) → keeps c.container false r ≡ o → Later → Sees (c ∷ cs) r more (kept_if text options lookup o (λ s. kept_by text options lookup (outer ++ c ∷ []) cs false s) (record { kept = outer; missed = c ∷ cs; left = r }))
       go (Some s) e later =
-          let n = kept-without c.container false r s e in
-          let whole_s : s.lazy ≡ false = ap (λ t. t.lazy) (sym n.1) ∙ whole in
+          let n = kept-behind c.container false r s e in
+          let whole_s : s.lazy ≡ false = ap (λ t. t.lazy) (sym n.1.1) ∙ whole in
           let ih = later s (shown (strips c.container false more)) whole_s in
           let inside : ahead_in text options lookup (c ∷ cs) (r ∷ more) ≡ ahead_in text options lookup cs (s ∷ shown (strips c.container false more)) =
           ap (λ o. ahead_in text options lookup cs (shown (strip_as o r ∷ strips c.container false more))) e
@@ -48,7 +48,7 @@ module _ (text : List ℕ) (options : Options) (lookup : Lookup) where
             kept = λ none. inside ∙ ih.kept none;
             missed = λ d others some. inside ∙ ih.missed d others some;
             whole = ih.whole;
-            same = ih.same ∙ sym (ap (λ t. t.past) n.1);
+            same = ih.same ∙ sym (ap (λ t. t.past) n.1.1);
           }
       go None e later = record {
         kept = λ none. absurd (let q : c ∷ cs ≡ [] = none in cc);

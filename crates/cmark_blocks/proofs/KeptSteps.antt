@@ -4,7 +4,7 @@ use Rattle.std.specs.Prelude.{slice_get, ◌==◌}
 use Rattle.std.proofs.lemmas.Option.{same_Some}
 use Rattle.cmark_grammar.specs.Answers.{Lookup}
 use Rattle.cmark_grammar.specs.Options.{Options}
-use Rattle.cmark_grammar.proofs.RowPlaces.{kept-without}
+use Rattle.cmark_grammar.proofs.RowPlaces.{behind_prefix, kept-behind}
 use Rattle.cmark_grammar.specs.Columns.{Column}
 use Rattle.cmark_grammar.specs.Rows.{Row, without}
 use Rattle.cmark_grammar.specs.Containers.{keeps}
@@ -22,8 +22,13 @@ use Rattle.cmark_blocks.specs.Shown.{ShowsContainer, ShowsContainers}
 
 behind-next : (line rest inside : LineRest) (g : grammar.Container) (bare : Bool) → Some (row_of inside) ≡ keeps g bare (row_of rest) → IsBehind line rest → IsBehind line inside
 behind-next line rest inside g bare e h =
-    let n = kept-without g bare (row_of rest) (row_of inside) (sym e) in
-    (h.0 + n.0, ap {A = List Column} {B = Row} (λ cs. record (row_of line) { columns = cs }) (sym (drop-drop n.0 h.0 (row_of line).columns)) ∙ ap (without n.0) h.1 ∙ n.1)
+    let n = kept-behind g bare (row_of rest) (row_of inside) (sym e) in (
+      h.0 + n.0,
+      (
+        n.1.0,
+        ap {A = List Column} {B = Row} (λ cs. record (row_of line) { columns = cs; held = n.1.0 }) (sym (drop-drop n.0 h.0 (row_of line).columns)) ∙ ap (behind_prefix n.0 n.1.0) h.1.1 ∙ n.1.1,
+      ),
+    )
 
 -- the container at a place, with those before it and behind it
 pub record At (c : OpenContainer) (k : ℕ) (ms : List model.OpenContainer) : Type 0 where

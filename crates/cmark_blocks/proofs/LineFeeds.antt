@@ -12,7 +12,7 @@ use Rattle.cmark_grammar.specs.Openings.{is_none, put_if, texts, text_lines}
 use Rattle.cmark_grammar.specs.Options.{Options}
 use Rattle.cmark_grammar.specs.Rows.{Row, rows_from, shown, show_as}
 use Rattle.cmark_grammar.proofs.ColumnSteps.{bytes_of-expand}
-use Rattle.cmark_grammar.proofs.RowPlaces.{kept-without}
+use Rattle.cmark_grammar.proofs.RowPlaces.{kept-behind}
 use Rattle.cmark_block_model.specs.BlockPass.{ahead_in}
 use Rattle.cmark_block_model.specs.OpenBlocks.{OpenContainer}
 use Rattle.cmark_blocks.specs.Ahead.{lines_at}
@@ -82,8 +82,8 @@ strip-plain k bare r h = go (keeps k bare r) refl
     go : (o : Option Row) → keeps k bare r ≡ o → HasNoFeed (bytes_of (strip_as o r).columns)
     go None e = h
     go (Some s) e =
-        let n = kept-without k bare r s e in
-        subst (λ (x : Row). HasNoFeed (bytes_of x.columns)) n.1 (columns-plain n.0 r.columns h)
+        let n = kept-behind k bare r s e in
+        subst (λ (x : Row). HasNoFeed (bytes_of x.columns)) n.1.1 (columns-plain n.0 r.columns h)
 
 strips-plain : (k : Container) (bare : Bool) (rs : List Row) → HaveNoFeed rs → HaveNoFeed (strips k bare rs)
 strips-plain k bare [] h = tt

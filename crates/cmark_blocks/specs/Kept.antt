@@ -1,5 +1,5 @@
 -- How many containers keep a line.
-use Rattle.std.specs.Prelude.{◌≡◌, ℕ, List, [], take, drop}
+use Rattle.std.specs.Prelude.{◌≡◌, ℕ, Bool, List, [], take, drop}
 use Rattle.cmark_grammar.specs.Answers.{Lookup}
 use Rattle.cmark_grammar.specs.Options.{Options}
 use Rattle.cmark_grammar.specs.Rows.{without}
@@ -10,9 +10,9 @@ use Rattle.cmark_block_model.specs.OpenBlocks as model
 use Rattle.cmark_blocks.specs.declared.state.Pass.{Pass}
 use Rattle.cmark_blocks.specs.Runs.{Runs}
 
--- this is left of the line behind some of its columns
+-- this is left of the line behind some of its columns, held by a container without a prefix or not
 abbrev pub IsBehind : LineRest → LineRest → Type 0
-IsBehind line rest = (n : ℕ) × (without n (row_of line) ≡ row_of rest)
+IsBehind line rest = (n : ℕ) × ((held : Bool) × (record (without n (row_of line)) { held = held } ≡ row_of rest))
 
 module _ {E : Type 0} (replacement : E → Lookup) where
   -- this many containers keep the line, and this is left of it

@@ -62,7 +62,8 @@ fn behind_width<'a>(line: LineStart<'a>, width: usize) -> Option<LineStart<'a>>
     Some(behind)
 }
 
-/// The line behind a footnote definition's prefix, if it keeps the line (this profile's own).
+/// The line behind a footnote definition's prefix, if it keeps the line; as such definitions were read before, the line as it is, which they hold
+/// (this profile's own).
 fn behind_footnote<'a>(line: LineStart<'a>, old: bool) -> Option<LineStart<'a>>
     ensures { (at past : ℕ) → option_map (row_from at past) result ≡ keeps (Footnote [] old 0) false (row_from at past line.entry) }
 {
@@ -71,7 +72,12 @@ fn behind_footnote<'a>(line: LineStart<'a>, old: bool) -> Option<LineStart<'a>>
     }
     let mut ahead = line;
     ahead.scan_all_space();
-    if ahead.is_at_eol() { None } else { Some(line) }
+    if ahead.is_at_eol() {
+        return None;
+    }
+    let mut behind = line;
+    behind.hold();
+    Some(behind)
 }
 
 /// The line behind this container's prefix, if the container keeps the line.

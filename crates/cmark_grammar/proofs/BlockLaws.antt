@@ -6,7 +6,7 @@ use Rattle.cmark_grammar.specs.Columns.{Column, is_blank_byte, is_blank, without
 use Rattle.cmark_grammar.specs.Letters.{starts}
 use Rattle.cmark_grammar.specs.Metadata.{metadata_of, metadata_if, metadata_kind, metadata_further, holds_metadata}
 use Rattle.cmark_grammar.specs.MetadataBlockKind.{MetadataBlockKind}
-use Rattle.cmark_grammar.specs.Rows.{Row, without, lazy_row, is_bare, is_blank_line, is_whole_line, indent_of, words_of}
+use Rattle.cmark_grammar.specs.Rows.{Row, without, lazy_row, hold, is_bare, is_blank_line, is_whole_line, indent_of, words_of}
 use Rattle.cmark_grammar.specs.Leaves.{Fence, Further, GoesOn, Closes, Waits, Stops, count_more, counted, underlines, is_thematic_break, is_atx_heading, run, fence_of, fence_further, code_further}
 use Rattle.cmark_grammar.specs.BlockQuoteKind.{BlockQuoteKind}
 use Rattle.cmark_grammar.specs.Containers.{with_task, marker_width, Container, Quote, Item, Footnote, ListDefinition, Marker, marker_of, delimited, digits, is_bullet, is_delimiter, number_of, item_with, width_with, container_with, container_of, item_of, begins_with, is_quote, quote_width, width_of, enter, keep_as, keeps, strip_as, strip, footnote_width, footnote_with, footnote_of, footnote_or}
@@ -388,9 +388,9 @@ module _ (options : Options) where
       go false q = cc
   keep_as-lazy (Footnote label true size) r s e = go _ e
     where
-      go : (z : Bool) → (if z then None else Some r) ≡ Some s → s.lazy ≡ r.lazy
+      go : (z : Bool) → (if z then None else Some (hold r)) ≡ Some s → s.lazy ≡ r.lazy
       go true q = cc
-      go false q = let p : r ≡ s = cc in sym (ap (λ x. x.lazy) p)
+      go false q = let p : hold r ≡ s = cc in sym (ap (λ x. x.lazy) p)
   keep_as-lazy (Footnote label false size) r s e = wide-lazy 4 r s e
   keep_as-lazy (Item mark number width task) r s e = wide-lazy width r s e
   keep_as-lazy (ListDefinition width) r s e = wide-lazy width r s e
@@ -422,7 +422,7 @@ module _ (options : Options) where
   strip-still k bare r e = ap (λ s. s.lazy) (strip_lazy k bare r (keeps-lazy k bare r e))
 
   pub lazy-same : (r : Row) → r.lazy ≡ true → lazy_row r ≡ r
-  lazy-same r e = ap (λ z. record { columns = r.columns; at = r.at; stop = r.stop; past = r.past; lazy = z }) (sym e)
+  lazy-same r e = ap (λ z. record { columns = r.columns; at = r.at; stop = r.stop; past = r.past; lazy = z; held = r.held }) (sym e)
 
   not_or : (x y : Bool) → not (x || y) ≡ true → x ≡ false
   not_or true y e = absurd (true≢false (sym e))

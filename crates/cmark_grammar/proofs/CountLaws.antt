@@ -20,7 +20,7 @@ use Rattle.cmark_grammar.specs.Tokens.{Piece, texts_then, line_columns, words_en
 use Rattle.cmark_grammar.specs.Metadata.{ends_metadata}
 use Rattle.cmark_grammar.proofs.SetextLaws.{setext-few}
 use Rattle.cmark_grammar.proofs.BlockLaws.{marker-within, at-whole, at-words, at-wide, at-takes, texts-words, IsWide}
-use Rattle.cmark_grammar.proofs.RowPlaces.{Runs, Runs-le, first_place-Runs, drop-Runs, drop-mono, Lies, begin-start, start-Runs, start-stop, Lies-without, strip-Lies, kept-without, strip-past, Along, text-Along, Along-le}
+use Rattle.cmark_grammar.proofs.RowPlaces.{Runs, Runs-le, first_place-Runs, drop-Runs, drop-mono, Lies, begin-start, start-Runs, start-stop, Lies-without, strip-Lies, kept-behind, strip-past, Along, text-Along, Along-le}
 use Rattle.cmark_grammar.proofs.TokenRanges.{UpTo, end_place-Runs, line-UpTo, heading-UpTo}
 use Rattle.cmark_grammar.specs.TableRows.{count_missing, cells_start, cells_of}
 use Rattle.cmark_grammar.specs.TableTokens.{cells_then, row_tokens}
@@ -86,10 +86,8 @@ strip-sits k bare from r s = (strip-Lies k bare from r s.0, go (keeps k bare r) 
     go : (o : Option Row) → keeps k bare r ≡ o → AreTabs (strip_as o r).columns
     go None e = s.1
     go (Some t) e =
-        let w = kept-without k bare r t e in
-        let n : ℕ = w.0 in
-        let q : without n r ≡ t = w.1 in
-        subst (λ x. AreTabs x.columns) q (drop-tabs n r.columns s.1)
+        let w = kept-behind k bare r t e in
+        subst (λ x. AreTabs x.columns) w.1.1 (drop-tabs w.0 r.columns s.1)
 
 strips-fed : (k : Container) (bare : Bool) (from : ℕ) (rs : List Row) (to : ℕ) → Fed from rs to → Fed from (strips k bare rs) to
 strips-fed k bare from [] to f = f

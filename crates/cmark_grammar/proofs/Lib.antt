@@ -23,6 +23,7 @@ pub mod InlineSamples
 pub mod LeafSpanLaws
 pub mod LineSteps
 pub mod MetadataBlockSamples
+mod MetadataLaws
 pub mod NotDerived
 pub mod QuoteSamples
 pub mod RangeLaws

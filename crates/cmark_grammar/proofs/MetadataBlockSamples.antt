@@ -9,7 +9,7 @@ use Rattle.cmark_grammar.specs.MetadataBlockKind.{YamlStyle, PlusesStyle}
 use Rattle.cmark_grammar.specs.Openings.{opens, texts, lazily}
 use Rattle.cmark_grammar.specs.BlocksModel.{begin, blocks}
 use Rattle.cmark_grammar.specs.Entities.{basic_entity}
-use Rattle.cmark_grammar.specs.BlockDocument.{Paragraph, Heading, ThematicBreak, MetadataBlock, BlockQuote, Text, outline, node}
+use Rattle.cmark_grammar.specs.BlockDocument.{Paragraph, Heading, ThematicBreak, MetadataBlock, BlockQuote, FootnoteDefinition, Text, outline, node}
 use Rattle.cmark_grammar.specs.Derivation.{document}
 
 abbrev yaml : Options
@@ -63,6 +63,32 @@ in_quote : outline (document (codes ">---\n>a\n>---\n") yaml basic_entity) ≡
     node (BlockQuote None) 0 13 ∷ node ThematicBreak 1 5 ∷ node (Heading 2 no_attributes) 6 13 ∷ node (Text (codes "a")) 6 7 ∷ []
 unfolding blocks begin opens texts lazily enter keeps underlines
 in_quote = refl
+
+-- none in a footnote definition as such definitions were read before, which has no prefix
+abbrev with_notes : Options
+with_notes = record no_options { footnotes = true; old_footnotes = true; yaml_style_metadata_blocks = true }
+
+in_definition : outline (document (codes "[^1]: # a\n---\nb\n---\n") with_notes basic_entity) ≡
+    node (FootnoteDefinition (codes "1")) 0 20 ∷ node (Heading 1 no_attributes) 6 10 ∷ node (Text (codes "a")) 8 9 ∷ node ThematicBreak 10 14 ∷ node (Heading 2 no_attributes) 14 20 ∷ node (Text (codes "b")) 14 15 ∷ []
+unfolding blocks begin opens texts lazily enter keeps underlines
+in_definition = refl
+
+in_empty_definition : outline (document (codes "[^1]:\n---\nb\n---\n") with_notes basic_entity) ≡
+    node (FootnoteDefinition (codes "1")) 0 16 ∷ node ThematicBreak 6 10 ∷ node (Heading 2 no_attributes) 10 16 ∷ node (Text (codes "b")) 10 11 ∷ []
+unfolding blocks begin opens texts lazily enter keeps underlines
+in_empty_definition = refl
+
+-- nor behind a container in it that ends there
+in_definition_behind_quote : outline (document (codes "[^1]: > a\n---\nb\n---\n") with_notes basic_entity) ≡
+    node (FootnoteDefinition (codes "1")) 0 20 ∷ node (BlockQuote None) 6 10 ∷ node Paragraph 8 10 ∷ node (Text (codes "a")) 8 9 ∷ node ThematicBreak 10 14 ∷ node (Heading 2 no_attributes) 14 20 ∷ node (Text (codes "b")) 14 15 ∷ []
+unfolding blocks begin opens texts lazily enter keeps underlines
+in_definition_behind_quote = refl
+
+-- the blank line that ends the definition leaves it
+behind_definition : outline (document (codes "[^1]: a\n\n---\nb\n---\n") with_notes basic_entity) ≡
+    node (FootnoteDefinition (codes "1")) 0 8 ∷ node Paragraph 6 8 ∷ node (Text (codes "a")) 6 7 ∷ node (MetadataBlock YamlStyle) 9 19 ∷ node (Text (codes "b\n")) 13 15 ∷ []
+unfolding blocks begin opens texts lazily enter keeps underlines
+behind_definition = refl
 
 -- behind a container that ends with it
 behind_quote : outline (document (codes "> a\n---\nb\n---\n") yaml basic_entity) ≡

@@ -3,7 +3,7 @@ use Rattle.std.proofs.Common.{◌≡◌, ◌⊎◌, inl, inr, ⊎_elim, ℕ, zer
 use Rattle.std.specs.Prelude.{if◌then◌else◌, nat_le, nat_lt}
 use Rattle.cmark_grammar.specs.Options.{Options}
 use Rattle.cmark_grammar.specs.Columns.{Column, is_blank_byte, is_blank, indent, without_indent, bytes_of}
-use Rattle.cmark_grammar.specs.Rows.{Row, without, first_place, begin_of, start_of, is_bare, is_blank_line, indent_of, words_of}
+use Rattle.cmark_grammar.specs.Rows.{Row, without, hold, first_place, begin_of, start_of, is_bare, is_blank_line, indent_of, words_of}
 use Rattle.cmark_grammar.specs.Leaves.{run, Fence, is_thematic_break, is_atx_heading, fence_of, counted, code_further, is_parted}
 use Rattle.cmark_grammar.specs.Footnotes.{Footnotes, Off, Gfm, Old, footnotes_in, footnote_in, columns_over, marker_columns}
 use Rattle.cmark_grammar.specs.HtmlBlocks.{html_kind}
@@ -406,6 +406,9 @@ module _ (E : ℕ → Type 0) where
       go false true ex ey f = is (front-less IsAsciiColumn width (indent r.columns) r.columns (le width (indent r.columns) ey) (indent-front r.columns)) f
       go false false ex ey f = absurd (let p : None ≡ Some s = f in cc)
 
+  pub hold-good : (r : Row) → GoodRow r → GoodRow (hold r)
+  hold-good r g = record { runs = g.runs; good = g.good; begin = g.begin; stop = g.stop; past = g.past; feed = g.feed }
+
   keep_as-good : (k : Container) (r s : Row) → GoodRow r → keep_as k r ≡ Some s → GoodRow s
   keep_as-good (Quote alert) r s g e = go (is_quote r) refl e
     where
@@ -414,9 +417,9 @@ module _ (E : ℕ → Type 0) where
       go false q f = absurd (let p : None ≡ Some s = f in cc)
   keep_as-good (Footnote label true size) r s g e = go (is_blank_line r) e
     where
-      go : (z : Bool) → (if z then None else Some r) ≡ Some s → GoodRow s
+      go : (z : Bool) → (if z then None else Some (hold r)) ≡ Some s → GoodRow s
       go true f = absurd (let p : None ≡ Some s = f in cc)
-      go false f = let p : r ≡ s = cc in subst GoodRow p g
+      go false f = let p : hold r ≡ s = cc in subst GoodRow p (hold-good r g)
   keep_as-good (Footnote label false size) r s g e = wide-good 4 r s g e
   keep_as-good (Item mark number width task) r s g e = wide-good width r s g e
   keep_as-good (ListDefinition width) r s g e = wide-good width r s g e

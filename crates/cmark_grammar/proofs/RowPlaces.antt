@@ -3,7 +3,7 @@ use Rattle.std.proofs.Common.{◌≡◌, ℕ, zero, suc, ◌+◌, ◌≤◌, ◌
 use Rattle.std.specs.Prelude.{if◌then◌else◌}
 use Rattle.cmark_grammar.specs.Lines.{lines, ends_line, onto, content}
 use Rattle.cmark_grammar.specs.Columns.{Column, tab, expand, tab_columns, to_tab_stop, indent, without_indent}
-use Rattle.cmark_grammar.specs.Rows.{Row, rows, rows_from, row_at, without, is_blank_line, indent_of, place, first_place, begin_of, start_of, past_of}
+use Rattle.cmark_grammar.specs.Rows.{Row, rows, rows_from, row_at, without, hold, is_blank_line, indent_of, place, first_place, begin_of, start_of, past_of}
 use Rattle.cmark_grammar.specs.Containers.{Container, Quote, Item, Footnote, ListDefinition, keeps, keep_as, strip_as, strip, strips, is_quote, quote_width}
 
 -- these columns stand one behind the other, from one place to another
@@ -100,28 +100,32 @@ wide-without width r s e = go _ e
     go true q = cc
     go false q = cc
 
-kept_as-without : (k : Container) (r s : Row) → keep_as k r ≡ Some s → (n : ℕ) × (without n r ≡ s)
-kept_as-without (Quote alert) r s e = (quote_width r, go (is_quote r) e)
+-- a line without some columns in front, and held or not
+abbrev pub behind_prefix : ℕ → (held : Bool) → Row → Row
+behind_prefix n held r = record (without n r) { held = held }
+
+kept_as-behind : (k : Container) (r s : Row) → keep_as k r ≡ Some s → (n : ℕ) × ((held : Bool) × (behind_prefix n held r ≡ s))
+kept_as-behind (Quote alert) r s e = (quote_width r, (r.held, go (is_quote r) e))
   where
     go : (z : Bool) → (if z then Some (without (quote_width r) r) else None) ≡ Some s → without (quote_width r) r ≡ s
     go true q = cc
     go false q = cc
-kept_as-without (Footnote label true size) r s e = (0, go _ e)
+kept_as-behind (Footnote label true size) r s e = (0, (true, go _ e))
   where
-    go : (z : Bool) → (if z then None else Some r) ≡ Some s → without 0 r ≡ s
+    go : (z : Bool) → (if z then None else Some (hold r)) ≡ Some s → hold r ≡ s
     go true q = cc
-    go false q = let p : r ≡ s = cc in p
-kept_as-without (Footnote label false size) r s e = (4, wide-without 4 r s e)
-kept_as-without (Item mark number width task) r s e = (width, wide-without width r s e)
-kept_as-without (ListDefinition width) r s e = (width, wide-without width r s e)
+    go false q = cc
+kept_as-behind (Footnote label false size) r s e = (4, (r.held, wide-without 4 r s e))
+kept_as-behind (Item mark number width task) r s e = (width, (r.held, wide-without width r s e))
+kept_as-behind (ListDefinition width) r s e = (width, (r.held, wide-without width r s e))
 
-pub kept-without : (k : Container) (bare : Bool) (r s : Row) → keeps k bare r ≡ Some s → (n : ℕ) × (without n r ≡ s)
+pub kept-behind : (k : Container) (bare : Bool) (r s : Row) → keeps k bare r ≡ Some s → (n : ℕ) × ((held : Bool) × (behind_prefix n held r ≡ s))
 unfolding keeps
-kept-without k bare r s e = go _ e
+kept-behind k bare r s e = go _ e
   where
-    go : (z : Bool) → (if z then None else keep_as k r) ≡ Some s → (n : ℕ) × (without n r ≡ s)
+    go : (z : Bool) → (if z then None else keep_as k r) ≡ Some s → (n : ℕ) × ((held : Bool) × (behind_prefix n held r ≡ s))
     go true q = cc
-    go false q = kept_as-without k r s q
+    go false q = kept_as-behind k r s q
 
 pub strip-Lies : (k : Container) (bare : Bool) (from : ℕ) (r : Row) → Lies from r → Lies from (strip k bare r)
 strip-Lies k bare from r h = go (keeps k bare r) refl
@@ -129,10 +133,9 @@ strip-Lies k bare from r h = go (keeps k bare r) refl
     go : (o : Option Row) → keeps k bare r ≡ o → Lies from (strip_as o r)
     go None e = h
     go (Some s) e =
-        let w = kept-without k bare r s e in
+        let w = kept-behind k bare r s e in
         let n : ℕ = w.0 in
-        let q : without n r ≡ s = w.1 in
-        subst (Lies from) q (Lies-lower from (begin_of r) (without n r) h.0 (Lies-without n from r h))
+        subst (Lies from) w.1.1 (Lies-lower from (begin_of r) (without n r) h.0 (Lies-without n from r h))
 
 pub strip-past : (k : Container) (bare : Bool) (r : Row) → (strip k bare r).past ≡ r.past
 strip-past k bare r = go (keeps k bare r) refl
@@ -140,10 +143,8 @@ strip-past k bare r = go (keeps k bare r) refl
     go : (o : Option Row) → keeps k bare r ≡ o → (strip_as o r).past ≡ r.past
     go None e = refl
     go (Some s) e =
-        let w = kept-without k bare r s e in
-        let n : ℕ = w.0 in
-        let q : without n r ≡ s = w.1 in
-        sym (ap (λ x. x.past) q)
+        let w = kept-behind k bare r s e in
+        sym (ap (λ x. x.past) w.1.1)
 
 pub strips-Along : (k : Container) (bare : Bool) (from : ℕ) (rs : List Row) (to : ℕ) → Along from rs to → Along from (strips k bare rs) to
 strips-Along k bare from [] to h = h

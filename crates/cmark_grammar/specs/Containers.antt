@@ -1,7 +1,7 @@
 -- Container blocks, and the prefixes that their lines have (CommonMark 5).
 use Rattle.std.specs.Prelude.{ℕ, suc, ◌+◌, ◌-◌, ◌*◌, Bool, true, false, ◌==◌, ◌&&◌, ◌||◌, not, nat_lt, nat_le, if◌then◌else◌, List, [], ◌∷◌, length, drop, take_while, fold, Option, Some, None}
 use Rattle.cmark_grammar.specs.Columns.{Column, is_blank, indent, without_indent}
-use Rattle.cmark_grammar.specs.Rows.{Row, without, lazy_row, is_bare, is_blank_line, indent_of, words_of}
+use Rattle.cmark_grammar.specs.Rows.{Row, without, lazy_row, hold, is_bare, is_blank_line, indent_of, words_of}
 use Rattle.cmark_grammar.specs.Leaves.{is_parted, is_thematic_break}
 use Rattle.cmark_grammar.specs.BlockQuoteKind.{BlockQuoteKind}
 use Rattle.cmark_grammar.specs.Alerts.{alert_in}
@@ -146,10 +146,10 @@ width_of (ListDefinition width) r = width
 unfoldable pub enter : Container → Row → Row
 enter k r = without (width_of k r) r
 
--- a footnote definition has four columns in front of its later lines, which may be blank; as such definitions were read before, nothing, and a
--- blank line ends it (this profile's own)
+-- a footnote definition has four columns in front of its later lines, which may be blank; as such definitions were read before, it holds its
+-- later lines, with nothing in front of them, and a blank line ends it (this profile's own)
 abbrev pub keep_footnote : (old : Bool) → Row → Option Row
-keep_footnote true r = if is_blank_line r then None else Some r
+keep_footnote true r = if is_blank_line r then None else Some (hold r)
 keep_footnote false r = if is_blank_line r || nat_le 4 (indent_of r) then Some (without 4 r) else None
 
 abbrev pub keep_as : Container → Row → Option Row

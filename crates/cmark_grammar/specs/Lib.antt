@@ -52,6 +52,7 @@ pub mod Lists
 pub mod Merge
 pub mod Metadata
 pub mod MetadataBlockKind
+pub mod MetadataPlaces
 pub mod OpenBrackets
 pub mod Openings
 pub mod Options

@@ -1,19 +1,21 @@
 -- What is left of a line inside containers.
-use Rattle.std.specs.Prelude.{ℕ, suc, ◌+◌, Bool, true, false, ◌==◌, if◌then◌else◌, List, [], ◌∷◌, length, drop}
+use Rattle.std.specs.Prelude.{ℕ, suc, ◌+◌, Bool, true, false, ◌==◌, ◌&&◌, not, if◌then◌else◌, List, [], ◌∷◌, length, drop}
 use Rattle.cmark_grammar.specs.Lines.{lines, content}
 use Rattle.cmark_grammar.specs.Columns.{Column, expand, indent, without_indent, bytes_of}
 
 -- the columns of a line behind the prefixes of the containers around it, the places of the text where the whole line begins, where its
--- line ending begins and where the next line begins, and whether it lacks a prefix: such a line is lazy (CommonMark 5.1)
+-- line ending begins and where the next line begins; whether it lacks a prefix: such a line is lazy (CommonMark 5.1); and whether a
+-- container that has no prefix keeps it: such a line is held (this profile's own)
 pub record Row : Type 0 where
   pub columns : List Column
   pub at : ℕ
   pub stop : ℕ
   pub past : ℕ
   pub lazy : Bool
+  pub held : Bool
 
 abbrev pub row_at : ℕ → List ℕ → Row
-row_at at line = record { columns = expand 0 at (content line); at = at; stop = at + length (content line); past = at + length line; lazy = false }
+row_at at line = record { columns = expand 0 at (content line); at = at; stop = at + length (content line); past = at + length line; lazy = false; held = false }
 
 -- lines that begin at this place of the text
 abbrev pub rows_from : ℕ → List (List ℕ) → List Row
@@ -30,6 +32,9 @@ without n r = record r { columns = drop n r.columns }
 
 abbrev pub lazy_row : Row → Row
 lazy_row r = record r { lazy = true }
+
+abbrev pub hold : Row → Row
+hold r = record r { held = true }
 
 abbrev pub is_bare : List Column → Bool
 is_bare [] = true
@@ -62,9 +67,9 @@ begin_of r = first_place r.stop r.columns
 abbrev pub start_of : Row → ℕ
 start_of r = first_place r.stop (without_indent r.columns)
 
--- no column was taken from the front of the line, so that it stands in no container
+-- no column was taken from the front of the line, and it is not held, so that it stands in no container
 abbrev pub is_whole_line : Row → Bool
-is_whole_line r = begin_of r == r.at
+is_whole_line r = (begin_of r == r.at) && not r.held
 
 -- where the last of these lines ends
 abbrev pub past_of : Row → List Row → ℕ

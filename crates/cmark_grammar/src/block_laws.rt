@@ -10,6 +10,7 @@ ghost use Rattle.cmark_grammar.specs.BlocksByLine.{blocks_by_line};
 ghost use Rattle.cmark_grammar.specs.BlocksModel.{blocks};
 ghost use Rattle.cmark_grammar.specs.Derivation.{Derives, document};
 ghost use Rattle.cmark_grammar.specs.Event.{Ranged};
+ghost use Rattle.cmark_grammar.specs.MetadataPlaces.{HasMetadataOutside};
 ghost use Rattle.cmark_grammar.specs.Options.{Options};
 ghost use Rattle.cmark_grammar.specs.Places.{Apart};
 ghost use Rattle.cmark_grammar.specs.Ranges.{AllAt, HasSlices, InOrder, count_nodes, count_tables};
@@ -27,6 +28,12 @@ pub fn blocks_are_derived()
 pub fn one_block_structure()
     ensures { (options : Options) (text : List ℕ) (structure : Blocks)
         → Body options Apart (rows text) structure → structure ≡ blocks options text }
+{}
+
+/// Metadata blocks stand outside of all containers (this profile's own).
+pub fn metadata_stands_outside_of_containers()
+    ensures { (options : Options) (text : List ℕ) (structure : Blocks)
+        → Body options Apart (rows text) structure → HasMetadataOutside structure }
 {}
 
 /// The model's document of a text is derived from it: so each text derives a document.

@@ -6,7 +6,7 @@ use Rattle.cmark_grammar.specs.Containers.{Container, keeps, enter, width_of}
 use Rattle.cmark_grammar.specs.Lines.{lines, content}
 use Rattle.cmark_grammar.specs.Rows.{Row, row_at, without}
 use Rattle.cmark_grammar.proofs.BoundaryLaws.{joined, lines-ended, content-cut}
-use Rattle.cmark_grammar.proofs.RowPlaces.{kept-without}
+use Rattle.cmark_grammar.proofs.RowPlaces.{kept-behind}
 use Rattle.cmark_leaves.specs.Told.{AreTold}
 use Rattle.cmark_leaves.proofs.ColumnCuts.{drop-told}
 
@@ -46,10 +46,8 @@ without-told text n r t = drop-told text n r.columns t
 -- behind the prefix of a container that keeps the line, or that begins on it
 pub keeps-told : (text : List ℕ) (k : Container) (bare : Bool) (r s : Row) → keeps k bare r ≡ Some s → AreTold text r.columns → AreTold text s.columns
 keeps-told text k bare r s is t =
-    let w = kept-without k bare r s is in
-    let n : ℕ = w.0 in
-    let q : without n r ≡ s = w.1 in
-    subst (λ x. AreTold text x.columns) q (drop-told text n r.columns t)
+    let w = kept-behind k bare r s is in
+    subst (λ x. AreTold text x.columns) w.1.1 (drop-told text w.0 r.columns t)
 
 pub enter-told : (text : List ℕ) (k : Container) (r : Row) → AreTold text r.columns → AreTold text (enter k r).columns
 unfolding enter

@@ -2,7 +2,7 @@
 use Rattle.std.proofs.Common.{◌≡◌, ℕ, Bool, true, false, ◌&&◌, ◌||◌, List, [], ◌∷◌, Option, Some, None, refl, sym, ap, ◌∙◌, subst}
 use Rattle.std.specs.Prelude.{if◌then◌else◌, option_map, IfSome}
 use Rattle.std.specs.Str.{IsCharBoundary}
-use Rattle.cmark_grammar.specs.Rows.{Row, without, is_blank_line}
+use Rattle.cmark_grammar.specs.Rows.{Row, without, hold, is_blank_line}
 use Rattle.cmark_grammar.specs.BlockQuoteKind.{BlockQuoteKind}
 use Rattle.cmark_grammar.specs.Containers as grammar
 use Rattle.cmark_grammar.specs.Containers.{is_quote, quote_width, keep_as, keeps, enter, strip_as, strip}
@@ -79,17 +79,17 @@ footnote-keeps label size r = refl
 
 pub old-blank : (label : List ℕ) (size : ℕ) (r : Row) → is_blank_line r ≡ true → None ≡ keeps (grammar.Footnote label true size) false r
 unfolding keeps
-old-blank label size r blank = go r.lazy ∙ ap (λ z. if r.lazy || (false && is_blank_line r) then None else (if z then None else Some r)) (sym blank)
+old-blank label size r blank = go r.lazy ∙ ap (λ z. if r.lazy || (false && is_blank_line r) then None else (if z then None else Some (hold r))) (sym blank)
   where
-    go : (z : Bool) → None ≡ (if z || (false && is_blank_line r) then None else (if true then None else Some r))
+    go : (z : Bool) → None ≡ (if z || (false && is_blank_line r) then None else (if true then None else Some (hold r)))
     go true = refl
     go false = refl
 
-pub old-keeps : (label : List ℕ) (size : ℕ) (r : Row) → r.lazy ≡ false → is_blank_line r ≡ false → Some r ≡ keeps (grammar.Footnote label true size) false r
+pub old-keeps : (label : List ℕ) (size : ℕ) (r : Row) → r.lazy ≡ false → is_blank_line r ≡ false → Some (hold r) ≡ keeps (grammar.Footnote label true size) false r
 unfolding keeps
 old-keeps label size r whole blank =
-    ap (λ z. if false || (false && is_blank_line r) then None else (if z then None else Some r)) (sym blank)
-    ∙ ap (λ z. if z || (false && is_blank_line r) then None else (if is_blank_line r then None else Some r)) (sym whole)
+    ap (λ z. if false || (false && is_blank_line r) then None else (if z then None else Some (hold r))) (sym blank)
+    ∙ ap (λ z. if z || (false && is_blank_line r) then None else (if is_blank_line r then None else Some (hold r))) (sym whole)
 
 -- what a container leaves of a line of a text stands in the text
 pub kept-in : (text : List ℕ) (rest : LineRest) (k : grammar.Container) (o : Option LineRest) → option_map row_of o ≡ keeps k false (row_of rest) → IsIn text rest → IfSome o (IsIn text)

@@ -34,9 +34,9 @@ module _ (text : List ℕ) (at k e : ℕ) (is_k : k ≡ length (content (drop at
   pub rows-further : at < length text → rows_from at (lines (drop at text)) ≡ line_of at (at + k + e) (drop at text) ∷ rows_from (at + k + e) (lines (drop (at + k + e) text))
   rows-further lt =
       rows-first text at k e lt (is_k ∙ length-prefix_len is_content (drop at text)) is_e
-      ∙ ap (λ cs. record { columns = expand 0 at cs; at = at; stop = at + k; past = at + k + e; lazy = false } ∷ rows_from (at + k + e) (lines (drop (at + k + e) text)))
+      ∙ ap (λ cs. record { columns = expand 0 at cs; at = at; stop = at + k; past = at + k + e; lazy = false; held = false } ∷ rows_from (at + k + e) (lines (drop (at + k + e) text)))
       (ap (λ n. take n (drop at text)) (is_k ∙ length-prefix_len is_content (drop at text)))
-      ∙ ap (λ n. record { columns = expand 0 at (content (drop at text)); at = at; stop = at + n; past = at + k + e; lazy = false } ∷ rows_from (at + k + e) (lines (drop (at + k + e) text))) is_k
+      ∙ ap (λ n. record { columns = expand 0 at (content (drop at text)); at = at; stop = at + n; past = at + k + e; lazy = false; held = false } ∷ rows_from (at + k + e) (lines (drop (at + k + e) text))) is_k
 
   at_end : at ≡ length text → drop at text ≡ []
   at_end e = drop_of_length-le text (omega (arith, e))
@@ -45,8 +45,8 @@ module _ (text : List ℕ) (at k e : ℕ) (is_k : k ≡ length (content (drop at
   row-none end =
       let q : k ≡ 0 = is_k ∙ ap (λ bs. length (content bs)) (at_end end) in
       let z : e ≡ 0 = is_e ∙ ap (λ n. ending_len (drop n (drop at text))) q ∙ ap ending_len (at_end end) in
-      ap (λ bs. line_of at (at + k + e) bs) (at_end end) ∙ ap (λ n. record { columns = []; at = at; stop = n; past = at + k + e; lazy = false }) (let s : at + 0 ≡ at = omega arith in s)
-      ∙ ap (λ n. record { columns = []; at = at; stop = at; past = n; lazy = false }) (let s : at + k + e ≡ at = omega (arith, q, z) in s)
+      ap (λ bs. line_of at (at + k + e) bs) (at_end end) ∙ ap (λ n. record { columns = []; at = at; stop = n; past = at + k + e; lazy = false; held = false }) (let s : at + 0 ≡ at = omega arith in s)
+      ∙ ap (λ n. record { columns = []; at = at; stop = at; past = n; lazy = false; held = false }) (let s : at + k + e ≡ at = omega (arith, q, z) in s)
 
   pub row-line : at ≤ length text → (line : List ℕ) (more : List (List ℕ)) → lines (drop at text) ≡ line ∷ more → line_of at (at + k + e) (drop at text) ≡ row_at at line
   row-line le line more is = go (drop at text) refl

@@ -11,7 +11,7 @@ row_of rest = row_from rest.start rest.past rest.front
 
 -- the line of no byte, and without an ending, at this place
 abbrev pub no_row : ℕ → Row
-no_row at = record { columns = []; at = at; stop = at; past = at; lazy = false }
+no_row at = record { columns = []; at = at; stop = at; past = at; lazy = false; held = false }
 
 -- the columns of a line stand in order up to its ending, and no character of this text is cut where the line begins, at an
 -- ASCII byte of it, at its ending, or where the next line begins

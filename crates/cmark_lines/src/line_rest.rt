@@ -73,12 +73,12 @@ impl<'a> LineRest<'a> {
         self.start + self.front.bytes_scanned()
     }
 
-    /// Whether nothing was taken of the line, so that it stands in no container.
+    /// Whether nothing was taken of the line, and no container without a prefix keeps it, so that it stands in no container.
     #[inline]
     pub fn is_whole(&self) -> bool
         ensures { result ≡ is_whole_line (row_of self.now) }
     {
-        self.begin() == self.start
+        self.begin() == self.start && !self.front.is_held()
     }
 
     /// The place behind the spaces and tabs in front: that of the words.

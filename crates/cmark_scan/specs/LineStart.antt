@@ -16,11 +16,11 @@ columns_from at line = drop (columns_taken line) (expand 0 at line.bytes.now)
 
 -- the row that is left, where the line begins at this place of a text and the next one at that one
 abbrev pub row_from : (at past : ℕ) → LineStart → Row
-row_from at past line = record { columns = columns_from at line; at = at; stop = at + length line.bytes.now; past = past; lazy = false }
+row_from at past line = record { columns = columns_from at line; at = at; stop = at + length line.bytes.now; past = past; lazy = false; held = line.held }
 
 -- the whole line that these bytes begin with, at this place of a text
 abbrev pub line_of : (at past : ℕ) → List ℕ → Row
-line_of at past bytes = record { columns = expand 0 at (content bytes); at = at; stop = at + length (content bytes); past = past; lazy = false }
+line_of at past bytes = record { columns = expand 0 at (content bytes); at = at; stop = at + length (content bytes); past = past; lazy = false; held = false }
 
 -- how many columns in front are left of a tab of which a part was taken
 abbrev pub cut_columns : List Column → ℕ

@@ -24,6 +24,8 @@ pub struct LineStart<'a> {
     pending: usize,
     /// The place of a byte that is no blank, or the line's length: where the last search for a thematic break stopped.
     break_stop: usize,
+    /// Whether a container that has no prefix keeps the line (this profile's own).
+    held: bool,
     ghost plain: { content bytes.now ≡ bytes.now },
     ghost inside: { taken ≤ length bytes.now },
     ghost behind: { behind_tab ≤ taken },
@@ -37,7 +39,7 @@ impl<'a> LineStart<'a> {
     ghost use Rattle.cmark_grammar.specs.Columns.{indent, tab, bytes_of};
     ghost use Rattle.cmark_grammar.specs.Containers.{begins_with};
     ghost use Rattle.cmark_grammar.specs.Footnotes.{columns_over};
-    ghost use Rattle.cmark_grammar.specs.Rows.{without, indent_of, words_of, is_bare, begin_of};
+    ghost use Rattle.cmark_grammar.specs.Rows.{without, hold, indent_of, words_of, is_bare, begin_of};
     ghost use Rattle.cmark_grammar.specs.Leaves.{all_pass, is_parted, is_break_of, is_thematic_break};
     ghost use Rattle.cmark_scan.specs.LineMarkers.{is_flush};
     ghost use Rattle.cmark_scan.specs.LeafLines.{is_break_mark};
@@ -55,6 +57,7 @@ impl<'a> LineStart<'a> {
             behind_tab: 0,
             pending: 0,
             break_stop: len,
+            held: false,
         }
     }
 
@@ -145,6 +148,7 @@ impl<'a> LineStart<'a> {
         requires whole { self.old.pending ≡ 0 }
         requires within { self.old.taken < length self.old.bytes.now }
         ensures line { self.new.bytes ≡ self.old.bytes }
+        ensures held { self.new.held ≡ self.old.held }
         ensures whole { self.new.pending ≡ 0 }
         ensures taken { self.new.taken ≡ self.old.taken + 1 }
     {
@@ -192,6 +196,7 @@ impl<'a> LineStart<'a> {
     fn take_blank(&mut self) -> usize
         requires { self.old.pending ≡ 0 }
         ensures line { self.new.bytes ≡ self.old.bytes }
+        ensures held { self.new.held ≡ self.old.held }
         ensures whole { self.new.pending ≡ 0 }
         ensures small { result ≤ 4 }
         ensures one { 0 < result → self.new.taken ≡ self.old.taken + 1 }
@@ -253,6 +258,22 @@ impl<'a> LineStart<'a> {
     {
         self.pending = 0;
         while self.take_blank() > 0 {}
+    }
+
+    /// Notes that a container which has no prefix keeps the line (this profile's own). Nothing is taken.
+    #[inline]
+    pub fn hold(&mut self)
+        ensures { (at past : ℕ) → row_from at past self.new ≡ hold (row_from at past self.old) }
+    {
+        self.held = true;
+    }
+
+    /// Whether a container which has no prefix keeps the line (this profile's own).
+    #[inline]
+    pub fn is_held(&self) -> bool
+        ensures { (at past : ℕ) → result ≡ (row_from at past self.now).held }
+    {
+        self.held
     }
 
     /// How many columns are left of a tab of which a part was taken, 0 to 3.

@@ -71,7 +71,7 @@ impl<'a> LineRest<'a> {
     }
 
     /// The line behind a footnote definition's prefix, if it keeps the line: behind four columns of spaces and tabs, or behind fewer
-    /// if nothing follows them; as such definitions were read before, the line itself, if it is not blank (this profile's own).
+    /// if nothing follows them; as such definitions were read before, the line as it is, which they hold, if it is not blank (this profile's own).
     #[inline]
     pub(crate) fn behind_footnote(self, old: bool) -> Option<LineRest<'a>>
         ensures { (label : List ℕ) (size : ℕ) → option_map row_of result ≡ keeps (Footnote label old size) false (row_of self.entry) }
@@ -79,7 +79,12 @@ impl<'a> LineRest<'a> {
         if !old {
             return self.behind_width(4);
         }
-        if self.is_blank() { None } else { Some(self) }
+        if self.is_blank() {
+            return None;
+        }
+        let mut front = self.front;
+        front.hold();
+        Some(self.with_front(front))
     }
 
     /// How many bytes the label has of the footnote definition that the line begins, indented by at most three columns, and the line behind the

@@ -1,4 +1,4 @@
-use Rattle.std.proofs.Common.{refl, [], false, ap, ◌∙◌, sym, None}
+use Rattle.std.proofs.Common.{refl, [], false, ap, ◌∙◌, sym, Some, None}
 use Rattle.cmark_grammar.specs.Rows.{is_bare}
 use Rattle.cmark_grammar.specs.Containers.{keeps, Footnote}
 use Rattle.cmark_scan.specs.LineStart.{row_from}
@@ -16,8 +16,9 @@ returns-then-is_at_eol c at past =
     old-blank [] 0 row (sym (c.is_at_eol.ensures at ∙ ap (λ r. is_bare r.columns) (c.scan_all_space.ensures at past)) ∙ c.if-is_at_eol.true)
     ∙ ap (λ o. keeps (Footnote [] o 0) false row) (sym c.if-not-old.false)
 
-pub returns-else-is_at_eol : goal.returns-else-is_at_eol
-returns-else-is_at_eol c at past =
+pub returns : goal.returns
+returns c at past =
     let row = row_from at past c.args.line in
-    old-keeps [] 0 row refl (sym (c.is_at_eol.ensures at ∙ ap (λ r. is_bare r.columns) (c.scan_all_space.ensures at past)) ∙ c.if-is_at_eol.false)
+    ap Some (c.hold.ensures at past)
+    ∙ old-keeps [] 0 row refl (sym (c.is_at_eol.ensures at ∙ ap (λ r. is_bare r.columns) (c.scan_all_space.ensures at past)) ∙ c.if-is_at_eol.false)
     ∙ ap (λ o. keeps (Footnote [] o 0) false row) (sym c.if-not-old.false)

@@ -17,7 +17,7 @@ feed_rest-requires-clause-line g c = record {
   told =
       let text = c.args.self.now.text.now in
       let behind = c.kept_by-kept.ensures.behind in
-      subst (λ (r : Row). AreTold text r.columns) behind.1 (without-told text behind.0 (row_of c.args.line) c.requires.line.told);
+      subst (λ (r : Row). AreTold text r.columns) behind.1.1 (without-told text behind.0 (row_of c.args.line) c.requires.line.told);
 }
 
 pub returns-then-is_empty-clause-runs : goal.returns-then-is_empty-clause-runs
@@ -39,7 +39,7 @@ returns-clause-runs g c text options lookup m runs =
     let rest = c.kept_by-kept.result.1 in
     let p : model.Pass = record m { bare = false } in
     let fed = c.in_ok-feed_rest.ensures.runs text options lookup p (runs-bare replacement text options lookup m c.args.self.now false runs) in
-    let there = subst (λ (past : ℕ). Runs replacement text options lookup (line_with text options lookup (drop kept m.outer) (take kept m.outer) (row_of rest) (lines_at text past) p) c.feed_rest.new.self) (ap (λ (r : Row). r.past) (sym c.kept_by-kept.ensures.behind.1)) fed in
+    let there = subst (λ (past : ℕ). Runs replacement text options lookup (line_with text options lookup (drop kept m.outer) (take kept m.outer) (row_of rest) (lines_at text past) p) c.feed_rest.new.self) (ap (λ (r : Row). r.past) (sym c.kept_by-kept.ensures.behind.1.1)) fed in
     let whole = subst (λ (w : Kept text options lookup). Runs replacement text options lookup (line_with text options lookup w.missed w.kept w.left (lines_at text row.past) p) c.feed_rest.new.self)
     (sym (c.kept_by-kept.ensures.kept text options lookup m runs)) there in
     runs-past replacement text options lookup _ c.feed_rest.new.self _ row.past whole c.past-self-2.ensures.place

@@ -10,7 +10,7 @@ pub loop-at-init : goal.loop-at-init
 loop-at-init g c = record {
   seen = λ text options lookup m more runs. inside-start text options lookup _ (row_of c.args.line) more;
   placed = λ text is. is;
-  behind = (0, refl);
+  behind = (0, ((row_of c.args.line).held, refl));
   within = omega arith;
 }
 
@@ -42,6 +42,6 @@ loop-at-preserved g c =
 
 pub returns-clause-seen : goal.returns-clause-seen
 returns-clause-seen g c text options lookup m more runs = (
-  ap (λ r. r.past) (sym c.loop-at.invariant.behind.1),
+  ap (λ r. r.past) (sym c.loop-at.invariant.behind.1.1),
   first-all text options lookup m.outer c.args.count c.loop-at.at (row_of c.args.line) more c.loop-at.rest c.loop-at-test.false (c.loop-at.invariant.seen text options lookup m more runs),
 )

@@ -7,6 +7,9 @@ use Rattle.cmark_lines.specs.Starts.{Shows}
 use Rattle.cmark_blocks.proofs.KeptSteps.{keeps-on, keeps-not, keeps-all, behind-more}
 use Rattle.cmark_blocks.proofs.state.Pass.kept_by.Goals as goal
 
+pub loop-kept-init : goal.loop-kept-init
+loop-kept-init g c = (λ text options lookup m runs. refl, omega arith, λ text is. is, (0, ((row_of c.args.line).held, refl)))
+
 pub returns-in_default-clause-kept : goal.returns-in_default-clause-kept
 returns-in_default-clause-kept g c text options lookup m runs =
     let k = c.loop-kept.kept in

@@ -34,4 +34,4 @@ returns-clause-told g c = go c.inside_first.result c.inside_first.ensures.behind
 
     go : (o : Option LineRest) → IfSome o (IsBehind c.new-line.result) → IfSome o (λ rest. AreTold c.args.self.now.text.now (row_of rest).columns)
     go None behind = tt
-    go (Some rest) behind = subst (λ r. AreTold c.args.self.now.text.now r.columns) behind.1 (without-told c.args.self.now.text.now behind.0 (row_of c.new-line.result) told)
+    go (Some rest) behind = subst (λ r. AreTold c.args.self.now.text.now r.columns) behind.1.1 (without-told c.args.self.now.text.now behind.0 (row_of c.new-line.result) told)

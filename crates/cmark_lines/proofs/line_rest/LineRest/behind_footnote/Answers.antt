@@ -1,4 +1,4 @@
-use Rattle.std.proofs.Common.{false, ap, ◌∙◌, sym, None}
+use Rattle.std.proofs.Common.{false, ap, ◌∙◌, sym, Some, None}
 use Rattle.cmark_grammar.specs.Containers.{keeps, Footnote}
 use Rattle.cmark_lines.specs.Rests.{row_of}
 use Rattle.cmark_lines.proofs.RestSteps.{whole}
@@ -15,7 +15,14 @@ returns-then-is_blank c label size =
     old-blank label size (row_of c.args.self) (sym c.is_blank.ensures ∙ c.if-is_blank.true)
     ∙ ap (λ o. keeps (Footnote label o size) false (row_of c.args.self)) (sym c.if-not-old.false)
 
-pub returns-else-is_blank : goal.returns-else-is_blank
-returns-else-is_blank c label size =
-    old-keeps label size (row_of c.args.self) (whole c.args.self) (sym c.is_blank.ensures ∙ c.if-is_blank.false)
-    ∙ ap (λ o. keeps (Footnote label o size) false (row_of c.args.self)) (sym c.if-not-old.false)
+pub with_front-requires : goal.with_front-requires
+unfolding row_of
+with_front-requires c = let rest = c.args.self in ap (λ r. r.stop) (c.hold.ensures rest.start rest.past)
+
+pub returns : goal.returns
+unfolding row_of
+returns c label size =
+    let rest = c.args.self in
+    ap Some (c.with_front.ensures ∙ c.hold.ensures rest.start rest.past)
+    ∙ old-keeps label size (row_of rest) (whole rest) (sym c.is_blank.ensures ∙ c.if-is_blank.false)
+    ∙ ap (λ o. keeps (Footnote label o size) false (row_of rest)) (sym c.if-not-old.false)

@@ -8,7 +8,7 @@ use Rattle.cmark_scan.proofs.line_start.LineStart.new.Goals as goal
 pub returns : goal.returns
 returns c at past =
     let bytes = c.args.bytes.now in
-    ap (λ cs. record { columns = expand 0 at cs; at = at; stop = at + length cs; past = past; lazy = false })
+    ap (λ cs. record { columns = expand 0 at cs; at = at; stop = at + length cs; past = past; lazy = false; held = false })
     (ap (λ n. take n bytes) c.unwrap_or-len.ensures ∙ first_ending bytes c.find_line_end.result c.find_line_end.ensures)
 
 pub invariant_of-result-clause-plain : goal.invariant_of-result-clause-plain

@@ -5,13 +5,14 @@ use Rattle.cmark_scan.proofs.LineStartSteps.{columns-further, same-behind, row-b
 use Rattle.cmark_scan.proofs.line_start.LineStart.scan_all_space.Goals as goal
 
 pub loop-init : goal.loop-init
-loop-init c = record { line = refl; whole = refl; same = λ at. whole-behind at c.args.self.now }
+loop-init c = record { line = refl; held = refl; whole = refl; same = λ at. whole-behind at c.args.self.now }
 
 pub loop-preserved : goal.loop-preserved
 loop-preserved c =
     let inv = c.loop.invariant in
     record {
       line = c.take_blank.ensures.line ∙ inv.line;
+      held = c.take_blank.ensures.held ∙ inv.held;
       whole = c.take_blank.ensures.whole;
       same = λ at. same-behind at c.take_blank.result c.loop.self c.take_blank.new.self c.take_blank.ensures.line c.take_blank.ensures.taken (c.take_blank.ensures.blank at) ∙ inv.same at;
     }
@@ -21,6 +22,6 @@ returns c at past =
     let inv = c.loop.invariant in
     let step = c.take_blank.ensures in
     let none : c.take_blank.result ≡ 0 = let z = c.loop-test.false in omega arith in
-    row-behind at past c.args.self.now c.take_blank.new.self (step.line ∙ inv.line)
+    row-behind at past c.args.self.now c.take_blank.new.self (step.line ∙ inv.line) (step.held ∙ inv.held)
     (same-behind at c.take_blank.result c.loop.self c.take_blank.new.self step.line step.taken (step.blank at) ∙ inv.same at)
     (ap indent (columns-further at c.take_blank.result c.loop.self c.take_blank.new.self step.line step.taken ∙ ap (λ n. drop n (columns_from at c.loop.self)) none) ∙ step.none at none)

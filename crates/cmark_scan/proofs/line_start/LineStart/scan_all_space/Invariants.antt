@@ -6,6 +6,7 @@ use Rattle.cmark_scan.proofs.line_start.LineStart.scan_all_space.Given as goal
 abbrev pub invariant-loop : goal.invariant-loop
 invariant-loop l = record {
   line : l.self.bytes ≡ l.fn.self.bytes;
+  held : l.self.held ≡ l.fn.self.held;
   whole : l.self.pending ≡ 0;
   same : (at : ℕ) → without_indent (columns_from at l.self) ≡ without_indent (columns_from at l.fn.self);
 }

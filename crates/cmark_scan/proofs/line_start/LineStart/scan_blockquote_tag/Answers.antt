@@ -28,7 +28,7 @@ pub returns-clause-rest : goal.returns-clause-rest
 returns-clause-rest c at past =
     let line = c.args.self.now in
     let r = row_from at past line in
-    row-emptied at past line c.take_bytes.new.self c.scan_all_space.new.self c.in_ok-kind.size c.ahead.result.now c.take_bytes.ensures.line c.take_bytes.ensures.taken c.take_bytes.ensures.whole (c.ahead.ensures.rest (let some = c.in_ok-kind.ensures.some in let within = c.in_ok-kind.ensures.within in omega arith))
+    row-emptied at past line c.take_bytes.new.self c.scan_all_space.new.self c.in_ok-kind.size c.ahead.result.now c.take_bytes.ensures.line (ap (λ r. r.held) (c.take_bytes.ensures.rest at past)) c.take_bytes.ensures.taken c.take_bytes.ensures.whole (c.ahead.ensures.rest (let some = c.in_ok-kind.ensures.some in let within = c.in_ok-kind.ensures.within in omega arith))
     c.in_ok-kind.ensures.blank (c.scan_all_space.ensures at past)
     ∙ ap (λ o. if is_some o then record r { columns = [] } else r)
     (c.in_ok-kind.ensures.value ∙ sym (found-is r c.ahead.result.now (c.ahead.ensures.words at past) (c.ahead.ensures.blank at past) alert_of alert-none))

@@ -8,6 +8,7 @@ loop-count-init c =
     let within = pending-within line in
     record {
       line = refl;
+      held = refl;
       taken = omega arith;
       within = omega arith;
       whole = λ lt. omega arith;
@@ -21,6 +22,7 @@ loop-count-preserved c =
     let whole = c.take_blank-width.ensures.whole in
     record {
       line = c.take_blank-width.ensures.line ∙ inv.line;
+      held = c.take_blank-width.ensures.held ∙ inv.held;
       taken = let i = inv.taken in omega arith;
       within = omega arith;
       whole = λ lt. omega arith;

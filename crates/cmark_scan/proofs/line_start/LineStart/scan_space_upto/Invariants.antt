@@ -6,6 +6,7 @@ use Rattle.cmark_scan.proofs.line_start.LineStart.scan_space_upto.Given as goal
 abbrev pub invariant-loop-count : goal.invariant-loop-count
 invariant-loop-count l = record {
   line : l.self.bytes ≡ l.fn.self.bytes;
+  held : l.self.held ≡ l.fn.self.held;
   taken : columns_taken l.self ≡ columns_taken l.fn.self + l.count;
   within : l.count ≤ l.n;
   whole : l.count < l.n → l.self.pending ≡ 0;

@@ -11,5 +11,5 @@ returns-clause-rest c at past =
     let n = c.args.n in
     let inv = c.loop-self.invariant in
     let further : c.loop-self.self.taken ≡ line.taken + n = let w = inv.within in let t = c.loop-self-test.false in omega (arith, w, t) in
-    row-further at past (columns_over n (columns_from at line)) line c.loop-self.self inv.line
+    row-further at past (columns_over n (columns_from at line)) line c.loop-self.self inv.line inv.held
     (marker-taken at n line c.loop-self.self c.requires.whole inv.whole inv.line further c.requires.some c.requires.within c.requires.last)
