@@ -1,6 +1,6 @@
 //! Tables (GFM 4.10). A table is drawn as far as its lines go where it begins; these lines are then passed over.
 
-ghost use Rattle.std.specs.Prelude.{◌≡◌, ◌<◌, ◌≤◌, List, ℕ, Some, false, length, OnOk, IfOk, IfSome};
+ghost use Rattle.std.specs.Prelude.{◌≡◌, ◌<◌, ◌≤◌, List, ℕ, Some, false, length, nat_lt, OnOk, IfOk, IfSome};
 ghost use Rattle.cmark_block_model.specs.Drawing.{Drawing};
 ghost use Rattle.cmark_builder.specs.Drawn.{Draws};
 ghost use Rattle.cmark_grammar.specs.BlockDocument.{Table};
@@ -33,6 +33,15 @@ fn reads_tables(options: Options) -> bool
     ensures { result ≡ (shown_options options).tables }
 {
     options.contains(Options::ENABLE_TABLES)
+}
+
+/// Whether more cells are to be filled in at the line's end, where it is a row of a table with so many columns, than still may be. They
+/// are no more than the columns, so most rows need not be counted for it.
+#[inline]
+fn misses_too_many(row: LineRest<'_>, columns: usize, left: usize) -> bool
+    ensures { result ≡ nat_lt left (count_missing columns (row_of row.entry)) }
+{
+    columns > left && count_missing(row, columns) > left
 }
 
 /// The body of a table with this delimiter row, which is kept in the table of texts.
@@ -115,7 +124,7 @@ impl<'a, E: EntityLookup> Pass<'a, E> {
         ensures further { IfSome result (λ row. (row_of last.entry).past < (row_of row).past) }
     {
         let row = self.line_ahead(last)?;
-        if interrupts(row, false, self.options) || count_missing(row, columns) > left {
+        if interrupts(row, false, self.options) || misses_too_many(row, columns, left) {
             None
         } else {
             Some(row)
@@ -142,8 +151,8 @@ impl<'a, E: EntityLookup> Pass<'a, E> {
         let mut count = 0;
         let mut left = MOST_FILLED;
         while let Some(row) = self.row_ahead(columns, left, last) {
-            left -= count_missing(row, columns);
-            draw_row(&mut self.builder, row, columns)?;
+            let filled = draw_row(&mut self.builder, row, columns)?;
+            left -= filled;
             count += 1;
             last = row;
         }

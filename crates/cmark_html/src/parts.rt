@@ -55,7 +55,10 @@ pub fn append_on_line(out: &mut String, line_start: bool, text: &str) -> Result<
     ensures ok { OnOk result (string_bytes out.new ≡ string_bytes out.old ++ (fresh_line line_start ++ text.now)) }
     ensures err { OnErr result (AppendsFront (string_bytes out.old) (string_bytes out.new) (fresh_line line_start ++ text.now)) }
 {
-    append(out, new_line(line_start))?;
+    if line_start {
+        return append(out, text);
+    }
+    append(out, "\n")?;
     append(out, text)
 }
 

@@ -1,13 +1,13 @@
 //! Tables: the names and alignments of their cells.
 
-ghost use Rattle.std.specs.Prelude.{◌≡◌, ◌++◌, OnOk, OnErr, IfOk, option_map, string_bytes};
+ghost use Rattle.std.specs.Prelude.{◌≡◌, ◌++◌, codes, OnOk, OnErr, IfOk, option_map, string_bytes};
 ghost use Rattle.std.specs.List.{slice_get};
 ghost use Rattle.cmark_grammar.specs.Html.{alignment_style, cell_tag, cell_start, cell_end, no_table, table_after_end};
 ghost use Rattle.cmark_text.specs.Appended.{AppendsFront};
 ghost use Rattle.cmark_text.specs.Shown.{shown_alignment, shown_end};
 ghost use Rattle.cmark_html.specs.Writer.{shown_table};
 
-use crate::parts::{Part, append_parts};
+use crate::parts::append;
 use cmark_text::{Alignment, TagEnd};
 use std::alloc::{AllocError, Global};
 
@@ -46,14 +46,7 @@ impl TableState {
         ensures ok { OnOk result (string_bytes out.new ≡ string_bytes out.old ++ cell_start (shown_table self.now)) }
         ensures err { OnErr result (AppendsFront (string_bytes out.old) (string_bytes out.new) (cell_start (shown_table self.now))) }
     {
-        append_parts(
-            out,
-            &[
-                Part::Raw(cell_tag_text(self.in_head)),
-                Part::Raw(alignment_style_text(self.alignment())),
-                Part::Raw(">"),
-            ],
-        )
+        append(out, cell_start_text(self.in_head, self.alignment()))
     }
 
     /// Moves on behind an end.
@@ -76,22 +69,19 @@ impl TableState {
     }
 }
 
-/// The start of a cell up to its attribute.
-fn cell_tag_text(in_head: bool) -> &'static str
-    ensures { result.now ≡ cell_tag in_head }
+/// The start of a cell with this alignment.
+fn cell_start_text(in_head: bool, alignment: Option<Alignment>) -> &'static str
+    ensures { result.now ≡ cell_tag in_head ++ (alignment_style (option_map shown_alignment alignment) ++ codes ">") }
 {
-    if in_head { "<th" } else { "<td" }
-}
-
-/// The attribute that aligns a cell.
-fn alignment_style_text(alignment: Option<Alignment>) -> &'static str
-    ensures { result.now ≡ alignment_style (option_map shown_alignment alignment) }
-{
-    match alignment {
-        None | Some(Alignment::None) => "",
-        Some(Alignment::Left) => " style=\"text-align: left\"",
-        Some(Alignment::Center) => " style=\"text-align: center\"",
-        Some(Alignment::Right) => " style=\"text-align: right\"",
+    match (in_head, alignment) {
+        (true, None | Some(Alignment::None)) => "<th>",
+        (true, Some(Alignment::Left)) => "<th style=\"text-align: left\">",
+        (true, Some(Alignment::Center)) => "<th style=\"text-align: center\">",
+        (true, Some(Alignment::Right)) => "<th style=\"text-align: right\">",
+        (false, None | Some(Alignment::None)) => "<td>",
+        (false, Some(Alignment::Left)) => "<td style=\"text-align: left\">",
+        (false, Some(Alignment::Center)) => "<td style=\"text-align: center\">",
+        (false, Some(Alignment::Right)) => "<td style=\"text-align: right\">",
     }
 }
 

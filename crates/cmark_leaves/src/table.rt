@@ -5,6 +5,7 @@ ghost use Rattle.cmark_tree.specs.Building.{IsPlaced};
 ghost use Rattle.cmark_items.specs.Tables.{tables, defined};
 ghost use Rattle.cmark_grammar.specs.BlockDocument.{TableHead, TableRow, TableCell, Node, Nil, node};
 ghost use Rattle.cmark_grammar.specs.Rows.{start_of};
+ghost use Rattle.cmark_grammar.specs.TableRows.{count_missing};
 ghost use Rattle.cmark_grammar.specs.TableTokens.{cell_tokens, cells_then, row_cells};
 ghost use Rattle.cmark_block_model.specs.Drawing.{Drawing, drawn};
 ghost use Rattle.cmark_builder.specs.Drawn.{Draws};
@@ -38,54 +39,61 @@ fn draw_cell(builder: &mut Builder<'_>, at: usize, cell: &[u8]) -> Result<(), Al
 }
 
 /// The next cell of a row of which these bytes are left, up to the byte offset `stop` of the text: as a node behind the last sibling.
-/// Where no cell is left an empty one is filled in at the row's end, `past`. Answers what is left behind it.
+/// Where no cell is left an empty one is filled in at the row's end, `past`. Answers what is left behind it, and how many were filled in.
 fn draw_next_cell<'a>(
     builder: &mut Builder<'_>,
     cells: &'a [u8],
     stop: usize,
     past: usize,
-) -> Result<&'a [u8], AllocError>
+) -> Result<(&'a [u8], usize), AllocError>
     requires placed { IsPlaced builder.old.tree }
     requires within { length cells.now ≤ stop }
     ensures placed { IsPlaced builder.new.tree }
-    ensures within { IfOk result (λ behind. length behind.now ≤ stop) }
-    ensures drawn { IfOk result (λ behind. (text : List ℕ) (left : ℕ) (d : Drawing) → Draws text builder.old d → (e : Drawing) × Draws text builder.new e
-        × (drawn (cells_then text (suc left) (stop - length cells.now) past (cells_behind cells.now)) d ≡ drawn (cells_then text left (stop - length behind.now) past (cells_behind behind.now)) e)) }
+    ensures within { IfOk result (λ next. length next.0.now ≤ stop) }
+    ensures drawn { IfOk result (λ next. (text : List ℕ) (left : ℕ) (d : Drawing) → Draws text builder.old d → (e : Drawing) × Draws text builder.new e
+        × (drawn (cells_then text (suc left) (stop - length cells.now) past (cells_behind cells.now)) d ≡ drawn (cells_then text left (stop - length next.0.now) past (cells_behind next.0.now)) e)) }
+    ensures filled { IfOk result (λ next. (left : ℕ) → next.1 + (left - length (cells_behind next.0.now)) ≡ suc left - length (cells_behind cells.now)) }
+    ensures few { IfOk result (λ next. next.1 ≤ 1) }
     ensures definitions { defined (tables builder.new.allocations) ≡ defined (tables builder.old.allocations) }
 {
     match next_cell(cells) {
         Some((size, behind)) => {
             draw_cell(builder, stop - cells.len(), &cells[..size])?;
-            Ok(behind)
+            Ok((behind, 0))
         }
         None => {
             builder.add(past, past, ItemBody::TableCell)?;
-            Ok(cells)
+            Ok((cells, 1))
         }
     }
 }
 
-/// So many cells of a line, as nodes behind the last sibling: further ones are left out, missing ones filled in.
+/// So many cells of a line, as nodes behind the last sibling: further ones are left out, missing ones filled in. Answers how many were
+/// filled in.
 fn draw_cells(
     builder: &mut Builder<'_>,
     rest: LineRest<'_>,
     columns: usize,
-) -> Result<(), AllocError>
+) -> Result<usize, AllocError>
     requires { IsPlaced builder.old.tree }
     ensures placed { IsPlaced builder.new.tree }
     ensures drawn { OnOk result ((text : List ℕ) (d : Drawing) → Draws text builder.old d
         → Draws text builder.new (drawn (row_cells text columns (row_of rest.entry)) d)) }
+    ensures filled { IfOk result (λ filled. filled ≡ count_missing columns (row_of rest.entry)) }
     ensures definitions { defined (tables builder.new.allocations) ≡ defined (tables builder.old.allocations) }
 {
     let stop = rest.stop();
     let past = rest.past();
     let mut cells = cells_in_row(rest.words());
     let mut left = columns;
+    let mut filled = 0;
     while left > 0 {
-        cells = draw_next_cell(builder, cells, stop, past)?;
+        let (behind, more) = draw_next_cell(builder, cells, stop, past)?;
+        cells = behind;
+        filled += more;
         left -= 1;
     }
-    Ok(())
+    Ok(filled)
 }
 
 /// The head of a table with so many columns, as a node behind the last sibling.
@@ -106,20 +114,21 @@ pub fn draw_head(
     Ok(())
 }
 
-/// A row of a table with so many columns, as a node behind the last sibling.
+/// A row of a table with so many columns, as a node behind the last sibling. Answers how many cells were filled in at its end.
 pub fn draw_row(
     builder: &mut Builder<'_>,
     rest: LineRest<'_>,
     columns: usize,
-) -> Result<(), AllocError>
+) -> Result<usize, AllocError>
     requires { IsPlaced builder.old.tree }
     ensures placed { IsPlaced builder.new.tree }
     ensures drawn { OnOk result ((text : List ℕ) (d : Drawing) → Draws text builder.old d
         → Draws text builder.new (drawn (Node (node TableRow (start_of (row_of rest.entry)) (row_of rest.entry).past) (row_cells text columns (row_of rest.entry)) Nil) d)) }
+    ensures filled { IfOk result (λ filled. filled ≡ count_missing columns (row_of rest.entry)) }
     ensures definitions { defined (tables builder.new.allocations) ≡ defined (tables builder.old.allocations) }
 {
     builder.open(rest.words_begin(), ItemBody::TableRow)?;
-    draw_cells(builder, rest, columns)?;
+    let filled = draw_cells(builder, rest, columns)?;
     builder.close(rest.past());
-    Ok(())
+    Ok(filled)
 }

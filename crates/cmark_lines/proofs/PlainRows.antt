@@ -1,5 +1,5 @@
--- What the first byte of a line's words tells: a letter begins nothing but a paragraph's text, and what is neither a bullet, a digit
--- nor `>` begins no container.
+-- What the first byte of a line's words tells: a letter begins nothing but a paragraph's text, a pipe nothing but that and a table, and what is
+-- neither a bullet, a digit nor `>` begins no container.
 use Rattle.std.proofs.Common.{◌≡◌, ℕ, Bool, true, false, ◌==◌, ◌&&◌, ◌||◌, List, [], ◌∷◌, length, drop, take_while, Option, Some, None, refl, sym, ap, ◌∙◌, arith, cond, true≢false}
 use Rattle.std.specs.Prelude.{if◌then◌else◌, nat_lt, nat_le, count_by}
 use Rattle.std.proofs.lemmas.List.Sums.{take_while-cons}
@@ -16,32 +16,53 @@ use Rattle.cmark_grammar.specs.Footnotes.{Footnotes, footnotes_in, do_interrupt,
 use Rattle.cmark_grammar.specs.Openings.{footnote_interrupts, item_interrupts, is_some_fence, html_interrupts, interrupts, table_if, leaf_of}
 use Rattle.cmark_grammar.specs.TableRows.{begins_with_pipe, is_some_head, table_head, table_interrupts}
 use Rattle.cmark_scan.specs.LeafLines.{atx_level}
-use Rattle.cmark_lines.specs.Starts.{begun_marked, begins_marker}
+use Rattle.cmark_lines.specs.Starts.{begun_marked, begins_marker, is_letter_or_pipe}
 use Rattle.cmark_lines.proofs.OpeningRows.{leaf-plain, no-bracket}
 
--- a letter is no other byte
-apart : (b k : ℕ) → is_letter b ≡ true → is_letter k ≡ false → (b == k) ≡ false
+-- a letter or a pipe is no other byte
+apart : (b k : ℕ) → is_letter_or_pipe b ≡ true → is_letter_or_pipe k ≡ false → (b == k) ≡ false
 apart b k l n = go (b == k) refl
   where
     same : (b k : ℕ) → (b == k) ≡ true → b ≡ k
     same b k e = grind (arith)
 
     go : (z : Bool) → (b == k) ≡ z → z ≡ false
-    go true e = absurd (true≢false (sym l ∙ ap is_letter (same b k e) ∙ n))
+    go true e = absurd (true≢false (sym l ∙ ap is_letter_or_pipe (same b k e) ∙ n))
     go false e = refl
+
+-- and a letter no pipe
+no-pipe : (b : ℕ) → is_letter b ≡ true → (b == 124) ≡ false
+no-pipe b l = go (b == 124) refl
+  where
+    same : (b : ℕ) → (b == 124) ≡ true → b ≡ 124
+    same b e = grind (arith)
+
+    go : (z : Bool) → (b == 124) ≡ z → z ≡ false
+    go true e = absurd (true≢false (sym l ∙ ap is_letter (same b e)))
+    go false e = refl
+
+letter-or : (b : ℕ) → is_letter b ≡ true → is_letter_or_pipe b ≡ true
+letter-or b l = ap (λ z. z || (b == 124)) l
+
+first-or : (bs : List ℕ) → first_is is_letter bs ≡ true → first_is is_letter_or_pipe bs ≡ true
+first-or [] e = e
+first-or (b ∷ bs) e = letter-or b e
 
 and-false : (z : Bool) → (z && false) ≡ false
 and-false true = refl
 and-false false = refl
 
-digit-none : (b : ℕ) → is_letter b ≡ true → is_digit b ≡ false
+digit-none : (b : ℕ) → is_letter_or_pipe b ≡ true → is_digit b ≡ false
 digit-none b l = go (is_digit b) refl
   where
-    no : (b : ℕ) → is_digit b ≡ true → is_letter b ≡ false
-    no b d = grind (arith)
+    no-letter : (b : ℕ) → is_digit b ≡ true → is_letter b ≡ false
+    no-letter b d = grind (arith)
+
+    no-bar : (b : ℕ) → is_digit b ≡ true → (b == 124) ≡ false
+    no-bar b d = grind (arith)
 
     go : (z : Bool) → is_digit b ≡ z → z ≡ false
-    go true e = absurd (true≢false (sym l ∙ no b e))
+    go true e = absurd (true≢false (sym l ∙ ap (λ z. z || (b == 124)) (no-letter b e) ∙ no-bar b e))
     go false e = refl
 
 -- a marker begins with a bullet or a digit
@@ -74,12 +95,12 @@ no-container options r e =
     go true = refl
     go false = refl
 
-module _ (b : ℕ) (bs : List ℕ) (letter : is_letter b ≡ true) where
-  run-none : (k : ℕ) → is_letter k ≡ false → run k (b ∷ bs) ≡ 0
+module _ (b : ℕ) (bs : List ℕ) (letter : is_letter_or_pipe b ≡ true) where
+  run-none : (k : ℕ) → is_letter_or_pipe k ≡ false → run k (b ∷ bs) ≡ 0
   run-none k n =
       ap length (take_while-cons (λ c. c == k) b bs) ∙ ap (λ z. length (cond z (b ∷ take_while (λ c. c == k) bs) [])) (apart b k letter n)
 
-  break-none : (k : ℕ) → is_letter k ≡ false → is_break_of k (b ∷ bs) ≡ false
+  break-none : (k : ℕ) → is_letter_or_pipe k ≡ false → is_break_of k (b ∷ bs) ≡ false
   break-none k n =
       ap (λ z. nat_le 3 (count_by (λ c. c == k) (b ∷ bs)) && ((z || is_blank_byte b) && all_pass (λ c. (c == k) || is_blank_byte c) bs)) (apart b k letter n)
       ∙ ap (λ z. nat_le 3 (count_by (λ c. c == k) (b ∷ bs)) && ((z || (b == 9)) && all_pass (λ c. (c == k) || is_blank_byte c) bs)) (apart b 32 letter refl)
@@ -117,20 +138,25 @@ first-letter : (bs : List ℕ) → first_is is_letter bs ≡ true → (b : ℕ) 
 first-letter [] e = absurd (true≢false (sym e))
 first-letter (b ∷ bs) e = (b, (bs, refl, e))
 
-letter-no_footnote : (footnotes : Footnotes) (r : Row) (b : ℕ) (bs : List ℕ) → words_of r ≡ b ∷ bs → is_letter b ≡ true → footnote_interrupts footnotes r ≡ false
+first-plain : (bs : List ℕ) → first_is is_letter_or_pipe bs ≡ true → (b : ℕ) × ((rest : List ℕ) × (bs ≡ b ∷ rest) × (is_letter_or_pipe b ≡ true))
+first-plain [] e = absurd (true≢false (sym e))
+first-plain (b ∷ bs) e = (b, (bs, refl, e))
+
+letter-no_footnote : (footnotes : Footnotes) (r : Row) (b : ℕ) (bs : List ℕ) → words_of r ≡ b ∷ bs → is_letter_or_pipe b ≡ true → footnote_interrupts footnotes r ≡ false
 letter-no_footnote footnotes r b bs is letter =
     ap (λ ws. do_interrupt footnotes && (nat_le (indent_of r) 3 && is_label_found (footnote_in ws))) is
     ∙ ap (λ z. do_interrupt footnotes && (nat_le (indent_of r) 3 && is_label_found (if z then behind_caret bs else None))) (apart b 91 letter refl)
     ∙ ap (λ z. do_interrupt footnotes && z) (and-false (nat_le (indent_of r) 3))
     ∙ and-false (do_interrupt footnotes)
 
-pub letter-interrupts-not : (options : Options) (same : Bool) (r : Row) (ahead : List Row) → first_is is_letter (words_of r) ≡ true → interrupts options same r ahead ≡ false
-letter-interrupts-not options same r ahead e =
-    let first = first-letter (words_of r) e in
+-- a line that begins so interrupts no paragraph
+pub plain-interrupts-not : (options : Options) (same : Bool) (r : Row) (ahead : List Row) → first_is is_letter_or_pipe (words_of r) ≡ true → interrupts options same r ahead ≡ false
+plain-interrupts-not options same r ahead e =
+    let first = first-plain (words_of r) e in
     let b : ℕ = first.0 in
     let bs : List ℕ = first.1.0 in
     let is : words_of r ≡ b ∷ bs = first.1.1 in
-    let letter : is_letter b ≡ true = first.1.2 in
+    let letter : is_letter_or_pipe b ≡ true = first.1.2 in
     ap (λ z. z || (footnote_interrupts (footnotes_in options) r || rest (words_of r))) (no-blank (without_indent r.columns) b bs is)
     ∙ ap (λ z. z || rest (words_of r)) (letter-no_footnote (footnotes_in options) r b bs is letter)
     ∙ ap rest is
@@ -152,6 +178,9 @@ letter-interrupts-not options same r ahead e =
     rest : List ℕ → Bool
     rest ws = nat_le (indent_of r) 3 && ((nat_le (indent_of r) 3 && begins_with 62 ws) || others ws)
 
+pub letter-interrupts-not : (options : Options) (same : Bool) (r : Row) (ahead : List Row) → first_is is_letter (words_of r) ≡ true → interrupts options same r ahead ≡ false
+letter-interrupts-not options same r ahead e = plain-interrupts-not options same r ahead (first-or (words_of r) e)
+
 -- no table begins so in the midst of a paragraph
 pub letter-table-not : (options : Options) (r : Row) (ahead : List Row) → first_is is_letter (words_of r) ≡ true → table_interrupts options r ahead ≡ false
 letter-table-not options r ahead e =
@@ -159,7 +188,7 @@ letter-table-not options r ahead e =
     let b : ℕ = first.0 in
     let bs : List ℕ = first.1.0 in
     ap (λ ws. nat_le (indent_of r) 3 && (begins_with_pipe ws && is_some_head (table_head options r ahead))) first.1.1
-    ∙ ap (λ z. nat_le (indent_of r) 3 && (z && is_some_head (table_head options r ahead))) (apart b 124 first.1.2 refl)
+    ∙ ap (λ z. nat_le (indent_of r) 3 && (z && is_some_head (table_head options r ahead))) (no-pipe b first.1.2)
     ∙ and-false (nat_le (indent_of r) 3)
 
 pub letter-underlines-not : (r : Row) → first_is is_letter (words_of r) ≡ true → underlines r ≡ None
@@ -169,7 +198,7 @@ letter-underlines-not r e =
     let b : ℕ = first.0 in
     let bs : List ℕ = first.1.0 in
     let is : words_of r ≡ b ∷ bs = first.1.1 in
-    let letter : is_letter b ≡ true = first.1.2 in
+    let letter : is_letter_or_pipe b ≡ true = letter-or b first.1.2 in
     let deep : Bool = r.lazy || nat_le 4 (indent_of r) in
     ap (λ ws. if deep then None else underline_of ws) is
     ∙ ap (λ n. if deep then None else if nat_lt 0 n && are_blank (drop n (b ∷ bs)) then Some 1 else if is_run_of 45 (b ∷ bs) then Some 2 else None) (run-none b bs letter 61 refl)
@@ -188,7 +217,7 @@ letter-leaf options r ahead e =
     let b : ℕ = first.0 in
     let bs : List ℕ = first.1.0 in
     let is : words_of r ≡ b ∷ bs = first.1.1 in
-    let letter : is_letter b ≡ true = first.1.2 in
+    let letter : is_letter_or_pipe b ≡ true = letter-or b first.1.2 in
     leaf-plain options r ahead (ap html_kind is ∙ no-html b bs letter) (ap is_thematic_break is ∙ no-break b bs letter)
     (sym (ap atx_level is ∙ ap (λ z. if z then Some (run 35 (b ∷ bs)) else None) (no-heading b bs letter)))
     (sym (ap (fence_of (indent_of r)) is ∙ no-fence b bs letter (indent_of r))) (no-bracket options r ahead (ap (begins_with 91) is ∙ apart b 91 letter refl))

@@ -8,6 +8,7 @@ use Rattle.cmark_scan_parts.specs.Footnotes.{marked, IsClosed}
 use Rattle.cmark_grammar.specs.Alerts.{alert_in}
 use Rattle.cmark_grammar.specs.TaskItems.{task_in}
 use Rattle.cmark_grammar.specs.Options.{Options}
+use Rattle.cmark_grammar.specs.Letters.{is_letter}
 use Rattle.cmark_grammar.specs.Rows.{Row, without, indent_of, words_of}
 use Rattle.cmark_lines.specs.Rests.{row_of}
 use Rattle.cmark_lines.specs.declared.line_rest.LineRest.{LineRest}
@@ -99,6 +100,10 @@ begun_container options r = if nat_le (indent_of r) 3 then container_of options 
 -- a bullet, a digit of an ordered item's number, or `>`
 abbrev pub begins_marker : ℕ → Bool
 begins_marker b = grammar.is_bullet b || (grammar.is_digit b || (b == 62))
+
+-- an ASCII letter, or the pipe in front of a table's row
+abbrev pub is_letter_or_pipe : ℕ → Bool
+is_letter_or_pipe b = is_letter b || (b == 124)
 
 abbrev pub shown_begun : ItemStart × LineRest → grammar.Container
 shown_begun begun = shown_item begun.0

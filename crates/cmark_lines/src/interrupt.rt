@@ -10,7 +10,7 @@ ghost use Rattle.cmark_grammar.specs.Openings.{interrupts, footnote_interrupts, 
 ghost use Rattle.cmark_grammar.specs.HtmlBlocks.{html_kind};
 ghost use Rattle.cmark_text.specs.Shown.{level_number, shown_options};
 ghost use Rattle.cmark_lines.specs.Rests.{row_of};
-ghost use Rattle.cmark_lines.specs.Starts.{begun_item};
+ghost use Rattle.cmark_lines.specs.Starts.{begun_item, is_letter_or_pipe};
 ghost use Rattle.cmark_lines.specs.Opened.{leaf_interrupts};
 
 use crate::footnotes::reads_gfm_footnotes;
@@ -27,7 +27,7 @@ use cmark_text::{HeadingLevel, Options};
 pub fn interrupts(rest: LineRest<'_>, same: bool, options: Options) -> bool
     ensures { (ahead : List Row) → result ≡ interrupts (shown_options options) same (row_of rest.entry) ahead }
 {
-    if rest.begins_with_letter() {
+    if begins_with_letter_or_pipe(rest.words()) {
         return false;
     }
     rest.is_blank()
@@ -51,6 +51,18 @@ pub(crate) fn begins_with_letter(words: &[u8]) -> bool
 {
     match words {
         [first, ..] => first.is_ascii_alphabetic(),
+        [] => false,
+    }
+}
+
+/// Whether the words of a line begin with an ASCII letter or a pipe, as rows of a table do: what begins so interrupts no paragraph but as
+/// a table.
+#[inline]
+fn begins_with_letter_or_pipe(words: &[u8]) -> bool
+    ensures { result ≡ first_is is_letter_or_pipe words.now }
+{
+    match words {
+        [first, ..] => first.is_ascii_alphabetic() || *first == b'|',
         [] => false,
     }
 }

@@ -1,6 +1,8 @@
 -- The cells of a row, one after the other.
 use Rattle.std.proofs.Common.{◌≡◌, ℕ, zero, suc, ◌+◌, ◌<◌, ◌≤◌, Bool, true, false, ◌==◌, ◌&&◌, not, List, [], ◌∷◌, ◌++◌, length, take, drop, get_or, Option, Some, None, option_map, refl, sym, ap, ◌∙◌, subst, arith, append-nil, append_assoc}
-use Rattle.std.specs.Prelude.{if◌then◌else◌, nat_lt}
+use Rattle.std.proofs.lemmas.Bool.{eqb-true, ne_eqb}
+use Rattle.std.proofs.lemmas.List.{get_or-drop, length-drop}
+use Rattle.std.specs.Prelude.{if◌then◌else◌, nat_lt, ◌-◌}
 use Rattle.memchr.specs.Find.{IsFirstByte, is_byte}
 use Rattle.cmark_grammar.specs.Lines.{onto}
 use Rattle.cmark_grammar.specs.Leaves.{are_blank}
@@ -90,6 +92,70 @@ module _ (bytes : List ℕ) (at : ℕ) (escaped : Bool) (so : Passed bytes at es
       take-all (suc n) [] l = refl
       take-all zero (x ∷ xs) l = absurd (omega (arith, l))
       take-all (suc n) (x ∷ xs) l = ap (λ t. x ∷ t) (take-all n xs (omega (arith, l)))
+
+-- whether the byte is escaped that stands so many behind a place, whose own is not
+abbrev pub escaped_behind : (bytes : List ℕ) → (from : ℕ) → ℕ → Bool
+escaped_behind bytes from zero = false
+escaped_behind bytes from (suc n) = get_or bytes (from + n) 0 == 92
+
+pub plain-first : (bytes : List ℕ) (from n : ℕ) → n ≡ 0 → escaped_behind bytes from n ≡ false
+plain-first bytes from n is = ap (escaped_behind bytes from) is
+
+pub plain-behind : (bytes : List ℕ) (from n : ℕ) → (get_or bytes (from + n - 1) 0 ≡ 92 → ⊥) → escaped_behind bytes from n ≡ false
+plain-behind bytes from zero other = refl
+plain-behind bytes from (suc n) other =
+    let z : from + n ≡ from + suc n - 1 = omega arith in
+    ne_eqb (get_or bytes (from + n) 0) 92 (λ e. other (ap (λ m. get_or bytes m 0) (sym z) ∙ e))
+
+pub escaped-there : (bytes : List ℕ) (from n : ℕ) → (n ≡ 0 → ⊥) → get_or bytes (from + n - 1) 0 ≡ 92 → escaped_behind bytes from n ≡ true
+escaped-there bytes from zero some is = absurd (some refl)
+escaped-there bytes from (suc n) some is =
+    let z : from + n ≡ from + suc n - 1 = omega arith in
+    ap (λ b. b == 92) (ap (λ m. get_or bytes m 0) z ∙ is)
+
+and-false : (y z : Bool) → y ≡ false → (y && z) ≡ false
+and-false y z e = ap (λ x. x && z) e
+
+-- a search goes on at a place that is not escaped
+module _ (bytes : List ℕ) (from : ℕ) (so : Passed bytes from false) where
+  -- and passes bytes that are no pipe
+  walked : (n : ℕ) → from + n ≤ length bytes → ((k : ℕ) → k < n → (get_or bytes (from + k) 0 == 124) ≡ false) → Passed bytes (from + n) (escaped_behind bytes from n)
+  walked zero le none = let z : from ≡ from + 0 = omega arith in subst (λ m. Passed bytes m false) z so
+  walked (suc n) le none =
+      passed-more bytes (from + n) (escaped_behind bytes from n) (walked n (omega (arith, le)) (λ k lt. none k (omega (arith, lt)))) (omega (arith, le))
+      (and-false (get_or bytes (from + n) 0 == 124) (not (escaped_behind bytes from n)) (none n (omega arith))) (from + suc n) (omega arith) (get_or bytes (from + n) 0 == 92) refl
+
+  module _ (n : ℕ) (rest : List ℕ) (is : rest ≡ drop from bytes) (first : IsFirstByte (is_byte 124) rest (Some n)) (le : from ≤ length bytes) where
+    at-rest : (k : ℕ) → get_or rest k 0 ≡ get_or bytes (from + k) 0
+    at-rest k = ap (λ l. get_or l k 0) is ∙ get_or-drop from bytes k 0
+
+    pub pipe-within : from + n < length bytes
+    pipe-within = omega (arith, first-within 124 rest n first, ap length is, length-drop from bytes, le)
+
+    to-pipe : Passed bytes (from + n) (escaped_behind bytes from n)
+    to-pipe = walked n (omega (arith, pipe-within)) (λ k lt. ap (λ b. b == 124) (sym (at-rest k)) ∙ none-before 124 rest n first k lt)
+
+    pub is-pipe : (get_or bytes (from + n) 0 == 124) ≡ true
+    is-pipe = ap (λ b. b == 124) (sym (at-rest n)) ∙ first-is 124 rest n first
+
+    -- to a pipe that parts cells
+    pub pipe-found : escaped_behind bytes from n ≡ false → parts false bytes ≡ parts_at bytes (Some (from + n))
+    pipe-found plain = passed-found bytes (from + n) (escaped_behind bytes from n) to-pipe pipe-within (ap (λ b. b && not (escaped_behind bytes from n)) is-pipe ∙ ap not plain)
+
+    -- and past one that parts none
+    pub pipe-passed : escaped_behind bytes from n ≡ true → (now : ℕ) → now ≡ from + n + 1 → Passed bytes now false
+    pipe-passed escaped now at =
+        passed-more bytes (from + n) (escaped_behind bytes from n) to-pipe pipe-within (ap (λ b. b && not (escaped_behind bytes from n)) is-pipe ∙ ap not escaped) now at false (no-backslash (get_or bytes (from + n) 0) is-pipe)
+      where
+        no-backslash : (b : ℕ) → (b == 124) ≡ true → false ≡ (b == 92)
+        no-backslash b e = ap (λ n. n == 92) (sym (eqb-true b 124 e))
+
+  pub none-ahead : (rest : List ℕ) → rest ≡ drop from bytes → IsFirstByte (is_byte 124) rest None → from ≤ length bytes → parts false bytes ≡ parts_at bytes None
+  none-ahead rest is none le =
+      let n = length bytes - from in
+      let all : from + n ≡ length bytes = omega (arith, le) in
+      passed-all bytes (from + n) (escaped_behind bytes from n)
+      (walked n (omega (arith, le)) (λ k lt. ap (λ b. b == 124) (sym (ap (λ l. get_or l k 0) is ∙ get_or-drop from bytes k 0)) ∙ none-at-all 124 rest none k (omega (arith, ap length is, length-drop from bytes, lt)))) (omega (arith, all))
 
 -- there is a part at least
 pub some-parts : (escaped : Bool) (bs : List ℕ) → 0 < length (parts escaped bs)

@@ -7,21 +7,20 @@ ghost use Rattle.cmark_scan.specs.TableCells.{cells_behind, cells_cut, parts_at}
 
 use crate::bytes::are_blank;
 use crate::table::without_first_pipe;
+use cmark_search::find_pipe as next_pipe;
 
 /// How many bytes stand before the first pipe that parts cells: one directly behind a backslash parts none.
 fn find_pipe(bytes: &[u8]) -> Option<usize>
     ensures value { parts false bytes.now ≡ parts_at bytes.now result }
     ensures within { IfSome result (λ at. at < length bytes.now) }
 {
-    let mut at = 0;
-    let mut escaped = false;
-    while at < bytes.len() {
-        let byte = bytes[at];
-        if byte == b'|' && !escaped {
+    let mut from = 0;
+    while let Some(ahead) = next_pipe(&bytes[from..]) {
+        let at = from + ahead;
+        if ahead == 0 || bytes[at - 1] != b'\\' {
             return Some(at);
         }
-        escaped = byte == b'\\';
-        at += 1;
+        from = at + 1;
     }
     None
 }

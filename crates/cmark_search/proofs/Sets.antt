@@ -1,10 +1,10 @@
 -- Sets of ASCII bytes, asked for sixteen lanes at once.
-use Rattle.std.proofs.Common.{◌≡◌, ℕ, zero, suc, ◌+◌, ◌*◌, ◌/◌, ◌%◌, ◌^◌, ◌<◌, ◌≤◌, Bool, true, false, not, ◌==◌, ◌&&◌, nat_lt, if◌then◌else◌, pow_pos, cond, eqb, List, [], ◌∷◌, length, get_or, map, replicate, drop, take, refl, sym, ap, subst, ◌∙◌, arith, w8, bit_and, Fits, inl, inr, Option, Some, None}
+use Rattle.std.proofs.Common.{◌≡◌, ℕ, zero, suc, ◌+◌, ◌*◌, ◌/◌, ◌%◌, ◌^◌, ◌<◌, ◌≤◌, Bool, true, false, not, ◌==◌, ◌&&◌, nat_lt, if◌then◌else◌, pow_pos, cond, eqb, List, [], ◌∷◌, ◌++◌, length, min, get_or, map, replicate, drop, take, length-append, refl, sym, ap, subst, ◌∙◌, arith, w8, bit_and, Fits, inl, inr, Option, Some, None}
 use Rattle.std.specs.Int.{bit_at}
 use Rattle.std.specs.List.{position_or_len}
 use Rattle.std.specs.Simd.Lanes.{zip2, mask_l, top, Each1}
 use Rattle.std.proofs.lemmas.Bool.{agree_below_at, and_parts, both_ways, cases_lt, eqb-true, ltb-true, lt-ltb, ne_eqb}
-use Rattle.std.proofs.lemmas.List.{length-map}
+use Rattle.std.proofs.lemmas.List.{get_or_append_left, length-map}
 use Rattle.std.proofs.lemmas.List.Sums.{fails_before_first, passes_at_first, position_or_len_is}
 use Rattle.std.proofs.lemmas.Nat.{and_mask, and_le_r}
 use Rattle.std.proofs.lemmas.Nat.Bits.{and_pow, bit_at-lt}
@@ -172,6 +172,20 @@ module _ (p : ℕ → Bool) (bs : List ℕ) (at passed : ℕ) (room : at + 16 �
             | inl found ↦ run_in_chunk_stops p bs at 16 passed 0 room is found
             | inr none ↦ absurd (let end = last (omega arith) in omega arith)
           ]
+
+-- the first of the set among bytes, sought in longer ones that begin with these
+pub front-place : (p : ℕ → Bool) (bs more : List ℕ) → min (position_or_len p (bs ++ more)) (length bs) ≡ position_or_len p bs
+front-place p bs more = sym (position_or_len_is p bs at 0 (omega arith) before here)
+  where
+    at : ℕ
+    at = min (position_or_len p (bs ++ more)) (length bs)
+
+    before : (k : ℕ) → k < at → p (get_or bs k 0) ≡ false
+    before k low = ap p (sym (get_or_append_left bs more 0 k (omega arith))) ∙ fails_before_first p (bs ++ more) k 0 (omega arith)
+
+    here : at < length bs → p (get_or bs at 0) ≡ true
+    here below = let is : at ≡ position_or_len p (bs ++ more) = omega arith in
+        ap p (sym (get_or_append_left bs more 0 at below)) ∙ ap (λ n. p (get_or (bs ++ more) n 0)) is ∙ passes_at_first p (bs ++ more) 0 (omega (arith, length-append bs more, is))
 
 -- the number of bytes before the first of the set says where it stands
 pub first-place : (p : ℕ → Bool) (bs : List ℕ) (at : ℕ) → at ≡ position_or_len p bs → at < length bs → IsFirstByte p bs (Some at)

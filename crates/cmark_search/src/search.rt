@@ -12,6 +12,9 @@ use std::simd::prelude::*;
 /// The rows of the set of the backtick alone.
 const BACKTICKS: &[u8; 16] = &[64, 0, 0, 0, 0, 0, 0, 0, 0, 0, 0, 0, 0, 0, 0, 0];
 
+/// The rows of the set of the pipe alone.
+const PIPES: &[u8; 16] = &[0, 0, 0, 0, 0, 0, 0, 0, 0, 0, 0, 0, 128, 0, 0, 0];
+
 /// The rows of the set of line feed and carriage return.
 const LINE_ENDS: &[u8; 16] = &[0, 0, 0, 0, 0, 0, 0, 0, 0, 0, 1, 0, 0, 1, 0, 0];
 
@@ -110,14 +113,6 @@ fn bytes_before(rows: &[u8; 16], bytes: &[u8], at: usize) -> usize
     lanes_before(rows, u8x16::from_slice(&bytes[at..]))
 }
 
-/// Whether the byte is in the set.
-#[inline(always)]
-fn has(rows: &[u8; 16], byte: u8) -> bool
-    ensures { result ≡ in_rows rows.now byte }
-{
-    rows[(byte % 16) as usize] & BITS[(byte / 16) as usize] != 0
-}
-
 /// The first place whose byte is in the set; the length, where there is none. The last step looks at the last sixteen bytes
 /// once more.
 #[inline(always)]
@@ -127,7 +122,7 @@ fn find(rows: &[u8; 16], bytes: &[u8]) -> usize
 {
     let len = bytes.len();
     if len < 16 {
-        return find_by_one(rows, bytes);
+        return find_in_few(rows, bytes);
     }
     let mut at = 0;
     while len - at >= 16 {
@@ -150,18 +145,17 @@ fn find_ascii(rows: &[u8; 16], bytes: &[u8]) -> usize
     find(rows, bytes)
 }
 
-/// The same as `find`, byte by byte.
+/// The same as `find`, of fewer than sixteen bytes: they are looked at in one step, with zeros behind them.
 #[inline(always)]
-fn find_by_one(rows: &[u8; 16], bytes: &[u8]) -> usize
+fn find_in_few(rows: &[u8; 16], bytes: &[u8]) -> usize
+    requires { length bytes.now < 16 }
     ensures value { result ≡ position_or_len (in_rows rows.now) bytes.now }
     ensures within { result ≤ length bytes.now }
 {
-    for at in 0..bytes.len() {
-        if has(rows, bytes[at]) {
-            return at;
-        }
-    }
-    bytes.len()
+    let mut lanes = [0u8; 16];
+    let len = bytes.len();
+    lanes[..len].copy_from_slice(bytes);
+    lanes_before(rows, u8x16::from_slice(&lanes)).min(len)
 }
 
 /// Where the first byte stands that is in the set of these rows: bit `high` of row `low` says whether the byte
@@ -180,6 +174,14 @@ pub fn find_backtick(bytes: &[u8]) -> Option<usize>
     ensures { IsFirstByte (is_byte 96) bytes.now result }
 {
     find_first(BACKTICKS, bytes)
+}
+
+/// Where the first pipe stands.
+#[inline]
+pub fn find_pipe(bytes: &[u8]) -> Option<usize>
+    ensures { IsFirstByte (is_byte 124) bytes.now result }
+{
+    find_first(PIPES, bytes)
 }
 
 /// Where the first line feed or carriage return stands.

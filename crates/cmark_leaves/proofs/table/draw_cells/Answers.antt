@@ -23,6 +23,8 @@ loop-left-init c =
         draws,
         ap (λ cells. drawn cells d) (cells-of-line text c.args.columns row cells stop c.past-past.result (c.cells_in_row-cells.ensures.cells ∙ ap cells_of c.words.ensures) begins.1 c.past-past.ensures.place),
       );
+      filled = omega (arith, ap length (c.cells_in_row-cells.ensures.cells ∙ ap cells_of c.words.ensures));
+      few = omega arith;
       definitions = refl;
     }
 
@@ -34,16 +36,18 @@ loop-left-preserved c =
     let stop = c.stop-stop.result in
     let one : left ≡ suc (left - 1) = omega (arith, c.loop-left-test.true) in
     record {
-      placed = c.in_ok-cells.ensures.placed;
-      within = c.in_ok-cells.ensures.within;
+      placed = c.in_ok-behind.ensures.placed;
+      within = c.in_ok-behind.ensures.within;
       drawn = λ text d draws.
           let so_far = before.drawn text d draws in
-          let next = c.in_ok-cells.ensures.drawn text (left - 1) so_far.0 so_far.1 in (
+          let next = c.in_ok-behind.ensures.drawn text (left - 1) so_far.0 so_far.1 in (
             next.0,
             next.1,
             so_far.2 ∙ ap (λ n. drawn (cells_then text n (stop - length cells) c.past-past.result (cells_behind cells)) so_far.0) one ∙ next.2,
           );
-      definitions = c.in_ok-cells.ensures.definitions ∙ before.definitions;
+      filled = omega (arith, c.in_ok-behind.ensures.filled (left - 1), before.filled, one);
+      few = omega (arith, before.few, c.in_ok-behind.ensures.few, one);
+      definitions = c.in_ok-behind.ensures.definitions ∙ before.definitions;
     }
 
 pub returns-clause-drawn : goal.returns-clause-drawn
@@ -52,3 +56,6 @@ returns-clause-drawn c text d draws =
     let none : c.loop-left.left ≡ 0 = omega (arith, c.loop-left-test.false) in
     subst (Draws text c.loop-left.builder)
     (sym (so_far.2 ∙ ap (λ n. drawn (cells_then text n (c.stop-stop.result - length c.loop-left.cells.now) c.past-past.result (cells_behind c.loop-left.cells.now)) so_far.0) none ∙ drawn-Nil so_far.0)) so_far.1
+
+pub returns-clause-filled : goal.returns-clause-filled
+returns-clause-filled c = omega (arith, c.loop-left.invariant.filled, c.loop-left-test.false)

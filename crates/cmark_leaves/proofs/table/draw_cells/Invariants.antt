@@ -1,6 +1,7 @@
-use Rattle.std.proofs.Common.{◌≡◌, ◌-◌, ◌≤◌, ℕ, List, length}
+use Rattle.std.proofs.Common.{◌≡◌, ◌-◌, ◌+◌, ◌≤◌, ℕ, List, length}
 use Rattle.cmark_tree.specs.Building.{IsPlaced}
 use Rattle.cmark_items.specs.Tables.{tables, defined}
+use Rattle.cmark_grammar.specs.TableRows.{count_missing}
 use Rattle.cmark_grammar.specs.TableTokens.{cells_then, row_cells}
 use Rattle.cmark_scan.specs.TableCells.{cells_behind}
 use Rattle.cmark_block_model.specs.Drawing.{Drawing, drawn}
@@ -14,6 +15,8 @@ invariant-loop-left l = record {
   within : length l.cells ≤ l.stop;
   drawn : (text : List ℕ) (d : Drawing) → Draws text l.fn.builder d → (e : Drawing) × Draws text l.builder e
       × (drawn (row_cells text l.fn.columns (row_of l.fn.rest)) d ≡ drawn (cells_then text l.left (l.stop - length l.cells) l.past (cells_behind l.cells)) e);
+  filled : l.filled + (l.left - length (cells_behind l.cells)) ≡ count_missing l.fn.columns (row_of l.fn.rest);
+  few : l.filled + l.left ≤ l.fn.columns;
   definitions : defined (tables l.builder.allocations) ≡ defined (tables l.fn.builder.allocations);
 }
 

@@ -1,8 +1,12 @@
-use Rattle.std.proofs.Common.{sym, ◌∙◌}
+use Rattle.std.proofs.Common.{sym, ap, ◌∙◌}
 use Rattle.cmark_text.specs.Shown.{shown_options}
+use Rattle.cmark_grammar.specs.Letters.{first_is}
 use Rattle.cmark_lines.specs.Rests.{row_of}
-use Rattle.cmark_lines.proofs.PlainRows.{letter-interrupts-not}
+use Rattle.cmark_lines.specs.Starts.{is_letter_or_pipe}
+use Rattle.cmark_lines.proofs.PlainRows.{plain-interrupts-not}
 use Rattle.cmark_lines.proofs.interrupt.interrupts.Goals as goal
 
-pub returns-then-begins_with_letter : goal.returns-then-begins_with_letter
-returns-then-begins_with_letter c ahead = sym (letter-interrupts-not (shown_options c.args.options) c.args.same (row_of c.args.rest) ahead (sym c.begins_with_letter.ensures ∙ c.if-begins_with_letter.true))
+pub returns-then-begins_with_letter_or_pipe : goal.returns-then-begins_with_letter_or_pipe
+returns-then-begins_with_letter_or_pipe c ahead =
+    sym (plain-interrupts-not (shown_options c.args.options) c.args.same (row_of c.args.rest) ahead
+    (ap (first_is is_letter_or_pipe) (sym c.words.ensures) ∙ sym c.begins_with_letter_or_pipe.ensures ∙ c.if-begins_with_letter_or_pipe.true))
