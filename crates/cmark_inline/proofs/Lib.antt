@@ -4,6 +4,14 @@ pub mod References
 pub mod Quotes
 pub mod SlotViews
 pub mod QuotedSlots
+pub mod Naming
+pub mod Placing
+pub mod Settling
+pub mod Soundness
+pub mod Forming
+pub mod Showing
+pub mod Keeping
+pub mod Opening
 pub mod Marks
 pub mod Merging
 pub mod RunPlaces

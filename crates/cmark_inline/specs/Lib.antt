@@ -9,6 +9,7 @@ pub mod Opens
 pub mod Quoted
 pub mod SlotViews
 pub mod Shorts
+pub mod Sound
 pub mod SpecialReads
 pub mod Stands
 pub mod Tokens

@@ -1,6 +1,6 @@
 //! Delimiter runs and the elements that they become (CommonMark 6.2).
 
-ghost use Rattle.std.specs.Prelude.{◌≡◌, ◌+◌, ◌<◌, ◌≤◌, ◌++◌, ◌∷◌, ℕ, false, List, [], Some, drop, get_or, length, map, max, reverse, set, take, OnOk, IfOk, IfSome};
+ghost use Rattle.std.specs.Prelude.{◌≡◌, ◌+◌, ◌<◌, ◌≤◌, ◌++◌, ◌∷◌, ℕ, false, List, [], None, Some, drop, get_or, length, map, max, reverse, set, take, OnOk, IfOk, IfSome};
 ghost use Rattle.cmark_emphasis.specs.Shown.{shown_kind, shown_run};
 ghost use Rattle.cmark_emphasis.specs.Slots.{AreRuns};
 ghost use Rattle.cmark_emphasis.specs.declared.slot.Slot.{Slot as Marks};
@@ -12,7 +12,8 @@ ghost use Rattle.cmark_text.specs.Shown.{shown_options};
 ghost use Rattle.cmark_text.specs.declared.text.CowStr.{CowStr};
 ghost use Rattle.cmark_inline.specs.Elements.{IsElementOf};
 ghost use Rattle.cmark_inline.specs.Marked.{AreReady, AreWhole, BeganFrom, EndWithin, HaveBytes, Merges, SameBefore, begun_as, ended, places_of, shown_mark, siblings_from};
-ghost use Rattle.cmark_inline.specs.SlotViews.{shown_element, shown_slots};
+ghost use Rattle.cmark_inline.specs.SlotViews.{link_of, shown_element, shown_slots};
+ghost use Rattle.cmark_inline.specs.Sound.{NamesNoMore};
 ghost use Rattle.cmark_inline.specs.Stands.{AreSlots, NoNewLink, bytes_of, is_link};
 ghost use Rattle.cmark_inline.specs.declared.delimiter.PlacedRun.{PlacedRun as Placed};
 ghost use Rattle.cmark_inline.specs.declared.link.LinkParts.{LinkParts};
@@ -112,6 +113,7 @@ impl Delimiters {
             ≡ marked (shown_options options) (places_of (drop first self.old.placed.items)) (marks_by (length (places_of (drop first self.old.placed.items))) pairs) (shown_slots leaf texts links slots.old.items) []) }
         ensures within { OnOk result ((from place : ℕ) → HaveBytes slots.old.items from place (drop first self.old.placed.items) → AreWhole slots.old.items → EndWithin slots.old.items → EndWithin slots.new.items) }
         ensures before { OnOk result ((from place : ℕ) → HaveBytes slots.old.items from place (drop first self.old.placed.items) → AreWhole slots.old.items → SameBefore from slots.old.items slots.new.items) }
+        ensures names { OnOk result ((from place : ℕ) → HaveBytes slots.old.items from place (drop first self.old.placed.items) → AreWhole slots.old.items → NamesNoMore slots.old.items slots.new.items) }
         ensures whole { OnOk result ((from place : ℕ) → HaveBytes slots.old.items from place (drop first self.old.placed.items) → AreWhole slots.old.items → AreWhole slots.new.items) }
         ensures placed { OnOk result (self.new.placed.items ≡ take first self.old.placed.items) }
     {
@@ -187,6 +189,8 @@ fn write_run<'m>(
         → AreReady slots.new.items (reverse begun.new.items) behind rest.now) }
     ensures within { IfOk result (λ rest. (behind : List ℕ) → AreReady slots.old.items (reverse begun.old.items) (run_places placed.slot placed.run.size behind) marks.entry.now
         → EndWithin slots.old.items → EndWithin slots.new.items) }
+    ensures names { IfOk result (λ rest. (behind : List ℕ) → AreReady slots.old.items (reverse begun.old.items) (run_places placed.slot placed.run.size behind) marks.entry.now
+        → NamesNoMore slots.old.items slots.new.items) }
     ensures before { IfOk result (λ rest. (low : ℕ) (behind : List ℕ) → AreReady slots.old.items (reverse begun.old.items) (run_places placed.slot placed.run.size behind) marks.entry.now
         → BeganFrom low (reverse begun.old.items) → low ≤ placed.slot → SameBefore low slots.old.items slots.new.items × BeganFrom low (reverse begun.new.items)) }
     ensures marks { IfOk result (λ rest. (leaf : LeafText) (texts : List CowStr) (links : List LinkParts) (behind : List ℕ)
@@ -222,6 +226,8 @@ fn write_mark(
         → AreReady slots.new.items (reverse begun.new.items) behind others) }
     ensures within { OnOk result ((behind : List ℕ) (others : List Marks) → AreReady slots.old.items (reverse begun.old.items) (slot ∷ behind) (mark ∷ others)
         → EndWithin slots.old.items → EndWithin slots.new.items) }
+    ensures names { OnOk result ((behind : List ℕ) (others : List Marks) → AreReady slots.old.items (reverse begun.old.items) (slot ∷ behind) (mark ∷ others)
+        → NamesNoMore slots.old.items slots.new.items) }
     ensures before { OnOk result ((low : ℕ) (behind : List ℕ) (others : List Marks) → AreReady slots.old.items (reverse begun.old.items) (slot ∷ behind) (mark ∷ others)
         → BeganFrom low (reverse begun.old.items) → low ≤ slot → SameBefore low slots.old.items slots.new.items × BeganFrom low (reverse begun.new.items)) }
     ensures marks { OnOk result ((leaf : LeafText) (texts : List CowStr) (links : List LinkParts) (behind : List ℕ) (others : List Marks)
@@ -278,6 +284,7 @@ fn end_last(slots: &mut Vec<Slot>, slot: usize, element: Element, begun: &mut Ve
 fn element_of(kind: SpanKind, options: Options) -> Option<Element>
     ensures value { IsElementOf (shown_options options) (shown_kind kind) result }
     ensures links { IfSome result (λ element. is_link element ≡ false) }
+    ensures names { IfSome result (λ element. link_of element ≡ None) }
     ensures tag { IfSome result (λ element. (links : List LinkParts) → span_tag (shown_options options) (shown_kind kind) ≡ Some (shown_element links element)) }
 {
     match kind {

@@ -54,7 +54,8 @@ impl Walk {
     }
 
     pub fn clear(&mut self)
-        ensures { self.new.opened.items ≡ [] }
+        ensures opened { self.new.opened.items ≡ [] }
+        ensures next { self.new.next ≡ 0 }
     {
         self.next = 0;
         self.opened.clear();

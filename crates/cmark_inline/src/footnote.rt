@@ -13,6 +13,8 @@ ghost use Rattle.cmark_text.specs.Shown.{shown_options, text_bytes};
 ghost use Rattle.cmark_inline.specs.Closers.{LeavesFootnote};
 ghost use Rattle.cmark_inline.specs.Doubled.{DropsBehind};
 ghost use Rattle.cmark_inline.specs.Footnoted.{CountsOf, KeepsLabel, PutsReference, SameFootnotes, fits_footnote, footnote_behind, footnote_label, footnote_of, forms_footnote, is_accepted, is_footnote_label, reference_as, reference_slot, reference_start, unless_footnote, with_mark};
+ghost use Rattle.cmark_inline.specs.Sound.{AreEnded, IsSound, IsTakenFrom};
+ghost use Rattle.cmark_leaf_text.specs.declared.leaf_text.LeafText.{LeafText as LeafTexts};
 ghost use Rattle.cmark_inline.specs.Stands.{AreSlots, IsBracket, IsSlot, Moves, NoNewLink, Stands, begins_link};
 
 use crate::bracket::Bracket;
@@ -168,6 +170,10 @@ impl<'a> InlineState<'a> {
         requires stands { Stands text.now close self.old }
         requires bracket { IfSome taken (IsBracket text.now close) }
         requires close { IsPart text.now close (close + 1) }
+        requires sound { IsSound self.old }
+        requires taken { IfSome taken (IsTakenFrom self.old) }
+        ensures sound { OnOk result (IsSound self.new) }
+        ensures ends { OnOk result ((leaf : LeafTexts) → AreEnded leaf self.old.slots.items → AreEnded leaf self.new.slots.items) }
         ensures forms { IfOk result (λ next. is_some next ≡ forms_footnote (shown_options options) footnotes.old (footnote_of (shown_options options) (is_cell_of leaf.now) (is_there close self.old.shut_close) text.now close taken)) }
         ensures next { IfOk result (λ next. IfSome next (λ next. (next.pending ≡ close + 1) × (next.at ≡ close + 1))) }
         ensures moves { IfOk result (λ next. IfSome next (Moves text.now close self.new)) }
@@ -224,6 +230,10 @@ impl<'a> InlineState<'a> {
         requires stands { Stands text.now close self.old }
         requires bracket { IsBracket text.now close bracket }
         requires close { IsPart text.now close (close + 1) }
+        requires sound { IsSound self.old }
+        requires taken { IsTakenFrom self.old bracket }
+        ensures sound { OnOk result (IsSound self.new) }
+        ensures ends { OnOk result ((leaf : LeafTexts) → AreEnded leaf self.old.slots.items → AreEnded leaf self.new.slots.items) }
         ensures expansion { self.new.expansion ≡ self.old.expansion }
         ensures leaves { OnOk result (LeavesFootnote bracket.start self.old self.new) }
         ensures shut { self.new.shut_close ≡ self.old.shut_close }

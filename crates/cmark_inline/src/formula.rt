@@ -8,6 +8,7 @@ ghost use Rattle.cmark_finds.specs.Dollars.{AreDollarsOf};
 ghost use Rattle.cmark_inline.specs.Stands.{IsCursor, IsSlot, Moves, Stands, begins_link};
 ghost use Rattle.cmark_inline.specs.Tokens.{Appends};
 ghost use Rattle.cmark_inline.specs.declared.slot.SlotKind.TheVariants as slot_kind;
+ghost use Rattle.cmark_inline.specs.Sound.{KeepsSound};
 
 use crate::place::behind;
 use crate::slot::{Slot, SlotKind};
@@ -31,6 +32,7 @@ impl<'a> InlineState<'a> {
         requires dollar { slice_index text.now here.at ≡ 36 }
         ensures dollars { AreDollarsOf text.now dollars.new }
         ensures expansion { self.new.expansion ≡ self.old.expansion }
+        ensures keeps { OnOk result (KeepsSound self.old self.new) }
         ensures moves { IfOk result (Moves text.now here.at self.new) }
         ensures token { (options : Options) (lookup : Lookup) (is_cell : Bool) → options.math ≡ true → IfOk result (Appends options lookup is_cell text.now here self.old self.new) }
     {

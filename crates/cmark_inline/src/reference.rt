@@ -1,6 +1,6 @@
 //! Brackets, and the links and images that they form (CommonMark 6.3 and 6.4).
 
-ghost use Rattle.std.specs.Prelude.{◌≡◌, ◌⊎◌, if◌then◌else◌, Bool, true, false, ◌<◌, ◌≤◌, ◌+◌, ◌-◌, ◌++◌, ◌∷◌, ℕ, List, [], length, slice_index, IfOk, OnOk, IfSome, None, Some};
+ghost use Rattle.std.specs.Prelude.{◌≡◌, ◌⊎◌, if◌then◌else◌, Bool, true, false, ◌<◌, ◌≤◌, ◌+◌, ◌-◌, ◌++◌, ◌∷◌, ℕ, List, [], drop, length, slice_index, take, IfOk, OnOk, IfSome, None, Some};
 ghost use Rattle.std.specs.Str.{IsCharBoundary};
 ghost use Rattle.cmark_leaf_text.specs.Reads.{IsRead, IsPart, is_cell_of, place_of, text_of};
 ghost use Rattle.cmark_grammar.specs.Labels.{fold, normal_form};
@@ -19,7 +19,9 @@ ghost use Rattle.cmark_inline.specs.Decided.{EndsWithin, TargetDecides, is_full}
 ghost use Rattle.cmark_inline.specs.declared.bracket.Bracket.{Bracket as Opening};
 ghost use Rattle.cmark_inline.specs.Doubled.{DropsBehind, doubles};
 ghost use Rattle.cmark_inline.specs.Footnoted.{SameFootnotes, as_label};
+ghost use Rattle.cmark_inline.specs.Sound.{AreEnded, CanSettle, IsSettled, IsSound, IsTakenFrom, KeepsSound};
 ghost use Rattle.cmark_inline.specs.Tokens.{OpensBracket, Passes, PutsBracket};
+ghost use Rattle.cmark_leaf_text.specs.declared.leaf_text.LeafText.{LeafText as LeafTexts};
 ghost use Rattle.cmark_inline.specs.Stands.{HoldNoLink, IsEnd, NoNewLink, AreSlots, AreBrackets, IsBracket, IsCursor, IsSlot, IsTarget, Moves, SameSpans, Stands, bytes_of};
 
 use crate::bracket::Bracket;
@@ -51,6 +53,7 @@ impl<'a> InlineState<'a> {
         requires here { here.at < length text.now }
         requires ascii { slice_index text.now here.at < 128 }
         ensures expansion { self.new.expansion ≡ self.old.expansion }
+        ensures keeps { OnOk result (KeepsSound self.old self.new) }
         ensures moves { IfOk result (Moves text.now here.at self.new) }
         ensures token { (options : Extensions) (lookup : Lookup) (is_cell : Bool) → slice_index text.now here.at ≡ 33 → IfOk result (λ next. Passes options lookup is_cell text.now here self.old self.new next ⊎ OpensBracket options lookup is_cell text.now here self.old self.new next) }
     {
@@ -76,6 +79,7 @@ impl<'a> InlineState<'a> {
         requires part { IsPart text.now here.at inside }
         requires mark { is_image ≡ true → IsCharBoundary text.now (here.at + 1) }
         ensures expansion { self.new.expansion ≡ self.old.expansion }
+        ensures keeps { OnOk result (KeepsSound self.old self.new) }
         ensures moves { IfOk result (Moves text.now here.at self.new) }
         ensures at { IfOk result (λ next. (next.pending ≡ inside) × (next.at ≡ inside)) }
         ensures doubles { OnOk result (self.new.doubled.standing.items ≡ doubles (shown_options options) self.old.brackets is_image here.at inside self.old.doubled.standing.items) }
@@ -116,6 +120,8 @@ impl<'a> InlineState<'a> {
         requires ascii { slice_index text.now here.at < 128 }
         requires read { IsRead leaf.now }
         requires same { text.now ≡ text_of leaf.now }
+        requires sound { IsSound self.old }
+        ensures sound { OnOk result (IsSound self.new) }
         ensures asks { AsksOnce F.answers callback.old callback.new }
         ensures spent { self.old.expansion ≡ 0 → (callback.new ≡ callback.old) × (self.new.expansion ≡ 0) }
         ensures moves { IfOk result (Moves text.now here.at self.new) }
@@ -163,6 +169,10 @@ impl<'a> InlineState<'a> {
         requires close { IsPart text.now close (close + 1) }
         requires read { IsRead leaf.now }
         requires same { text.now ≡ text_of leaf.now }
+        requires sound { IsSound self.old }
+        requires taken { IfSome taken (IsTakenFrom self.old) }
+        ensures sound { OnOk result (IsSound self.new) }
+        ensures ends { OnOk result ((leaf : LeafTexts) → AreEnded leaf self.old.slots.items → AreEnded leaf self.new.slots.items) }
         ensures asks { AsksOnce F.answers callback.old callback.new }
         ensures spent { self.old.expansion ≡ 0 → (callback.new ≡ callback.old) × (self.new.expansion ≡ 0) }
         ensures stands { IfOk result (λ next. next ≡ None → Stands text.now close self.new) }
@@ -185,7 +195,10 @@ impl<'a> InlineState<'a> {
 
     // The nearest opening bracket, which is used up, if it can form a link or an image.
     fn take_bracket(&mut self, text: &str, at: usize) -> Option<Bracket>
-        requires { Stands text.now at self.old }
+        requires stands { Stands text.now at self.old }
+        requires sound { IsSound self.old }
+        ensures sound { IsSound self.new }
+        ensures taken { IfSome result (IsTakenFrom self.new) }
         ensures stands { Stands text.now at self.new }
         ensures expansion { self.new.expansion ≡ self.old.expansion }
         ensures bracket { IfSome result (IsBracket text.now at) }
@@ -215,6 +228,8 @@ impl<'a> InlineState<'a> {
         ensures spent { self.old.expansion ≡ 0 → (callback.new ≡ callback.old) × (self.new.expansion ≡ 0) }
         ensures same { SameSpans self.old self.new }
         ensures table { self.new.links ≡ self.old.links }
+        ensures texts { self.new.texts ≡ self.old.texts }
+        ensures quotes { self.new.quotes ≡ self.old.quotes }
         ensures stands { Stands text.now close self.new }
         ensures target { IfOk result (λ found. IfSome found (IsTarget text.now close)) }
         ensures decides { IfOk result (λ found. TargetDecides F.answers (shown_options reader.now.options) (E.replacement reader.now.entities.now) reader.now.references.now leaf.now text.now bracket close self.old self.new found callback.old callback.new) }
@@ -265,6 +280,8 @@ impl<'a> InlineState<'a> {
         ensures expansion { IfOk result (λ found. self.new.expansion ≡ left_behind self.old.expansion found) }
         ensures label { self.new.shut_close ≡ self.old.shut_close }
         ensures table { self.new.links ≡ self.old.links }
+        ensures texts { self.new.texts ≡ self.old.texts }
+        ensures quotes { self.new.quotes ≡ self.old.quotes }
         ensures same { SameSpans self.old self.new }
         ensures target { IfOk result (λ found. IfSome found (λ target. (target.end ≡ asked.entry.end) × (target.past ≡ asked.entry.past))) }
     {
@@ -295,6 +312,8 @@ impl<'a> InlineState<'a> {
         ensures expansion { self.new.expansion ≡ left_behind self.old.expansion (Some result) }
         ensures label { self.new.shut_close ≡ self.old.shut_close }
         ensures table { self.new.links ≡ self.old.links }
+        ensures texts { self.new.texts ≡ self.old.texts }
+        ensures quotes { self.new.quotes ≡ self.old.quotes }
         ensures same { SameSpans self.old self.new }
     {
         let Destination { dest_url, title } = found;
@@ -324,6 +343,10 @@ impl<'a> InlineState<'a> {
         requires close { IsPart text.now close (close + 1) }
         requires target { IsTarget text.now close target }
         requires free { bracket.is_image ≡ false → HoldNoLink self.old.slots.items bracket.slot }
+        requires sound { IsSound self.old }
+        requires taken { IsTakenFrom self.old bracket }
+        ensures sound { OnOk result (IsSound self.new) }
+        ensures ends { OnOk result ((leaf : LeafTexts) → AreEnded leaf self.old.slots.items → AreEnded leaf self.new.slots.items) }
         ensures expansion { self.new.expansion ≡ self.old.expansion }
         ensures stands { OnOk result (Stands text.now target.entry.past self.new) }
         ensures parts { OnOk result (self.new.links.items ≡ self.old.links.items ++ (target.entry.parts ∷ [])) }
@@ -357,8 +380,14 @@ impl<'a> InlineState<'a> {
         close: usize,
         end: usize,
     ) -> Result<(), AllocError>
-        requires { bytes_of self.old.delimiters.placed.items ≤ length self.old.slots.items }
+        requires runs { bytes_of self.old.delimiters.placed.items ≤ length self.old.slots.items }
+        requires there { bracket.slot < length self.old.slots.items }
+        requires settles { CanSettle (bracket.slot + 1) self.old.slots.items (drop bracket.runs self.old.delimiters.placed.items) (drop bracket.quotes self.old.quotes.placed.items) }
         ensures table { self.new.links ≡ self.old.links }
+        ensures texts { self.new.texts ≡ self.old.texts }
+        ensures settled { OnOk result (IsSettled (bracket.slot + 1) self.old.slots.items self.new.slots.items) }
+        ensures placed { OnOk result (self.new.delimiters.placed.items ≡ take bracket.runs self.old.delimiters.placed.items) }
+        ensures quotes { OnOk result (self.new.quotes.placed.items ≡ take bracket.quotes self.old.quotes.placed.items) }
         ensures expansion { self.new.expansion ≡ self.old.expansion }
         ensures label { self.new.shut_close ≡ self.old.shut_close }
         ensures brackets { self.new.brackets ≡ self.old.brackets }

@@ -7,6 +7,7 @@ ghost use Rattle.cmark_text.specs.Shown.{shown_options};
 ghost use Rattle.cmark_leaf_text.specs.Reads.{IsRead, IsPart, text_of};
 ghost use Rattle.cmark_inline.specs.Stands.{AreSlots, AreBrackets, IsBracket, IsCursor, IsSlot, IsTarget, Moves, NoNewLink, Stands, bytes_of};
 ghost use Rattle.cmark_inline.specs.Tokens.{AppendsRun, Passes, PassesOver, byte_slots, is_mark, is_other};
+ghost use Rattle.cmark_inline.specs.Sound.{KeepsSound};
 
 use crate::place::{character_at, character_before, run_end};
 use crate::slot::{SlotKind, push_slot};
@@ -29,6 +30,7 @@ impl<'a> InlineState<'a> {
         requires here { here.at < length text.now }
         requires ascii { slice_index text.now here.at < 128 }
         ensures expansion { self.new.expansion ≡ self.old.expansion }
+        ensures keeps { OnOk result (KeepsSound self.old self.new) }
         ensures moves { IfOk result (Moves text.now here.at self.new) }
         ensures token { (lookup : Lookup) (is_cell : Bool) → slice_index text.now here.at ≡ mark → is_mark mark ≡ true → IfOk result (λ next. Passes (shown_options options) lookup is_cell text.now here self.old self.new next ⊎ AppendsRun (shown_options options) lookup is_cell text.now here self.old self.new next) }
         ensures others { (lookup : Lookup) (is_cell : Bool) → slice_index text.now here.at ≡ mark → is_other mark ≡ true → IfOk result (PassesOver (shown_options options) lookup is_cell text.now here self.old self.new) }

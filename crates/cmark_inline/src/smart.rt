@@ -7,6 +7,7 @@ ghost use Rattle.cmark_grammar.specs.Dashes as grammar;
 ghost use Rattle.cmark_grammar.specs.Options.{Options};
 ghost use Rattle.cmark_inline.specs.Stands.{IsCursor, IsSlot, Moves, Stands};
 ghost use Rattle.cmark_inline.specs.Tokens.{Appends, AppendsQuote, Passes};
+ghost use Rattle.cmark_inline.specs.Sound.{KeepsSound};
 
 use crate::place::{behind, character_at, character_before, pass, run_end};
 use crate::slot::{Slot, SlotKind, push_slot};
@@ -24,6 +25,7 @@ impl<'a> InlineState<'a> {
         requires here { here.at < length text.now }
         requires ascii { slice_index text.now here.at < 128 }
         ensures expansion { self.new.expansion ≡ self.old.expansion }
+        ensures keeps { OnOk result (KeepsSound self.old self.new) }
         ensures moves { IfOk result (Moves text.now here.at self.new) }
         ensures token { (options : Options) (lookup : Lookup) (is_cell : Bool) → options.smart_punctuation ≡ true → slice_index text.now here.at ≡ 46 → IfOk result (λ next. Passes options lookup is_cell text.now here self.old self.new next ⊎ Appends options lookup is_cell text.now here self.old self.new next) }
     {
@@ -46,6 +48,7 @@ impl<'a> InlineState<'a> {
         requires here { here.at < length text.now }
         requires ascii { slice_index text.now here.at < 128 }
         ensures expansion { self.new.expansion ≡ self.old.expansion }
+        ensures keeps { OnOk result (KeepsSound self.old self.new) }
         ensures moves { IfOk result (Moves text.now here.at self.new) }
         ensures token { (options : Options) (lookup : Lookup) (is_cell : Bool) → options.smart_punctuation ≡ true → slice_index text.now here.at ≡ 45 → IfOk result (λ next. Passes options lookup is_cell text.now here self.old self.new next ⊎ Appends options lookup is_cell text.now here self.old self.new next) }
     {

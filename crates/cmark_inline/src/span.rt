@@ -11,6 +11,7 @@ ghost use Rattle.cmark_inline.specs.declared.link.LinkParts.{LinkParts as Parts}
 ghost use Rattle.cmark_inline.specs.Stands.{AreSlots, AreBrackets, IsBracket, IsCursor, IsSlot, IsTarget, Moves, SameSpans, Stands, bytes_of};
 ghost use Rattle.cmark_inline.specs.Tokens.{Appends, PutsAutolink, TakesEscaped};
 ghost use Rattle.cmark_inline.specs.FoundInSource.{AreUnclosed, ReadsLess};
+ghost use Rattle.cmark_inline.specs.Sound.{IsSound, KeepsSound};
 
 use crate::event::text_between;
 use crate::link::LinkParts;
@@ -39,6 +40,7 @@ impl<'a> InlineState<'a> {
         requires ascii { slice_index text.now here.at < 128 }
         ensures runs { AreRunsOf text.now runs.new }
         ensures expansion { self.new.expansion ≡ self.old.expansion }
+        ensures keeps { OnOk result (KeepsSound self.old self.new) }
         ensures moves { IfOk result (Moves text.now here.at self.new) }
         ensures token { (options : Options) (lookup : Lookup) (is_cell : Bool) → slice_index text.now here.at ≡ 96 → IfOk result (λ next. Appends options lookup is_cell text.now here self.old self.new next ⊎ TakesEscaped options lookup is_cell text.now here self.old self.new next) }
     {
@@ -78,6 +80,7 @@ impl<'a> InlineState<'a> {
         requires same { text.now ≡ text_of leaf.now }
         requires kept { AreUnclosed leaf.now here.at unclosed.old }
         ensures expansion { self.new.expansion ≡ self.old.expansion }
+        ensures sound { IsSound self.old → OnOk result (IsSound self.new) }
         ensures moves { IfOk result (Moves text.now here.at self.new) }
         ensures kept { AreUnclosed leaf.now here.at unclosed.new }
         ensures token { (options : Options) (lookup : Lookup) → slice_index text.now here.at ≡ 60 → IfOk result (ReadsLess options lookup leaf.now here self.old self.new) }

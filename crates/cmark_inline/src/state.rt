@@ -1,6 +1,7 @@
 //! The state of the inline pass.
 
 ghost use Rattle.std.specs.Prelude.{◌≡◌, ℕ, List, [], max};
+ghost use Rattle.cmark_inline.specs.Sound.{IsSound};
 ghost use Rattle.cmark_inline.specs.Stands.{Stands};
 
 use crate::bracket::Brackets;
@@ -55,6 +56,7 @@ impl<'a> InlineState<'a> {
 
     pub(crate) fn clear(&mut self)
         ensures stands { (text : List ℕ) → Stands text 0 self.new }
+        ensures sound { IsSound self.new }
         ensures expansion { self.new.expansion ≡ self.old.expansion }
     {
         self.slots.clear();

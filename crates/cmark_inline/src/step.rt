@@ -9,6 +9,8 @@ ghost use Rattle.cmark_inline.specs.Asking.{AsksBetween, AsksUpTo, closing_brack
 ghost use Rattle.cmark_inline.specs.Stands.{AreSlots, AreBrackets, IsBracket, IsCursor, IsSlot, IsTarget, Moves, SameSpans, Stands, PushesText, begins_link, bytes_of};
 ghost use Rattle.cmark_inline.specs.Footnoted.{SameFootnotes};
 ghost use Rattle.cmark_inline.specs.FoundInSource.{AreUnclosed};
+ghost use Rattle.cmark_inline.specs.Marked.{AreWhole, EndWithin};
+ghost use Rattle.cmark_inline.specs.Sound.{AreNamed, IsSound};
 ghost use Rattle.cmark_inline.specs.SpecialReads.{ReadsSpecial};
 ghost use Rattle.cmark_inline.specs.Tokens.{Puts};
 ghost use Rattle.cmark_grammar.specs.SpecialBytes.{is_special};
@@ -60,6 +62,9 @@ impl<'a> InlineState<'a> {
         ensures few { OnOk result (length self.new.slots.items ≤ length (text_of leaf.now)) }
         ensures slots { OnOk result (AreSlots (text_of leaf.now) (length (text_of leaf.now)) self.new.slots.items) }
         ensures opened { OnOk result (self.new.walk.opened.items ≡ []) }
+        ensures named { OnOk result (AreNamed (length self.new.texts.items) (length self.new.links.items) self.new.slots.items) }
+        ensures whole { OnOk result (AreWhole self.new.slots.items × EndWithin self.new.slots.items) }
+        ensures first { OnOk result (self.new.walk.next ≡ 0) }
         ensures footnotes { SameFootnotes footnotes.old footnotes.new }
     {
         self.clear();
@@ -100,6 +105,8 @@ impl<'a> InlineState<'a> {
         requires read { IsRead leaf.now }
         requires same { text.now ≡ text_of leaf.now }
         requires kept { AreUnclosed leaf.now cursor.at sought.old.unclosed }
+        requires sound { IsSound self.old }
+        ensures sound { OnOk result (IsSound self.new) }
         ensures runs { AreRunsOf text.now sought.new.runs }
         ensures dollars { AreDollarsOf text.now sought.new.dollars }
         ensures kept { IfOk result (λ next. AreUnclosed leaf.now next.at sought.new.unclosed) }
@@ -151,6 +158,7 @@ impl<'a> InlineState<'a> {
         ensures dollars { AreDollarsOf text.now sought.new.dollars }
         ensures kept { AreUnclosed leaf.now here.at sought.new.unclosed }
         ensures expansion { self.new.expansion ≡ self.old.expansion }
+        ensures sound { IsSound self.old → OnOk result (IsSound self.new) }
         ensures moves { IfOk result (Moves text.now here.at self.new) }
         ensures token { is_special (shown_options reader.now.options) (slice_index text.now here.at) ≡ true → (slice_index text.now here.at == 93) ≡ false → IfOk result (ReadsSpecial (shown_options reader.now.options) (E.replacement reader.now.entities.now) leaf.now here self.old self.new) }
     {

@@ -8,6 +8,7 @@ ghost use Rattle.cmark_grammar.specs.Options.{Options};
 ghost use Rattle.cmark_inline.specs.Stands.{AreSlots, AreBrackets, IsBracket, IsCursor, IsSlot, IsTarget, Moves, SameSpans, Stands, begins_link, bytes_of};
 ghost use Rattle.cmark_inline.specs.Tokens.{Appends, Escapes, EscapesPipe, Passes, Puts, read_on};
 ghost use Rattle.cmark_inline.specs.declared.slot.SlotKind.TheVariants as slot_kind;
+ghost use Rattle.cmark_inline.specs.Sound.{KeepsSound};
 
 use crate::place::{
     before_blanks, behind, end_behind, is_escape, is_lone_backtick, is_pipe_escape, pass,
@@ -30,6 +31,7 @@ impl<'a> InlineState<'a> {
         requires here { here.at < length text.now }
         requires ascii { slice_index text.now here.at < 128 }
         ensures expansion { self.new.expansion ≡ self.old.expansion }
+        ensures keeps { OnOk result (KeepsSound self.old self.new) }
         ensures moves { IfOk result (Moves text.now here.at self.new) }
         ensures token { (options : Options) (lookup : Lookup) (is_cell : Bool) → (slice_index text.now here.at ≡ 10) ⊎ (slice_index text.now here.at ≡ 13) → IfOk result (Appends options lookup is_cell text.now here self.old self.new) }
     {
@@ -90,6 +92,7 @@ impl<'a> InlineState<'a> {
         requires here { here.at < length text.now }
         requires ascii { slice_index text.now here.at < 128 }
         ensures expansion { self.new.expansion ≡ self.old.expansion }
+        ensures keeps { OnOk result (KeepsSound self.old self.new) }
         ensures moves { IfOk result (Moves text.now here.at self.new) }
         ensures token { (options : Options) (lookup : Lookup) → slice_index text.now here.at ≡ 92 → IfOk result (λ next. Passes options lookup is_cell text.now here self.old self.new next ⊎ (Appends options lookup is_cell text.now here self.old self.new next ⊎ (Escapes options lookup is_cell text.now here self.old self.new next ⊎ EscapesPipe options lookup is_cell text.now here self.old self.new next))) }
     {
@@ -141,6 +144,7 @@ impl<'a> InlineState<'a> {
         requires here { here.at < length text.now }
         requires ascii { slice_index text.now here.at < 128 }
         ensures expansion { self.new.expansion ≡ self.old.expansion }
+        ensures keeps { OnOk result (KeepsSound self.old self.new) }
         ensures moves { IfOk result (Moves text.now here.at self.new) }
         ensures token { (options : Options) (is_cell : Bool) → slice_index text.now here.at ≡ 38 → IfOk result (λ next. Passes options (E.replacement entities.now) is_cell text.now here self.old self.new next ⊎ Appends options (E.replacement entities.now) is_cell text.now here self.old self.new next) }
     {

@@ -1,6 +1,6 @@
 //! Wikilinks (this profile's own).
 
-ghost use Rattle.std.specs.Prelude.{◌≡◌, ◌⊎◌, ◌≤◌, ◌<◌, ◌+◌, ◌++◌, ◌∷◌, ◌&&◌, ◌==◌, drop, true, false, is_some, ℕ, List, [], length, IfOk, OnOk, IfSome, None};
+ghost use Rattle.std.specs.Prelude.{◌≡◌, ◌⊎◌, ◌≤◌, ◌<◌, ◌+◌, ◌++◌, ◌∷◌, ◌&&◌, ◌==◌, drop, if◌then◌else◌, true, false, is_some, ℕ, List, [], length, IfOk, OnOk, IfSome, None, Some};
 ghost use Rattle.std.specs.Str.{IsCharBoundary};
 ghost use Rattle.cmark_grammar.specs.BracketDecisions.{name_in};
 ghost use Rattle.cmark_leaf_text.specs.Reads.{IsRead, IsPart, text_of};
@@ -8,6 +8,12 @@ ghost use Rattle.cmark_text.specs.Shown.{shown_options};
 ghost use Rattle.cmark_grammar.specs.Letters.{first_is};
 ghost use Rattle.cmark_inline.specs.Closers.{LeavesWikilink, TriesDoubled};
 ghost use Rattle.cmark_inline.specs.Doubled.{DropsBehind, nearest};
+ghost use Rattle.cmark_inline.specs.Marked.{SameBefore};
+ghost use Rattle.cmark_inline.specs.SlotViews.{link_of};
+ghost use Rattle.cmark_inline.specs.declared.slot.Element.TheVariants as element;
+ghost use Rattle.cmark_inline.specs.Sound.{AreEnded, AreNamed, CanSettle, EndsIn, IsPairFrom, IsSound, IsTakenFrom};
+ghost use Rattle.cmark_inline.specs.declared.bracket.Bracket.{Bracket as Opening};
+ghost use Rattle.cmark_leaf_text.specs.declared.leaf_text.LeafText.{LeafText as LeafTexts};
 ghost use Rattle.cmark_inline.specs.Stands.{AreSlots, HoldNoLink, IsBracket, Moves, NoNewLink, Stands};
 ghost use Rattle.cmark_inline.specs.Wikilinks.{IsNamed, IsWikilink, Shows, forms_wikilink, wiki_text};
 ghost use Rattle.cmark_inline.specs.declared.link.LinkParts.{LinkParts as Parts};
@@ -79,6 +85,18 @@ fn wikilink_at<'a>(
     })
 }
 
+// The link of an index, or the image.
+fn linked_element(is_image: bool, index: usize) -> Element
+    ensures value { result ≡ (if is_image then element.Image index else element.Link index) }
+    ensures names { link_of result ≡ Some index }
+{
+    if is_image {
+        Element::Image(index)
+    } else {
+        Element::Link(index)
+    }
+}
+
 impl<'a> InlineState<'a> {
     // The wikilink that the closing bracket at `close` ends with another one behind it: the nearest doubled bracket is tried, and
     // so used up. `None` where it forms none.
@@ -93,6 +111,9 @@ impl<'a> InlineState<'a> {
         requires close { IsPart text.now close (close + 1) }
         requires read { IsRead leaf.now }
         requires same { text.now ≡ text_of leaf.now }
+        requires sound { IsSound self.old }
+        ensures sound { OnOk result (IsSound self.new) }
+        ensures taken { IfOk result (λ next. next ≡ None → (bracket : Opening) → IsTakenFrom self.old bracket → IsTakenFrom self.new bracket) }
         ensures forms { IfOk result (λ next. is_some next ≡ forms_wikilink (shown_options options) leaf.now close self.old.doubled) }
         ensures next { IfOk result (λ next. IfSome next (λ next. (next.pending ≡ close + 2) × (next.at ≡ close + 2))) }
         ensures moves { IfOk result (λ next. IfSome next (Moves text.now close self.new)) }
@@ -139,6 +160,10 @@ impl<'a> InlineState<'a> {
         requires middle { IsCharBoundary text.now (close + 1) }
         requires display { IfSome wikilink.display (λ place. IsCharBoundary text.now place × (place ≤ close)) }
         requires free { doubled.is_image ≡ false → HoldNoLink self.old.slots.items doubled.slot }
+        requires sound { IsSound self.old }
+        requires taken { IsPairFrom self.old doubled }
+        ensures sound { OnOk result (IsSound self.new) }
+        ensures ends { OnOk result ((leaf : LeafTexts) → AreEnded leaf self.old.slots.items → EndsIn leaf close (Some wikilink.entry.source_end) → AreEnded leaf self.new.slots.items) }
         ensures expansion { self.new.expansion ≡ self.old.expansion }
         ensures stands { OnOk result (Stands text.now (close + 2) self.new) }
         ensures parts { OnOk result ((parts : Parts) × IsNamed wikilink.entry parts × (self.new.links.items ≡ self.old.links.items ++ (parts ∷ []))) }
@@ -162,11 +187,7 @@ impl<'a> InlineState<'a> {
             id: CowStr::Borrowed(""),
         })?;
         let inside = self.show(text, doubled, close, wikilink)?;
-        let element = if doubled.is_image {
-            Element::Image(index)
-        } else {
-            Element::Link(index)
-        };
+        let element = linked_element(doubled.is_image, index);
         begin(&mut self.slots, doubled.slot, element, end);
         self.finish(options, inside, close, end)?;
         self.quotes.truncate(doubled.quotes);
@@ -191,6 +212,14 @@ impl<'a> InlineState<'a> {
         requires inside { doubled.inside < close }
         requires end { IsPart text.now close (close + 1) }
         requires display { IfSome wikilink.display (λ place. IsCharBoundary text.now place × (place ≤ close)) }
+        requires sound { IsSound self.old }
+        requires taken { IsPairFrom self.old doubled }
+        ensures settles { IfOk result (λ inside. CanSettle (doubled.slot + 1) self.new.slots.items (drop inside.runs self.old.delimiters.placed.items) (drop inside.quotes self.old.quotes.placed.items)) }
+        ensures runs { IfOk result (λ inside. doubled.runs ≤ inside.runs) }
+        ensures quotes { IfOk result (λ inside. doubled.quotes ≤ inside.quotes) }
+        ensures names { OnOk result ((texts links : ℕ) → AreNamed texts links self.old.slots.items → AreNamed texts links self.new.slots.items) }
+        ensures ends { OnOk result ((leaf : LeafTexts) → AreEnded leaf self.old.slots.items → EndsIn leaf close (Some wikilink.entry.source_end) → AreEnded leaf self.new.slots.items) }
+        ensures before { OnOk result (SameBefore (doubled.slot + 1) self.old.slots.items self.new.slots.items) }
         ensures shows { OnOk result ((at : ℕ) × Shows text.now doubled close wikilink.entry self.old.slots.items self.new.slots.items at) }
         ensures slots { OnOk result ((end : ℕ) → AreSlots text.now close self.old.slots.items → close < end → AreSlots text.now end self.new.slots.items) }
         ensures length { OnOk result (length self.new.slots.items ≤ length self.old.slots.items + 1) }

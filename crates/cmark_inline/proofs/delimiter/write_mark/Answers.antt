@@ -6,6 +6,8 @@ use Rattle.cmark_inline.specs.Marked.{AreReady, BeganFrom, EndWithin, begun_as, 
 use Rattle.cmark_inline.specs.SlotViews.{shown_slots}
 use Rattle.cmark_inline.specs.Wikilinks.{hidden}
 use Rattle.cmark_inline.proofs.Marks.{no-slot, within-set, within-merges, blank-before, some-before, none-before, ready-single, ready-begin, ready-blank, blank-view, ends-one, end-some, end-none, some-ready, none-ready}
+use Rattle.cmark_inline.specs.Sound.{NamesNoMore}
+use Rattle.cmark_inline.proofs.Naming.{no-more-merges, no-more-on, no-more-same, no-more-set}
 use Rattle.cmark_inline.proofs.RunPlaces.{pushed}
 use Rattle.cmark_inline.proofs.delimiter.write_mark.Goals as goal
 
@@ -109,3 +111,29 @@ returns-in-None-clause-within c = λ behind others r h.
     let old = c.args.slots.now.items in
     let e = ends-one old (reverse c.args.begun.now.items) c.args.slot behind others c.in-End.kind (subst (λ m. AreReady old (reverse c.args.begun.now.items) (c.args.slot ∷ behind) (m ∷ others)) c.in-End.is r) in
     within-merges e.first c.args.slot old c.merge_last.new.slots.items (c.merge_last.ensures.value e.first e.before e.is e.whole e.below e.within) e.below e.within h
+
+pub returns-in-Single-clause-names : goal.returns-in-Single-clause-names
+returns-in-Single-clause-names c = λ behind others r. no-more-same c.args.slots.now.items
+
+pub returns-in-Blank-clause-names : goal.returns-in-Blank-clause-names
+returns-in-Blank-clause-names c = λ behind others r.
+    let s = hidden (get_or c.args.slots.now.items c.args.slot no-slot) in
+    subst (NamesNoMore c.args.slots.now.items) (sym (c.use_up.ensures.hides no-slot refl r.ahead.2)) (no-more-set c.args.slots.now.items c.args.slot s (refl, refl, refl))
+
+pub returns-in_ok-push-in-Begin-clause-names : goal.returns-in_ok-push-in-Begin-clause-names
+returns-in_ok-push-in-Begin-clause-names c = λ behind others r. no-more-same c.args.slots.now.items
+
+pub returns-in-Some-clause-names : goal.returns-in-Some-clause-names
+returns-in-Some-clause-names c = λ behind others r.
+    let old = c.args.slots.now.items in
+    let e = ends-one old (reverse c.args.begun.now.items) c.args.slot behind others c.in-End.kind (subst (λ m. AreReady old (reverse c.args.begun.now.items) (c.args.slot ∷ behind) (m ∷ others)) c.in-End.is r) in
+    let last = ended (get_or old c.args.slot no-slot) in
+    let first = begun_as c.in-Some.element (get_or old c.args.slot no-slot).end (get_or old e.first no-slot) in
+    subst (NamesNoMore old) (sym (c.end_last.ensures.value e.first e.before no-slot e.is e.below e.within))
+    (no-more-on old (set old c.args.slot last) (set (set old c.args.slot last) e.first first) (no-more-set old c.args.slot last (refl, refl, refl)) (no-more-set (set old c.args.slot last) e.first first (refl, c.in-Some.ensures.names, refl)))
+
+pub returns-in-None-clause-names : goal.returns-in-None-clause-names
+returns-in-None-clause-names c = λ behind others r.
+    let old = c.args.slots.now.items in
+    let e = ends-one old (reverse c.args.begun.now.items) c.args.slot behind others c.in-End.kind (subst (λ m. AreReady old (reverse c.args.begun.now.items) (c.args.slot ∷ behind) (m ∷ others)) c.in-End.is r) in
+    no-more-merges e.first c.args.slot old c.merge_last.new.slots.items no-slot (c.merge_last.ensures.value e.first e.before e.is e.whole e.below e.within)

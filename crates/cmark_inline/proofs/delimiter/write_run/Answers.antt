@@ -4,6 +4,7 @@ use Rattle.cmark_inline_model.specs.SlotRows.{marked, run_places}
 use Rattle.cmark_text.specs.Shown.{shown_options}
 use Rattle.cmark_inline.specs.Marked.{AreReady, shown_mark}
 use Rattle.cmark_inline.specs.SlotViews.{shown_slots}
+use Rattle.cmark_inline.proofs.Naming.{no-more-on, no-more-same}
 use Rattle.cmark_inline.proofs.RunPlaces.{marks-over, same-on, none-left, place-behind, ready-skip, run-next}
 use Rattle.cmark_inline.proofs.delimiter.write_run.Goals as goal
 use Rattle.cmark_inline.proofs.delimiter.write_run.Goals.{else-loop-test, then-loop-test+in_default}
@@ -19,6 +20,7 @@ loop-init c =
           ap (λ n. marked (shown_options c.args.options) (run_places c.args.placed.slot n behind) (map shown_mark c.args.marks.now) (shown_slots leaf texts links c.args.slots.now.items) (reverse c.args.begun.now.items)) all),
       (λ low behind r h le. ((λ k d lt. refl), h, le)),
       (λ behind r h. h),
+      (λ behind r. no-more-same c.args.slots.now.items),
     )
 
 pub loop-preserved : goal.loop-preserved
@@ -69,6 +71,15 @@ loop-preserved c =
           c.in_ok-write_mark.ensures.within (run_places c.saturating_add-slot.result (c.args.placed.run.size - (c.loop.counter + 1)) behind) c.in-Some.others.now
           (subst (λ ms. AreReady c.loop.slots.items (reverse c.loop.begun.items) (c.loop.slot ∷ run_places c.saturating_add-slot.result (c.args.placed.run.size - (c.loop.counter + 1)) behind) ms) e
           (subst (λ ps. AreReady c.loop.slots.items (reverse c.loop.begun.items) ps c.loop.rest.now) split now)) (i.6 behind r h)),
+      (λ behind r.
+          let now = i.3 behind r in
+          let next = place-behind c.loop.slots.items (reverse c.loop.begun.items) c.loop.slot c.saturating_add-slot.result (c.args.placed.run.size - c.loop.counter) (c.args.placed.run.size - (c.loop.counter + 1)) behind c.loop.rest.now less few
+          c.saturating_add-slot.ensures now in
+          let split = run-next c.loop.slot c.saturating_add-slot.result (c.args.placed.run.size - c.loop.counter) (c.args.placed.run.size - (c.loop.counter + 1)) behind less next in
+          no-more-on c.args.slots.now.items c.loop.slots.items c.write_mark.new.slots.items (i.7 behind r)
+          (c.in_ok-write_mark.ensures.names (run_places c.saturating_add-slot.result (c.args.placed.run.size - (c.loop.counter + 1)) behind) c.in-Some.others.now
+          (subst (λ ms. AreReady c.loop.slots.items (reverse c.loop.begun.items) (c.loop.slot ∷ run_places c.saturating_add-slot.result (c.args.placed.run.size - (c.loop.counter + 1)) behind) ms) e
+          (subst (λ ps. AreReady c.loop.slots.items (reverse c.loop.begun.items) ps c.loop.rest.now) split now)))),
     )
 
 pub returns-clause-ready : goal.returns-clause-ready
@@ -89,3 +100,6 @@ returns-clause-before c = λ low behind r h le.
 
 pub returns-clause-within : goal.returns-clause-within
 returns-clause-within c = λ behind r h. c.loop.invariant.6 behind r h
+
+pub returns-clause-names : goal.returns-clause-names
+returns-clause-names c = λ behind r. c.loop.invariant.7 behind r

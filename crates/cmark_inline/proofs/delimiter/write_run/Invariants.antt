@@ -6,6 +6,7 @@ use Rattle.cmark_text.specs.Shown.{shown_options}
 use Rattle.cmark_text.specs.declared.text.CowStr.{CowStr}
 use Rattle.cmark_inline.specs.Marked.{AreReady, BeganFrom, EndWithin, SameBefore, shown_mark}
 use Rattle.cmark_inline.specs.SlotViews.{shown_slots}
+use Rattle.cmark_inline.specs.Sound.{NamesNoMore}
 use Rattle.cmark_inline.specs.Stands.{AreSlots, NoNewLink}
 use Rattle.cmark_inline.specs.declared.link.LinkParts.{LinkParts}
 use Rattle.cmark_inline.proofs.delimiter.write_run.Given as goal
@@ -25,3 +26,5 @@ invariant-loop l =
     → BeganFrom low (reverse l.initial.begun.items) → low ≤ l.fn.placed.slot → SameBefore low l.initial.slots.items l.slots.items × BeganFrom low (reverse l.begun.items) × (low ≤ l.slot))
     × ((behind : List ℕ) → AreReady l.initial.slots.items (reverse l.initial.begun.items) (run_places l.fn.placed.slot l.fn.placed.run.size behind) l.marks
     → EndWithin l.initial.slots.items → EndWithin l.slots.items)
+    × ((behind : List ℕ) → AreReady l.initial.slots.items (reverse l.initial.begun.items) (run_places l.fn.placed.slot l.fn.placed.run.size behind) l.marks
+    → NamesNoMore l.initial.slots.items l.slots.items)

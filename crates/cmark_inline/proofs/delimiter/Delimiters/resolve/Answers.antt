@@ -8,6 +8,7 @@ use Rattle.cmark_text.specs.Shown.{shown_options}
 use Rattle.cmark_inline.specs.Marked.{AreReady, BeganFrom, places_of, shown_mark, siblings_from}
 use Rattle.cmark_inline.specs.SlotViews.{shown_slots}
 use Rattle.cmark_inline.specs.declared.delimiter.PlacedRun.{PlacedRun}
+use Rattle.cmark_inline.proofs.Naming.{no-more-on, no-more-same}
 use Rattle.cmark_inline.proofs.RunPlaces.{RunsFrom, runs-from, same-on, marks-are, none-left, ready-first, stand-so}
 use Rattle.cmark_inline.proofs.delimiter.Delimiters.resolve.Goals as goal
 
@@ -28,6 +29,7 @@ loop-placed-init c =
       (λ from place h whole.
           ((λ k d lt. refl), subst (λ b. BeganFrom from (reverse b)) (sym c.clear.ensures.items) tt, subst (RunsFrom from) (sym v) (runs-from from c.args.slots.now.items from place (drop c.args.first c.args.self.now.placed.items) (omega arith) h))),
       (λ from place h whole within. within),
+      (λ from place h whole. no-more-same c.args.slots.now.items),
     )
 
 pub loop-placed-preserved : goal.loop-placed-preserved
@@ -51,6 +53,9 @@ loop-placed-preserved c =
           (same-on from c.args.slots.now.items c.loop-placed.slots.items c.write_run.new.slots.items b.0 n.0, n.1, runs.1)),
       (λ from place h whole within.
           c.in_ok-marks.ensures.within (places_of c.in-Some.others.now) (subst (λ ps. AreReady c.loop-placed.slots.items begun (places_of ps) c.loop-placed.marks.now) e (i.3 from place h whole)) (i.6 from place h whole within)),
+      (λ from place h whole.
+          no-more-on c.args.slots.now.items c.loop-placed.slots.items c.write_run.new.slots.items (i.7 from place h whole)
+          (c.in_ok-marks.ensures.names (places_of c.in-Some.others.now) (subst (λ ps. AreReady c.loop-placed.slots.items begun (places_of ps) c.loop-placed.marks.now) e (i.3 from place h whole)))),
     )
 
 pub returns-clause-marks : goal.returns-clause-marks
@@ -71,3 +76,6 @@ returns-clause-before c = λ from place h whole. (c.loop-placed.invariant.5 from
 
 pub returns-clause-within : goal.returns-clause-within
 returns-clause-within c = λ from place h whole within. c.loop-placed.invariant.6 from place h whole within
+
+pub returns-clause-names : goal.returns-clause-names
+returns-clause-names c = λ from place h whole. c.loop-placed.invariant.7 from place h whole

@@ -6,6 +6,7 @@ use Rattle.cmark_text.specs.Shown.{shown_options}
 use Rattle.cmark_text.specs.declared.text.CowStr.{CowStr}
 use Rattle.cmark_inline.specs.Marked.{AreReady, AreWhole, BeganFrom, EndWithin, HaveBytes, SameBefore, places_of, shown_mark}
 use Rattle.cmark_inline.specs.SlotViews.{shown_slots}
+use Rattle.cmark_inline.specs.Sound.{NamesNoMore}
 use Rattle.cmark_inline.specs.Stands.{AreSlots, NoNewLink}
 use Rattle.cmark_inline.specs.declared.link.LinkParts.{LinkParts}
 use Rattle.cmark_inline.proofs.RunPlaces.{RunsFrom}
@@ -24,6 +25,7 @@ invariant-loop-placed l =
     × ((from place : ℕ) → HaveBytes l.initial.slots.items from place (drop l.first l.fn.self.placed.items) → AreWhole l.initial.slots.items
     → SameBefore from l.initial.slots.items l.slots.items × BeganFrom from (reverse l.self.1.1.1.1.1.0.items) × RunsFrom from l.rest)
     × ((from place : ℕ) → HaveBytes l.initial.slots.items from place (drop l.first l.fn.self.placed.items) → AreWhole l.initial.slots.items → EndWithin l.initial.slots.items → EndWithin l.slots.items)
+    × ((from place : ℕ) → HaveBytes l.initial.slots.items from place (drop l.first l.fn.self.placed.items) → AreWhole l.initial.slots.items → NamesNoMore l.initial.slots.items l.slots.items)
 
 abbrev pub decreases-loop-placed : goal.decreases-loop-placed
 decreases-loop-placed l = length l.rest

@@ -6,6 +6,7 @@ use Rattle.cmark_grammar.specs.LabelsOverLines.{piped}
 use Rattle.cmark_grammar.specs.Letters.{starts}
 use Rattle.cmark_inline.proofs.Appended.{own-appends, pipe-makes, slash-appends, slash-makes}
 use Rattle.cmark_inline.proofs.TokenSteps.{line-at-slash, slash-lone, slash-stands}
+use Rattle.cmark_inline.proofs.Keeping.{keeps-pending, keeps-puts, keeps-same}
 use Rattle.cmark_inline.proofs.state.InlineState.backslash.Goals as goal
 use Rattle.cmark_inline.proofs.state.InlineState.backslash.Goals.{else-is_cell-via-then-is_cell+else-is_pipe_escape, else-is_cell-via-else-is_cell}
 
@@ -56,3 +57,18 @@ returns-clause-token c = λ o l is.
     ] in
     inr (inr (inl (slash-makes o l c.args.is_cell c.args.text.now c.args.here c.args.self.now c.flush.new.self c.behind-escaped.result c.behind-end.result c.requires.here is c.in_default.ensures.value
     c.if-not-is_escape.ensures.value c.behind-escaped.ensures.value c.behind-end.ensures.value c.if-is_lone_backtick.ensures no-pipe c.in_ok-flush.ensures.slots c.in_ok-flush.ensures.others)))
+
+pub returns-in-Some-clause-keeps : goal.returns-in-Some-clause-keeps
+returns-in-Some-clause-keeps c = keeps-puts c.args.self.now c.put_before_words.new.self c.in_ok-next.ensures.others c.args.here.pending c.args.here.at _ c.in_ok-next.ensures.slots ((refl, refl, refl), λ i. refl)
+
+pub returns-then-not-is_escape-clause-keeps : goal.returns-then-not-is_escape-clause-keeps
+returns-then-not-is_escape-clause-keeps c = keeps-same c.args.self.now
+
+pub returns-then-is_lone_backtick-clause-keeps : goal.returns-then-is_lone_backtick-clause-keeps
+returns-then-is_lone_backtick-clause-keeps c = keeps-puts c.args.self.now c.put.new.self c.in_ok-next-2.ensures.others c.args.here.pending c.args.here.at _ c.in_ok-next-2.ensures.slots ((refl, refl, refl), λ i. refl)
+
+pub returns-then-is_pipe_escape-clause-keeps : goal.returns-then-is_pipe_escape-clause-keeps
+returns-then-is_pipe_escape-clause-keeps c = keeps-pending c.args.self.now c.flush.new.self c.in_ok-flush.ensures.others c.args.here.pending c.args.here.at c.in_ok-flush.ensures.slots
+
+pub returns-clause-keeps : goal.returns-clause-keeps
+returns-clause-keeps c = keeps-pending c.args.self.now c.flush.new.self c.in_ok-flush.ensures.others c.args.here.pending c.args.here.at c.in_ok-flush.ensures.slots

@@ -1,8 +1,9 @@
 use Rattle.std.specs.Option.{IfSome}
 use Rattle.std.specs.Prelude.{option_map}
-use Rattle.std.proofs.Common.{inl, sym, ap, subst, ◌∙◌}
+use Rattle.std.proofs.Common.{inl, refl, sym, ap, subst, ◌∙◌}
 use Rattle.cmark_finds.specs.Shown.{shown_code, IsCodeAt}
 use Rattle.cmark_inline.proofs.Appended.{code-appends, ticks-make}
+use Rattle.cmark_inline.proofs.Keeping.{keeps-puts}
 use Rattle.cmark_inline.proofs.state.InlineState.backticks.Goals as goal
 
 pub returns-in-Some-clause-token : goal.returns-in-Some-clause-token
@@ -18,3 +19,9 @@ returns-clause-token c = λ o l cell is.
     ticks-make o l cell c.args.text.now c.args.here c.args.self.now c.put-2.new.self c.in_ok-next-2.next c.text_start-start.result c.run_end.result c.requires.cursor.ordered c.requires.here is
     (ap (option_map (shown_code c.args.text.now)) (sym c.in_default.is) ∙ c.in_ok-span.ensures.value) c.run_end.ensures.value c.text_start-start.ensures.value
     next.at (next.end ∙ sym next.at) next.slots next.others
+
+pub returns-in-Some-clause-keeps : goal.returns-in-Some-clause-keeps
+returns-in-Some-clause-keeps c = keeps-puts c.args.self.now c.put.new.self c.in_ok-next.ensures.others c.args.here.pending c.args.here.at _ c.in_ok-next.ensures.slots ((refl, refl, refl), λ i. refl)
+
+pub returns-clause-keeps : goal.returns-clause-keeps
+returns-clause-keeps c = keeps-puts c.args.self.now c.put-2.new.self c.in_ok-next-2.ensures.others c.args.here.pending c.text_start-start.result _ c.in_ok-next-2.ensures.slots ((refl, refl, refl), λ i. refl)

@@ -1,5 +1,5 @@
 use Rattle.std.specs.Prelude.{false, Option, IfSome, is_some}
-use Rattle.std.proofs.Common.{◌≡◌, ◌+◌, refl, sym, ap, subst, ◌∙◌}
+use Rattle.std.proofs.Common.{rules, ◌≡◌, ◌+◌, refl, sym, ap, subst, ◌∙◌}
 use Rattle.cmark_grammar.specs.BracketDecisions.{is_there}
 use Rattle.cmark_leaf_text.specs.Reads.{is_cell_of}
 use Rattle.cmark_text.specs.Shown.{shown_options}
@@ -11,6 +11,8 @@ use Rattle.cmark_inline.specs.declared.bracket.Bracket.{Bracket}
 use Rattle.cmark_inline.specs.declared.state.InlineState.{InlineState}
 use Rattle.cmark_inline.specs.declared.step.Cursor.{Cursor}
 use Rattle.cmark_inline.proofs.CloserMakes.{footnote-closes, inside-up, linked-closes, remembers-on, taken-stage, text-closes, tried-stage, wikilink-closes, IsTriedStage}
+use Rattle.cmark_inline.specs.Sound.{IsTakenFrom}
+use Rattle.cmark_inline.proofs.Keeping.{keeps-pending, keeps-puts, some-taken}
 use Rattle.cmark_inline.proofs.state.InlineState.close_bracket.Goals as goal
 
 pub returns-in-Some-clause-closes : goal.returns-in-Some-clause-closes
@@ -88,3 +90,19 @@ returns-clause-closes g c = λ reader read place closer s bs r at shows.
     (subst (λ (x : Option Cursor). LinksTaken g.F.BrokenLinkCallback.answers o l refs c.args.leaf.now c.args.text.now c.take_bracket-taken.result c.args.here.at c.footnote.new.self c.link.new.self x c.args.callback.now c.link.new.callback) c.in_default-3.is c.in_ok-next-3.ensures.links)
     (ap (λ (x : InlineState). x.brackets) put) (ap (λ (x : InlineState). x.doubled) put) (ap (λ (x : InlineState). x.expansion) put) (ap (λ (x : InlineState). x.shut_close) put)
     (c.in_ok-next-4.ensures.at ∙ c.behind-behind_it.ensures.value) (c.in_ok-next-4.ensures.end ∙ sym c.in_ok-next-4.ensures.at) (ap (λ (x : InlineState). x.links) put) k.table
+
+pub take_bracket-taken-requires-clause-sound : goal.take_bracket-taken-requires-clause-sound
+take_bracket-taken-requires-clause-sound g c = (keeps-pending c.args.self.now c.flush.new.self c.in_ok-flush.ensures.others c.args.here.pending c.args.here.at c.in_ok-flush.ensures.slots).sound c.requires.sound
+
+pub footnote-requires-clause-taken : goal.footnote-requires-clause-taken
+footnote-requires-clause-taken g c = some-taken c.take_bracket-taken.result c.take_bracket-taken.new.self c.wikilink.new.self (c.in_ok-next.ensures.taken c.in_default.is) c.take_bracket-taken.ensures.taken
+
+pub link-requires : goal.link-requires
+link-requires g c =
+    let same : c.footnote.new.self ≡ c.wikilink.new.self = c.in_ok-next-2.ensures.others c.in_default-2.is in
+    let taken : IfSome c.take_bracket-taken.result (IsTakenFrom c.footnote.new.self) = subst (λ (s : InlineState). IfSome c.take_bracket-taken.result (IsTakenFrom s)) (sym same)
+    (some-taken c.take_bracket-taken.result c.take_bracket-taken.new.self c.wikilink.new.self (c.in_ok-next.ensures.taken c.in_default.is) c.take_bracket-taken.ensures.taken) in
+    search (rules, taken)
+
+pub returns-clause-sound : goal.returns-clause-sound
+returns-clause-sound g c = (keeps-puts c.link.new.self c.put.new.self c.in_ok-next-4.ensures.others c.args.here.at c.args.here.at _ c.in_ok-next-4.ensures.slots ((refl, refl, refl), λ i. refl)).sound c.in_ok-next-3.ensures.sound

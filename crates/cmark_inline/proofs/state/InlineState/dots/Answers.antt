@@ -3,6 +3,7 @@ use Rattle.cmark_grammar.specs.InlineTokens.{item_at}
 use Rattle.cmark_grammar.specs.Items.{Plain}
 use Rattle.cmark_inline.proofs.Appended.{character-appends}
 use Rattle.cmark_inline.proofs.MarkSteps.{ellipsis-begins, ellipsis-bytes, no-ellipsis}
+use Rattle.cmark_inline.proofs.Keeping.{keeps-puts, keeps-same}
 use Rattle.cmark_inline.proofs.state.InlineState.dots.Goals as goal
 
 pub returns-then-not-starts_with-clause-token : goal.returns-then-not-starts_with-clause-token
@@ -20,3 +21,9 @@ returns-clause-token c = λ o l cell smart is.
     inr (character-appends o l cell c.args.text.now c.args.here c.args.self.now c.put.new.self c.in_ok-next.next _ _ _ c.requires.cursor.ordered
     (ellipsis-begins o l cell c.args.text.now c.args.here.at c.requires.here smart (drop cases.0 c.range_from.result.now) is (sym c.range_from.ensures.value ∙ cases.1.1))
     next.at (next.end ∙ sym next.at) next.slots next.others ellipsis-bytes)
+
+pub returns-then-not-starts_with-clause-keeps : goal.returns-then-not-starts_with-clause-keeps
+returns-then-not-starts_with-clause-keeps c = keeps-same c.args.self.now
+
+pub returns-clause-keeps : goal.returns-clause-keeps
+returns-clause-keeps c = keeps-puts c.args.self.now c.put.new.self c.in_ok-next.ensures.others c.args.here.pending c.args.here.at _ c.in_ok-next.ensures.slots ((refl, refl, refl), λ i. refl)

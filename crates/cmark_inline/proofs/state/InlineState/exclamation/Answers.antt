@@ -3,6 +3,7 @@ use Rattle.cmark_grammar.specs.InlineTokens.{bracket, item_at}
 use Rattle.cmark_grammar.specs.Items.{Plain, Opens}
 use Rattle.cmark_inline.specs.Tokens.{PutsBracket}
 use Rattle.cmark_inline.proofs.SpecialSteps.{image-opens, mark-stands}
+use Rattle.cmark_inline.proofs.Keeping.{keeps-same}
 use Rattle.cmark_inline.proofs.state.InlineState.exclamation.Goals as goal
 
 pub returns-clause-token : goal.returns-clause-token
@@ -25,3 +26,6 @@ returns-then-is_followed_by-clause-token c = λ o l cell is.
       pending = next.at.0 ∙ sym next.at.1;
       puts = subst (λ k. PutsBracket true c.args.here.pending c.args.here.at k c.args.self.now c.open_bracket.new.self) (sym next.at.1) next.puts;
     })
+
+pub returns-clause-keeps : goal.returns-clause-keeps
+returns-clause-keeps c = keeps-same c.args.self.now

@@ -1,7 +1,15 @@
-use Rattle.std.proofs.Common.{length, refl, ap, arith}
+use Rattle.std.proofs.Common.{◌≡◌, ◌≤◌, ◌+◌, ◌++◌, ◌∷◌, [], ℕ, List, drop, length, refl, sym, ap, subst, arith}
 use Rattle.std.proofs.lemmas.List.{length_push}
+use Rattle.cmark_inline.specs.Marked.{AreWhole, EndWithin, HaveBytes, SameBefore}
+use Rattle.cmark_inline.specs.Quoted.{characters_of, with_characters}
+use Rattle.cmark_inline.specs.Sound.{CanSettle, NamesNoMore}
+use Rattle.cmark_inline.specs.declared.delimiter.PlacedRun.{PlacedRun}
+use Rattle.cmark_inline.specs.declared.quote.PlacedQuote.{PlacedQuote}
 use Rattle.cmark_inline.specs.declared.slot.Slot.{Slot}
 use Rattle.cmark_inline.specs.declared.slot.SlotKind.TheVariants as kind
+use Rattle.cmark_inline.proofs.Naming.{no-more-on, no-more-push}
+use Rattle.cmark_inline.proofs.RunPlaces.{same-on}
+use Rattle.cmark_inline.proofs.Settling.{before-push, can-push, letters-before, letters-name, letters-settle}
 use Rattle.cmark_inline.proofs.Steps.{no-new, slots-push}
 use Rattle.cmark_inline.proofs.state.InlineState.finish.Goals as goal
 
@@ -24,3 +32,30 @@ pub returns-clause-links : goal.returns-clause-links
 returns-clause-links c = λ from h.
     let slot : Slot = record { kind = kind.End; start = c.args.close; end = c.args.end } in
     c.in_ok-resolve-2.ensures.links from (c.in_ok-resolve.ensures.links from (no-new c.args.self.now.slots.items c.push_slot.new.slots.items slot refl c.in_ok-push_slot.ensures from h))
+
+pub returns-clause-settled : goal.returns-clause-settled
+returns-clause-settled c =
+    let slot : Slot = record { kind = kind.End; start = c.args.close; end = c.args.end } in
+    let there = c.requires.there in
+    let low : ℕ = c.args.bracket.slot + 1 in
+    let old : List Slot = c.args.self.now.slots.items in
+    let one : List Slot = c.push_slot.new.slots.items in
+    let two : List Slot = c.resolve.new.slots.items in
+    let new : List Slot = c.resolve-2.new.slots.items in
+    let runs : List PlacedRun = drop c.args.bracket.runs c.args.self.now.delimiters.placed.items in
+    let quotes : List PlacedQuote = drop c.args.bracket.quotes c.args.self.now.quotes.placed.items in
+    let letters : List ℕ = characters_of quotes in
+    let e : one ≡ old ++ (slot ∷ []) = c.in_ok-push_slot.ensures in
+    let can : CanSettle low one runs quotes = subst (λ l. CanSettle low l runs quotes) (sym e) (can-push low old runs quotes c.requires.settles slot (λ i. refl)) in
+    let v : two ≡ with_characters quotes letters one = c.in_ok-resolve.ensures.value in
+    let t = letters-settle low one runs quotes can letters in
+    let whole : AreWhole two = subst AreWhole (sym v) t.0 in
+    let within : EndWithin two = subst EndWithin (sym v) t.1 in
+    let bytes : HaveBytes two low 0 runs = subst (λ l. HaveBytes l low 0 runs) (sym v) t.2 in
+    let marks = c.in_ok-resolve-2.ensures in
+    record {
+      names = no-more-on old one new (subst (NamesNoMore old) (sym e) (no-more-push old slot (refl, refl, refl))) (no-more-on one two new (subst (NamesNoMore one) (sym v) (letters-name low one runs quotes can letters)) (marks.names low 0 bytes whole));
+      whole = marks.whole low 0 bytes whole;
+      within = marks.within low 0 bytes whole within;
+      before = same-on low old one new (subst (SameBefore low old) (sym e) (before-push low old slot (let q : low ≤ length old = omega (arith, there) in q))) (same-on low one two new (subst (SameBefore low one) (sym v) (letters-before low one runs quotes can letters)) (marks.before low 0 bytes whole));
+    }

@@ -1,4 +1,5 @@
-use Rattle.std.proofs.Common.{◌≡◌, ◌≤◌, ◌<◌, ◌+◌, List, ℕ, length, refl, sym, ap, subst, ◌∙◌, arith}
+use Rattle.std.proofs.Common.{rules, ◌≡◌, ◌≤◌, ◌<◌, ◌+◌, List, ℕ, drop, length, set, get_or, refl, sym, ap, subst, ◌∙◌, arith}
+use Rattle.std.proofs.lemmas.List.{length_push, length-set}
 use Rattle.cmark_inline.specs.Closers.{LeavesElement}
 use Rattle.cmark_inline.specs.Stands.{IsSlot, IsTarget, AreBrackets, AreFree, bytes_of}
 use Rattle.cmark_leaf_text.specs.Reads.{IsPart}
@@ -7,6 +8,14 @@ use Rattle.cmark_inline.specs.declared.link.Target.{Target}
 use Rattle.cmark_inline.specs.declared.slot.Slot.{Slot}
 use Rattle.cmark_inline.specs.declared.slot.SlotKind.TheVariants as kind
 use Rattle.cmark_inline.proofs.Steps.{slots-on, brackets-on, free-on, part-from}
+use Rattle.cmark_inline.specs.Marked.{begun_as}
+use Rattle.cmark_inline.specs.SlotViews.{link_named}
+use Rattle.cmark_inline.specs.Sound.{CanSettle, IsSettled}
+use Rattle.cmark_inline.specs.declared.link.LinkParts.{LinkParts}
+use Rattle.cmark_inline.specs.declared.slot.Element.TheVariants as element
+use Rattle.cmark_inline.proofs.Forming.{link-formed, settle-set, settled-ended, sound-same}
+use Rattle.cmark_inline.proofs.Marks.{no-slot}
+use Rattle.cmark_inline.proofs.Soundness.{sound-settles}
 use Rattle.cmark_inline.proofs.state.InlineState.form.Goals as goal
 
 last-slot : (text : List ℕ) (close : ℕ) (target : Target) → IsPart text close (close + 1) → IsTarget text close target → IsSlot text target.past (record { kind = kind.End; start = close; end = target.end })
@@ -81,3 +90,89 @@ returns-clause-leaves c =
       drops = record { drops = c.drop_behind.ensures.drops; shut = c.drop_behind.ensures.shut };
       shuts_doubled = record { standing = c.shut_all-2.ensures.standing ∙ ap (λ (v : Brackets). v.standing) pairs; shut = c.shut_all-2.ensures.shut ∙ ap (λ (v : Brackets). length v.standing.items) pairs };
     })
+
+pub finish-requires-clause-there : goal.finish-requires-clause-there
+finish-requires-clause-there c =
+    let t = c.requires.taken.placed.there in
+    let n = c.begin.ensures.length in
+    omega (arith, t, n)
+
+pub finish-requires-clause-settles : goal.finish-requires-clause-settles
+finish-requires-clause-settles c =
+    let old = c.args.self.now in
+    let h = c.requires.sound in
+    let p = c.requires.taken.placed in
+    let b = c.args.bracket in
+    let s : Slot = begun_as (element.Image c.len-index.result) c.args.target.end (get_or old.slots.items b.slot no-slot) in
+    subst (λ l. CanSettle (b.slot + 1) l (drop b.runs old.delimiters.placed.items) (drop b.quotes old.quotes.placed.items)) (sym (c.begin.ensures.value no-slot p.there))
+    (settle-set (b.slot + 1) old.slots.items (drop b.runs old.delimiters.placed.items) (drop b.quotes old.quotes.placed.items)
+    (sound-settles (length old.texts.items) (length old.links.items) old.slots.items old.delimiters.placed.items old.quotes.placed.items old.brackets.standing.items old.doubled.standing.items h b p) b.slot s (omega arith) p.there p.text (λ i. refl))
+
+pub returns-then-bracket-clause-sound : goal.returns-then-bracket-clause-sound
+returns-then-bracket-clause-sound c =
+    let old = c.args.self.now in
+    let new = c.finish.new.self in
+    let p = c.requires.taken.placed in
+    let b = c.args.bracket in
+    let f = c.in_ok-finish.ensures in
+    let s : Slot = begun_as (element.Image c.len-index.result) c.args.target.end (get_or old.slots.items b.slot no-slot) in
+    let settled : IsSettled (b.slot + 1) (set old.slots.items b.slot s) new.slots.items = subst (λ l. IsSettled (b.slot + 1) l new.slots.items) (c.begin.ensures.value no-slot p.there) f.settled in
+    let m = f.length in
+    let n = c.begin.ensures.length in
+    let more = ap (λ v. length v.items) c.finish.ensures.table ∙ ap length c.in_ok-push.ensures.items ∙ length_push old.links.items c.args.target.parts in
+    sound-same (length old.texts.items) (length new.texts.items) (length old.links.items + 1) (length new.links.items) new.slots.items _ new.delimiters.placed.items _ new.quotes.placed.items old.brackets.standing.items _ c.drop_behind.new.self.standing.items _
+    (ap (λ v. length v.items) c.finish.ensures.texts) (let q : length new.links.items ≡ length old.links.items + 1 = omega (arith, more) in q) f.placed f.quotes (ap (λ (v : Brackets). v.standing.items) c.finish.ensures.brackets) (ap (λ (v : Brackets). v.standing.items) c.finish.ensures.doubled)
+    (link-formed (length old.texts.items) (length old.links.items) old.slots.items old.delimiters.placed.items old.quotes.placed.items old.brackets.standing.items old.doubled.standing.items c.requires.sound b c.requires.taken c.args.text.now c.args.close c.requires.stands.doubled
+    c.drop_behind.new.self.standing.items c.drop_behind.ensures.drops s refl (ap (λ k. link_named (kind.Begin (element.Image k))) (let q : c.len-index.result ≡ length old.links.items = search rules in q)) new.slots.items (let q : length old.slots.items ≤ length new.slots.items = omega (arith, m, n) in q) settled)
+
+pub returns-then-bracket-clause-ends : goal.returns-then-bracket-clause-ends
+returns-then-bracket-clause-ends c =
+    let old = c.args.self.now in
+    let new = c.finish.new.self in
+    let p = c.requires.taken.placed in
+    let b = c.args.bracket in
+    let s : Slot = begun_as (element.Image c.len-index.result) c.args.target.end (get_or old.slots.items b.slot no-slot) in
+    settled-ended old.slots.items b.slot (b.slot + 1) s new.slots.items refl (subst (λ l. IsSettled (b.slot + 1) l new.slots.items) (c.begin.ensures.value no-slot p.there) c.in_ok-finish.ensures.settled)
+
+pub finish-requires-2-clause-there : goal.finish-requires-2-clause-there
+finish-requires-2-clause-there c =
+    let t = c.requires.taken.placed.there in
+    let n = c.begin-2.ensures.length in
+    omega (arith, t, n)
+
+pub finish-requires-2-clause-settles : goal.finish-requires-2-clause-settles
+finish-requires-2-clause-settles c =
+    let old = c.args.self.now in
+    let h = c.requires.sound in
+    let p = c.requires.taken.placed in
+    let b = c.args.bracket in
+    let s : Slot = begun_as (element.Link c.len-index.result) c.args.target.end (get_or old.slots.items b.slot no-slot) in
+    subst (λ l. CanSettle (b.slot + 1) l (drop b.runs old.delimiters.placed.items) (drop b.quotes old.quotes.placed.items)) (sym (c.begin-2.ensures.value no-slot p.there))
+    (settle-set (b.slot + 1) old.slots.items (drop b.runs old.delimiters.placed.items) (drop b.quotes old.quotes.placed.items)
+    (sound-settles (length old.texts.items) (length old.links.items) old.slots.items old.delimiters.placed.items old.quotes.placed.items old.brackets.standing.items old.doubled.standing.items h b p) b.slot s (omega arith) p.there p.text (λ i. refl))
+
+pub returns-clause-sound : goal.returns-clause-sound
+returns-clause-sound c =
+    let old = c.args.self.now in
+    let new = c.finish-2.new.self in
+    let p = c.requires.taken.placed in
+    let b = c.args.bracket in
+    let f = c.in_ok-finish-2.ensures in
+    let s : Slot = begun_as (element.Link c.len-index.result) c.args.target.end (get_or old.slots.items b.slot no-slot) in
+    let settled : IsSettled (b.slot + 1) (set old.slots.items b.slot s) new.slots.items = subst (λ l. IsSettled (b.slot + 1) l new.slots.items) (c.begin-2.ensures.value no-slot p.there) f.settled in
+    let m = f.length in
+    let n = c.begin-2.ensures.length in
+    let more = ap (λ v. length v.items) c.finish-2.ensures.table ∙ ap length c.in_ok-push.ensures.items ∙ length_push old.links.items c.args.target.parts in
+    sound-same (length old.texts.items) (length new.texts.items) (length old.links.items + 1) (length new.links.items) new.slots.items _ new.delimiters.placed.items _ new.quotes.placed.items old.brackets.standing.items _ c.drop_behind.new.self.standing.items _
+    (ap (λ v. length v.items) c.finish-2.ensures.texts) (let q : length new.links.items ≡ length old.links.items + 1 = omega (arith, more) in q) f.placed f.quotes (ap (λ v. v.items) c.shut_all.ensures.standing ∙ ap (λ (v : Brackets). v.standing.items) c.finish-2.ensures.brackets) (ap (λ v. v.items) c.shut_all-2.ensures.standing ∙ ap (λ (v : Brackets). v.standing.items) c.finish-2.ensures.doubled)
+    (link-formed (length old.texts.items) (length old.links.items) old.slots.items old.delimiters.placed.items old.quotes.placed.items old.brackets.standing.items old.doubled.standing.items c.requires.sound b c.requires.taken c.args.text.now c.args.close c.requires.stands.doubled
+    c.drop_behind.new.self.standing.items c.drop_behind.ensures.drops s refl (ap (λ k. link_named (kind.Begin (element.Link k))) (let q : c.len-index.result ≡ length old.links.items = search rules in q)) new.slots.items (let q : length old.slots.items ≤ length new.slots.items = omega (arith, m, n) in q) settled)
+
+pub returns-clause-ends : goal.returns-clause-ends
+returns-clause-ends c =
+    let old = c.args.self.now in
+    let new = c.finish-2.new.self in
+    let p = c.requires.taken.placed in
+    let b = c.args.bracket in
+    let s : Slot = begun_as (element.Link c.len-index.result) c.args.target.end (get_or old.slots.items b.slot no-slot) in
+    settled-ended old.slots.items b.slot (b.slot + 1) s new.slots.items refl (subst (λ l. IsSettled (b.slot + 1) l new.slots.items) (c.begin-2.ensures.value no-slot p.there) c.in_ok-finish-2.ensures.settled)

@@ -1,4 +1,7 @@
-use Rattle.std.proofs.Common.{◌≤◌, ◌+◌, List, ℕ, length, sym, ap, subst, arith}
+use Rattle.std.proofs.Common.{rules, ◌≡◌, ◌≤◌, ◌+◌, List, [], ℕ, length, take, refl, sym, ap, subst, ◌∙◌, arith}
+use Rattle.std.proofs.lemmas.List.{length_push}
+use Rattle.cmark_inline.specs.Doubled.{DropsBehind}
+use Rattle.cmark_inline.specs.Footnoted.{PutsReference, reference_as}
 use Rattle.cmark_leaf_text.specs.Reads.{IsPart}
 use Rattle.cmark_inline.specs.Stands.{AreBrackets, AreFree, IsBracket, IsSlot, bytes_of}
 use Rattle.cmark_inline.specs.declared.bracket.Bracket.{Bracket}
@@ -6,6 +9,7 @@ use Rattle.cmark_inline.specs.declared.bracket.Brackets.{Brackets}
 use Rattle.cmark_inline.specs.declared.slot.Slot.{Slot}
 use Rattle.cmark_inline.specs.declared.state.InlineState.{InlineState}
 use Rattle.cmark_inline.proofs.FootnoteSteps.{reference-part}
+use Rattle.cmark_inline.proofs.Forming.{reference-ended, reference-formed, sound-same}
 use Rattle.cmark_inline.proofs.Steps.{brackets-on, free-on, slots-on}
 use Rattle.cmark_inline.proofs.state.InlineState.form_footnote.Goals as goal
 
@@ -44,3 +48,25 @@ returns-clause-stands c =
       doubled_free = c.drop_behind.ensures.free ss (subst (λ (v : Brackets). AreFree ss v.standing.items v.shut) (sym same) (free-on old ss c.args.self.now.doubled.standing.items c.args.self.now.doubled.shut s.doubled_free put.links));
       runs = (let q : bytes_of c.truncate-2.new.self.placed.items ≤ length ss = omega (arith, cut, kept, fewer, least) in q);
     }
+
+pub returns-clause-sound : goal.returns-clause-sound
+returns-clause-sound c =
+    let old : InlineState = c.args.self.now in
+    let put : InlineState = c.put_reference.new.self in
+    let b : Bracket = c.args.bracket in
+    let o = c.put_reference.ensures.others in
+    let puts : PutsReference b (reference_as b (length old.texts.items) (c.args.close + 1)) old.slots.items put.slots.items = search rules in
+    let drops : DropsBehind b.start old.doubled.standing.items c.drop_behind.new.self.standing.items = subst (λ (v : Brackets). DropsBehind b.start v.standing.items c.drop_behind.new.self.standing.items) (ap (λ (s : InlineState). s.doubled) o) c.drop_behind.ensures.drops in
+    sound-same (length old.texts.items + 1) _ (length old.links.items) _ put.slots.items _ _ _ _ _ _ _ _
+    (ap (λ (s : InlineState). length s.texts.items) o ∙ ap length c.in_ok-push.ensures.items ∙ length_push old.texts.items c.args.name) (ap (λ (s : InlineState). length s.links.items) o)
+    (c.truncate-2.ensures.placed ∙ ap (λ (s : InlineState). take b.runs s.delimiters.placed.items) o) (c.truncate.ensures ∙ ap (λ (s : InlineState). take b.quotes s.quotes.placed.items) o) c.clear.ensures.standing (let q : c.drop_behind.new.self.standing.items ≡ c.drop_behind.new.self.standing.items = refl in q)
+    (reference-formed (length old.texts.items) (length old.links.items) old.slots.items put.slots.items b (reference_as b (length old.texts.items) (c.args.close + 1)) puts old.delimiters.placed.items old.quotes.placed.items old.brackets.standing.items old.doubled.standing.items c.requires.sound c.requires.taken
+    c.args.text.now c.args.close c.requires.stands.doubled c.drop_behind.new.self.standing.items drops refl)
+
+pub returns-clause-ends : goal.returns-clause-ends
+returns-clause-ends c =
+    let old : InlineState = c.args.self.now in
+    let put : InlineState = c.put_reference.new.self in
+    let b : Bracket = c.args.bracket in
+    let puts : PutsReference b (reference_as b (length old.texts.items) (c.args.close + 1)) old.slots.items put.slots.items = search rules in
+    reference-ended (length old.texts.items) (length old.links.items) old.slots.items put.slots.items b (reference_as b (length old.texts.items) (c.args.close + 1)) puts c.requires.taken.placed.there refl

@@ -1,9 +1,21 @@
-use Rattle.std.proofs.Common.{◌≤◌, ◌<◌, ◌+◌, List, ℕ, length, sym, ap, subst, ◌∙◌, arith}
+use Rattle.std.specs.Prelude.{if◌then◌else◌}
+use Rattle.std.proofs.Common.{rules, ◌≡◌, ◌≤◌, ◌<◌, ◌+◌, List, [], ℕ, Some, drop, take, length, get_or, set, refl, sym, ap, subst, ◌∙◌, arith}
+use Rattle.std.proofs.lemmas.List.{length_push, length-set}
+use Rattle.cmark_inline.specs.Doubled.{DropsBehind}
+use Rattle.cmark_inline.specs.Marked.{begun_as}
+use Rattle.cmark_inline.specs.SlotViews.{link_named, link_of, text_named}
+use Rattle.cmark_inline.specs.Sound.{AreEnded, AreSound, CanSettle, EndsIn, IsSettled, IsSound}
 use Rattle.cmark_inline.specs.Stands.{IsEnd, AreBrackets, AreFree, bytes_of}
 use Rattle.cmark_inline.specs.declared.bracket.Bracket.{Bracket}
 use Rattle.cmark_inline.specs.declared.bracket.Brackets.{Brackets}
 use Rattle.cmark_inline.specs.declared.slot.Slot.{Slot}
 use Rattle.cmark_inline.specs.declared.state.InlineState.{InlineState}
+use Rattle.cmark_inline.specs.declared.slot.Element.{Element}
+use Rattle.cmark_inline.specs.declared.slot.Element.TheVariants as element
+use Rattle.cmark_inline.specs.declared.slot.SlotKind.TheVariants as kind
+use Rattle.cmark_inline.proofs.Forming.{settle-set, settled-ended, sound-same, take-fewer, wikilink-formed}
+use Rattle.cmark_inline.proofs.Marks.{no-slot}
+use Rattle.cmark_inline.proofs.Soundness.{sound-more}
 use Rattle.cmark_inline.proofs.Steps.{brackets-on}
 use Rattle.cmark_inline.proofs.state.InlineState.form_wikilink.Goals as goal
 
@@ -39,3 +51,94 @@ returns-clause-stands c =
 
 pub returns-clause-link : goal.returns-clause-link
 returns-clause-link c = λ plain. c.in_ok-finish.ensures.links (c.args.doubled.slot + 1) (c.begin.ensures.behind (c.in_ok-inside.ensures.links c.args.doubled.slot (c.requires.free plain)))
+
+pub show-requires-clause-sound : goal.show-requires-clause-sound
+show-requires-clause-sound c =
+    let old : InlineState = c.args.self.now in
+    let more = ap length c.in_ok-push.ensures.items ∙ length_push old.links.items _ in
+    let n = c.push.new.self.items in
+    sound-more (length old.texts.items) (length old.links.items) (length n) old.slots.items old.delimiters.placed.items old.quotes.placed.items old.brackets.standing.items old.doubled.standing.items (let q : length old.links.items ≤ length n = omega (arith, more) in q) c.requires.sound
+
+pub finish-requires-clause-there : goal.finish-requires-clause-there
+finish-requires-clause-there c =
+    let old : InlineState = c.args.self.now in
+    let d : Bracket = c.args.doubled in
+    let p = c.requires.taken.placed in
+    let shown : InlineState = c.show.new.self in
+    let o = c.show.ensures.others in
+    let i = c.in_ok-inside.ensures in
+    let size = i.longer in
+    let there = p.there in
+    let within : d.slot < length shown.slots.items = omega (arith, size, there) in
+    let n = c.begin.ensures.length in
+    subst (λ k. k < length c.begin.new.slots.items) (sym i.bracket) (omega (arith, n, within))
+
+pub finish-requires-clause-settles : goal.finish-requires-clause-settles
+finish-requires-clause-settles c =
+    let old : InlineState = c.args.self.now in
+    let d : Bracket = c.args.doubled in
+    let p = c.requires.taken.placed in
+    let shown : InlineState = c.show.new.self in
+    let o = c.show.ensures.others in
+    let i = c.in_ok-inside.ensures in
+    let size = i.longer in
+    let there = p.there in
+    let within : d.slot < length shown.slots.items = omega (arith, size, there) in
+    let s : Slot = begun_as c.linked_element-element.result (c.args.close + 2) (get_or shown.slots.items d.slot no-slot) in
+    let begun : c.begin.new.slots.items ≡ set shown.slots.items d.slot s = c.begin.ensures.value no-slot within in
+    let n : ℕ = c.in_ok-inside.inside.runs in
+    let m : ℕ = c.in_ok-inside.inside.quotes in
+    let text : (e : Slot) → (get_or shown.slots.items d.slot e).kind ≡ kind.Text = λ e. ap (λ (x : Slot). x.kind) (i.before d.slot e (omega arith)) ∙ p.text e in
+    let can : CanSettle (d.slot + 1) (set shown.slots.items d.slot s) (drop n old.delimiters.placed.items) (drop m old.quotes.placed.items) = settle-set (d.slot + 1) shown.slots.items (drop n old.delimiters.placed.items) (drop m old.quotes.placed.items) i.settles d.slot s (omega arith) within text (λ j. refl) in
+    subst (λ k. CanSettle (k + 1) c.begin.new.slots.items (drop n shown.delimiters.placed.items) (drop m shown.quotes.placed.items)) (sym i.bracket)
+    (subst (λ l. CanSettle (d.slot + 1) l (drop n shown.delimiters.placed.items) (drop m shown.quotes.placed.items)) (sym begun)
+    (subst (λ (x : InlineState). CanSettle (d.slot + 1) (set shown.slots.items d.slot s) (drop n x.delimiters.placed.items) (drop m x.quotes.placed.items)) (sym o) can))
+
+pub returns-clause-sound : goal.returns-clause-sound
+returns-clause-sound c =
+    let old : InlineState = c.args.self.now in
+    let d : Bracket = c.args.doubled in
+    let p = c.requires.taken.placed in
+    let shown : InlineState = c.show.new.self in
+    let o = c.show.ensures.others in
+    let i = c.in_ok-inside.ensures in
+    let size = i.longer in
+    let there = p.there in
+    let within : d.slot < length shown.slots.items = omega (arith, size, there) in
+    let s : Slot = begun_as c.linked_element-element.result (c.args.close + 2) (get_or shown.slots.items d.slot no-slot) in
+    let begun : c.begin.new.slots.items ≡ set shown.slots.items d.slot s = c.begin.ensures.value no-slot within in
+    let h = c.requires.sound in
+    let new : InlineState = c.finish.new.self in
+    let f = c.in_ok-finish.ensures in
+    let settled : IsSettled (d.slot + 1) (set shown.slots.items d.slot s) new.slots.items = subst (λ l. IsSettled (d.slot + 1) l new.slots.items) begun (subst (λ k. IsSettled (k + 1) c.begin.new.slots.items new.slots.items) i.bracket f.settled) in
+    let drops : DropsBehind d.start old.brackets.standing.items c.drop_behind.new.self.standing.items = subst (λ (v : Brackets). DropsBehind d.start v.standing.items c.drop_behind.new.self.standing.items) (c.finish.ensures.brackets ∙ ap (λ (x : InlineState). x.brackets) o) c.drop_behind.ensures.drops in
+    let more = ap length c.in_ok-push.ensures.items ∙ length_push old.links.items _ in
+    let kept = ap (λ v. length v.items) c.finish.ensures.table ∙ ap (λ (x : InlineState). length x.links.items) o in
+    let index : c.len-index.result ≡ length old.links.items = search rules in
+    let n = c.begin.ensures.length in
+    let l = f.length in
+    sound-same (length old.texts.items) (length new.texts.items) (length old.links.items + 1) (length new.links.items) new.slots.items (take d.runs old.delimiters.placed.items) _ (take d.quotes old.quotes.placed.items) _ c.drop_behind.new.self.standing.items _ [] _
+    (ap (λ v. length v.items) c.finish.ensures.texts ∙ ap (λ (x : InlineState). length x.texts.items) o)
+    (let q : length new.links.items ≡ length old.links.items + 1 = omega (arith, kept, more) in q)
+    (c.truncate-2.ensures.placed ∙ ap (take d.runs) f.placed ∙ take-fewer d.runs c.in_ok-inside.inside.runs shown.delimiters.placed.items i.runs ∙ ap (λ (x : InlineState). take d.runs x.delimiters.placed.items) o)
+    (c.truncate.ensures ∙ ap (take d.quotes) f.quotes ∙ take-fewer d.quotes c.in_ok-inside.inside.quotes shown.quotes.placed.items i.quotes ∙ ap (λ (x : InlineState). take d.quotes x.quotes.placed.items) o)
+    (ap (λ v. v.items) c.shut_all.ensures.standing) c.clear.ensures.standing
+    (wikilink-formed (length old.texts.items) (length old.links.items) old.slots.items old.delimiters.placed.items old.quotes.placed.items old.brackets.standing.items old.doubled.standing.items h d c.requires.taken c.args.text.now c.args.close c.requires.stands.brackets
+    c.drop_behind.new.self.standing.items drops s refl (c.linked_element-element.ensures.names ∙ ap Some index) shown.slots.items new.slots.items size (let q : length shown.slots.items ≤ length new.slots.items = omega (arith, n, l) in q) i.before (i.names (length old.texts.items) (length old.links.items) h.named) settled)
+
+pub returns-clause-ends : goal.returns-clause-ends
+returns-clause-ends c = λ leaf ends source.
+    let old : InlineState = c.args.self.now in
+    let d : Bracket = c.args.doubled in
+    let p = c.requires.taken.placed in
+    let shown : InlineState = c.show.new.self in
+    let o = c.show.ensures.others in
+    let i = c.in_ok-inside.ensures in
+    let size = i.longer in
+    let there = p.there in
+    let within : d.slot < length shown.slots.items = omega (arith, size, there) in
+    let s : Slot = begun_as c.linked_element-element.result (c.args.close + 2) (get_or shown.slots.items d.slot no-slot) in
+    let begun : c.begin.new.slots.items ≡ set shown.slots.items d.slot s = c.begin.ensures.value no-slot within in
+    let new : InlineState = c.finish.new.self in
+    let settled : IsSettled (d.slot + 1) (set shown.slots.items d.slot s) new.slots.items = subst (λ l. IsSettled (d.slot + 1) l new.slots.items) begun (subst (λ k. IsSettled (k + 1) c.begin.new.slots.items new.slots.items) i.bracket c.in_ok-finish.ensures.settled) in
+    settled-ended shown.slots.items d.slot (d.slot + 1) s new.slots.items refl settled leaf (i.ends leaf ends source)

@@ -1,9 +1,10 @@
-use Rattle.std.proofs.Common.{◌≡◌, inl, inr, length, refl, sym, ap, ◌∙◌, rules}
+use Rattle.std.proofs.Common.{◌≡◌, inl, inr, Some, length, refl, sym, ap, ◌∙◌, rules}
 use Rattle.cmark_grammar.specs.InlineTokens.{item_at}
 use Rattle.cmark_grammar.specs.Items.{Plain}
 use Rattle.cmark_inline.specs.declared.state.InlineState.{InlineState}
 use Rattle.cmark_inline.proofs.Appended.{kept, owned-appends}
 use Rattle.cmark_inline.proofs.MarkSteps.{many-hyphens, one-hyphen}
+use Rattle.cmark_inline.proofs.Keeping.{keeps-owned, keeps-same}
 use Rattle.cmark_inline.proofs.state.InlineState.hyphens.Goals as goal
 
 pub returns-then-size-lt2-clause-token : goal.returns-then-size-lt2-clause-token
@@ -21,3 +22,9 @@ returns-clause-token c = λ o l cell smart is.
     (many-hyphens o l cell c.args.text.now c.args.here.at c.requires.here smart c.run_end-end.result _ is c.run_end-end.ensures.value refl c.if-size-lt2.false)
     next.at (next.end ∙ sym next.at) next.slots (ap (λ (s : InlineState). s.texts.items) next.others ∙ c.in_ok-push.ensures.items) (let q : c.len.result ≡ length c.args.self.now.texts.items = search rules in q)
     (c.in_ok-owned.ensures.value ∙ c.in_ok-dash_text.ensures) (kept c.args.self.now c.put.new.self _ next.others refl))
+
+pub returns-then-size-lt2-clause-keeps : goal.returns-then-size-lt2-clause-keeps
+returns-then-size-lt2-clause-keeps c = keeps-same c.args.self.now
+
+pub returns-clause-keeps : goal.returns-clause-keeps
+returns-clause-keeps c = keeps-owned c.args.self.now (record c.args.self.now { texts = c.push.new.self }) c.put.new.self c.args.here.pending c.args.here.at _ c.in_ok-next.ensures.slots c.in_ok-owned.owned c.in_ok-push.ensures.items c.in_ok-next.ensures.others refl (ap Some (let q : c.len.result ≡ length c.args.self.now.texts.items = search rules in q)) refl refl (λ i. refl)

@@ -1,5 +1,6 @@
 use Rattle.std.proofs.Common.{refl, sym, ◌∙◌}
 use Rattle.cmark_inline.proofs.AngleMakes.{by-autolink, by-html, by-none}
+use Rattle.cmark_inline.proofs.Keeping.{found-alone, keeps-autolink, keeps-puts, keeps-source}
 use Rattle.cmark_inline.proofs.state.InlineState.less_than.Goals as goal
 
 pub returns-in-Some-clause-token : goal.returns-in-Some-clause-token
@@ -21,3 +22,19 @@ returns-clause-token c = λ o l is.
     by-none o l c.args.leaf.now c.args.here c.args.self.now c.put.new.self c.in_ok-next-3.next c.args.text.now c.requires.same
     (c.requires.cursor.ordered, c.requires.here, is, sym c.if-is_followed_by.ensures.value) c.in_default.ensures.value (next.end ∙ sym next.at) next.others
     (c.in_default-inline_html.ensures.none refl) c.behind.result c.behind.ensures.value next.at next.slots
+
+pub returns-in-Some-clause-sound : goal.returns-in-Some-clause-sound
+returns-in-Some-clause-sound c = λ h.
+    let next = c.in_ok-next.ensures in
+    (keeps-autolink c.args.self.now c.autolink.new.self c.args.here.pending c.args.here.at c.in-Some.end next.slots next.link.0 next.link.2 next.others).sound h
+
+pub returns-in-Some-inline_html-clause-sound : goal.returns-in-Some-inline_html-clause-sound
+returns-in-Some-inline_html-clause-sound c = λ h.
+    let next = c.in_ok-next-2.ensures in
+    let f = found-alone c.args.leaf.now c.args.here.at c.in-Some-inline_html.found c.in-Some-inline_html.ensures.is in
+    keeps-source c.args.self.now c.put_before_words.new.self next.others c.args.here.pending c.args.here.at _ next.slots f.0 f.1 f.2 h
+
+pub returns-clause-sound : goal.returns-clause-sound
+returns-clause-sound c = λ h.
+    let next = c.in_ok-next-3.ensures in
+    (keeps-puts c.args.self.now c.put.new.self next.others c.args.here.pending c.args.here.at _ next.slots ((refl, refl, refl), λ i. refl)).sound h

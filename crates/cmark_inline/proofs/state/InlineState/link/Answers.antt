@@ -1,6 +1,10 @@
 use Rattle.std.proofs.Common.{refl}
 use Rattle.cmark_text.specs.Shown.{shown_options}
 use Rattle.cmark_inline.proofs.CloserSteps.{links-none, links-some}
+use Rattle.cmark_inline.specs.Sound.{IsTakenFrom}
+use Rattle.std.specs.Prelude.{IfSome}
+use Rattle.std.proofs.Common.{subst}
+use Rattle.cmark_inline.proofs.Keeping.{spans-ended, spans-sound, spans-taken}
 use Rattle.cmark_inline.proofs.state.InlineState.link.Goals as goal
 
 pub returns-in_default-2-clause-links : goal.returns-in_default-2-clause-links
@@ -14,3 +18,18 @@ returns-clause-links g c =
     c.target.new.self c.in_ok-target.field-0 c.args.callback.now c.target.new.callback c.in-Some.is c.in_ok-target.ensures.decides c.target.ensures.same c.in_ok-target.ensures.label c.target.ensures.table
     c.in-Some-2.target c.form.new.self _ c.in-Some-2.is
     (record { pending = refl; at = refl; leaves = c.in_ok-form.ensures.leaves; links = c.in_ok-form.ensures.parts; expansion = c.form.ensures.expansion; label = c.form.ensures.label })
+
+pub form-requires-clause-sound : goal.form-requires-clause-sound
+form-requires-clause-sound g c = spans-sound c.args.self.now c.target.new.self c.target.ensures.same c.target.ensures.table c.target.ensures.texts c.target.ensures.quotes c.requires.sound
+
+pub form-requires-clause-taken : goal.form-requires-clause-taken
+form-requires-clause-taken g c = spans-taken c.args.self.now c.target.new.self c.target.ensures.same c.target.ensures.table c.target.ensures.texts c.target.ensures.quotes c.in-Some.bracket (subst (λ o. IfSome o (IsTakenFrom c.args.self.now)) c.in-Some.is c.requires.taken)
+
+pub returns-in_default-2-clause-sound : goal.returns-in_default-2-clause-sound
+returns-in_default-2-clause-sound g c = spans-sound c.args.self.now c.target.new.self c.target.ensures.same c.target.ensures.table c.target.ensures.texts c.target.ensures.quotes c.requires.sound
+
+pub returns-in_default-2-clause-ends : goal.returns-in_default-2-clause-ends
+returns-in_default-2-clause-ends g c = spans-ended c.args.self.now c.target.new.self c.target.ensures.same c.target.ensures.table c.target.ensures.texts c.target.ensures.quotes
+
+pub returns-clause-ends : goal.returns-clause-ends
+returns-clause-ends g c = λ leaf e. c.in_ok-form.ensures.ends leaf (spans-ended c.args.self.now c.target.new.self c.target.ensures.same c.target.ensures.table c.target.ensures.texts c.target.ensures.quotes leaf e)

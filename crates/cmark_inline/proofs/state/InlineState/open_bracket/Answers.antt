@@ -10,6 +10,10 @@ use Rattle.cmark_inline.specs.declared.bracket.Brackets.{Brackets}
 use Rattle.cmark_inline.specs.declared.slot.Slot.{Slot}
 use Rattle.cmark_inline.specs.declared.slot.SlotKind.TheVariants as kind
 use Rattle.cmark_inline.proofs.Steps.{Keeps, free-push, keeps-push, last-holds-none}
+use Rattle.cmark_inline.specs.Sound.{AreEnded, AreSound, IsSound}
+use Rattle.cmark_inline.proofs.Keeping.{keeps-pending}
+use Rattle.cmark_inline.proofs.Naming.{ended-on, no-more-push}
+use Rattle.cmark_inline.proofs.Opening.{doubles-are, sound-opened}
 use Rattle.cmark_inline.proofs.state.InlineState.open_bracket.Goals as goal
 
 pub returns-clause-moves : goal.returns-clause-moves
@@ -60,3 +64,23 @@ returns-clause-opens c =
     (c.double.ensures.shut ∙ ap (λ (v : Brackets). v.shut) pairs)
     c.flush.ensures.expansion
     (ap (λ (s : InlineState). s.shut_close) kept)
+
+pub returns-clause-keeps : goal.returns-clause-keeps
+returns-clause-keeps c =
+    let old : InlineState = c.args.self.now in
+    let mid : InlineState = c.flush.new.self in
+    let new : InlineState = record mid { slots = c.push_slot.new.slots; brackets = c.push.new.self; doubled = c.double.new.self } in
+    let slot : Slot = record { kind = kind.Text; start = c.args.here.at; end = c.args.inside } in
+    let b : Bracket = record { slot = c.len.result; runs = c.len-2.result; quotes = c.len-3.result; start = c.args.here.at; inside = c.args.inside; is_image = c.args.is_image } in
+    let flushed = keeps-pending old mid c.in_ok-flush.ensures.others c.args.here.pending c.args.here.at c.in_ok-flush.ensures.slots in
+    let stands = c.in_ok-flush.ensures.stands in
+    let e = c.in_ok-push_slot.ensures in
+    record {
+      sound = λ h.
+          subst (λ l. AreSound (length mid.texts.items) (length mid.links.items) c.push_slot.new.slots.items mid.delimiters.placed.items mid.quotes.placed.items l c.double.new.self.standing.items) (sym c.in_ok-push.ensures.brackets)
+          (subst (λ l. AreSound (length mid.texts.items) (length mid.links.items) l mid.delimiters.placed.items mid.quotes.placed.items (mid.brackets.standing.items ++ (b ∷ [])) c.double.new.self.standing.items) (sym e)
+          (sound-opened (length mid.texts.items) (length mid.links.items) mid.slots.items mid.delimiters.placed.items mid.quotes.placed.items mid.brackets.standing.items mid.doubled.standing.items (flushed.sound h)
+          c.args.text.now c.args.here.at stands.brackets stands.doubled slot refl b (omega arith) c.requires.part.some (let q : c.len.result ≡ length mid.slots.items = search rules in q) (let q : c.len-2.result ≡ length mid.delimiters.placed.items = search rules in q) (let q : c.len-3.result ≡ length mid.quotes.placed.items = search rules in q)
+          c.double.new.self.standing.items (doubles-are (shown_options c.args.options) mid.brackets c.args.is_image c.args.here.at c.args.inside mid.doubled.standing.items c.double.new.self.standing.items c.in_ok-double.ensures.doubled)));
+      ends = λ leaf h. subst (AreEnded leaf) (sym e) (ended-on mid.slots.items (mid.slots.items ++ (slot ∷ [])) (no-more-push mid.slots.items slot (refl, refl, refl)) leaf (flushed.ends leaf h));
+    }

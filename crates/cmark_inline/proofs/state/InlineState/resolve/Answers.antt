@@ -1,14 +1,25 @@
-use Rattle.std.proofs.Common.{rules, ◌≤◌, ℕ, List, length, refl, ◌∙◌, subst, arith}
+use Rattle.std.proofs.Common.{rules, ◌≡◌, ◌≤◌, ℕ, List, drop, length, refl, sym, ◌∙◌, subst, arith}
 use Rattle.std.proofs.lemmas.Str.{IsCharBoundary-start}
 use Rattle.cmark_inline.specs.Asking.{AsksUpTo, closing_brackets}
+use Rattle.cmark_inline.specs.Marked.{AreWhole, EndWithin, HaveBytes}
+use Rattle.cmark_inline.specs.Quoted.{characters_of, with_characters}
+use Rattle.cmark_inline.specs.Sound.{IsSound, NamesNoMore}
 use Rattle.cmark_inline.specs.Stands.{AreSlots}
+use Rattle.cmark_inline.specs.declared.delimiter.PlacedRun.{PlacedRun}
+use Rattle.cmark_inline.specs.declared.quote.PlacedQuote.{PlacedQuote}
+use Rattle.cmark_inline.specs.declared.slot.Slot.{Slot}
+use Rattle.cmark_inline.specs.declared.state.InlineState.{InlineState}
+use Rattle.cmark_inline.proofs.Keeping.{keeps-pending}
+use Rattle.cmark_inline.proofs.Naming.{named-on, no-more-on}
+use Rattle.cmark_inline.proofs.Settling.{letters-name, letters-settle}
+use Rattle.cmark_inline.proofs.Soundness.{sound-settles-all}
 use Rattle.cmark_inline.proofs.Questions.{asks-all, asks-on}
 use Rattle.cmark_inline.proofs.state.InlineState.resolve.Goals as goal
 
 pub loop-cursor-init : goal.loop-cursor-init
 loop-cursor-init g c =
     let b = IsCharBoundary-start c.as_str-text.result.now c.as_str-text.utf8 in
-    (c.clear.ensures.stands c.as_str-text.result.now, record { pending = b; at = b; ordered = omega arith }, refl, (λ none. (refl, none)), search rules, c.none.ensures c.args.leaf.now 0, search rules, (λ folded. refl))
+    (c.clear.ensures.stands c.as_str-text.result.now, record { pending = b; at = b; ordered = omega arith }, refl, (λ none. (refl, none)), search rules, c.none.ensures c.args.leaf.now 0, search rules, (λ folded. refl), c.clear.ensures.sound)
 
 pub returns-clause-slots : goal.returns-clause-slots
 returns-clause-slots g c =
@@ -31,6 +42,7 @@ loop-cursor-preserved g c =
       c.in_ok-cursor.ensures.kept,
       c.step.ensures.dollars,
       (λ folded. c.step.ensures.footnotes folded ∙ i.7 folded),
+      c.in_ok-cursor.ensures.sound,
     )
 
 pub returns-in_err-cursor-clause-asks : goal.returns-in_err-cursor-clause-asks
@@ -41,3 +53,39 @@ returns-in_err-cursor-clause-asks g c =
     subst (λ (t : List ℕ). AsksUpTo answers (closing_brackets t) c.args.callback.now c.step.new.callback) c.as_str-text.ensures
     (asks-all answers text (length text) c.args.callback.now c.step.new.callback
     (asks-on answers text c.loop-cursor.cursor.at (length text) c.args.callback.now c.loop-cursor.callback c.step.new.callback i.2 i.1.at.0 c.step.ensures.asks))
+
+pub returns-clause-whole : goal.returns-clause-whole
+returns-clause-whole g c =
+    let mid : InlineState = c.flush.new.self in
+    let one : List Slot = mid.slots.items in
+    let two : List Slot = c.resolve.new.slots.items in
+    let new : List Slot = c.resolve-2.new.slots.items in
+    let runs : List PlacedRun = drop 0 mid.delimiters.placed.items in
+    let quotes : List PlacedQuote = drop 0 mid.quotes.placed.items in
+    let sound : IsSound mid = (keeps-pending c.loop-cursor.self mid c.in_ok-flush.ensures.others c.loop-cursor.cursor.pending _ c.in_ok-flush.ensures.slots).sound c.loop-cursor.invariant.8 in
+    let can = sound-settles-all (length mid.texts.items) (length mid.links.items) one mid.delimiters.placed.items mid.quotes.placed.items mid.brackets.standing.items mid.doubled.standing.items sound in
+    let v : two ≡ with_characters quotes (characters_of quotes) one = c.in_ok-resolve.ensures.value in
+    let t = letters-settle 0 one runs quotes can (characters_of quotes) in
+    let whole : AreWhole two = subst AreWhole (sym v) t.0 in
+    let within : EndWithin two = subst EndWithin (sym v) t.1 in
+    let bytes : HaveBytes two 0 0 runs = subst (λ l. HaveBytes l 0 0 runs) (sym v) t.2 in
+    let marks = c.in_ok-resolve-2.ensures in
+    (marks.whole 0 0 bytes whole, marks.within 0 0 bytes whole within)
+
+pub returns-clause-named : goal.returns-clause-named
+returns-clause-named g c =
+    let mid : InlineState = c.flush.new.self in
+    let one : List Slot = mid.slots.items in
+    let two : List Slot = c.resolve.new.slots.items in
+    let new : List Slot = c.resolve-2.new.slots.items in
+    let runs : List PlacedRun = drop 0 mid.delimiters.placed.items in
+    let quotes : List PlacedQuote = drop 0 mid.quotes.placed.items in
+    let sound : IsSound mid = (keeps-pending c.loop-cursor.self mid c.in_ok-flush.ensures.others c.loop-cursor.cursor.pending _ c.in_ok-flush.ensures.slots).sound c.loop-cursor.invariant.8 in
+    let can = sound-settles-all (length mid.texts.items) (length mid.links.items) one mid.delimiters.placed.items mid.quotes.placed.items mid.brackets.standing.items mid.doubled.standing.items sound in
+    let v : two ≡ with_characters quotes (characters_of quotes) one = c.in_ok-resolve.ensures.value in
+    let t = letters-settle 0 one runs quotes can (characters_of quotes) in
+    let whole : AreWhole two = subst AreWhole (sym v) t.0 in
+    let within : EndWithin two = subst EndWithin (sym v) t.1 in
+    let bytes : HaveBytes two 0 0 runs = subst (λ l. HaveBytes l 0 0 runs) (sym v) t.2 in
+    let marks = c.in_ok-resolve-2.ensures in
+    named-on one new (no-more-on one two new (subst (NamesNoMore one) (sym v) (letters-name 0 one runs quotes can (characters_of quotes))) (marks.names 0 0 bytes whole)) (length mid.texts.items) (length mid.links.items) sound.named

@@ -1,4 +1,4 @@
-use Rattle.std.proofs.Common.{◌≡◌, ◌||◌, ◌-◌, inl, inr, true, false, not, Bool, true≢false, ℕ, [], ◌∷◌, ◌++◌, length, refl, sym, ap, ◌∙◌, rules}
+use Rattle.std.proofs.Common.{◌≡◌, ◌||◌, ◌-◌, inl, inr, true, false, not, Bool, true≢false, ℕ, [], ◌∷◌, ◌++◌, length, refl, sym, ap, ◌∙◌, rules, arith}
 use Rattle.std.proofs.lemmas.Bool.{or_left, or_right}
 use Rattle.cmark_emphasis.specs.Shown.{shown_flanking}
 use Rattle.cmark_emphasis.specs.declared.run.Run.{Run}
@@ -8,6 +8,7 @@ use Rattle.cmark_text.specs.Shown.{shown_options}
 use Rattle.cmark_grammar.specs.Flanking.{Flanking}
 use Rattle.cmark_inline.proofs.SpecialSteps.{others-flank, others-stand}
 use Rattle.cmark_inline.proofs.MarkSteps.{run-stays, run-begins-there}
+use Rattle.cmark_inline.proofs.Keeping.{keeps-run, keeps-same}
 use Rattle.cmark_inline.proofs.state.InlineState.run.Goals as goal
 use Rattle.cmark_inline.proofs.state.InlineState.run.Goals.{else-not-flanking-via-then-not-flanking+else-not-flanking-2, else-not-flanking-via-else-not-flanking}
 
@@ -85,3 +86,17 @@ returns-clause-others c = λ l cell is other.
       | else-not-flanking-via-then-not-flanking+else-not-flanking-2 w ↦ true≢false (sym (ap not closes) ∙ w.if-not-flanking-2.false)
       | else-not-flanking-via-else-not-flanking w ↦ true≢false (sym (ap not opens) ∙ w.if-not-flanking.false)
     ])
+
+pub returns-then-not-flanking-2-clause-keeps : goal.returns-then-not-flanking-2-clause-keeps
+returns-then-not-flanking-2-clause-keeps c = keeps-same c.args.self.now
+
+pub returns-clause-keeps : goal.returns-clause-keeps
+returns-clause-keeps c =
+    let same : length c.flush.new.self.slots.items ≡ c.len-first.result = search rules in
+    let run : Run = record { mark = c.args.mark; size = c.run_end-end.result - c.args.here.at; at = 0; left = c.run_end-end.result - c.args.here.at; opens = c.flanking_of-flanking.result.opens; closes = c.flanking_of-flanking.result.closes } in
+    let further = c.run_end-end.ensures.further in
+    keeps-run c.args.self.now (record c.push_bytes.new.self { delimiters = c.push.new.self }) c.flush.new.self.slots.items c.args.here.pending c.args.here.at (record { slot = c.len-first.result; run = run }) c.args.text.now
+    c.in_ok-flush.ensures.slots c.in_ok-push_bytes.ensures.bytes
+    (c.in_ok-push.ensures.placed ∙ ap (λ (d : Delimiters). d.placed.items ++ (record { slot = c.len-first.result; run = run } ∷ [])) (c.in_ok-push_bytes.ensures.delimiters ∙ ap (λ (s : InlineState). s.delimiters) c.in_ok-flush.ensures.others))
+    (ap (λ (s : InlineState). record s { slots = c.push_bytes.new.self.slots; delimiters = c.push.new.self }) (c.in_ok-push_bytes.ensures.others ∙ ap (λ (s : InlineState). record s { slots = c.push_bytes.new.self.slots }) c.in_ok-flush.ensures.others))
+    (omega (arith, further)) (sym same) c.in_ok-flush.ensures.stands.slots

@@ -1,4 +1,4 @@
-use Rattle.std.proofs.Common.{◌≡◌, ◌⊎◌, inl, inr, ⊎_elim, false, ℕ, List, get_or, sym, ap, subst, ◌∙◌, rules}
+use Rattle.std.proofs.Common.{◌≡◌, ◌⊎◌, inl, inr, ⊎_elim, true, false, ℕ, List, get_or, refl, sym, ap, subst, ◌∙◌, rules}
 use Rattle.std.proofs.lemmas.Result.{IfOk-weaker}
 use Rattle.cmark_grammar.specs.Answers.{Lookup}
 use Rattle.cmark_grammar.specs.Options.{Options}
@@ -7,6 +7,7 @@ use Rattle.cmark_leaf_text.specs.Reads.{is_cell_of}
 use Rattle.cmark_text.specs.Shown.{shown_options}
 use Rattle.cmark_inline.proofs.SpanReads.{appends, appends-quote, backslash-reads, backticks-read, passes-or-appends, passes-or-opens, passes-over, run-reads}
 use Rattle.cmark_inline.proofs.SpecialSteps.{has_call, other-special, smart-special, math-special}
+use Rattle.cmark_inline.proofs.Keeping.{keeps-quote}
 use Rattle.cmark_inline.proofs.state.InlineState.span.Goals as goal
 
 pub returns-in-10-clause-token : goal.returns-in-10-clause-token
@@ -94,3 +95,43 @@ returns-in_default-clause-token g c = λ special other.
     (λ m. IfOk-weaker c.run.result _ _ (run-reads o l c.args.leaf.now c.args.text.now c.requires.same c.args.here c.args.self.now c.run.new.self) (c.run.ensures.token l (is_cell_of c.args.leaf.now) same m))
     (λ m. IfOk-weaker c.run.result _ _ (passes-over o l c.args.leaf.now c.args.text.now c.requires.same c.args.here c.args.self.now c.run.new.self) (c.run.ensures.others l (is_cell_of c.args.leaf.now) same m))
     (other-special o b uncalled (sym (ap (is_special o) same) ∙ special))
+
+pub returns-in-10-clause-sound : goal.returns-in-10-clause-sound
+returns-in-10-clause-sound g c = λ h. IfOk-weaker c.line_end.result _ _ (λ next k. k.sound h) c.line_end.ensures.keeps
+
+pub returns-in-92-clause-sound : goal.returns-in-92-clause-sound
+returns-in-92-clause-sound g c = λ h. IfOk-weaker c.backslash.result _ _ (λ next k. k.sound h) c.backslash.ensures.keeps
+
+pub returns-in-38-clause-sound : goal.returns-in-38-clause-sound
+returns-in-38-clause-sound g c = λ h. IfOk-weaker c.entity.result _ _ (λ next k. k.sound h) c.entity.ensures.keeps
+
+pub returns-in-96-clause-sound : goal.returns-in-96-clause-sound
+returns-in-96-clause-sound g c = λ h. IfOk-weaker c.backticks.result _ _ (λ next k. k.sound h) c.backticks.ensures.keeps
+
+pub returns-in-33-clause-sound : goal.returns-in-33-clause-sound
+returns-in-33-clause-sound g c = λ h. IfOk-weaker c.exclamation.result _ _ (λ next k. k.sound h) c.exclamation.ensures.keeps
+
+pub returns-in-36-clause-sound : goal.returns-in-36-clause-sound
+returns-in-36-clause-sound g c = λ h. IfOk-weaker c.dollar.result _ _ (λ next k. k.sound h) c.dollar.ensures.keeps
+
+pub returns-in-46-clause-sound : goal.returns-in-46-clause-sound
+returns-in-46-clause-sound g c = λ h. IfOk-weaker c.dots.result _ _ (λ next k. k.sound h) c.dots.ensures.keeps
+
+pub returns-in-45-clause-sound : goal.returns-in-45-clause-sound
+returns-in-45-clause-sound g c = λ h. IfOk-weaker c.hyphens.result _ _ (λ next k. k.sound h) c.hyphens.ensures.keeps
+
+pub returns-in_default-clause-sound : goal.returns-in_default-clause-sound
+returns-in_default-clause-sound g c = λ h. IfOk-weaker c.run.result _ _ (λ next k. k.sound h) c.run.ensures.keeps
+
+pub returns-in-60-clause-sound : goal.returns-in-60-clause-sound
+returns-in-60-clause-sound g c = λ h. c.less_than.ensures.sound h
+
+pub returns-in-34-clause-sound : goal.returns-in-34-clause-sound
+returns-in-34-clause-sound g c = λ h.
+    let o : Options = record (shown_options c.args.reader.now.options) { smart_punctuation = true } in
+    let l : Lookup = g.E.EntityLookup.replacement c.args.reader.now.entities.now in
+    let is = subst (λ (bs : List ℕ). (get_or bs c.args.here.at 0 ≡ 34) ⊎ (get_or bs c.args.here.at 0 ≡ 39)) c.as_bytes.ensures.value c.in-34.is in
+    IfOk-weaker c.quote.result _ _ (λ next a. (keeps-quote o l false c.args.text.now c.args.here c.args.self.now c.quote.new.self next a).sound h) (c.quote.ensures.token o l false refl is)
+
+pub returns-in_ok-next-in-91-clause-sound : goal.returns-in_ok-next-in-91-clause-sound
+returns-in_ok-next-in-91-clause-sound g c = λ h. c.in_ok-next-in-91.ensures.keeps.sound h

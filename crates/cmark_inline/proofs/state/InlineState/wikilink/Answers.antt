@@ -1,4 +1,6 @@
-use Rattle.std.proofs.Common.{arith}
+use Rattle.std.proofs.Common.{◌-◌, length, sym, ◌∙◌, arith}
+use Rattle.cmark_inline.specs.declared.state.InlineState.{InlineState}
+use Rattle.cmark_inline.proofs.Opening.{is-pair, last-nearest, sound-pair-taken, taken-fewer}
 use Rattle.cmark_inline.proofs.WikiSteps.{two-brackets}
 use Rattle.cmark_inline.proofs.state.InlineState.wikilink.Goals as goal
 
@@ -16,3 +18,58 @@ returns-clause-moves c =
       cursor = record { pending = e.ends; at = e.ends; ordered = omega arith };
       further = omega arith;
     }
+
+pub returns-then-not-forms-clause-sound : goal.returns-then-not-forms-clause-sound
+returns-then-not-forms-clause-sound c =
+    let old : InlineState = c.args.self.now in
+    sound-pair-taken (length old.texts.items) (length old.links.items) old.slots.items old.delimiters.placed.items old.quotes.placed.items old.brackets.standing.items old.doubled.standing.items c.requires.sound c.take.new.self.standing.items c.take.ensures.others
+
+pub returns-then-not-forms-clause-stands : goal.returns-then-not-forms-clause-stands
+returns-then-not-forms-clause-stands c =
+    let old : InlineState = c.args.self.now in
+    λ none. let s = c.requires.stands in record { slots = s.slots; brackets = s.brackets; few = s.few; free = s.free; doubled = c.take.ensures.brackets c.args.text.now c.args.close s.doubled; doubled_free = c.take.ensures.free c.args.self.now.slots.items s.doubled_free; runs = s.runs }
+
+pub returns-then-not-forms-clause-taken : goal.returns-then-not-forms-clause-taken
+returns-then-not-forms-clause-taken c =
+    let old : InlineState = c.args.self.now in
+    λ none. λ bracket t. taken-fewer old.slots.items old.delimiters.placed.items old.quotes.placed.items old.brackets.standing.items old.doubled.standing.items c.take.new.self.standing.items bracket (length old.doubled.standing.items - 1) c.take.ensures.others t
+
+pub returns-in_default-wikilink_at-clause-sound : goal.returns-in_default-wikilink_at-clause-sound
+returns-in_default-wikilink_at-clause-sound c =
+    let old : InlineState = c.args.self.now in
+    sound-pair-taken (length old.texts.items) (length old.links.items) old.slots.items old.delimiters.placed.items old.quotes.placed.items old.brackets.standing.items old.doubled.standing.items c.requires.sound c.take.new.self.standing.items c.take.ensures.others
+
+pub returns-in_default-wikilink_at-clause-stands : goal.returns-in_default-wikilink_at-clause-stands
+returns-in_default-wikilink_at-clause-stands c =
+    let old : InlineState = c.args.self.now in
+    λ none. let s = c.requires.stands in record { slots = s.slots; brackets = s.brackets; few = s.few; free = s.free; doubled = c.take.ensures.brackets c.args.text.now c.args.close s.doubled; doubled_free = c.take.ensures.free c.args.self.now.slots.items s.doubled_free; runs = s.runs }
+
+pub returns-in_default-wikilink_at-clause-taken : goal.returns-in_default-wikilink_at-clause-taken
+returns-in_default-wikilink_at-clause-taken c =
+    let old : InlineState = c.args.self.now in
+    λ none. λ bracket t. taken-fewer old.slots.items old.delimiters.placed.items old.quotes.placed.items old.brackets.standing.items old.doubled.standing.items c.take.new.self.standing.items bracket (length old.doubled.standing.items - 1) c.take.ensures.others t
+
+pub wikilink_at-requires-clause-doubled : goal.wikilink_at-requires-clause-doubled
+wikilink_at-requires-clause-doubled c =
+    let old : InlineState = c.args.self.now in
+    c.in-Some.ensures.bracket c.args.text.now c.args.close c.requires.stands.doubled
+
+pub form_wikilink-requires-clause-doubled : goal.form_wikilink-requires-clause-doubled
+form_wikilink-requires-clause-doubled c =
+    let old : InlineState = c.args.self.now in
+    c.in-Some.ensures.bracket c.args.text.now c.args.close c.requires.stands.doubled
+
+pub form_wikilink-requires-clause-stands : goal.form_wikilink-requires-clause-stands
+form_wikilink-requires-clause-stands c =
+    let old : InlineState = c.args.self.now in
+    let s = c.requires.stands in record { slots = s.slots; brackets = s.brackets; few = s.few; free = s.free; doubled = c.take.ensures.brackets c.args.text.now c.args.close s.doubled; doubled_free = c.take.ensures.free c.args.self.now.slots.items s.doubled_free; runs = s.runs }
+
+pub form_wikilink-requires-clause-sound : goal.form_wikilink-requires-clause-sound
+form_wikilink-requires-clause-sound c =
+    let old : InlineState = c.args.self.now in
+    sound-pair-taken (length old.texts.items) (length old.links.items) old.slots.items old.delimiters.placed.items old.quotes.placed.items old.brackets.standing.items old.doubled.standing.items c.requires.sound c.take.new.self.standing.items c.take.ensures.others
+
+pub form_wikilink-requires-clause-taken : goal.form_wikilink-requires-clause-taken
+form_wikilink-requires-clause-taken c =
+    let old : InlineState = c.args.self.now in
+    is-pair (length old.texts.items) (length old.links.items) old.slots.items old.delimiters.placed.items old.quotes.placed.items old.brackets.standing.items old.doubled.standing.items c.requires.sound c.in-Some.doubled (last-nearest old.doubled _ (sym c.take.ensures.value ∙ c.in-Some.is))

@@ -1,0 +1,219 @@
+-- Calls that append slots keep what holds of the state.
+use Rattle.std.proofs.Common.{◌≡◌, ◌⊎◌, inl, inr, ℕ, zero, suc, ◌+◌, ◌-◌, ◌<◌, ◌≤◌, List, [], ◌∷◌, ◌++◌, length, get_or, Some, None, refl, sym, ap, subst, ◌∙◌, arith}
+use Rattle.std.specs.Prelude.{All, Bool, true, false, if◌then◌else◌, IfSome, Option}
+use Rattle.std.proofs.lemmas.Bool.{cases_lt}
+use Rattle.std.proofs.lemmas.List.{length_push, length-append, get_or_append_left, get_or-append_right, get_or_push}
+use Rattle.std.proofs.lemmas.List.Elements.{All-push}
+use Rattle.cmark_leaf_text.specs.declared.leaf_text.LeafText.{LeafText}
+use Rattle.cmark_text.specs.declared.text.CowStr.{CowStr}
+use Rattle.cmark_grammar.specs.Answers.{Lookup}
+use Rattle.cmark_grammar.specs.Options.{Options}
+use Rattle.cmark_leaf_text.specs.Reads.{place_of}
+use Rattle.cmark_inline.specs.FoundInSource.{IsFound}
+use Rattle.cmark_inline.specs.Marked.{last_in}
+use Rattle.cmark_inline.specs.SlotViews.{link_named, text_named}
+use Rattle.cmark_inline.specs.Sound.{AreEnded, AreSound, IsPlain, IsSound, IsTaken, IsTakenFrom, KeepsSound, NamesNoMore, StandsAlone, source_end, EndsIn}
+use Rattle.cmark_inline.specs.Stands.{AreSlots, PushesText, SameSpans}
+use Rattle.cmark_inline.specs.Tokens.{AppendsQuote, Puts, PutsAutolink, byte_slots}
+use Rattle.cmark_inline.specs.declared.bracket.Bracket.{Bracket}
+use Rattle.cmark_inline.specs.declared.bracket.Brackets.{Brackets}
+use Rattle.cmark_inline.specs.declared.delimiter.Delimiters.{Delimiters}
+use Rattle.cmark_inline.specs.declared.delimiter.PlacedRun.{PlacedRun}
+use Rattle.cmark_inline.specs.declared.link.LinkParts.{LinkParts}
+use Rattle.cmark_inline.specs.declared.quote.PlacedQuote.{PlacedQuote}
+use Rattle.cmark_inline.specs.declared.quote.Quotes.{Quotes}
+use Rattle.cmark_inline.specs.declared.slot.Element.TheVariants as element
+use Rattle.cmark_inline.specs.declared.markup.FoundHtml.{FoundHtml}
+use Rattle.cmark_inline.specs.declared.slot.Slot.{Slot}
+use Rattle.cmark_inline.specs.declared.slot.SlotKind.{SlotKind}
+use Rattle.cmark_inline.specs.declared.slot.SlotKind.TheVariants as kind
+use Rattle.cmark_inline.specs.declared.state.InlineState.{InlineState}
+use Rattle.cmark_inline.specs.declared.step.Cursor.{Cursor}
+use Rattle.cmark_inline.proofs.Naming.{adds-push, ended-on, no-more-on, no-more-push, no-more-same, one-ended}
+use Rattle.cmark_inline.proofs.Soundness.{sound-bytes, sound-link, sound-pending, sound-plain, sound-quote, sound-run, sound-text}
+use Rattle.cmark_inline.proofs.Forming.{sound-same}
+
+pub keeps-same : (state : InlineState) → KeepsSound state state
+keeps-same state = record { sound = λ h. h; ends = λ leaf e. e }
+
+pub keeps-on : (old mid new : InlineState) → KeepsSound old mid → KeepsSound mid new → KeepsSound old new
+keeps-on old mid new a b = record { sound = λ h. b.sound (a.sound h); ends = λ leaf e. b.ends leaf (a.ends leaf e) }
+
+-- ## Where the slots end
+
+pub ended-pending : (leaf : LeafText) (old new : List Slot) (start stop : ℕ) → PushesText start stop old new → AreEnded leaf old → AreEnded leaf new
+ended-pending leaf old new start stop p e = go (cases_lt start stop)
+  where
+    go : (start < stop) ⊎ (stop ≤ start) → AreEnded leaf new
+    go (inl lt) =
+        let s : Slot = record { kind = kind.Text; start = start; end = stop } in
+        subst (AreEnded leaf) (sym (p.0 lt)) (ended-on old (old ++ (s ∷ [])) (no-more-push old s (refl, refl, refl)) leaf e)
+    go (inr le) = subst (AreEnded leaf) (sym (p.1 le)) e
+
+pub ended-puts : (leaf : LeafText) (old new : List Slot) (start stop : ℕ) (slot : Slot) → Puts start stop slot old new → AreEnded leaf old → EndsIn leaf slot.end (source_end slot.kind) → AreEnded leaf new
+ended-puts leaf old new start stop slot p e s =
+    subst (AreEnded leaf) (sym p.slot_is) (one-ended (length p.before) slot p.before (p.before ++ (slot ∷ [])) (adds-push p.before slot) leaf (ended-pending leaf old p.before start stop p.text e) s)
+
+ended-bytes : (leaf : LeafText) (slots : List Slot) (start size : ℕ) → AreEnded leaf slots → AreEnded leaf (slots ++ byte_slots start size)
+ended-bytes leaf slots start size e = λ k d lt. go k d lt (cases_lt k (length slots))
+  where
+    bytes : (start size k : ℕ) (d : Slot) → k < length (byte_slots start size) → source_end (get_or (byte_slots start size) k d).kind ≡ None
+    bytes start zero k d lt = absurd (omega (arith, lt))
+    bytes start (suc size) zero d lt = refl
+    bytes start (suc size) (suc k) d lt = bytes (start + 1) size k d (omega (arith, lt))
+
+    go : (k : ℕ) (d : Slot) → k < length (slots ++ byte_slots start size) → (k < length slots) ⊎ (length slots ≤ k) → EndsIn leaf (get_or (slots ++ byte_slots start size) k d).end (source_end (get_or (slots ++ byte_slots start size) k d).kind)
+    go k d lt (inl low) = subst (λ (s : Slot). EndsIn leaf s.end (source_end s.kind)) (sym (get_or_append_left slots (byte_slots start size) d k low)) (e k d low)
+    go k d lt (inr g) =
+        let n = length-append slots (byte_slots start size) in
+        let is = get_or-append_right slots (byte_slots start size) (length slots) k d refl g in
+        subst (λ o. EndsIn leaf (get_or (slots ++ byte_slots start size) k d).end o) (sym (ap (λ (s : Slot). source_end s.kind) is ∙ bytes start size (k - length slots) d (omega (arith, lt, n, g)))) tt
+
+-- ## Slots alone
+
+module _ (old new : InlineState) (others : new ≡ record old { slots = new.slots }) where
+  pub keeps-pending : (start stop : ℕ) → PushesText start stop old.slots.items new.slots.items → KeepsSound old new
+  keeps-pending start stop p = record {
+    sound = λ h. subst IsSound (sym others) (sound-pending (length old.texts.items) (length old.links.items) old.slots.items new.slots.items old.delimiters.placed.items old.quotes.placed.items old.brackets.standing.items old.doubled.standing.items start stop p h);
+    ends = λ leaf e. ended-pending leaf old.slots.items new.slots.items start stop p e;
+  }
+
+  sound-puts : (start stop : ℕ) (slot : Slot) → Puts start stop slot old.slots.items new.slots.items → ((i : ℕ) → last_in slot.kind i ≡ i) → text_named slot.kind ≡ None → link_named slot.kind ≡ None → IsSound old → IsSound new
+  sound-puts start stop slot p alone bare none h =
+      subst IsSound (sym others) (subst (λ l. AreSound (length old.texts.items) (length old.links.items) l old.delimiters.placed.items old.quotes.placed.items old.brackets.standing.items old.doubled.standing.items) (sym p.slot_is)
+      (sound-plain (length old.texts.items) (length old.links.items) p.before old.delimiters.placed.items old.quotes.placed.items old.brackets.standing.items old.doubled.standing.items
+      (sound-pending (length old.texts.items) (length old.links.items) old.slots.items p.before old.delimiters.placed.items old.quotes.placed.items old.brackets.standing.items old.doubled.standing.items start stop p.text h) slot alone bare none))
+
+  pub keeps-puts : (start stop : ℕ) (slot : Slot) → Puts start stop slot old.slots.items new.slots.items → StandsAlone slot.kind → KeepsSound old new
+  keeps-puts start stop slot p a = record {
+    sound = λ h. sound-puts start stop slot p a.1 a.0.0 a.0.1 h;
+    ends = λ leaf e. ended-puts leaf old.slots.items new.slots.items start stop slot p e (subst (λ o. EndsIn leaf slot.end o) (sym a.0.2) tt);
+  }
+
+  -- the slot may be a part of the source
+  pub keeps-source : (start stop : ℕ) (slot : Slot) → Puts start stop slot old.slots.items new.slots.items → ((i : ℕ) → last_in slot.kind i ≡ i) → text_named slot.kind ≡ None → link_named slot.kind ≡ None → IsSound old → IsSound new
+  keeps-source start stop slot p alone bare none h = sound-puts start stop slot p alone bare none h
+
+-- ## Slots that name the next text or the next link
+
+module _ (old between new : InlineState) (start stop : ℕ) (slot : Slot) (puts : Puts start stop slot old.slots.items new.slots.items) (owned : CowStr) (texts : between.texts.items ≡ old.texts.items ++ (owned ∷ [])) (others : new ≡ record between { slots = new.slots }) (rest : between ≡ record old { texts = between.texts })
+    (names : text_named slot.kind ≡ Some (length old.texts.items)) (no_link : link_named slot.kind ≡ None) (no_end : source_end slot.kind ≡ None) (alone : (i : ℕ) → last_in slot.kind i ≡ i) where
+  pub keeps-owned : KeepsSound old new
+  keeps-owned = record {
+    sound = λ h.
+        let n = length_push old.texts.items owned in
+        subst IsSound (sym others) (subst (λ (x : InlineState). IsSound (record x { slots = new.slots })) (sym rest)
+        (subst (λ t. AreSound t (length old.links.items) new.slots.items old.delimiters.placed.items old.quotes.placed.items old.brackets.standing.items old.doubled.standing.items) (sym (ap length texts ∙ n))
+        (subst (λ l. AreSound (length old.texts.items + 1) (length old.links.items) l old.delimiters.placed.items old.quotes.placed.items old.brackets.standing.items old.doubled.standing.items) (sym puts.slot_is)
+        (sound-text (length old.texts.items) (length old.links.items) puts.before old.delimiters.placed.items old.quotes.placed.items old.brackets.standing.items old.doubled.standing.items
+        (sound-pending (length old.texts.items) (length old.links.items) old.slots.items puts.before old.delimiters.placed.items old.quotes.placed.items old.brackets.standing.items old.doubled.standing.items start stop puts.text h) slot alone names no_link))));
+    ends = λ leaf e. ended-puts leaf old.slots.items new.slots.items start stop slot puts e (subst (λ o. EndsIn leaf slot.end o) (sym no_end) tt);
+  }
+
+module _ (old new : InlineState) (start at end : ℕ) (puts : PutsAutolink (length old.links.items) start at end old.slots.items new.slots.items) (parts : LinkParts) (links : new.links.items ≡ old.links.items ++ (parts ∷ [])) (others : new ≡ record old { slots = new.slots; links = new.links }) where
+  abbrev first : Slot
+  first = record { kind = kind.Begin (element.Autolink (length old.links.items)); start = at; end = end }
+
+  abbrev uri : Slot
+  uri = record { kind = kind.Text; start = at + 1; end = end - 1 }
+
+  abbrev last : Slot
+  last = record { kind = kind.End; start = end - 1; end = end }
+
+  abbrev Holds : ℕ → List Slot → Type 0
+  Holds n l = AreSound (length old.texts.items) n l old.delimiters.placed.items old.quotes.placed.items old.brackets.standing.items old.doubled.standing.items
+
+  pub keeps-autolink : KeepsSound old new
+  keeps-autolink = record {
+    sound = λ h.
+        let t : ℕ = length old.texts.items in
+        let n : ℕ = length old.links.items in
+        let rs = old.delimiters.placed.items in
+        let qs = old.quotes.placed.items in
+        let bs = old.brackets.standing.items in
+        let ds = old.doubled.standing.items in
+        let zero-slots : Holds n puts.before = sound-pending t n old.slots.items puts.before rs qs bs ds start at puts.text h in
+        let one : Holds (n + 1) (puts.before ++ (first ∷ [])) = sound-link t n puts.before rs qs bs ds zero-slots first (λ i. refl) refl refl in
+        let two : Holds (n + 1) ((puts.before ++ (first ∷ [])) ++ (uri ∷ [])) = sound-plain t (n + 1) (puts.before ++ (first ∷ [])) rs qs bs ds one uri (λ i. refl) refl refl in
+        let three : Holds (n + 1) (((puts.before ++ (first ∷ [])) ++ (uri ∷ [])) ++ (last ∷ [])) = sound-plain t (n + 1) ((puts.before ++ (first ∷ [])) ++ (uri ∷ [])) rs qs bs ds two last (λ i. refl) refl refl in
+        subst IsSound (sym others) (subst (λ m. Holds m new.slots.items) (sym (ap length links ∙ length_push old.links.items parts)) (subst (λ l. Holds (n + 1) l) (sym puts.slots_are) three));
+    ends = λ leaf e.
+        let a = ended-pending leaf old.slots.items puts.before start at puts.text e in
+        let one : List Slot = puts.before ++ (first ∷ []) in
+        let two : List Slot = one ++ (uri ∷ []) in
+        subst (AreEnded leaf) (sym puts.slots_are)
+        (ended-on two (two ++ (last ∷ [])) (no-more-push two last (refl, refl, refl)) leaf
+        (ended-on one two (no-more-push one uri (refl, refl, refl)) leaf
+        (one-ended (length puts.before) first puts.before one (adds-push puts.before first) leaf a tt)));
+  }
+
+-- ## Quotes and runs
+
+pub keeps-quote : (options : Options) (lookup : Lookup) (is_cell : Bool) (text : List ℕ) (here : Cursor) (old new : InlineState) (next : Cursor) → AppendsQuote options lookup is_cell text here old new next → KeepsSound old new
+keeps-quote options lookup is_cell text here old new next a =
+    let s : Slot = record { kind = kind.Text; start = here.at; end = next.at } in
+    let q : PlacedQuote = record { slot = length a.before; quote = a.quote } in
+    record {
+      sound = λ h. subst IsSound (sym a.others)
+          (subst (λ l. AreSound (length old.texts.items) (length old.links.items) new.slots.items old.delimiters.placed.items l old.brackets.standing.items old.doubled.standing.items) (sym a.placed)
+          (subst (λ l. AreSound (length old.texts.items) (length old.links.items) l old.delimiters.placed.items (old.quotes.placed.items ++ (q ∷ [])) old.brackets.standing.items old.doubled.standing.items) (sym a.slots)
+          (sound-quote (length old.texts.items) (length old.links.items) a.before old.delimiters.placed.items old.quotes.placed.items old.brackets.standing.items old.doubled.standing.items
+          (sound-pending (length old.texts.items) (length old.links.items) old.slots.items a.before old.delimiters.placed.items old.quotes.placed.items old.brackets.standing.items old.doubled.standing.items here.pending here.at a.text_is h) s q refl refl)));
+      ends = λ leaf e. subst (AreEnded leaf) (sym a.slots) (ended-on a.before (a.before ++ (s ∷ [])) (no-more-push a.before s (refl, refl, refl)) leaf (ended-pending leaf old.slots.items a.before here.pending here.at a.text_is e));
+    }
+
+module _ (old new : InlineState) (before : List Slot) (start at : ℕ) (run : PlacedRun) (text : List ℕ) (pending : PushesText start at old.slots.items before) (slots : new.slots.items ≡ before ++ byte_slots at run.run.size)
+    (placed : new.delimiters.placed.items ≡ old.delimiters.placed.items ++ (run ∷ [])) (others : new ≡ record old { slots = new.slots; delimiters = new.delimiters }) (some : 0 < run.run.size) (there : run.slot ≡ length before) (are : AreSlots text at before) where
+  pub keeps-run : KeepsSound old new
+  keeps-run = record {
+    sound = λ h. subst IsSound (sym others)
+        (subst (λ l. AreSound (length old.texts.items) (length old.links.items) new.slots.items l old.quotes.placed.items old.brackets.standing.items old.doubled.standing.items) (sym placed)
+        (subst (λ l. AreSound (length old.texts.items) (length old.links.items) l (old.delimiters.placed.items ++ (run ∷ [])) old.quotes.placed.items old.brackets.standing.items old.doubled.standing.items) (sym slots)
+        (sound-run (length old.texts.items) (length old.links.items) before old.delimiters.placed.items old.quotes.placed.items old.brackets.standing.items old.doubled.standing.items
+        (sound-pending (length old.texts.items) (length old.links.items) old.slots.items before old.delimiters.placed.items old.quotes.placed.items old.brackets.standing.items old.doubled.standing.items start at pending h)
+        at run some there (λ k d lt. (are k d lt).before))));
+    ends = λ leaf e. subst (AreEnded leaf) (sym slots) (ended-bytes leaf before at run.run.size (ended-pending leaf old.slots.items before start at pending e));
+  }
+
+pub break-alone : (z : Bool) → StandsAlone (if z then kind.HardBreak else kind.SoftBreak)
+break-alone true = ((refl, refl, refl), λ i. refl)
+break-alone false = ((refl, refl, refl), λ i. refl)
+
+pub formula-alone : (z : Bool) (from to : ℕ) → StandsAlone (if z then kind.DisplayMath from to else kind.InlineMath from to)
+formula-alone true from to = ((refl, refl, refl), λ i. refl)
+formula-alone false from to = ((refl, refl, refl), λ i. refl)
+
+-- ## A call that leaves slots and brackets as they are
+
+module _ (old new : InlineState) (same : SameSpans old new) (links : new.links ≡ old.links) (texts : new.texts ≡ old.texts) (quotes : new.quotes ≡ old.quotes) where
+  pub spans-sound : IsSound old → IsSound new
+  spans-sound h =
+      subst (λ x. AreSound (length new.texts.items) (length new.links.items) x.items new.delimiters.placed.items new.quotes.placed.items new.brackets.standing.items new.doubled.standing.items) (sym same.slots)
+      (sound-same (length old.texts.items) (length new.texts.items) (length old.links.items) (length new.links.items) old.slots.items old.delimiters.placed.items new.delimiters.placed.items old.quotes.placed.items new.quotes.placed.items
+      old.brackets.standing.items new.brackets.standing.items old.doubled.standing.items new.doubled.standing.items
+      (ap (λ v. length v.items) texts) (ap (λ v. length v.items) links) (ap (λ (d : Delimiters). d.placed.items) same.delimiters) (ap (λ (q : Quotes). q.placed.items) quotes) (ap (λ (b : Brackets). b.standing.items) same.brackets) (ap (λ (b : Brackets). b.standing.items) same.doubled) h)
+
+  pub spans-taken : (bracket : Bracket) → IsTakenFrom old bracket → IsTakenFrom new bracket
+  spans-taken bracket t =
+      subst (λ x. IsTaken x.items new.delimiters.placed.items new.quotes.placed.items new.brackets.standing.items new.doubled.standing.items bracket) (sym same.slots)
+      (subst (λ (x : Delimiters). IsTaken old.slots.items x.placed.items new.quotes.placed.items new.brackets.standing.items new.doubled.standing.items bracket) (sym same.delimiters)
+      (subst (λ (x : Quotes). IsTaken old.slots.items old.delimiters.placed.items x.placed.items new.brackets.standing.items new.doubled.standing.items bracket) (sym quotes)
+      (subst (λ (x : Brackets). IsTaken old.slots.items old.delimiters.placed.items old.quotes.placed.items x.standing.items new.doubled.standing.items bracket) (sym same.brackets)
+      (subst (λ (x : Brackets). IsTaken old.slots.items old.delimiters.placed.items old.quotes.placed.items old.brackets.standing.items x.standing.items bracket) (sym same.doubled) t))))
+
+  pub spans-ended : (leaf : LeafText) → AreEnded leaf old.slots.items → AreEnded leaf new.slots.items
+  spans-ended leaf e = subst (λ x. AreEnded leaf x.items) (sym same.slots) e
+
+-- ## Inline HTML
+
+found-kinds : (k : SlotKind) → (k ≡ kind.InlineHtml) ⊎ ((end : ℕ) × (k ≡ kind.SourceHtml end)) → ((i : ℕ) → last_in k i ≡ i) × (text_named k ≡ None) × (link_named k ≡ None)
+found-kinds k (inl e) = ((λ i. ap (λ x. last_in x i) e), ap text_named e, ap link_named e)
+found-kinds k (inr (end, e)) = ((λ i. ap (λ x. last_in x i) e), ap text_named e, ap link_named e)
+
+pub found-alone : (leaf : LeafText) (at : ℕ) (found : FoundHtml) → IsFound leaf at found → ((i : ℕ) → last_in found.kind i ≡ i) × (text_named found.kind ≡ None) × (link_named found.kind ≡ None)
+found-alone leaf at found (inl t) = found-kinds found.kind (inl t.kind_is)
+found-alone leaf at found (inr s) = found-kinds found.kind (inr (place_of leaf at + s.size, s.kind_is))
+
+pub some-taken : (taken : Option Bracket) (old new : InlineState) → ((bracket : Bracket) → IsTakenFrom old bracket → IsTakenFrom new bracket) → IfSome taken (IsTakenFrom old) → IfSome taken (IsTakenFrom new)
+some-taken None old new f h = tt
+some-taken (Some bracket) old new f h = f bracket h
