@@ -40,6 +40,7 @@ pub mod BracketSteps
 pub mod AfterSteps
 pub mod OpenSteps
 pub mod LabelEnds
+pub mod LeafPlaces
 pub mod DecisionSteps
 pub mod TargetSteps
 pub mod TargetMakes

@@ -3,6 +3,7 @@ pub mod Doubled
 pub mod Elements
 pub mod Footnoted
 pub mod FoundInSource
+pub mod LeafViews
 pub mod Linked
 pub mod Marked
 pub mod Opens

@@ -52,6 +52,7 @@ pub mod ReadingOrders
 pub mod ReadingPlaces
 pub mod ReadingQuestionLaws
 pub mod RowParts
+pub mod RowPasses
 pub mod SampleReading
 pub mod SegmentLaws
 pub mod SiblingsOne
@@ -74,6 +75,7 @@ pub mod SpentEvents
 pub mod SpentLaws
 pub mod TextLaws
 pub mod TightSpans
+pub mod TogetherTokens
 pub mod TokenItems
 pub mod TokenLaws
 pub mod TokenOptions

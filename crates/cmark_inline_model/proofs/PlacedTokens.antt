@@ -31,11 +31,11 @@ use Rattle.cmark_inline_model.proofs.BreakRests.{BreakTaken, blank-taken, backsl
 use Rattle.cmark_inline_model.proofs.FindRests.{IsBehind, FoundBehind, behind-rest, code-behind, inline-behind, display-behind, autolink-behind, tag-behind}
 use Rattle.cmark_inline_model.proofs.WordBytes.{IsWord, and-right, word-is, punctuation-word, front-map, Leads, prefix-leads, starts-leads, first-leads, leads-cons, EntityLeads, entity-leads}
 
-abbrev Content : ℕ → Type 0
+abbrev pub Content : ℕ → Type 0
 Content b = is_content b ≡ true
 
-content_leads : (n : ℕ) (l : List ℕ) → Leads IsWord n l → Leads Content n l
-content_leads n l h = record { front = front-map IsWord Content (λ b w. w.content) n l h.front; fits = h.fits }
+pub content-leads : (n : ℕ) (l : List ℕ) → Leads IsWord n l → Leads Content n l
+content-leads n l h = record { front = front-map IsWord Content (λ b w. w.content) n l h.front; fits = h.fits }
 
 le_or : (a b : ℕ) → (a ≤ b) ⊎ (b < a)
 le_or a b = go (nat_lt b a) refl
@@ -43,6 +43,19 @@ le_or a b = go (nat_lt b a) refl
     go : (x : Bool) → nat_lt b a ≡ x → (a ≤ b) ⊎ (b < a)
     go true e = inr (ltb-true b a e)
     go false e = inl (ltb-false b a e)
+
+-- a blank ends no line, and a line ending is a break
+pub no-break : (b : ℕ) (bs : List ℕ) → (is_blank_byte b || not (is_content b)) ≡ true → blank_break_in (b ∷ bs) ≡ None → Content b
+no-break b bs e none = go (is_content b) refl
+  where
+    go : (x : Bool) → is_content b ≡ x → x ≡ true
+    go true f = refl
+    go false f = absurd (ended (b == 10) (b == 13) refl refl f)
+      where
+        ended : (x y : Bool) → (b == 10) ≡ x → (b == 13) ≡ y → (not x && not y) ≡ false → ⊥
+        ended true y p q r = let z = eqb-true b 10 p in (let k = subst (λ c. blank_break_in (c ∷ bs) ≡ None) z none in cc)
+        ended false true p q r = let z = eqb-true b 13 q in (let k = subst (λ c. blank_break_in (c ∷ bs) ≡ None) z none in cc)
+        ended false false p q r = true≢false r
 
 module _ (reader : Reader) (leaf : Leaf) (text : List ℕ) (place : ℕ → ℕ) (h : AreLeafPlaces reader leaf text place) where
   -- the text as a leaf of its own
@@ -87,7 +100,7 @@ module _ (reader : Reader) (leaf : Leaf) (text : List ℕ) (place : ℕ → ℕ)
 
   -- ## Steps over bytes that end no line
 
-  inside : (k b : ℕ) (l : List ℕ) → drop k text ≡ b ∷ l → (k < length text) × (get_or text k 0 ≡ b) × (drop (suc k) text ≡ l)
+  pub inside : (k b : ℕ) (l : List ℕ) → drop k text ≡ b ∷ l → (k < length text) × (get_or text k 0 ≡ b) × (drop (suc k) text ≡ l)
   inside k b l e =
       let d = length-drop k text in let n = ap length e in (
         omega arith,
@@ -105,8 +118,8 @@ module _ (reader : Reader) (leaf : Leaf) (text : List ℕ) (place : ℕ → ℕ)
       let y = steps n (suc k) l i.2 (record { front = f.front.1; fits = omega arith }) in
       ap place (let q : k + suc n ≡ suc k + n = omega arith in q) ∙ y ∙ (let q : place (suc k) + n ≡ place k + suc n = omega arith in q)
 
-  fewer_steps : (m n k : ℕ) (l : List ℕ) → m ≤ n → drop k text ≡ l → Leads Content n l → place (k + m) ≡ place k + m
-  fewer_steps m n k l le e f = let w = f.fits in steps m k l e (record { front = front-less Content m n l le f.front; fits = omega arith })
+  pub fewer-steps : (m n k : ℕ) (l : List ℕ) → m ≤ n → drop k text ≡ l → Leads Content n l → place (k + m) ≡ place k + m
+  fewer-steps m n k l le e f = let w = f.fits in steps m k l e (record { front = front-less Content m n l le f.front; fits = omega arith })
 
   -- an item in other places
   item_is : (kind : ItemKind) (s e p s0 e0 p0 : ℕ) → s ≡ place s0 → e ≡ suc (place (e0 - 1)) → p ≡ place p0
@@ -120,9 +133,9 @@ module _ (reader : Reader) (leaf : Leaf) (text : List ℕ) (place : ℕ → ℕ)
   words_is : (kind : ItemKind) (k o n : ℕ) (l : List ℕ) → drop k text ≡ l → Leads Content n l → o < n → (s e s0 e0 : ℕ) → s ≡ place k + o → e ≡ place k + n → s0 ≡ k + o → e0 ≡ k + n
       → item_at kind s e ≡ placed place (item_at kind s0 e0)
   words_is kind k o n l d f lt s e s0 e0 a b c g =
-      let x = fewer_steps o n k l (omega arith) d f in
-      let y = fewer_steps (n - 1) n k l (omega arith) d f in
-      let z = fewer_steps n n k l (omega arith) d f in
+      let x = fewer-steps o n k l (omega arith) d f in
+      let y = fewer-steps (n - 1) n k l (omega arith) d f in
+      let z = fewer-steps n n k l (omega arith) d f in
       item_is kind s e e s0 e0 e0 (a ∙ sym x ∙ ap place (sym c)) (b ∙ (let q : place k + n ≡ suc (place k + (n - 1)) = omega arith in q) ∙ ap suc (sym y) ∙ ap (λ j. suc (place j)) (let q : k + (n - 1) ≡ e0 - 1 = omega arith in q))
       (b ∙ sym z ∙ ap place (sym g))
 
@@ -269,7 +282,7 @@ module _ (reader : Reader) (leaf : Leaf) (text : List ℕ) (place : ℕ → ℕ)
     break_is (Some found) other other0 t p =
         ap (λ n. break_to reader leaf (place k) found (place k + n)) size_here
         ∙ item_is (if found.is_hard then HardBreak else SoftBreak) (place k + found.before) (place k + n) (read_on reader leaf (place k + n)) (k + found.before) (k + n) (read_on one alone (k + n))
-        (sym (fewer_steps found.before t.blanks k (b ∷ bs) t.begins here t.leads)) end_is
+        (sym (fewer-steps found.before t.blanks k (b ∷ bs) t.begins here t.leads)) end_is
         (ap (read_on reader leaf) end_is ∙ read-on (suc (place last)) (k + n) (subst (IsParted (length text) place (suc (place last))) (let q : suc last ≡ k + n = omega arith in q) (at-behind last last_in)))
         ∙ ap (λ n. placed place (break_to one alone k found (k + n))) (sym size_own)
       where
@@ -317,7 +330,7 @@ module _ (reader : Reader) (leaf : Leaf) (text : List ℕ) (place : ℕ → ℕ)
     entity_is w None e = byte_is Plain w.content
     entity_is w (Some entity) e =
         let l = leads-cons IsWord b e.0 bs w e.2 in
-        words_is (Written entity.bytes) k 0 (suc e.0) (b ∷ bs) here (content_leads (suc e.0) (b ∷ bs) l) (omega arith) (place k) (place k + entity.size) k (k + entity.size) (omega arith)
+        words_is (Written entity.bytes) k 0 (suc e.0) (b ∷ bs) here (content-leads (suc e.0) (b ∷ bs) l) (omega arith) (place k) (place k + entity.size) k (k + entity.size) (omega arith)
         (let s = e.1 in omega arith) (omega arith) (let s = e.1 in omega arith)
 
     next_here : drop (suc k) text ≡ bs
@@ -328,12 +341,12 @@ module _ (reader : Reader) (leaf : Leaf) (text : List ℕ) (place : ℕ → ℕ)
     escaped_is c (Some found) e =
         let f = first-leads IsWord is_backtick bs (λ d q. word-is d 96 refl (omega arith) q) e in
         let p = next_place c in
-        words_is Plain (suc k) 0 1 bs next_here (content_leads 1 bs f) (omega arith) (suc (place k)) (suc (suc (place k))) (suc k) (suc (suc k)) (omega arith) (omega arith) (omega arith) (omega arith)
+        words_is Plain (suc k) 0 1 bs next_here (content-leads 1 bs f) (omega arith) (suc (place k)) (suc (suc (place k))) (suc k) (suc (suc k)) (omega arith) (omega arith) (omega arith) (omega arith)
     escaped_is c None e =
         let n = backticks bs in
         let f = prefix-leads is_backtick IsWord (λ d q. word-is d 96 refl (omega arith) q) bs in
         let p = next_place c in
-        words_is Own (suc k) 0 n bs next_here (content_leads n bs f) (some bs e) (suc (place k)) (suc (place k) + n) (suc k) (suc k + n) (omega arith) (omega arith) (omega arith) refl
+        words_is Own (suc k) 0 n bs next_here (content-leads n bs f) (some bs e) (suc (place k)) (suc (place k) + n) (suc k) (suc k + n) (omega arith) (omega arith) (omega arith) refl
       where
         some : (l : List ℕ) → first_is is_backtick l ≡ true → 0 < backticks l
         some [] q = cc
@@ -348,10 +361,10 @@ module _ (reader : Reader) (leaf : Leaf) (text : List ℕ) (place : ℕ → ℕ)
         (λ e. either (leaf.is_cell && starts piped bs) (item_at Plain (place k + 2) (place k + 3)) (if first_is is_punctuation bs then item_at Plain (suc (place k)) (place k + 2) else item_at Plain (place k) (suc (place k)))
         (item_at Plain (k + 2) (k + 3)) (if first_is is_punctuation bs then item_at Plain (suc k) (k + 2) else item_at Plain k (suc k))
         (λ f. (let l = starts-leads IsWord piped bs (record { content = refl; ascii = omega arith }, (record { content = refl; ascii = omega arith }, tt)) (and-right leaf.is_cell (starts piped bs) f) in
-        words_is Plain k 2 3 (b ∷ bs) here (content_leads 3 (b ∷ bs) (leads-cons IsWord b 2 bs w l)) (omega arith) (place k + 2) (place k + 3) (k + 2) (k + 3) refl refl refl refl))
+        words_is Plain k 2 3 (b ∷ bs) here (content-leads 3 (b ∷ bs) (leads-cons IsWord b 2 bs w l)) (omega arith) (place k + 2) (place k + 3) (k + 2) (k + 3) refl refl refl refl))
         (λ f. either (first_is is_punctuation bs) (item_at Plain (suc (place k)) (place k + 2)) (item_at Plain (place k) (suc (place k))) (item_at Plain (suc k) (k + 2)) (item_at Plain k (suc k))
         (λ g. (let l = first-leads IsWord is_punctuation bs punctuation-word g in
-        words_is Plain k 1 2 (b ∷ bs) here (content_leads 2 (b ∷ bs) (leads-cons IsWord b 1 bs w l)) (omega arith) (suc (place k)) (place k + 2) (suc k) (k + 2) (omega arith) refl (omega arith) refl))
+        words_is Plain k 1 2 (b ∷ bs) here (content-leads 2 (b ∷ bs) (leads-cons IsWord b 1 bs w l)) (omega arith) (suc (place k)) (place k + 2) (suc k) (k + 2) (omega arith) refl (omega arith) refl))
         (λ g. byte_is Plain w.content)))
 
     -- no markup opens there
@@ -376,8 +389,8 @@ module _ (reader : Reader) (leaf : Leaf) (text : List ℕ) (place : ℕ → ℕ)
           (let d = length-drop k text in ap (λ n. take n (drop k text)) (let e : end_of alone.stretches - k ≡ length (drop k text) = omega arith in e))
           ∙ take-length (drop k text) ∙ here
 
-      no_own : (b == 60) ≡ true → behind_markup (source_from one alone k) ≡ None
-      no_own e =
+      pub no-own : (b == 60) ≡ true → behind_markup (source_from one alone k) ≡ None
+      no-own e =
           let p = parts_of bs (no_second e) in
           no_markup (source_from one alone k)
           (λ t. true≢false (sym (second 33 bs (sym (ap (take 2) own_source) ∙ t)) ∙ p.0))
@@ -413,7 +426,7 @@ module _ (reader : Reader) (leaf : Leaf) (text : List ℕ) (place : ℕ → ℕ)
           ∙ ap (λ l. tag_or_text reader leaf (place k) (behind_tag no_prefix l)) from_here
           ∙ tag_is w (behind_tag no_prefix (b ∷ bs)) refl
           ∙ ap (λ l. placed place (tag_or_text one alone k (behind_tag no_prefix l))) (sym from_own)
-          ∙ ap (λ o. placed place (markup_or one alone k o tag0)) (sym (no_own e))))
+          ∙ ap (λ o. placed place (markup_or one alone k o tag0)) (sym (no-own e))))
 
       -- ## Runs, formulas, and what smart punctuation reads
       character_before_is : character_before reader leaf (place k) ≡ character_before one alone k
@@ -465,14 +478,14 @@ module _ (reader : Reader) (leaf : Leaf) (text : List ℕ) (place : ℕ → ℕ)
           ap (λ l. if starts (codes "...") l then item_at written (place k) (place k + 3) else item_at Plain (place k) (suc (place k))) from_here
           ∙ either (starts (codes "...") (b ∷ bs)) (item_at written (place k) (place k + 3)) (item_at Plain (place k) (suc (place k))) (item_at written k (k + 3)) (item_at Plain k (suc k))
           (λ e. bytes_are written 3
-          (content_leads 3 (b ∷ bs) (starts-leads IsWord (codes "...") (b ∷ bs) (record { content = refl; ascii = omega arith }, (record { content = refl; ascii = omega arith }, (record { content = refl; ascii = omega arith }, tt))) e)) (omega arith))
+          (content-leads 3 (b ∷ bs) (starts-leads IsWord (codes "...") (b ∷ bs) (record { content = refl; ascii = omega arith }, (record { content = refl; ascii = omega arith }, (record { content = refl; ascii = omega arith }, tt))) e)) (omega arith))
           (λ e. byte_is Plain c)
           ∙ ap (λ l. placed place (if starts (codes "...") l then item_at written k (k + 3) else item_at Plain k (suc k))) (sym from_own)
 
       hyphens_is : (b == 45) ≡ true → hyphens reader leaf (place k) (prefix_len (λ c. c == 45) (from reader leaf (place k))) ≡ placed place (hyphens one alone k (prefix_len (λ c. c == 45) (from one alone k)))
       hyphens_is e =
           let n = prefix_len (λ c. c == 45) (b ∷ bs) in
-          let f = content_leads n (b ∷ bs) (prefix-leads (λ c. c == 45) IsWord (λ c q. word-is c 45 refl (omega arith) q) (b ∷ bs)) in
+          let f = content-leads n (b ∷ bs) (prefix-leads (λ c. c == 45) IsWord (λ c q. word-is c 45 refl (omega arith) q) (b ∷ bs)) in
           let text_kind = Written (dash_text (dashes_of n)) in
           ap (λ l. hyphens reader leaf (place k) (prefix_len (λ c. c == 45) l)) from_here
           ∙ either (nat_lt n 2) (item_at Plain (place k) (place k + n)) (item_at text_kind (place k) (place k + n)) (item_at Plain k (k + n)) (item_at text_kind k (k + n)) (λ x. bytes_are Plain n f some) (λ x. bytes_are text_kind n f some)
@@ -499,19 +512,6 @@ module _ (reader : Reader) (leaf : Leaf) (text : List ℕ) (place : ℕ → ℕ)
           either (b == 46) (dots reader leaf (place k)) (if b == 45 then hyphens reader leaf (place k) n else quoted) (dots one alone k) (if b == 45 then hyphens one alone k n0 else quoted0) (λ e. dots_is c)
           (λ e. either (b == 45) (hyphens reader leaf (place k) n) quoted (hyphens one alone k n0) quoted0 hyphens_is
           (λ f. either ((b == 34) || (b == 39)) (quote_at reader leaf (place k) b) plain (quote_at one alone k b) plain0 (λ g. quote_is c) (λ g. byte_is Plain c)))
-
-      -- a blank ends no line, and a line ending is a break
-      no_break : (is_blank_byte b || not (is_content b)) ≡ true → blank_break_in (b ∷ bs) ≡ None → Content b
-      no_break e none = go (is_content b) refl
-        where
-          go : (x : Bool) → is_content b ≡ x → x ≡ true
-          go true f = refl
-          go false f = absurd (ended (b == 10) (b == 13) refl refl f)
-            where
-              ended : (x y : Bool) → (b == 10) ≡ x → (b == 13) ≡ y → (not x && not y) ≡ false → ⊥
-              ended true y p q r = let z = eqb-true b 10 p in (let k = subst (λ c. blank_break_in (c ∷ bs) ≡ None) z none in cc)
-              ended false true p q r = let z = eqb-true b 13 q in (let k = subst (λ c. blank_break_in (c ∷ bs) ≡ None) z none in cc)
-              ended false false p q r = true≢false r
 
       both_false : (x y : Bool) → (x || not y) ≡ false → y ≡ true
       both_false true y e = cc
@@ -555,7 +555,7 @@ module _ (reader : Reader) (leaf : Leaf) (text : List ℕ) (place : ℕ → ℕ)
           let c0 = if b == 92 then slash else c1 in
           let d0 = if b == 92 then slash0 else d1 in
           either (is_blank_byte b || not (is_content b)) (break_or reader leaf at (blank_break_in (b ∷ bs)) plain) c0 (break_or one alone k (blank_break_in (b ∷ bs)) plain0) d0
-          (λ e. break_is (blank_break_in (b ∷ bs)) plain plain0 (blank-taken (b ∷ bs)) (λ n. byte_is Plain (no_break e n)))
+          (λ e. break_is (blank_break_in (b ∷ bs)) plain plain0 (blank-taken (b ∷ bs)) (λ n. byte_is Plain (no-break b bs e n)))
           (λ e0. (let c = both_false (is_blank_byte b) (is_content b) e0 in
           either (b == 92) slash c1 slash0 d1
           (λ e. break_is (backslash_break_in (b ∷ bs)) (escape_at reader leaf at bs) (escape_at one alone k bs) (backslash-taken (b ∷ bs)) (λ n. escape_is (word-is b 92 refl (omega arith) e)))
@@ -563,7 +563,7 @@ module _ (reader : Reader) (leaf : Leaf) (text : List ℕ) (place : ℕ → ℕ)
           (λ e. entity_is (word-is b 38 refl (omega arith) e) (entity_in reader.lookup bs) (entity-leads reader.lookup bs))
           (λ e2. either (b == 96) code c3 code0 d3
           (λ e. code_is (code_in (b ∷ bs)) (code-behind (b ∷ bs))
-          (content_leads (backticks (b ∷ bs)) (b ∷ bs) (prefix-leads is_backtick IsWord (λ d q. word-is d 96 refl (omega arith) q) (b ∷ bs))) (backtick_some e))
+          (content-leads (backticks (b ∷ bs)) (b ∷ bs) (prefix-leads is_backtick IsWord (λ d q. word-is d 96 refl (omega arith) q) (b ∷ bs))) (backtick_some e))
           (λ e3. either (b == 60) (less_than reader leaf at bs) c4 (less_than one alone k bs) d4 less_than_is
           (λ e4. either (b == 33) bang c5 bang0 d5
           (λ e. either (first_is (λ c. c == 91) bs) (Opens (bracket true at (at + 2))) plain (Opens (bracket true k (k + 2))) plain0
@@ -577,7 +577,7 @@ module _ (reader : Reader) (leaf : Leaf) (text : List ℕ) (place : ℕ → ℕ)
           (λ e9. either reader.options.smart_punctuation (smart_or reader leaf at b) plain (smart_or one alone k b) plain0 (λ e. smart_is c) (λ e. byte_is Plain c))))))))))))
         where
           opens_is : (is_image : Bool) (n : ℕ) → Leads IsWord n (b ∷ bs) → Opens (bracket is_image (place k) (place k + n)) ≡ placed place (Opens (bracket is_image k (k + n)))
-          opens_is is_image n w = ap (λ x. Opens (bracket is_image (place k) x)) (sym (steps n k (b ∷ bs) here (content_leads n (b ∷ bs) w)))
+          opens_is is_image n w = ap (λ x. Opens (bracket is_image (place k) x)) (sym (steps n k (b ∷ bs) here (content-leads n (b ∷ bs) w)))
 
   -- what begins there, but for markup that is sought in the source
   pub begins-at : (k : ℕ) → k ≤ length text → may_open_markup (drop k text) ≡ false → begins_at reader leaf (place k) ≡ placed place (begins_at one alone k)

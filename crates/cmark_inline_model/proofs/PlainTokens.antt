@@ -118,9 +118,9 @@ module _ (reader : Reader) (leaf : Leaf) where
       (when (b == 45) (hyphens reader leaf at n) quoted (when (nat_lt n 2) (item_at Plain at (at + n)) (item_at (Written (dash_text (dashes_of n))) at (at + n)) (λ e. refl) (λ e. refl))
       (when ((b == 34) || (b == 39)) (quote_at reader leaf at b) plain (λ e. refl) (λ e. refl)))
 
-  begins_shaped : (at : ℕ) (l : List ℕ) → Shaped (begins reader leaf at l)
-  begins_shaped at [] = tt
-  begins_shaped at (b ∷ bs) =
+  pub begins-shaped : (at : ℕ) (l : List ℕ) → Shaped (begins reader leaf at l)
+  begins-shaped at [] = tt
+  begins-shaped at (b ∷ bs) =
       let plain = item_at Plain at (suc at) in
       let c9 = if reader.options.smart_punctuation then smart_or reader leaf at b else plain in
       let c8 = if reader.options.math && is_dollar b then dollar reader leaf at bs (braces_behind false (before reader leaf at) no_braces) else c9 in
@@ -147,7 +147,7 @@ module _ (reader : Reader) (leaf : Leaf) where
       (when reader.options.smart_punctuation (smart_or reader leaf at b) plain (smart_shaped at b) (λ e. refl)))))))))))
 
   -- ## Where markup may open, no text does
-  abbrev NotPlain : Token → Type 0
+  abbrev pub NotPlain : Token → Type 0
   NotPlain (Stands x past) = is_plain x.kind ≡ false
   NotPlain (Opens b) = Unit {0}
   NotPlain (Closes b) = Unit {0}
@@ -184,17 +184,17 @@ module _ (reader : Reader) (leaf : Leaf) where
       link None = markup (behind_markup (source_from reader leaf at))
       link (Some found) = refl
 
-  markup_not : (at : ℕ) (l : List ℕ) → may_open_markup l ≡ true → NotPlain (begins reader leaf at l)
-  markup_not at [] e = tt
-  markup_not at (b ∷ bs) e =
+  pub markup-not : (at : ℕ) (l : List ℕ) → may_open_markup l ≡ true → NotPlain (begins reader leaf at l)
+  markup-not at [] e = tt
+  markup-not at (b ∷ bs) e =
       let second = first_is (λ c. (c == 33) || (c == 63)) bs in
       subst (λ c. NotPlain (begins reader leaf at (c ∷ bs))) (sym (eqb-true b 60 (and-left (b == 60) second e))) (less_than_not at bs (and-right (b == 60) second e))
 
-  goes_stop : (t : Token) (stop : ℕ) (more : ℕ → ℕ) → NotPlain t → goes_on reader leaf t stop more ≡ stop
-  goes_stop (Stands item past) stop more h = ap (λ z. if z && (item.start == stop) then more past else stop) h
-  goes_stop (Opens b) stop more h = refl
-  goes_stop (Closes b) stop more h = refl
-  goes_stop Ends stop more h = refl
+  pub goes-stop : (t : Token) (stop : ℕ) (more : ℕ → ℕ) → NotPlain t → goes_on reader leaf t stop more ≡ stop
+  goes-stop (Stands item past) stop more h = ap (λ z. if z && (item.start == stop) then more past else stop) h
+  goes-stop (Opens b) stop more h = refl
+  goes-stop (Closes b) stop more h = refl
+  goes-stop Ends stop more h = refl
 
 -- ## One text in the places of the source
 module _ (reader : Reader) (leaf : Leaf) (text : List ℕ) (place : ℕ → ℕ) (h : AreLeafPlaces reader leaf text place) where
@@ -245,8 +245,8 @@ module _ (reader : Reader) (leaf : Leaf) (text : List ℕ) (place : ℕ → ℕ)
 
       by : (b : Bool) → is_plain x.kind ≡ b → GoesOn (placed place (Stands x past)) (Stands x past) k
       by false e = record {
-        same = λ more more0 g. goes_stop reader leaf (placed place (Stands x past)) (place k) more e ∙ ap place (sym (goes_stop one alone (Stands x past) k more0 e));
-        ends = λ more0 f g. subst Ended (sym (goes_stop one alone (Stands x past) k more0 e)) f;
+        same = λ more more0 g. goes-stop reader leaf (placed place (Stands x past)) (place k) more e ∙ ap place (sym (goes-stop one alone (Stands x past) k more0 e));
+        ends = λ more0 f g. subst Ended (sym (goes-stop one alone (Stands x past) k more0 e)) f;
       }
       by true e =
           let ended : Ended past = sym (p e) ∙ ap (λ i. suc (place (i - 1))) (s e) in record {
@@ -268,15 +268,15 @@ module _ (reader : Reader) (leaf : Leaf) (text : List ℕ) (place : ℕ → ℕ)
     where
       by : (b : Bool) → may_open_markup (drop k text) ≡ b → GoesOn (begins_at reader leaf (place k)) (begins_at one alone k) k
       by true e =
-          let n = subst (λ l. NotPlain reader leaf (begins reader leaf (place k) l)) (sym (from-place reader leaf text place h k le)) (markup_not reader leaf (place k) (drop k text) e) in
-          let m = subst (λ l. NotPlain one alone (begins one alone k l)) (sym (from-text reader leaf text place h k)) (markup_not one alone k (drop k text) e) in record {
-            same = λ more more0 g. goes_stop reader leaf (begins_at reader leaf (place k)) (place k) more n ∙ ap place (sym (goes_stop one alone (begins_at one alone k) k more0 m));
-            ends = λ more0 f g. subst Ended (sym (goes_stop one alone (begins_at one alone k) k more0 m)) f;
+          let n = subst (λ l. NotPlain reader leaf (begins reader leaf (place k) l)) (sym (from-place reader leaf text place h k le)) (markup-not reader leaf (place k) (drop k text) e) in
+          let m = subst (λ l. NotPlain one alone (begins one alone k l)) (sym (from-text reader leaf text place h k)) (markup-not one alone k (drop k text) e) in record {
+            same = λ more more0 g. goes-stop reader leaf (begins_at reader leaf (place k)) (place k) more n ∙ ap place (sym (goes-stop one alone (begins_at one alone k) k more0 m));
+            ends = λ more0 f g. subst Ended (sym (goes-stop one alone (begins_at one alone k) k more0 m)) f;
           }
       by false e =
           let q = begins-at reader leaf text place h k le e in
           subst (λ t. GoesOn t (begins_at one alone k) k) (sym q)
-          (placed_goes (begins_at one alone k) k le (onward k) (begins_shaped one alone k (from one alone k)) (subst (Shaped reader leaf) q (begins_shaped reader leaf (place k) (from reader leaf (place k)))))
+          (placed_goes (begins_at one alone k) k le (onward k) (begins-shaped one alone k (from one alone k)) (subst (Shaped reader leaf) q (begins-shaped reader leaf (place k) (from reader leaf (place k)))))
 
   plain_end_is : (n k : ℕ) → k ≤ length text → Ended k → (plain_end reader leaf n (place k) ≡ place (plain_end one alone n k)) × Ended (plain_end one alone n k)
   plain_end_is zero k le e = (refl, e)
@@ -312,7 +312,7 @@ module _ (reader : Reader) (leaf : Leaf) (text : List ℕ) (place : ℕ → ℕ)
   token-at k le none =
       let q = begins-at reader leaf text place h k le none in
       ap (longest reader leaf) q
-      ∙ longest_is (begins_at one alone k) k (onward k) (begins_shaped one alone k (from one alone k)) (subst (Shaped reader leaf) q (begins_shaped reader leaf (place k) (from reader leaf (place k))))
+      ∙ longest_is (begins_at one alone k) k (onward k) (begins-shaped one alone k (from one alone k)) (subst (Shaped reader leaf) q (begins-shaped reader leaf (place k) (from reader leaf (place k))))
 
 -- bytes that stand for themselves up to a place where none begins that does are one text
 module _ (reader : Reader) (leaf : Leaf) where

@@ -208,6 +208,7 @@ module _ (options : Options) where
       record {
         before = h.before;
         opener = h.opener;
+        opener_is = h.opener_is;
         inside = join h.inside piece;
         parts_are = ap (λ p. join p piece) h.parts_are ∙ join_assoc h.before (Opening h.opener h.inside) piece;
         none = omega arith;
@@ -230,11 +231,12 @@ module _ (options : Options) where
 
   -- an opening bracket behind
   row-opens : (bs : List BracketPlace) (parts : Parts) (opener : Bracket) (slots : List Slot) (bytes quotes : List ℕ) → LaysParts options bs parts slots bytes quotes
-      → LaysParts options (record { slot = length slots; runs = length (runs_in (siblings_of options parts)); quotes = length (quotes_of (siblings_of options parts)) } ∷ bs) (join parts (Opening opener NoParts))
+      → LaysParts options (record { bracket = opener; slot = length slots; runs = length (runs_in (siblings_of options parts)); quotes = length (quotes_of (siblings_of options parts)) } ∷ bs) (join parts (Opening opener NoParts))
       (slots ++ (text_slot opener ∷ [])) bytes quotes
   row-opens bs parts opener slots bytes quotes h = record {
     before = parts;
     opener = opener;
+    opener_is = refl;
     inside = NoParts;
     parts_are = refl;
     none = refl;
@@ -261,6 +263,7 @@ module _ (options : Options) where
     parts_are : parts ≡ join cut.before (Opening cut.opener cut.inside)
     place : BracketPlace
     place_is : drop nearer bs ≡ place ∷ drop (suc nearer) bs
+    opener_is : place.bracket ≡ cut.opener
     front : List Slot
     behind : List Slot
     slots_are : slots ≡ front ++ (text_slot cut.opener ∷ behind)
@@ -284,6 +287,7 @@ module _ (options : Options) where
     parts_are = h.parts_are;
     place = b;
     place_is = refl;
+    opener_is = h.opener_is;
     front = h.front;
     behind = h.behind;
     slots_are = h.slots_are;
@@ -315,6 +319,7 @@ module _ (options : Options) where
             parts_are = whole;
             place = c.place;
             place_is = c.place_is;
+            opener_is = c.opener_is;
             front = c.front;
             behind = c.behind ++ (text_slot h.opener ∷ h.behind);
             slots_are = h.slots_are ∙ ap (λ l. l ++ (text_slot h.opener ∷ h.behind)) c.slots_are ∙ append_assoc c.front (text_slot c.cut.opener ∷ c.behind) (text_slot h.opener ∷ h.behind);
@@ -349,10 +354,10 @@ module _ (options : Options) where
   }
 
   pub opened-row : (bs : List BracketPlace) (parts : Parts) (opener : Bracket) (slots : List Slot) (bytes quotes : List ℕ) (runs : List Run) (quoted : List Quote) → IsRow options bs parts slots bytes quotes runs quoted
-      → IsRow options (record { slot = length slots; runs = length runs; quotes = length quoted } ∷ bs) (join parts (Opening opener NoParts)) (slots ++ (text_slot opener ∷ [])) bytes quotes runs quoted
+      → IsRow options (record { bracket = opener; slot = length slots; runs = length runs; quotes = length quoted } ∷ bs) (join parts (Opening opener NoParts)) (slots ++ (text_slot opener ∷ [])) bytes quotes runs quoted
   opened-row bs parts opener slots bytes quotes runs quoted h = record {
-    laid = subst (λ l. LaysParts options (record { slot = length slots; runs = length l; quotes = length quoted } ∷ bs) (join parts (Opening opener NoParts)) (slots ++ (text_slot opener ∷ [])) bytes quotes) h.runs_are
-        (subst (λ l. LaysParts options (record { slot = length slots; runs = length (runs_in (siblings_of options parts)); quotes = length l } ∷ bs) (join parts (Opening opener NoParts)) (slots ++ (text_slot opener ∷ [])) bytes quotes) h.quoted_are
+    laid = subst (λ l. LaysParts options (record { bracket = opener; slot = length slots; runs = length l; quotes = length quoted } ∷ bs) (join parts (Opening opener NoParts)) (slots ++ (text_slot opener ∷ [])) bytes quotes) h.runs_are
+        (subst (λ l. LaysParts options (record { bracket = opener; slot = length slots; runs = length (runs_in (siblings_of options parts)); quotes = length l } ∷ bs) (join parts (Opening opener NoParts)) (slots ++ (text_slot opener ∷ [])) bytes quotes) h.quoted_are
         (row-opens bs parts opener slots bytes quotes h.laid));
     runs_are = runs-join parts (Opening opener NoParts) ∙ append-nil (runs_in (siblings_of options parts)) ∙ h.runs_are;
     quoted_are = quotes-join parts (Opening opener NoParts) ∙ append-nil (quotes_of (siblings_of options parts)) ∙ h.quoted_are;
@@ -378,6 +383,7 @@ module _ (options : Options) where
         cut_is = c.cut_is;
         place = c.place;
         place_is = c.place_is;
+        opener_is = c.opener_is;
         front = c.front;
         behind = c.behind;
         slots_are = c.slots_are;

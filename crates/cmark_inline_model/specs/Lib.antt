@@ -17,6 +17,7 @@ pub mod ReadingLinks
 pub mod ReadingQuestions
 pub mod ReadingRanges
 pub mod RowParts
+pub mod RowPasses
 pub mod SlotRows
 pub mod Unanswered
 pub mod TextPlaces

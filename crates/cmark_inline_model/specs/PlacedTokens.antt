@@ -1,8 +1,8 @@
 -- What begins at a place of a leaf, by what begins in the leaf's text where that is read as a leaf of one stretch.
-use Rattle.std.specs.Prelude.{◌≡◌, ◌≤◌, ◌<◌, ◌-◌, ℕ, suc, Bool, false, ◌==◌, ◌&&◌, ◌||◌, List, [], ◌∷◌, get_or, drop, take, length, None}
+use Rattle.std.specs.Prelude.{◌≡◌, ◌≤◌, ◌<◌, ◌-◌, ℕ, suc, Bool, true, false, ◌==◌, ◌&&◌, ◌||◌, List, [], ◌∷◌, get_or, drop, take, length, None}
 use Rattle.cmark_grammar.specs.Answers.{Lookup}
 use Rattle.cmark_grammar.specs.InlineTokens.{from, before}
-use Rattle.cmark_grammar.specs.Items.{Item, Bracket, Token, Stands, Opens, Closes, Ends}
+use Rattle.cmark_grammar.specs.Items.{ItemKind, Plain, Own, Autolink, Html, Item, Bracket, Token, Stands, Opens, Closes, Ends}
 use Rattle.cmark_grammar.specs.LeafText.{Leaf}
 use Rattle.cmark_grammar.specs.Letters.{first_is}
 use Rattle.cmark_grammar.specs.Options.{Options}
@@ -43,6 +43,7 @@ pub record AreLeafPlaces (reader : Reader) (leaf : Leaf) (text : List ℕ) (plac
   pub places : ArePlaces reader leaf text place
   pub front : (x count : ℕ) → IsParted (length text) place x count → before reader leaf x ≡ take count text
   pub rest : (x count : ℕ) → IsParted (length text) place x count → from reader leaf x ≡ drop count text
+  pub inside : (k : ℕ) → k < length text → place k < length reader.source
   pub bytes : (k : ℕ) → k < length text → get_or reader.source (place k) 0 ≡ get_or text k 0
   pub endings : HaveWholeEndings text place
 
@@ -66,3 +67,11 @@ placed place Ends = Ends
 abbrev pub may_open_markup : List ℕ → Bool
 may_open_markup [] = false
 may_open_markup (b ∷ bs) = (b == 60) && first_is (λ c. (c == 33) || (c == 63)) bs
+
+-- the bytes of such an item are what its event says, or what stands in it
+abbrev pub is_as_written : ItemKind → Bool
+is_as_written Plain = true
+is_as_written Own = true
+is_as_written (Autolink uri) = true
+is_as_written Html = true
+is_as_written _ = false

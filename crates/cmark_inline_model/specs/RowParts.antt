@@ -34,8 +34,9 @@ counted at (run ∷ runs) = Delimiter (record { mark = run.mark; size = run.size
 
 -- ## Rows
 
--- how many slots stand before an opening bracket, how many runs, and how many quotes
+-- an opening bracket, with how many slots stand before it, how many runs, and how many quotes
 pub record BracketPlace : Type 0 where
+  pub bracket : Bracket
   pub slot : ℕ
   pub runs : ℕ
   pub quotes : ℕ
@@ -48,6 +49,7 @@ module _ (options : Options) where
   pub record LaysBracket (Before : Parts → List Slot → (bytes quotes : List ℕ) → Type 0) (b : BracketPlace) (parts : Parts) (slots : List Slot) (bytes quotes : List ℕ) : Type 0 where
     pub before : Parts
     pub opener : Bracket
+    pub opener_is : b.bracket ≡ opener
     pub inside : Parts
     pub parts_are : parts ≡ join before (Opening opener inside)
     pub none : openings inside ≡ 0
@@ -83,6 +85,7 @@ module _ (options : Options) where
     pub cut_is : cut_at nearer parts ≡ Some cut
     pub place : BracketPlace
     pub place_is : drop nearer bs ≡ place ∷ drop (suc nearer) bs
+    pub opener_is : place.bracket ≡ cut.opener
     pub front : List Slot
     pub behind : List Slot
     pub slots_are : slots ≡ front ++ (text_slot cut.opener ∷ behind)

@@ -24,7 +24,7 @@ pub fn rows_grow_with_the_parts()
         → IsRow options bs (join parts piece) (slots ++ more) (bytes ++ more_bytes) (quotes ++ more_quotes) (runs ++ runs_in (siblings_of options piece)) (quoted ++ quotes_of (siblings_of options piece)) }
     ensures opens { (options : Options) (bs : List BracketPlace) (parts : Parts) (opener : Bracket) (slots : List Slot) (bytes quotes : List ℕ) (runs : List Run) (quoted : List Quote)
         → IsRow options bs parts slots bytes quotes runs quoted
-        → IsRow options (record { slot = length slots; runs = length runs; quotes = length quoted } ∷ bs) (join parts (Opening opener Nil)) (slots ++ (text_slot opener ∷ [])) bytes quotes runs quoted }
+        → IsRow options (record { bracket = opener; slot = length slots; runs = length runs; quotes = length quoted } ∷ bs) (join parts (Opening opener Nil)) (slots ++ (text_slot opener ∷ [])) bytes quotes runs quoted }
 {}
 
 /// Where the parts are cut at an opening bracket, the row is cut at the place that is noted of this one: its slots, the bytes of its runs,

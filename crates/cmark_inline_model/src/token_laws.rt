@@ -1,12 +1,14 @@
 //! Theorems over what begins at the places of a leaf, each the contract of a function that does nothing: it is what begins in the leaf's
 //! text where that is read as a leaf of one stretch, in the places of the source.
 
-ghost use Rattle.std.specs.Prelude.{◌≡◌, ◌≤◌, ℕ, false, List, drop, length};
+ghost use Rattle.std.specs.Prelude.{◌≡◌, ◌≤◌, ◌-◌, ℕ, suc, true, false, List, drop, length};
 ghost use Rattle.cmark_grammar.specs.InlineTokens.{begins_at, read_on, token};
+ghost use Rattle.cmark_grammar.specs.Items.{Item, Stands};
 ghost use Rattle.cmark_grammar.specs.LeafText.{InTurn, Leaf};
 ghost use Rattle.cmark_grammar.specs.Readers.{Reader};
+ghost use Rattle.cmark_grammar.specs.Tokens.{slice};
 ghost use Rattle.cmark_inline_model.specs.LeafModel.{HaveLineEnds};
-ghost use Rattle.cmark_inline_model.specs.PlacedTokens.{AreLeafPlaces, HaveWholeEndings, IsParted, may_open_markup, one_stretch, placed, text_reader};
+ghost use Rattle.cmark_inline_model.specs.PlacedTokens.{AreLeafPlaces, HaveWholeEndings, IsParted, is_as_written, may_open_markup, one_stretch, placed, text_reader};
 ghost use Rattle.cmark_inline_model.specs.TextPlaces.{place_in, text_of};
 
 /// Each place of the source parts the text of a leaf whose lines end with line endings.
@@ -32,4 +34,15 @@ pub fn the_text_is_read_on_in_its_places()
     ensures { (reader : Reader) (leaf : Leaf) (text : List ℕ) (place : ℕ → ℕ) → AreLeafPlaces reader leaf text place
         → (x count : ℕ) → IsParted (length text) place x count
         → read_on reader leaf x ≡ place (read_on (text_reader reader.options reader.lookup text) (one_stretch leaf.is_cell text) count) }
+{}
+
+/// The bytes of a text, of an autolink, and of a tag that takes no line ending stand side by side in the source, and are the bytes of the
+/// item in the text: of each byte that stands for itself (`begins`), and of the longest text (`token`).
+pub fn texts_have_their_bytes_in_the_source()
+    ensures begins { (reader : Reader) (leaf : Leaf) (text : List ℕ) (place : ℕ → ℕ) → AreLeafPlaces reader leaf text place → (k : ℕ) → may_open_markup (drop k text) ≡ false
+        → (x : Item) (past : ℕ) → begins_at (text_reader reader.options reader.lookup text) (one_stretch leaf.is_cell text) k ≡ Stands x past → is_as_written x.kind ≡ true
+        → slice reader.source (place x.start) (suc (place (x.end - 1))) ≡ slice text x.start x.end }
+    ensures token { (reader : Reader) (leaf : Leaf) (text : List ℕ) (place : ℕ → ℕ) → AreLeafPlaces reader leaf text place → (k : ℕ) → may_open_markup (drop k text) ≡ false
+        → (x : Item) (past : ℕ) → token (text_reader reader.options reader.lookup text) (one_stretch leaf.is_cell text) k ≡ Stands x past → is_as_written x.kind ≡ true
+        → slice reader.source (place x.start) (suc (place (x.end - 1))) ≡ slice text x.start x.end }
 {}

@@ -1,0 +1,80 @@
+//! Theorems over the slots that stand for what a pass over a leaf has read (`RowPasses`), each the contract of a function that does
+//! nothing: each step of the pass keeps them, and at the end the leaf's events are read off them.
+
+ghost use Rattle.std.specs.Prelude.{◌≡◌, ℕ, suc, List, [], ◌∷◌, ◌++◌, Some, drop, length, take};
+ghost use Rattle.cmark_grammar.specs.BracketDecisions.{decide};
+ghost use Rattle.cmark_grammar.specs.BracketReading.{Comes};
+ghost use Rattle.cmark_grammar.specs.BracketStates.{Forms, State, StaysText, moved, opened};
+ghost use Rattle.cmark_grammar.specs.Emphasis.{IsEmphasis, Pair, Run};
+ghost use Rattle.cmark_grammar.specs.InlineTokens.{token};
+ghost use Rattle.cmark_grammar.specs.Items.{Bracket, Closes, Ends, Item, Opens, Stands};
+ghost use Rattle.cmark_grammar.specs.LeafReading.{Between, ReadsLeaf, entering, leaving};
+ghost use Rattle.cmark_grammar.specs.LeafText.{Leaf};
+ghost use Rattle.cmark_grammar.specs.Parts.{Form, Formed, Linking, Nil, Opening, Single, Target};
+ghost use Rattle.cmark_grammar.specs.Questions.{AnyAnswer, Exchange, IsNext};
+ghost use Rattle.cmark_grammar.specs.Quotes.{Quote};
+ghost use Rattle.cmark_grammar.specs.Readers.{Reader};
+ghost use Rattle.cmark_grammar.specs.Siblings.{quotes_of};
+ghost use Rattle.cmark_grammar.specs.SiblingsModel.{siblings_of};
+ghost use Rattle.cmark_grammar.specs.Spans.{Spans};
+ghost use Rattle.cmark_inline_model.specs.BracketPass.{Pass, closed_by, pass};
+ghost use Rattle.cmark_inline_model.specs.LikeSlots.{IsLike};
+ghost use Rattle.cmark_inline_model.specs.PartLists.{Cut, cut_at, join};
+ghost use Rattle.cmark_inline_model.specs.RowParts.{BracketPlace, counted, runs_in, text_slot};
+ghost use Rattle.cmark_inline_model.specs.RowPasses.{IsReached, StandsFor, bytes_before, dressed_behind, dressed_slots, linked_slots};
+ghost use Rattle.cmark_inline_model.specs.SlotRows.{Slot, slot_events};
+
+/// A pass begins with no slots (`first`). With an item it has the slots that stand for it behind those before, and its runs and quotes
+/// (`item`); with an opening bracket one slot more, and the place of that (`opening`); with a closing one that stays a text one slot more
+/// (`closing`).
+pub fn slots_follow_the_pass()
+    ensures first { (reader : Reader) (leaf : Leaf) (before : Between) → IsReached reader leaf before (pass (entering leaf before) Nil) [] [] [] [] [] [] }
+    ensures item { (reader : Reader) (leaf : Leaf) (before : Between) (p : Pass) (bs : List BracketPlace) (slots : List Slot) (bytes quotes : List ℕ) (runs : List Run) (quoted : List Quote)
+        → IsReached reader leaf before p bs slots bytes quotes runs quoted
+        → (x : Item) (past : ℕ) (more : List Slot) (more_bytes more_quotes : List ℕ) → token reader leaf p.state.at ≡ Stands x past → StandsFor reader (length slots) (Single x Nil) more more_bytes more_quotes
+        → IsReached reader leaf before (pass (moved past p.state) (join p.here (Single x Nil))) bs (slots ++ more) (bytes ++ more_bytes) (quotes ++ more_quotes)
+        (runs ++ runs_in (siblings_of reader.options (Single x Nil))) (quoted ++ quotes_of (siblings_of reader.options (Single x Nil))) }
+    ensures opening { (reader : Reader) (leaf : Leaf) (before : Between) (p : Pass) (bs : List BracketPlace) (slots : List Slot) (bytes quotes : List ℕ) (runs : List Run) (quoted : List Quote)
+        → IsReached reader leaf before p bs slots bytes quotes runs quoted
+        → (opener : Bracket) (slot : Slot) → token reader leaf p.state.at ≡ Opens opener → IsLike reader.source slot (text_slot opener)
+        → IsReached reader leaf before (pass (opened opener p.state) (join p.here (Opening opener Nil)))
+        (record { bracket = opener; slot = length slots; runs = length runs; quotes = length quoted } ∷ bs) (slots ++ (slot ∷ [])) bytes quotes runs quoted }
+    ensures closing { (reader : Reader) (leaf : Leaf) (before : Between) (p : Pass) (bs : List BracketPlace) (slots : List Slot) (bytes quotes : List ℕ) (runs : List Run) (quoted : List Quote)
+        → IsReached reader leaf before p bs slots bytes quotes runs quoted
+        → (closer : Bracket) (next : State) (slot : Slot) → token reader leaf p.state.at ≡ Closes closer
+        → Comes AnyAnswer p.state.asked (decide reader leaf p.state closer) (record { result = StaysText; after = next }) → IsLike reader.source slot (text_slot closer)
+        → IsReached reader leaf before (closed_by p closer (record { result = StaysText; after = next })) bs (slots ++ (slot ∷ [])) bytes quotes runs quoted }
+{}
+
+/// Where a closing bracket forms something with the opening one that is noted at a place, what is formed stands in the place of that one's
+/// slot and of all behind it, and the runs and the quotes behind it are gone. What shows nothing of what stands between the brackets has
+/// slots of its own (`formed`); a link or an image is around the slots behind the bracket, once their quotes are characters and their
+/// pairs have written their marks (`link`).
+pub fn what_is_formed_takes_the_place_of_its_slots()
+    ensures formed { (reader : Reader) (leaf : Leaf) (before : Between) (p : Pass) (bs : List BracketPlace) (slots : List Slot) (bytes quotes : List ℕ) (runs : List Run) (quoted : List Quote)
+        → IsReached reader leaf before p bs slots bytes quotes runs quoted
+        → (closer : Bracket) (nearer : ℕ) (what : Formed) (next : State) (place : BracketPlace) → drop nearer bs ≡ place ∷ drop (suc nearer) bs → token reader leaf p.state.at ≡ Closes closer
+        → Comes AnyAnswer p.state.asked (decide reader leaf p.state closer) (record { result = Forms nearer what; after = next })
+        → (more : List Slot)
+        → ((cut : Cut) → cut_at nearer p.here ≡ Some cut → cut.opener ≡ place.bracket → StandsFor reader place.slot (Form cut.opener cut.inside closer what Nil) more [] [])
+        → ((cut : Cut) → (runs_in (siblings_of reader.options (Form cut.opener cut.inside closer what Nil)) ≡ []) × (quotes_of (siblings_of reader.options (Form cut.opener cut.inside closer what Nil)) ≡ []))
+        → IsReached reader leaf before (closed_by p closer (record { result = Forms nearer what; after = next })) (drop (suc nearer) bs) (take place.slot slots ++ more)
+        (take (bytes_before place runs) bytes) (take place.quotes quotes) (take place.runs runs) (take place.quotes quoted) }
+    ensures link { (reader : Reader) (leaf : Leaf) (before : Between) (p : Pass) (bs : List BracketPlace) (slots : List Slot) (bytes quotes : List ℕ) (runs : List Run) (quoted : List Quote)
+        → IsReached reader leaf before p bs slots bytes quotes runs quoted
+        → (closer : Bracket) (nearer : ℕ) (target : Target) (next : State) (place : BracketPlace) → drop nearer bs ≡ place ∷ drop (suc nearer) bs → token reader leaf p.state.at ≡ Closes closer
+        → Comes AnyAnswer p.state.asked (decide reader leaf p.state closer) (record { result = Forms nearer (Linking target); after = next })
+        → (pairs : List Pair) (spans : Spans) → IsEmphasis (counted 0 (drop place.runs runs)) pairs spans
+        → IsReached reader leaf before (closed_by p closer (record { result = Forms nearer (Linking target); after = next })) (drop (suc nearer) bs)
+        (linked_slots place target (dressed_behind reader.options place pairs slots bytes quotes runs quoted))
+        (take (bytes_before place runs) bytes) (take place.quotes quotes) (take place.runs runs) (take place.quotes quoted) }
+{}
+
+/// At the end of the leaf its events are read off the slots, once all quotes are characters and all pairs have written their marks; the
+/// answers are those that were given, in turn, and any others behind them.
+pub fn the_events_of_a_leaf_are_read_off_the_slots_of_its_pass()
+    ensures { (reader : Reader) (leaf : Leaf) (before : Between) (p : Pass) (bs : List BracketPlace) (slots : List Slot) (bytes quotes : List ℕ) (runs : List Run) (quoted : List Quote)
+        → IsReached reader leaf before p bs slots bytes quotes runs quoted → token reader leaf p.state.at ≡ Ends
+        → (pairs : List Pair) (spans : Spans) → IsEmphasis (counted 0 runs) pairs spans → (all rest : List Exchange) → all ≡ p.state.asked ++ rest
+        → ReadsLeaf reader (IsNext all) leaf before (slot_events reader.source (dressed_slots reader.options pairs slots bytes quotes quoted) []) (leaving p.state) }
+{}
