@@ -23,6 +23,9 @@ impl<'a, E: EntityLookup> Pass<'a, E> {
         ensures placed { (text : List ℕ) → IsIn text line.entry → IfSome result (IsIn text) }
         ensures behind { IfSome result (IsBehind line.entry) }
     {
+        if self.outer.is_empty() {
+            return Some(line);
+        }
         let (kept, rest) = self.kept_by(line);
         if kept < self.outer.len() {
             return None;

@@ -1,7 +1,8 @@
 -- Steps of a walk with spans.
 use Rattle.std.proofs.Common.{◌≡◌, ◌⊎◌, inl, inr, ℕ, ◌<◌, ◌≤◌, ◌-◌, arith, Bool, true, false, List, [], ◌∷◌, ◌++◌, length, None, Some, refl, sym, ap, ◌∙◌, subst}
+use Rattle.std.proofs.Common.{Bor}
 use Rattle.std.specs.Global.{Vec}
-use Rattle.cmark_grammar.specs.Event.{Ranged}
+use Rattle.cmark_grammar.specs.Event.{Ranged, Text}
 use Rattle.cmark_grammar.specs.LeafSpans.{AreGiven}
 use Rattle.cmark_grammar.specs.LeafText.{Leaf}
 use Rattle.cmark_grammar.specs.SpanDocuments.{Segment, Given as GivenOf, Content}
@@ -20,6 +21,7 @@ use Rattle.cmark_leaf_text.specs.declared.stretch.LeafLine.{LeafLine}
 use Rattle.cmark_leaf_text.specs.Reads.{IsRead, is_cell_of, text_of}
 use Rattle.cmark_leaf_text.specs.Stretches.{leaf_bytes}
 use Rattle.cmark_text.specs.declared.short.Short.{Short}
+use Rattle.cmark_text.specs.declared.short.Short.TheVariants as short
 use Rattle.cmark_text.specs.Short.{IsShortZeroCopy}
 use Rattle.cmark_walk.specs.declared.reading.Ranged.{Ranged as Given}
 use Rattle.cmark_walk.specs.declared.walk.Walk.{Walk}
@@ -27,7 +29,7 @@ use Rattle.cmark_walk.specs.Walking as walking
 use Rattle.cmark_walk.specs.Walking.{AreLinesOf, lines_of, shown_ranged}
 use Rattle.cmark_walk.proofs.OneRemainder.{one-remainder}
 use Rattle.cmark_span_walk.specs.declared.span_walk.SpanWalk.{SpanWalk}
-use Rattle.cmark_span_walk.specs.Walking.{BeforeLeaf, BlocksLeft, Completes, EntersLeaf, Gives, GivesShort, KeepsLeft, LeftIn, Remains, Stands, StandsIn, StandsInLeaf, definitions_of, events_left, footnotes_of, opened_of, source_of}
+use Rattle.cmark_span_walk.specs.Walking.{BeforeLeaf, BlocksLeft, Completes, EntersLeaf, Gives, GivesShort, IsOnlyLine, KeepsLeft, LeftIn, Remains, Stands, StandsIn, StandsInLeaf, definitions_of, events_left, footnotes_of, opened_of, source_of}
 use Rattle.cmark_span_walk.proofs.Completing.{can-close, completes-nested}
 
 none-opened : (source : List ℕ) (opened : List Opened) → opened ≡ [] → AreOpened source opened
@@ -308,6 +310,42 @@ module _ {E F : Type 0} where
     pub before-leaf : (is_cell : Bool) (budget : ℕ) (leaf : Leaf) (others : List Segment) → s.0 ≡ Content leaf ∷ others → AreLinesOf (walking.text_of walk) leaf lines.items → walking.Remains walk others
         → is_cell ≡ leaf.is_cell → budget ≡ mid.budget - 1 → BeforeLeaf (met-by budget) is_cell leaf others
     before-leaf is_cell budget leaf others e are remains cell less = record { cell = cell; lines = subst (λ t. AreLinesOf t leaf lines.items) text-same are; blocks = blocks-behind budget (Content leaf) others e remains less }
+
+    -- a leaf that is one text
+    pub plain-stands : (budget : ℕ) (leaf : Leaf) (others : List Segment) → s.0 ≡ Content leaf ∷ others → walking.Remains walk others → budget ≡ mid.budget - 1 → Stands (met-by budget)
+    plain-stands budget leaf others e remains less = (others, record { blocks = blocks-behind budget (Content leaf) others e remains less; leaf = outside (met-by budget) out })
+
+    plain-back : (budget : ℕ) (leaf : Leaf) (others : List Segment) (r : Ranged) → s.0 ≡ Content leaf ∷ others → walking.Remains walk others → budget ≡ mid.budget - 1 → Follows (source_of mid) [] r []
+        → (events : List Ranged) → Remains (met-by budget) events → Remains mid (r ∷ events)
+    plain-back budget leaf others r e remains less follows events m =
+        let behind = at-blocks (met-by budget) others events (blocks-behind budget (Content leaf) others e remains less) out m in
+        let completes : Completes (source_of mid) [] (r ∷ []) = ([], follows, refl) in
+        record {
+          left = s.0;
+          stands = s.1;
+          are = outside-left mid s.0 (r ∷ events) out (subst (λ l. AreGiven (source_of mid) l (r ∷ events)) (sym e) (r ∷ [], events, refl, record { nested = completes-nested (source_of mid) (r ∷ []) completes }, behind));
+        }
+
+    pub plain-short : (old head : SpanWalk E F) (budget : ℕ) (text : Bor (List ℕ)) (leaf : Leaf) (others : List Segment) → IsOnlyLine (source_of mid) lines.items text.now → s.0 ≡ Content leaf ∷ others → walking.Remains walk others
+        → Lasts old head → ((events : List Ranged) → Remains mid events → Remains head events) → source_of mid ≡ source_of head
+        → events_left mid ≤ events_left head → (head.in_leaf ≡ true → length mid.inline.slots.items < 18446744073709551616) → mid.inline.slots ≡ head.inline.slots → mid.budget ≡ head.budget → budget ≡ mid.budget - 1
+        → GivesShort old (short.Text text) (met-by budget)
+    plain-short old head budget text leaf others only e remains l back source most few slots same less =
+        let line = only.line in
+        let part = only.part in
+        let some = part.some in
+        let r : Ranged = record { event = Text text.now; start = line.start; end = line.stop } in
+        let follows : Follows (source_of mid) [] r [] = record { range = record { ordered = (let q : line.start ≤ line.stop = omega (arith, some) in q); within = part.within; starts = part.starts; ends = part.ends }; opens = (tt, refl) } in
+        record {
+          given = r;
+          is = refl;
+          gives = λ events m. l.back (r ∷ events) (back (r ∷ events) (plain-back budget leaf others r e remains less follows events m));
+          lent = subst (λ t. IsShortZeroCopy t (short.Text text) line.start line.stop) (source ∙ l.source) only.is;
+          fewer =
+              let counted = most-since old head mid l most few slots same in
+              let left = not-spent (Content leaf) others e in
+              omega (arith, counted, left, less);
+        }
 
     pub leaf-back : (leaf : Leaf) (others : List Segment) → s.0 ≡ Content leaf ∷ others → (new : SpanWalk E F) → EntersLeaf leaf others new → source_of new ≡ source_of mid → (events : List Ranged) → Remains new events → Remains mid events
     leaf-back leaf others e new enters source events m =

@@ -11,7 +11,9 @@ use Rattle.cmark_inline.specs.Opens as opens
 use Rattle.cmark_inline.specs.Opens.{Follows}
 use Rattle.cmark_inline.specs.Stands.{AreOpened, AreSlots}
 use Rattle.cmark_leaf_text.specs.Reads as reads
-use Rattle.cmark_leaf_text.specs.Reads.{IsRead, is_cell_of, text_of}
+use Rattle.cmark_grammar.specs.Tokens.{slice}
+use Rattle.cmark_leaf_text.specs.declared.stretch.LeafLine.{LeafLine}
+use Rattle.cmark_leaf_text.specs.Reads.{IsPart, IsRead, is_cell_of, text_of}
 use Rattle.cmark_leaf_text.specs.Stretches.{leaf_bytes}
 use Rattle.cmark_text.specs.declared.short.Next.{Next}
 use Rattle.cmark_text.specs.declared.short.Next.TheVariants as next
@@ -31,6 +33,13 @@ Completes source open_ones (r ∷ rs) = (next : List Opened) × Follows source o
 -- the zero-copy law of an event with its range
 abbrev pub GivesZeroCopy : (source : List ℕ) → Given → Type 0
 GivesZeroCopy source given = IsZeroCopy source given.event given.range.start given.range.end
+
+-- there is one line alone, and this text, which is not empty and cuts no character, is what stands in it
+pub record IsOnlyLine (source : List ℕ) (lines : List LeafLine) (text : List ℕ) : Type 0 where
+  pub line : LeafLine
+  pub alone : lines ≡ line ∷ []
+  pub part : IsPart source line.start line.stop
+  pub is : text ≡ slice source line.start line.stop
 
 module _ {E F : Type 0} where
   abbrev pub source_of : SpanWalk E F → List ℕ

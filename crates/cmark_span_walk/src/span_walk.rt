@@ -1,21 +1,29 @@
 //! The walk over a document's events with the spans of its leaves.
 
-ghost use Rattle.std.specs.Prelude.{◌≡◌, ◌<◌, ◌≤◌, ℕ, true, false, List, [], None, length, IfOk, IfSome, OnOk, OnSome};
+ghost use Rattle.std.specs.Prelude.{◌≡◌, ◌<◌, ◌≤◌, ℕ, Bool, true, false, List, [], None, length, IfOk, IfSome, OnOk, OnSome};
+ghost use Rattle.cmark_grammar.specs.Answers.{Lookup};
 ghost use Rattle.cmark_grammar.specs.Event.{Ranged as Shown};
 ghost use Rattle.cmark_grammar.specs.LeafSpans.{AreGiven};
 ghost use Rattle.cmark_grammar.specs.LeafText.{Leaf};
+ghost use Rattle.cmark_grammar.specs.Options.{Options as Extensions};
 ghost use Rattle.cmark_grammar.specs.SpanDocuments.{Segment};
 ghost use Rattle.cmark_inline.specs.Footnoted.{SameFootnotes};
+ghost use Rattle.cmark_inline.specs.PlainStretches.{IsSetOf, StandUpTo};
+ghost use Rattle.cmark_leaf_text.specs.Stretches.{AreLines};
 ghost use Rattle.cmark_inline.specs.Opens.{shown_given, GivesZeroCopy as SpanZeroCopy};
 ghost use Rattle.cmark_walk.specs.Walking.{Remains as BlocksRemain, definitions_of as block_definitions, shown_ranged, text_of};
-ghost use Rattle.cmark_span_walk.specs.Walking.{GivesZeroCopy};
+ghost use Rattle.cmark_span_walk.specs.Walking.{GivesZeroCopy, IsOnlyLine};
 
 use cmark_inline::{BrokenLinkCallback, Given, InlineState, Reader, SpecialBytes, special_bytes};
 use cmark_items::{FootnoteDefs, RefDefs};
 use cmark_leaf_text::{LeafLine, LeafText};
-use cmark_text::{EntityLookup, Next, Options};
+use cmark_text::{EntityLookup, Next, Options, Short};
 use cmark_walk::{Brief, Met, Ranged, Walk};
 use std::alloc::{AllocError, Global};
+
+/// How long a line may be that is looked through for a special byte before it is read: a longer one mostly has one, and would be looked
+/// through twice.
+const LONGEST: usize = 128;
 
 /// A walk over the events of a document, in which the spans of each leaf stand in the place of its lines.
 #[derive(Drop)]
@@ -140,6 +148,9 @@ impl<'input, 'e, E: EntityLookup, F: BrokenLinkCallback<'input> + Drop> SpanWalk
                 }
                 Brief::Leaf { is_cell } => {
                     self.budget -= 1;
+                    if let Some(text) = self.plain_text() {
+                        return Ok(Next::Short(Short::Text(text)));
+                    }
                     self.enter_leaf(is_cell)?;
                 }
                 Brief::Long => return Ok(Next::Long),
@@ -201,6 +212,28 @@ impl<'input, 'e, E: EntityLookup, F: BrokenLinkCallback<'input> + Drop> SpanWalk
                 Ok(None)
             }
         }
+    }
+
+    // The text of the leaf whose lines were met, if that is one short line in which no byte may begin a span, as that of most cells of
+    // tables: its one event is a part of the source.
+    #[inline(always)]
+    fn plain_text(&self) -> Option<&'input str>
+        requires { AreLines (source_of self.now) 0 self.now.lines.items }
+        ensures line { IfSome result (λ text. IsOnlyLine (source_of self.now) self.now.lines.items text.now) }
+        ensures plain { IfSome result (λ text. (options : Extensions) (lookup : Lookup) (is_cell : Bool) → IsSetOf options self.now.special
+            → StandUpTo options lookup is_cell text.now 0 (length text.now)) }
+    {
+        let [line] = self.lines.as_slice() else {
+            return None;
+        };
+        if line.start >= line.stop || line.stop - line.start > LONGEST {
+            return None;
+        }
+        let text = self.leaf.source_at(line.start, line.stop);
+        if self.special.next(text.as_bytes(), 0) < text.len() {
+            return None;
+        }
+        Some(text)
     }
 
     // Into the leaf whose lines were met, perhaps the cell of a table.

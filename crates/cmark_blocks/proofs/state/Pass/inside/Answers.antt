@@ -1,10 +1,31 @@
-use Rattle.std.proofs.Common.{[], sym, ap, ◌∙◌, subst, arith}
+use Rattle.std.proofs.Common.{◌≡◌, ℕ, List, [], ◌∷◌, length, refl, sym, ap, ◌∙◌, subst, vec_len, arith}
 use Rattle.cmark_lines.specs.Rests.{row_of}
 use Rattle.cmark_lines.proofs.RestSteps.{whole}
-use Rattle.cmark_block_model.specs.BlockPass.{kept_by}
+use Rattle.cmark_block_model.specs.BlockPass.{ahead_in, kept_by}
+use Rattle.cmark_block_model.specs.OpenBlocks as model
+use Rattle.cmark_blocks.specs.Shown.{ShowsContainers}
+use Rattle.cmark_blocks.specs.declared.state.OpenContainer.{OpenContainer}
 use Rattle.cmark_blocks.proofs.AheadSteps.{Sees, sees}
+use Rattle.cmark_blocks.proofs.FeedSteps.{is-zero}
 use Rattle.cmark_blocks.proofs.KeptSteps.{shows-all, shows-some}
 use Rattle.cmark_blocks.proofs.state.Pass.inside.Goals as goal
+
+-- where no container is open, none is in the grammar's list
+nothing-open : (cs : List OpenContainer) (ms : List model.OpenContainer) → length cs ≡ 0 → ShowsContainers cs ms → ms ≡ []
+nothing-open [] [] e s = refl
+nothing-open [] (m ∷ ms) e s = absurd s
+nothing-open (c ∷ cs) ms e s = absurd (omega (arith, e))
+
+pub returns-then-is_empty-clause-seen : goal.returns-then-is_empty-clause-seen
+returns-then-is_empty-clause-seen g c text options lookup m more runs =
+    let r = row_of c.args.line in
+    let outer = c.args.self.now.outer in
+    let none : vec_len outer ≡ 0 = is-zero (vec_len outer) (sym c.is_empty.ensures ∙ c.if-is_empty.true) in
+    let empty = nothing-open outer.items m.outer (omega (arith, none, outer.ok.0)) runs.outer in
+    (refl, subst (λ cs. ahead_in text options lookup cs (r ∷ more) ≡ r ∷ ahead_in text options lookup cs more) (sym empty) refl)
+
+pub returns-then-is_empty-clause-behind : goal.returns-then-is_empty-clause-behind
+returns-then-is_empty-clause-behind g c = (0, refl)
 
 pub returns-then-kept-len-clause-seen : goal.returns-then-kept-len-clause-seen
 returns-then-kept-len-clause-seen g c text options lookup m more runs =

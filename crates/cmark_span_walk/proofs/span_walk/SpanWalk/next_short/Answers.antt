@@ -5,7 +5,7 @@ use Rattle.cmark_text.specs.declared.short.Next.{Next}
 use Rattle.cmark_walk.specs.declared.reading.Brief.{Brief}
 use Rattle.cmark_walk.specs.Walking as walking
 use Rattle.cmark_span_walk.specs.Walking.{GivesInLeaf}
-use Rattle.cmark_span_walk.proofs.Walks.{before-leaf, lasts-leaf, lasts-none, met-long, met-long-stands, met-short, met-short-stands, next-over, over-stands}
+use Rattle.cmark_span_walk.proofs.Walks.{before-leaf, lasts-leaf, lasts-none, met-long, met-long-stands, met-short, met-short-stands, next-over, over-stands, plain-short, plain-stands}
 use Rattle.cmark_span_walk.proofs.span_walk.SpanWalk.next_short.Goals as goal
 
 pub loop-short-init : goal.loop-short-init
@@ -28,6 +28,38 @@ returns-in-Short-2-clause-given g c =
     let none = subst (λ (n : Next). GivesInLeaf c.loop-short.self n mid) c.in-Over.is e.given in
     let given = subst (λ (b : Brief). walking.GivesBrief mid.walk b c.next_short.new.lines.items c.next_short.new.self) c.in-Short-2.is c.in_ok-short-2.ensures.given in
     met-short mid c.next_short.new.self c.next_short.new.lines s none.0 c.in_ok-short-2.ensures.text c.args.self.now c.loop-short.self _ c.in-Short-2.short given c.loop-short.invariant none.1 e.source e.most e.few e.slots e.budget refl
+
+pub plain_text-requires : goal.plain_text-requires
+plain_text-requires g c κs =
+    let mid = c.next_in_leaf.new.self in
+    let e = c.in_ok-short.ensures in
+    let s = e.stands in
+    let none = subst (λ (n : Next). GivesInLeaf c.loop-short.self n mid) c.in-Over.is e.given in
+    let given = subst (λ (b : Brief). walking.GivesBrief mid.walk b c.next_short.new.lines.items c.next_short.new.self) c.in-Leaf.is c.in_ok-short-2.ensures.given in
+    let gives = given s.0 s.1.blocks.remains in
+    let before = before-leaf mid c.next_short.new.self c.next_short.new.lines s none.0 c.in_ok-short-2.ensures.text c.in-Leaf.is_cell _ gives.0 gives.1 gives.2 gives.3 gives.4 gives.5 refl in
+    ((refl, tt), before.lines.in_turn)
+
+pub returns-in-Some-clause-stands : goal.returns-in-Some-clause-stands
+returns-in-Some-clause-stands g c =
+    let mid = c.next_in_leaf.new.self in
+    let e = c.in_ok-short.ensures in
+    let s = e.stands in
+    let none = subst (λ (n : Next). GivesInLeaf c.loop-short.self n mid) c.in-Over.is e.given in
+    let given = subst (λ (b : Brief). walking.GivesBrief mid.walk b c.next_short.new.lines.items c.next_short.new.self) c.in-Leaf.is c.in_ok-short-2.ensures.given in
+    let gives = given s.0 s.1.blocks.remains in
+    plain-stands mid c.next_short.new.self c.next_short.new.lines s none.0 c.in_ok-short-2.ensures.text _ gives.0 gives.1 gives.2 gives.4 refl
+
+pub returns-in-Some-clause-given : goal.returns-in-Some-clause-given
+returns-in-Some-clause-given g c =
+    let mid = c.next_in_leaf.new.self in
+    let e = c.in_ok-short.ensures in
+    let s = e.stands in
+    let none = subst (λ (n : Next). GivesInLeaf c.loop-short.self n mid) c.in-Over.is e.given in
+    let given = subst (λ (b : Brief). walking.GivesBrief mid.walk b c.next_short.new.lines.items c.next_short.new.self) c.in-Leaf.is c.in_ok-short-2.ensures.given in
+    let gives = given s.0 s.1.blocks.remains in
+    plain-short mid c.next_short.new.self c.next_short.new.lines s none.0 c.in_ok-short-2.ensures.text c.args.self.now c.loop-short.self _ c.in-Some.text gives.0 gives.1 c.in-Some.ensures.line gives.2 gives.4
+    c.loop-short.invariant none.1 e.source e.most e.few e.slots e.budget refl
 
 pub enter_leaf-requires : goal.enter_leaf-requires
 enter_leaf-requires g c κs =
