@@ -12,6 +12,7 @@ pub mod Forming
 pub mod Showing
 pub mod Keeping
 pub mod Opening
+pub mod SourceOrder
 pub mod Marks
 pub mod Merging
 pub mod RunPlaces

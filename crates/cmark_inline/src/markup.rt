@@ -4,7 +4,7 @@ ghost use Rattle.std.specs.Prelude.{◌≡◌, ◌||◌, ◌<◌, ◌+◌, ℕ, 
 ghost use Rattle.std.specs.Str.{IsCharBoundary};
 ghost use Rattle.cmark_grammar.specs.InlineHtml.{behind_inline_html, behind_markup};
 ghost use Rattle.cmark_grammar.specs.Letters.{starts};
-ghost use Rattle.cmark_leaf_text.specs.Reads.{IsRead, IsPart, text_of};
+ghost use Rattle.cmark_leaf_text.specs.Reads.{IsRead, IsPart, source_of, text_of};
 ghost use Rattle.cmark_inline.specs.FoundInSource.{AreUnclosed, FindsNone, IsFound, IsInSource, NoneCloses, opens_as, source_from};
 ghost use Rattle.cmark_inline.specs.Stands.{IsContent, begins_link};
 ghost use Rattle.cmark_inline.specs.Tokens.{opens_markup};
@@ -107,6 +107,7 @@ impl Unclosed {
         ensures part { IfSome result (λ found. IsPart text.now at found.end) }
         ensures content { IfSome result (λ found. IsContent text.now found.kind) }
         ensures kind { IfSome result (λ found. begins_link found.kind ≡ false) }
+        ensures edge { IfSome result (λ found. (end : ℕ) → found.kind ≡ slot_kind.SourceHtml end → IsCharBoundary (source_of leaf.now) end) }
         ensures is { IfSome result (IsFound leaf.now at) }
         ensures none { result ≡ None → FindsNone leaf.now at }
         ensures kept { AreUnclosed leaf.now at self.new }
@@ -127,6 +128,7 @@ impl Unclosed {
         ensures part { IfSome result (λ found. IsPart text.now at found.end) }
         ensures content { IfSome result (λ found. IsContent text.now found.kind) }
         ensures kind { IfSome result (λ found. begins_link found.kind ≡ false) }
+        ensures edge { IfSome result (λ found. (end : ℕ) → found.kind ≡ slot_kind.SourceHtml end → IsCharBoundary (source_of leaf.now) end) }
         ensures is { IfSome result (IsInSource leaf.now at) }
         ensures none { result ≡ None → behind_markup (source_from leaf.now at) ≡ None }
         ensures kept { AreUnclosed leaf.now at self.new }
@@ -182,6 +184,7 @@ fn tag(text: &str, at: usize) -> Option<FoundHtml>
     ensures part { IfSome result (λ found. IsPart text.now at found.end) }
     ensures content { IfSome result (λ found. IsContent text.now found.kind) }
     ensures kind { IfSome result (λ found. begins_link found.kind ≡ false) }
+    ensures edge { IfSome result (λ found. (end : ℕ) → found.kind ≡ slot_kind.SourceHtml end → ⊥) }
     ensures is { IfSome result (λ found. (found.kind ≡ slot_kind.InlineHtml) × (behind_inline_html (drop at text.now) ≡ Some (drop found.end text.now))) }
     ensures none { result ≡ None → behind_inline_html (drop at text.now) ≡ None }
 {
@@ -202,6 +205,7 @@ fn source_html(leaf: &LeafText<'_>, text: &str, at: usize) -> Option<FoundHtml>
     ensures part { IfSome result (λ found. IsPart text.now at found.end) }
     ensures content { IfSome result (λ found. IsContent text.now found.kind) }
     ensures kind { IfSome result (λ found. begins_link found.kind ≡ false) }
+    ensures edge { IfSome result (λ found. (end : ℕ) → found.kind ≡ slot_kind.SourceHtml end → IsCharBoundary (source_of leaf.now) end) }
     ensures is { IfSome result (IsInSource leaf.now at) }
     ensures none { result ≡ None → behind_markup (source_from leaf.now at) ≡ None }
 {

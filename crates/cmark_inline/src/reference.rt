@@ -122,6 +122,7 @@ impl<'a> InlineState<'a> {
         requires same { text.now ≡ text_of leaf.now }
         requires sound { IsSound self.old }
         ensures sound { OnOk result (IsSound self.new) }
+        ensures ends { OnOk result (AreEnded leaf.now self.old.slots.items → AreEnded leaf.now self.new.slots.items) }
         ensures asks { AsksOnce F.answers callback.old callback.new }
         ensures spent { self.old.expansion ≡ 0 → (callback.new ≡ callback.old) × (self.new.expansion ≡ 0) }
         ensures moves { IfOk result (Moves text.now here.at self.new) }

@@ -11,7 +11,7 @@ ghost use Rattle.cmark_inline.specs.declared.link.LinkParts.{LinkParts as Parts}
 ghost use Rattle.cmark_inline.specs.Stands.{AreSlots, AreBrackets, IsBracket, IsCursor, IsSlot, IsTarget, Moves, SameSpans, Stands, bytes_of};
 ghost use Rattle.cmark_inline.specs.Tokens.{Appends, PutsAutolink, TakesEscaped};
 ghost use Rattle.cmark_inline.specs.FoundInSource.{AreUnclosed, ReadsLess};
-ghost use Rattle.cmark_inline.specs.Sound.{IsSound, KeepsSound};
+ghost use Rattle.cmark_inline.specs.Sound.{AreEnded, IsSound, KeepsSound};
 
 use crate::event::text_between;
 use crate::link::LinkParts;
@@ -81,6 +81,7 @@ impl<'a> InlineState<'a> {
         requires kept { AreUnclosed leaf.now here.at unclosed.old }
         ensures expansion { self.new.expansion ≡ self.old.expansion }
         ensures sound { IsSound self.old → OnOk result (IsSound self.new) }
+        ensures ends { OnOk result (AreEnded leaf.now self.old.slots.items → AreEnded leaf.now self.new.slots.items) }
         ensures moves { IfOk result (Moves text.now here.at self.new) }
         ensures kept { AreUnclosed leaf.now here.at unclosed.new }
         ensures token { (options : Options) (lookup : Lookup) → slice_index text.now here.at ≡ 60 → IfOk result (ReadsLess options lookup leaf.now here self.old self.new) }

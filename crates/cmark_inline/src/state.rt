@@ -57,6 +57,7 @@ impl<'a> InlineState<'a> {
     pub(crate) fn clear(&mut self)
         ensures stands { (text : List ℕ) → Stands text 0 self.new }
         ensures sound { IsSound self.new }
+        ensures slots { self.new.slots.items ≡ [] }
         ensures expansion { self.new.expansion ≡ self.old.expansion }
     {
         self.slots.clear();

@@ -10,7 +10,8 @@ ghost use Rattle.cmark_inline.specs.Stands.{AreSlots, AreBrackets, IsBracket, Is
 ghost use Rattle.cmark_inline.specs.Footnoted.{SameFootnotes};
 ghost use Rattle.cmark_inline.specs.FoundInSource.{AreUnclosed};
 ghost use Rattle.cmark_inline.specs.Marked.{AreWhole, EndWithin};
-ghost use Rattle.cmark_inline.specs.Sound.{AreNamed, IsSound};
+ghost use Rattle.cmark_inline.specs.Sound.{AreEnded, IsSound};
+ghost use Rattle.cmark_inline.specs.SlotViews.{AreLeft};
 ghost use Rattle.cmark_inline.specs.SpecialReads.{ReadsSpecial};
 ghost use Rattle.cmark_inline.specs.Tokens.{Puts};
 ghost use Rattle.cmark_grammar.specs.SpecialBytes.{is_special};
@@ -62,7 +63,7 @@ impl<'a> InlineState<'a> {
         ensures few { OnOk result (length self.new.slots.items ≤ length (text_of leaf.now)) }
         ensures slots { OnOk result (AreSlots (text_of leaf.now) (length (text_of leaf.now)) self.new.slots.items) }
         ensures opened { OnOk result (self.new.walk.opened.items ≡ []) }
-        ensures named { OnOk result (AreNamed (length self.new.texts.items) (length self.new.links.items) self.new.slots.items) }
+        ensures left { OnOk result (AreLeft leaf.now self.new) }
         ensures whole { OnOk result (AreWhole self.new.slots.items × EndWithin self.new.slots.items) }
         ensures first { OnOk result (self.new.walk.next ≡ 0) }
         ensures footnotes { SameFootnotes footnotes.old footnotes.new }
@@ -107,6 +108,7 @@ impl<'a> InlineState<'a> {
         requires kept { AreUnclosed leaf.now cursor.at sought.old.unclosed }
         requires sound { IsSound self.old }
         ensures sound { OnOk result (IsSound self.new) }
+        ensures ends { OnOk result (AreEnded leaf.now self.old.slots.items → AreEnded leaf.now self.new.slots.items) }
         ensures runs { AreRunsOf text.now sought.new.runs }
         ensures dollars { AreDollarsOf text.now sought.new.dollars }
         ensures kept { IfOk result (λ next. AreUnclosed leaf.now next.at sought.new.unclosed) }
@@ -159,6 +161,7 @@ impl<'a> InlineState<'a> {
         ensures kept { AreUnclosed leaf.now here.at sought.new.unclosed }
         ensures expansion { self.new.expansion ≡ self.old.expansion }
         ensures sound { IsSound self.old → OnOk result (IsSound self.new) }
+        ensures ends { OnOk result (AreEnded leaf.now self.old.slots.items → AreEnded leaf.now self.new.slots.items) }
         ensures moves { IfOk result (Moves text.now here.at self.new) }
         ensures token { is_special (shown_options reader.now.options) (slice_index text.now here.at) ≡ true → (slice_index text.now here.at == 93) ≡ false → IfOk result (ReadsSpecial (shown_options reader.now.options) (E.replacement reader.now.entities.now) leaf.now here self.old self.new) }
     {

@@ -113,6 +113,7 @@ impl<'a> InlineState<'a> {
         requires same { text.now ≡ text_of leaf.now }
         requires sound { IsSound self.old }
         ensures sound { OnOk result (IsSound self.new) }
+        ensures ends { OnOk result (AreEnded leaf.now self.old.slots.items → AreEnded leaf.now self.new.slots.items) }
         ensures taken { IfOk result (λ next. next ≡ None → (bracket : Opening) → IsTakenFrom self.old bracket → IsTakenFrom self.new bracket) }
         ensures forms { IfOk result (λ next. is_some next ≡ forms_wikilink (shown_options options) leaf.now close self.old.doubled) }
         ensures next { IfOk result (λ next. IfSome next (λ next. (next.pending ≡ close + 2) × (next.at ≡ close + 2))) }

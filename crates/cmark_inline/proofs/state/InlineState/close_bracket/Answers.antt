@@ -1,18 +1,19 @@
 use Rattle.std.specs.Prelude.{false, Option, IfSome, is_some}
 use Rattle.std.proofs.Common.{rules, ◌≡◌, ◌+◌, refl, sym, ap, subst, ◌∙◌}
 use Rattle.cmark_grammar.specs.BracketDecisions.{is_there}
-use Rattle.cmark_leaf_text.specs.Reads.{is_cell_of}
+use Rattle.cmark_leaf_text.specs.Reads.{IsPart, is_cell_of}
 use Rattle.cmark_text.specs.Shown.{shown_options}
 use Rattle.cmark_inline.specs.Footnoted.{KeepsLabel, footnote_of, forms_footnote}
 use Rattle.cmark_inline.specs.Closers.{LeavesFootnote, LeavesWikilink, LinksTaken}
 use Rattle.cmark_inline.specs.Doubled.{nearest}
-use Rattle.cmark_inline.specs.Stands.{Moves}
+use Rattle.cmark_inline.specs.Stands.{HoldNoLink, Moves, Stands}
 use Rattle.cmark_inline.specs.declared.bracket.Bracket.{Bracket}
 use Rattle.cmark_inline.specs.declared.state.InlineState.{InlineState}
 use Rattle.cmark_inline.specs.declared.step.Cursor.{Cursor}
 use Rattle.cmark_inline.proofs.CloserMakes.{footnote-closes, inside-up, linked-closes, remembers-on, taken-stage, text-closes, tried-stage, wikilink-closes, IsTriedStage}
 use Rattle.cmark_inline.specs.Sound.{IsTakenFrom}
 use Rattle.cmark_inline.proofs.Keeping.{keeps-pending, keeps-puts, some-taken}
+use Rattle.cmark_inline.specs.Sound.{AreEnded}
 use Rattle.cmark_inline.proofs.state.InlineState.close_bracket.Goals as goal
 
 pub returns-in-Some-clause-closes : goal.returns-in-Some-clause-closes
@@ -102,7 +103,42 @@ link-requires g c =
     let same : c.footnote.new.self ≡ c.wikilink.new.self = c.in_ok-next-2.ensures.others c.in_default-2.is in
     let taken : IfSome c.take_bracket-taken.result (IsTakenFrom c.footnote.new.self) = subst (λ (s : InlineState). IfSome c.take_bracket-taken.result (IsTakenFrom s)) (sym same)
     (some-taken c.take_bracket-taken.result c.take_bracket-taken.new.self c.wikilink.new.self (c.in_ok-next.ensures.taken c.in_default.is) c.take_bracket-taken.ensures.taken) in
-    search (rules, taken)
+    let stands : Stands c.args.text.now c.args.here.at c.footnote.new.self = subst (λ (s : InlineState). Stands c.args.text.now c.args.here.at s) (sym same) (c.in_ok-next.ensures.stands c.in_default.is) in
+    let free = subst (λ (s : InlineState). IfSome c.take_bracket-taken.result (λ (bracket : Bracket). bracket.is_image ≡ false → HoldNoLink s.slots.items bracket.slot)) (sym (same ∙ c.in_ok-next.ensures.others c.in_default.is)) c.take_bracket-taken.ensures.link in
+    let close : IsPart c.args.text.now c.args.here.at (c.args.here.at + 1) = search rules in
+    λ k. ((refl, tt), (stands, (c.take_bracket-taken.ensures.bracket, (free, (close, (c.requires.read, (c.requires.same, (c.in_ok-next-2.ensures.sound, taken))))))))
 
 pub returns-clause-sound : goal.returns-clause-sound
 returns-clause-sound g c = (keeps-puts c.link.new.self c.put.new.self c.in_ok-next-4.ensures.others c.args.here.at c.args.here.at _ c.in_ok-next-4.ensures.slots ((refl, refl, refl), λ i. refl)).sound c.in_ok-next-3.ensures.sound
+
+pub returns-in-Some-clause-ends : goal.returns-in-Some-clause-ends
+returns-in-Some-clause-ends g c = λ e.
+    let leaf = c.args.leaf.now in
+    let flushed = (keeps-pending c.args.self.now c.flush.new.self c.in_ok-flush.ensures.others c.args.here.pending c.args.here.at c.in_ok-flush.ensures.slots).ends leaf e in
+    let took : AreEnded leaf c.take_bracket-taken.new.self.slots.items = subst (λ (s : InlineState). AreEnded leaf s.slots.items) (sym c.take_bracket-taken.ensures.others) flushed in
+    let tried = c.in_ok-next.ensures.ends took in
+    tried
+
+pub returns-in-Some-2-clause-ends : goal.returns-in-Some-2-clause-ends
+returns-in-Some-2-clause-ends g c = λ e.
+    let leaf = c.args.leaf.now in
+    let flushed = (keeps-pending c.args.self.now c.flush.new.self c.in_ok-flush.ensures.others c.args.here.pending c.args.here.at c.in_ok-flush.ensures.slots).ends leaf e in
+    let took : AreEnded leaf c.take_bracket-taken.new.self.slots.items = subst (λ (s : InlineState). AreEnded leaf s.slots.items) (sym c.take_bracket-taken.ensures.others) flushed in
+    let tried = c.in_ok-next.ensures.ends took in
+    c.in_ok-next-2.ensures.ends leaf tried
+
+pub returns-in-Some-3-clause-ends : goal.returns-in-Some-3-clause-ends
+returns-in-Some-3-clause-ends g c = λ e.
+    let leaf = c.args.leaf.now in
+    let flushed = (keeps-pending c.args.self.now c.flush.new.self c.in_ok-flush.ensures.others c.args.here.pending c.args.here.at c.in_ok-flush.ensures.slots).ends leaf e in
+    let took : AreEnded leaf c.take_bracket-taken.new.self.slots.items = subst (λ (s : InlineState). AreEnded leaf s.slots.items) (sym c.take_bracket-taken.ensures.others) flushed in
+    let tried = c.in_ok-next.ensures.ends took in
+    c.in_ok-next-3.ensures.ends leaf (c.in_ok-next-2.ensures.ends leaf tried)
+
+pub returns-clause-ends : goal.returns-clause-ends
+returns-clause-ends g c = λ e.
+    let leaf = c.args.leaf.now in
+    let flushed = (keeps-pending c.args.self.now c.flush.new.self c.in_ok-flush.ensures.others c.args.here.pending c.args.here.at c.in_ok-flush.ensures.slots).ends leaf e in
+    let took : AreEnded leaf c.take_bracket-taken.new.self.slots.items = subst (λ (s : InlineState). AreEnded leaf s.slots.items) (sym c.take_bracket-taken.ensures.others) flushed in
+    let tried = c.in_ok-next.ensures.ends took in
+    (keeps-puts c.link.new.self c.put.new.self c.in_ok-next-4.ensures.others c.args.here.at c.args.here.at _ c.in_ok-next-4.ensures.slots ((refl, refl, refl), λ i. refl)).ends leaf (c.in_ok-next-3.ensures.ends leaf (c.in_ok-next-2.ensures.ends leaf tried))

@@ -1,6 +1,8 @@
 use Rattle.std.proofs.Common.{refl, sym, ◌∙◌}
 use Rattle.cmark_inline.proofs.AngleMakes.{by-autolink, by-html, by-none}
 use Rattle.cmark_inline.proofs.Keeping.{found-alone, keeps-autolink, keeps-puts, keeps-source}
+use Rattle.cmark_inline.proofs.Keeping.{ended-puts}
+use Rattle.cmark_inline.proofs.SourceOrder.{found-ends}
 use Rattle.cmark_inline.proofs.state.InlineState.less_than.Goals as goal
 
 pub returns-in-Some-clause-token : goal.returns-in-Some-clause-token
@@ -38,3 +40,18 @@ pub returns-clause-sound : goal.returns-clause-sound
 returns-clause-sound c = λ h.
     let next = c.in_ok-next-3.ensures in
     (keeps-puts c.args.self.now c.put.new.self next.others c.args.here.pending c.args.here.at _ next.slots ((refl, refl, refl), λ i. refl)).sound h
+
+pub returns-in-Some-clause-ends : goal.returns-in-Some-clause-ends
+returns-in-Some-clause-ends c = λ e.
+    let next = c.in_ok-next.ensures in
+    (keeps-autolink c.args.self.now c.autolink.new.self c.args.here.pending c.args.here.at c.in-Some.end next.slots next.link.0 next.link.2 next.others).ends c.args.leaf.now e
+
+pub returns-in-Some-inline_html-clause-ends : goal.returns-in-Some-inline_html-clause-ends
+returns-in-Some-inline_html-clause-ends c = λ e.
+    let found = c.in-Some-inline_html.ensures in
+    ended-puts c.args.leaf.now c.args.self.now.slots.items c.put_before_words.new.self.slots.items c.args.here.pending c.args.here.at _ c.in_ok-next-2.ensures.slots e (found-ends c.args.leaf.now c.args.here.at c.in-Some-inline_html.found found.is found.edge)
+
+pub returns-clause-ends : goal.returns-clause-ends
+returns-clause-ends c = λ e.
+    let next = c.in_ok-next-3.ensures in
+    (keeps-puts c.args.self.now c.put.new.self next.others c.args.here.pending c.args.here.at _ next.slots ((refl, refl, refl), λ i. refl)).ends c.args.leaf.now e

@@ -1,16 +1,17 @@
-use Rattle.std.proofs.Common.{rules, ◌≡◌, ◌≤◌, ℕ, List, drop, length, refl, sym, ◌∙◌, subst, arith}
+use Rattle.std.proofs.Common.{rules, ◌≡◌, ◌≤◌, ℕ, List, drop, get_or, length, refl, sym, ◌∙◌, subst, arith}
 use Rattle.std.proofs.lemmas.Str.{IsCharBoundary-start}
 use Rattle.cmark_inline.specs.Asking.{AsksUpTo, closing_brackets}
 use Rattle.cmark_inline.specs.Marked.{AreWhole, EndWithin, HaveBytes}
 use Rattle.cmark_inline.specs.Quoted.{characters_of, with_characters}
-use Rattle.cmark_inline.specs.Sound.{IsSound, NamesNoMore}
+use Rattle.cmark_inline.specs.Sound.{AreEnded, IsSound, NamesNoMore}
 use Rattle.cmark_inline.specs.Stands.{AreSlots}
 use Rattle.cmark_inline.specs.declared.delimiter.PlacedRun.{PlacedRun}
 use Rattle.cmark_inline.specs.declared.quote.PlacedQuote.{PlacedQuote}
 use Rattle.cmark_inline.specs.declared.slot.Slot.{Slot}
 use Rattle.cmark_inline.specs.declared.state.InlineState.{InlineState}
 use Rattle.cmark_inline.proofs.Keeping.{keeps-pending}
-use Rattle.cmark_inline.proofs.Naming.{named-on, no-more-on}
+use Rattle.cmark_inline.proofs.Naming.{ended-on, named-on, no-more-on}
+use Rattle.cmark_inline.proofs.SourceOrder.{ends-behind, left-of}
 use Rattle.cmark_inline.proofs.Settling.{letters-name, letters-settle}
 use Rattle.cmark_inline.proofs.Soundness.{sound-settles-all}
 use Rattle.cmark_inline.proofs.Questions.{asks-all, asks-on}
@@ -19,7 +20,7 @@ use Rattle.cmark_inline.proofs.state.InlineState.resolve.Goals as goal
 pub loop-cursor-init : goal.loop-cursor-init
 loop-cursor-init g c =
     let b = IsCharBoundary-start c.as_str-text.result.now c.as_str-text.utf8 in
-    (c.clear.ensures.stands c.as_str-text.result.now, record { pending = b; at = b; ordered = omega arith }, refl, (λ none. (refl, none)), search rules, c.none.ensures c.args.leaf.now 0, search rules, (λ folded. refl), c.clear.ensures.sound)
+    (c.clear.ensures.stands c.as_str-text.result.now, record { pending = b; at = b; ordered = omega arith }, refl, (λ none. (refl, none)), search rules, c.none.ensures c.args.leaf.now 0, search rules, (λ folded. refl), c.clear.ensures.sound, subst (AreEnded c.args.leaf.now) (sym c.clear.ensures.slots) (λ k d lt. absurd (omega (arith, lt))))
 
 pub returns-clause-slots : goal.returns-clause-slots
 returns-clause-slots g c =
@@ -43,6 +44,7 @@ loop-cursor-preserved g c =
       c.step.ensures.dollars,
       (λ folded. c.step.ensures.footnotes folded ∙ i.7 folded),
       c.in_ok-cursor.ensures.sound,
+      c.in_ok-cursor.ensures.ends i.9,
     )
 
 pub returns-in_err-cursor-clause-asks : goal.returns-in_err-cursor-clause-asks
@@ -72,8 +74,8 @@ returns-clause-whole g c =
     let marks = c.in_ok-resolve-2.ensures in
     (marks.whole 0 0 bytes whole, marks.within 0 0 bytes whole within)
 
-pub returns-clause-named : goal.returns-clause-named
-returns-clause-named g c =
+pub returns-clause-left : goal.returns-clause-left
+returns-clause-left g c =
     let mid : InlineState = c.flush.new.self in
     let one : List Slot = mid.slots.items in
     let two : List Slot = c.resolve.new.slots.items in
@@ -88,4 +90,10 @@ returns-clause-named g c =
     let within : EndWithin two = subst EndWithin (sym v) t.1 in
     let bytes : HaveBytes two 0 0 runs = subst (λ l. HaveBytes l 0 0 runs) (sym v) t.2 in
     let marks = c.in_ok-resolve-2.ensures in
-    named-on one new (no-more-on one two new (subst (NamesNoMore one) (sym v) (letters-name 0 one runs quotes can (characters_of quotes))) (marks.names 0 0 bytes whole)) (length mid.texts.items) (length mid.links.items) sound.named
+    let names : NamesNoMore one new = (no-more-on one two new (subst (NamesNoMore one) (sym v) (letters-name 0 one runs quotes can (characters_of quotes))) (marks.names 0 0 bytes whole)) in
+    let named = named-on one new names (length mid.texts.items) (length mid.links.items) sound.named in
+    let leaf = c.args.leaf.now in
+    let ended = ended-on one new names leaf ((keeps-pending c.loop-cursor.self mid c.in_ok-flush.ensures.others c.loop-cursor.cursor.pending _ c.in_ok-flush.ensures.slots).ends leaf c.loop-cursor.invariant.9) in
+    let text : List ℕ = c.as_str-text.result.now in
+    let slots = c.in_ok-resolve-2.ensures.slots text (length text) (c.in_ok-resolve.ensures.slots text (length text) c.in_ok-flush.ensures.stands.slots) in
+    left-of leaf mid.texts.items mid.links.items new c.clear-2.new.self.next c.clear-2.ensures.next named (λ k d lt. ends-behind leaf (get_or new k d) (get_or new k d).kind (slots k d lt).part.some (ended k d lt))

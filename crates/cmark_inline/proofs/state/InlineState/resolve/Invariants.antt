@@ -4,7 +4,7 @@ use Rattle.cmark_finds.specs.Dollars.{AreDollarsOf}
 use Rattle.cmark_inline.specs.Asking.{AsksUpTo, closing_brackets}
 use Rattle.cmark_inline.specs.Footnoted.{SameFootnotes}
 use Rattle.cmark_inline.specs.FoundInSource.{AreUnclosed}
-use Rattle.cmark_inline.specs.Sound.{IsSound}
+use Rattle.cmark_inline.specs.Sound.{AreEnded, IsSound}
 use Rattle.cmark_inline.specs.Stands.{Stands, IsCursor}
 use Rattle.cmark_inline.proofs.state.InlineState.resolve.Given as goal
 
@@ -19,6 +19,7 @@ invariant-loop-cursor g l =
     × AreDollarsOf l.text l.sought.dollars
     × SameFootnotes l.initial.footnotes l.footnotes
     × IsSound l.self
+    × AreEnded l.leaf l.self.slots.items
 
 abbrev pub decreases-loop-cursor : goal.decreases-loop-cursor
 decreases-loop-cursor g l = length l.text - l.cursor.at

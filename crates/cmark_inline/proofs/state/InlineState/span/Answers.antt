@@ -135,3 +135,43 @@ returns-in-34-clause-sound g c = λ h.
 
 pub returns-in_ok-next-in-91-clause-sound : goal.returns-in_ok-next-in-91-clause-sound
 returns-in_ok-next-in-91-clause-sound g c = λ h. c.in_ok-next-in-91.ensures.keeps.sound h
+
+pub returns-in-10-clause-ends : goal.returns-in-10-clause-ends
+returns-in-10-clause-ends g c = IfOk-weaker c.line_end.result _ _ (λ next k. k.ends c.args.leaf.now) c.line_end.ensures.keeps
+
+pub returns-in-92-clause-ends : goal.returns-in-92-clause-ends
+returns-in-92-clause-ends g c = IfOk-weaker c.backslash.result _ _ (λ next k. k.ends c.args.leaf.now) c.backslash.ensures.keeps
+
+pub returns-in-38-clause-ends : goal.returns-in-38-clause-ends
+returns-in-38-clause-ends g c = IfOk-weaker c.entity.result _ _ (λ next k. k.ends c.args.leaf.now) c.entity.ensures.keeps
+
+pub returns-in-96-clause-ends : goal.returns-in-96-clause-ends
+returns-in-96-clause-ends g c = IfOk-weaker c.backticks.result _ _ (λ next k. k.ends c.args.leaf.now) c.backticks.ensures.keeps
+
+pub returns-in-33-clause-ends : goal.returns-in-33-clause-ends
+returns-in-33-clause-ends g c = IfOk-weaker c.exclamation.result _ _ (λ next k. k.ends c.args.leaf.now) c.exclamation.ensures.keeps
+
+pub returns-in-36-clause-ends : goal.returns-in-36-clause-ends
+returns-in-36-clause-ends g c = IfOk-weaker c.dollar.result _ _ (λ next k. k.ends c.args.leaf.now) c.dollar.ensures.keeps
+
+pub returns-in-46-clause-ends : goal.returns-in-46-clause-ends
+returns-in-46-clause-ends g c = IfOk-weaker c.dots.result _ _ (λ next k. k.ends c.args.leaf.now) c.dots.ensures.keeps
+
+pub returns-in-45-clause-ends : goal.returns-in-45-clause-ends
+returns-in-45-clause-ends g c = IfOk-weaker c.hyphens.result _ _ (λ next k. k.ends c.args.leaf.now) c.hyphens.ensures.keeps
+
+pub returns-in_default-clause-ends : goal.returns-in_default-clause-ends
+returns-in_default-clause-ends g c = IfOk-weaker c.run.result _ _ (λ next k. k.ends c.args.leaf.now) c.run.ensures.keeps
+
+pub returns-in-60-clause-ends : goal.returns-in-60-clause-ends
+returns-in-60-clause-ends g c = c.less_than.ensures.ends
+
+pub returns-in-34-clause-ends : goal.returns-in-34-clause-ends
+returns-in-34-clause-ends g c =
+    let o : Options = record (shown_options c.args.reader.now.options) { smart_punctuation = true } in
+    let l : Lookup = g.E.EntityLookup.replacement c.args.reader.now.entities.now in
+    let is = subst (λ (bs : List ℕ). (get_or bs c.args.here.at 0 ≡ 34) ⊎ (get_or bs c.args.here.at 0 ≡ 39)) c.as_bytes.ensures.value c.in-34.is in
+    IfOk-weaker c.quote.result _ _ (λ next a. (keeps-quote o l false c.args.text.now c.args.here c.args.self.now c.quote.new.self next a).ends c.args.leaf.now) (c.quote.ensures.token o l false refl is)
+
+pub returns-in_ok-next-in-91-clause-ends : goal.returns-in_ok-next-in-91-clause-ends
+returns-in_ok-next-in-91-clause-ends g c = c.in_ok-next-in-91.ensures.keeps.ends c.args.leaf.now

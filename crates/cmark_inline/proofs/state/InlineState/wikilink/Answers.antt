@@ -2,6 +2,11 @@ use Rattle.std.proofs.Common.{◌-◌, length, sym, ◌∙◌, arith}
 use Rattle.cmark_inline.specs.declared.state.InlineState.{InlineState}
 use Rattle.cmark_inline.proofs.Opening.{is-pair, last-nearest, sound-pair-taken, taken-fewer}
 use Rattle.cmark_inline.proofs.WikiSteps.{two-brackets}
+use Rattle.std.specs.Prelude.{Some}
+use Rattle.std.proofs.Common.{◌+◌, ℕ, List, ap, subst}
+use Rattle.cmark_leaf_text.specs.Reads.{IsPart}
+use Rattle.cmark_inline.specs.Sound.{EndsIn}
+use Rattle.cmark_inline.proofs.SourceOrder.{ends-at-byte}
 use Rattle.cmark_inline.proofs.state.InlineState.wikilink.Goals as goal
 
 pub form_wikilink-requires-clause-end : goal.form_wikilink-requires-clause-end
@@ -73,3 +78,10 @@ pub form_wikilink-requires-clause-taken : goal.form_wikilink-requires-clause-tak
 form_wikilink-requires-clause-taken c =
     let old : InlineState = c.args.self.now in
     is-pair (length old.texts.items) (length old.links.items) old.slots.items old.delimiters.placed.items old.quotes.placed.items old.brackets.standing.items old.doubled.standing.items c.requires.sound c.in-Some.doubled (last-nearest old.doubled _ (sym c.take.ensures.value ∙ c.in-Some.is))
+
+pub returns-clause-ends : goal.returns-clause-ends
+returns-clause-ends c = λ e.
+    let leaf = c.args.leaf.now in
+    let close : ℕ = c.args.close in
+    let part = subst (λ (t : List ℕ). IsPart t close (close + 1)) c.requires.same c.requires.close in
+    c.in_ok-form_wikilink.ensures.ends leaf e (subst (λ (p : ℕ). EndsIn leaf close (Some p)) (sym c.in-Some-wikilink_at.ensures.is.ends) (ends-at-byte leaf c.requires.read close part))
