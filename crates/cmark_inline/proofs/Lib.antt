@@ -1,5 +1,6 @@
 pub mod BoxedCallbacks
 pub mod Questions
+pub mod ReachedSteps
 pub mod References
 pub mod Quotes
 pub mod SlotViews
@@ -36,10 +37,12 @@ pub mod SpanReads
 pub mod FootnoteSteps
 pub mod FormulaSteps
 pub mod WikiSteps
+pub mod PendingTexts
 pub mod PlainSteps
 pub mod BracketSteps
 pub mod AfterSteps
 pub mod OpenSteps
+pub mod ItemSlots
 pub mod LabelEnds
 pub mod LeafPlaces
 pub mod DecisionSteps

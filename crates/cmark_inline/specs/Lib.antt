@@ -8,6 +8,7 @@ pub mod Linked
 pub mod Marked
 pub mod Opens
 pub mod Quoted
+pub mod Reached
 pub mod SlotViews
 pub mod Shorts
 pub mod Sound

@@ -1,13 +1,26 @@
 //! Theorems over the text of a leaf and the grammar's leaf, each the contract of a function that does nothing.
 
-ghost use Rattle.std.specs.Prelude.{◌≡◌, ◌<◌, ℕ, length};
+ghost use Rattle.std.specs.Prelude.{◌≡◌, ◌<◌, ◌≤◌, ℕ, false, List, drop, length};
+ghost use Rattle.cmark_grammar.specs.InlineTokens.{item_at, token};
+ghost use Rattle.cmark_grammar.specs.Items.{Item, Plain, Stands};
+ghost use Rattle.cmark_grammar.specs.LeafText.{Leaf};
 ghost use Rattle.cmark_grammar.specs.Readers.{Reader};
 ghost use Rattle.cmark_inline_model.specs.LeafModel.{HaveLineEnds};
-ghost use Rattle.cmark_inline_model.specs.PlacedTokens.{AreLeafPlaces, HaveWholeEndings};
+ghost use Rattle.cmark_inline_model.specs.LikeSlots.{IsLike};
+ghost use Rattle.cmark_inline_model.specs.PlacedTokens.{AreLeafPlaces, HaveWholeEndings, StopsAt, may_open_markup, one_stretch, placed_item, text_reader};
+ghost use Rattle.cmark_inline_model.specs.SlotRows.{ItemSlot};
 ghost use Rattle.cmark_inline_model.specs.TextPlaces.{place_in};
-ghost use Rattle.cmark_leaf_text.specs.Reads.{IsRead, place_of, source_of, text_of};
+ghost use Rattle.cmark_leaf_text.specs.Reads.{IsRead, is_cell_of, place_of, source_of, text_of};
 ghost use Rattle.cmark_leaf_text.specs.declared.leaf_text.LeafText.{LeafText};
+ghost use Rattle.cmark_text.specs.declared.text.CowStr.{CowStr};
 ghost use Rattle.cmark_inline.specs.LeafViews.{shown_leaf};
+ghost use Rattle.cmark_inline.specs.PlainStretches.{StandsForItself};
+ghost use Rattle.cmark_inline.specs.Reached.{ReadsPlaces};
+ghost use Rattle.cmark_inline.specs.SlotViews.{shown_slot};
+ghost use Rattle.cmark_inline.specs.Tokens.{IsItem, begins_at};
+ghost use Rattle.cmark_inline.specs.declared.link.LinkParts.{LinkParts};
+ghost use Rattle.cmark_inline.specs.declared.slot.Slot.{Slot};
+ghost use Rattle.cmark_inline.specs.declared.slot.SlotKind.TheVariants as kind;
 
 /// A leaf's text, whose lines end with whole line endings, has the places of the grammar's leaf of the same stretches (`places`), and each
 /// byte stands where the text says (`bytes`).
@@ -17,4 +30,30 @@ pub fn a_leaf_text_is_a_leaf_of_the_grammar()
         → AreLeafPlaces reader (shown_leaf leaf) (text_of leaf) (place_in reader (shown_leaf leaf)) }
     ensures bytes { (leaf : LeafText) (reader : Reader) → IsRead leaf → reader.source ≡ source_of leaf
         → (k : ℕ) → k < length (text_of leaf) → place_of leaf k ≡ place_in reader (shown_leaf leaf) k }
+{}
+
+/// A slot that stands for an item of a leaf's text is like this item in the places of the source: it gives the same event, and comes from
+/// the same bytes.
+pub fn a_slot_is_like_its_item_in_the_source()
+    ensures { (leaf : LeafText) (reader : Reader) (read : Leaf) (place : ℕ → ℕ) → ReadsPlaces leaf reader read place
+        → (texts : List CowStr) (links : List LinkParts) (slot : Slot) (item : Item) (at past : ℕ)
+        → begins_at reader.options reader.lookup (is_cell_of leaf) (text_of leaf) at ≡ Stands item past → may_open_markup (drop at (text_of leaf)) ≡ false
+        → IsItem (is_cell_of leaf) (text_of leaf) texts item slot → item.start < item.end → item.end ≤ length (text_of leaf)
+        → IsLike reader.source (shown_slot leaf texts links slot) (ItemSlot (placed_item place item)) }
+{}
+
+/// The text that is pending is one item of the grammar, and its slot is like it: from a place where bytes that stand for themselves begin,
+/// perhaps behind a backslash, up to one where none begin.
+pub fn a_pending_text_is_one_item_in_the_source()
+    ensures token { (leaf : LeafText) (reader : Reader) (read : Leaf) (place : ℕ → ℕ) → ReadsPlaces leaf reader read place → (at start end to : ℕ)
+        → begins_at reader.options reader.lookup (is_cell_of leaf) (text_of leaf) at ≡ item_at Plain start end → may_open_markup (drop at (text_of leaf)) ≡ false
+        → start < end → end ≤ to → to ≤ length (text_of leaf) → ((k : ℕ) → end ≤ k → k < to → StandsForItself reader.options reader.lookup (is_cell_of leaf) (text_of leaf) k to)
+        → StopsAt (text_reader reader.options reader.lookup (text_of leaf)) (one_stretch (is_cell_of leaf) (text_of leaf)) to → at ≤ length (text_of leaf)
+        → token reader read (place at) ≡ Stands (placed_item place (record { kind = Plain; start = start; end = to })) (place to) }
+    ensures slot { (leaf : LeafText) (reader : Reader) (read : Leaf) (place : ℕ → ℕ) → ReadsPlaces leaf reader read place → (at start end to : ℕ)
+        → begins_at reader.options reader.lookup (is_cell_of leaf) (text_of leaf) at ≡ item_at Plain start end → may_open_markup (drop at (text_of leaf)) ≡ false
+        → start < end → end ≤ to → to ≤ length (text_of leaf) → ((k : ℕ) → end ≤ k → k < to → StandsForItself reader.options reader.lookup (is_cell_of leaf) (text_of leaf) k to)
+        → StopsAt (text_reader reader.options reader.lookup (text_of leaf)) (one_stretch (is_cell_of leaf) (text_of leaf)) to → at ≤ length (text_of leaf)
+        → (texts : List CowStr) (links : List LinkParts)
+        → IsLike reader.source (shown_slot leaf texts links (record { kind = kind.Text; start = start; end = to })) (ItemSlot (placed_item place (record { kind = Plain; start = start; end = to }))) }
 {}

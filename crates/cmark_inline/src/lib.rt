@@ -11,6 +11,7 @@ mod formula;
 pub mod laws;
 mod link;
 mod markup;
+pub mod pass_laws;
 mod place;
 mod quote;
 mod read;

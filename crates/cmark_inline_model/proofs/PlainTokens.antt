@@ -21,7 +21,7 @@ use Rattle.cmark_grammar.specs.LinkDefinitions.{Found}
 use Rattle.cmark_grammar.specs.Readers.{Reader}
 use Rattle.cmark_grammar.specs.Tags.{behind_tag, no_prefix}
 use Rattle.cmark_grammar.specs.Tokens.{Entity, entity_in, is_punctuation}
-use Rattle.cmark_inline_model.specs.PlacedTokens.{AreLeafPlaces, one_stretch, text_reader, placed, may_open_markup}
+use Rattle.cmark_inline_model.specs.PlacedTokens.{AreLeafPlaces, StandsUpTo, StopsAt, one_stretch, text_reader, placed, may_open_markup}
 use Rattle.cmark_inline_model.proofs.PlacedTokens.{from-text, from-place, begins-at}
 use Rattle.cmark_inline_model.proofs.TokenLaws.{Onward, begins-at-onward}
 use Rattle.cmark_inline_model.proofs.WordBytes.{and-left, and-right, or-either}
@@ -314,20 +314,19 @@ module _ (reader : Reader) (leaf : Leaf) (text : List ℕ) (place : ℕ → ℕ)
       ap (longest reader leaf) q
       ∙ longest_is (begins_at one alone k) k (onward k) (begins-shaped one alone k (from one alone k)) (subst (Shaped reader leaf) q (begins-shaped reader leaf (place k) (from reader leaf (place k))))
 
--- bytes that stand for themselves up to a place where none begins that does are one text
+-- bytes that stand for themselves up to a place where none begin that do are one text
 module _ (reader : Reader) (leaf : Leaf) where
-  abbrev pub StandsUpTo : (at to : ℕ) → Type 0
-  StandsUpTo at to = (end : ℕ) × (at < end) × (end ≤ to) × (begins_at reader leaf at ≡ item_at Plain at end)
-
-  abbrev pub StopsAt : ℕ → Type 0
-  StopsAt to = (more : ℕ → ℕ) → goes_on reader leaf (begins_at reader leaf to) to more ≡ to
-
-  pub plain-reaches : (n at to : ℕ) → at ≤ to → to - at ≤ n → ((k : ℕ) → at ≤ k → k < to → StandsUpTo k to) → StopsAt to → plain_end reader leaf n at ≡ to
-  plain-reaches zero at to le few all stops = omega arith
-  plain-reaches (suc n) at to le few all stops = go (le_or to at) (λ end a b. plain-reaches n end to b (omega arith) (λ k c d. all k (omega arith) d) stops)
+  plain_reaches : (n at to : ℕ) → at ≤ to → to - at ≤ n → ((k : ℕ) → at ≤ k → k < to → StandsUpTo reader leaf k to) → StopsAt reader leaf to → plain_end reader leaf n at ≡ to
+  plain_reaches zero at to le few all stops = omega arith
+  plain_reaches (suc n) at to le few all stops = go (le_or to at) (λ end a b. plain_reaches n end to b (omega arith) (λ k c d. all k (omega arith) d) stops)
     where
       go : (to ≤ at) ⊎ (at < to) → ((end : ℕ) → at < end → end ≤ to → plain_end reader leaf n end ≡ to) → plain_end reader leaf (suc n) at ≡ to
       go (inl a) later = subst (λ k. plain_end reader leaf (suc n) k ≡ to) (let e : to ≡ at = omega arith in e) (stops (plain_end reader leaf n))
       go (inr a) later =
           let s = all at (omega arith) a in
-          ap (λ t. goes_on reader leaf t at (plain_end reader leaf n)) s.3 ∙ ap (λ z. if z then plain_end reader leaf n s.0 else at) (eq-eqb at at refl) ∙ later s.0 s.1 s.2
+          ap (λ t. goes_on reader leaf t at (plain_end reader leaf n)) s.token ∙ ap (λ z. if z then plain_end reader leaf n s.end else at) (eq-eqb at at refl) ∙ later s.end s.further s.within
+
+  pub one-text : (at start end to : ℕ) → begins_at reader leaf at ≡ item_at Plain start end → end ≤ to → to - end ≤ length (from reader leaf end) → ((k : ℕ) → end ≤ k → k < to → StandsUpTo reader leaf k to) → StopsAt reader leaf to
+      → token reader leaf at ≡ item_at Plain start to
+  unfolding token
+  one-text at start end to e le few all stops = ap (longest reader leaf) e ∙ ap (item_at Plain start) (plain_reaches (length (from reader leaf end)) end to le few all stops)

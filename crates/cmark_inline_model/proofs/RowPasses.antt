@@ -1,6 +1,6 @@
 -- Each step of a pass over a leaf keeps the slots that stand for what it has read, and at the end the leaf's events are read off them.
 use Rattle.std.specs.Prelude.{drop, take, Some}
-use Rattle.std.proofs.Common.{◌≡◌, ℕ, zero, suc, ◌<◌, List, [], ◌∷◌, ◌++◌, length, refl, sym, ap, ◌∙◌, subst, arith, append_assoc, append-nil, length-append}
+use Rattle.std.proofs.Common.{◌≡◌, true, ℕ, zero, suc, ◌-◌, ◌<◌, true≢false, List, [], ◌∷◌, ◌++◌, length, refl, sym, ap, ◌∙◌, subst, arith, append_assoc, append-nil, length-append}
 use Rattle.std.proofs.Math.Seq.{drop-append_seam, take-append_seam}
 use Rattle.cmark_grammar.specs.BracketDecisions.{decide}
 use Rattle.cmark_grammar.specs.BracketReading.{Comes, Reads}
@@ -9,22 +9,23 @@ use Rattle.cmark_grammar.specs.Emphasis.{Run, Pair, IsEmphasis}
 use Rattle.cmark_grammar.specs.Event.{Ranged}
 use Rattle.cmark_grammar.specs.InlineReading.{inline_events}
 use Rattle.cmark_grammar.specs.InlineTokens.{token}
-use Rattle.cmark_grammar.specs.Items.{Item, Bracket, Stands, Opens, Closes, Ends}
+use Rattle.cmark_grammar.specs.Items.{ItemKind, Own, Quoted, Delimiters, Autolink, FootnoteReference, Item, Bracket, Stands, Opens, Closes, Ends}
 use Rattle.cmark_grammar.specs.LeafReading.{Between, entering, leaving, ReadsLeaf}
 use Rattle.cmark_grammar.specs.LeafText.{Leaf}
 use Rattle.cmark_grammar.specs.Parts.{Parts, Nil, Single, Form, Closing, Opening, Formed, Linking, Target, openings}
 use Rattle.cmark_grammar.specs.Questions.{Exchange, AnyAnswer, IsNext}
 use Rattle.cmark_grammar.specs.Quotes.{Quote, quote_characters}
 use Rattle.cmark_grammar.specs.Readers.{Reader}
-use Rattle.cmark_grammar.specs.Siblings.{quotes_of, tag_by}
+use Rattle.cmark_grammar.specs.Siblings.{item, quotes_of, tag_by, uri_link}
 use Rattle.cmark_grammar.specs.SiblingsModel.{dress, siblings_of, spans_in}
 use Rattle.cmark_grammar.specs.Spans.{Spans}
+use Rattle.cmark_grammar.specs.Tag.{Link}
 use Rattle.cmark_inline_model.specs.BracketPass.{Pass, pass, formed_by, closed_by}
 use Rattle.cmark_inline_model.specs.LikeSlots.{IsLike, AreLike}
 use Rattle.cmark_inline_model.specs.PartLists.{join, Cut, cut_at}
 use Rattle.cmark_inline_model.specs.RowParts.{BracketPlace, text_slot, runs_in, bytes_in, counted, IsRow, CutsRow}
-use Rattle.cmark_inline_model.specs.RowPasses.{StandsFor, IsReached}
-use Rattle.cmark_inline_model.specs.SlotRows.{Slot, BeginSlot, EndSlot, seen, slots_of, LaysOut, marked, marks_by, quoted, slot_events}
+use Rattle.cmark_inline_model.specs.RowPasses.{StandsFor, IsReached, has_own_slot}
+use Rattle.cmark_inline_model.specs.SlotRows.{Slot, ItemSlot, BeginSlot, EndSlot, run_slots, run_places, seen, slots_of, LaysOut, marked, marks_by, quoted, slot_events}
 use Rattle.cmark_inline_model.proofs.BracketsSound.{joined, results}
 use Rattle.cmark_inline_model.proofs.DecisionLaws.{decide-recorded}
 use Rattle.cmark_inline_model.proofs.LeafLaws.{leaf-next}
@@ -86,6 +87,71 @@ module _ (reader : Reader) (leaf : Leaf) (before : Between) where
     reached-item x past more more_bytes more_quotes t s =
         reached-more (moved past p.state) (Single x Nil) more more_bytes more_quotes refl
         (joined (token reader leaf) (decide reader leaf) AnyAnswer (entering leaf before) p.here p.state (Single x Nil) (moved past p.state) h.reads (past, t, refl)) s
+
+    -- an item with one slot
+    own_laid : (kind : ItemKind) (start end at : ℕ) → has_own_slot kind ≡ true → LaysOut at (siblings_of reader.options (Single (item kind start end) Nil)) (ItemSlot (item kind start end) ∷ []) [] []
+    own_laid (Quoted quote) start end at e = absurd (true≢false (sym e))
+    own_laid (Delimiters run) start end at e = absurd (true≢false (sym e))
+    own_laid (Autolink uri) start end at e = absurd (true≢false (sym e))
+    own_laid (FootnoteReference label) start end at e = absurd (true≢false (sym e))
+    own_laid kind start end at e = ([], refl, (refl, refl, refl))
+
+    no_run : (kind : ItemKind) (start end : ℕ) → has_own_slot kind ≡ true → runs_in (siblings_of reader.options (Single (item kind start end) Nil)) ≡ []
+    no_run (Delimiters run) start end e = absurd (true≢false (sym e))
+    no_run kind start end e = refl
+
+    no_quote : (kind : ItemKind) (start end : ℕ) → has_own_slot kind ≡ true → quotes_of (siblings_of reader.options (Single (item kind start end) Nil)) ≡ []
+    no_quote (Quoted quote) start end e = absurd (true≢false (sym e))
+    no_quote kind start end e = refl
+
+    pub reached-own : (kind : ItemKind) (start end past : ℕ) (slot : Slot) → token reader leaf p.state.at ≡ Stands (item kind start end) past → has_own_slot kind ≡ true → IsLike reader.source slot (ItemSlot (item kind start end))
+        → IsReached reader leaf before (pass (moved past p.state) (join p.here (Single (item kind start end) Nil))) bs (slots ++ (slot ∷ [])) bytes quotes runs quoted_are
+    reached-own kind start end past slot t own s =
+        let r = reached-item (item kind start end) past (slot ∷ []) [] [] t (record { row = ItemSlot (item kind start end) ∷ []; laid = own_laid kind start end (length slots) own; like = (s, refl) }) in
+        let q = pass (moved past p.state) (join p.here (Single (item kind start end) Nil)) in
+        let l = slots ++ (slot ∷ []) in
+        let rs = runs_in (siblings_of reader.options (Single (item kind start end) Nil)) in
+        let qs = quotes_of (siblings_of reader.options (Single (item kind start end) Nil)) in
+        subst (λ x. IsReached reader leaf before q bs l x quotes runs quoted_are) (append-nil bytes)
+        (subst (λ x. IsReached reader leaf before q bs l (bytes ++ []) x runs quoted_are) (append-nil quotes)
+        (subst (λ x. IsReached reader leaf before q bs l (bytes ++ []) (quotes ++ []) x quoted_are) (ap (λ y. runs ++ y) (no_run kind start end own) ∙ append-nil runs)
+        (subst (λ x. IsReached reader leaf before q bs l (bytes ++ []) (quotes ++ []) (runs ++ rs) x) (ap (λ y. quoted_are ++ y) (no_quote kind start end own) ∙ append-nil quoted_are) r)))
+
+    -- a delimiter run, with a slot for each byte
+    pub reached-run : (run : Run) (start end past : ℕ) (more : List Slot) → token reader leaf p.state.at ≡ Stands (item (Delimiters run) start end) past → AreLike reader.source more (run_slots start run.size [])
+        → IsReached reader leaf before (pass (moved past p.state) (join p.here (Single (item (Delimiters run) start end) Nil))) bs (slots ++ more) (bytes ++ run_places (length slots) run.size []) quotes (runs ++ (run ∷ [])) quoted_are
+    reached-run run start end past more t s =
+        let x = item (Delimiters run) start end in
+        let r = reached-item x past more (run_places (length slots) run.size []) [] t (record { row = run_slots start run.size []; laid = ([], [], refl, refl, (refl, refl, refl)); like = s }) in
+        let q = pass (moved past p.state) (join p.here (Single x Nil)) in
+        subst (λ y. IsReached reader leaf before q bs (slots ++ more) (bytes ++ run_places (length slots) run.size []) y (runs ++ (run ∷ [])) quoted_are) (append-nil quotes)
+        (subst (λ y. IsReached reader leaf before q bs (slots ++ more) (bytes ++ run_places (length slots) run.size []) (quotes ++ []) (runs ++ (run ∷ [])) y) (append-nil quoted_are) r)
+
+    -- a quote
+    pub reached-quote : (quote : Quote) (start end past : ℕ) (slot : Slot) → token reader leaf p.state.at ≡ Stands (item (Quoted quote) start end) past → IsLike reader.source slot (ItemSlot (item (Quoted quote) start end))
+        → IsReached reader leaf before (pass (moved past p.state) (join p.here (Single (item (Quoted quote) start end) Nil))) bs (slots ++ (slot ∷ [])) bytes (quotes ++ (length slots ∷ [])) runs (quoted_are ++ (quote ∷ []))
+    reached-quote quote start end past slot t s =
+        let x = item (Quoted quote) start end in
+        let r = reached-item x past (slot ∷ []) [] (length slots ∷ []) t (record { row = ItemSlot x ∷ []; laid = ([], [], refl, refl, (refl, refl, refl)); like = (s, refl) }) in
+        let q = pass (moved past p.state) (join p.here (Single x Nil)) in
+        subst (λ y. IsReached reader leaf before q bs (slots ++ (slot ∷ [])) y (quotes ++ (length slots ∷ [])) runs (quoted_are ++ (quote ∷ []))) (append-nil bytes)
+        (subst (λ y. IsReached reader leaf before q bs (slots ++ (slot ∷ [])) (bytes ++ []) (quotes ++ (length slots ∷ [])) y (quoted_are ++ (quote ∷ []))) (append-nil runs) r)
+
+    -- an autolink, with the slots of its begin, its text and its end
+    pub reached-autolink : (uri : List ℕ) (start end past : ℕ) (slot : Slot) → token reader leaf p.state.at ≡ Stands (item (Autolink uri) start end) past → IsLike reader.source slot (ItemSlot (item Own (suc start) (end - 1)))
+        → IsReached reader leaf before (pass (moved past p.state) (join p.here (Single (item (Autolink uri) start end) Nil))) bs (slots ++ (BeginSlot (Link (uri_link uri)) start end ∷ (slot ∷ (EndSlot ∷ [])))) bytes quotes runs quoted_are
+    reached-autolink uri start end past slot t s =
+        let x = item (Autolink uri) start end in
+        let more = BeginSlot (Link (uri_link uri)) start end ∷ (slot ∷ (EndSlot ∷ [])) in
+        let inner = ItemSlot (item Own (suc start) (end - 1)) ∷ [] in
+        let r = reached-item x past more [] [] t
+        (record { row = BeginSlot (Link (uri_link uri)) start end ∷ (inner ++ (EndSlot ∷ [])); laid = (inner, [], refl, refl, (refl, refl, refl)); like = (refl, (s, (refl, refl))) }) in
+        let q = pass (moved past p.state) (join p.here (Single x Nil)) in
+        let l = slots ++ more in
+        subst (λ y. IsReached reader leaf before q bs l y quotes runs quoted_are) (append-nil bytes)
+        (subst (λ y. IsReached reader leaf before q bs l (bytes ++ []) y runs quoted_are) (append-nil quotes)
+        (subst (λ y. IsReached reader leaf before q bs l (bytes ++ []) (quotes ++ []) y quoted_are) (append-nil runs)
+        (subst (λ y. IsReached reader leaf before q bs l (bytes ++ []) (quotes ++ []) (runs ++ []) y) (append-nil quoted_are) r)))
 
     pub reached-opening : (opener : Bracket) (slot : Slot) → token reader leaf p.state.at ≡ Opens opener → IsLike reader.source slot (text_slot opener)
         → IsReached reader leaf before (pass (opened opener p.state) (join p.here (Opening opener Nil))) (record { bracket = opener; slot = length slots; runs = length runs; quotes = length quoted_are } ∷ bs) (slots ++ (slot ∷ [])) bytes quotes runs

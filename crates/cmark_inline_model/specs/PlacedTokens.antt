@@ -1,7 +1,7 @@
 -- What begins at a place of a leaf, by what begins in the leaf's text where that is read as a leaf of one stretch.
 use Rattle.std.specs.Prelude.{◌≡◌, ◌≤◌, ◌<◌, ◌-◌, ℕ, suc, Bool, true, false, ◌==◌, ◌&&◌, ◌||◌, List, [], ◌∷◌, get_or, drop, take, length, None}
 use Rattle.cmark_grammar.specs.Answers.{Lookup}
-use Rattle.cmark_grammar.specs.InlineTokens.{from, before}
+use Rattle.cmark_grammar.specs.InlineTokens.{from, before, item_at, begins_at, goes_on}
 use Rattle.cmark_grammar.specs.Items.{ItemKind, Plain, Own, Autolink, Html, Item, Bracket, Token, Stands, Opens, Closes, Ends}
 use Rattle.cmark_grammar.specs.LeafText.{Leaf}
 use Rattle.cmark_grammar.specs.Letters.{first_is}
@@ -75,3 +75,17 @@ is_as_written Own = true
 is_as_written (Autolink uri) = true
 is_as_written Html = true
 is_as_written _ = false
+
+-- ## Texts
+
+module _ (reader : Reader) (leaf : Leaf) where
+  -- from a place on stand bytes that stand for themselves, and end before another place, or there
+  pub record StandsUpTo (at to : ℕ) : Type 0 where
+    pub end : ℕ
+    pub further : at < end
+    pub within : end ≤ to
+    pub token : begins_at reader leaf at ≡ item_at Plain at end
+
+  -- no bytes that stand for themselves begin there: a text before that ends
+  abbrev pub StopsAt : ℕ → Type 0
+  StopsAt to = (more : ℕ → ℕ) → goes_on reader leaf (begins_at reader leaf to) to more ≡ to

@@ -1,9 +1,10 @@
 -- How far a pass over a leaf has come, and the slots that stand for what it has read.
-use Rattle.std.specs.Prelude.{ℕ, suc, List, [], ◌∷◌, ◌++◌, drop, length, take}
+use Rattle.std.specs.Prelude.{ℕ, suc, Bool, true, false, List, [], ◌∷◌, ◌++◌, drop, length, take}
 use Rattle.cmark_grammar.specs.BracketDecisions.{decide}
 use Rattle.cmark_grammar.specs.BracketReading.{Reads}
 use Rattle.cmark_grammar.specs.Emphasis.{Pair, Run}
 use Rattle.cmark_grammar.specs.InlineTokens.{token}
+use Rattle.cmark_grammar.specs.Items.{ItemKind, Quoted, Delimiters, Autolink, FootnoteReference}
 use Rattle.cmark_grammar.specs.LeafReading.{Between, entering}
 use Rattle.cmark_grammar.specs.LeafText.{Leaf}
 use Rattle.cmark_grammar.specs.Options.{Options}
@@ -48,3 +49,11 @@ dressed_slots options pairs slots bytes quotes quotes_are = marked options bytes
 abbrev pub linked_slots : BracketPlace → Target → List Slot → List Slot
 linked_slots place target slots =
     take place.slot slots ++ (BeginSlot (tag_by place.bracket.is_image target.linked) place.bracket.start target.end ∷ (drop (suc place.slot) slots ++ (EndSlot ∷ [])))
+
+-- an item of this kind has one slot, and is neither a quote nor a delimiter run
+abbrev pub has_own_slot : ItemKind → Bool
+has_own_slot (Quoted quote) = false
+has_own_slot (Delimiters run) = false
+has_own_slot (Autolink uri) = false
+has_own_slot (FootnoteReference label) = false
+has_own_slot _ = true

@@ -1,28 +1,29 @@
 //! Theorems over the slots that stand for what a pass over a leaf has read (`RowPasses`), each the contract of a function that does
 //! nothing: each step of the pass keeps them, and at the end the leaf's events are read off them.
 
-ghost use Rattle.std.specs.Prelude.{◌≡◌, ℕ, suc, List, [], ◌∷◌, ◌++◌, Some, drop, length, take};
+ghost use Rattle.std.specs.Prelude.{◌≡◌, ◌-◌, ℕ, suc, true, List, [], ◌∷◌, ◌++◌, Some, drop, length, take};
 ghost use Rattle.cmark_grammar.specs.BracketDecisions.{decide};
 ghost use Rattle.cmark_grammar.specs.BracketReading.{Comes};
 ghost use Rattle.cmark_grammar.specs.BracketStates.{Forms, State, StaysText, moved, opened};
 ghost use Rattle.cmark_grammar.specs.Emphasis.{IsEmphasis, Pair, Run};
 ghost use Rattle.cmark_grammar.specs.InlineTokens.{token};
-ghost use Rattle.cmark_grammar.specs.Items.{Bracket, Closes, Ends, Item, Opens, Stands};
+ghost use Rattle.cmark_grammar.specs.Items.{Autolink, Bracket, Closes, Delimiters, Ends, Item, ItemKind, Opens, Own, Quoted, Stands};
 ghost use Rattle.cmark_grammar.specs.LeafReading.{Between, ReadsLeaf, entering, leaving};
 ghost use Rattle.cmark_grammar.specs.LeafText.{Leaf};
 ghost use Rattle.cmark_grammar.specs.Parts.{Form, Formed, Linking, Nil, Opening, Single, Target};
 ghost use Rattle.cmark_grammar.specs.Questions.{AnyAnswer, Exchange, IsNext};
 ghost use Rattle.cmark_grammar.specs.Quotes.{Quote};
 ghost use Rattle.cmark_grammar.specs.Readers.{Reader};
-ghost use Rattle.cmark_grammar.specs.Siblings.{quotes_of};
+ghost use Rattle.cmark_grammar.specs.Siblings.{item, quotes_of, uri_link};
 ghost use Rattle.cmark_grammar.specs.SiblingsModel.{siblings_of};
 ghost use Rattle.cmark_grammar.specs.Spans.{Spans};
+ghost use Rattle.cmark_grammar.specs.Tag.{Link};
 ghost use Rattle.cmark_inline_model.specs.BracketPass.{Pass, closed_by, pass};
-ghost use Rattle.cmark_inline_model.specs.LikeSlots.{IsLike};
+ghost use Rattle.cmark_inline_model.specs.LikeSlots.{AreLike, IsLike};
 ghost use Rattle.cmark_inline_model.specs.PartLists.{Cut, cut_at, join};
 ghost use Rattle.cmark_inline_model.specs.RowParts.{BracketPlace, counted, runs_in, text_slot};
-ghost use Rattle.cmark_inline_model.specs.RowPasses.{IsReached, StandsFor, bytes_before, dressed_behind, dressed_slots, linked_slots};
-ghost use Rattle.cmark_inline_model.specs.SlotRows.{Slot, slot_events};
+ghost use Rattle.cmark_inline_model.specs.RowPasses.{IsReached, StandsFor, bytes_before, dressed_behind, dressed_slots, has_own_slot, linked_slots};
+ghost use Rattle.cmark_inline_model.specs.SlotRows.{BeginSlot, EndSlot, ItemSlot, Slot, run_places, run_slots, slot_events};
 
 /// A pass begins with no slots (`first`). With an item it has the slots that stand for it behind those before, and its runs and quotes
 /// (`item`); with an opening bracket one slot more, and the place of that (`opening`); with a closing one that stays a text one slot more
@@ -44,6 +45,27 @@ pub fn slots_follow_the_pass()
         → (closer : Bracket) (next : State) (slot : Slot) → token reader leaf p.state.at ≡ Closes closer
         → Comes AnyAnswer p.state.asked (decide reader leaf p.state closer) (record { result = StaysText; after = next }) → IsLike reader.source slot (text_slot closer)
         → IsReached reader leaf before (closed_by p closer (record { result = StaysText; after = next })) bs (slots ++ (slot ∷ [])) bytes quotes runs quoted }
+{}
+
+/// What the slots of an item are: one for most kinds (`own`); one for each byte of a delimiter run (`run`); one for a quote, whose place is
+/// noted (`quote`); and the begin, the text and the end of an autolink (`autolink`).
+pub fn items_have_their_slots()
+    ensures own { (reader : Reader) (leaf : Leaf) (before : Between) (p : Pass) (bs : List BracketPlace) (slots : List Slot) (bytes quotes : List ℕ) (runs : List Run) (quoted : List Quote)
+        → IsReached reader leaf before p bs slots bytes quotes runs quoted
+        → (kind : ItemKind) (start end past : ℕ) (slot : Slot) → token reader leaf p.state.at ≡ Stands (item kind start end) past → has_own_slot kind ≡ true → IsLike reader.source slot (ItemSlot (item kind start end))
+        → IsReached reader leaf before (pass (moved past p.state) (join p.here (Single (item kind start end) Nil))) bs (slots ++ (slot ∷ [])) bytes quotes runs quoted }
+    ensures run { (reader : Reader) (leaf : Leaf) (before : Between) (p : Pass) (bs : List BracketPlace) (slots : List Slot) (bytes quotes : List ℕ) (runs : List Run) (quoted : List Quote)
+        → IsReached reader leaf before p bs slots bytes quotes runs quoted
+        → (run : Run) (start end past : ℕ) (more : List Slot) → token reader leaf p.state.at ≡ Stands (item (Delimiters run) start end) past → AreLike reader.source more (run_slots start run.size [])
+        → IsReached reader leaf before (pass (moved past p.state) (join p.here (Single (item (Delimiters run) start end) Nil))) bs (slots ++ more) (bytes ++ run_places (length slots) run.size []) quotes (runs ++ (run ∷ [])) quoted }
+    ensures quote { (reader : Reader) (leaf : Leaf) (before : Between) (p : Pass) (bs : List BracketPlace) (slots : List Slot) (bytes quotes : List ℕ) (runs : List Run) (quoted : List Quote)
+        → IsReached reader leaf before p bs slots bytes quotes runs quoted
+        → (quote : Quote) (start end past : ℕ) (slot : Slot) → token reader leaf p.state.at ≡ Stands (item (Quoted quote) start end) past → IsLike reader.source slot (ItemSlot (item (Quoted quote) start end))
+        → IsReached reader leaf before (pass (moved past p.state) (join p.here (Single (item (Quoted quote) start end) Nil))) bs (slots ++ (slot ∷ [])) bytes (quotes ++ (length slots ∷ [])) runs (quoted ++ (quote ∷ [])) }
+    ensures autolink { (reader : Reader) (leaf : Leaf) (before : Between) (p : Pass) (bs : List BracketPlace) (slots : List Slot) (bytes quotes : List ℕ) (runs : List Run) (quoted : List Quote)
+        → IsReached reader leaf before p bs slots bytes quotes runs quoted
+        → (uri : List ℕ) (start end past : ℕ) (slot : Slot) → token reader leaf p.state.at ≡ Stands (item (Autolink uri) start end) past → IsLike reader.source slot (ItemSlot (item Own (suc start) (end - 1)))
+        → IsReached reader leaf before (pass (moved past p.state) (join p.here (Single (item (Autolink uri) start end) Nil))) bs (slots ++ (BeginSlot (Link (uri_link uri)) start end ∷ (slot ∷ (EndSlot ∷ [])))) bytes quotes runs quoted }
 {}
 
 /// Where a closing bracket forms something with the opening one that is noted at a place, what is formed stands in the place of that one's

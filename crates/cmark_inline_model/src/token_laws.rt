@@ -1,14 +1,14 @@
 //! Theorems over what begins at the places of a leaf, each the contract of a function that does nothing: it is what begins in the leaf's
 //! text where that is read as a leaf of one stretch, in the places of the source.
 
-ghost use Rattle.std.specs.Prelude.{◌≡◌, ◌≤◌, ◌-◌, ℕ, suc, true, false, List, drop, length};
-ghost use Rattle.cmark_grammar.specs.InlineTokens.{begins_at, read_on, token};
-ghost use Rattle.cmark_grammar.specs.Items.{Item, Stands};
+ghost use Rattle.std.specs.Prelude.{◌≡◌, ◌≤◌, ◌<◌, ◌-◌, ℕ, suc, true, false, List, drop, length};
+ghost use Rattle.cmark_grammar.specs.InlineTokens.{begins_at, from, item_at, read_on, token};
+ghost use Rattle.cmark_grammar.specs.Items.{Item, Plain, Stands};
 ghost use Rattle.cmark_grammar.specs.LeafText.{InTurn, Leaf};
 ghost use Rattle.cmark_grammar.specs.Readers.{Reader};
 ghost use Rattle.cmark_grammar.specs.Tokens.{slice};
 ghost use Rattle.cmark_inline_model.specs.LeafModel.{HaveLineEnds};
-ghost use Rattle.cmark_inline_model.specs.PlacedTokens.{AreLeafPlaces, HaveWholeEndings, IsParted, is_as_written, may_open_markup, one_stretch, placed, text_reader};
+ghost use Rattle.cmark_inline_model.specs.PlacedTokens.{AreLeafPlaces, HaveWholeEndings, IsParted, StandsUpTo, StopsAt, is_as_written, may_open_markup, one_stretch, placed, text_reader};
 ghost use Rattle.cmark_inline_model.specs.TextPlaces.{place_in, text_of};
 
 /// Each place of the source parts the text of a leaf whose lines end with line endings.
@@ -45,4 +45,10 @@ pub fn texts_have_their_bytes_in_the_source()
     ensures token { (reader : Reader) (leaf : Leaf) (text : List ℕ) (place : ℕ → ℕ) → AreLeafPlaces reader leaf text place → (k : ℕ) → may_open_markup (drop k text) ≡ false
         → (x : Item) (past : ℕ) → token (text_reader reader.options reader.lookup text) (one_stretch leaf.is_cell text) k ≡ Stands x past → is_as_written x.kind ≡ true
         → slice reader.source (place x.start) (suc (place (x.end - 1))) ≡ slice text x.start x.end }
+{}
+
+/// Bytes that stand for themselves without a gap, from the first of them up to a place where no such bytes begin, are one text.
+pub fn bytes_that_stand_for_themselves_are_one_text()
+    ensures { (reader : Reader) (leaf : Leaf) (at start end to : ℕ) → begins_at reader leaf at ≡ item_at Plain start end → end ≤ to → to - end ≤ length (from reader leaf end)
+        → ((k : ℕ) → end ≤ k → k < to → StandsUpTo reader leaf k to) → StopsAt reader leaf to → token reader leaf at ≡ item_at Plain start to }
 {}

@@ -1,0 +1,48 @@
+-- How far a leaf is read, in the states of the code and of the grammar.
+use Rattle.std.specs.Prelude.{◌≡◌, ℕ, List, map}
+use Rattle.cmark_grammar.specs.Emphasis.{Run}
+use Rattle.cmark_grammar.specs.LeafReading.{Between}
+use Rattle.cmark_grammar.specs.LeafText.{Leaf}
+use Rattle.cmark_grammar.specs.Quotes.{Quote}
+use Rattle.cmark_grammar.specs.Readers.{Reader}
+use Rattle.cmark_leaf_text.specs.Reads.{is_cell_of, place_of, text_of}
+use Rattle.cmark_leaf_text.specs.declared.leaf_text.LeafText.{LeafText}
+use Rattle.cmark_emphasis.specs.Shown.{shown_quote, shown_run}
+use Rattle.std.specs.Prelude.{◌<◌, length}
+use Rattle.cmark_inline_model.specs.BracketPass.{Pass}
+use Rattle.cmark_inline_model.specs.PlacedTokens.{AreLeafPlaces}
+use Rattle.cmark_inline_model.specs.RowParts.{BracketPlace}
+use Rattle.cmark_inline_model.specs.RowPasses.{IsReached}
+use Rattle.cmark_inline.specs.Marked.{places_of}
+use Rattle.cmark_inline.specs.SlotViews.{shown_slots}
+use Rattle.cmark_inline.specs.declared.bracket.Bracket.{Bracket}
+use Rattle.cmark_inline.specs.declared.delimiter.PlacedRun.{PlacedRun}
+use Rattle.cmark_inline.specs.declared.quote.PlacedQuote.{PlacedQuote}
+use Rattle.cmark_inline.specs.declared.state.InlineState.{InlineState}
+
+-- the grammar reads the leaf whose text this is, and its bytes have these places
+pub record ReadsPlaces (leaf : LeafText) (reader : Reader) (read : Leaf) (place : ℕ → ℕ) : Type 0 where
+  pub places : AreLeafPlaces reader read (text_of leaf) place
+  pub cell : read.is_cell ≡ is_cell_of leaf
+  pub bytes : (k : ℕ) → k < length (text_of leaf) → place_of leaf k ≡ place k
+
+-- an opening bracket, with what stands before it in the row
+abbrev pub bracket_place : (place : ℕ → ℕ) → Bracket → BracketPlace
+bracket_place place b = record {
+  bracket = record { is_image = b.is_image; start = place b.start; end = place b.inside };
+  slot = b.slot;
+  runs = b.runs;
+  quotes = b.quotes;
+}
+
+abbrev pub runs_of : List PlacedRun → List Run
+runs_of placed = map (λ (p : PlacedRun). shown_run p.run) placed
+
+abbrev pub quotes_of : List PlacedQuote → List Quote
+quotes_of placed = map (λ (p : PlacedQuote). shown_quote p.quote) placed
+
+-- a pass of the grammar has read what this state's slots stand for; its opening brackets are these
+abbrev pub HasRead : LeafText → Reader → Leaf → (place : ℕ → ℕ) → Between → Pass → List Bracket → InlineState → Type 0
+HasRead leaf reader read place before p bs state =
+    IsReached reader read before p (map (bracket_place place) bs) (shown_slots leaf state.texts.items state.links.items state.slots.items) (places_of state.delimiters.placed.items)
+    (map (λ (p : PlacedQuote). p.slot) state.quotes.placed.items) (runs_of state.delimiters.placed.items) (quotes_of state.quotes.placed.items)
