@@ -25,7 +25,7 @@ returns-then-is_empty-clause-seen g c text options lookup m more runs =
     (refl, subst (λ cs. ahead_in text options lookup cs (r ∷ more) ≡ r ∷ ahead_in text options lookup cs more) (sym empty) refl)
 
 pub returns-then-is_empty-clause-behind : goal.returns-then-is_empty-clause-behind
-returns-then-is_empty-clause-behind g c = (0, refl)
+returns-then-is_empty-clause-behind g c = (0, ((row_of c.args.line).held, refl))
 
 pub returns-then-kept-len-clause-seen : goal.returns-then-kept-len-clause-seen
 returns-then-kept-len-clause-seen g c text options lookup m more runs =
