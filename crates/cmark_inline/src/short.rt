@@ -14,6 +14,7 @@ ghost use Rattle.cmark_text.specs.ZeroCopy.{IsPartOf};
 ghost use Rattle.cmark_inline.specs.Elements.{emphasis_tag};
 ghost use Rattle.cmark_inline.specs.Opens.{events_left};
 ghost use Rattle.cmark_inline.specs.Shorts.{GivesNext, IfShort, LeavesFewer, PassesShort, StandsFor};
+ghost use Rattle.cmark_inline.specs.SlotViews.{AreLeft};
 ghost use Rattle.cmark_inline.specs.Stands.{AreOpened, AreSlots, IsSlot};
 ghost use Rattle.cmark_inline.specs.declared.event.Opened.{Opened as OpenedOnes};
 ghost use Rattle.cmark_inline.specs.declared.slot.SlotKind.TheVariants as kind;
@@ -38,6 +39,7 @@ impl<'a> InlineState<'a> {
         requires slots { AreSlots (text_of leaf.now) (length (text_of leaf.now)) self.old.slots.items }
         requires opened { AreOpened (source_of leaf.now) self.old.walk.opened.items }
         ensures slots { self.new.slots ≡ self.old.slots }
+        ensures left { AreLeft leaf.now self.old → OnOk result (AreLeft leaf.now self.new) }
         ensures opened { AreOpened (source_of leaf.now) self.new.walk.opened.items }
         ensures stands { IfOk result (λ next. IfShort next (λ short. (d : Slots) → StandsFor leaf.now (get_or self.old.slots.items (self.new.walk.next - 1) d) short)) }
         ensures gives { IfOk result (λ next. GivesNext (source_of leaf.now) self.old.walk.opened.items next self.new.walk.opened.items) }
@@ -66,6 +68,8 @@ impl<'a> InlineState<'a> {
         requires slot { IsSlot (text_of leaf.now) (length (text_of leaf.now)) slot }
         requires opened { AreOpened (source_of leaf.now) self.old.walk.opened.items }
         ensures slots { self.new.slots ≡ self.old.slots }
+        ensures texts { self.new.texts ≡ self.old.texts }
+        ensures links { self.new.links ≡ self.old.links }
         ensures place { self.new.walk.next ≡ self.old.walk.next }
         ensures opened { AreOpened (source_of leaf.now) self.new.walk.opened.items }
         ensures stands { IfOk result (λ next. IfShort next (StandsFor leaf.now slot)) }
@@ -92,6 +96,8 @@ impl<'a> InlineState<'a> {
         requires is { slot.kind ≡ kind.Begin element }
         requires opened { AreOpened (source_of leaf.now) self.old.walk.opened.items }
         ensures slots { self.new.slots ≡ self.old.slots }
+        ensures texts { self.new.texts ≡ self.old.texts }
+        ensures links { self.new.links ≡ self.old.links }
         ensures place { self.new.walk.next ≡ self.old.walk.next }
         ensures opened { AreOpened (source_of leaf.now) self.new.walk.opened.items }
         ensures stands { IfOk result (λ next. IfShort next (StandsFor leaf.now slot)) }
@@ -113,6 +119,8 @@ impl<'a> InlineState<'a> {
     #[inline(always)]
     fn end_short(&mut self) -> Next<'a>
         ensures slots { self.new.slots ≡ self.old.slots }
+        ensures texts { self.new.texts ≡ self.old.texts }
+        ensures links { self.new.links ≡ self.old.links }
         ensures place { self.new.walk.next ≡ self.old.walk.next }
         ensures opened { (source : List ℕ) → AreOpened source self.old.walk.opened.items → AreOpened source self.new.walk.opened.items }
         ensures gives { (source : List ℕ) → AreOpened source self.old.walk.opened.items → GivesNext source self.old.walk.opened.items result self.new.walk.opened.items }

@@ -1,4 +1,6 @@
-use Rattle.std.proofs.Common.{sym, subst, ◌-◌}
+use Rattle.std.proofs.Common.{◌≤◌, ◌+◌, sym, subst, ◌∙◌, ◌-◌, arith}
+use Rattle.cmark_inline.specs.declared.state.InlineState.{InlineState}
+use Rattle.cmark_inline.proofs.StillToCome.{left-later}
 use Rattle.cmark_leaf_text.specs.Reads.{source_of}
 use Rattle.cmark_inline.specs.Stands.{AreOpened}
 use Rattle.cmark_inline.proofs.ShortSteps.{any-slot}
@@ -9,3 +11,33 @@ returns-clause-opened c = c.end_short.ensures.opened (source_of c.args.leaf.now)
 
 pub returns-clause-stands : goal.returns-clause-stands
 returns-clause-stands c = any-slot c.end_short.result c.args.leaf.now c.args.self.now.slots.items (c.end_short.new.self.walk.next - 1) c.end_short.ensures.stands
+
+pub returns-in-Short-clause-left : goal.returns-in-Short-clause-left
+returns-in-Short-clause-left c = λ left.
+    let i = c.loop-self.invariant in
+    let old : InlineState = c.args.self.now in
+    let new : InlineState = record c.give_short.new.self { walk = record c.give_short.new.self.walk { next = c.give_short.new.self.walk.next + 1 } } in
+    let g = c.give_short.ensures in
+    let low = i.2 in
+    let place = g.place in
+    left-later c.args.leaf.now old new (g.texts ∙ i.3) (g.links ∙ i.4) (g.slots ∙ i.0) (let q : old.walk.next ≤ new.walk.next = omega (arith, low, place) in q) left
+
+pub returns-in-Long-clause-left : goal.returns-in-Long-clause-left
+returns-in-Long-clause-left c = λ left.
+    let i = c.loop-self.invariant in
+    let old : InlineState = c.args.self.now in
+    let new : InlineState = c.give_short.new.self in
+    let g = c.give_short.ensures in
+    let low = i.2 in
+    let place = g.place in
+    left-later c.args.leaf.now old new (g.texts ∙ i.3) (g.links ∙ i.4) (g.slots ∙ i.0) (let q : old.walk.next ≤ new.walk.next = omega (arith, low, place) in q) left
+
+pub returns-clause-left : goal.returns-clause-left
+returns-clause-left c = λ left.
+    let i = c.loop-self.invariant in
+    let old : InlineState = c.args.self.now in
+    let new : InlineState = c.end_short.new.self in
+    let g = c.end_short.ensures in
+    let low = i.2 in
+    let place = g.place in
+    left-later c.args.leaf.now old new (g.texts ∙ i.3) (g.links ∙ i.4) (g.slots ∙ i.0) (let q : old.walk.next ≤ new.walk.next = omega (arith, low, place) in q) left
