@@ -1,6 +1,6 @@
 -- With a link or an image the state stands for one step more of the pass.
-use Rattle.std.specs.Prelude.{map, drop, take}
-use Rattle.std.proofs.Common.{◌≡◌, ℕ, zero, suc, ◌+◌, List, [], ◌∷◌, length, refl, sym, ap, ◌∙◌, subst, arith}
+use Rattle.std.specs.Prelude.{map, drop, take, Some}
+use Rattle.std.proofs.Common.{◌≡◌, ℕ, zero, suc, ◌+◌, List, [], ◌∷◌, ◌++◌, length, refl, sym, ap, ◌∙◌, subst, arith}
 use Rattle.std.proofs.lemmas.List.{drop-map, take-map}
 use Rattle.cmark_grammar.specs.BracketDecisions.{decide}
 use Rattle.cmark_grammar.specs.BracketReading.{Comes}
@@ -11,19 +11,22 @@ use Rattle.cmark_grammar.specs.Items as items
 use Rattle.cmark_grammar.specs.Items.{Closes}
 use Rattle.cmark_grammar.specs.LeafReading.{Between}
 use Rattle.cmark_grammar.specs.LeafText.{Leaf}
-use Rattle.cmark_grammar.specs.Parts.{Linking, Target}
+use Rattle.cmark_grammar.specs.Parts.{Nil, Form, Formed, Linking, Target}
 use Rattle.cmark_grammar.specs.Questions.{AnyAnswer}
 use Rattle.cmark_grammar.specs.Quotes.{Quote, quote_characters}
 use Rattle.cmark_grammar.specs.Readers.{Reader}
+use Rattle.cmark_grammar.specs.Siblings.{quotes_of as grammar_quotes}
+use Rattle.cmark_grammar.specs.SiblingsModel.{siblings_of}
 use Rattle.cmark_grammar.specs.Spans.{Spans}
 use Rattle.cmark_emphasis.specs.Shown.{shown_quote, shown_run}
 use Rattle.cmark_leaf_text.specs.declared.leaf_text.LeafText.{LeafText}
 use Rattle.cmark_inline_model.specs.BracketPass.{Pass, closed_by}
-use Rattle.cmark_inline_model.specs.RowParts.{BracketPlace, bytes_in, counted}
-use Rattle.cmark_inline_model.specs.RowPasses.{IsReached, linked_slots}
+use Rattle.cmark_inline_model.specs.PartLists.{Cut, cut_at}
+use Rattle.cmark_inline_model.specs.RowParts.{BracketPlace, bytes_in, counted, runs_in}
+use Rattle.cmark_inline_model.specs.RowPasses.{IsReached, StandsFor, linked_slots}
 use Rattle.cmark_inline_model.specs.SlotRows as row
 use Rattle.cmark_inline_model.specs.SlotRows.{marked, marks_by, quoted, run_places}
-use Rattle.cmark_inline_model.proofs.RowPasses.{reached-link}
+use Rattle.cmark_inline_model.proofs.RowPasses.{reached-link, reached-formed}
 use Rattle.cmark_inline.specs.Marked.{places_of, siblings_from}
 use Rattle.cmark_inline.specs.Quoted.{characters_of}
 use Rattle.cmark_inline.specs.Reached.{HasRead, bracket_place, runs_of, quotes_of}
@@ -112,3 +115,32 @@ module _ (leaf : LeafText) (reader : Reader) (read : Leaf) (place : ℕ → ℕ)
       (subst (λ l. all (map (bracket_place place) (drop (suc nearer) bs)) l (take n bytes) (take b.quotes (slot_places quotes)) (take b.runs (runs_of runs)) (take b.quotes (quotes_of quotes))) slots
       (subst (λ l. all l (linked_slots bp target (made (drop n bytes) (drop b.quotes (slot_places quotes)) (drop b.quotes (quotes_of quotes)))) (take n bytes) (take b.quotes (slot_places quotes)) (take b.runs (runs_of runs)) (take b.quotes (quotes_of quotes)))
       (drop-map (bracket_place place) (suc nearer) bs) r)))))))
+
+  -- what shows nothing of what stands between its brackets, in the place of the opening bracket's slot and of all behind it
+  pub formed-read : (b : Bracket) (closer : items.Bracket) (nearer : ℕ) (what : Formed) (next : State) → drop nearer bs ≡ b ∷ drop (suc nearer) bs → token reader read p.state.at ≡ Closes closer
+      → Comes AnyAnswer p.state.asked (decide reader read p.state closer) (record { result = Forms nearer what; after = next }) → (more : List row.Slot)
+      → ((cut : Cut) → cut_at nearer p.here ≡ Some cut → cut.opener ≡ (bracket_place place b).bracket → StandsFor reader b.slot (Form cut.opener cut.inside closer what Nil) more [] [])
+      → ((cut : Cut) → (runs_in (siblings_of reader.options (Form cut.opener cut.inside closer what Nil)) ≡ []) × (grammar_quotes (siblings_of reader.options (Form cut.opener cut.inside closer what Nil)) ≡ []))
+      → shown_slots leaf new.texts.items new.links.items new.slots.items ≡ take b.slot (shown_slots leaf old.texts.items old.links.items old.slots.items) ++ more
+      → new.delimiters.placed.items ≡ take b.runs old.delimiters.placed.items → new.quotes.placed.items ≡ take b.quotes old.quotes.placed.items
+      → HasRead leaf reader read place before (closed_by p closer (record { result = Forms nearer what; after = next })) (drop (suc nearer) bs) new
+  formed-read b closer nearer what next there t comes more stands none slots_are runs_are quotes_are =
+      let bp = bracket_place place b in
+      let brackets = map (bracket_place place) bs in
+      let to = closed_by p closer (record { result = Forms nearer what; after = next }) in
+      let shown = shown_slots leaf old.texts.items old.links.items old.slots.items in
+      let bytes = places_of runs in
+      let n = bytes_in (take b.runs (runs_of runs)) in
+      let cut : drop nearer brackets ≡ bp ∷ drop (suc nearer) brackets = drop-map (bracket_place place) nearer bs ∙ ap (map (bracket_place place)) there ∙ ap (λ l. bp ∷ l) (sym (drop-map (bracket_place place) (suc nearer) bs)) in
+      let r = reached-formed reader read before p brackets shown bytes (slot_places quotes) (runs_of runs) (quotes_of quotes) h closer nearer what next bp cut t comes more stands none in
+      let now = shown_slots leaf new.texts.items new.links.items new.slots.items in
+      let all : List BracketPlace → List row.Slot → List ℕ → List ℕ → List Run → List Quote → Type 0 = λ b s c d x y. IsReached reader read before to b s c d x y in
+      let left = map (bracket_place place) (drop (suc nearer) bs) in
+      subst (λ l. all left now (places_of new.delimiters.placed.items) (slot_places l) (runs_of new.delimiters.placed.items) (quotes_of l)) (sym quotes_are)
+      (subst (λ l. all left now (places_of l) (slot_places (take b.quotes quotes)) (runs_of l) (quotes_of (take b.quotes quotes))) (sym runs_are)
+      (subst (λ l. all left now (places_of (take b.runs runs)) (slot_places (take b.quotes quotes)) (runs_of (take b.runs runs)) l) (take-map (λ (x : PlacedQuote). shown_quote x.quote) b.quotes quotes)
+      (subst (λ l. all left now (places_of (take b.runs runs)) (slot_places (take b.quotes quotes)) l (take b.quotes (quotes_of quotes))) (take-map (λ (x : PlacedRun). shown_run x.run) b.runs runs)
+      (subst (λ l. all left now (places_of (take b.runs runs)) l (take b.runs (runs_of runs)) (take b.quotes (quotes_of quotes))) (take-map (λ (x : PlacedQuote). x.slot) b.quotes quotes)
+      (subst (λ l. all left now l (take b.quotes (slot_places quotes)) (take b.runs (runs_of runs)) (take b.quotes (quotes_of quotes))) (bytes-front b.runs runs)
+      (subst (λ l. all left l (take n bytes) (take b.quotes (slot_places quotes)) (take b.runs (runs_of runs)) (take b.quotes (quotes_of quotes))) (sym slots_are)
+      (subst (λ l. all l (take b.slot shown ++ more) (take n bytes) (take b.quotes (slot_places quotes)) (take b.runs (runs_of runs)) (take b.quotes (quotes_of quotes))) (drop-map (bracket_place place) (suc nearer) bs) r)))))))

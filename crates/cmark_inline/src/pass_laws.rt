@@ -1,6 +1,6 @@
 //! Theorems over the states of the inline pass and those of the grammar's, each the contract of a function that does nothing.
 
-ghost use Rattle.std.specs.Prelude.{◌≡◌, ℕ, suc, true, List, [], ◌∷◌, ◌++◌, drop, length, map, take};
+ghost use Rattle.std.specs.Prelude.{◌≡◌, ℕ, suc, true, List, [], ◌∷◌, ◌++◌, Some, drop, length, map, take};
 ghost use Rattle.cmark_emphasis.specs.Shown.{shown_quote, shown_run};
 ghost use Rattle.cmark_grammar.specs.BracketDecisions.{decide};
 ghost use Rattle.cmark_grammar.specs.BracketReading.{Comes};
@@ -10,19 +10,20 @@ ghost use Rattle.cmark_grammar.specs.InlineTokens.{token};
 ghost use Rattle.cmark_grammar.specs.Items.{Bracket as Opener, Closes, Delimiters, Ends, ItemKind, Opens, Quoted, Stands};
 ghost use Rattle.cmark_grammar.specs.LeafReading.{Between, ReadsLeaf, entering, leaving};
 ghost use Rattle.cmark_grammar.specs.LeafText.{Leaf};
-ghost use Rattle.cmark_grammar.specs.Parts.{Linking, Nil, Opening, Single, Target};
+ghost use Rattle.cmark_grammar.specs.Parts.{Form, Formed, Linking, Nil, Opening, Single, Target};
 ghost use Rattle.cmark_grammar.specs.Questions.{AnyAnswer, Exchange, IsNext};
 ghost use Rattle.cmark_grammar.specs.Readers.{Reader};
-ghost use Rattle.cmark_grammar.specs.Siblings.{item};
+ghost use Rattle.cmark_grammar.specs.Siblings.{item, quotes_of};
+ghost use Rattle.cmark_grammar.specs.SiblingsModel.{siblings_of};
 ghost use Rattle.cmark_grammar.specs.Spans.{Spans};
 ghost use Rattle.cmark_leaf_text.specs.Reads.{source_of};
 ghost use Rattle.cmark_leaf_text.specs.declared.leaf_text.LeafText.{LeafText};
 ghost use Rattle.cmark_inline_model.specs.BracketPass.{Pass, closed_by, pass};
 ghost use Rattle.cmark_inline_model.specs.LikeSlots.{AreLike, IsLike};
-ghost use Rattle.cmark_inline_model.specs.PartLists.{join};
-ghost use Rattle.cmark_inline_model.specs.RowParts.{text_slot};
-ghost use Rattle.cmark_inline_model.specs.RowPasses.{has_own_slot, linked_slots};
-ghost use Rattle.cmark_inline_model.specs.SlotRows.{ItemSlot, marked, marks_by, quoted, run_slots};
+ghost use Rattle.cmark_inline_model.specs.PartLists.{Cut, cut_at, join};
+ghost use Rattle.cmark_inline_model.specs.RowParts.{runs_in, text_slot};
+ghost use Rattle.cmark_inline_model.specs.RowPasses.{StandsFor, has_own_slot, linked_slots};
+ghost use Rattle.cmark_inline_model.specs.SlotRows.{ItemSlot, Slot as RowSlot, marked, marks_by, quoted, run_slots};
 ghost use Rattle.cmark_inline.specs.Marked.{places_of, siblings_from};
 ghost use Rattle.cmark_inline.specs.Quoted.{characters_of};
 ghost use Rattle.cmark_inline.specs.Reached.{HasRead, bracket_place};
@@ -98,4 +99,17 @@ pub fn a_leaf_is_read_from_its_begin_to_its_end()
         (quoted (map (λ (q : PlacedQuote). q.slot) old.quotes.placed.items) (characters_of old.quotes.placed.items) (shown_slots leaf old.texts.items old.links.items old.slots.items)) []
         → new.walk.next ≡ 0 → new.walk.opened.items ≡ [] → (all rest : List Exchange) → all ≡ p.state.asked ++ rest
         → ReadsLeaf reader (IsNext all) read before (events_to_come leaf new) (leaving p.state) }
+{}
+
+/// Where the grammar's closing bracket forms what shows nothing of what stands between the brackets, as a footnote reference does and a
+/// wikilink that shows its name, the state stands for it that has slots of its own in the place of the opening bracket's and of all behind it.
+pub fn what_hides_its_inside_is_read()
+    ensures { (leaf : LeafText) (reader : Reader) (read : Leaf) (place : ℕ → ℕ) (before : Between) (p : Pass) (bs : List Bracket) (old new : InlineState) → HasRead leaf reader read place before p bs old
+        → (b : Bracket) (closer : Opener) (nearer : ℕ) (what : Formed) (next : State) → drop nearer bs ≡ b ∷ drop (suc nearer) bs → token reader read p.state.at ≡ Closes closer
+        → Comes AnyAnswer p.state.asked (decide reader read p.state closer) (record { result = Forms nearer what; after = next }) → (more : List RowSlot)
+        → ((cut : Cut) → cut_at nearer p.here ≡ Some cut → cut.opener ≡ (bracket_place place b).bracket → StandsFor reader b.slot (Form cut.opener cut.inside closer what Nil) more [] [])
+        → ((cut : Cut) → (runs_in (siblings_of reader.options (Form cut.opener cut.inside closer what Nil)) ≡ []) × (quotes_of (siblings_of reader.options (Form cut.opener cut.inside closer what Nil)) ≡ []))
+        → shown_slots leaf new.texts.items new.links.items new.slots.items ≡ take b.slot (shown_slots leaf old.texts.items old.links.items old.slots.items) ++ more
+        → new.delimiters.placed.items ≡ take b.runs old.delimiters.placed.items → new.quotes.placed.items ≡ take b.quotes old.quotes.placed.items
+        → HasRead leaf reader read place before (closed_by p closer (record { result = Forms nearer what; after = next })) (drop (suc nearer) bs) new }
 {}
