@@ -30,11 +30,13 @@ pub mod AutolinkSteps
 pub mod AngleSteps
 pub mod Characters
 pub mod Lending
+pub mod LinkSteps
 pub mod MarkupSteps
 pub mod SourcePlaces
 pub mod AngleMakes
 pub mod SpecialSteps
 pub mod SpanReads
+pub mod EndSteps
 pub mod FootnoteSteps
 pub mod FormulaSteps
 pub mod WikiSteps

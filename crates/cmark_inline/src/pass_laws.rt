@@ -1,24 +1,33 @@
 //! Theorems over the states of the inline pass and those of the grammar's, each the contract of a function that does nothing.
 
-ghost use Rattle.std.specs.Prelude.{◌≡◌, ℕ, true, List, [], ◌∷◌, ◌++◌, length};
+ghost use Rattle.std.specs.Prelude.{◌≡◌, ℕ, suc, true, List, [], ◌∷◌, ◌++◌, Some, drop, length, map, take};
 ghost use Rattle.cmark_emphasis.specs.Shown.{shown_quote, shown_run};
-ghost use Rattle.cmark_grammar.specs.BracketStates.{moved, opened};
+ghost use Rattle.cmark_grammar.specs.BracketDecisions.{decide};
+ghost use Rattle.cmark_grammar.specs.BracketReading.{Comes};
+ghost use Rattle.cmark_grammar.specs.BracketStates.{Forms, State, StaysText, moved, opened};
+ghost use Rattle.cmark_grammar.specs.Emphasis.{IsEmphasis, Pair};
 ghost use Rattle.cmark_grammar.specs.InlineTokens.{token};
-ghost use Rattle.cmark_grammar.specs.Items.{Bracket as Opener, Delimiters, ItemKind, Opens, Quoted, Stands};
-ghost use Rattle.cmark_grammar.specs.LeafReading.{Between};
+ghost use Rattle.cmark_grammar.specs.Items.{Bracket as Opener, Closes, Delimiters, Ends, ItemKind, Opens, Quoted, Stands};
+ghost use Rattle.cmark_grammar.specs.LeafReading.{Between, ReadsLeaf, entering, leaving};
 ghost use Rattle.cmark_grammar.specs.LeafText.{Leaf};
-ghost use Rattle.cmark_grammar.specs.Parts.{Nil, Opening, Single};
+ghost use Rattle.cmark_grammar.specs.Parts.{Form, Formed, Linking, Nil, Opening, Single, Target};
+ghost use Rattle.cmark_grammar.specs.Questions.{AnyAnswer, Exchange, IsNext};
 ghost use Rattle.cmark_grammar.specs.Readers.{Reader};
-ghost use Rattle.cmark_grammar.specs.Siblings.{item};
+ghost use Rattle.cmark_grammar.specs.Siblings.{item, quotes_of};
+ghost use Rattle.cmark_grammar.specs.SiblingsModel.{siblings_of};
+ghost use Rattle.cmark_grammar.specs.Spans.{Spans};
+ghost use Rattle.cmark_leaf_text.specs.Reads.{source_of};
 ghost use Rattle.cmark_leaf_text.specs.declared.leaf_text.LeafText.{LeafText};
-ghost use Rattle.cmark_inline_model.specs.BracketPass.{Pass, pass};
+ghost use Rattle.cmark_inline_model.specs.BracketPass.{Pass, closed_by, pass};
 ghost use Rattle.cmark_inline_model.specs.LikeSlots.{AreLike, IsLike};
-ghost use Rattle.cmark_inline_model.specs.PartLists.{join};
-ghost use Rattle.cmark_inline_model.specs.RowParts.{text_slot};
-ghost use Rattle.cmark_inline_model.specs.RowPasses.{has_own_slot};
-ghost use Rattle.cmark_inline_model.specs.SlotRows.{ItemSlot, run_slots};
-ghost use Rattle.cmark_inline.specs.Reached.{HasRead};
-ghost use Rattle.cmark_inline.specs.SlotViews.{shown_slot, shown_slots};
+ghost use Rattle.cmark_inline_model.specs.PartLists.{Cut, cut_at, join};
+ghost use Rattle.cmark_inline_model.specs.RowParts.{runs_in, text_slot};
+ghost use Rattle.cmark_inline_model.specs.RowPasses.{StandsFor, has_own_slot, linked_slots};
+ghost use Rattle.cmark_inline_model.specs.SlotRows.{ItemSlot, Slot as RowSlot, marked, marks_by, quoted, run_slots};
+ghost use Rattle.cmark_inline.specs.Marked.{places_of, siblings_from};
+ghost use Rattle.cmark_inline.specs.Quoted.{characters_of};
+ghost use Rattle.cmark_inline.specs.Reached.{HasRead, bracket_place};
+ghost use Rattle.cmark_inline.specs.SlotViews.{events_to_come, shown_slot, shown_slots};
 ghost use Rattle.cmark_inline.specs.declared.bracket.Bracket.{Bracket};
 ghost use Rattle.cmark_inline.specs.declared.delimiter.PlacedRun.{PlacedRun};
 ghost use Rattle.cmark_inline.specs.declared.quote.PlacedQuote.{PlacedQuote};
@@ -53,4 +62,54 @@ pub fn a_step_more_is_read()
         → opener ≡ record { is_image = b.is_image; start = place b.start; end = place b.inside } → b.slot ≡ length old.slots.items → b.runs ≡ length old.delimiters.placed.items → b.quotes ≡ length old.quotes.placed.items
         → new.slots.items ≡ old.slots.items ++ (slot ∷ []) → new.delimiters.placed.items ≡ old.delimiters.placed.items → new.quotes.placed.items ≡ old.quotes.placed.items
         → HasRead leaf reader read place before (pass (opened opener p.state) (join p.here (Opening opener Nil))) (b ∷ bs) new }
+{}
+
+/// Where the grammar's closing bracket forms a link or an image, the state stands for it whose slots from the opening bracket's on are the
+/// element around those behind it, once the quotes there are characters and the pairs of the runs there have written their marks, and
+/// which has forgotten these quotes and runs.
+pub fn a_link_more_is_read()
+    ensures { (leaf : LeafText) (reader : Reader) (read : Leaf) (place : ℕ → ℕ) (before : Between) (p : Pass) (bs : List Bracket) (old new : InlineState) → HasRead leaf reader read place before p bs old
+        → (b : Bracket) (closer : Opener) (nearer : ℕ) (target : Target) (next : State) → drop nearer bs ≡ b ∷ drop (suc nearer) bs → token reader read p.state.at ≡ Closes closer
+        → Comes AnyAnswer p.state.asked (decide reader read p.state closer) (record { result = Forms nearer (Linking target); after = next })
+        → (pairs : List Pair) (spans : Spans) → IsEmphasis (siblings_from 0 (drop b.runs old.delimiters.placed.items)) pairs spans
+        → shown_slots leaf new.texts.items new.links.items new.slots.items
+        ≡ linked_slots (bracket_place place b) target
+        (marked reader.options (places_of (drop b.runs old.delimiters.placed.items)) (marks_by (length (places_of (drop b.runs old.delimiters.placed.items))) pairs)
+        (quoted (map (λ (q : PlacedQuote). q.slot) (drop b.quotes old.quotes.placed.items)) (characters_of (drop b.quotes old.quotes.placed.items)) (shown_slots leaf old.texts.items old.links.items old.slots.items)) [])
+        → new.delimiters.placed.items ≡ take b.runs old.delimiters.placed.items → new.quotes.placed.items ≡ take b.quotes old.quotes.placed.items
+        → HasRead leaf reader read place before (closed_by p closer (record { result = Forms nearer (Linking target); after = next })) (drop (suc nearer) bs) new }
+{}
+
+/// Before a leaf is read, a state with no slots, runs and quotes stands for nothing (`first`). A closing bracket that stays a text has one
+/// slot more (`closing`). Where the grammar's pass has come to the end of the leaf, and all quotes are characters and all pairs have written
+/// their marks, the leaf is read as the events that are still to come, for the answers that were given (`end`).
+pub fn a_leaf_is_read_from_its_begin_to_its_end()
+    ensures first { (leaf : LeafText) (reader : Reader) (read : Leaf) (place : ℕ → ℕ) (before : Between) (state : InlineState)
+        → state.slots.items ≡ [] → state.delimiters.placed.items ≡ [] → state.quotes.placed.items ≡ [] → HasRead leaf reader read place before (pass (entering read before) Nil) [] state }
+    ensures closing { (leaf : LeafText) (reader : Reader) (read : Leaf) (place : ℕ → ℕ) (before : Between) (p : Pass) (bs : List Bracket) (old new : InlineState) → HasRead leaf reader read place before p bs old
+        → (closer : Opener) (next : State) (slot : Slot) → shown_slots leaf new.texts.items new.links.items old.slots.items ≡ shown_slots leaf old.texts.items old.links.items old.slots.items
+        → token reader read p.state.at ≡ Closes closer → Comes AnyAnswer p.state.asked (decide reader read p.state closer) (record { result = StaysText; after = next })
+        → IsLike reader.source (shown_slot leaf new.texts.items new.links.items slot) (text_slot closer)
+        → new.slots.items ≡ old.slots.items ++ (slot ∷ []) → new.delimiters.placed.items ≡ old.delimiters.placed.items → new.quotes.placed.items ≡ old.quotes.placed.items
+        → HasRead leaf reader read place before (closed_by p closer (record { result = StaysText; after = next })) bs new }
+    ensures end { (leaf : LeafText) (reader : Reader) (read : Leaf) (place : ℕ → ℕ) (before : Between) (p : Pass) (bs : List Bracket) (old new : InlineState) → HasRead leaf reader read place before p bs old
+        → reader.source ≡ source_of leaf → token reader read p.state.at ≡ Ends → (pairs : List Pair) (spans : Spans) → IsEmphasis (siblings_from 0 old.delimiters.placed.items) pairs spans
+        → shown_slots leaf new.texts.items new.links.items new.slots.items
+        ≡ marked reader.options (places_of old.delimiters.placed.items) (marks_by (length (places_of old.delimiters.placed.items)) pairs)
+        (quoted (map (λ (q : PlacedQuote). q.slot) old.quotes.placed.items) (characters_of old.quotes.placed.items) (shown_slots leaf old.texts.items old.links.items old.slots.items)) []
+        → new.walk.next ≡ 0 → new.walk.opened.items ≡ [] → (all rest : List Exchange) → all ≡ p.state.asked ++ rest
+        → ReadsLeaf reader (IsNext all) read before (events_to_come leaf new) (leaving p.state) }
+{}
+
+/// Where the grammar's closing bracket forms what shows nothing of what stands between the brackets, as a footnote reference does and a
+/// wikilink that shows its name, the state stands for it that has slots of its own in the place of the opening bracket's and of all behind it.
+pub fn what_hides_its_inside_is_read()
+    ensures { (leaf : LeafText) (reader : Reader) (read : Leaf) (place : ℕ → ℕ) (before : Between) (p : Pass) (bs : List Bracket) (old new : InlineState) → HasRead leaf reader read place before p bs old
+        → (b : Bracket) (closer : Opener) (nearer : ℕ) (what : Formed) (next : State) → drop nearer bs ≡ b ∷ drop (suc nearer) bs → token reader read p.state.at ≡ Closes closer
+        → Comes AnyAnswer p.state.asked (decide reader read p.state closer) (record { result = Forms nearer what; after = next }) → (more : List RowSlot)
+        → ((cut : Cut) → cut_at nearer p.here ≡ Some cut → cut.opener ≡ (bracket_place place b).bracket → StandsFor reader b.slot (Form cut.opener cut.inside closer what Nil) more [] [])
+        → ((cut : Cut) → (runs_in (siblings_of reader.options (Form cut.opener cut.inside closer what Nil)) ≡ []) × (quotes_of (siblings_of reader.options (Form cut.opener cut.inside closer what Nil)) ≡ []))
+        → shown_slots leaf new.texts.items new.links.items new.slots.items ≡ take b.slot (shown_slots leaf old.texts.items old.links.items old.slots.items) ++ more
+        → new.delimiters.placed.items ≡ take b.runs old.delimiters.placed.items → new.quotes.placed.items ≡ take b.quotes old.quotes.placed.items
+        → HasRead leaf reader read place before (closed_by p closer (record { result = Forms nearer what; after = next })) (drop (suc nearer) bs) new }
 {}
