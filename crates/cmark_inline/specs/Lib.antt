@@ -9,6 +9,7 @@ pub mod Marked
 pub mod Opens
 pub mod Quoted
 pub mod Reached
+pub mod Resolved
 pub mod SlotViews
 pub mod Shorts
 pub mod Sound

@@ -1,0 +1,36 @@
+-- What a leaf is read as by the inline pass, and what was asked on the way.
+use Rattle.std.specs.Prelude.{◌≡◌, ℕ, List, [], ◌∷◌, ◌++◌, Option}
+use Rattle.cmark_grammar.specs.Answers.{Lookup}
+use Rattle.cmark_grammar.specs.LeafReading.{ReadsLeaf}
+use Rattle.cmark_grammar.specs.LeafText.{Leaf}
+use Rattle.cmark_grammar.specs.Options.{Options}
+use Rattle.cmark_grammar.specs.Questions.{Exchange, IsNext}
+use Rattle.cmark_grammar.specs.Readers.{Reader}
+use Rattle.cmark_items.specs.declared.definitions.RefDefs.{RefDefs}
+use Rattle.cmark_items.specs.declared.footnotes.FootnoteDefs.{FootnoteDefs}
+use Rattle.cmark_leaf_text.specs.declared.leaf_text.LeafText.{LeafText}
+use Rattle.cmark_text.specs.declared.text.CowStr.{CowStr}
+use Rattle.cmark_inline.specs.Decided.{AsksThis, ReadsSame}
+use Rattle.cmark_inline.specs.Reached.{ReadsPlaces}
+use Rattle.cmark_inline.specs.SlotViews.{events_to_come}
+use Rattle.cmark_inline.specs.declared.callback.BrokenLink.{BrokenLink}
+use Rattle.cmark_inline.specs.declared.state.InlineState.{InlineState}
+
+-- a callback was asked these questions, one after the other, and answered each of them so
+abbrev pub Answered : {F : Type 0} → (F → BrokenLink → Option (CowStr × CowStr) → F → Type 0) → List Exchange → (before after : F) → Type 0
+Answered R [] before after = after ≡ before
+Answered {F} R (x ∷ xs) before after = (between : F) × AsksThis R x.question x.answer before between × Answered R xs between after
+
+-- the events that are still to come are those that the grammar's leaf is read as, for the answers that the callback gave, whatever is
+-- asked behind this leaf; what is left of the expansion limit is what the grammar leaves
+pub record ResolvesAs {F : Type 0} (R : F → BrokenLink → Option (CowStr × CowStr) → F → Type 0) (leaf : LeafText) (reader : Reader) (read : Leaf) (expansion : ℕ) (new : InlineState) (before after : F) : Type 0 where
+  pub asked : List Exchange
+  pub answered : Answered R asked before after
+  pub reads : (rest : List Exchange)
+      → ReadsLeaf reader (IsNext (asked ++ rest)) read (record { expansion = expansion; asked = [] }) (events_to_come leaf new) (record { expansion = new.expansion; asked = asked })
+
+-- so it is for each reading of the grammar of the same leaf, with the same options, entities, definitions and footnotes
+abbrev pub Resolves : {F : Type 0} → (F → BrokenLink → Option (CowStr × CowStr) → F → Type 0) → Options → Lookup → RefDefs → FootnoteDefs → LeafText → (expansion : ℕ) → (new : InlineState) → (before after : F) → Type 0
+Resolves R options lookup references footnotes leaf expansion new before after =
+    (reader : Reader) (read : Leaf) (place : ℕ → ℕ) → ReadsSame options lookup references footnotes leaf reader read place → ReadsPlaces leaf reader read place
+    → ResolvesAs R leaf reader read expansion new before after
