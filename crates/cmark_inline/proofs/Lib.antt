@@ -53,3 +53,14 @@ pub mod TargetSteps
 pub mod TargetMakes
 pub mod CloserSteps
 pub mod CloserMakes
+pub mod PlainChains
+pub mod PlainBytes
+pub mod PlainUpTo
+pub mod ReachedItems
+pub mod PendingReads
+pub mod Longer
+pub mod ComeItems
+pub mod ComeTexts
+pub mod MarkupTokens
+pub mod ComeMarks
+pub mod ComeBrackets

@@ -8,7 +8,6 @@ ghost use Rattle.cmark_items.specs.Definitions.{definition};
 ghost use Rattle.cmark_text.specs.Labelled.{link_text};
 ghost use Rattle.cmark_inline.specs.Linked.{Answers, Refers, left_behind};
 ghost use Rattle.cmark_grammar.specs.Answers.{Lookup};
-ghost use Rattle.cmark_grammar.specs.Options.{Options as Extensions};
 ghost use Rattle.cmark_text.specs.Shown.{shown_link_type, shown_options};
 ghost use Rattle.cmark_grammar.specs.BracketStates.{Opener};
 ghost use Rattle.cmark_grammar.specs.OpenBrackets.{nearest, used_up};
@@ -55,7 +54,7 @@ impl<'a> InlineState<'a> {
         ensures expansion { self.new.expansion ≡ self.old.expansion }
         ensures keeps { OnOk result (KeepsSound self.old self.new) }
         ensures moves { IfOk result (Moves text.now here.at self.new) }
-        ensures token { (options : Extensions) (lookup : Lookup) (is_cell : Bool) → slice_index text.now here.at ≡ 33 → IfOk result (λ next. Passes options lookup is_cell text.now here self.old self.new next ⊎ OpensBracket options lookup is_cell text.now here self.old self.new next) }
+        ensures token { (lookup : Lookup) (is_cell : Bool) → slice_index text.now here.at ≡ 33 → IfOk result (λ next. Passes (shown_options options) lookup is_cell text.now here self.old self.new next ⊎ OpensBracket (shown_options options) lookup is_cell text.now here self.old self.new next) }
     {
         if is_followed_by(text, here.at, b'[') {
             let inside = behind(text, behind(text, here.at));

@@ -50,7 +50,7 @@ returns-in-33-clause-token g c = λ special other.
     let o : Options = shown_options c.args.reader.now.options in
     let l : Lookup = g.E.EntityLookup.replacement c.args.reader.now.entities.now in
     IfOk-weaker c.exclamation.result _ _ (passes-or-opens o l c.args.leaf.now c.args.text.now c.requires.same c.args.here c.args.self.now c.exclamation.new.self)
-    (c.exclamation.ensures.token o l (is_cell_of c.args.leaf.now) (subst (λ (bs : List ℕ). get_or bs c.args.here.at 0 ≡ 33) c.as_bytes.ensures.value c.in-33.is))
+    (c.exclamation.ensures.token l (is_cell_of c.args.leaf.now) (subst (λ (bs : List ℕ). get_or bs c.args.here.at 0 ≡ 33) c.as_bytes.ensures.value c.in-33.is))
 
 pub returns-in-36-clause-token : goal.returns-in-36-clause-token
 returns-in-36-clause-token g c = λ special other.
