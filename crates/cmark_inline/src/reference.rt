@@ -127,7 +127,7 @@ impl<'a> InlineState<'a> {
         ensures spent { self.old.expansion ≡ 0 → (callback.new ≡ callback.old) × (self.new.expansion ≡ 0) }
         ensures moves { IfOk result (Moves text.now here.at self.new) }
         ensures footnotes { SameFootnotes footnotes.old footnotes.new }
-        ensures closes { IfOk result (λ next. Closes F.answers (shown_options reader.now.options) (E.replacement reader.now.entities.now) reader.now.references.now footnotes.old leaf.now text.now here.at self.old self.new next callback.old callback.new) }
+        ensures closes { IfOk result (λ next. Closes F.answers (shown_options reader.now.options) (E.replacement reader.now.entities.now) reader.now.references.now footnotes.old leaf.now text.now here.pending here.at self.old self.new next callback.old callback.new) }
     {
         self.flush(text, here, here.at)?;
         let behind_it = behind(text, here.at);
