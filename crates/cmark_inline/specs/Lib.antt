@@ -21,3 +21,4 @@ pub mod PlainStretches
 pub mod BracketViews
 pub mod Decided
 pub mod Closers
+pub mod Written

@@ -24,6 +24,7 @@ mod span;
 mod special;
 mod state;
 mod step;
+pub mod temp_laws;
 mod text;
 mod wikilink;
 
