@@ -58,3 +58,5 @@ pub mod Longer
 pub mod ElementWrites
 pub mod TailEnds
 pub mod ClosingReads
+pub mod HiddenSlots
+pub mod HidingReads
