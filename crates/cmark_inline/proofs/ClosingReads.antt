@@ -4,6 +4,7 @@ use Rattle.std.proofs.Common.{◌≡◌, ◌⊎◌, inl, inr, ℕ, zero, suc, �
 use Rattle.std.proofs.Math.Seq.{drop-cons}
 use Rattle.std.proofs.lemmas.Bool.{cases_lt}
 use Rattle.std.proofs.lemmas.List.{drop-map, get_or-map, get_or_at, length-map}
+use Rattle.cmark_grammar.specs.Answers.{Lookup}
 use Rattle.cmark_grammar.specs.BracketDecisions.{decide}
 use Rattle.cmark_grammar.specs.BracketReading.{Comes}
 use Rattle.cmark_grammar.specs.BracketStates.{State, Decision, Settled, Asks, Outcome, StaysText, Forms}
@@ -13,12 +14,14 @@ use Rattle.cmark_grammar.specs.InlineTokens.{token}
 use Rattle.cmark_grammar.specs.Items as items
 use Rattle.cmark_grammar.specs.LeafReading.{Between}
 use Rattle.cmark_grammar.specs.LeafText.{Leaf}
+use Rattle.cmark_grammar.specs.Options.{Options}
 use Rattle.cmark_grammar.specs.Parts.{Linking}
 use Rattle.cmark_grammar.specs.Questions.{AnyAnswer, Exchange}
 use Rattle.cmark_grammar.specs.Readers.{Reader}
 use Rattle.cmark_grammar.specs.Siblings.{tag_by}
 use Rattle.cmark_grammar.specs.Tokens.{slice}
 use Rattle.cmark_grammar.proofs.EmphasisSound.{sound}
+use Rattle.cmark_items.specs.declared.definitions.RefDefs.{RefDefs}
 use Rattle.cmark_leaf_text.specs.Reads.{place_of, text_of}
 use Rattle.cmark_leaf_text.specs.declared.leaf_text.LeafText.{LeafText}
 use Rattle.cmark_text.specs.declared.text.CowStr.{CowStr}
@@ -28,12 +31,13 @@ use Rattle.cmark_inline_model.specs.RowParts.{BracketPlace, text_slot}
 use Rattle.cmark_inline_model.specs.RowPasses.{IsReached, linked_slots}
 use Rattle.cmark_inline_model.specs.SlotRows as row
 use Rattle.cmark_inline_model.proofs.RowParts.{cut-row}
-use Rattle.cmark_inline.specs.Closers.{ReadsOn}
+use Rattle.cmark_inline.specs.Closers.{Formed, LinksTaken, ReadsOn}
 use Rattle.cmark_inline.specs.Decided.{ComesTo, IsCloser}
 use Rattle.cmark_inline.specs.Marked.{places_of, siblings_from}
 use Rattle.cmark_inline.specs.Reached.{HasRead, ReadsPlaces, bracket_place, quotes_of, runs_of}
 use Rattle.cmark_inline.specs.SlotViews.{first_of, shown_parts, shown_slot, shown_slots, slot_as}
 use Rattle.cmark_inline.specs.Stands.{PushesText}
+use Rattle.cmark_inline.specs.Tokens.{Puts}
 use Rattle.cmark_inline.specs.Written.{WritesElement, dressed_behind, wrapped}
 use Rattle.cmark_inline.specs.declared.bracket.Bracket.{Bracket}
 use Rattle.cmark_inline.specs.declared.callback.BrokenLink.{BrokenLink}
@@ -87,6 +91,27 @@ rows-same one two e = record {
   runs = ap (λ (s : InlineState). s.delimiters.placed.items) e;
   quotes = ap (λ (s : InlineState). s.quotes.placed.items) e;
 }
+
+-- where no link is formed
+pub rows-unlinked : {F : Type 0} (R : F → BrokenLink → Option (CowStr × CowStr) → F → Type 0) (options : Options) (lookup : Lookup) (references : RefDefs) (leaf : LeafText) (text : List ℕ) (taken : Option Bracket) (close : ℕ) (old new : InlineState) (before after : F)
+    → LinksTaken R options lookup references leaf text taken close old new None before after → SameRows old new
+rows-unlinked R options lookup references leaf text None close old new before after l = rows-same old new l.1
+rows-unlinked R options lookup references leaf text (Some b) close old new before after l =
+    rows-on old l.between new (record {
+      texts = ap (λ v. v.items) l.texts;
+      links = ap (λ v. v.items) l.table;
+      slots = ap (λ v. v.items) l.same.slots;
+      runs = ap (λ d. d.placed.items) l.same.delimiters;
+      quotes = ap (λ q. q.placed.items) l.quotes;
+    }) (rows-same l.between new (formed l.target refl l.formed))
+  where
+    formed : (found : Option Target) → l.target ≡ found → Formed options b l.target l.between new None → new ≡ l.between
+    formed None e f = subst (λ t. Formed options b t l.between new None) e f
+    formed (Some target) e f = absurd (subst (λ t. Formed options b t l.between new None) e f)
+
+-- a slot that is put where nothing is pending
+pub puts-one : (at : ℕ) (slot : Slot) (old new : List Slot) → Puts at at slot old new → new ≡ old ++ (slot ∷ [])
+puts-one at slot old new h = h.slot_is ∙ ap (λ l. l ++ (slot ∷ [])) (h.text.1 (let q : at ≤ at = omega arith in q))
 
 -- behind the same text that was pending
 pub record IsFlushed (from close : ℕ) (old flushed : InlineState) : Type 0 where
@@ -183,10 +208,10 @@ closer-like leaf reader read place text close closer texts links same places c =
       end = to;
       event = ap event.Text (
           one-byte (text_of leaf) close (close + 1) (let q : close + 1 ≡ suc close = omega arith in q) within
-              ∙ ap (λ x. x ∷ []) (sym (places.places.bytes close within))
-              ∙ sym (one-byte reader.source (place close) (suc (place close)) refl (places.places.inside close within))
-              ∙ ap (λ k. slice reader.source k (suc (place close))) (sym c.start)
-              ∙ ap (λ k. slice reader.source closer.start k) (sym c.end));
+          ∙ ap (λ x. x ∷ []) (sym (places.places.bytes close within))
+          ∙ sym (one-byte reader.source (place close) (suc (place close)) refl (places.places.inside close within))
+          ∙ ap (λ k. slice reader.source k (suc (place close))) (sym c.start)
+          ∙ ap (λ k. slice reader.source closer.start k) (sym c.end));
     }
 
 module _ (leaf : LeafText) (reader : Reader) (read : Leaf) (place : ℕ → ℕ) (closer : items.Bracket) (s : State) (bs : List Bracket) (from close : ℕ) (old mine st new : InlineState) (is : IsFlushed from close old mine) (rows : SameRows mine st) where

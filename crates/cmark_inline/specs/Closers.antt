@@ -21,6 +21,7 @@ use Rattle.cmark_inline.specs.Decided.{ReadsSame, IsCloser, Remembers, ComesTo, 
 use Rattle.cmark_inline.specs.Doubled.{DropsBehind}
 use Rattle.cmark_inline.specs.Reached.{HasRead, ReadsPlaces}
 use Rattle.cmark_inline.specs.Stands.{PushesText, SameSpans}
+use Rattle.cmark_inline.specs.Written.{WritesElement}
 use Rattle.cmark_inline.specs.declared.bracket.Bracket.{Bracket}
 use Rattle.cmark_inline.specs.declared.bracket.Brackets.{Brackets}
 use Rattle.cmark_inline.specs.declared.callback.BrokenLink.{BrokenLink}
@@ -89,18 +90,19 @@ LeavesElement false start old new = LeavesLink start old new
 -- ## Links and images
 
 -- the link or the image with this target is formed, and the text is read on behind it
-pub record FormsTarget (bracket : Bracket) (target : Target) (old new : InlineState) (next : Cursor) : Type 0 where
+pub record FormsTarget (options : Options) (bracket : Bracket) (target : Target) (old new : InlineState) (next : Cursor) : Type 0 where
   pub pending : next.pending ≡ target.past
   pub at : next.at ≡ target.past
   pub leaves : LeavesElement bracket.is_image bracket.start old new
   pub links : new.links.items ≡ old.links.items ++ (target.parts ∷ [])
   pub expansion : new.expansion ≡ old.expansion
   pub label : new.shut_close ≡ old.shut_close
+  pub writes : WritesElement options bracket target old new
 
-abbrev pub Formed : Bracket → Option Target → (old new : InlineState) → Option Cursor → Type 0
-Formed bracket None old new None = new ≡ old
-Formed bracket (Some target) old new (Some next) = FormsTarget bracket target old new next
-Formed bracket _ old new _ = ⊥
+abbrev pub Formed : Options → Bracket → Option Target → (old new : InlineState) → Option Cursor → Type 0
+Formed options bracket None old new None = new ≡ old
+Formed options bracket (Some target) old new (Some next) = FormsTarget options bracket target old new next
+Formed options bracket _ old new _ = ⊥
 
 -- with the bracket that was taken the target is formed, if there is one
 pub record LinksBracket {F : Type 0} (R : F → BrokenLink → Option (CowStr × CowStr) → F → Type 0) (options : Options) (lookup : Lookup) (references : RefDefs) (leaf : LeafText) (text : List ℕ) (bracket : Bracket) (close : ℕ)
@@ -111,7 +113,9 @@ pub record LinksBracket {F : Type 0} (R : F → BrokenLink → Option (CowStr ×
   pub same : SameSpans old between
   pub label : EndsWithin text old.shut_close → EndsWithin text between.shut_close
   pub table : between.links ≡ old.links
-  pub formed : Formed bracket target between new next
+  pub texts : between.texts ≡ old.texts
+  pub quotes : between.quotes ≡ old.quotes
+  pub formed : Formed options bracket target between new next
 
 abbrev pub LinksTaken : {F : Type 0} → (F → BrokenLink → Option (CowStr × CowStr) → F → Type 0) → Options → Lookup → RefDefs → LeafText → (text : List ℕ) → Option Bracket → (close : ℕ) → (old new : InlineState) → Option Cursor → (before after : F) → Type 0
 LinksTaken R options lookup references leaf text None close old new next before after = (next ≡ None) × (new ≡ old) × (after ≡ before)
@@ -153,11 +157,10 @@ ReadsOn leaf reader read place pending at closer s bs outcome old new =
     → (before : Between) (p : Pass) (flushed : InlineState) → p.state ≡ s → PushesText pending at old.slots.items flushed.slots.items → flushed ≡ record old { slots = flushed.slots }
     → HasRead leaf reader read place before p bs flushed → HasRead leaf reader read place before (closed_by p closer outcome) (left_of outcome.result bs) new
 
--- which slots stand for a wikilink that shows what stands behind its pipe is not said yet
+-- which slots stand for a footnote reference or a wikilink is not said yet
 abbrev pub IsSaid : Result → Type 0
-IsSaid (Forms nearer (Wiki name (Some display) end)) = ⊥
-IsSaid (Forms nearer (Wiki name None end)) = Unit {0}
-IsSaid (Forms nearer (Footnote label end)) = Unit {0}
+IsSaid (Forms nearer (Wiki name display end)) = ⊥
+IsSaid (Forms nearer (Footnote label end)) = ⊥
 IsSaid (Forms nearer (Linking target)) = Unit {0}
 IsSaid StaysText = Unit {0}
 

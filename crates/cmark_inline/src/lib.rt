@@ -24,7 +24,6 @@ mod span;
 mod special;
 mod state;
 mod step;
-pub mod temp_laws;
 mod text;
 mod wikilink;
 
