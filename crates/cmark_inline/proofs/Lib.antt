@@ -60,3 +60,4 @@ pub mod TailEnds
 pub mod ClosingReads
 pub mod HiddenSlots
 pub mod HidingReads
+pub mod WikiSlots
