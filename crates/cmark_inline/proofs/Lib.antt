@@ -58,3 +58,6 @@ pub mod Longer
 pub mod ElementWrites
 pub mod TailEnds
 pub mod ClosingReads
+pub mod HiddenSlots
+pub mod HidingReads
+pub mod WikiSlots

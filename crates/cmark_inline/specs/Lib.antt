@@ -22,3 +22,4 @@ pub mod BracketViews
 pub mod Decided
 pub mod Closers
 pub mod Written
+pub mod Hiding
