@@ -64,3 +64,10 @@ pub mod ComeTexts
 pub mod MarkupTokens
 pub mod ComeMarks
 pub mod ComeBrackets
+pub mod Wrapping
+pub mod ElementWrites
+pub mod TailEnds
+pub mod ClosingReads
+pub mod HiddenSlots
+pub mod HidingReads
+pub mod WikiSlots

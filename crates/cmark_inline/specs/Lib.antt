@@ -22,3 +22,5 @@ pub mod BracketViews
 pub mod Decided
 pub mod Closers
 pub mod Come
+pub mod Written
+pub mod Hiding
