@@ -24,7 +24,8 @@ use Rattle.cmark_inline.specs.Closers.{ShowsState}
 use Rattle.cmark_inline.specs.Come.{HasReached}
 use Rattle.cmark_inline.specs.Reached.{ReadsPlaces}
 use Rattle.cmark_inline.specs.SlotViews.{shown_slot, shown_slots}
-use Rattle.cmark_inline.specs.Tokens.{OpensBracket, begins_at}
+use Rattle.cmark_inline.specs.SpecialReads.{OpensBracket}
+use Rattle.cmark_inline.specs.Tokens.{begins_at}
 use Rattle.cmark_inline.specs.declared.bracket.Bracket.{Bracket}
 use Rattle.cmark_inline.specs.declared.callback.BrokenLink.{BrokenLink}
 use Rattle.cmark_inline.specs.declared.slot.Slot.{Slot}

@@ -30,7 +30,7 @@ use Rattle.cmark_inline.specs.Closers.{ShowsState}
 use Rattle.cmark_inline.specs.Come.{HasReached}
 use Rattle.cmark_inline.specs.Reached.{ReadsPlaces}
 use Rattle.cmark_inline.specs.SlotViews.{first_of, past_of, shown_slot, shown_slots}
-use Rattle.cmark_inline.specs.Tokens.{AppendsQuote, AppendsRun, OpensBracket, begins_at, byte_slots}
+use Rattle.cmark_inline.specs.Tokens.{AppendsQuote, AppendsRun, begins_at, byte_slots}
 use Rattle.cmark_inline.specs.declared.bracket.Bracket.{Bracket}
 use Rattle.cmark_inline.specs.declared.callback.BrokenLink.{BrokenLink}
 use Rattle.cmark_inline.specs.declared.link.LinkParts.{LinkParts}

@@ -71,3 +71,8 @@ pub mod ClosingReads
 pub mod HiddenSlots
 pub mod HidingReads
 pub mod WikiSlots
+pub mod ComeAutolinks
+pub mod ComeMarkup
+pub mod ComeClosers
+pub mod ComeSteps
+pub mod ComeEnds

@@ -1,5 +1,5 @@
 -- How far the text of a leaf is read at a cursor, in the states of the code and of the grammar.
-use Rattle.std.specs.Prelude.{◌≡◌, ◌⊎◌, ℕ, ◌+◌, ◌-◌, ◌<◌, Bool, false, List, [], ◌∷◌, length, drop, slice_index, Option}
+use Rattle.std.specs.Prelude.{◌≡◌, ◌⊎◌, ℕ, ◌+◌, ◌-◌, ◌<◌, Bool, false, List, [], ◌∷◌, length, drop, slice_index, Option, None}
 use Rattle.cmark_grammar.specs.Answers.{Lookup}
 use Rattle.cmark_grammar.specs.CodeSpans.{backticks, code_in}
 use Rattle.cmark_grammar.specs.Columns.{is_blank_byte}
@@ -71,3 +71,14 @@ module _ {F : Type 0} (R : F → BrokenLink → Option (CowStr × CowStr) → F 
     pub from : ℕ
     pub reached : HasReached initial from state now
     pub pending : IsPending reader.options reader.lookup (is_cell_of leaf) (text_of leaf) from cursor
+
+-- ## The begin of a leaf
+
+-- a state without slots, runs, quotes and brackets, as it is before a leaf is read
+pub record IsCleared (state : InlineState) : Type 0 where
+  pub slots : state.slots.items ≡ []
+  pub runs : state.delimiters.placed.items ≡ []
+  pub quotes : state.quotes.placed.items ≡ []
+  pub brackets : (state.brackets.standing.items ≡ []) × (state.brackets.shut ≡ 0)
+  pub doubled : (state.doubled.standing.items ≡ []) × (state.doubled.shut ≡ 0)
+  pub label : state.shut_close ≡ None

@@ -6,7 +6,7 @@ use Rattle.cmark_grammar.specs.CodeSpans.{is_backtick, backticks, code_in, code_
 use Rattle.cmark_grammar.specs.Columns.{is_blank_byte}
 use Rattle.cmark_grammar.specs.InlineTokens as tokens
 use Rattle.cmark_grammar.specs.InlineTokens.{as_in, is_plain, item_at}
-use Rattle.cmark_grammar.specs.Items.{ItemKind, Plain, Own, Written, Quoted, Delimiters, Code, InlineMath, DisplayMath, Autolink, Html, OwnedHtml, SoftBreak, HardBreak, Item, Token, Stands, Opens}
+use Rattle.cmark_grammar.specs.Items.{ItemKind, Plain, Own, Written, Quoted, Delimiters, Code, InlineMath, DisplayMath, Autolink, Html, OwnedHtml, SoftBreak, HardBreak, Item, Token, Stands}
 use Rattle.cmark_grammar.specs.LabelsOverLines.{piped}
 use Rattle.cmark_grammar.specs.LeafText.{Leaf}
 use Rattle.cmark_grammar.specs.Letters.{first_is, starts}
@@ -20,8 +20,6 @@ use Rattle.cmark_emphasis.specs.declared.quotes.Quote.{Quote}
 use Rattle.cmark_emphasis.specs.declared.run.Run.{Run}
 use Rattle.cmark_text.specs.Shown.{text_bytes}
 use Rattle.cmark_text.specs.declared.text.CowStr.{CowStr}
-use Rattle.cmark_inline.specs.BracketViews.{past_opening}
-use Rattle.cmark_inline.specs.Closers.{OpensAs}
 use Rattle.cmark_inline.specs.Linked.{IsAutolink}
 use Rattle.cmark_inline.specs.Stands.{PushesText}
 use Rattle.cmark_inline.specs.declared.link.LinkParts.{LinkParts}
@@ -234,13 +232,3 @@ pub record PutsBracket (is_image : Bool) (start at inside : ℕ) (old new : Inli
       ++ (record { slot = length before; runs = length old.delimiters.placed.items; quotes = length old.quotes.placed.items; start = at; inside = inside; is_image = is_image } ∷ [])
   pub shut : new.brackets.shut ≡ old.brackets.shut
   pub others : new ≡ record old { slots = new.slots; brackets = new.brackets; doubled = new.doubled }
-
--- the opening bracket that begins at the place that was reached
-pub record OpensBracket (options : Options) (lookup : Lookup) (is_cell : Bool) (text : List ℕ) (here : Cursor) (old new : InlineState) (next : Cursor) : Type 0 where
-  pub is_image : Bool
-  pub token : begins_at options lookup is_cell text here.at ≡ Opens (tokens.bracket is_image here.at next.at)
-  pub inside : next.at ≡ past_opening is_image here.at
-  pub bytes : (k : ℕ) → here.at ≤ k → k < next.at → is_content (slice_index text k) ≡ true
-  pub pending : next.pending ≡ next.at
-  pub puts : PutsBracket is_image here.pending here.at next.at old new
-  pub opens : OpensAs options.wikilinks is_image text here.at next.at old new

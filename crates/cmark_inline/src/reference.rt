@@ -26,7 +26,8 @@ ghost use Rattle.cmark_inline.specs.SlotViews.{shown_slots};
 ghost use Rattle.cmark_inline.specs.Written.{WritesElement, dressed_behind, end_slot};
 ghost use Rattle.cmark_inline.specs.declared.link.LinkParts.{LinkParts as Parts};
 ghost use Rattle.cmark_inline.specs.Sound.{AreEnded, CanSettle, IsSettled, IsSound, IsTakenFrom, KeepsSound};
-ghost use Rattle.cmark_inline.specs.Tokens.{OpensBracket, Passes, PutsBracket};
+ghost use Rattle.cmark_inline.specs.SpecialReads.{OpensBracket};
+ghost use Rattle.cmark_inline.specs.Tokens.{Passes, PutsBracket};
 ghost use Rattle.cmark_leaf_text.specs.declared.leaf_text.LeafText.{LeafText as LeafTexts};
 ghost use Rattle.cmark_inline.specs.Stands.{HoldNoLink, IsEnd, NoNewLink, AreSlots, AreBrackets, IsBracket, IsCursor, IsSlot, IsTarget, Moves, SameSpans, Stands, bytes_of};
 

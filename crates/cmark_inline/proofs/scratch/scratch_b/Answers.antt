@@ -1,5 +1,5 @@
 use Rattle.std.proofs.Common.{refl}
-use Rattle.cmark_inline.proofs.ComeBrackets.{opening-reached}
+use Rattle.cmark_inline.proofs.ComeAutolinks.{autolink-reached}
 use Rattle.cmark_inline.proofs.scratch.scratch_b.Goals as goal
 
 pub returns : goal.returns
