@@ -95,7 +95,7 @@ module _ (leaf : LeafText) (reader : Reader) (read : Leaf) (place : ℕ → ℕ)
       (held : IsHeld reader.options reader.lookup cell text m here.pending here.at) (lt : here.at < length text) (byte : get_or text here.at 0 ≡ 93) where
     pub closing-reached : (references : RefDefs) (footnotes : FootnoteDefs) → ReadsSame reader.options reader.lookup references footnotes leaf reader read place → Flushes here.pending here.at old
         → closers.Closes R reader.options reader.lookup references footnotes leaf text here.pending here.at old new next now later → ((result : Result) → IsSaid result)
-        → HasReached R leaf reader read place before initial next.at new later
+        → HasReached R leaf reader read place before initial next.at new later × (next.pending ≡ next.at)
     closing-reached references footnotes same flush closes said =
         let closer : items.Bracket = record { is_image = false; start = place here.at; end = suc (place here.at) } in
         let f = flushed-reached leaf reader read place r R before initial now m here.pending here.at old flush.flushed h held (omega (arith, lt))
@@ -116,7 +116,7 @@ module _ (leaf : LeafText) (reader : Reader) (read : Leaf) (place : ℕ → ℕ)
         (runs_of flush.flushed.delimiters.placed.items) (quotes_of flush.flushed.quotes.placed.items) (omega (arith, low, count)) f.has_read.is_row in (k.cut, k.cut_is)) in
         let fits : Fits (length f.p.state.openers) c.outcome = always-comes R (Fits (length f.p.state.openers)) (decide reader read f.p.state closer) c.outcome now later (decide-fits reader read f.p.state closer) c.comes in
         let state_is : (closed_by f.p closer c.outcome).state ≡ c.outcome.after = closed-state f.p closer c.outcome.result c.outcome.after (length f.p.state.openers) cuts fits in
-        record {
+        (record {
           p = closed_by f.p closer c.outcome;
           bs = left_of c.outcome.result f.bs;
           has_read = reads;
@@ -124,4 +124,4 @@ module _ (leaf : LeafText) (reader : Reader) (read : Leaf) (place : ℕ → ℕ)
           shows = subst (λ s. ShowsState reader.options.wikilinks text place next.at s (left_of c.outcome.result f.bs) new) (sym state_is) c.shows;
           answered = subst (λ (s : State). Answered R s.asked initial later) (sym state_is)
               (asked-on R (decide reader read f.p.state closer) f.p.state.asked c.outcome initial now later ((decide-recorded reader read).keeps f.p.state closer) c.comes f.answered);
-        }
+        }, c.pending)

@@ -1,9 +1,10 @@
 -- Behind each special byte but a closing bracket the leaf is read on as the grammar's pass reads it.
 use Rattle.std.specs.Prelude.{Option, codes, is_some, not}
-use Rattle.std.proofs.Common.{◌≡◌, ◌⊎◌, inl, inr, ℕ, zero, suc, ◌+◌, ◌-◌, ◌<◌, ◌≤◌, ◌==◌, Bool, true, false, List, [], ◌∷◌, ◌++◌, length, drop, get_or, Some, None, refl, sym, ap, ◌∙◌, subst, arith, eqb-true, true≢false}
+use Rattle.std.proofs.Common.{◌≡◌, ◌⊎◌, inl, inr, ℕ, zero, suc, ◌+◌, ◌-◌, ◌<◌, ◌≤◌, ◌==◌, Bool, true, false, List, [], ◌∷◌, ◌++◌, length, drop, get_or, Some, None, refl, sym, ap, ◌∙◌, subst, arith, eqb-true, true≢false, length-drop}
 use Rattle.std.proofs.lemmas.Bool.{eq-eqb, not-true}
 use Rattle.std.proofs.lemmas.List.{get_or_append_left, get_or_push, length_push}
 use Rattle.cmark_emphasis.specs.Shown.{shown_quote, shown_run}
+use Rattle.cmark_grammar.specs.BracketStates.{Result}
 use Rattle.cmark_grammar.specs.CodeSpans.{backticks, code_in}
 use Rattle.cmark_grammar.specs.Columns.{is_blank_byte}
 use Rattle.cmark_grammar.specs.InlineTokens.{bracket, code_or, item_at}
@@ -17,10 +18,15 @@ use Rattle.cmark_grammar.specs.Readers.{Reader}
 use Rattle.cmark_grammar.specs.SpecialBytes.{is_special}
 use Rattle.cmark_grammar.specs.Tags.{behind_ending}
 use Rattle.cmark_grammar.specs.Tokens.{slice}
+use Rattle.cmark_items.specs.declared.definitions.RefDefs.{RefDefs}
+use Rattle.cmark_items.specs.declared.footnotes.FootnoteDefs.{FootnoteDefs}
 use Rattle.cmark_leaf_text.specs.Reads.{is_cell_of, source_of, text_of}
 use Rattle.cmark_leaf_text.specs.declared.leaf_text.LeafText.{LeafText}
 use Rattle.cmark_text.specs.declared.text.CowStr.{CowStr}
 use Rattle.cmark_inline_model.specs.PlacedTokens.{may_open_markup}
+use Rattle.cmark_inline.specs.Closers as closers
+use Rattle.cmark_inline.specs.Closers.{IsSaid}
+use Rattle.cmark_inline.specs.Decided.{ReadsSame}
 use Rattle.cmark_inline.specs.Come.{HasCome, HasEscaped, HasReached, IsPending}
 use Rattle.cmark_inline.specs.FoundInSource.{AppendsMarkup, AppendsUnclosed, ReadsLess}
 use Rattle.cmark_inline.specs.PlainStretches.{StandUpTo}
@@ -28,7 +34,7 @@ use Rattle.cmark_inline.specs.Reached.{ReadsPlaces}
 use Rattle.cmark_inline.specs.SlotViews.{shown_slots}
 use Rattle.cmark_inline.specs.Sound.{IsSound}
 use Rattle.cmark_inline.specs.SpecialReads.{OpensBracket, ReadsSpecial}
-use Rattle.cmark_inline.specs.Stands.{IsSlot, Moves}
+use Rattle.cmark_inline.specs.Stands.{Flushes, IsSlot, Moves}
 use Rattle.cmark_inline.specs.Tokens.{Appends, AppendsAutolink, AppendsQuote, AppendsRun, BeginsThere, Escapes, EscapesPipe, Passes, PassesOver, TakesEscaped, begins_at, reading, whole}
 use Rattle.cmark_inline.specs.declared.callback.BrokenLink.{BrokenLink}
 use Rattle.cmark_inline.specs.declared.slot.Element.TheVariants as element
@@ -38,10 +44,11 @@ use Rattle.cmark_inline.specs.declared.state.InlineState.{InlineState}
 use Rattle.cmark_inline.specs.declared.step.Cursor.{Cursor}
 use Rattle.cmark_inline.proofs.ComeAutolinks.{autolink-reached}
 use Rattle.cmark_inline.proofs.ComeBrackets.{opening-reached}
+use Rattle.cmark_inline.proofs.ComeClosers.{closing-reached}
 use Rattle.cmark_inline.proofs.ComeItems.{appends-reached, no-markup-at, other-token}
 use Rattle.cmark_inline.proofs.ComeMarks.{quote-reached, run-reached}
 use Rattle.cmark_inline.proofs.ComeMarkup.{markup-reached, unclosed-reached}
-use Rattle.cmark_inline.proofs.ComeTexts.{IsFree, escaped-begun, escaped-next, escaped-own, escapes-pending, escapes-stop, more-pending, passes-over-pending, passes-pending, pipe-pending, pipe-stop, tick-there}
+use Rattle.cmark_inline.proofs.ComeTexts.{IsFree, escaped-begun, escaped-next, escaped-own, escapes-pending, escapes-stop, held-pending, passes-over-pending, passes-pending, pipe-pending, pipe-stop, tick-there}
 use Rattle.cmark_inline.proofs.ItemSlots.{slot-like}
 use Rattle.cmark_inline.proofs.PendingReads.{flushed-reached, item-within}
 use Rattle.cmark_inline.proofs.PlainBytes.{breaks, content-there, ending-there, plain-tick}
@@ -333,3 +340,30 @@ module _ (leaf : LeafText) (reader : Reader) (read : Leaf) (place : ℕ → ℕ)
       come-special (inr (inr (inr (inr (inr (inl p)))))) = come-opens p
       come-special (inr (inr (inr (inr (inr (inr (inl p))))))) = come-over p
       come-special (inr (inr (inr (inr (inr (inr (inr p))))))) = come-pipe p
+
+      -- ## Closing brackets
+      pub come-closing : (later : F) (references : RefDefs) (footnotes : FootnoteDefs) → get_or text at 0 ≡ 93 → ReadsSame reader.options reader.lookup references footnotes leaf reader read place → Flushes start at old
+          → closers.Closes R reader.options reader.lookup references footnotes leaf text start at old new next now later → ((result : Result) → IsSaid result) → HasCome R leaf reader read place before initial next new later
+      come-closing later references footnotes byte same_reading flush closes said =
+          let never = λ (h : HasEscaped reader.options reader.lookup cell text m start cursor.at). (let q : 93 ≡ 96 = sym byte ∙ tick h in absurd (omega (arith, q))) in
+          let c = closing-reached leaf reader read place r R before initial now later here m old new next come.reached (held-there (ap is_content byte) never) lt byte references footnotes same_reading flush closes said in
+          record { from = next.at; reached = c.0; pending = inl (sym c.1, c.1) }
+
+    -- where no special byte is left
+    pub come-rest : cursor.at < length text → StandUpTo reader.options reader.lookup cell text cursor.at (length text) → HasCome R leaf reader read place before initial (record { pending = start; at = length text }) old now
+    come-rest lt stands =
+        let never = λ (h : HasEscaped reader.options reader.lookup cell text m start cursor.at). (let q = escaped-next reader.options reader.lookup cell text m start cursor.at h (length text) (omega (arith, lt)) (omega arith) stands in absurd (omega (arith, q, lt))) in
+        let order = come-order in
+        let reach = reaches-to reader.options reader.lookup cell text cursor.at (length text) (length text) (omega arith) stands (omega (arith, lt)) (omega arith) (λ j a b. absurd (omega (arith, a, b))) (λ some blank. ap (λ l. behind_ending (behind_blanks l)) none-left) in
+        record {
+          from = m;
+          reached = come.reached;
+          pending = held-pending reader.options reader.lookup cell text m (record { pending = start; at = length text }) (goes-on (length text) reach (λ h. absurd (never h))) (is-free never) (omega (arith, order, lt)) (omega arith) (λ over. absurd (omega (arith, over)));
+        }
+      where
+        none-left : drop (length text) text ≡ []
+        none-left = go (drop (length text) text) (length-drop (length text) text)
+          where
+            go : (l : List ℕ) → length l ≡ length text - length text → l ≡ []
+            go [] e = refl
+            go (x ∷ l) e = absurd (omega (arith, e))

@@ -76,3 +76,6 @@ pub mod ComeMarkup
 pub mod ComeClosers
 pub mod ComeSteps
 pub mod ComeEnds
+pub mod PlaceEnds
+pub mod ComeLoops
+pub mod ComeCalls

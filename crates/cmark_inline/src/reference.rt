@@ -29,7 +29,7 @@ ghost use Rattle.cmark_inline.specs.Sound.{AreEnded, CanSettle, IsSettled, IsSou
 ghost use Rattle.cmark_inline.specs.SpecialReads.{OpensBracket};
 ghost use Rattle.cmark_inline.specs.Tokens.{Passes, PutsBracket};
 ghost use Rattle.cmark_leaf_text.specs.declared.leaf_text.LeafText.{LeafText as LeafTexts};
-ghost use Rattle.cmark_inline.specs.Stands.{HoldNoLink, IsEnd, NoNewLink, AreSlots, AreBrackets, IsBracket, IsCursor, IsSlot, IsTarget, Moves, SameSpans, Stands, bytes_of};
+ghost use Rattle.cmark_inline.specs.Stands.{HoldNoLink, IsEnd, NoNewLink, AreSlots, AreBrackets, IsBracket, IsCursor, IsSlot, IsTarget, Moves, SameSpans, Stands, Flushes, bytes_of};
 
 use crate::bracket::Bracket;
 use crate::callback::{BrokenLink, BrokenLinkCallback};
@@ -134,6 +134,7 @@ impl<'a> InlineState<'a> {
         ensures spent { self.old.expansion ≡ 0 → (callback.new ≡ callback.old) × (self.new.expansion ≡ 0) }
         ensures moves { IfOk result (Moves text.now here.at self.new) }
         ensures footnotes { SameFootnotes footnotes.old footnotes.new }
+        ensures flushes { OnOk result (Flushes here.pending here.at self.old) }
         ensures closes { IfOk result (λ next. Closes F.answers (shown_options reader.now.options) (E.replacement reader.now.entities.now) reader.now.references.now footnotes.old leaf.now text.now here.pending here.at self.old self.new next callback.old callback.new) }
     {
         self.flush(text, here, here.at)?;

@@ -153,3 +153,15 @@ returns-clause-ends g c = λ e.
     let took : AreEnded leaf c.take_bracket-taken.new.self.slots.items = subst (λ (s : InlineState). AreEnded leaf s.slots.items) (sym c.take_bracket-taken.ensures.others) flushed in
     let tried = c.in_ok-next.ensures.ends took in
     (keeps-puts c.link.new.self c.put.new.self c.in_ok-next-4.ensures.others c.args.here.at c.args.here.at _ c.in_ok-next-4.ensures.slots ((refl, refl, refl), λ i. refl)).ends leaf (c.in_ok-next-3.ensures.ends leaf (c.in_ok-next-2.ensures.ends leaf tried))
+
+pub returns-in-Some-clause-flushes : goal.returns-in-Some-clause-flushes
+returns-in-Some-clause-flushes g c = record { flushed = c.flush.new.self; pushes = c.in_ok-flush.ensures.slots; others = c.in_ok-flush.ensures.others }
+
+pub returns-in-Some-2-clause-flushes : goal.returns-in-Some-2-clause-flushes
+returns-in-Some-2-clause-flushes g c = record { flushed = c.flush.new.self; pushes = c.in_ok-flush.ensures.slots; others = c.in_ok-flush.ensures.others }
+
+pub returns-in-Some-3-clause-flushes : goal.returns-in-Some-3-clause-flushes
+returns-in-Some-3-clause-flushes g c = record { flushed = c.flush.new.self; pushes = c.in_ok-flush.ensures.slots; others = c.in_ok-flush.ensures.others }
+
+pub returns-clause-flushes : goal.returns-clause-flushes
+returns-clause-flushes g c = record { flushed = c.flush.new.self; pushes = c.in_ok-flush.ensures.slots; others = c.in_ok-flush.ensures.others }

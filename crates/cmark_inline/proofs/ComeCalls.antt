@@ -1,0 +1,90 @@
+-- What a call that reads on behind the next special byte gives.
+use Rattle.std.specs.Prelude.{Option, IfOk, Ok, Err, Result as Answer}
+use Rattle.std.specs.List.{position_or_len}
+use Rattle.std.proofs.Common.{◌≡◌, ℕ, ◌+◌, ◌<◌, ◌≤◌, ◌==◌, Bool, true, false, List, length, drop, get_or, refl, sym, ap, ◌∙◌, subst, arith, length-drop}
+use Rattle.std.proofs.lemmas.List.{get_or-drop}
+use Rattle.std.proofs.lemmas.List.Sums.{passes_at_first}
+use Rattle.cmark_grammar.specs.Answers.{Lookup}
+use Rattle.cmark_grammar.specs.Options.{Options}
+use Rattle.cmark_grammar.specs.SpecialBytes.{is_special}
+use Rattle.cmark_items.specs.declared.definitions.RefDefs.{RefDefs}
+use Rattle.cmark_items.specs.declared.footnotes.FootnoteDefs.{FootnoteDefs}
+use Rattle.cmark_leaf_text.specs.Reads.{is_cell_of, text_of}
+use Rattle.cmark_leaf_text.specs.declared.leaf_text.LeafText.{LeafText}
+use Rattle.cmark_search.specs.Sets.{in_rows}
+use Rattle.cmark_text.specs.declared.text.CowStr.{CowStr}
+use Rattle.cmark_grammar.specs.LeafText.{Leaf}
+use Rattle.cmark_grammar.specs.Readers.{Reader}
+use Rattle.cmark_grammar.specs.Answers as answers
+use Rattle.cmark_inline.specs.Closers.{Closes}
+use Rattle.cmark_inline.specs.Come.{ComesOn, HasCome}
+use Rattle.cmark_inline.specs.Decided.{ReadsSame}
+use Rattle.cmark_inline.specs.PlainStretches.{IsSetOf, StandUpTo}
+use Rattle.cmark_inline.specs.Sound.{IsSound}
+use Rattle.cmark_inline.specs.SpecialReads.{ReadsSpecial}
+use Rattle.cmark_inline.specs.Stands.{Flushes, Moves}
+use Rattle.cmark_inline.specs.declared.callback.BrokenLink.{BrokenLink}
+use Rattle.cmark_inline.specs.declared.state.InlineState.{InlineState}
+use Rattle.cmark_inline.specs.declared.step.Cursor.{Cursor}
+use Rattle.cmark_inline.proofs.ComeSteps.{come-closing, come-rest, come-special}
+
+pub both-ok : {X E : Type 0} (r : Answer X E) (P Q S : X → Type 0) → ((x : X) → P x → Q x → S x) → IfOk r P → IfOk r Q → IfOk r S
+both-ok (Ok x) P Q S f p q = f x p q
+both-ok (Err e) P Q S f p q = tt
+
+module _ {F : Type 0} (R : F → BrokenLink → Option (CowStr × CowStr) → F → Type 0) (options : Options) (lookup : Lookup) (references : RefDefs) (footnotes : FootnoteDefs) (leaf : LeafText) (rows text : List ℕ) (same_text : text ≡ text_of leaf)
+    (cursor : Cursor) (old : InlineState) (at : ℕ) (set : IsSetOf options rows) (value : at ≡ cursor.at + position_or_len (in_rows rows) (drop cursor.at text)) (plain : (o : Options) (l : Lookup) (cell : Bool) → IsSetOf o rows → StandUpTo o l cell text cursor.at at)
+    (order : cursor.at ≤ at) (within : at ≤ length text) (ascii : at < length text → get_or text at 0 < 128) where
+  abbrev cell : Bool
+  cell = is_cell_of leaf
+
+  -- the byte there is special
+  special-there : (bytes : List ℕ) → text ≡ bytes → at < length bytes → is_special options (get_or bytes at 0) ≡ true
+  special-there bytes e lt = subst (λ t. is_special options (get_or t at 0) ≡ true) e (here (subst (λ t. at < length t) (sym e) lt))
+    where
+      here : at < length text → is_special options (get_or text at 0) ≡ true
+      here lt =
+          let n : ℕ = position_or_len (in_rows rows) (drop cursor.at text) in
+          let d = length-drop cursor.at text in
+          sym (set (get_or text at 0) (ascii lt))
+          ∙ ap (in_rows rows) (sym (get_or-drop cursor.at text n 0 ∙ ap (λ i. get_or text i 0) (sym value)))
+          ∙ passes_at_first (in_rows rows) (drop cursor.at text) 0 (let q : n < length (drop cursor.at text) = omega (arith, lt, value, d, order) in q)
+
+  module _ (reader : Reader) (read : Leaf) (place : ℕ → ℕ) (reads : ReadsSame options lookup references footnotes leaf reader read place) where
+    stands : StandUpTo reader.options reader.lookup cell (text_of leaf) cursor.at at
+    stands = subst (λ t. StandUpTo reader.options reader.lookup cell t cursor.at at) same_text (plain reader.options reader.lookup cell (subst (λ o. IsSetOf o rows) (sym reads.options_are) set))
+
+    reads-own : ReadsSame reader.options reader.lookup references footnotes leaf reader read place
+    reads-own = subst (λ o. ReadsSame o reader.lookup references footnotes leaf reader read place) (sym reads.options_are) (subst (λ l. ReadsSame options l references footnotes leaf reader read place) (sym reads.lookup_is) reads)
+
+  pub rest-comes : (now : F) (end : ℕ) → end ≡ length text → end ≤ at → cursor.at < length text → ComesOn R options lookup references footnotes leaf cursor (record { pending = cursor.pending; at = end }) old old now now
+  rest-comes now end e le lt = λ reader read place before initial reads places said come.
+      let size : end ≡ length (text_of leaf) = e ∙ ap length same_text in
+      let to : at ≡ length (text_of leaf) = (let m = ap length same_text in omega (arith, e, le, within, m)) in
+      subst (λ n. HasCome R leaf reader read place before initial (record { pending = cursor.pending; at = n }) old now) (sym size)
+      (come-rest leaf reader read place places reads.source R before initial now cursor old come (let m = ap length same_text in omega (arith, lt, m))
+      (subst (λ n. StandUpTo reader.options reader.lookup cell (text_of leaf) cursor.at n) to (stands reader read place reads)))
+
+  module _ (now : F) (new : InlineState) (next : Cursor) (lt : at < length text) (sound : IsSound old) (moves : Moves text at new next) where
+    own_lt : at < length (text_of leaf)
+    own_lt = let m = ap length same_text in omega (arith, lt, m)
+
+    own_moves : Moves (text_of leaf) at new next
+    own_moves = subst (λ t. Moves t at new next) same_text moves
+
+    own_special : is_special options (get_or (text_of leaf) at 0) ≡ true
+    own_special = special-there (text_of leaf) same_text own_lt
+
+    pub span-comes : (is_special options (get_or text at 0) ≡ true → (get_or text at 0 == 93) ≡ false → ReadsSpecial options lookup leaf (record { pending = cursor.pending; at = at }) old new next) → (get_or text at 0 == 93) ≡ false
+        → ComesOn R options lookup references footnotes leaf cursor next old new now now
+    span-comes token other = λ reader read place before initial reads places said come.
+        let own = token (special-there text refl lt) other in
+        come-special leaf reader read place places reads.source R before initial now cursor old come at order own_lt (stands reader read place reads) (ap (λ o. is_special o (get_or (text_of leaf) at 0)) reads.options_are ∙ own_special) new next sound own_moves
+        (subst (λ o. ReadsSpecial o reader.lookup leaf (record { pending = cursor.pending; at = at }) old new next) (sym reads.options_are) (subst (λ l. ReadsSpecial options l leaf (record { pending = cursor.pending; at = at }) old new next) (sym reads.lookup_is) own))
+
+    pub close-comes : (later : F) → get_or text at 0 ≡ 93 → Flushes cursor.pending at old → Closes R options lookup references footnotes leaf text cursor.pending at old new next now later → ComesOn R options lookup references footnotes leaf cursor next old new now later
+    close-comes later byte flush closes = λ reader read place before initial reads places said come.
+        come-closing leaf reader read place places reads.source R before initial now cursor old come at order own_lt (stands reader read place reads) (ap (λ o. is_special o (get_or (text_of leaf) at 0)) reads.options_are ∙ own_special) new next sound own_moves
+        later references footnotes (ap (λ t. get_or t at 0) (sym same_text) ∙ byte) (reads-own reader read place reads) flush
+        (subst (λ t. Closes R reader.options reader.lookup references footnotes leaf t cursor.pending at old new next now later) same_text
+        (subst (λ o. Closes R o reader.lookup references footnotes leaf text cursor.pending at old new next now later) (sym reads.options_are) (subst (λ l. Closes R options l references footnotes leaf text cursor.pending at old new next now later) (sym reads.lookup_is) closes))) said
