@@ -31,6 +31,7 @@ use Rattle.cmark_inline_model.specs.TextPlaces.{ArePlaces}
 use Rattle.cmark_inline.specs.Decided.{ComesTo, EndsWithin, IsCloser, ReadsSame, Remembers, TargetDecides, target_outcome, with_left}
 use Rattle.cmark_inline.specs.Doubled as stacks
 use Rattle.cmark_inline.specs.Footnoted.{KeepsLabel, footnote_of, forms_footnote}
+use Rattle.cmark_inline.specs.Hiding.{WritesReference}
 use Rattle.cmark_inline.specs.SlotViews.{shown_parts}
 use Rattle.cmark_inline.specs.Sound.{IsTakenFrom}
 use Rattle.cmark_inline.specs.Stands.{IsBracket}
@@ -47,6 +48,7 @@ use Rattle.cmark_inline.specs.declared.step.Cursor.{Cursor}
 use Rattle.cmark_inline.proofs.AfterSteps.{IsTried, TriedAs, footnote-formed, image-formed, link-formed, tried-as, tried-one, tried_by, wikilink-formed}
 use Rattle.cmark_inline.proofs.BracketSteps.{Takes, takes, and-right, fresh-past, placed-lower, tried-rest, tried-standing}
 use Rattle.cmark_inline.proofs.ClosingReads.{IsFlushed, SameRows, comes-any, link-reads, rows-on}
+use Rattle.cmark_inline.proofs.HidingReads.{footnote-reads}
 use Rattle.cmark_inline.proofs.TargetSteps.{behind-is, closer-end, footnote-named, next-of, there-same}
 
 abbrev pub with_openers : List Opener → State → State
@@ -306,8 +308,10 @@ module _ (options : Options) (lookup : Lookup) (references : RefDefs) (footnotes
     -- a footnote reference
     pub footnote-closes : (mid : InlineState) (taken : Option Bracket) → IsReady mid.brackets mid.doubled → TakenAs place bs tk taken → Remembers text place s mid → true ≡ forms_footnote options footnotes (footnote_of options (is_cell_of leaf) (is_there close mid.shut_close) text close taken)
         → IfSome taken (λ b. b.inside ≤ close) → IfSome taken (λ b. LeavesFootnote b.start mid new) → Remembers text place s new → next.at ≡ close + 1 → next.pending ≡ next.at → after ≡ before
-        → IfSome (footnote_of options (is_cell_of leaf) (is_there close mid.shut_close) text close taken) (λ label. KeepsLabel label mid.texts.items new.texts.items) → mid.texts ≡ old.texts → Goal
-    footnote-closes mid taken ready takes m0 formed up leaves m at pending same_callback keeps texts = go taken refl tk refl
+        → IfSome (footnote_of options (is_cell_of leaf) (is_there close mid.shut_close) text close taken) (λ label. KeepsLabel label mid.texts.items new.texts.items) → mid.texts ≡ old.texts
+        → (mine : InlineState) → IsFlushed from close old mine → SameRows mine mid
+        → IfSome taken (λ b. IfSome (footnote_of options (is_cell_of leaf) (is_there close mid.shut_close) text close taken) (λ label. WritesReference b (normal_form label) (close + 1) mid new)) → Goal
+    footnote-closes mid taken ready takes m0 formed up leaves m at pending same_callback keeps texts mine flushed rows writes = go taken refl tk refl
       where
         lt : close < next.at
         lt = let q = at in omega (arith, q)
@@ -322,31 +326,37 @@ module _ (options : Options) (lookup : Lookup) (references : RefDefs) (footnotes
             let i = taken_is t taken b (subst (λ d. TakenAs place bs d taken) f takes) e in
             let le = subst (λ (o : Option Bracket). IfSome o (λ b. b.inside ≤ close)) e up in
             let leaving = subst (λ (o : Option Bracket). IfSome o (λ b. LeavesFootnote b.start mid new)) e leaves in
-            by i le leaving (subst (λ (o : Option Bracket). IfSome (note_of o) (λ label. KeepsLabel label mid.texts.items new.texts.items)) e keeps) (note_of (Some b)) refl (formed ∙ ap (λ b. forms_footnote options footnotes (note_of b)) e)
+            by i le leaving (subst (λ (o : Option Bracket). IfSome (note_of o) (λ label. KeepsLabel label mid.texts.items new.texts.items)) e keeps)
+            (subst (λ (o : Option Bracket). IfSome o (λ b. IfSome (note_of o) (λ label. WritesReference b (normal_form label) (close + 1) mid new))) e writes) (note_of (Some b)) refl (formed ∙ ap (λ b. forms_footnote options footnotes (note_of b)) e)
           where
             s2 : State
             s2 = with_openers ready.openers s
 
-            by : (t.opener.is_inactive ≡ false) × (drop t.nearer bs ≡ b ∷ drop (suc t.nearer) bs) × IsPlaced place t.opener b → b.inside ≤ close → LeavesFootnote b.start mid new → IfSome (note_of (Some b)) (λ label. KeepsLabel label mid.texts.items new.texts.items) → (n : Option (List ℕ)) → note_of (Some b) ≡ n → true ≡ forms_footnote options footnotes n → Goal
-            by i le leaving kept None g h = absurd (true≢false h)
-            by i le leaving kept (Some note) g h =
+            by : (t.opener.is_inactive ≡ false) × (drop t.nearer bs ≡ b ∷ drop (suc t.nearer) bs) × IsPlaced place t.opener b → b.inside ≤ close → LeavesFootnote b.start mid new → IfSome (note_of (Some b)) (λ label. KeepsLabel label mid.texts.items new.texts.items)
+                → IfSome (note_of (Some b)) (λ label. WritesReference b (normal_form label) (close + 1) mid new) → (n : Option (List ℕ)) → note_of (Some b) ≡ n → true ≡ forms_footnote options footnotes n → Goal
+            by i le leaving kept written None g h = absurd (true≢false h)
+            by i le leaving kept written (Some note) g h =
+                let made = subst (λ (o : Option (List ℕ)). IfSome o (λ label. WritesReference b (normal_form label) (close + 1) mid new)) g written in
                 let owned = subst (λ (o : Option (List ℕ)). IfSome o (λ label. KeepsLabel label mid.texts.items new.texts.items)) g kept in
                 let w = c.within in
                 let shut = there-same reader read text place p close closer.start mid.shut_close s.label_close (let q : close ≤ length text = omega (arith, w) in q) m0.within c.start m0.label in
+                let to : Outcome = forms reader read t (Footnote (normal_form note) closer.end) closer.end (map dropped) s2 in
+                let comes : ComesTo R (decide reader read s closer) to before after = subst (λ (d : Decision). ComesTo R d to before after)
+                (sym (decide-is reader read s closer ∙ ready.decision ∙ ap (λ d. with_taken reader read d closer s2) f
+                ∙ ap (λ z. if z then Settled (stays reader read closer s2) else link_or reader read (link_tail_in (decisions.behind reader read closer.end)) t closer s2) i.0
+                ∙ footnote-named options (is_cell_of leaf) reader read text place p r.options_are r.cell close closer c t b i.2 le footnotes s2 (is_there close mid.shut_close) note shut r.footnotes_are g (sym h)))
+                (refl, same_callback) in
                 record {
                   outcome = forms reader read t (Footnote (normal_form note) closer.end) closer.end (map dropped) s2;
-                  comes = subst (λ (d : Decision). ComesTo R d (forms reader read t (Footnote (normal_form note) closer.end) closer.end (map dropped) s2) before after)
-                      (sym (decide-is reader read s closer ∙ ready.decision ∙ ap (λ d. with_taken reader read d closer s2) f
-                      ∙ ap (λ z. if z then Settled (stays reader read closer s2) else link_or reader read (link_tail_in (decisions.behind reader read closer.end)) t closer s2) i.0
-                      ∙ footnote-named options (is_cell_of leaf) reader read text place p r.options_are r.cell close closer c t b i.2 le footnotes s2 (is_there close mid.shut_close) note shut r.footnotes_are g (sym h)))
-                      (refl, same_callback);
+                  comes = comes;
                   at = closer-end reader read text place p close closer c ∙ ap place (sym at);
                   pending = pending;
                   shows = shown (map dropped (drop (suc t.nearer) ready.openers)) (drop (suc t.nearer) bs) (forms reader read t (Footnote (normal_form note) closer.end) closer.end (map dropped) s2).after refl lt
                       (footnote-formed options.wikilinks place close close t.nearer ready.openers bs b mid.brackets mid.doubled ready.view here i.1 new.brackets new.doubled leaving.none leaving.drops)
                       (record { expansion = m.expansion; label = m.label; within = m.within });
                   notes = (owned.0, owned.1, owned.2 ∙ ap (λ v. v.items ++ (owned.0 ∷ [])) texts);
-                  reads = λ said. absurd said;
+                  reads = λ said.
+                      footnote-reads leaf reader read place closer s bs from close old mine mid new flushed rows text same c t.opener b i.2 le (normal_form note) made t.nearer i.1 to.after (comes-any R (decide reader read s closer) to s.asked before after comes);
                 }
 
     -- a link or an image, or nothing
