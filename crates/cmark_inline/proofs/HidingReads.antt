@@ -82,8 +82,8 @@ module _ (leaf : LeafText) (reader : Reader) (read : Leaf) (place : ℕ → ℕ)
         end = ap (λ n. place_of leaf n + 1) last ∙ ap (λ n. n + 1) b ∙ (let q : place k + 1 ≡ suc (place k) = omega arith in q);
         event = ap event.Text (
             one-of (text_of leaf) k (k + 1) (let q : k + 1 ≡ suc k = omega arith in q) within
-                ∙ ap (λ x. x ∷ []) (sym (places.places.bytes k within))
-                ∙ sym (one-of reader.source (place k) (suc (place k)) refl (places.places.inside k within)));
+            ∙ ap (λ x. x ∷ []) (sym (places.places.bytes k within))
+            ∙ sym (one-of reader.source (place k) (suc (place k)) refl (places.places.inside k within)));
       }
 
   -- the `[` behind a `!`
@@ -202,11 +202,14 @@ module _ (leaf : LeafText) (reader : Reader) (read : Leaf) (place : ℕ → ℕ)
       record {
         row = row.BeginSlot (wiki_tag b.is_image name false) (place b.start) (suc closer.end) ∷ ((nothing ++ (row.ItemSlot shows ∷ [])) ++ (row.EndSlot ∷ []));
         laid = own-laid (wiki_tag b.is_image name false) (place b.start) (suc closer.end) at (name_text (bracket_place place b).bracket closer) shows nothing none refl;
-        like = (begin-is (wiki_tag b.is_image name false), like-around reader.source nothing (item_slot items.Own (place_of leaf (inner + 1)) source_end) (row.ItemSlot shows) none (record {
-          start = from;
-          end = to;
-          event = ap (λ n. event.Text (slice reader.source n source_end)) from ∙ ap (λ n. event.Text (slice reader.source (suc (place b.inside)) n)) to;
-        }));
+        like = (
+          begin-is (wiki_tag b.is_image name false),
+          like-around reader.source nothing (item_slot items.Own (place_of leaf (inner + 1)) source_end) (row.ItemSlot shows) none (record {
+            start = from;
+            end = to;
+            event = ap (λ n. event.Text (slice reader.source n source_end)) from ∙ ap (λ n. event.Text (slice reader.source (suc (place b.inside)) n)) to;
+          }),
+        );
       }
 
 -- ## The steps
