@@ -1,6 +1,7 @@
 -- What the grammar's pass has read with a closing bracket that forms what shows nothing of what stands between its brackets.
 use Rattle.std.specs.Prelude.{drop, take, Option, Some, None}
-use Rattle.std.proofs.Common.{◌≡◌, ℕ, zero, suc, ◌+◌, ◌-◌, ◌<◌, ◌≤◌, Bool, true, false, if◌then◌else◌, List, [], ◌∷◌, ◌++◌, length, get_or, refl, sym, ap, subst, ◌∙◌, arith, append-nil}
+use Rattle.std.proofs.lemmas.Bool.{cases_lt, eq-eqb}
+use Rattle.std.proofs.Common.{◌≡◌, ◌⊎◌, inl, inr, ◌==◌, ℕ, zero, suc, ◌+◌, ◌-◌, ◌<◌, ◌≤◌, Bool, true, false, if◌then◌else◌, List, [], ◌∷◌, ◌++◌, length, get_or, refl, sym, ap, subst, ◌∙◌, arith, append-nil}
 use Rattle.std.proofs.Math.Seq.{drop-cons}
 use Rattle.cmark_grammar.specs.BracketDecisions.{decide, name_in, behind_pipe}
 use Rattle.cmark_grammar.specs.BracketReading.{Comes}
@@ -16,14 +17,15 @@ use Rattle.cmark_grammar.specs.Parts.{Parts, Nil, Form, Footnote, Wiki}
 use Rattle.cmark_grammar.specs.Questions.{AnyAnswer}
 use Rattle.cmark_grammar.specs.Readers.{Reader}
 use Rattle.cmark_grammar.specs.Siblings as siblings
-use Rattle.cmark_grammar.specs.Siblings.{Inline, footnote_then, item, name_text, quotes_of, wiki_tag}
-use Rattle.cmark_grammar.specs.SiblingsModel.{siblings_of}
+use Rattle.cmark_grammar.specs.Siblings.{Inline, display_from, footnote_then, from_place, item, name_text, quotes_of, wiki_tag}
+use Rattle.cmark_grammar.specs.SiblingsModel.{dress, siblings_of}
 use Rattle.cmark_grammar.specs.Tag.{Tag}
 use Rattle.cmark_grammar.specs.Tokens.{slice}
-use Rattle.cmark_leaf_text.specs.Reads.{place_of, text_of}
+use Rattle.cmark_leaf_text.specs.Reads.{IsFirstFrom, place_of, text_of}
 use Rattle.cmark_leaf_text.specs.declared.leaf_text.LeafText.{LeafText}
 use Rattle.cmark_text.specs.declared.text.CowStr.{CowStr}
 use Rattle.cmark_inline_model.specs.LikeSlots.{AreLike, IsLike}
+use Rattle.cmark_inline_model.specs.PartLists.{Cut}
 use Rattle.cmark_inline_model.specs.RowParts.{runs_in}
 use Rattle.cmark_inline_model.specs.RowPasses.{StandsFor}
 use Rattle.cmark_inline_model.specs.SlotRows as row
@@ -35,7 +37,7 @@ use Rattle.cmark_inline.specs.Doubled.{nearest}
 use Rattle.cmark_inline.specs.Hiding.{WritesReference, WritesWikilink, mark_before, mark_slot, shown_reference}
 use Rattle.cmark_inline.specs.Reached.{HasRead, ReadsPlaces, bracket_place}
 use Rattle.cmark_inline.specs.SlotViews.{first_of, item_slot, shown_slot, shown_slots}
-use Rattle.cmark_inline.specs.Sound.{IsSound}
+use Rattle.cmark_inline.specs.Sound.{IsSound, IsTakenPair}
 use Rattle.cmark_inline.specs.Stands.{Stands}
 use Rattle.cmark_inline.specs.Wikilinks.{ShowsFrom, display_place, has_pothole, shown_name, wiki_start, wiki_text}
 use Rattle.cmark_inline.specs.declared.bracket.Bracket.{Bracket}
@@ -43,6 +45,7 @@ use Rattle.cmark_inline.specs.declared.link.LinkParts.{LinkParts}
 use Rattle.cmark_inline.specs.declared.slot.Slot.{Slot}
 use Rattle.cmark_inline.specs.declared.slot.SlotKind.TheVariants as kind
 use Rattle.cmark_inline.specs.declared.state.InlineState.{InlineState}
+use Rattle.cmark_inline.specs.declared.wikilink.Wikilink.{Wikilink}
 use Rattle.cmark_inline.proofs.AfterSteps.{IsTried}
 use Rattle.cmark_inline.proofs.ClosingReads.{IsFlushed, SameRows, opener-first, read-before}
 use Rattle.cmark_inline.proofs.LinkSteps.{formed-read}
@@ -165,6 +168,21 @@ no-display leaf None None e h = refl
 no-display leaf None (Some at) e h = absurd h
 no-display leaf (Some place) at e h = absurd (let z : ⊥ = cc in z)
 
+-- the first byte at the place of the closing bracket or behind it is that bracket
+first-closing : (leaf : LeafText) (reader : Reader) (read : Leaf) (place : ℕ → ℕ) (places : ReadsPlaces leaf reader read place) (close : ℕ) (closer : items.Bracket) → close < length (text_of leaf) → closer.start ≡ place close → (display shown_place : ℕ) → display ≡ closer.start
+    → IsFirstFrom leaf display shown_place → shown_place ≡ close
+first-closing leaf reader read place places close closer within start display shown_place e h = go (cases_lt shown_place close) (cases_lt close shown_place)
+  where
+    go : (shown_place < close) ⊎ (close ≤ shown_place) → (close < shown_place) ⊎ (shown_place ≤ close) → shown_place ≡ close
+    go (inl lt) other =
+        let n : shown_place < length (text_of leaf) = omega (arith, lt, within) in
+        let behind = h.behind shown_place (omega arith) n in
+        let low = places.bytes shown_place n in
+        let order = places.places.places.order shown_place close lt (omega (arith, within)) in
+        absurd (omega (arith, behind, low, order, start, e))
+    go (inr ge) (inl lt) = let early = h.before close lt in let a = places.bytes close within in absurd (omega (arith, early, a, e, start))
+    go (inr ge) (inr le) = omega (arith, ge, le)
+
 module _ (leaf : LeafText) (reader : Reader) (read : Leaf) (place : ℕ → ℕ) (places : ReadsPlaces leaf reader read place) (text : List ℕ) (same : text ≡ text_of leaf) (close : ℕ) (closer : items.Bracket) (c : IsCloser text place close closer) (past : close + 1 < length text) (b : Bracket)
     (inner : ℕ) (before : inner + 1 ≤ close) (meets : place inner ≡ place b.inside) (follows : place (inner + 1) ≡ suc (place inner)) (name : List ℕ) (first : ℕ) (starts : first ≡ place b.start) (nothing : List row.Slot) (none : seen nothing ≡ []) (inside : Parts) (at : ℕ) where
   two-within : close + 1 < length (text_of leaf)
@@ -212,6 +230,33 @@ module _ (leaf : LeafText) (reader : Reader) (read : Leaf) (place : ℕ → ℕ)
         );
       }
 
+  -- nothing, where the pipe stands directly before the closing bracket
+  pub empty-stands : (source_end shown_place display : ℕ) → shown_place ≡ close → display ≡ closer.start
+      → StandsFor reader at (Form (bracket_place place b).bracket inside closer (Wiki name (Some display) (suc closer.end)) Nil)
+      (row.BeginSlot (wiki_tag b.is_image name true) first (place_of leaf (close + 1) + 1) ∷ ((nothing ++ shown_slots leaf [] [] (shown_name doubled close source_end (Some shown_place))) ++ (row.EndSlot ∷ []))) [] []
+  empty-stands source_end shown_place display shown_is display_is =
+      let there : (display == closer.start) ≡ true = eq-eqb display closer.start display_is in
+      let here : (shown_place == close) ≡ true = eq-eqb shown_place close shown_is in
+      let shows = item items.Own display display in
+      let inner : Bool → Inline = λ z. if z then siblings.Single shows siblings.Nil else from_place display (siblings_of reader.options inside) in
+      let first_is : place_of leaf close ≡ display = at-close ∙ sym display_is in
+      let empty : row.Slot = item_slot (items.Written []) (place_of leaf close) (place_of leaf close) in
+      let like : IsLike reader.source empty (row.ItemSlot shows) = record {
+        start = first_is;
+        end = first_is;
+        event = ap event.Text (sym (ap (λ n. take n (drop display reader.source)) (let q : display - display ≡ 0 = omega arith in q)));
+      } in
+      let tag = wiki_tag b.is_image name true in
+      let own : List Slot = record { kind = kind.Empty; start = close; end = close + 1 } ∷ [] in
+      let stands : StandsFor reader at (Form (bracket_place place b).bracket inside closer (Wiki name (Some display) (suc closer.end)) Nil) (row.BeginSlot tag first (place_of leaf (close + 1) + 1) ∷ ((nothing ++ (empty ∷ [])) ++ (row.EndSlot ∷ []))) [] [] = record {
+        row = row.BeginSlot tag (place b.start) (suc closer.end) ∷ ((nothing ++ (row.ItemSlot shows ∷ [])) ++ (row.EndSlot ∷ []));
+        laid = own-laid tag (place b.start) (suc closer.end) at (dress reader.options (display_from display closer.start (siblings_of reader.options inside))) shows nothing none
+            (sym (ap (λ z. slots_of (dress reader.options (inner z))) there));
+        like = (begin-is tag, like-around reader.source nothing empty (row.ItemSlot shows) none like);
+      } in
+      subst (λ l. StandsFor reader at (Form (bracket_place place b).bracket inside closer (Wiki name (Some display) (suc closer.end)) Nil) (row.BeginSlot tag first (place_of leaf (close + 1) + 1) ∷ ((nothing ++ shown_slots leaf [] [] l) ++ (row.EndSlot ∷ []))) [] [])
+      (sym (ap (λ z. if z then own else []) here)) stands
+
 -- ## The steps
 
 module _ (leaf : LeafText) (reader : Reader) (read : Leaf) (place : ℕ → ℕ) (closer : items.Bracket) (s : State) (bs : List Bracket) (from close : ℕ) (old mine st new : InlineState) (is : IsFlushed from close old mine) (rows : SameRows mine st) where
@@ -230,32 +275,68 @@ module _ (leaf : LeafText) (reader : Reader) (read : Leaf) (place : ℕ → ℕ)
       (λ cut. (no-runs cut.opener.is_image cut.opener.start label closer.end, no-quotes cut.opener.is_image cut.opener.start label closer.end))
       (writes.slots leaf) writes.forgets.runs writes.forgets.quotes
 
-  -- a wikilink
-  pub wikilink-reads : (text : List ℕ) → text ≡ text_of leaf → IsCloser text place close closer → close + 1 < length text → (first : Taken) (i : IsTried place close bs first (nearest st.doubled)) → IsSound st → Stands text close st
-      → (options : Options) → WritesWikilink options leaf text (record i.bracket { inside = i.inner + 1 }) close st new → (name : List ℕ) → name ≡ name_in (wiki_text leaf (record i.bracket { inside = i.inner + 1 }) close)
-      → (display : Option ℕ) → display ≡ behind_pipe (wiki_start leaf (record i.bracket { inside = i.inner + 1 })) (wiki_text leaf (record i.bracket { inside = i.inner + 1 }) close)
-      → (next : State) → Comes AnyAnswer s.asked (decide reader read s closer) (record { result = Forms first.nearer (Wiki name display (suc closer.end)); after = next }) → IsSaid (Forms first.nearer (Wiki name display (suc closer.end)))
-      → ReadsOn leaf reader read place from close closer s bs (record { result = Forms first.nearer (Wiki name display (suc closer.end)); after = next }) old new
-  wikilink-reads text same c past first i sound stands options writes name name_is (Some display) display_is next comes said = absurd said
-  wikilink-reads text same c past first i sound stands options writes name name_is None display_is next comes said = λ places t before pass flushed state_is pushes others h.
-      let b : Bracket = i.bracket in
-      let doubled : Bracket = record b { inside = i.inner + 1 } in
-      let made = Wiki name None (suc closer.end) in
-      let pair = is-pair (length st.texts.items) (length st.links.items) st.slots.items st.delimiters.placed.items st.quotes.placed.items st.brackets.standing.items st.doubled.standing.items sound doubled (last-nearest st.doubled _ i.is) in
-      let shown_none = no-display leaf (behind_pipe (wiki_start leaf doubled) (wiki_text leaf doubled close)) writes.wikilink.display (sym display_is) writes.is.display in
-      let own = shows-own options text doubled close writes.wikilink st new writes.writes pair.placed.there stands.slots (length st.texts.items) (length st.links.items) st.brackets.standing.items st.doubled.standing.items sound (ap (display_place close) shown_none) in
-      let read_so = read-before leaf reader read place closer s bs from close old mine st new is rows before pass flushed pushes others h in
-      let starts = opener-first leaf reader read place before pass bs st read_so b first.nearer i.there pair.placed.there no-slot (pair.placed.text no-slot) in
-      let begins : List ℕ → Option ℕ → List row.Slot = λ n o. row.BeginSlot (wiki_tag b.is_image n (has_pothole o)) (first_of leaf (get_or st.slots.items b.slot no-slot)) (place_of leaf (close + 1) + 1)
-      ∷ ((own.nothing ++ shown_slots leaf [] [] (shown_name doubled close writes.wikilink.source_end o)) ++ (row.EndSlot ∷ [])) in
-      let named : writes.wikilink.name.now ≡ name = writes.is.name ∙ sym name_is in
-      formed-read leaf reader read place before pass bs st new read_so b closer first.nearer made next i.there
-      (ap (λ (x : State). token reader read x.at) state_is ∙ t)
-      (subst (λ (x : State). Comes AnyAnswer x.asked (decide reader read x closer) (record { result = Forms first.nearer made; after = next })) (sym state_is) comes)
-      (begins name None)
-      (λ cut found opener. subst (λ (x : items.Bracket). StandsFor reader b.slot (Form x cut.inside closer made Nil) (begins name None) [] []) (sym opener)
-      (name-stands leaf reader read place places text same close closer c past b i.inner i.before (i.meets ∙ ap (λ (x : items.Bracket). x.end) i.placed.bracket) i.next name (first_of leaf (get_or st.slots.items b.slot no-slot)) starts own.nothing own.none cut.inside b.slot
-      writes.wikilink.source_end writes.is.ends))
-      (λ cut. (refl, refl))
-      (own.slots leaf no-slot ∙ ap (λ l. take b.slot (shown_slots leaf st.texts.items st.links.items st.slots.items) ++ l) (ap (λ n. begins n writes.wikilink.display) named ∙ ap (begins name) shown_none))
-      writes.writes.forgets.runs writes.writes.forgets.quotes
+  module _ (text : List ℕ) (same : text ≡ text_of leaf) (c : IsCloser text place close closer) (past : close + 1 < length text) (first : Taken) (i : IsTried place close bs first (nearest st.doubled)) (sound : IsSound st) (stands : Stands text close st)
+      (options : Options) (writes : WritesWikilink options leaf text (record i.bracket { inside = i.inner + 1 }) close st new) (name : List ℕ) (name_is : name ≡ name_in (wiki_text leaf (record i.bracket { inside = i.inner + 1 }) close)) where
+    abbrev b : Bracket
+    b = i.bracket
+
+    abbrev entry : Bracket
+    entry = record b { inside = i.inner + 1 }
+
+    abbrev wikilink : Wikilink
+    wikilink = writes.wikilink
+
+    pair : IsTakenPair st.slots.items st.delimiters.placed.items st.quotes.placed.items st.brackets.standing.items entry
+    pair = is-pair (length st.texts.items) (length st.links.items) st.slots.items st.delimiters.placed.items st.quotes.placed.items st.brackets.standing.items st.doubled.standing.items sound entry (last-nearest st.doubled _ i.is)
+
+    abbrev first_place : ℕ
+    first_place = first_of leaf (get_or st.slots.items b.slot no-slot)
+
+    -- its slots, around those that are nothing and the one that it shows
+    abbrev around : List row.Slot → List ℕ → Option ℕ → List row.Slot
+    around nothing n shown = row.BeginSlot (wiki_tag b.is_image n (has_pothole shown)) first_place (place_of leaf (close + 1) + 1) ∷ ((nothing ++ shown_slots leaf [] [] (shown_name entry close wikilink.source_end shown)) ++ (row.EndSlot ∷ []))
+
+    own-reads : (display shown : Option ℕ) → wikilink.display ≡ shown → display_place close shown ≡ close
+        → ((nothing : List row.Slot) → seen nothing ≡ [] → ReadsPlaces leaf reader read place → first_place ≡ place b.start → (inside : Parts) → StandsFor reader b.slot (Form (bracket_place place b).bracket inside closer (Wiki name display (suc closer.end)) Nil) (around nothing name shown) [] [])
+        → ((cut : Cut) → (runs_in (siblings_of reader.options (Form cut.opener cut.inside closer (Wiki name display (suc closer.end)) Nil)) ≡ []) × (quotes_of (siblings_of reader.options (Form cut.opener cut.inside closer (Wiki name display (suc closer.end)) Nil)) ≡ []))
+        → (next : State) → Comes AnyAnswer s.asked (decide reader read s closer) (record { result = Forms first.nearer (Wiki name display (suc closer.end)); after = next })
+        → ReadsOn leaf reader read place from close closer s bs (record { result = Forms first.nearer (Wiki name display (suc closer.end)); after = next }) old new
+    own-reads display shown shown_is ends stand_for hides next comes = λ places t before pass flushed state_is pushes others h.
+        let made = Wiki name display (suc closer.end) in
+        let own = shows-own options text entry close wikilink st new writes.writes pair.placed.there stands.slots (length st.texts.items) (length st.links.items) st.brackets.standing.items st.doubled.standing.items sound (ap (display_place close) shown_is ∙ ends) in
+        let read_so = read-before leaf reader read place closer s bs from close old mine st new is rows before pass flushed pushes others h in
+        let starts = opener-first leaf reader read place before pass bs st read_so b first.nearer i.there pair.placed.there no-slot (pair.placed.text no-slot) in
+        let named : wikilink.name.now ≡ name = writes.is.name ∙ sym name_is in
+        formed-read leaf reader read place before pass bs st new read_so b closer first.nearer made next i.there
+        (ap (λ (x : State). token reader read x.at) state_is ∙ t)
+        (subst (λ (x : State). Comes AnyAnswer x.asked (decide reader read x closer) (record { result = Forms first.nearer made; after = next })) (sym state_is) comes)
+        (around own.nothing name shown)
+        (λ cut found opener. subst (λ (x : items.Bracket). StandsFor reader b.slot (Form x cut.inside closer made Nil) (around own.nothing name shown) [] []) (sym opener) (stand_for own.nothing own.none places starts cut.inside))
+        hides
+        (own.slots leaf no-slot ∙ ap (λ l. take b.slot (shown_slots leaf st.texts.items st.links.items st.slots.items) ++ l) (ap (λ n. around own.nothing n wikilink.display) named ∙ ap (around own.nothing name) shown_is))
+        writes.writes.forgets.runs writes.writes.forgets.quotes
+
+    meets : place i.inner ≡ place b.inside
+    meets = i.meets ∙ ap (λ (x : items.Bracket). x.end) i.placed.bracket
+
+    -- a wikilink
+    pub wikilink-reads : (display : Option ℕ) → display ≡ behind_pipe (wiki_start leaf entry) (wiki_text leaf entry close) → (next : State)
+        → Comes AnyAnswer s.asked (decide reader read s closer) (record { result = Forms first.nearer (Wiki name display (suc closer.end)); after = next }) → IsSaid (Forms first.nearer (Wiki name display (suc closer.end)))
+        → ReadsOn leaf reader read place from close closer s bs (record { result = Forms first.nearer (Wiki name display (suc closer.end)); after = next }) old new
+    wikilink-reads None display_is next comes said =
+        own-reads None None (no-display leaf (behind_pipe (wiki_start leaf entry) (wiki_text leaf entry close)) wikilink.display (sym display_is) writes.is.display) refl
+        (λ nothing none places starts inside. name-stands leaf reader read place places text same close closer c past b i.inner i.before meets i.next name first_place starts nothing none inside b.slot wikilink.source_end writes.is.ends)
+        (λ cut. (refl, refl)) next comes
+    wikilink-reads (Some place_behind) display_is next comes said = go wikilink.display refl
+      where
+        starts_there : place_behind ≡ closer.start
+        starts_there = let e = said in let a = c.start in let b = c.end in omega (arith, e, a, b)
+
+        go : (shown : Option ℕ) → wikilink.display ≡ shown → ReadsOn leaf reader read place from close closer s bs (record { result = Forms first.nearer (Wiki name (Some place_behind) (suc closer.end)); after = next }) old new
+        go None shown_is = absurd (subst (λ o. ShowsFrom leaf o None) (sym display_is) (subst (ShowsFrom leaf (behind_pipe (wiki_start leaf entry) (wiki_text leaf entry close))) shown_is writes.is.display))
+        go (Some shown_place) shown_is = λ places.
+            let from_there : IsFirstFrom leaf place_behind shown_place = subst (λ o. ShowsFrom leaf o (Some shown_place)) (sym display_is) (subst (ShowsFrom leaf (behind_pipe (wiki_start leaf entry) (wiki_text leaf entry close))) shown_is writes.is.display) in
+            let at : shown_place ≡ close = first-closing leaf reader read place places close closer (subst (λ (l : List ℕ). close < length l) same c.within) c.start place_behind shown_place starts_there from_there in
+            own-reads (Some place_behind) (Some shown_place) shown_is at
+            (λ nothing none places starts inside. empty-stands leaf reader read place places text same close closer c past b i.inner i.before meets i.next name first_place starts nothing none inside b.slot wikilink.source_end shown_place place_behind at starts_there)
+            (λ cut. (refl, refl)) next comes places
