@@ -26,6 +26,7 @@ use Rattle.cmark_inline.specs.Stands.{AreSlots}
 use Rattle.cmark_inline.specs.Wikilinks.{Hides, IsNamed, Shows, cut_at, display_place, has_pothole, hidden, shown_name}
 use Rattle.cmark_inline.specs.Written.{Forgets, dressed_behind, end_slot, wrapped}
 use Rattle.cmark_inline.specs.declared.bracket.Bracket.{Bracket}
+use Rattle.cmark_inline.specs.declared.bracket.Brackets.{Brackets}
 use Rattle.cmark_inline.specs.declared.delimiter.PlacedRun.{PlacedRun}
 use Rattle.cmark_inline.specs.declared.link.LinkParts.{LinkParts}
 use Rattle.cmark_inline.specs.declared.quote.PlacedQuote.{PlacedQuote}
@@ -93,6 +94,19 @@ writes-shown options text doubled close wikilink old new parts index made shown 
       (ap (λ l. shown_element l made) links ∙ wiki-shown wikilink old.links.items parts index doubled.is_image made is_named is_index is_made) close end (begun_as made end (get_or shown at no-slot)) d
       (subst (λ (s : Slot). s.end ≤ end) (sym kept) low) same (ap (begun_as made end) first) options inside pairs old.delimiters.placed.items old.quotes.placed.items is.2.slot can
       ∙ ap around (ap (λ s. begin s (end - 1)) kept ∙ ap (begin (get_or old.slots.items at d)) (let q : end - 1 ≡ close + 1 = omega arith in q));
+}
+
+-- the doubled bracket that was taken is left out
+pub writes-taken : (options : Options) (text : List ℕ) (doubled : Bracket) (close : ℕ) (wikilink : Wikilink) (old new : InlineState) (left : Brackets) → WritesShown options text doubled close wikilink (record old { doubled = left }) new
+    → WritesShown options text doubled close wikilink old new
+writes-taken options text doubled close wikilink old new left w = record {
+  forgets = record { runs = w.forgets.runs; quotes = w.forgets.quotes };
+  shown = w.shown;
+  at = w.at;
+  shows = w.shows;
+  inside = w.inside;
+  left = w.left;
+  slots = w.slots;
 }
 
 -- ## Where nothing stays of the slots behind the bracket

@@ -157,10 +157,11 @@ ReadsOn leaf reader read place pending at closer s bs outcome old new =
     → (before : Between) (p : Pass) (flushed : InlineState) → p.state ≡ s → PushesText pending at old.slots.items flushed.slots.items → flushed ≡ record old { slots = flushed.slots }
     → HasRead leaf reader read place before p bs flushed → HasRead leaf reader read place before (closed_by p closer outcome) (left_of outcome.result bs) new
 
--- which slots stand for a footnote reference or a wikilink is not said yet
+-- which slots stand for a wikilink that shows what stands behind its pipe is not said yet; one with nothing there shows an empty text
 abbrev pub IsSaid : Result → Type 0
-IsSaid (Forms nearer (Wiki name display end)) = ⊥
-IsSaid (Forms nearer (Footnote label end)) = ⊥
+IsSaid (Forms nearer (Wiki name None end)) = Unit {0}
+IsSaid (Forms nearer (Wiki name (Some place) end)) = suc (suc place) ≡ end
+IsSaid (Forms nearer (Footnote label end)) = Unit {0}
 IsSaid (Forms nearer (Linking target)) = Unit {0}
 IsSaid StaysText = Unit {0}
 

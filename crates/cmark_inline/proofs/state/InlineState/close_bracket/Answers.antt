@@ -3,7 +3,9 @@ use Rattle.std.proofs.Common.{rules, ◌≡◌, ◌+◌, ◌++◌, ◌∷◌, []
 use Rattle.cmark_grammar.specs.BracketDecisions.{is_there}
 use Rattle.cmark_leaf_text.specs.Reads.{IsPart, is_cell_of}
 use Rattle.cmark_text.specs.Shown.{shown_options}
+use Rattle.cmark_grammar.specs.Labels.{normal_form}
 use Rattle.cmark_inline.specs.Footnoted.{KeepsLabel, footnote_of, forms_footnote}
+use Rattle.cmark_inline.specs.Hiding.{WritesReference, WritesWikilink}
 use Rattle.cmark_inline.specs.Closers.{LeavesFootnote, LeavesWikilink, LinksTaken}
 use Rattle.cmark_inline.specs.Doubled.{nearest}
 use Rattle.cmark_inline.specs.Stands.{HoldNoLink, Moves, Stands}
@@ -34,6 +36,8 @@ returns-in-Some-clause-closes g c = λ reader read place closer s bs r at shows.
     (subst (λ (x : Option Cursor). IfSome x (λ next. IfSome (nearest took.doubled) (λ tried. LeavesWikilink tried.0.start took new))) c.in-Some.is c.in_ok-next.ensures.leaves)
     (remembers-on o l refs notes c.args.leaf.now c.args.text.now c.requires.same reader read place closer s bs c.args.here.at r at c.args.self.now shows took new i.remembers c.wikilink.ensures.expansion c.wikilink.ensures.shut)
     next.1 (next.0 ∙ sym next.1) refl
+    c.flush.new.self (record { pushes = c.in_ok-flush.ensures.slots; others = c.in_ok-flush.ensures.others }) (rows-brackets c.flush.new.self took c.take_bracket-taken.ensures.others) c.take_bracket-taken.ensures.sound c.take_bracket-taken.ensures.stands
+    (subst (λ (x : Option Cursor). IfSome x (λ next. IfSome (nearest took.doubled) (λ tried. WritesWikilink o c.args.leaf.now c.args.text.now tried.0 c.args.here.at took new))) c.in-Some.is c.in_ok-next.ensures.writes)
 
 pub returns-in-Some-2-clause-closes : goal.returns-in-Some-2-clause-closes
 returns-in-Some-2-clause-closes g c = λ reader read place closer s bs r at shows.
@@ -54,6 +58,9 @@ returns-in-Some-2-clause-closes g c = λ reader read place closer s bs r at show
     (subst (λ (x : Option Cursor). IfSome x (λ next. IfSome c.take_bracket-taken.result (λ (bracket : Bracket). LeavesFootnote bracket.start st new))) c.in-Some-2.is c.in_ok-next-2.ensures.leaves)
     (remembers-on o l refs notes c.args.leaf.now c.args.text.now c.requires.same reader read place closer s bs c.args.here.at r at c.args.self.now shows st new j.remembers c.footnote.ensures.expansion c.footnote.ensures.shut)
     next.1 (next.0 ∙ sym next.1) refl (subst (λ (x : Option Cursor). IfSome x (λ next. IfSome (footnote_of o (is_cell_of c.args.leaf.now) (is_there c.args.here.at st.shut_close) c.args.text.now c.args.here.at c.take_bracket-taken.result) (λ label. KeepsLabel label st.texts.items new.texts.items))) c.in-Some-2.is c.in_ok-next-2.ensures.label) j.texts
+    c.flush.new.self (record { pushes = c.in_ok-flush.ensures.slots; others = c.in_ok-flush.ensures.others })
+    (rows-on c.flush.new.self took st (rows-brackets c.flush.new.self took c.take_bracket-taken.ensures.others) (rows-doubled took st (c.in_ok-next.ensures.others c.in_default.is)))
+    (subst (λ (x : Option Cursor). IfSome x (λ next. IfSome c.take_bracket-taken.result (λ (bracket : Bracket). IfSome (footnote_of o (is_cell_of c.args.leaf.now) (is_there c.args.here.at st.shut_close) c.args.text.now c.args.here.at c.take_bracket-taken.result) (λ label. WritesReference bracket (normal_form label) (c.args.here.at + 1) st new)))) c.in-Some-2.is c.in_ok-next-2.ensures.writes)
 
 pub returns-in-Some-3-clause-closes : goal.returns-in-Some-3-clause-closes
 returns-in-Some-3-clause-closes g c = λ reader read place closer s bs r at shows.
