@@ -4,7 +4,6 @@ use Rattle.std.proofs.Common.{◌≡◌, ◌⊎◌, inl, inr, ℕ, zero, suc, �
 use Rattle.std.proofs.lemmas.Bool.{eq-eqb, not-true}
 use Rattle.std.proofs.lemmas.List.{get_or_append_left, get_or_push, length_push}
 use Rattle.cmark_emphasis.specs.Shown.{shown_quote, shown_run}
-use Rattle.cmark_grammar.specs.BracketStates.{Result}
 use Rattle.cmark_grammar.specs.CodeSpans.{backticks, code_in}
 use Rattle.cmark_grammar.specs.Columns.{is_blank_byte}
 use Rattle.cmark_grammar.specs.InlineTokens.{bracket, code_or, item_at}
@@ -25,7 +24,6 @@ use Rattle.cmark_leaf_text.specs.declared.leaf_text.LeafText.{LeafText}
 use Rattle.cmark_text.specs.declared.text.CowStr.{CowStr}
 use Rattle.cmark_inline_model.specs.PlacedTokens.{may_open_markup}
 use Rattle.cmark_inline.specs.Closers as closers
-use Rattle.cmark_inline.specs.Closers.{IsSaid}
 use Rattle.cmark_inline.specs.Decided.{ReadsSame}
 use Rattle.cmark_inline.specs.Come.{HasCome, HasEscaped, HasReached, IsPending}
 use Rattle.cmark_inline.specs.FoundInSource.{AppendsMarkup, AppendsUnclosed, ReadsLess}
@@ -343,7 +341,7 @@ module _ (leaf : LeafText) (reader : Reader) (read : Leaf) (place : ℕ → ℕ)
 
       -- ## Closing brackets
       pub come-closing : (later : F) (references : RefDefs) (footnotes : FootnoteDefs) → get_or text at 0 ≡ 93 → ReadsSame reader.options reader.lookup references footnotes leaf reader read place → Flushes start at old
-          → closers.Closes R reader.options reader.lookup references footnotes leaf text start at old new next now later → ((result : Result) → IsSaid result) → HasCome R leaf reader read place before initial next new later
+          → closers.Closes R reader.options reader.lookup references footnotes leaf text start at old new next now later → reader.options.wikilinks ≡ false → HasCome R leaf reader read place before initial next new later
       come-closing later references footnotes byte same_reading flush closes said =
           let never = λ (h : HasEscaped reader.options reader.lookup cell text m start cursor.at). (let q : 93 ≡ 96 = sym byte ∙ tick h in absurd (omega (arith, q))) in
           let c = closing-reached leaf reader read place r R before initial now later here m old new next come.reached (held-there (ap is_content byte) never) lt byte references footnotes same_reading flush closes said in

@@ -1,7 +1,6 @@
 -- How far the text of a leaf is read at a cursor, in the states of the code and of the grammar.
 use Rattle.std.specs.Prelude.{◌≡◌, ◌⊎◌, ℕ, ◌+◌, ◌-◌, ◌<◌, Bool, false, List, [], ◌∷◌, length, drop, slice_index, Option, None}
 use Rattle.cmark_grammar.specs.Answers.{Lookup}
-use Rattle.cmark_grammar.specs.BracketStates.{Result}
 use Rattle.cmark_grammar.specs.CodeSpans.{backticks, code_in}
 use Rattle.cmark_grammar.specs.Columns.{is_blank_byte}
 use Rattle.cmark_grammar.specs.InlineTokens.{escaped_backtick, item_at}
@@ -16,7 +15,7 @@ use Rattle.cmark_leaf_text.specs.Reads.{is_cell_of, text_of}
 use Rattle.cmark_leaf_text.specs.declared.leaf_text.LeafText.{LeafText}
 use Rattle.cmark_text.specs.declared.text.CowStr.{CowStr}
 use Rattle.cmark_inline_model.specs.BracketPass.{Pass}
-use Rattle.cmark_inline.specs.Closers.{IsSaid, ShowsState}
+use Rattle.cmark_inline.specs.Closers.{ShowsState}
 use Rattle.cmark_inline.specs.Decided.{ReadsSame}
 use Rattle.cmark_inline.specs.Reached.{HasRead, ReadsPlaces}
 use Rattle.cmark_inline.specs.Resolved.{Answered}
@@ -77,17 +76,17 @@ module _ {F : Type 0} (R : F → BrokenLink → Option (CowStr × CowStr) → F 
     pub pending : IsPending reader.options reader.lookup (is_cell_of leaf) (text_of leaf) from cursor
 
 -- where a leaf is read up to a cursor as the grammar reads it, it is so up to the next one: for each reading with the same options,
--- entities, definitions and footnotes
+-- entities, definitions and footnotes. Wikilinks are left out: which slots one has that shows what stands behind its pipe is not said yet
 abbrev pub ComesOn : {F : Type 0} → (F → BrokenLink → Option (CowStr × CowStr) → F → Type 0) → Options → Lookup → RefDefs → FootnoteDefs → LeafText → (cursor next : Cursor) → (old new : InlineState) → (now later : F) → Type 0
 ComesOn {F} R options lookup references footnotes leaf cursor next old new now later =
     (reader : Reader) (read : Leaf) (place : ℕ → ℕ) (before : Between) (initial : F) → ReadsSame options lookup references footnotes leaf reader read place → ReadsPlaces leaf reader read place
-    → ((result : Result) → IsSaid result) → HasCome R leaf reader read place before initial cursor old now → HasCome R leaf reader read place before initial next new later
+    → options.wikilinks ≡ false → HasCome R leaf reader read place before initial cursor old now → HasCome R leaf reader read place before initial next new later
 
 -- so far it is read from its begin on, with so much left of the expansion limit there and nothing asked
 abbrev pub ComesTo : {F : Type 0} → (F → BrokenLink → Option (CowStr × CowStr) → F → Type 0) → Options → Lookup → RefDefs → FootnoteDefs → LeafText → (expansion : ℕ) → (initial : F) → Cursor → InlineState → (now : F) → Type 0
 ComesTo R options lookup references footnotes leaf expansion initial cursor state now =
     (reader : Reader) (read : Leaf) (place : ℕ → ℕ) → ReadsSame options lookup references footnotes leaf reader read place → ReadsPlaces leaf reader read place
-    → ((result : Result) → IsSaid result) → HasCome R leaf reader read place (record { expansion = expansion; asked = [] }) initial cursor state now
+    → options.wikilinks ≡ false → HasCome R leaf reader read place (record { expansion = expansion; asked = [] }) initial cursor state now
 
 -- ## The begin of a leaf
 

@@ -6,11 +6,9 @@ ghost use Rattle.cmark_finds.specs.Backticks.{AreRunsOf};
 ghost use Rattle.cmark_finds.specs.Dollars.{AreDollarsOf};
 ghost use Rattle.cmark_leaf_text.specs.Reads.{IsRead, IsPart, text_of};
 ghost use Rattle.cmark_inline.specs.Asking.{AsksBetween, AsksUpTo, closing_brackets};
-ghost use Rattle.cmark_inline.specs.Closers.{IsSaid};
 ghost use Rattle.cmark_inline.specs.Come.{ComesOn};
 ghost use Rattle.cmark_inline.specs.PlainStretches.{IsSetOf};
 ghost use Rattle.cmark_inline.specs.Resolved.{Resolves};
-ghost use Rattle.cmark_grammar.specs.BracketStates.{Result};
 ghost use Rattle.cmark_inline.specs.Stands.{AreSlots, AreBrackets, IsBracket, IsCursor, IsSlot, IsTarget, Moves, SameSpans, Stands, PushesText, begins_link, bytes_of};
 ghost use Rattle.cmark_inline.specs.Footnoted.{SameFootnotes};
 ghost use Rattle.cmark_inline.specs.FoundInSource.{AreUnclosed};
@@ -72,7 +70,7 @@ impl<'a> InlineState<'a> {
         ensures whole { OnOk result (AreWhole self.new.slots.items × EndWithin self.new.slots.items) }
         ensures first { OnOk result (self.new.walk.next ≡ 0) }
         ensures footnotes { SameFootnotes footnotes.old footnotes.new }
-        ensures reads { IsSetOf (shown_options reader.now.options) reader.now.special.now → ((said : Result) → IsSaid said) → OnOk result (Resolves F.answers (shown_options reader.now.options) (E.replacement reader.now.entities.now) reader.now.references.now footnotes.old leaf.now self.old.expansion self.new callback.old callback.new) }
+        ensures reads { IsSetOf (shown_options reader.now.options) reader.now.special.now → (shown_options reader.now.options).wikilinks ≡ false → OnOk result (Resolves F.answers (shown_options reader.now.options) (E.replacement reader.now.entities.now) reader.now.references.now footnotes.old leaf.now self.old.expansion self.new callback.old callback.new) }
     {
         self.clear();
         let text = leaf.as_str();
