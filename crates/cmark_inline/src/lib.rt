@@ -9,7 +9,6 @@ mod event;
 mod footnote;
 mod formula;
 pub mod laws;
-pub mod scratch;
 mod link;
 mod markup;
 pub mod pass_laws;
