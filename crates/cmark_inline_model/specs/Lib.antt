@@ -21,3 +21,4 @@ pub mod RowPasses
 pub mod SlotRows
 pub mod Unanswered
 pub mod TextPlaces
+pub mod Displays
