@@ -52,10 +52,7 @@ pub mod ReadingOrders
 pub mod ReadingPlaces
 pub mod ReadingQuestionLaws
 pub mod RowParts
-pub mod DisplayRows
 pub mod RowPasses
-pub mod DisplayPasses
-pub mod DisplayCuts
 pub mod SampleReading
 pub mod SegmentLaws
 pub mod SiblingsOne

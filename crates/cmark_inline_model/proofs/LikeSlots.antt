@@ -12,13 +12,13 @@ use Rattle.cmark_inline_model.specs.LikeSlots.{GivesTheSame, IsLike, AreLike}
 use Rattle.cmark_inline_model.specs.SlotRows.{Slot, ItemSlot, BeginSlot, EndSlot, NothingSlot, Mark, Stays, Begins, Ends, Blank, start_in, end_in, character_slot, quoted, used_up, spanned, marked, slot_events}
 
 module _ (source : List ℕ) where
-  pub same-slot : (s : Slot) → IsLike source s s
+  same-slot : (s : Slot) → IsLike source s s
   same-slot (ItemSlot x) = record { start = refl; end = refl; event = refl }
   same-slot (BeginSlot tag start end) = refl
   same-slot EndSlot = refl
   same-slot NothingSlot = refl
 
-  pub starts : (s t : Slot) → IsLike source s t → start_in s ≡ start_in t
+  starts : (s t : Slot) → IsLike source s t → start_in s ≡ start_in t
   starts (ItemSlot x) (ItemSlot y) h = h.start
   starts (ItemSlot x) (BeginSlot tag start end) h = absurd h
   starts (ItemSlot x) EndSlot h = absurd h
@@ -27,7 +27,7 @@ module _ (source : List ℕ) where
   starts EndSlot t h = sym (ap start_in h)
   starts NothingSlot t h = sym (ap start_in h)
 
-  pub ends : (s t : Slot) → IsLike source s t → end_in s ≡ end_in t
+  ends : (s t : Slot) → IsLike source s t → end_in s ≡ end_in t
   ends (ItemSlot x) (ItemSlot y) h = h.end
   ends (ItemSlot x) (BeginSlot tag start end) h = absurd h
   ends (ItemSlot x) EndSlot h = absurd h

@@ -46,7 +46,7 @@ autolink_behind (b ∷ bs) found e = scheme (has_scheme (b ∷ bs)) e
     scheme true f = closed (first_is (λ c. c == 62) (drop size (b ∷ bs))) f
     scheme false f = cc
 
-abbrev pub FillsItem : Item → Type 0
+abbrev FillsItem : Item → Type 0
 FillsItem x = Fills x.kind x.start x.end
 
 module _ (reader : Reader) (leaf : Leaf) (size : ℕ) (turn : InTurn 0 leaf.stretches size) where

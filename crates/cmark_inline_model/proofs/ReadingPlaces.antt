@@ -69,7 +69,7 @@ module _ (reader : Reader) where
   HavePipes (Closing closer after) = HavePipes after
   HavePipes (Opening opener after) = HavePipes after
 
-  abbrev pub DisplayResult : (closer : Bracket) → Result → Type 0
+  abbrev DisplayResult : (closer : Bracket) → Result → Type 0
   DisplayResult closer StaysText = Unit {0}
   DisplayResult closer (Forms nearer formed) = DisplayBy formed closer
 
@@ -136,11 +136,11 @@ module _ (reader : Reader) (leaf : Leaf) (size : ℕ) (turn : InTurn 0 leaf.stre
   shape_place s closer w asked o (ToFootnote label os taken name h t on e) = subst (λ (x : Outcome). Place x.after.at) (sym e) w
   shape_place s closer w asked o (ToWiki label os first far h t on next e) = subst (λ (x : Outcome). Place x.after.at) (sym e) (second closer w next)
 
-  pub record Comes (closer : Bracket) (o : Outcome) : Type 0 where
+  record Comes (closer : Bracket) (o : Outcome) : Type 0 where
     pub reached : Place o.after.at
     pub display : DisplayResult reader closer o.result
 
-  pub comes : (s : State) (closer : Bracket) → Place closer.end → Always (Comes closer) (decide reader leaf s closer)
+  comes : (s : State) (closer : Bracket) → Place closer.end → Always (Comes closer) (decide reader leaf s closer)
   comes s closer w = always-by reader leaf s closer (Comes closer) (λ asked o h. record { reached = shape_place s closer w asked o h; display = shape_display reader leaf s closer asked o h })
 
   -- ## Readings

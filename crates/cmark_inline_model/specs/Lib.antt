@@ -21,4 +21,3 @@ pub mod RowPasses
 pub mod SlotRows
 pub mod Unanswered
 pub mod TextPlaces
-pub mod Displays

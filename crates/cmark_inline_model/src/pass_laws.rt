@@ -1,7 +1,7 @@
 //! Theorems over the slots that stand for what a pass over a leaf has read (`RowPasses`), each the contract of a function that does
 //! nothing: each step of the pass keeps them, and at the end the leaf's events are read off them.
 
-ghost use Rattle.std.specs.Prelude.{◌≡◌, ◌≤◌, ◌+◌, ◌-◌, ℕ, suc, true, List, [], ◌∷◌, ◌++◌, Some, drop, length, take};
+ghost use Rattle.std.specs.Prelude.{◌≡◌, ◌-◌, ℕ, suc, true, List, [], ◌∷◌, ◌++◌, Some, drop, length, take};
 ghost use Rattle.cmark_grammar.specs.BracketDecisions.{decide};
 ghost use Rattle.cmark_grammar.specs.BracketReading.{Comes};
 ghost use Rattle.cmark_grammar.specs.BracketStates.{Forms, State, StaysText, moved, opened};
@@ -9,8 +9,8 @@ ghost use Rattle.cmark_grammar.specs.Emphasis.{IsEmphasis, Pair, Run};
 ghost use Rattle.cmark_grammar.specs.InlineTokens.{token};
 ghost use Rattle.cmark_grammar.specs.Items.{Autolink, Bracket, Closes, Delimiters, Ends, Item, ItemKind, Opens, Own, Quoted, Stands};
 ghost use Rattle.cmark_grammar.specs.LeafReading.{Between, ReadsLeaf, entering, leaving};
-ghost use Rattle.cmark_grammar.specs.LeafText.{InTurn, Leaf};
-ghost use Rattle.cmark_grammar.specs.Parts.{Form, Formed, Linking, Nil, Opening, Single, Target, Wiki};
+ghost use Rattle.cmark_grammar.specs.LeafText.{Leaf};
+ghost use Rattle.cmark_grammar.specs.Parts.{Form, Formed, Linking, Nil, Opening, Single, Target};
 ghost use Rattle.cmark_grammar.specs.Questions.{AnyAnswer, Exchange, IsNext};
 ghost use Rattle.cmark_grammar.specs.Quotes.{Quote};
 ghost use Rattle.cmark_grammar.specs.Readers.{Reader};
@@ -19,11 +19,9 @@ ghost use Rattle.cmark_grammar.specs.SiblingsModel.{siblings_of};
 ghost use Rattle.cmark_grammar.specs.Spans.{Spans};
 ghost use Rattle.cmark_grammar.specs.Tag.{Link};
 ghost use Rattle.cmark_inline_model.specs.BracketPass.{Pass, closed_by, pass};
-ghost use Rattle.cmark_inline_model.specs.Displays.{AreParted, CanShow, CutsLike, IsFirstBehind, displayed, wiki_slots};
-ghost use Rattle.cmark_inline_model.specs.LeafModel.{HaveLineEnds};
 ghost use Rattle.cmark_inline_model.specs.LikeSlots.{AreLike, IsLike};
 ghost use Rattle.cmark_inline_model.specs.PartLists.{Cut, cut_at, join};
-ghost use Rattle.cmark_inline_model.specs.RowParts.{BracketPlace, bytes_in, counted, runs_in, text_slot};
+ghost use Rattle.cmark_inline_model.specs.RowParts.{BracketPlace, counted, runs_in, text_slot};
 ghost use Rattle.cmark_inline_model.specs.RowPasses.{IsReached, StandsFor, bytes_before, dressed_behind, dressed_slots, has_own_slot, linked_slots};
 ghost use Rattle.cmark_inline_model.specs.SlotRows.{BeginSlot, EndSlot, ItemSlot, Slot, run_places, run_slots, slot_events};
 
@@ -92,32 +90,6 @@ pub fn what_is_formed_takes_the_place_of_its_slots()
         → IsReached reader leaf before (closed_by p closer (record { result = Forms nearer (Linking target); after = next })) (drop (suc nearer) bs)
         (linked_slots place target (dressed_behind reader.options place pairs slots bytes quotes runs quoted))
         (take (bytes_before place runs) bytes) (take place.quotes quotes) (take place.runs runs) (take place.quotes quoted) }
-{}
-
-/// Where a closing bracket forms a wikilink that shows what stands behind its pipe, the wikilink is around the slots behind the opening
-/// bracket of which those before the first that ends behind the pipe are nothing, and that one is cut there, once the quotes and the runs
-/// from that one on have their characters and their marks (`shown`). In a leaf whose stretches stand in order, and end with line endings,
-/// the siblings there can be cut: no delimiter run stands around the pipe (`cuts`).
-pub fn what_stands_behind_a_pipe_is_shown()
-    ensures shown { (reader : Reader) (leaf : Leaf) (before : Between) (p : Pass) (bs : List BracketPlace) (slots : List Slot) (bytes quotes : List ℕ) (runs : List Run) (quoted : List Quote)
-        → IsReached reader leaf before p bs slots bytes quotes runs quoted
-        → (closer : Bracket) (nearer : ℕ) (name : List ℕ) (display end : ℕ) (next : State) (place : BracketPlace) → drop nearer bs ≡ place ∷ drop (suc nearer) bs → token reader leaf p.state.at ≡ Closes closer
-        → Comes AnyAnswer p.state.asked (decide reader leaf p.state closer) (record { result = Forms nearer (Wiki name (Some display) end); after = next })
-        → ((cut : Cut) → cut_at nearer p.here ≡ Some cut → CanShow display (siblings_of reader.options cut.inside))
-        → (count : ℕ) (slot : Slot) → IsFirstBehind display 0 count (drop (suc place.slot) slots) → (display ≡ closer.start → count ≡ length (drop (suc place.slot) slots)) → CutsLike reader.source display (drop count (drop (suc place.slot) slots)) slot
-        → (run_count quote_count : ℕ) → AreParted (suc place.slot + count) run_count quote_count (drop place.runs runs) (drop (bytes_before place runs) bytes) (drop place.quotes quotes)
-        → (pairs : List Pair) (spans : Spans) → IsEmphasis (counted 0 (drop run_count (drop place.runs runs))) pairs spans
-        → IsReached reader leaf before (closed_by p closer (record { result = Forms nearer (Wiki name (Some display) end); after = next })) (drop (suc nearer) bs)
-        (wiki_slots place name end
-        (dressed_slots reader.options pairs (displayed place display closer.start count slot slots) (drop (bytes_in (take run_count (drop place.runs runs))) (drop (bytes_before place runs) bytes)) (drop quote_count (drop place.quotes quotes))
-        (drop quote_count (drop place.quotes quoted))))
-        (take (bytes_before place runs) bytes) (take place.quotes quotes) (take place.runs runs) (take place.quotes quoted) }
-    ensures cuts { (reader : Reader) (leaf : Leaf) (before : Between) (p : Pass) (bs : List BracketPlace) (slots : List Slot) (bytes quotes : List ℕ) (runs : List Run) (quoted : List Quote)
-        → IsReached reader leaf before p bs slots bytes quotes runs quoted
-        → (size : ℕ) → InTurn 0 leaf.stretches size → size ≤ length reader.source → HaveLineEnds reader.source leaf.stretches
-        → (closer : Bracket) (nearer : ℕ) (name : List ℕ) (display end : ℕ) (next : State) → token reader leaf p.state.at ≡ Closes closer
-        → Comes AnyAnswer p.state.asked (decide reader leaf p.state closer) (record { result = Forms nearer (Wiki name (Some display) end); after = next })
-        → (cut : Cut) → cut_at nearer p.here ≡ Some cut → CanShow display (siblings_of reader.options cut.inside) }
 {}
 
 /// At the end of the leaf its events are read off the slots, once all quotes are characters and all pairs have written their marks; the
