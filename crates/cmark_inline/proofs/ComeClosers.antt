@@ -129,13 +129,15 @@ module _ (leaf : LeafText) (reader : Reader) (read : Leaf) (place : ℕ → ℕ)
         (let k = cut-row reader.options nearer brackets f.p.here f.has_read.row (places_of flush.flushed.delimiters.placed.items) (map (λ (x : PlacedQuote). x.slot) flush.flushed.quotes.placed.items)
         (runs_of flush.flushed.delimiters.placed.items) (quotes_of flush.flushed.quotes.placed.items) (omega (arith, low, count)) f.has_read.is_row in (k.cut, k.cut_is)) in
         let fits : Fits (length f.p.state.openers) c.outcome = always-comes R (Fits (length f.p.state.openers)) (decide reader read f.p.state closer) c.outcome now later (decide-fits reader read f.p.state closer) c.comes in
-        let state_is : (closed_by f.p closer c.outcome).state ≡ c.outcome.after = closed-state f.p closer c.outcome.result c.outcome.after (length f.p.state.openers) cuts fits in
-        (record {
-          p = closed_by f.p closer c.outcome;
-          bs = left_of c.outcome.result f.bs;
-          has_read = reads;
-          at_is = ap (λ (s : State). s.at) state_is ∙ c.at;
-          shows = subst (λ s. ShowsState reader.options.wikilinks text place next.at s (left_of c.outcome.result f.bs) new) (sym state_is) c.shows;
-          answered = subst (λ (s : State). Answered R s.asked initial later) (sym state_is)
-              (asked-on R (decide reader read f.p.state closer) f.p.state.asked c.outcome initial now later ((decide-recorded reader read).keeps f.p.state closer) c.comes f.answered);
-        }, c.pending)
+        let state_is : (closed_by f.p closer c.outcome).state ≡ c.outcome.after = closed-state f.p closer c.outcome.result c.outcome.after (length f.p.state.openers) cuts fits in (
+          record {
+            p = closed_by f.p closer c.outcome;
+            bs = left_of c.outcome.result f.bs;
+            has_read = reads;
+            at_is = ap (λ (s : State). s.at) state_is ∙ c.at;
+            shows = subst (λ s. ShowsState reader.options.wikilinks text place next.at s (left_of c.outcome.result f.bs) new) (sym state_is) c.shows;
+            answered = subst (λ (s : State). Answered R s.asked initial later) (sym state_is)
+                (asked-on R (decide reader read f.p.state closer) f.p.state.asked c.outcome initial now later ((decide-recorded reader read).keeps f.p.state closer) c.comes f.answered);
+          },
+          c.pending,
+        )
