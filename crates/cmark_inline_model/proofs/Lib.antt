@@ -32,6 +32,7 @@ pub mod LeafParts
 pub mod LeafPlaces
 pub mod LeafRules
 pub mod LeafSteps
+pub mod LeafStretches
 pub mod LinkNesting
 pub mod LinkSpans
 pub mod NotRead
