@@ -21,11 +21,13 @@ pub mod FindRests
 pub mod ForwardLaws
 pub mod KindViews
 pub mod LeafCuts
+pub mod LeafEndings
 pub mod LeafExamples1
 pub mod LeafExamples2
 pub mod LeafExamples3
 pub mod LeafExamples4
 pub mod LeafExamples5
+pub mod LeafFronts
 pub mod LeafLaws
 pub mod LeafLines
 pub mod LeafParts

@@ -2,12 +2,18 @@
 //! text where that is read as a leaf of one stretch, in the places of the source.
 
 ghost use Rattle.std.specs.Prelude.{◌≡◌, ◌≤◌, ◌<◌, ◌-◌, ℕ, suc, true, false, List, drop, length};
+ghost use Rattle.cmark_grammar.specs.Answers.{Lookup};
+ghost use Rattle.cmark_grammar.specs.BlockDocument.{BlockDocument};
+ghost use Rattle.cmark_grammar.specs.Derivation.{Derives};
 ghost use Rattle.cmark_grammar.specs.InlineTokens.{begins_at, from, item_at, read_on, token};
 ghost use Rattle.cmark_grammar.specs.Items.{Item, Plain, Stands};
 ghost use Rattle.cmark_grammar.specs.LeafText.{InTurn, Leaf};
+ghost use Rattle.cmark_grammar.specs.Options.{Options};
 ghost use Rattle.cmark_grammar.specs.Readers.{Reader};
+ghost use Rattle.cmark_grammar.specs.SpanDocuments.{segments};
 ghost use Rattle.cmark_grammar.specs.Tokens.{slice};
 ghost use Rattle.cmark_inline_model.specs.LeafModel.{HaveLineEnds};
+ghost use Rattle.cmark_inline_model.specs.PlacedLeaves.{AreLeavesPlaced};
 ghost use Rattle.cmark_inline_model.specs.PlacedTokens.{AreLeafPlaces, HaveWholeEndings, IsParted, StandsUpTo, StopsAt, is_as_written, may_open_markup, one_stretch, placed, text_reader};
 ghost use Rattle.cmark_inline_model.specs.TextPlaces.{place_in, text_of};
 
@@ -15,6 +21,13 @@ ghost use Rattle.cmark_inline_model.specs.TextPlaces.{place_in, text_of};
 pub fn places_part_the_text()
     ensures { (reader : Reader) (leaf : Leaf) (size : ℕ) → InTurn 0 leaf.stretches size → size ≤ length reader.source → HaveLineEnds reader.source leaf.stretches
         → HaveWholeEndings (text_of reader leaf) (place_in reader leaf) → AreLeafPlaces reader leaf (text_of reader leaf) (place_in reader leaf) }
+{}
+
+/// The leaves of a text stand in order in it, their lines end with line endings, of which none is parted, and the bytes of their texts have
+/// their places.
+pub fn leaves_have_their_places()
+    ensures { (reader : Reader) (options : Options) (lookup : Lookup) (document : BlockDocument)
+        → Derives reader.source options lookup document → AreLeavesPlaced reader (segments document) }
 {}
 
 /// At the place of a byte begins what begins at this byte of the text, with the items, their ranges and the place from which on the text is
