@@ -1,6 +1,6 @@
 -- The line endings of a leaf's text are whole: a stretch begins with no line feed that belongs to a carriage return before it.
-use Rattle.std.specs.Prelude.{◌-◌, get_or, drop}
-use Rattle.std.proofs.Common.{◌≡◌, ℕ, suc, ◌+◌, ◌<◌, ◌≤◌, true, false, List, [], ◌∷◌, length, refl, sym, ap, ◌∙◌, arith, length-drop, true≢false}
+use Rattle.std.specs.Prelude.{◌-◌, get_or}
+use Rattle.std.proofs.Common.{◌≡◌, ℕ, suc, ◌<◌, ◌≤◌, false, List, [], ◌∷◌, length, sym, ap, ◌∙◌, arith, length-drop, true≢false}
 use Rattle.cmark_grammar.specs.Answers.{Lookup}
 use Rattle.cmark_grammar.specs.BlockDocument.{BlockDocument}
 use Rattle.cmark_grammar.specs.Derivation.{Derives}

@@ -1,32 +1,28 @@
 -- A leaf of one line whose bytes all stand for themselves is read as one text.
-use Rattle.std.specs.Prelude.{suc, zero, ◌-◌, ◌==◌, ◌||◌, not, if◌then◌else◌, get_or, drop, max, take_while, option_map}
-use Rattle.std.proofs.Common.{◌≡◌, ◌⊎◌, inl, ℕ, ◌+◌, ◌<◌, ◌≤◌, Bool, true, false, List, [], ◌∷◌, ◌++◌, ◌&&◌, length, Option, Some, None, refl, sym, ap, ◌∙◌, subst, arith, length-drop, eqb-true, true≢false, append-nil}
+use Rattle.std.specs.Prelude.{suc, ◌-◌, ◌==◌, ◌||◌, not, if◌then◌else◌, get_or, drop, max, take_while, option_map}
+use Rattle.std.proofs.Common.{◌≡◌, inl, ℕ, ◌+◌, ◌<◌, ◌≤◌, Bool, true, false, List, [], ◌∷◌, ◌++◌, ◌&&◌, length, Option, Some, None, refl, sym, ap, ◌∙◌, subst, arith, length-drop, eqb-true, true≢false, append-nil}
 use Rattle.std.proofs.Math.Seq.{drop-cons}
 use Rattle.std.proofs.lemmas.List.{get_or-drop}
-use Rattle.cmark_grammar.specs.BracketReading.{ReadsWhole}
-use Rattle.cmark_grammar.specs.BracketDecisions.{decide}
 use Rattle.cmark_grammar.specs.Columns.{is_blank_byte}
-use Rattle.cmark_grammar.specs.Emphasis.{IsEmphasis}
 use Rattle.cmark_grammar.specs.Event.{Text}
-use Rattle.cmark_grammar.specs.InlineTokens.{item_at, from, begins, is_plain, begins_at, break_or, goes_on, longest, token}
+use Rattle.cmark_grammar.specs.InlineTokens.{item_at, from, begins, is_plain, break_or, goes_on, longest, token}
 use Rattle.cmark_grammar.specs.Items.{Plain, Item, Token, Stands, Ends, SoftBreak, HardBreak}
 use Rattle.cmark_grammar.specs.LeafReading.{Between, ReadsLeaf, entering}
-use Rattle.cmark_grammar.specs.LeafText.{Leaf, Stretch, place_with, InTurn}
+use Rattle.cmark_grammar.specs.LeafText.{Leaf}
 use Rattle.cmark_grammar.specs.LineBreaks.{LineBreak, blank_break_in, blank_break}
 use Rattle.cmark_grammar.specs.Lines.{is_content}
-use Rattle.cmark_grammar.specs.LinkDefinitions.{behind_blanks}
 use Rattle.cmark_grammar.specs.Options.{Options}
 use Rattle.cmark_grammar.specs.Parts as parts
 use Rattle.cmark_grammar.specs.Parts.{Parts}
 use Rattle.cmark_grammar.specs.BracketStates.{moved}
 use Rattle.cmark_grammar.specs.Questions.{Exchange, IsNext}
 use Rattle.cmark_grammar.specs.Readers.{Reader}
-use Rattle.cmark_grammar.specs.Siblings.{Inline, Nil, Single, IsDressed, AreSpans}
+use Rattle.cmark_grammar.specs.Siblings.{Nil, Single, IsDressed, AreSpans}
 use Rattle.cmark_grammar.specs.Spans as spans
 use Rattle.cmark_grammar.specs.Tags.{behind_ending, behind_line_feed}
 use Rattle.cmark_grammar.specs.Tokens.{slice}
 use Rattle.cmark_inline_model.specs.PlacedLeaves.{StandWhole}
-use Rattle.cmark_inline_model.specs.PlacedTokens.{AreLeafPlaces, HaveWholeEndings, StandsUpTo, StopsAt, one_stretch, text_reader, placed, may_open_markup}
+use Rattle.cmark_inline_model.specs.PlacedTokens.{AreLeafPlaces, StandsUpTo, StopsAt, one_stretch, text_reader, placed, may_open_markup}
 use Rattle.cmark_inline_model.specs.TextPlaces.{text_of, place_in}
 use Rattle.cmark_inline_model.proofs.LeafEndings.{leaf-placed}
 use Rattle.cmark_inline_model.proofs.LeafSteps.{slice-size}
