@@ -16,7 +16,9 @@ class Sources:
             name, parted, below = line.partition(":")
             if parted and not name.startswith("#"):
                 self.direct[name.split()[0]] = [it for it in below.split() if (self.crates / it).is_dir()]
-        self.toolchain = subprocess.run(["rt", "version"], capture_output=True, text=True, check=True).stdout
+        # what can be proved is fixed by the toolchain's logic, and its version tells the digest of that
+        version = subprocess.run(["rt", "version"], capture_output=True, text=True, check=True).stdout
+        self.logic = re.search(r"\blogic (\w+)", version)[1]
 
     def text(self, path):
         if path not in self.texts:
@@ -59,7 +61,7 @@ class Sources:
         return found
 
     def number(self, crate):
-        sum_of = hashlib.sha256(self.toolchain.encode())
+        sum_of = hashlib.sha256(self.logic.encode())
         for path in sorted(self.below(crate)):
             sum_of.update(f"{path.relative_to(self.crates)}\0{self.text(path)}\0".encode())
         return sum_of.hexdigest()
