@@ -43,6 +43,7 @@ pub mod OptionExamples
 pub mod PartCuts
 pub mod PartOrders
 pub mod PlacedTokens
+pub mod PlaceExamples
 pub mod PlainLeaves
 pub mod PlainTokens
 pub mod QuestionExamples
