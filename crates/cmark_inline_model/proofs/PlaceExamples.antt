@@ -1,4 +1,4 @@
--- Places of the bytes of leaves, computed, and the leaves of documents with the lines that belong together.
+-- The stretches of leaves and the places of their bytes, computed.
 use Rattle.std.specs.Prelude.{◌≡◌, ℕ, List, [], ◌∷◌, codes, map}
 use Rattle.std.proofs.Common.{refl, arith}
 use Rattle.cmark_grammar.specs.BlocksModel.{blocks, begin}
@@ -33,11 +33,11 @@ quoted_text = refl
 quoted_places : map (place_in (plain_reader no_options (codes "> a\r\n> b\r\n")) (paragraph (stretch 2 5 ∷ stretch 7 8 ∷ []))) (0 ∷ (1 ∷ (2 ∷ (3 ∷ (4 ∷ []))))) ≡ 2 ∷ (3 ∷ (4 ∷ (7 ∷ (8 ∷ []))))
 quoted_places = refl
 
--- a carriage return and the prefix behind it end no paragraph line that begins with a line feed: that line is blank, and stands apart
+-- a line that has nothing but a line feed behind its prefix is blank: it begins no stretch, and parts two paragraphs
 blank_line_apart : leaves_of (codes "> a\r>\n> b") ≡ paragraph (stretch 2 3 ∷ []) ∷ (paragraph (stretch 8 9 ∷ []) ∷ [])
 unfolding blocks begin opens keeps enter underlines texts
 blank_line_apart = refl
 
--- of a leaf whose second stretch begins with a line feed a line ending is parted
+-- a leaf whose second stretch began with a line feed would have a parted line ending
 parted : HaveWholeEndings (codes "a\r\n") (place_in (plain_reader no_options (codes "a\r>\n")) (paragraph (stretch 0 2 ∷ stretch 3 4 ∷ []))) → ⊥
 parted whole = let e : 3 ≡ 2 = whole 1 (omega arith) refl refl in absurd (omega (arith, e))
