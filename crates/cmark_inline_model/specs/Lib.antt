@@ -11,6 +11,7 @@ pub mod OptionRules
 pub mod PartLists
 pub mod PartRanges
 pub mod PassSteps
+pub mod PlacedLeaves
 pub mod PlacedTokens
 pub mod Progress
 pub mod ReadingLinks
