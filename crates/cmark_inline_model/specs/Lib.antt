@@ -3,6 +3,7 @@ pub mod CharacterRanges
 pub mod CutRanges
 pub mod Expansion
 pub mod FormedParts
+pub mod LeafGaps
 pub mod LeafModel
 pub mod LikeSlots
 pub mod LinkRules
