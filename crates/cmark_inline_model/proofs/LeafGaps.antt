@@ -1,6 +1,6 @@
 -- Between the places of a byte of a leaf's text and of the next one stand only prefixes of containers, and no pipe.
 use Rattle.std.specs.Prelude.{◌-◌, ◌==◌, get_or}
-use Rattle.std.proofs.Common.{◌≡◌, ℕ, suc, ◌<◌, ◌≤◌, Bool, true, false, List, [], ◌∷◌, drop, length, refl, sym, ap, ◌∙◌, subst, arith, eqb-true, true≢false, length-drop}
+use Rattle.std.proofs.Common.{◌≡◌, ℕ, suc, ◌<◌, ◌≤◌, Bool, true, false, List, [], ◌∷◌, length, refl, sym, ap, ◌∙◌, subst, arith, eqb-true, true≢false, length-drop}
 use Rattle.cmark_grammar.specs.Answers.{Lookup}
 use Rattle.cmark_grammar.specs.BlockDocument.{BlockDocument}
 use Rattle.cmark_grammar.specs.Derivation.{Derives}
