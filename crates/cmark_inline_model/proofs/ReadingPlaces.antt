@@ -24,7 +24,7 @@ use Rattle.cmark_inline_model.proofs.DecisionLaws.{always-by}
 use Rattle.cmark_inline_model.proofs.DecisionShape.{Shape, Stays, ToInline, ToReference, ToFootnote, ToWiki, IsPlace as IsPlaceBehind}
 use Rattle.cmark_inline_model.proofs.LinkNesting.{always-comes}
 use Rattle.cmark_inline_model.proofs.TokenItems.{OfItems}
-use Rattle.cmark_inline_model.proofs.TokenPlaces.{IsPlace, next-place, rest-place, Uncut, Sits, token-sits}
+use Rattle.cmark_inline_model.proofs.TokenPlaces.{IsPlace, next-place, rest-place, Uncut, HaveContent, Sits, token-sits}
 
 -- ## Pipes
 
@@ -148,30 +148,39 @@ module _ (reader : Reader) (leaf : Leaf) (size : ℕ) (turn : InTurn 0 leaf.stre
   abbrev UncutItem : Item → Type 0
   UncutItem x = Uncut reader leaf size turn within lines x.kind x.start x.end
 
+  -- no line ends in a bracket that is a text
+  abbrev pub AreRead : Parts → Type 0
+  AreRead Nil = Unit {0}
+  AreRead (Single x after) = AreRead after
+  AreRead (Form opener inside closer formed after) = AreRead inside × AreRead after
+  AreRead (Closing closer after) = HaveContent reader leaf size turn within lines closer.start closer.end × AreRead after
+  AreRead (Opening opener after) = HaveContent reader leaf size turn within lines opener.start opener.end × AreRead after
+
   pub record Reached (parts : Parts) (t : State) : Type 0 where
     pub place : Place t.at
     pub items : OfItems UncutItem parts
     pub pipes : HavePipes reader parts
+    pub read : AreRead parts
 
   pub reading-reaches : (Says : Saying) (s : State) (parts : Parts) (t : State) → Place s.at → Reads (token reader leaf) (decide reader leaf) Says s parts t → Reached parts t
-  reading-reaches Says s Nil t w h = record { place = subst (λ (x : State). Place x.at) (sym h) w; items = tt; pipes = tt }
+  reading-reaches Says s Nil t w h = record { place = subst (λ (x : State). Place x.at) (sym h) w; items = tt; pipes = tt; read = tt }
   reading-reaches Says s (Single item after) t w h =
       let k = subst (Sits reader leaf size turn within lines) h.1 (token-sits reader leaf size turn within lines s.at w) in
       let i = reading-reaches Says (moved h.0 s) after t k.0 h.2 in
-      record { place = i.place; items = (k.1, i.items); pipes = i.pipes }
+      record { place = i.place; items = (k.1, i.items); pipes = i.pipes; read = i.read }
   reading-reaches Says s (Form opener inside closer formed after) t w h =
       let k = subst (Sits reader leaf size turn within lines) h.opens (token-sits reader leaf size turn within lines s.at w) in
-      let i = reading-reaches Says (opened opener s) inside h.until k h.inside in
+      let i = reading-reaches Says (opened opener s) inside h.until k.0 h.inside in
       let c = subst (Sits reader leaf size turn within lines) h.closes (token-sits reader leaf size turn within lines h.until.at i.place) in
-      let o = always-comes (Comes closer) Says h.until.asked (decide reader leaf h.until closer) (record { result = Forms (openings inside) formed; after = h.next }) (comes h.until closer c) h.comes in
+      let o = always-comes (Comes closer) Says h.until.asked (decide reader leaf h.until closer) (record { result = Forms (openings inside) formed; after = h.next }) (comes h.until closer c.0) h.comes in
       let j = reading-reaches Says h.next after t o.reached h.after in
-      record { place = j.place; items = (i.items, j.items); pipes = (o.display, i.pipes, j.pipes) }
+      record { place = j.place; items = (i.items, j.items); pipes = (o.display, i.pipes, j.pipes); read = (i.read, j.read) }
   reading-reaches Says s (Closing closer after) t w h =
       let c = subst (Sits reader leaf size turn within lines) h.closes (token-sits reader leaf size turn within lines s.at w) in
-      let o = always-comes (Comes closer) Says s.asked (decide reader leaf s closer) (record { result = StaysText; after = h.next }) (comes s closer c) h.comes in
+      let o = always-comes (Comes closer) Says s.asked (decide reader leaf s closer) (record { result = StaysText; after = h.next }) (comes s closer c.0) h.comes in
       let j = reading-reaches Says h.next after t o.reached h.after in
-      record { place = j.place; items = j.items; pipes = j.pipes }
+      record { place = j.place; items = j.items; pipes = j.pipes; read = (c.1, j.read) }
   reading-reaches Says s (Opening opener after) t w h =
       let k = subst (Sits reader leaf size turn within lines) h.0 (token-sits reader leaf size turn within lines s.at w) in
-      let i = reading-reaches Says (opened opener s) after t k h.1 in
-      record { place = i.place; items = i.items; pipes = i.pipes }
+      let i = reading-reaches Says (opened opener s) after t k.0 h.1 in
+      record { place = i.place; items = i.items; pipes = i.pipes; read = (k.1, i.read) }

@@ -1,8 +1,10 @@
 pub mod BracketPass
 pub mod CharacterRanges
 pub mod CutRanges
+pub mod Displays
 pub mod Expansion
 pub mod FormedParts
+pub mod LeafGaps
 pub mod LeafModel
 pub mod LikeSlots
 pub mod LinkRules
@@ -11,6 +13,7 @@ pub mod OptionRules
 pub mod PartLists
 pub mod PartRanges
 pub mod PassSteps
+pub mod PlacedLeaves
 pub mod PlacedTokens
 pub mod Progress
 pub mod ReadingLinks
