@@ -61,3 +61,4 @@ pub mod ClosingReads
 pub mod HiddenSlots
 pub mod HidingReads
 pub mod WikiSlots
+pub mod CutSlots

@@ -23,3 +23,4 @@ pub mod Decided
 pub mod Closers
 pub mod Written
 pub mod Hiding
+pub mod Cuts
