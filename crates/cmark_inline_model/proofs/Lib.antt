@@ -13,6 +13,8 @@ pub mod DecisionLaws
 pub mod DecisionRules
 pub mod DecisionShape
 pub mod DecisionShifted
+pub mod DisplayPasses
+pub mod DisplayRows
 pub mod DocumentExamples1
 pub mod DocumentExamples2
 pub mod DocumentLaws

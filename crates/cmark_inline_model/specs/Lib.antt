@@ -1,6 +1,7 @@
 pub mod BracketPass
 pub mod CharacterRanges
 pub mod CutRanges
+pub mod Displays
 pub mod Expansion
 pub mod FormedParts
 pub mod LeafModel
