@@ -1,6 +1,6 @@
 -- A wikilink that shows what stands behind its pipe takes the place of its slots, with the runs and quotes that are left.
 use Rattle.std.specs.Prelude.{◌-◌, ◌==◌, ◌&&◌, ◌||◌, if◌then◌else◌, drop, take, get_or, Some, None}
-use Rattle.std.proofs.Common.{◌≡◌, Bool, true, false, ℕ, zero, suc, ◌+◌, ◌<◌, ◌≤◌, List, [], ◌∷◌, ◌++◌, length, refl, sym, ap, ◌∙◌, subst, arith, append_assoc, append-nil, length-append, length-drop, eqb-true}
+use Rattle.std.proofs.Common.{◌≡◌, inl, inr, Bool, true, false, ℕ, zero, suc, ◌+◌, ◌<◌, ◌≤◌, List, [], ◌∷◌, ◌++◌, length, refl, sym, ap, ◌∙◌, subst, arith, append_assoc, append-nil, length-append, length-drop, eqb-true}
 use Rattle.std.proofs.Math.Seq.{take-add, take-append_seam, drop-append_seam}
 use Rattle.std.proofs.lemmas.List.{drop-drop, get_or-drop}
 use Rattle.cmark_grammar.specs.BracketDecisions.{decide}
@@ -22,23 +22,23 @@ use Rattle.cmark_grammar.specs.SiblingsModel.{dress, siblings_of}
 use Rattle.cmark_grammar.specs.Spans.{Spans}
 use Rattle.cmark_inline_model.specs.BracketPass.{Pass, closed_by}
 use Rattle.cmark_inline_model.specs.CutRanges.{IsBehindPipe}
-use Rattle.cmark_inline_model.specs.Displays.{hidden_by, shown_from, empty_text, display_slots, display_target, LeavesRuns, LeavesQuotes, ShowsLike}
+use Rattle.cmark_inline_model.specs.Displays.{hidden_by, shown_from, empty_text, display_slots, display_target, LeavesRuns, LeavesQuotes, CanBeCut, IsCutThere, ShowsLike}
 use Rattle.cmark_inline_model.specs.LeafModel.{HaveLineEnds}
 use Rattle.cmark_inline_model.specs.LikeSlots.{AreLike}
 use Rattle.cmark_inline_model.specs.PartLists.{join}
-use Rattle.cmark_inline_model.specs.RowParts.{BracketPlace, CutsRow, IsRow, text_slot, run_before, runs_in, bytes_in, counted}
-use Rattle.cmark_inline_model.specs.RowPasses.{IsReached, dressed_slots, linked_slots}
+use Rattle.cmark_inline_model.specs.RowParts.{BracketPlace, CutsRow, text_slot, run_before, runs_in, bytes_in, counted}
+use Rattle.cmark_inline_model.specs.RowPasses.{IsReached, linked_slots}
 use Rattle.cmark_inline_model.specs.SlotRows.{Slot, ItemSlot, BeginSlot, EndSlot, NothingSlot, seen, slots_of, LaysOut, marked, marks_by, quoted}
 use Rattle.cmark_inline_model.proofs.BracketsSound.{results, split}
-use Rattle.cmark_inline_model.proofs.DisplayRows.{nothings, nothings-append, nothings-length, nothings-seen, Below, From, ExactBy, AreExact, ShowsRow, shows-row, none-from}
+use Rattle.cmark_inline_model.proofs.DisplayRows.{nothings, nothings-append, nothings-length, nothings-seen, Below, From, ExactBy, AreExact, ShowsRow, IsKnown, AreKnown, shows-row, first-shown, none-from}
 use Rattle.cmark_inline_model.proofs.ForwardLaws.{leaf-forward, leaf-ranges}
 use Rattle.cmark_inline_model.proofs.KindViews.{KindView, AQuote, ARun, AnAutolink, AText, kind-view}
 use Rattle.cmark_inline_model.proofs.LeafPlaces.{leaf-up}
 use Rattle.cmark_inline_model.proofs.LeafSteps.{IsAt, place-first}
 use Rattle.cmark_inline_model.proofs.LikeSlots.{like-quoted, like-marked}
-use Rattle.cmark_inline_model.proofs.PartOrders.{FreeBy, IsFree, FillsItem, UncutItem, parts-fill, parts-free, siblings-order}
+use Rattle.cmark_inline_model.proofs.PartOrders.{IsFree, parts-fill, parts-free, siblings-order}
 use Rattle.cmark_inline_model.proofs.ReadingLaws.{reading-stands}
-use Rattle.cmark_inline_model.proofs.ReadingPlaces.{reading-reaches}
+use Rattle.cmark_inline_model.proofs.ReadingPlaces.{AreRead, reading-reaches}
 use Rattle.cmark_inline_model.proofs.RowParts.{row-dressed, lays-count}
 use Rattle.cmark_inline_model.proofs.RowPasses as passes
 use Rattle.cmark_inline_model.proofs.SpanRanges.{SiblingOrder}
@@ -243,9 +243,35 @@ module _ (reader : Reader) (leaf : Leaf) (before : Between) (turn : InTurn 0 lea
     order : SiblingOrder Pipe opener.end (siblings_of reader.options inside) closer.start
     free : IsFree display (siblings_of reader.options inside)
     exact : AreExact (siblings_of reader.options inside)
+    known : AreKnown Pipe reader leaf (siblings_of reader.options inside)
+    pipe : Pipe display
+    low : display ≤ closer.start
 
   abbrev ReadsTo : State → Parts → State → Type 0
   ReadsTo s parts t = Reads (token reader leaf) (decide reader leaf) AnyAnswer s parts t
+
+  item_known : (x : Item) (after : Inline) → IsKnown Pipe reader leaf x → AreKnown Pipe reader leaf after → AreKnown Pipe reader leaf (item_then x.kind x after)
+  item_known x after u k = go x.kind (kind-view x.kind)
+    where
+      go : (kind : ItemKind) → KindView kind → AreKnown Pipe reader leaf (item_then kind x after)
+      go _ (AQuote quote) = (u, k)
+      go _ (ARun run) = (u, k)
+      go _ (AnAutolink uri) = k
+      go _ (AText kind t) = subst (AreKnown Pipe reader leaf) (sym (t.item x after)) (u, k)
+
+  footnote_known : (is_image : Bool) (start : ℕ) (label : List ℕ) (end : ℕ) (others : Inline) → AreKnown Pipe reader leaf others → AreKnown Pipe reader leaf (footnote_then is_image start label end others)
+  footnote_known true start label end others k = (inr (inl (let e : suc start ≤ suc start = omega arith in e)), (inr (inr tt), k))
+  footnote_known false start label end others k = (inr (inr tt), k)
+
+  siblings_known : (parts : Parts) → AreRead reader leaf (length reader.source) turn within lines parts → AreKnown Pipe reader leaf (siblings_of reader.options parts)
+  siblings_known NoParts u = tt
+  siblings_known (SinglePart x after) u = item_known x (siblings_of reader.options after) (inl u.0) (siblings_known after u.1)
+  siblings_known (Form opener inside closer (Linking target) after) u = siblings_known after u.1
+  siblings_known (Form opener inside closer (Footnote label end) after) u = footnote_known opener.is_image opener.start label end (siblings_of reader.options after) (siblings_known after u.1)
+  siblings_known (Form opener inside closer (Wiki name None end) after) u = siblings_known after u.1
+  siblings_known (Form opener inside closer (Wiki name (Some place) end) after) u = siblings_known after u.1
+  siblings_known (Closing closer after) u = (inl u.0, siblings_known after u.1)
+  siblings_known (Opening opener after) u = (inl u.0, siblings_known after u.1)
 
   form_between : (front : Parts) (opener closer : Bracket) (inside : Parts) (name : List ℕ) (display end : ℕ) (next : State)
       → ReadsTo (entering leaf before) (join front (Form opener inside closer (Wiki name (Some display) end) NoParts)) next → Held opener closer inside display
@@ -266,6 +292,9 @@ module _ (reader : Reader) (leaf : Leaf) (before : Between) (turn : InTurn 0 lea
         order = siblings-order reader leaf (length reader.source) turn within lines opener.end inside closer.start b.0.2 fills.0 reached.items.0 reached.pipes.1 gaps.1;
         free = parts-free reader leaf (length reader.source) turn within lines display reached.pipes.0.0 inside reached.items.0;
         exact = siblings_exact reader.options inside exact.0;
+        known = siblings_known inside reached.read.0;
+        pipe = reached.pipes.0.0;
+        low = reached.pipes.0.1;
       }
 
   module _ (p : Pass) (bs : List BracketPlace) (slots : List Slot) (bytes quotes : List ℕ) (runs : List Run) (quoted_are : List Quote) (h : IsReached reader leaf before p bs slots bytes quotes runs quoted_are) (closer : Bracket) (nearer : ℕ)
@@ -334,6 +363,11 @@ module _ (reader : Reader) (leaf : Leaf) (before : Between) (turn : InTurn 0 lea
 
     row : DisplayRow Pipe display closer.start (suc (length cut.front) + many) inside shows.rest shows.later_bytes shows.later_quotes
     row = display_row Pipe display closer.start cut.cut.opener.end (suc (length cut.front) + many) inside shows.rest shows.later_bytes shows.later_quotes held.order shows.laid
+
+    cut_there : IsCutThere reader leaf (suc place.slot) display h.row
+    cut_there =
+        subst (λ l. hidden_by display l < length l → CanBeCut reader leaf display (get_or l (hidden_by display l) NothingSlot)) behind_is
+        (first-shown Pipe reader leaf display inside cut.cut.opener.end closer.start held.order held.free held.exact held.known (suc (length cut.front)) cut.behind cut.behind_bytes cut.behind_quotes cut.laid_behind)
 
     module _ (left_runs left_quotes at : ℕ) (first : at ≡ suc place.slot + hidden_by display (drop (suc place.slot) h.row)) (lr : LeavesRuns place.runs left_runs at runs bytes) (lq : LeavesQuotes place.quotes left_quotes at quotes) where
       at_is : at ≡ suc (length cut.front) + many
@@ -450,3 +484,18 @@ module _ (reader : Reader) (leaf : Leaf) (before : Between) (turn : InTurn 0 lea
             (begin cut.cut.opener ∷ (own ++ (EndSlot ∷ []))) front_like
             (ap begin (sym opener), passes.like-both reader.source (drop (suc place.slot) written) own (EndSlot ∷ []) (EndSlot ∷ []) own_like (refl, refl))
             (own, [], own_is, refl, (refl, refl, refl)) refl refl
+
+  pub display-reached : (p : Pass) (bs : List BracketPlace) (slots : List Slot) (bytes quotes : List ℕ) (runs : List Run) (quoted_are : List Quote) → IsReached reader leaf before p bs slots bytes quotes runs quoted_are
+      → (closer : Bracket) (nearer : ℕ) (name : List ℕ) (display end : ℕ) (next : State) (place : BracketPlace) → drop nearer bs ≡ place ∷ drop (suc nearer) bs → token reader leaf p.state.at ≡ Closes closer
+      → Comes AnyAnswer p.state.asked (decide reader leaf p.state closer) (record { result = Forms nearer (Wiki name (Some display) end); after = next })
+      → (left_runs left_quotes at : ℕ) (now : List Slot) → LeavesRuns place.runs left_runs at runs bytes → LeavesQuotes place.quotes left_quotes at quotes
+      → ((row : List Slot) → AreLike reader.source slots row → IsCutThere reader leaf (suc place.slot) display row → IsBehindPipe reader.options reader.source display → display ≤ closer.start → ShowsLike reader.source (suc place.slot) display closer.start at row now)
+      → (pairs : List Pair) (spans : Spans) → IsEmphasis (counted 0 (drop left_runs runs)) pairs spans
+      → IsReached reader leaf before (closed_by p closer (record { result = Forms nearer (Wiki name (Some display) end); after = next })) (drop (suc nearer) bs)
+      (linked_slots place (display_target name end)
+      (marked reader.options (drop (bytes_in (take left_runs runs)) bytes) (marks_by (length (drop (bytes_in (take left_runs runs)) bytes)) pairs) (quoted (drop left_quotes quotes) (quote_characters [] (drop left_quotes quoted_are)) now) []))
+      (take (bytes_in (take place.runs runs)) bytes) (take place.quotes quotes) (take place.runs runs) (take place.quotes quoted_are)
+  display-reached p bs slots bytes quotes runs quoted_are h closer nearer name display end next place there t comes left_runs left_quotes at now lr lq shows pairs spans e =
+      let k = held p bs slots bytes quotes runs quoted_are h closer nearer name display end next place there t comes in
+      let s = shows h.row h.like (cut_there p bs slots bytes quotes runs quoted_are h closer nearer name display end next place there t comes) k.pipe k.low in
+      reached-display p bs slots bytes quotes runs quoted_are h closer nearer name display end next place there t comes left_runs left_quotes at s.first lr lq now s.like pairs spans e

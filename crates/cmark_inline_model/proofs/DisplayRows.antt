@@ -1,13 +1,16 @@
 -- A row of siblings of which the slots that end by a place are nothing any more is the row of those siblings that a wikilink shows from
 -- that place on.
-use Rattle.std.specs.Prelude.{◌-◌, ◌==◌, nat_le, if◌then◌else◌, max, drop, take, get_or}
-use Rattle.std.proofs.Common.{◌≡◌, Bool, true, false, ℕ, zero, suc, ◌+◌, ◌<◌, ◌≤◌, true≢false, List, [], ◌∷◌, ◌++◌, length, refl, sym, ap, ◌∙◌, subst, arith, append_assoc, append-nil, length-append, eqb-true}
+use Rattle.std.specs.Prelude.{nat_le, if◌then◌else◌, max, get_or}
+use Rattle.std.proofs.Common.{◌≡◌, ◌⊎◌, inl, inr, Bool, true, false, ℕ, zero, suc, ◌+◌, ◌<◌, ◌≤◌, List, [], ◌∷◌, ◌++◌, length, refl, sym, ap, ◌∙◌, subst, arith, append_assoc, length-append}
+use Rattle.std.proofs.lemmas.List.{get_or-append-add}
 use Rattle.cmark_grammar.specs.Emphasis.{Run}
-use Rattle.cmark_grammar.specs.Items.{ItemKind, Own, Quoted, Delimiters, FootnoteReference, Autolink, Item}
+use Rattle.cmark_grammar.specs.Items.{ItemKind, Own, Quoted, Delimiters, FootnoteReference, Item}
+use Rattle.cmark_grammar.specs.LeafText.{Leaf}
 use Rattle.cmark_grammar.specs.Quotes.{Quote}
-use Rattle.cmark_grammar.specs.Siblings.{Inline, Nil, Single, Around, item, quote_then, quotes_of, from_place, display_from}
+use Rattle.cmark_grammar.specs.Readers.{Reader}
+use Rattle.cmark_grammar.specs.Siblings.{Inline, Nil, Single, Around, item, quote_then, quotes_of, from_place}
 use Rattle.cmark_grammar.specs.Tag.{Tag}
-use Rattle.cmark_inline_model.specs.Displays.{ends_by, begun_from, shown_from, hidden_by, empty_text}
+use Rattle.cmark_inline_model.specs.Displays.{ends_by, begun_from, shown_from, hidden_by, ReadsItem, IsReference, CanBeCut}
 use Rattle.cmark_inline_model.specs.RowParts.{run_before, runs_in, bytes_in}
 use Rattle.cmark_inline_model.specs.SlotRows.{Slot, ItemSlot, BeginSlot, EndSlot, NothingSlot, seen, slots_of, run_slots, run_places, LaysItem, LaysOut}
 use Rattle.cmark_inline_model.proofs.PartOrders.{FreeBy, IsFree}
@@ -411,9 +414,10 @@ module _ (Pipe : ℕ → Type 0) where
       let u = inline-up Pipe x.end after to h.2 in
       ((let q : nat_le x.end place ≡ true = grind (arith) in q), spans-end place after x.end to h.2 e)
   spans-end place (Around tag start end inside after) from to h e =
-      let u = inline-up Pipe end after to h.5 in
-      ((let q : nat_le end place ≡ true = grind (arith) in q),
-        end-by-append place (slots_of inside) (EndSlot ∷ slots_of after) (spans-end place inside h.0 end h.4 (omega arith)) (refl, spans-end place after end to h.5 e))
+      let u = inline-up Pipe end after to h.5 in (
+        (let q : nat_le end place ≡ true = grind (arith) in q),
+        end-by-append place (slots_of inside) (EndSlot ∷ slots_of after) (spans-end place inside h.0 end h.4 (omega arith)) (refl, spans-end place after end to h.5 e),
+      )
 
   hidden-element : (place at : ℕ) (tag : Tag) (start end : ℕ) (inside after : Inline) (written : ℕ) → InlineOrder Pipe written inside end → nat_le end place ≡ true → (s : List Slot) (b q : List ℕ) → LaysOut at (Around tag start end inside after) s b q
       → Hidden place at s b q [] [] (λ i j k l. LaysOut i after j k l)
@@ -477,6 +481,73 @@ module _ (Pipe : ℕ → Type 0) where
           let is : from_place place (Around tag start end inside after) ≡ Around tag (max start place) end inside after = ap cut e in
           all-kept place at (Around tag start end inside after) s b q (ap (hidden_by place) h.3 ∙ k.1) h (ap runs_in is) (ap quotes_of is)
           (subst (λ l. LaysOut at l (shown_from place s) b q) (sym is) (h.0, h.1, h.2, ap (shown_from place) h.3 ∙ k.0, h.4))
+
+  -- ## The first slot that is shown
+
+  module _ (reader : Reader) (leaf : Leaf) where
+    -- an item was read, or it is one byte, or a footnote reference
+    abbrev pub IsKnown : Item → Type 0
+    IsKnown x = ReadsItem reader leaf x ⊎ ((x.end ≤ suc x.start) ⊎ IsReference x.kind)
+
+    abbrev pub AreKnown : Inline → Type 0
+    AreKnown Nil = Unit {0}
+    AreKnown (Single x after) = IsKnown x × AreKnown after
+    AreKnown (Around tag start end inside after) = AreKnown after
+
+    abbrev IsFirst : (place : ℕ) → List Slot → Type 0
+    IsFirst place row = hidden_by place row < length row → CanBeCut reader leaf place (get_or row (hidden_by place row) NothingSlot)
+
+    first-behind : (place : ℕ) (front more row : List Slot) → row ≡ front ++ more → EndBy place front → IsFirst place more → IsFirst place row
+    first-behind place front more row e ends h = λ lt.
+        let s = shown-hidden place front more ends in
+        let n = ap (hidden_by place) e ∙ s.1 in
+        let l = ap length e ∙ length-append front more in
+        subst (CanBeCut reader leaf place) (sym (get_or-append-add front more (hidden_by place more) NothingSlot) ∙ ap (λ i. get_or (front ++ more) i NothingSlot) (sym n) ∙ ap (λ r. get_or r (hidden_by place row) NothingSlot) (sym e)) (h (omega arith))
+
+    first-here : (place : ℕ) (slot : Slot) (more row : List Slot) → row ≡ slot ∷ more → hidden_by place row ≡ 0 → CanBeCut reader leaf place slot → IsFirst place row
+    first-here place slot more row e n h = λ lt. subst (CanBeCut reader leaf place) (sym (ap (λ r. get_or r 0 NothingSlot) e) ∙ ap (λ i. get_or row i NothingSlot) (sym n)) h
+
+    known-cut : (place : ℕ) (x : Item) → nat_le x.end place ≡ false → IsKnown x → CanBeCut reader leaf place (ItemSlot x)
+    known-cut place x e (inl r) = inr (inl r)
+    known-cut place x e (inr (inl r)) = let l : place < x.end = grind (arith) in inl (omega arith)
+    known-cut place x e (inr (inr r)) = inr (inr r)
+
+    first-item : (kind : ItemKind) (x : Item) (place : ℕ) (After : ℕ → List Slot → List ℕ → List ℕ → Type 0) → nat_le x.end place ≡ false → FreeBy kind place x.start x.end → ExactBy kind x.start x.end → IsKnown x
+        → (at : ℕ) (s : List Slot) (b q : List ℕ) → LaysItem kind x After at s b q → IsFirst place s
+    first-item (Delimiters run) x place After e free ex known at s b q h = go run.size refl
+      where
+        early : (c : Bool) → nat_le place x.start ≡ c → place ≤ x.start
+        early true f = grind (arith)
+        early false f = let l : place < x.end = grind (arith) in absurd (free (let r : x.start < place = grind (arith) in r) (omega arith))
+
+        go : (n : ℕ) → run.size ≡ n → IsFirst place s
+        go zero f = absurd (let z = ex.1 in omega arith)
+        go (suc n) f =
+            let k = kept-run run x place After (early (nat_le place x.start) refl) ex.1 at s b q h in
+            first-here place (ItemSlot (item Own x.start (suc x.start))) (run_slots (suc x.start) n h.0) s (h.2 ∙ ap (λ m. run_slots x.start m h.0) f) k.1 (inl (early (nat_le place x.start) refl))
+    first-item (Quoted quote) x place After e free ex known at s b q h = first-here place (ItemSlot x) h.0 s h.2 (ap (hidden_by place) h.2 ∙ (shown-kept place (ItemSlot x) h.0 e).1) (known-cut place x e known)
+    first-item (FootnoteReference label) x place After e free ex known at s b q h = first-here place (ItemSlot x) (h.0 ++ h.1) s h.3 (ap (hidden_by place) h.3 ∙ (shown-kept place (ItemSlot x) (h.0 ++ h.1) e).1) (known-cut place x e known)
+    first-item kind x place After e free ex known at s b q h = first-here place (ItemSlot x) h.0 s h.1 (ap (hidden_by place) h.1 ∙ (shown-kept place (ItemSlot x) h.0 e).1) (known-cut place x e known)
+
+    pub first-shown : (place : ℕ) (siblings : Inline) (from to : ℕ) → SiblingOrder Pipe from siblings to → IsFree place siblings → AreExact siblings → AreKnown siblings
+        → (at : ℕ) (s : List Slot) (b q : List ℕ) → LaysOut at siblings s b q → IsFirst place s
+    first-shown place Nil from to order free ex known at s b q h = λ lt. absurd (let n = ap length h.0 in omega arith)
+    first-shown place (Single x after) from to order free ex known at s b q h =
+        go (nat_le x.end place) refl (λ p. first-shown place after x.end to order.3 free.1 ex.1 known.1 (at + length p.front) p.more p.more_bytes p.more_quotes p.after)
+      where
+        go : (c : Bool) → nat_le x.end place ≡ c → ((p : Hidden place at s b q (run_of x.kind) (quote_of x.kind) (λ i j k l. LaysOut i after j k l)) → IsFirst place p.more) → IsFirst place s
+        go true e ih =
+            let p = hidden-item x.kind x place (λ i j k l. LaysOut i after j k l) e ex.0 at s b q h in
+            first-behind place p.front p.more s p.row_is p.ends (ih p)
+        go false e ih = first-item x.kind x place (λ i j k l. LaysOut i after j k l) e free.0 ex.0 known.0 at s b q h
+    first-shown place (Around tag start end inside after) from to order free ex known at s b q h =
+        go (nat_le end place) refl (λ p. first-shown place after end to order.5 free ex known (at + length p.front) p.more p.more_bytes p.more_quotes p.after)
+      where
+        go : (c : Bool) → nat_le end place ≡ c → ((p : Hidden place at s b q [] [] (λ i j k l. LaysOut i after j k l)) → IsFirst place p.more) → IsFirst place s
+        go true e ih =
+            let p = hidden-element place at tag start end inside after order.0 order.4 e s b q h in
+            first-behind place p.front p.more s p.row_is p.ends (ih p)
+        go false e ih = first-here place (BeginSlot tag start end) (h.0 ++ (EndSlot ∷ h.1)) s h.3 (ap (hidden_by place) h.3 ∙ (shown-kept place (BeginSlot tag start end) (h.0 ++ (EndSlot ∷ h.1)) e).1) tt
 
   -- ## The text of no bytes
 

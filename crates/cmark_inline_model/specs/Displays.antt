@@ -1,14 +1,19 @@
 -- What is left of a row of slots behind an opening bracket whose wikilink shows what stands from a place on (this profile's own).
-use Rattle.std.specs.Prelude.{◌≡◌, ℕ, suc, ◌+◌, Bool, true, ◌==◌, nat_le, if◌then◌else◌, max, ◌≤◌, ◌<◌, List, [], ◌∷◌, ◌++◌, length, drop, take, get_or}
+use Rattle.std.specs.Prelude.{◌≡◌, ℕ, suc, ◌+◌, Bool, true, ◌==◌, nat_le, if◌then◌else◌, max, ◌≤◌, ◌<◌, ◌⊎◌, List, [], ◌∷◌, ◌++◌, length, drop, take, get_or}
 use Rattle.cmark_grammar.specs.BracketDecisions.{linked}
-use Rattle.cmark_grammar.specs.Emphasis.{Run}
-use Rattle.cmark_grammar.specs.Items.{Own}
+use Rattle.cmark_grammar.specs.Emphasis.{Run, Pair}
+use Rattle.cmark_grammar.specs.InlineTokens.{from, place_of, token}
+use Rattle.cmark_grammar.specs.Items.{ItemKind, Own, FootnoteReference, Item, Bracket, Stands, Opens, Closes}
+use Rattle.cmark_grammar.specs.LeafText.{Leaf}
 use Rattle.cmark_grammar.specs.LinkType as link_type
+use Rattle.cmark_grammar.specs.Options.{Options}
 use Rattle.cmark_grammar.specs.Parts.{Target}
+use Rattle.cmark_grammar.specs.Quotes.{Quote, quote_characters}
+use Rattle.cmark_grammar.specs.Readers.{Reader}
 use Rattle.cmark_grammar.specs.Siblings.{item}
 use Rattle.cmark_inline_model.specs.LikeSlots.{AreLike}
 use Rattle.cmark_inline_model.specs.RowParts.{bytes_in}
-use Rattle.cmark_inline_model.specs.SlotRows.{Slot, ItemSlot, BeginSlot, EndSlot, NothingSlot}
+use Rattle.cmark_inline_model.specs.SlotRows.{Slot, ItemSlot, BeginSlot, EndSlot, NothingSlot, marked, marks_by, quoted}
 
 -- the bytes of a slot end before the place, or there. What is nothing, and the end of an element, have no bytes of their own
 abbrev pub ends_by : (place : ℕ) → Slot → Bool
@@ -55,6 +60,33 @@ pub record LeavesQuotes (first left at : ℕ) (quotes : List ℕ) : Type 0 where
   pub before : (k : ℕ) → first ≤ k → k < left → k < length quotes → get_or quotes k 0 < at
   pub behind : left < length quotes → at ≤ get_or quotes left 0
 
+-- ## The slot that is cut
+
+-- an item is what begins at a place of the leaf, or the text of a bracket that does
+pub record ReadsItem (reader : Reader) (leaf : Leaf) (x : Item) : Type 0 where
+  pub at : ℕ
+  pub is_place : place_of reader leaf (from reader leaf at) ≡ at
+  pub begins :
+      ((past : ℕ) × (token reader leaf at ≡ Stands x past))
+      ⊎ ((b : Bracket) × ((token reader leaf at ≡ Opens b) ⊎ (token reader leaf at ≡ Closes b)) × (x ≡ item Own b.start b.end))
+
+abbrev pub IsReference : ItemKind → Type 0
+IsReference (FootnoteReference label) = Unit {0}
+IsReference _ = ⊥
+
+-- the first slot that ends behind the place is that of an item that was read, or of a footnote reference, or an element begins in it; or it begins
+-- at the place or behind it
+abbrev pub CanBeCut : Reader → Leaf → (place : ℕ) → Slot → Type 0
+CanBeCut reader leaf place (ItemSlot x) = (place ≤ x.start) ⊎ (ReadsItem reader leaf x ⊎ IsReference x.kind)
+CanBeCut reader leaf place (BeginSlot tag start end) = Unit {0}
+CanBeCut reader leaf place EndSlot = ⊥
+CanBeCut reader leaf place NothingSlot = ⊥
+
+-- so it is in a row from a slot on, if there is such a slot
+abbrev pub IsCutThere : Reader → Leaf → (from place : ℕ) → List Slot → Type 0
+IsCutThere reader leaf from place row =
+    hidden_by place (drop from row) < length (drop from row) → CanBeCut reader leaf place (get_or (drop from row) (hidden_by place (drop from row)) NothingSlot)
+
 -- slots that are like a row became slots that are like what is left of it, and the first that is shown stands at this place
 pub record ShowsLike (source : List ℕ) (from place close at : ℕ) (row now : List Slot) : Type 0 where
   pub first : at ≡ from + hidden_by place (drop from row)
@@ -63,3 +95,8 @@ pub record ShowsLike (source : List ℕ) (from place close at : ℕ) (row now : 
 -- a wikilink that shows what stands from a place on
 abbrev pub display_target : (name : List ℕ) → (end : ℕ) → Target
 display_target name end = record { linked = linked (link_type.WikiLink true) (record { url = name; title = [] }) []; end = end }
+
+-- the slots in which the quotes that are left are characters, and the pairs of the runs that are left have written their marks
+abbrev pub display_dressed : Options → (left_runs left_quotes : ℕ) → List Pair → List Slot → (bytes quotes : List ℕ) → List Run → List Quote → List Slot
+display_dressed options left_runs left_quotes pairs slots bytes quotes runs quotes_are =
+    marked options (drop (bytes_in (take left_runs runs)) bytes) (marks_by (length (drop (bytes_in (take left_runs runs)) bytes)) pairs) (quoted (drop left_quotes quotes) (quote_characters [] (drop left_quotes quotes_are)) slots) []
