@@ -6,7 +6,8 @@ use Rattle.std.proofs.lemmas.List.{get_or-drop, length-drop}
 use Rattle.cmark_grammar.specs.Answers.{Lookup}
 use Rattle.cmark_grammar.specs.BracketDecisions as decisions
 use Rattle.cmark_grammar.specs.BracketDecisions.{decide, taking, wikilink_or, with_taken, link_or, stays, links, forms, wikilink, name_in, is_there}
-use Rattle.cmark_grammar.specs.BracketStates.{Opener, State, Decision, Settled}
+use Rattle.cmark_grammar.specs.BracketReading.{Comes}
+use Rattle.cmark_grammar.specs.BracketStates.{Opener, State, Decision, Settled, Outcome, StaysText, Forms}
 use Rattle.cmark_grammar.specs.Items as items
 use Rattle.cmark_grammar.specs.Labels.{normal_form}
 use Rattle.cmark_grammar.specs.LeafText.{Leaf}
@@ -14,7 +15,8 @@ use Rattle.cmark_grammar.specs.Letters.{first_is}
 use Rattle.cmark_grammar.specs.LinkTails.{link_tail_in}
 use Rattle.cmark_grammar.specs.OpenBrackets.{Taken, nearest, used_up, doubled, tried, undoubled, inactive, dropped, behind_link}
 use Rattle.cmark_grammar.specs.Options.{Options}
-use Rattle.cmark_grammar.specs.Parts.{Footnote}
+use Rattle.cmark_grammar.specs.Parts.{Footnote, Linking}
+use Rattle.cmark_grammar.specs.Questions.{AnyAnswer}
 use Rattle.cmark_grammar.specs.Readers.{Reader}
 use Rattle.cmark_grammar.specs.Tokens.{slice}
 use Rattle.cmark_items.specs.declared.definitions.RefDefs.{RefDefs}
@@ -24,21 +26,29 @@ use Rattle.cmark_leaf_text.specs.Reads.{text_of, source_of, is_cell_of}
 use Rattle.cmark_leaf_text.specs.declared.leaf_text.LeafText.{LeafText}
 use Rattle.cmark_text.specs.declared.text.CowStr.{CowStr}
 use Rattle.cmark_inline.specs.BracketViews.{IsFresh, IsPlaced, IsTaken, StandFor, TakenAs, standing_of}
-use Rattle.cmark_inline.specs.Closers.{ClosesAs, Formed, FormsTarget, LeavesElement, LeavesFootnote, LeavesWikilink, LinksTaken, NoneStand, ShowsState, TriesDoubled}
+use Rattle.cmark_inline.specs.Closers.{ClosesAs, ReadsOn, Formed, FormsTarget, LeavesElement, LeavesFootnote, LeavesWikilink, LinksTaken, NoneStand, ShowsState, TriesDoubled}
 use Rattle.cmark_inline_model.specs.TextPlaces.{ArePlaces}
 use Rattle.cmark_inline.specs.Decided.{ComesTo, EndsWithin, IsCloser, ReadsSame, Remembers, TargetDecides, target_outcome, with_left}
 use Rattle.cmark_inline.specs.Doubled as stacks
 use Rattle.cmark_inline.specs.Footnoted.{KeepsLabel, footnote_of, forms_footnote}
+use Rattle.cmark_inline.specs.Hiding.{WritesReference}
+use Rattle.cmark_inline.specs.SlotViews.{shown_parts}
+use Rattle.cmark_inline.specs.Sound.{IsTakenFrom}
 use Rattle.cmark_inline.specs.Stands.{IsBracket}
+use Rattle.cmark_inline.specs.Written.{WritesElement}
 use Rattle.cmark_inline.specs.Wikilinks.{forms_wikilink, is_wikilink, wiki_text}
 use Rattle.cmark_inline.specs.declared.bracket.Bracket.{Bracket}
 use Rattle.cmark_inline.specs.declared.bracket.Brackets.{Brackets}
 use Rattle.cmark_inline.specs.declared.callback.BrokenLink.{BrokenLink}
 use Rattle.cmark_inline.specs.declared.link.Target.{Target}
+use Rattle.cmark_inline.specs.declared.slot.Slot.{Slot}
+use Rattle.cmark_inline.specs.declared.slot.SlotKind.TheVariants as kind
 use Rattle.cmark_inline.specs.declared.state.InlineState.{InlineState}
 use Rattle.cmark_inline.specs.declared.step.Cursor.{Cursor}
 use Rattle.cmark_inline.proofs.AfterSteps.{IsTried, TriedAs, footnote-formed, image-formed, link-formed, tried-as, tried-one, tried_by, wikilink-formed}
 use Rattle.cmark_inline.proofs.BracketSteps.{Takes, takes, and-right, fresh-past, placed-lower, tried-rest, tried-standing}
+use Rattle.cmark_inline.proofs.ClosingReads.{IsFlushed, SameRows, comes-any, link-reads, rows-on}
+use Rattle.cmark_inline.proofs.HidingReads.{footnote-reads}
 use Rattle.cmark_inline.proofs.TargetSteps.{behind-is, closer-end, footnote-named, next-of, there-same}
 
 abbrev pub with_openers : List Opener → State → State
@@ -214,9 +224,13 @@ module _ (options : Options) (lookup : Lookup) (references : RefDefs) (footnotes
 
   -- ## The four ways out
 
-  module _ {F : Type 0} (R : F → BrokenLink → Option (CowStr × CowStr) → F → Type 0) (next : Cursor) (new : InlineState) (before after : F) where
+  module _ {F : Type 0} (R : F → BrokenLink → Option (CowStr × CowStr) → F → Type 0) (next : Cursor) (new : InlineState) (before after : F) (from : ℕ) where
     abbrev Goal : Type 0
-    Goal = ClosesAs R options.wikilinks text reader read place closer s bs next old new before after
+    Goal = ClosesAs R options.wikilinks leaf text reader read place from close closer s bs next old new before after
+
+    -- what was read where the decision comes to this
+    abbrev ReadsFor : Outcome → Type 0
+    ReadsFor outcome = Comes AnyAnswer s.asked (decide reader read s closer) outcome → ReadsOn leaf reader read place from close closer s bs outcome old new
 
     -- the state of an outcome
     shown : (os2 : List Opener) (bs2 : List Bracket) (s2 : State) → s2.openers ≡ os2 → close < next.at → StandFor options.wikilinks place close os2 bs2 new.brackets new.doubled → Remembers text place s2 new
@@ -271,6 +285,7 @@ module _ (options : Options) (lookup : Lookup) (references : RefDefs) (footnotes
                   (record { drops = leaving.drops; shut = refl }) (record { standing = refl; shut = leaving.shut }) leaving.none)
                   (record { expansion = m.expansion; label = m.label; within = m.within });
               notes = tt;
+              reads = λ said. absurd said;
             }
 
     -- the taken bracket is there, and forms what it can
@@ -293,8 +308,10 @@ module _ (options : Options) (lookup : Lookup) (references : RefDefs) (footnotes
     -- a footnote reference
     pub footnote-closes : (mid : InlineState) (taken : Option Bracket) → IsReady mid.brackets mid.doubled → TakenAs place bs tk taken → Remembers text place s mid → true ≡ forms_footnote options footnotes (footnote_of options (is_cell_of leaf) (is_there close mid.shut_close) text close taken)
         → IfSome taken (λ b. b.inside ≤ close) → IfSome taken (λ b. LeavesFootnote b.start mid new) → Remembers text place s new → next.at ≡ close + 1 → next.pending ≡ next.at → after ≡ before
-        → IfSome (footnote_of options (is_cell_of leaf) (is_there close mid.shut_close) text close taken) (λ label. KeepsLabel label mid.texts.items new.texts.items) → mid.texts ≡ old.texts → Goal
-    footnote-closes mid taken ready takes m0 formed up leaves m at pending same_callback keeps texts = go taken refl tk refl
+        → IfSome (footnote_of options (is_cell_of leaf) (is_there close mid.shut_close) text close taken) (λ label. KeepsLabel label mid.texts.items new.texts.items) → mid.texts ≡ old.texts
+        → (mine : InlineState) → IsFlushed from close old mine → SameRows mine mid
+        → IfSome taken (λ b. IfSome (footnote_of options (is_cell_of leaf) (is_there close mid.shut_close) text close taken) (λ label. WritesReference b (normal_form label) (close + 1) mid new)) → Goal
+    footnote-closes mid taken ready takes m0 formed up leaves m at pending same_callback keeps texts mine flushed rows writes = go taken refl tk refl
       where
         lt : close < next.at
         lt = let q = at in omega (arith, q)
@@ -309,30 +326,37 @@ module _ (options : Options) (lookup : Lookup) (references : RefDefs) (footnotes
             let i = taken_is t taken b (subst (λ d. TakenAs place bs d taken) f takes) e in
             let le = subst (λ (o : Option Bracket). IfSome o (λ b. b.inside ≤ close)) e up in
             let leaving = subst (λ (o : Option Bracket). IfSome o (λ b. LeavesFootnote b.start mid new)) e leaves in
-            by i le leaving (subst (λ (o : Option Bracket). IfSome (note_of o) (λ label. KeepsLabel label mid.texts.items new.texts.items)) e keeps) (note_of (Some b)) refl (formed ∙ ap (λ b. forms_footnote options footnotes (note_of b)) e)
+            by i le leaving (subst (λ (o : Option Bracket). IfSome (note_of o) (λ label. KeepsLabel label mid.texts.items new.texts.items)) e keeps)
+            (subst (λ (o : Option Bracket). IfSome o (λ b. IfSome (note_of o) (λ label. WritesReference b (normal_form label) (close + 1) mid new))) e writes) (note_of (Some b)) refl (formed ∙ ap (λ b. forms_footnote options footnotes (note_of b)) e)
           where
             s2 : State
             s2 = with_openers ready.openers s
 
-            by : (t.opener.is_inactive ≡ false) × (drop t.nearer bs ≡ b ∷ drop (suc t.nearer) bs) × IsPlaced place t.opener b → b.inside ≤ close → LeavesFootnote b.start mid new → IfSome (note_of (Some b)) (λ label. KeepsLabel label mid.texts.items new.texts.items) → (n : Option (List ℕ)) → note_of (Some b) ≡ n → true ≡ forms_footnote options footnotes n → Goal
-            by i le leaving kept None g h = absurd (true≢false h)
-            by i le leaving kept (Some note) g h =
+            by : (t.opener.is_inactive ≡ false) × (drop t.nearer bs ≡ b ∷ drop (suc t.nearer) bs) × IsPlaced place t.opener b → b.inside ≤ close → LeavesFootnote b.start mid new → IfSome (note_of (Some b)) (λ label. KeepsLabel label mid.texts.items new.texts.items)
+                → IfSome (note_of (Some b)) (λ label. WritesReference b (normal_form label) (close + 1) mid new) → (n : Option (List ℕ)) → note_of (Some b) ≡ n → true ≡ forms_footnote options footnotes n → Goal
+            by i le leaving kept written None g h = absurd (true≢false h)
+            by i le leaving kept written (Some note) g h =
+                let made = subst (λ (o : Option (List ℕ)). IfSome o (λ label. WritesReference b (normal_form label) (close + 1) mid new)) g written in
                 let owned = subst (λ (o : Option (List ℕ)). IfSome o (λ label. KeepsLabel label mid.texts.items new.texts.items)) g kept in
                 let w = c.within in
                 let shut = there-same reader read text place p close closer.start mid.shut_close s.label_close (let q : close ≤ length text = omega (arith, w) in q) m0.within c.start m0.label in
+                let to : Outcome = forms reader read t (Footnote (normal_form note) closer.end) closer.end (map dropped) s2 in
+                let comes : ComesTo R (decide reader read s closer) to before after = subst (λ (d : Decision). ComesTo R d to before after)
+                (sym (decide-is reader read s closer ∙ ready.decision ∙ ap (λ d. with_taken reader read d closer s2) f
+                ∙ ap (λ z. if z then Settled (stays reader read closer s2) else link_or reader read (link_tail_in (decisions.behind reader read closer.end)) t closer s2) i.0
+                ∙ footnote-named options (is_cell_of leaf) reader read text place p r.options_are r.cell close closer c t b i.2 le footnotes s2 (is_there close mid.shut_close) note shut r.footnotes_are g (sym h)))
+                (refl, same_callback) in
                 record {
                   outcome = forms reader read t (Footnote (normal_form note) closer.end) closer.end (map dropped) s2;
-                  comes = subst (λ (d : Decision). ComesTo R d (forms reader read t (Footnote (normal_form note) closer.end) closer.end (map dropped) s2) before after)
-                      (sym (decide-is reader read s closer ∙ ready.decision ∙ ap (λ d. with_taken reader read d closer s2) f
-                      ∙ ap (λ z. if z then Settled (stays reader read closer s2) else link_or reader read (link_tail_in (decisions.behind reader read closer.end)) t closer s2) i.0
-                      ∙ footnote-named options (is_cell_of leaf) reader read text place p r.options_are r.cell close closer c t b i.2 le footnotes s2 (is_there close mid.shut_close) note shut r.footnotes_are g (sym h)))
-                      (refl, same_callback);
+                  comes = comes;
                   at = closer-end reader read text place p close closer c ∙ ap place (sym at);
                   pending = pending;
                   shows = shown (map dropped (drop (suc t.nearer) ready.openers)) (drop (suc t.nearer) bs) (forms reader read t (Footnote (normal_form note) closer.end) closer.end (map dropped) s2).after refl lt
                       (footnote-formed options.wikilinks place close close t.nearer ready.openers bs b mid.brackets mid.doubled ready.view here i.1 new.brackets new.doubled leaving.none leaving.drops)
                       (record { expansion = m.expansion; label = m.label; within = m.within });
                   notes = (owned.0, owned.1, owned.2 ∙ ap (λ v. v.items ++ (owned.0 ∷ [])) texts);
+                  reads = λ said.
+                      footnote-reads leaf reader read place closer s bs from close old mine mid new flushed rows text same c t.opener b i.2 le (normal_form note) made t.nearer i.1 to.after (comes-any R (decide reader read s closer) to s.asked before after comes);
                 }
 
     -- a link or an image, or nothing
@@ -346,8 +370,9 @@ module _ (options : Options) (lookup : Lookup) (references : RefDefs) (footnotes
 
     pub target-closes : (st between : InlineState) (b : Bracket) (taken : Option Bracket) (target : Target) → IsReady st.brackets st.doubled → TakenAs place bs tk taken → taken ≡ Some b → Remembers text place s st → between.brackets ≡ st.brackets → between.doubled ≡ st.doubled
         → TargetDecides R options lookup references leaf text b close st between (Some target) before after → false ≡ forms_footnote options footnotes (footnote_of options (is_cell_of leaf) (is_there close st.shut_close) text close taken)
-        → close < target.past → target.past ≤ length text → EndsWithin text between.shut_close → FormsTarget b target between new next → between.links ≡ old.links → Goal
-    target-closes st between b taken target ready takes e m same_brackets same_doubled decides no_note lt within label formed table = go tk refl
+        → close < target.past → target.past ≤ length text → EndsWithin text between.shut_close → FormsTarget options b target between new next → between.links ≡ old.links
+        → ((nearer : ℕ) → drop nearer bs ≡ b ∷ drop (suc nearer) bs → reads.place_of leaf (target.end - 1) + 1 ≡ place target.end → (after : State) → ReadsFor (record { result = Forms nearer (Linking (record { linked = shown_parts target.parts; end = place target.end })); after = after })) → Goal
+    target-closes st between b taken target ready takes e m same_brackets same_doubled decides no_note lt within label formed table reading = go tk refl
       where
         s2 : State
         s2 = with_openers ready.openers s
@@ -356,14 +381,18 @@ module _ (options : Options) (lookup : Lookup) (references : RefDefs) (footnotes
         go None f = absurd (let q : taken ≡ None = subst (λ d. TakenAs place bs d taken) f takes in let z : ⊥ = cc in z)
         go (Some t) f =
             let i = taken_is t taken b (subst (λ d. TakenAs place bs d taken) f takes) e in
-            let l = decides footnotes reader read place t closer s2 r c i.2 (record { expansion = m.expansion; label = m.label; within = m.within }) (sym (no_note ∙ ap (λ o. forms_footnote options footnotes (footnote_of options (is_cell_of leaf) (is_there close st.shut_close) text close o)) e)) in
+            let all = decides footnotes reader read place t closer s2 r c i.2 (record { expansion = m.expansion; label = m.label; within = m.within }) (sym (no_note ∙ ap (λ o. forms_footnote options footnotes (footnote_of options (is_cell_of leaf) (is_there close st.shut_close) text close o)) e)) in
+            let l = all.0 in
             let at = formed.at in
+            let to : Outcome = target_outcome reader read place t closer (with_left between.expansion (option_map place between.shut_close) l.asked s2) (Some target) in
+            let comes : ComesTo R (decide reader read s closer) to before after = subst (λ (d : Decision). ComesTo R d to before after)
+            (sym (decide-is reader read s closer ∙ ready.decision ∙ ap (λ d. with_taken reader read d closer s2) f
+            ∙ ap (λ z. if z then Settled (stays reader read closer s2) else link_or reader read (link_tail_in (decisions.behind reader read closer.end)) t closer s2) i.0))
+            l.comes in
             record {
               outcome = target_outcome reader read place t closer (with_left between.expansion (option_map place between.shut_close) l.asked s2) (Some target);
-              comes = subst (λ (d : Decision). ComesTo R d (target_outcome reader read place t closer (with_left between.expansion (option_map place between.shut_close) l.asked s2) (Some target)) before after)
-                  (sym (decide-is reader read s closer ∙ ready.decision ∙ ap (λ d. with_taken reader read d closer s2) f
-                  ∙ ap (λ z. if z then Settled (stays reader read closer s2) else link_or reader read (link_tail_in (decisions.behind reader read closer.end)) t closer s2) i.0))
-                  l.comes;
+              comes = comes;
+              reads = λ said. reading t.nearer i.1 all.1 to.after (comes-any R (decide reader read s closer) to s.asked before after comes);
               at = ap place (sym at);
               pending = formed.pending ∙ sym at;
               shows = shown (behind_link t.opener.bracket.is_image (drop (suc t.nearer) ready.openers)) (drop (suc t.nearer) bs)
@@ -379,8 +408,9 @@ module _ (options : Options) (lookup : Lookup) (references : RefDefs) (footnotes
     -- a text
     pub text-closes : (st between : InlineState) (taken : Option Bracket) → IsReady st.brackets st.doubled → TakenAs place bs tk taken → Remembers text place s st → false ≡ forms_footnote options footnotes (footnote_of options (is_cell_of leaf) (is_there close st.shut_close) text close taken)
         → LinksTaken R options lookup references leaf text taken close st between None before after
-        → new.brackets ≡ between.brackets → new.doubled ≡ between.doubled → new.expansion ≡ between.expansion → new.shut_close ≡ between.shut_close → next.at ≡ close + 1 → next.pending ≡ next.at → new.links ≡ between.links → st.links ≡ old.links → Goal
-    text-closes st between taken ready takes m no_note links same_brackets same_doubled left label at pending table old_table = go taken refl links
+        → new.brackets ≡ between.brackets → new.doubled ≡ between.doubled → new.expansion ≡ between.expansion → new.shut_close ≡ between.shut_close → next.at ≡ close + 1 → next.pending ≡ next.at → new.links ≡ between.links → st.links ≡ old.links
+        → ((after : State) → ReadsFor (record { result = StaysText; after = after })) → Goal
+    text-closes st between taken ready takes m no_note links same_brackets same_doubled left label at pending table old_table reading = go taken refl links
       where
         s2 : State
         s2 = with_openers ready.openers s
@@ -399,9 +429,11 @@ module _ (options : Options) (lookup : Lookup) (references : RefDefs) (footnotes
         go None e l =
             let none = none_taken tk taken s2 takes e in
             let same_state = l.1 in
+            let comes : ComesTo R (decide reader read s closer) (stays reader read closer s2) before after = subst (λ (d : Decision). ComesTo R d (stays reader read closer s2) before after) (sym (decide-is reader read s closer ∙ ready.decision ∙ none)) (refl, l.2) in
             record {
               outcome = stays reader read closer s2;
-              comes = subst (λ (d : Decision). ComesTo R d (stays reader read closer s2) before after) (sym (decide-is reader read s closer ∙ ready.decision ∙ none)) (refl, l.2);
+              comes = comes;
+              reads = λ said. reading (stays reader read closer s2).after (comes-any R (decide reader read s closer) (stays reader read closer s2) s.asked before after comes);
               at = place_at;
               pending = pending;
               shows = shown ready.openers bs (stays reader read closer s2).after refl lt
@@ -415,21 +447,23 @@ module _ (options : Options) (lookup : Lookup) (references : RefDefs) (footnotes
             }
         go (Some b) e l = by l.target refl l.formed tk refl
           where
-            by : (found : Option Target) → l.target ≡ found → Formed b l.target l.between between None → (d : Option Taken) → tk ≡ d → Goal
-            by (Some target) g formed d f = absurd (subst (λ t. Formed b t l.between between None) g formed)
+            by : (found : Option Target) → l.target ≡ found → Formed options b l.target l.between between None → (d : Option Taken) → tk ≡ d → Goal
+            by (Some target) g formed d f = absurd (subst (λ t. Formed options b t l.between between None) g formed)
             by None g formed None f = absurd (let q : taken ≡ None = subst (λ d. TakenAs place bs d taken) f takes in let z : ⊥ = cc in z)
             by None g formed (Some t) f =
-                let same_state : between ≡ l.between = subst (λ t. Formed b t l.between between None) g formed in
+                let same_state : between ≡ l.between = subst (λ t. Formed options b t l.between between None) g formed in
                 let i = taken_is t taken b (subst (λ d. TakenAs place bs d taken) f takes) e in
                 let decided = subst (λ (x : Option Target). TargetDecides R options lookup references leaf text b close st l.between x before after) g l.decides in
-                let k = decided footnotes reader read place t closer s2 r c i.2 (record { expansion = m.expansion; label = m.label; within = m.within }) (sym (no_note ∙ ap (λ o. forms_footnote options footnotes (footnote_of options (is_cell_of leaf) (is_there close st.shut_close) text close o)) e)) in
+                let k = (decided footnotes reader read place t closer s2 r c i.2 (record { expansion = m.expansion; label = m.label; within = m.within }) (sym (no_note ∙ ap (λ o. forms_footnote options footnotes (footnote_of options (is_cell_of leaf) (is_there close st.shut_close) text close o)) e))).0 in
                 let s3 : State = with_left l.between.expansion (option_map place l.between.shut_close) k.asked s2 in
+                let comes : ComesTo R (decide reader read s closer) (stays reader read closer s3) before after = subst (λ (d : Decision). ComesTo R d (stays reader read closer s3) before after)
+                (sym (decide-is reader read s closer ∙ ready.decision ∙ ap (λ d. with_taken reader read d closer s2) f
+                ∙ ap (λ z. if z then Settled (stays reader read closer s2) else link_or reader read (link_tail_in (decisions.behind reader read closer.end)) t closer s2) i.0))
+                k.comes in
                 record {
                   outcome = stays reader read closer s3;
-                  comes = subst (λ (d : Decision). ComesTo R d (stays reader read closer s3) before after)
-                      (sym (decide-is reader read s closer ∙ ready.decision ∙ ap (λ d. with_taken reader read d closer s2) f
-                      ∙ ap (λ z. if z then Settled (stays reader read closer s2) else link_or reader read (link_tail_in (decisions.behind reader read closer.end)) t closer s2) i.0))
-                      k.comes;
+                  comes = comes;
+                  reads = λ said. reading (stays reader read closer s3).after (comes-any R (decide reader read s closer) (stays reader read closer s3) s.asked before after comes);
                   at = place_at;
                   pending = pending;
                   shows = shown ready.openers bs (stays reader read closer s3).after refl lt (view_by l.between l.same.brackets l.same.doubled (same_brackets ∙ ap (λ (x : InlineState). x.brackets) same_state) (same_doubled ∙ ap (λ (x : InlineState). x.doubled) same_state))
@@ -443,20 +477,31 @@ module _ (options : Options) (lookup : Lookup) (references : RefDefs) (footnotes
 
     -- what `link` did
     pub linked-closes : (st : InlineState) (taken : Option Bracket) → IsReady st.brackets st.doubled → TakenAs place bs tk taken → Remembers text place s st → false ≡ forms_footnote options footnotes (footnote_of options (is_cell_of leaf) (is_there close st.shut_close) text close taken)
-        → LinksTaken R options lookup references leaf text taken close st new (Some next) before after → close < next.at → next.at ≤ length text → st.links ≡ old.links → Goal
-    linked-closes st taken ready takes m no_note links lt within old_table = go taken refl links
+        → LinksTaken R options lookup references leaf text taken close st new (Some next) before after → close < next.at → next.at ≤ length text → st.links ≡ old.links
+        → (mine : InlineState) → IsFlushed from close old mine → SameRows mine st → IfSome taken (IsTakenFrom st) → Goal
+    linked-closes st taken ready takes m no_note links lt within old_table mine flushed rows stand = go taken refl links
       where
         go : (b : Option Bracket) → taken ≡ b → LinksTaken R options lookup references leaf text b close st new (Some next) before after → Goal
         go None e l = absurd (let q = l.0 in let z : ⊥ = cc in z)
         go (Some b) e l = by l.target refl l.formed
           where
-            by : (found : Option Target) → l.target ≡ found → Formed b l.target l.between new (Some next) → Goal
-            by None g formed = absurd (subst (λ t. Formed b t l.between new (Some next)) g formed)
+            by : (found : Option Target) → l.target ≡ found → Formed options b l.target l.between new (Some next) → Goal
+            by None g formed = absurd (subst (λ t. Formed options b t l.between new (Some next)) g formed)
             by (Some target) g formed =
-                let f = subst (λ t. Formed b t l.between new (Some next)) g formed in
+                let f = subst (λ t. Formed options b t l.between new (Some next)) g formed in
                 let at = f.at in
+                let between : SameRows st l.between = record {
+                  texts = ap (λ v. v.items) l.texts;
+                  links = ap (λ v. v.items) l.table;
+                  slots = ap (λ v. v.items) l.same.slots;
+                  runs = ap (λ d. d.placed.items) l.same.delimiters;
+                  quotes = ap (λ q. q.placed.items) l.quotes;
+                } in
+                let placed = (subst (λ (o : Option Bracket). IfSome o (IsTakenFrom st)) e stand).placed in
                 target-closes st l.between b taken target ready takes e m l.same.brackets l.same.doubled (subst (λ (x : Option Target). TargetDecides R options lookup references leaf text b close st l.between x before after) g l.decides) no_note
                 (let q : close < target.past = omega (arith, lt, at) in q) (let q : target.past ≤ length text = omega (arith, within, at) in q) (l.label m.within) f (l.table ∙ old_table)
+                (λ nearer there ends after comes. link-reads leaf reader read place closer s bs from close old mine l.between new flushed (rows-on mine st l.between rows between) b target (subst (λ o. WritesElement o b target l.between new) (sym r.options_are) f.writes)
+                (subst (λ (x : List Slot). b.slot < length x) (sym between.slots) placed.there) (λ d. subst (λ (x : List Slot). (get_or x b.slot d).kind ≡ kind.Text) (sym between.slots) (placed.text d)) nearer there ends after comes)
 
   -- ## The calls on the way
 

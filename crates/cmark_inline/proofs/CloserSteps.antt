@@ -21,16 +21,16 @@ use Rattle.cmark_inline.specs.declared.step.Cursor.{Cursor}
 
 module _ {F : Type 0} (R : F → BrokenLink → Option (CowStr × CowStr) → F → Type 0) (options : Options) (lookup : Lookup) (references : RefDefs) (leaf : LeafText) (text : List ℕ) (taken : Option Bracket) (bracket : Bracket) (close : ℕ)
     (old between : InlineState) (found : Option Target) (before after : F) (took : taken ≡ Some bracket) (decides : TargetDecides R options lookup references leaf text bracket close old between found before after)
-    (same : SameSpans old between) (label : EndsWithin text old.shut_close → EndsWithin text between.shut_close) (table : between.links ≡ old.links) where
+    (same : SameSpans old between) (label : EndsWithin text old.shut_close → EndsWithin text between.shut_close) (table : between.links ≡ old.links) (texts : between.texts ≡ old.texts) (quotes : between.quotes ≡ old.quotes) where
   pub links-none : found ≡ None → LinksTaken R options lookup references leaf text taken close old between None before after
   links-none none =
       subst (λ (t : Option Bracket). LinksTaken R options lookup references leaf text t close old between None before after) (sym took)
-      (record { target = None; between = between; decides = subst (λ (t : Option Target). TargetDecides R options lookup references leaf text bracket close old between t before after) none decides; same = same; label = label; table = table; formed = refl })
+      (record { target = None; between = between; decides = subst (λ (t : Option Target). TargetDecides R options lookup references leaf text bracket close old between t before after) none decides; same = same; label = label; table = table; texts = texts; quotes = quotes; formed = refl })
 
-  pub links-some : (target : Target) (new : InlineState) (next : Cursor) → found ≡ Some target → FormsTarget bracket target between new next → LinksTaken R options lookup references leaf text taken close old new (Some next) before after
+  pub links-some : (target : Target) (new : InlineState) (next : Cursor) → found ≡ Some target → FormsTarget options bracket target between new next → LinksTaken R options lookup references leaf text taken close old new (Some next) before after
   links-some target new next some formed =
       subst (λ (t : Option Bracket). LinksTaken R options lookup references leaf text t close old new (Some next) before after) (sym took)
-      (record { target = Some target; between = between; decides = subst (λ (t : Option Target). TargetDecides R options lookup references leaf text bracket close old between t before after) some decides; same = same; label = label; table = table; formed = formed })
+      (record { target = Some target; between = between; decides = subst (λ (t : Option Target). TargetDecides R options lookup references leaf text bracket close old between t before after) some decides; same = same; label = label; table = table; texts = texts; quotes = quotes; formed = formed })
 
 -- the new bracket is the nearest
 pub opens-as : (wikilinks is_image : Bool) (text : List ℕ) (at inside : ℕ) (old new : InlineState) (b : Bracket) → b.is_image ≡ is_image → b.start ≡ at → b.inside ≡ inside

@@ -53,3 +53,11 @@ pub mod TargetSteps
 pub mod TargetMakes
 pub mod CloserSteps
 pub mod CloserMakes
+pub mod Wrapping
+pub mod Longer
+pub mod ElementWrites
+pub mod TailEnds
+pub mod ClosingReads
+pub mod HiddenSlots
+pub mod HidingReads
+pub mod WikiSlots

@@ -46,7 +46,7 @@ pub keeps-set : {X : Type 0} (xs : List X) (at : ℕ) (x : X) → KeepsOthers (S
 keeps-set xs at x = record { size = length-set xs at x; others = λ i differ. get-other xs at i x (λ e. differ (ap Some (sym e))) }
 
 -- what is named somewhere is the same in another table
-abbrev SameAt : {X : Type 0} → Option ℕ → (old new : List X) → Type 0
+abbrev pub SameAt : {X : Type 0} → Option ℕ → (old new : List X) → Type 0
 SameAt None old new = Unit {0}
 SameAt (Some index) old new = slice_get new index ≡ slice_get old index
 
@@ -71,7 +71,7 @@ same-element old new (element.Autolink index) s = ap (λ (o : Option LinkParts).
 same-element old new (element.Image index) s = ap (λ (o : Option LinkParts). tag.Image (linked_or_none o)) s
 
 module _ (leaf : LeafText) (texts texts1 : List CowStr) (links links1 : List LinkParts) where
-  same-slot : (slot : Slot) (k : SlotKind) → SameAt (text_named k) texts texts1 → SameAt (link_named k) links links1 → slot_as leaf texts1 links1 slot k ≡ slot_as leaf texts links slot k
+  pub same-slot : (slot : Slot) (k : SlotKind) → SameAt (text_named k) texts texts1 → SameAt (link_named k) links links1 → slot_as leaf texts1 links1 slot k ≡ slot_as leaf texts links slot k
   same-slot slot kind.Text s l = refl
   same-slot slot (kind.OwnedText index) s l = ap (λ (o : Option CowStr). item_slot (items.Written (bytes_or_none o)) (first_of leaf slot) (past_of leaf slot)) s
   same-slot slot (kind.Character character) s l = refl

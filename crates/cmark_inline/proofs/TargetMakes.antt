@@ -1,6 +1,6 @@
 -- The target that a closing bracket forms is the one that the grammar says.
 use Rattle.std.specs.Prelude.{if◌then◌else◌, drop, Option, Some, None, option_map}
-use Rattle.std.proofs.Common.{◌≡◌, ℕ, suc, ◌+◌, ◌-◌, ◌<◌, ◌≤◌, ◌==◌, Bool, true, false, List, length, refl, sym, ap, subst, ◌∙◌, arith}
+use Rattle.std.proofs.Common.{◌≡◌, ℕ, suc, ◌+◌, ◌-◌, ◌<◌, ◌≤◌, ◌==◌, Bool, true, false, List, length, get_or, refl, sym, ap, subst, ◌∙◌, arith}
 use Rattle.cmark_grammar.specs.Answers.{Lookup}
 use Rattle.cmark_grammar.specs.BracketDecisions as decisions
 use Rattle.cmark_grammar.specs.BracketDecisions.{is_there, link_or, reference_or, stays, unless_footnote}
@@ -8,6 +8,7 @@ use Rattle.cmark_grammar.specs.BracketStates.{State, Decision}
 use Rattle.cmark_grammar.specs.Items as items
 use Rattle.cmark_grammar.specs.Labels.{fold, normal_form}
 use Rattle.cmark_grammar.specs.LeafText.{Leaf}
+use Rattle.cmark_grammar.specs.Lines.{is_content}
 use Rattle.cmark_grammar.specs.LinkTails.{LinkTail, link_tail_in, reference_label_in}
 use Rattle.cmark_grammar.specs.OpenBrackets.{Taken}
 use Rattle.cmark_grammar.specs.Options.{Options}
@@ -22,16 +23,17 @@ use Rattle.cmark_text.specs.Shown.{shown_link_type}
 use Rattle.cmark_text.specs.declared.text.CowStr.{CowStr}
 use Rattle.cmark_inline.specs.BracketViews.{IsPlaced, past_opening}
 use Rattle.cmark_inline_model.specs.TextPlaces.{ArePlaces}
-use Rattle.cmark_inline.specs.Decided.{ReadsSame, IsCloser, EndsWithin, Remembers, ComesTo, is_full, target_outcome, with_left, LeadsTo, TargetDecides}
+use Rattle.cmark_inline.specs.Decided.{EndsTogether, ReadsSame, IsCloser, EndsWithin, Remembers, ComesTo, is_full, target_outcome, with_left, LeadsTo, TargetDecides}
 use Rattle.cmark_inline.specs.Footnoted.{as_label}
 use Rattle.cmark_inline.specs.Linked as linked
-use Rattle.cmark_inline.specs.Linked.{Refers, left_behind, reference_behind, shown_asked, shown_target}
+use Rattle.cmark_inline.specs.Linked.{InlineLink, Refers, left_behind, reference_behind, shown_asked, shown_target}
 use Rattle.cmark_inline.specs.declared.bracket.Bracket.{Bracket}
 use Rattle.cmark_inline.specs.declared.callback.BrokenLink.{BrokenLink}
 use Rattle.cmark_inline.specs.declared.link.Asked.{Asked}
 use Rattle.cmark_inline.specs.declared.link.Target.{Target}
 use Rattle.cmark_inline.specs.declared.state.InlineState.{InlineState}
 use Rattle.cmark_inline.proofs.DecisionSteps.{refers-spent, refers-led, stays-settled}
+use Rattle.cmark_inline.proofs.TailEnds.{tail-ends}
 use Rattle.cmark_inline.proofs.TargetSteps.{asked-named, asked-none, behind-is, inline-named, label_behind, named, next-of, there-same, with_label}
 
 -- the same label behind a reference
@@ -69,18 +71,45 @@ module _ {F : Type 0} (R : F → BrokenLink → Option (CowStr × CowStr) → F 
   abbrev places : (footnotes : FootnoteDefs) (reader : Reader) (read : Leaf) (place : ℕ → ℕ) → ReadsSame options lookup references footnotes leaf reader read place → ArePlaces reader read text place
   places footnotes reader read place r = subst (λ l. ArePlaces reader read l place) (sym same) r.places
 
+  -- an inline link ends with its closing parenthesis
+  inline-ends : (t : Target) → t.end ≤ length text → Some (shown_target text t) ≡ option_map (linked.inline_link lookup cell) (link_tail_in rest) → (0 < t.end) × (get_or text (t.end - 1) 0 ≡ 41)
+  inline-ends t lend shown = go (link_tail_in rest) refl shown
+    where
+      go : (tail : Option LinkTail) → link_tail_in rest ≡ tail → Some (shown_target text t) ≡ option_map (linked.inline_link lookup cell) tail → (0 < t.end) × (get_or text (t.end - 1) 0 ≡ 41)
+      go None e q = absurd (none q)
+        where
+          none : Some (shown_target text t) ≡ None → ⊥
+          none r = let z : ⊥ = cc in z
+      go (Some tail) e q = tail-ends text (close + 1) t.end tail e (sym (ap (λ (x : InlineLink). x.behind) (one q))) lend
+        where
+          one : Some (shown_target text t) ≡ Some (linked.inline_link lookup cell tail) → shown_target text t ≡ linked.inline_link lookup cell tail
+          one r = let z : shown_target text t ≡ linked.inline_link lookup cell tail = cc in z
+
+  -- a byte that ends no line
+  together : (footnotes : FootnoteDefs) (reader : Reader) (read : Leaf) (place : ℕ → ℕ) → ReadsSame options lookup references footnotes leaf reader read place → (end b : ℕ) → 0 < end → end ≤ length text → get_or text (end - 1) 0 ≡ b → is_content b ≡ true
+      → place_of leaf (end - 1) + 1 ≡ place end
+  together footnotes reader read place r end b pos lend byte content =
+      let size = ap length same in
+      ap (λ m. m + 1) (r.bytes (end - 1) (let l : end - 1 < length (text_of leaf) = omega (arith, pos, lend, size) in l))
+      ∙ (let l : place (end - 1) + 1 ≡ suc (place (end - 1)) = omega arith in l)
+      ∙ sym (next-of reader read text place (places footnotes reader read place r) (end - 1) b (let l : end - 1 < length text = omega (arith, pos, lend) in l) byte content)
+      ∙ ap place (let l : end - 1 + 1 ≡ end = omega (arith, pos) in l)
+
   pub inline-decides : (t : Target) (before : F) → t.end ≤ length text → t.past ≡ t.end → Some (shown_target text t) ≡ option_map (linked.inline_link lookup cell) (link_tail_in rest)
       → TargetDecides R options lookup references leaf text bracket close old old (Some t) before before
   inline-decides t before lend past shown = λ footnotes reader read place taken closer s r c p mem none.
       let e = inline-named lookup cell reader read text place (places footnotes reader read place r) r.lookup_is r.cell close closer c taken s t lend past shown in
-      record {
-        asked = s.asked;
-        comes = subst (λ (d : Decision). ComesTo R d (target_outcome reader read place taken closer (with_left old.expansion (option_map place old.shut_close) s.asked s) (Some t)) before before) (sym e) (
-          ap (λ n. target_outcome reader read place taken closer (with_left n (option_map place old.shut_close) s.asked s) (Some t)) (sym mem.expansion)
-              ∙ ap (λ l. target_outcome reader read place taken closer (with_left s.expansion l s.asked s) (Some t)) (sym mem.label),
-          refl,
-        );
-      }
+      let last = inline-ends t lend shown in (
+        record {
+          asked = s.asked;
+          comes = subst (λ (d : Decision). ComesTo R d (target_outcome reader read place taken closer (with_left old.expansion (option_map place old.shut_close) s.asked s) (Some t)) before before) (sym e) (
+            ap (λ n. target_outcome reader read place taken closer (with_left n (option_map place old.shut_close) s.asked s) (Some t)) (sym mem.expansion)
+                ∙ ap (λ l. target_outcome reader read place taken closer (with_left s.expansion l s.asked s) (Some t)) (sym mem.label),
+            refl,
+          );
+        },
+        together footnotes reader read place r t.end 41 last.0 lend last.1 refl,
+      )
 
   module _ (no_inline : None ≡ option_map (linked.inline_link lookup cell) (link_tail_in rest)) (before : bracket.inside ≤ close) where
     -- it's no inline link
@@ -93,11 +122,13 @@ module _ {F : Type 0} (R : F → BrokenLink → Option (CowStr × CowStr) → F 
     none-decides at shown = λ footnotes reader read place taken closer s r c p mem none.
         let q = places footnotes reader read place r in
         let w = c.within in
-        let shut = there-same reader read text place q close closer.start old.shut_close s.label_close (let l : close ≤ length text = omega (arith, w) in l) mem.within c.start mem.label in
-        stays-settled R reader read place taken closer (link_or reader read (link_tail_in (decisions.behind reader read closer.end)) taken closer s) s old.expansion (option_map place old.shut_close) None at at
-        (unlinked reader read place closer taken s q c
-        ∙ asked-none options cell reader read text place q r.options_are r.cell close closer c taken bracket p before footnotes s (is_there close old.shut_close) shut r.footnotes_are shown (no_tail lookup cell (link_tail_in rest) no_inline) none)
-        refl refl (sym mem.expansion) (sym mem.label)
+        let shut = there-same reader read text place q close closer.start old.shut_close s.label_close (let l : close ≤ length text = omega (arith, w) in l) mem.within c.start mem.label in (
+          stays-settled R reader read place taken closer (link_or reader read (link_tail_in (decisions.behind reader read closer.end)) taken closer s) s old.expansion (option_map place old.shut_close) None at at
+              (unlinked reader read place closer taken s q c
+              ∙ asked-none options cell reader read text place q r.options_are r.cell close closer c taken bracket p before footnotes s (is_there close old.shut_close) shut r.footnotes_are shown (no_tail lookup cell (link_tail_in rest) no_inline) none)
+              refl refl (sym mem.expansion) (sym mem.label),
+          tt,
+        )
 
     module _ (a : Asked) (lend : a.end ≤ length text) (lpast : a.past ≤ length text) (shown : Some (shown_asked text a) ≡ reference_behind options (is_there close old.shut_close) label rest) where
       abbrev Is : (reader : Reader) (read : Leaf) (place : ℕ → ℕ) (closer : items.Bracket) (taken : Taken) (s : State) → Type 0
@@ -140,9 +171,11 @@ module _ {F : Type 0} (R : F → BrokenLink → Option (CowStr × CowStr) → F 
         pub spent-decides : (at : F) → old.expansion ≡ 0 → new.expansion ≡ old.expansion → TargetDecides R options lookup references leaf text bracket close old new None at at
         spent-decides at spent kept = λ footnotes reader read place taken closer s r c p mem none.
             let i = is footnotes reader read place taken closer s r c p mem in
-            let label = label_kept place a old.shut_close new.shut_close s.label_close mem.label closes in
-            moved_on reader read place taken closer s None at at (decisions.refers reader read (named place cell a) taken closer (with_label (label_behind place a s.label_close) s)) (label_behind place a s.label_close) i.0
-            (refers-spent R reader read place taken closer (named place cell a) (with_label (label_behind place a s.label_close) s) new.expansion (option_map place new.shut_close) at at (mem.expansion ∙ spent) refl (kept ∙ sym mem.expansion) label)
+            let label = label_kept place a old.shut_close new.shut_close s.label_close mem.label closes in (
+              moved_on reader read place taken closer s None at at (decisions.refers reader read (named place cell a) taken closer (with_label (label_behind place a s.label_close) s)) (label_behind place a s.label_close) i.0
+                  (refers-spent R reader read place taken closer (named place cell a) (with_label (label_behind place a s.label_close) s) new.expansion (option_map place new.shut_close) at at (mem.expansion ∙ spent) refl (kept ∙ sym mem.expansion) label),
+              tt,
+            )
 
         pub led-decides : (at after : F) (found : Option Target) → (old.expansion == 0) ≡ false
             → Refers R (definition references (fold (as_label cell a.label.now))) a.link_type (normal_form (as_label cell a.label.now)) (place_of leaf bracket.start) (place_of leaf (a.end - 1) + 1) at after found
@@ -152,9 +185,15 @@ module _ {F : Type 0} (R : F → BrokenLink → Option (CowStr × CowStr) → F 
             let i = is footnotes reader read place taken closer s r c p mem in
             let label = label_kept place a old.shut_close new.shut_close s.label_close mem.label closes in
             let this : List ℕ = as_label cell a.label.now in
-            let def = definition references (fold this) in
-            moved_on reader read place taken closer s found at after (decisions.refers reader read (named place cell a) taken closer (with_label (label_behind place a s.label_close) s)) (label_behind place a s.label_close) i.0
-            (refers-led R reader read place taken closer (named place cell a) (with_label (label_behind place a s.label_close) s) a.link_type def new.expansion (option_map place new.shut_close) found at after
-            r.callback (r.definitions (fold this)) (ap (λ n. n == 0) mem.expansion ∙ some) refl
-            (subst (λ n. Refers R def a.link_type (normal_form this) n (place a.end) at after found) i.1 (subst (λ n. Refers R def a.link_type (normal_form this) (place_of leaf bracket.start) n at after found) i.2 refers))
-            (left ∙ ap (λ n. left_behind n found) (sym mem.expansion)) label (λ t e. (ap place (ends t e).0, ap place (ends t e).1)))
+            let def = definition references (fold this) in (
+              moved_on reader read place taken closer s found at after (decisions.refers reader read (named place cell a) taken closer (with_label (label_behind place a s.label_close) s)) (label_behind place a s.label_close) i.0
+                  (refers-led R reader read place taken closer (named place cell a) (with_label (label_behind place a s.label_close) s) a.link_type def new.expansion (option_map place new.shut_close) found at after
+                  r.callback (r.definitions (fold this)) (ap (λ n. n == 0) mem.expansion ∙ some) refl
+                  (subst (λ n. Refers R def a.link_type (normal_form this) n (place a.end) at after found) i.1 (subst (λ n. Refers R def a.link_type (normal_form this) (place_of leaf bracket.start) n at after found) i.2 refers))
+                  (left ∙ ap (λ n. left_behind n found) (sym mem.expansion)) label (λ t e. (ap place (ends t e).0, ap place (ends t e).1))),
+              led_ends place i.2 found (λ t e. (ends t e).0),
+            )
+          where
+            led_ends : (place : ℕ → ℕ) → place_of leaf (a.end - 1) + 1 ≡ place a.end → (t : Option Target) → ((x : Target) → t ≡ Some x → x.end ≡ a.end) → EndsTogether leaf place t
+            led_ends place e None h = tt
+            led_ends place e (Some x) h = ap (λ n. place_of leaf (n - 1) + 1) (h x refl) ∙ e ∙ ap place (sym (h x refl))

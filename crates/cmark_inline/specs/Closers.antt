@@ -3,7 +3,9 @@ use Rattle.std.specs.Prelude.{◌≡◌, ◌≤◌, ◌<◌, ℕ, suc, ◌-◌, 
 use Rattle.cmark_grammar.specs.Answers.{Lookup}
 use Rattle.cmark_grammar.specs.BracketDecisions.{decide}
 use Rattle.cmark_grammar.specs.BracketStates.{Opener, State, opened, Result, StaysText, Forms, Outcome}
+use Rattle.cmark_grammar.specs.InlineTokens.{token}
 use Rattle.cmark_grammar.specs.Items as items
+use Rattle.cmark_grammar.specs.LeafReading.{Between}
 use Rattle.cmark_grammar.specs.LeafText.{Leaf}
 use Rattle.cmark_grammar.specs.Options.{Options}
 use Rattle.cmark_grammar.specs.Parts.{Linking, Footnote, Wiki}
@@ -13,10 +15,13 @@ use Rattle.cmark_items.specs.declared.footnotes.FootnoteDefs.{FootnoteDefs}
 use Rattle.cmark_leaf_text.specs.declared.leaf_text.LeafText.{LeafText}
 use Rattle.cmark_text.specs.Shown.{text_bytes}
 use Rattle.cmark_text.specs.declared.text.CowStr.{CowStr}
+use Rattle.cmark_inline_model.specs.BracketPass.{Pass, closed_by}
 use Rattle.cmark_inline.specs.BracketViews.{StandFor, IsFresh, past_opening, standing_of}
 use Rattle.cmark_inline.specs.Decided.{ReadsSame, IsCloser, Remembers, ComesTo, EndsWithin, TargetDecides, shown_parts}
 use Rattle.cmark_inline.specs.Doubled.{DropsBehind}
-use Rattle.cmark_inline.specs.Stands.{SameSpans}
+use Rattle.cmark_inline.specs.Reached.{HasRead, ReadsPlaces}
+use Rattle.cmark_inline.specs.Stands.{PushesText, SameSpans}
+use Rattle.cmark_inline.specs.Written.{WritesElement}
 use Rattle.cmark_inline.specs.declared.bracket.Bracket.{Bracket}
 use Rattle.cmark_inline.specs.declared.bracket.Brackets.{Brackets}
 use Rattle.cmark_inline.specs.declared.callback.BrokenLink.{BrokenLink}
@@ -85,18 +90,19 @@ LeavesElement false start old new = LeavesLink start old new
 -- ## Links and images
 
 -- the link or the image with this target is formed, and the text is read on behind it
-pub record FormsTarget (bracket : Bracket) (target : Target) (old new : InlineState) (next : Cursor) : Type 0 where
+pub record FormsTarget (options : Options) (bracket : Bracket) (target : Target) (old new : InlineState) (next : Cursor) : Type 0 where
   pub pending : next.pending ≡ target.past
   pub at : next.at ≡ target.past
   pub leaves : LeavesElement bracket.is_image bracket.start old new
   pub links : new.links.items ≡ old.links.items ++ (target.parts ∷ [])
   pub expansion : new.expansion ≡ old.expansion
   pub label : new.shut_close ≡ old.shut_close
+  pub writes : WritesElement options bracket target old new
 
-abbrev pub Formed : Bracket → Option Target → (old new : InlineState) → Option Cursor → Type 0
-Formed bracket None old new None = new ≡ old
-Formed bracket (Some target) old new (Some next) = FormsTarget bracket target old new next
-Formed bracket _ old new _ = ⊥
+abbrev pub Formed : Options → Bracket → Option Target → (old new : InlineState) → Option Cursor → Type 0
+Formed options bracket None old new None = new ≡ old
+Formed options bracket (Some target) old new (Some next) = FormsTarget options bracket target old new next
+Formed options bracket _ old new _ = ⊥
 
 -- with the bracket that was taken the target is formed, if there is one
 pub record LinksBracket {F : Type 0} (R : F → BrokenLink → Option (CowStr × CowStr) → F → Type 0) (options : Options) (lookup : Lookup) (references : RefDefs) (leaf : LeafText) (text : List ℕ) (bracket : Bracket) (close : ℕ)
@@ -107,7 +113,9 @@ pub record LinksBracket {F : Type 0} (R : F → BrokenLink → Option (CowStr ×
   pub same : SameSpans old between
   pub label : EndsWithin text old.shut_close → EndsWithin text between.shut_close
   pub table : between.links ≡ old.links
-  pub formed : Formed bracket target between new next
+  pub texts : between.texts ≡ old.texts
+  pub quotes : between.quotes ≡ old.quotes
+  pub formed : Formed options bracket target between new next
 
 abbrev pub LinksTaken : {F : Type 0} → (F → BrokenLink → Option (CowStr × CowStr) → F → Type 0) → Options → Lookup → RefDefs → LeafText → (text : List ℕ) → Option Bracket → (close : ℕ) → (old new : InlineState) → Option Cursor → (before after : F) → Type 0
 LinksTaken R options lookup references leaf text None close old new next before after = (next ≡ None) × (new ≡ old) × (after ≡ before)
@@ -141,18 +149,36 @@ Notes (Forms nearer (Footnote label end)) old new = (text : CowStr) × (text_byt
 Notes (Forms nearer (Wiki name display end)) old new = Unit {0}
 Notes StaysText old new = new.links ≡ old.links
 
--- a closing bracket comes to what the grammar says for the answer that the callback gave, and asks what it says
-pub record ClosesAs {F : Type 0} (R : F → BrokenLink → Option (CowStr × CowStr) → F → Type 0) (wikilinks : Bool) (text : List ℕ) (reader : Reader) (read : Leaf) (place : ℕ → ℕ) (closer : items.Bracket) (s : State) (bs : List Bracket)
-    (next : Cursor) (old new : InlineState) (before after : F) : Type 0 where
+-- where the grammar's pass has read what the state stands for whose last slot is the text before the closing bracket, if there is one, it
+-- has read what the new state stands for once it has come to this with the bracket
+abbrev pub ReadsOn : LeafText → Reader → Leaf → (place : ℕ → ℕ) → (pending at : ℕ) → (closer : items.Bracket) → State → List Bracket → Outcome → (old new : InlineState) → Type 0
+ReadsOn leaf reader read place pending at closer s bs outcome old new =
+    ReadsPlaces leaf reader read place → token reader read s.at ≡ items.Closes closer
+    → (before : Between) (p : Pass) (flushed : InlineState) → p.state ≡ s → PushesText pending at old.slots.items flushed.slots.items → flushed ≡ record old { slots = flushed.slots }
+    → HasRead leaf reader read place before p bs flushed → HasRead leaf reader read place before (closed_by p closer outcome) (left_of outcome.result bs) new
+
+-- which slots stand for a wikilink that shows what stands behind its pipe is not said yet; one with nothing there shows an empty text
+abbrev pub IsSaid : Result → Type 0
+IsSaid (Forms nearer (Wiki name None end)) = Unit {0}
+IsSaid (Forms nearer (Wiki name (Some place) end)) = suc (suc place) ≡ end
+IsSaid (Forms nearer (Footnote label end)) = Unit {0}
+IsSaid (Forms nearer (Linking target)) = Unit {0}
+IsSaid StaysText = Unit {0}
+
+-- a closing bracket comes to what the grammar says for the answer that the callback gave, and asks what it says; the slots that are
+-- written stand for it
+pub record ClosesAs {F : Type 0} (R : F → BrokenLink → Option (CowStr × CowStr) → F → Type 0) (wikilinks : Bool) (leaf : LeafText) (text : List ℕ) (reader : Reader) (read : Leaf) (place : ℕ → ℕ) (from close : ℕ) (closer : items.Bracket) (s : State)
+    (bs : List Bracket) (next : Cursor) (old new : InlineState) (before after : F) : Type 0 where
   pub outcome : Outcome
   pub comes : ComesTo R (decide reader read s closer) outcome before after
   pub at : outcome.after.at ≡ place next.at
   pub pending : next.pending ≡ next.at
   pub shows : ShowsState wikilinks text place next.at outcome.after (left_of outcome.result bs) new
   pub notes : Notes outcome.result old new
+  pub reads : IsSaid outcome.result → ReadsOn leaf reader read place from close closer s bs outcome old new
 
-abbrev pub Closes : {F : Type 0} → (F → BrokenLink → Option (CowStr × CowStr) → F → Type 0) → Options → Lookup → RefDefs → FootnoteDefs → LeafText → (text : List ℕ) → (at : ℕ) → (old new : InlineState) → (next : Cursor) → (before after : F) → Type 0
-Closes R options lookup references footnotes leaf text at old new next before after =
+abbrev pub Closes : {F : Type 0} → (F → BrokenLink → Option (CowStr × CowStr) → F → Type 0) → Options → Lookup → RefDefs → FootnoteDefs → LeafText → (text : List ℕ) → (pending at : ℕ) → (old new : InlineState) → (next : Cursor) → (before after : F) → Type 0
+Closes R options lookup references footnotes leaf text pending at old new next before after =
     (reader : Reader) (read : Leaf) (place : ℕ → ℕ) (closer : items.Bracket) (s : State) (bs : List Bracket)
     → ReadsSame options lookup references footnotes leaf reader read place → IsCloser text place at closer → ShowsState options.wikilinks text place at s bs old
-    → ClosesAs R options.wikilinks text reader read place closer s bs next old new before after
+    → ClosesAs R options.wikilinks leaf text reader read place pending at closer s bs next old new before after

@@ -1,5 +1,5 @@
 -- What a decision about a closing bracket comes to, where a callback answers its question.
-use Rattle.std.specs.Prelude.{◌≡◌, ◌≤◌, ◌<◌, ℕ, suc, Bool, true, false, List, length, get_or, Option, Some, None, is_some, option_map}
+use Rattle.std.specs.Prelude.{◌≡◌, ◌≤◌, ◌<◌, ℕ, suc, ◌+◌, ◌-◌, Bool, true, false, List, length, get_or, Option, Some, None, is_some, option_map}
 use Rattle.cmark_grammar.specs.Answers as answers
 use Rattle.cmark_grammar.specs.Answers.{Lookup}
 use Rattle.cmark_grammar.specs.BlockDocument as block
@@ -114,6 +114,11 @@ pub record LeadsTo {F : Type 0} (R : F → BrokenLink → Option (CowStr × CowS
   pub asked : List Exchange
   pub comes : ComesTo R decision (target_outcome reader leaf place taken closer (with_left expansion label_close asked s) found) before after
 
+-- a target ends behind its last byte, which ends no line
+abbrev pub EndsTogether : LeafText → (place : ℕ → ℕ) → Option Target → Type 0
+EndsTogether leaf place None = Unit {0}
+EndsTogether leaf place (Some target) = reads.place_of leaf (target.end - 1) + 1 ≡ place target.end
+
 -- with the bracket that it takes a closing bracket forms what the grammar says where it is no footnote reference: with this target, or
 -- nothing
 abbrev pub TargetDecides : {F : Type 0} → (F → BrokenLink → Option (CowStr × CowStr) → F → Type 0) → Options → Lookup → RefDefs → LeafText → (text : List ℕ) → Bracket → (close : ℕ) → (old new : InlineState) → Option Target → (before after : F) → Type 0
@@ -122,3 +127,4 @@ TargetDecides R options lookup references leaf text bracket close old new found 
     → ReadsSame options lookup references footnotes leaf reader read place → IsCloser text place close closer → IsPlaced place taken.opener bracket → Remembers text place s old
     → forms_footnote options footnotes (footnote_of options (is_cell_of leaf) (is_there close old.shut_close) text close (Some bracket)) ≡ false
     → LeadsTo R reader read place taken closer (link_or reader read (link_tail_in (behind reader read closer.end)) taken closer s) s new.expansion (option_map place new.shut_close) found before after
+    × EndsTogether leaf place found

@@ -21,3 +21,5 @@ pub mod PlainStretches
 pub mod BracketViews
 pub mod Decided
 pub mod Closers
+pub mod Written
+pub mod Hiding

@@ -13,6 +13,7 @@ ghost use Rattle.cmark_text.specs.Shown.{shown_options, text_bytes};
 ghost use Rattle.cmark_inline.specs.Closers.{LeavesFootnote};
 ghost use Rattle.cmark_inline.specs.Doubled.{DropsBehind};
 ghost use Rattle.cmark_inline.specs.Footnoted.{CountsOf, KeepsLabel, PutsReference, SameFootnotes, fits_footnote, footnote_behind, footnote_label, footnote_of, forms_footnote, is_accepted, is_footnote_label, reference_as, reference_slot, reference_start, unless_footnote, with_mark};
+ghost use Rattle.cmark_inline.specs.Hiding.{WritesReference};
 ghost use Rattle.cmark_inline.specs.Sound.{AreEnded, IsSound, IsTakenFrom};
 ghost use Rattle.cmark_leaf_text.specs.declared.leaf_text.LeafText.{LeafText as LeafTexts};
 ghost use Rattle.cmark_inline.specs.Stands.{AreSlots, IsBracket, IsSlot, Moves, NoNewLink, Stands, begins_link};
@@ -185,6 +186,7 @@ impl<'a> InlineState<'a> {
         ensures shut { self.new.shut_close ≡ self.old.shut_close }
         ensures expansion { self.new.expansion ≡ self.old.expansion }
         ensures label { IfOk result (λ next. IfSome next (λ next. IfSome (footnote_of (shown_options options) (is_cell_of leaf.now) (is_there close self.old.shut_close) text.now close taken) (λ label. KeepsLabel label self.old.texts.items self.new.texts.items))) }
+        ensures writes { IfOk result (λ next. IfSome next (λ next. IfSome taken (λ bracket. IfSome (footnote_of (shown_options options) (is_cell_of leaf.now) (is_there close self.old.shut_close) text.now close taken) (λ label. WritesReference bracket (normal_form label) (close + 1) self.old self.new)))) }
     {
         if !options.contains(Options::ENABLE_FOOTNOTES) {
             return Ok(None);
@@ -244,6 +246,7 @@ impl<'a> InlineState<'a> {
         ensures doubled { OnOk result (DropsBehind bracket.start self.old.doubled.standing.items self.new.doubled.standing.items) }
         ensures runs { OnOk result (length self.new.delimiters.placed.items ≤ bracket.runs) }
         ensures quotes { OnOk result (length self.new.quotes.placed.items ≤ bracket.quotes) }
+        ensures writes { OnOk result (WritesReference bracket (text_bytes name.entry) (close + 1) self.old self.new) }
     {
         let kind = SlotKind::FootnoteReference(self.texts.len());
         self.texts.push(name)?;

@@ -9,8 +9,11 @@ ghost use Rattle.cmark_text.specs.Labelled.{link_text};
 ghost use Rattle.cmark_inline.specs.Linked.{Answers, Refers, left_behind};
 ghost use Rattle.cmark_grammar.specs.Answers.{Lookup};
 ghost use Rattle.cmark_grammar.specs.Options.{Options as Extensions};
+ghost use Rattle.cmark_grammar.specs.Spans.{Spans};
 ghost use Rattle.cmark_text.specs.Shown.{shown_link_type, shown_options};
+ghost use Rattle.cmark_text.specs.declared.text.CowStr.{CowStr as Texts};
 ghost use Rattle.cmark_grammar.specs.BracketStates.{Opener};
+ghost use Rattle.cmark_grammar.specs.Emphasis.{IsEmphasis, Pair};
 ghost use Rattle.cmark_grammar.specs.OpenBrackets.{nearest, used_up};
 ghost use Rattle.cmark_inline.specs.Asking.{AsksOnce};
 ghost use Rattle.cmark_inline.specs.BracketViews.{StandFor, TakenAs};
@@ -19,6 +22,10 @@ ghost use Rattle.cmark_inline.specs.Decided.{EndsWithin, TargetDecides, is_full}
 ghost use Rattle.cmark_inline.specs.declared.bracket.Bracket.{Bracket as Opening};
 ghost use Rattle.cmark_inline.specs.Doubled.{DropsBehind, doubles};
 ghost use Rattle.cmark_inline.specs.Footnoted.{SameFootnotes, as_label};
+ghost use Rattle.cmark_inline.specs.Marked.{siblings_from};
+ghost use Rattle.cmark_inline.specs.SlotViews.{shown_slots};
+ghost use Rattle.cmark_inline.specs.Written.{WritesElement, dressed_behind, end_slot};
+ghost use Rattle.cmark_inline.specs.declared.link.LinkParts.{LinkParts as Parts};
 ghost use Rattle.cmark_inline.specs.Sound.{AreEnded, CanSettle, IsSettled, IsSound, IsTakenFrom, KeepsSound};
 ghost use Rattle.cmark_inline.specs.Tokens.{OpensBracket, Passes, PutsBracket};
 ghost use Rattle.cmark_leaf_text.specs.declared.leaf_text.LeafText.{LeafText as LeafTexts};
@@ -127,7 +134,7 @@ impl<'a> InlineState<'a> {
         ensures spent { self.old.expansion ≡ 0 → (callback.new ≡ callback.old) × (self.new.expansion ≡ 0) }
         ensures moves { IfOk result (Moves text.now here.at self.new) }
         ensures footnotes { SameFootnotes footnotes.old footnotes.new }
-        ensures closes { IfOk result (λ next. Closes F.answers (shown_options reader.now.options) (E.replacement reader.now.entities.now) reader.now.references.now footnotes.old leaf.now text.now here.at self.old self.new next callback.old callback.new) }
+        ensures closes { IfOk result (λ next. Closes F.answers (shown_options reader.now.options) (E.replacement reader.now.entities.now) reader.now.references.now footnotes.old leaf.now text.now here.pending here.at self.old self.new next callback.old callback.new) }
     {
         self.flush(text, here, here.at)?;
         let behind_it = behind(text, here.at);
@@ -356,6 +363,7 @@ impl<'a> InlineState<'a> {
         ensures link { OnOk result (bracket.is_image ≡ false → HoldNoLink self.new.slots.items (bracket.slot + 1)) }
         ensures leaves { OnOk result (LeavesElement bracket.is_image bracket.start self.old self.new) }
         ensures label { self.new.shut_close ≡ self.old.shut_close }
+        ensures writes { OnOk result (WritesElement (shown_options options) bracket target.entry self.old self.new) }
     {
         let Target { parts, end, .. } = target;
         let index = self.links.len();
@@ -397,6 +405,8 @@ impl<'a> InlineState<'a> {
         ensures length { OnOk result (length self.new.slots.items ≡ length self.old.slots.items + 1) }
         ensures links { OnOk result (NoNewLink self.old.slots.items self.new.slots.items) }
         ensures runs { OnOk result (bytes_of self.new.delimiters.placed.items ≤ bytes_of self.old.delimiters.placed.items) }
+        ensures dressed { OnOk result ((leaf : LeafTexts) (texts : List Texts) (links : List Parts) (pairs : List Pair) (spans : Spans) → IsEmphasis (siblings_from 0 (drop bracket.runs self.old.delimiters.placed.items)) pairs spans
+            → shown_slots leaf texts links self.new.slots.items ≡ dressed_behind (shown_options options) bracket pairs self.old.delimiters.placed.items self.old.quotes.placed.items (shown_slots leaf texts links (self.old.slots.items ++ (end_slot close end ∷ [])))) }
     {
         push_slot(&mut self.slots, SlotKind::End, close, end)?;
         self.quotes.resolve(bracket.quotes, &mut self.slots)?;

@@ -11,6 +11,7 @@ ghost use Rattle.cmark_inline.specs.Doubled.{DropsBehind, nearest};
 ghost use Rattle.cmark_inline.specs.Marked.{SameBefore};
 ghost use Rattle.cmark_inline.specs.SlotViews.{link_of};
 ghost use Rattle.cmark_inline.specs.declared.slot.Element.TheVariants as element;
+ghost use Rattle.cmark_inline.specs.Hiding.{AreLeft, WritesShown, WritesWikilink};
 ghost use Rattle.cmark_inline.specs.Sound.{AreEnded, AreNamed, CanSettle, EndsIn, IsPairFrom, IsSound, IsTakenFrom};
 ghost use Rattle.cmark_inline.specs.declared.bracket.Bracket.{Bracket as Opening};
 ghost use Rattle.cmark_leaf_text.specs.declared.leaf_text.LeafText.{LeafText as LeafTexts};
@@ -97,6 +98,20 @@ fn linked_element(is_image: bool, index: usize) -> Element
     }
 }
 
+// A wikilink leads by its name, and has no title and no label.
+fn link_parts(wikilink: Wikilink<'_>) -> LinkParts<'_>
+    ensures { IsNamed wikilink.entry result }
+{
+    LinkParts {
+        link_type: LinkType::WikiLink {
+            has_pothole: wikilink.display.is_some(),
+        },
+        dest_url: CowStr::Borrowed(wikilink.name),
+        title: CowStr::Borrowed(""),
+        id: CowStr::Borrowed(""),
+    }
+}
+
 impl<'a> InlineState<'a> {
     // The wikilink that the closing bracket at `close` ends with another one behind it: the nearest doubled bracket is tried, and
     // so used up. `None` where it forms none.
@@ -125,6 +140,7 @@ impl<'a> InlineState<'a> {
         ensures tries { IfOk result (λ next. next ≡ None → TriesDoubled ((shown_options options).wikilinks && first_is (λ b. b == 93) (drop (close + 1) text.now)) self.old.doubled self.new.doubled) }
         ensures leaves { IfOk result (λ next. IfSome next (λ next. IfSome (nearest self.old.doubled) (λ tried. LeavesWikilink tried.0.start self.old self.new))) }
         ensures shut { self.new.shut_close ≡ self.old.shut_close }
+        ensures writes { IfOk result (λ next. IfSome next (λ next. IfSome (nearest self.old.doubled) (λ tried. WritesWikilink (shown_options options) leaf.now text.now tried.0 close self.old self.new))) }
     {
         if !options.contains(Options::ENABLE_WIKILINKS) || !is_followed_by(text, close, b']') {
             return Ok(None);
@@ -176,17 +192,11 @@ impl<'a> InlineState<'a> {
         ensures tried { OnOk result (self.new.doubled.standing.items ≡ []) }
         ensures leaves { OnOk result (LeavesWikilink doubled.start self.old self.new) }
         ensures shut { self.new.shut_close ≡ self.old.shut_close }
+        ensures writes { OnOk result (WritesShown (shown_options options) text.now doubled close wikilink.entry self.old self.new) }
     {
         let end = close + 2;
         let index = self.links.len();
-        self.links.push(LinkParts {
-            link_type: LinkType::WikiLink {
-                has_pothole: wikilink.display.is_some(),
-            },
-            dest_url: CowStr::Borrowed(wikilink.name),
-            title: CowStr::Borrowed(""),
-            id: CowStr::Borrowed(""),
-        })?;
+        self.links.push(link_parts(wikilink))?;
         let inside = self.show(text, doubled, close, wikilink)?;
         let element = linked_element(doubled.is_image, index);
         begin(&mut self.slots, doubled.slot, element, end);
@@ -221,7 +231,7 @@ impl<'a> InlineState<'a> {
         ensures names { OnOk result ((texts links : ℕ) → AreNamed texts links self.old.slots.items → AreNamed texts links self.new.slots.items) }
         ensures ends { OnOk result ((leaf : LeafTexts) → AreEnded leaf self.old.slots.items → EndsIn leaf close (Some wikilink.entry.source_end) → AreEnded leaf self.new.slots.items) }
         ensures before { OnOk result (SameBefore (doubled.slot + 1) self.old.slots.items self.new.slots.items) }
-        ensures shows { OnOk result ((at : ℕ) × Shows text.now doubled close wikilink.entry self.old.slots.items self.new.slots.items at) }
+        ensures shows { IfOk result (λ inside. (at : ℕ) × Shows text.now doubled close wikilink.entry self.old.slots.items self.new.slots.items at × AreLeft at self.old.delimiters.placed.items self.old.quotes.placed.items doubled inside) }
         ensures slots { OnOk result ((end : ℕ) → AreSlots text.now close self.old.slots.items → close < end → AreSlots text.now end self.new.slots.items) }
         ensures length { OnOk result (length self.new.slots.items ≤ length self.old.slots.items + 1) }
         ensures longer { OnOk result (length self.old.slots.items ≤ length self.new.slots.items) }

@@ -1,15 +1,19 @@
 use Rattle.std.specs.Prelude.{false, Option, IfSome, is_some}
-use Rattle.std.proofs.Common.{rules, ◌≡◌, ◌+◌, refl, sym, ap, subst, ◌∙◌}
+use Rattle.std.proofs.Common.{rules, ◌≡◌, ◌+◌, ◌++◌, ◌∷◌, [], refl, sym, ap, subst, ◌∙◌}
 use Rattle.cmark_grammar.specs.BracketDecisions.{is_there}
 use Rattle.cmark_leaf_text.specs.Reads.{IsPart, is_cell_of}
 use Rattle.cmark_text.specs.Shown.{shown_options}
+use Rattle.cmark_grammar.specs.Labels.{normal_form}
 use Rattle.cmark_inline.specs.Footnoted.{KeepsLabel, footnote_of, forms_footnote}
+use Rattle.cmark_inline.specs.Hiding.{WritesReference}
 use Rattle.cmark_inline.specs.Closers.{LeavesFootnote, LeavesWikilink, LinksTaken}
 use Rattle.cmark_inline.specs.Doubled.{nearest}
 use Rattle.cmark_inline.specs.Stands.{HoldNoLink, Moves, Stands}
 use Rattle.cmark_inline.specs.declared.bracket.Bracket.{Bracket}
 use Rattle.cmark_inline.specs.declared.state.InlineState.{InlineState}
 use Rattle.cmark_inline.specs.declared.step.Cursor.{Cursor}
+use Rattle.cmark_inline.specs.declared.slot.SlotKind.TheVariants as kind
+use Rattle.cmark_inline.proofs.ClosingReads.{SameRows, puts-one, rows-brackets, rows-doubled, rows-on, rows-same, rows-unlinked, text-reads}
 use Rattle.cmark_inline.proofs.CloserMakes.{footnote-closes, inside-up, linked-closes, remembers-on, taken-stage, text-closes, tried-stage, wikilink-closes, IsTriedStage}
 use Rattle.cmark_inline.specs.Sound.{IsTakenFrom}
 use Rattle.cmark_inline.proofs.Keeping.{keeps-pending, keeps-puts, some-taken}
@@ -27,7 +31,7 @@ returns-in-Some-clause-closes g c = λ reader read place closer s bs r at shows.
     let i = taken-stage o l refs notes c.args.leaf.now c.args.text.now c.requires.same reader read place closer s bs c.args.here.at r at c.args.self.now shows c.flush.new.self took c.take_bracket-taken.result c.in_ok-flush.ensures.others c.take_bracket-taken.ensures.others c.take_bracket-taken.ensures.takes in
     let next = subst (λ (x : Option Cursor). IfSome x (λ (next : Cursor). (next.pending ≡ c.args.here.at + 2) × (next.at ≡ c.args.here.at + 2))) c.in-Some.is c.in_ok-next.ensures.next in
     wikilink-closes o l refs notes c.args.leaf.now c.args.text.now c.requires.same reader read place closer s bs c.args.here.at r at c.args.self.now shows
-    g.F.BrokenLinkCallback.answers c.in-Some.next new c.args.callback.now c.args.callback.now took i.view
+    g.F.BrokenLinkCallback.answers c.in-Some.next new c.args.callback.now c.args.callback.now c.args.here.pending took i.view
     (ap is_some (sym c.in-Some.is) ∙ c.in_ok-next.ensures.forms)
     (subst (λ (x : Option Cursor). IfSome x (λ next. IfSome (nearest took.doubled) (λ tried. LeavesWikilink tried.0.start took new))) c.in-Some.is c.in_ok-next.ensures.leaves)
     (remembers-on o l refs notes c.args.leaf.now c.args.text.now c.requires.same reader read place closer s bs c.args.here.at r at c.args.self.now shows took new i.remembers c.wikilink.ensures.expansion c.wikilink.ensures.shut)
@@ -46,12 +50,15 @@ returns-in-Some-2-clause-closes g c = λ reader read place closer s bs r at show
     let j = tried-stage o l refs notes c.args.leaf.now c.args.text.now c.requires.same reader read place closer s bs c.args.here.at r at c.args.self.now shows took st c.take_bracket-taken.result i (c.in_ok-next.ensures.others c.in_default.is) (c.in_ok-next.ensures.tries c.in_default.is) (ap is_some (sym c.in_default.is) ∙ c.in_ok-next.ensures.forms) in
     let next = subst (λ (x : Option Cursor). IfSome x (λ (next : Cursor). (next.pending ≡ c.args.here.at + 1) × (next.at ≡ c.args.here.at + 1))) c.in-Some-2.is c.in_ok-next-2.ensures.next in
     footnote-closes o l refs notes c.args.leaf.now c.args.text.now c.requires.same reader read place closer s bs c.args.here.at r at c.args.self.now shows
-    g.F.BrokenLinkCallback.answers c.in-Some-2.next new c.args.callback.now c.args.callback.now st c.take_bracket-taken.result j.ready j.taken_as j.remembers
+    g.F.BrokenLinkCallback.answers c.in-Some-2.next new c.args.callback.now c.args.callback.now c.args.here.pending st c.take_bracket-taken.result j.ready j.taken_as j.remembers
     (ap is_some (sym c.in-Some-2.is) ∙ c.in_ok-next-2.ensures.forms)
     (inside-up c.args.text.now c.args.here.at c.take_bracket-taken.result c.take_bracket-taken.ensures.bracket)
     (subst (λ (x : Option Cursor). IfSome x (λ next. IfSome c.take_bracket-taken.result (λ (bracket : Bracket). LeavesFootnote bracket.start st new))) c.in-Some-2.is c.in_ok-next-2.ensures.leaves)
     (remembers-on o l refs notes c.args.leaf.now c.args.text.now c.requires.same reader read place closer s bs c.args.here.at r at c.args.self.now shows st new j.remembers c.footnote.ensures.expansion c.footnote.ensures.shut)
     next.1 (next.0 ∙ sym next.1) refl (subst (λ (x : Option Cursor). IfSome x (λ next. IfSome (footnote_of o (is_cell_of c.args.leaf.now) (is_there c.args.here.at st.shut_close) c.args.text.now c.args.here.at c.take_bracket-taken.result) (λ label. KeepsLabel label st.texts.items new.texts.items))) c.in-Some-2.is c.in_ok-next-2.ensures.label) j.texts
+    c.flush.new.self (record { pushes = c.in_ok-flush.ensures.slots; others = c.in_ok-flush.ensures.others })
+    (rows-on c.flush.new.self took st (rows-brackets c.flush.new.self took c.take_bracket-taken.ensures.others) (rows-doubled took st (c.in_ok-next.ensures.others c.in_default.is)))
+    (subst (λ (x : Option Cursor). IfSome x (λ next. IfSome c.take_bracket-taken.result (λ (bracket : Bracket). IfSome (footnote_of o (is_cell_of c.args.leaf.now) (is_there c.args.here.at st.shut_close) c.args.text.now c.args.here.at c.take_bracket-taken.result) (λ label. WritesReference bracket (normal_form label) (c.args.here.at + 1) st new)))) c.in-Some-2.is c.in_ok-next-2.ensures.writes)
 
 pub returns-in-Some-3-clause-closes : goal.returns-in-Some-3-clause-closes
 returns-in-Some-3-clause-closes g c = λ reader read place closer s bs r at shows.
@@ -67,10 +74,12 @@ returns-in-Some-3-clause-closes g c = λ reader read place closer s bs r at show
     let k = subst (λ (x : InlineState). IsTriedStage o l refs notes c.args.leaf.now c.args.text.now c.requires.same reader read place closer s bs c.args.here.at r at c.args.self.now shows x c.take_bracket-taken.result) (sym same) j in
     let moves = subst (λ (x : Option Cursor). IfSome x (Moves c.args.text.now c.args.here.at c.link.new.self)) c.in-Some-3.is c.in_ok-next-3.ensures.moves in
     linked-closes o l refs notes c.args.leaf.now c.args.text.now c.requires.same reader read place closer s bs c.args.here.at r at c.args.self.now shows
-    g.F.BrokenLinkCallback.answers c.in-Some-3.next c.link.new.self c.args.callback.now c.link.new.callback c.footnote.new.self c.take_bracket-taken.result k.ready k.taken_as k.remembers
+    g.F.BrokenLinkCallback.answers c.in-Some-3.next c.link.new.self c.args.callback.now c.link.new.callback c.args.here.pending c.footnote.new.self c.take_bracket-taken.result k.ready k.taken_as k.remembers
     (subst (λ (x : InlineState). false ≡ forms_footnote o notes (footnote_of o (is_cell_of c.args.leaf.now) (is_there c.args.here.at x.shut_close) c.args.text.now c.args.here.at c.take_bracket-taken.result)) (sym same) (ap is_some (sym c.in_default-2.is) ∙ c.in_ok-next-2.ensures.forms))
     (subst (λ (x : Option Cursor). LinksTaken g.F.BrokenLinkCallback.answers o l refs c.args.leaf.now c.args.text.now c.take_bracket-taken.result c.args.here.at c.footnote.new.self c.link.new.self x c.args.callback.now c.link.new.callback) c.in-Some-3.is c.in_ok-next-3.ensures.links)
-    moves.further moves.cursor.at.0 k.table
+    moves.further moves.cursor.at.0 k.table c.flush.new.self (record { pushes = c.in_ok-flush.ensures.slots; others = c.in_ok-flush.ensures.others })
+    (rows-on c.flush.new.self took c.footnote.new.self (rows-brackets c.flush.new.self took c.take_bracket-taken.ensures.others) (rows-on took st c.footnote.new.self (rows-doubled took st (c.in_ok-next.ensures.others c.in_default.is)) (rows-same st c.footnote.new.self same)))
+    (subst (λ (x : InlineState). IfSome c.take_bracket-taken.result (IsTakenFrom x)) (sym same) (some-taken c.take_bracket-taken.result took st (c.in_ok-next.ensures.taken c.in_default.is) c.take_bracket-taken.ensures.taken))
 
 pub returns-clause-closes : goal.returns-clause-closes
 returns-clause-closes g c = λ reader read place closer s bs r at shows.
@@ -86,11 +95,18 @@ returns-clause-closes g c = λ reader read place closer s bs r at shows.
     let k = subst (λ (x : InlineState). IsTriedStage o l refs notes c.args.leaf.now c.args.text.now c.requires.same reader read place closer s bs c.args.here.at r at c.args.self.now shows x c.take_bracket-taken.result) (sym same) j in
     let put = c.in_ok-next-4.ensures.others in
     text-closes o l refs notes c.args.leaf.now c.args.text.now c.requires.same reader read place closer s bs c.args.here.at r at c.args.self.now shows
-    g.F.BrokenLinkCallback.answers c.in_ok-next-4.next c.put.new.self c.args.callback.now c.link.new.callback c.footnote.new.self c.link.new.self c.take_bracket-taken.result k.ready k.taken_as k.remembers
+    g.F.BrokenLinkCallback.answers c.in_ok-next-4.next c.put.new.self c.args.callback.now c.link.new.callback c.args.here.pending c.footnote.new.self c.link.new.self c.take_bracket-taken.result k.ready k.taken_as k.remembers
     (subst (λ (x : InlineState). false ≡ forms_footnote o notes (footnote_of o (is_cell_of c.args.leaf.now) (is_there c.args.here.at x.shut_close) c.args.text.now c.args.here.at c.take_bracket-taken.result)) (sym same) (ap is_some (sym c.in_default-2.is) ∙ c.in_ok-next-2.ensures.forms))
     (subst (λ (x : Option Cursor). LinksTaken g.F.BrokenLinkCallback.answers o l refs c.args.leaf.now c.args.text.now c.take_bracket-taken.result c.args.here.at c.footnote.new.self c.link.new.self x c.args.callback.now c.link.new.callback) c.in_default-3.is c.in_ok-next-3.ensures.links)
     (ap (λ (x : InlineState). x.brackets) put) (ap (λ (x : InlineState). x.doubled) put) (ap (λ (x : InlineState). x.expansion) put) (ap (λ (x : InlineState). x.shut_close) put)
     (c.in_ok-next-4.ensures.at ∙ c.behind-behind_it.ensures.value) (c.in_ok-next-4.ensures.end ∙ sym c.in_ok-next-4.ensures.at) (ap (λ (x : InlineState). x.links) put) k.table
+    (λ after comes.
+    let links = subst (λ (x : Option Cursor). LinksTaken g.F.BrokenLinkCallback.answers o l refs c.args.leaf.now c.args.text.now c.take_bracket-taken.result c.args.here.at c.footnote.new.self c.link.new.self x c.args.callback.now c.link.new.callback) c.in_default-3.is c.in_ok-next-3.ensures.links in
+    let rows : SameRows c.flush.new.self c.link.new.self = rows-on c.flush.new.self took c.link.new.self (rows-brackets c.flush.new.self took c.take_bracket-taken.ensures.others) (rows-on took st c.link.new.self (rows-doubled took st (c.in_ok-next.ensures.others c.in_default.is)) (rows-on st c.footnote.new.self c.link.new.self (rows-same st c.footnote.new.self same)
+    (rows-unlinked g.F.BrokenLinkCallback.answers o l refs c.args.leaf.now c.args.text.now c.take_bracket-taken.result c.args.here.at c.footnote.new.self c.link.new.self c.args.callback.now c.link.new.callback links))) in
+    text-reads c.args.leaf.now reader read place closer s bs c.args.here.pending c.args.here.at c.args.self.now c.flush.new.self c.link.new.self c.put.new.self (record { pushes = c.in_ok-flush.ensures.slots; others = c.in_ok-flush.ensures.others }) rows
+    c.args.text.now c.requires.same at (puts-one c.args.here.at _ c.link.new.self.slots.items c.put.new.self.slots.items c.in_ok-next-4.ensures.slots ∙ ap (λ n. c.link.new.self.slots.items ++ (record { kind = kind.Text; start = c.args.here.at; end = n } ∷ [])) c.behind-behind_it.ensures.value)
+    (ap (λ (x : InlineState). x.texts.items) put) (ap (λ (x : InlineState). x.links.items) put) (ap (λ (x : InlineState). x.delimiters.placed.items) put) (ap (λ (x : InlineState). x.quotes.placed.items) put) after comes)
 
 pub take_bracket-taken-requires-clause-sound : goal.take_bracket-taken-requires-clause-sound
 take_bracket-taken-requires-clause-sound g c = (keeps-pending c.args.self.now c.flush.new.self c.in_ok-flush.ensures.others c.args.here.pending c.args.here.at c.in_ok-flush.ensures.slots).sound c.requires.sound

@@ -1,8 +1,12 @@
-use Rattle.std.proofs.Common.{◌≡◌, ◌≤◌, ◌+◌, ◌++◌, ◌∷◌, [], ℕ, List, drop, length, refl, sym, ap, subst, arith}
+use Rattle.std.proofs.Common.{◌≡◌, ◌≤◌, ◌+◌, ◌++◌, ◌∷◌, [], ℕ, List, drop, length, refl, sym, ap, ◌∙◌, subst, arith}
 use Rattle.std.proofs.lemmas.List.{length_push}
-use Rattle.cmark_inline.specs.Marked.{AreWhole, EndWithin, HaveBytes, SameBefore}
+use Rattle.cmark_inline_model.specs.SlotRows.{marked, marks_by}
+use Rattle.cmark_text.specs.Shown.{shown_options}
+use Rattle.cmark_inline.specs.Marked.{AreWhole, EndWithin, HaveBytes, SameBefore, places_of}
 use Rattle.cmark_inline.specs.Quoted.{characters_of, with_characters}
+use Rattle.cmark_inline.specs.SlotViews.{shown_slots}
 use Rattle.cmark_inline.specs.Sound.{CanSettle, NamesNoMore}
+use Rattle.cmark_inline.specs.Written.{dressed_behind}
 use Rattle.cmark_inline.specs.declared.delimiter.PlacedRun.{PlacedRun}
 use Rattle.cmark_inline.specs.declared.quote.PlacedQuote.{PlacedQuote}
 use Rattle.cmark_inline.specs.declared.slot.Slot.{Slot}
@@ -59,3 +63,25 @@ returns-clause-settled c =
       within = marks.within low 0 bytes whole within;
       before = same-on low old one new (subst (SameBefore low old) (sym e) (before-push low old slot (let q : low ≤ length old = omega (arith, there) in q))) (same-on low one two new (subst (SameBefore low one) (sym v) (letters-before low one runs quotes can letters)) (marks.before low 0 bytes whole));
     }
+
+pub returns-clause-dressed : goal.returns-clause-dressed
+returns-clause-dressed c = λ leaf texts links pairs spans emphasis.
+    let slot : Slot = record { kind = kind.End; start = c.args.close; end = c.args.end } in
+    let low : ℕ = c.args.bracket.slot + 1 in
+    let old : List Slot = c.args.self.now.slots.items in
+    let one : List Slot = c.push_slot.new.slots.items in
+    let two : List Slot = c.resolve.new.slots.items in
+    let runs : List PlacedRun = drop c.args.bracket.runs c.args.self.now.delimiters.placed.items in
+    let quotes : List PlacedQuote = drop c.args.bracket.quotes c.args.self.now.quotes.placed.items in
+    let letters : List ℕ = characters_of quotes in
+    let e : one ≡ old ++ (slot ∷ []) = c.in_ok-push_slot.ensures in
+    let can : CanSettle low one runs quotes = subst (λ l. CanSettle low l runs quotes) (sym e) (can-push low old runs quotes c.requires.settles slot (λ i. refl)) in
+    let v : two ≡ with_characters quotes letters one = c.in_ok-resolve.ensures.value in
+    let t = letters-settle low one runs quotes can letters in
+    let whole : AreWhole two = subst AreWhole (sym v) t.0 in
+    let bytes : HaveBytes two low 0 runs = subst (λ l. HaveBytes l low 0 runs) (sym v) t.2 in
+    let marks = c.in_ok-resolve-2.ensures.marks leaf texts links low 0 pairs spans bytes whole emphasis in
+    let quoted = c.in_ok-resolve.ensures.quotes leaf texts links can.quotes_are in
+    marks
+    ∙ ap (λ l. marked (shown_options c.args.options) (places_of runs) (marks_by (length (places_of runs)) pairs) l []) quoted
+    ∙ ap (λ l. dressed_behind (shown_options c.args.options) c.args.bracket pairs c.args.self.now.delimiters.placed.items c.args.self.now.quotes.placed.items (shown_slots leaf texts links l)) e

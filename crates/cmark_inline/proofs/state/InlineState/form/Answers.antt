@@ -1,4 +1,4 @@
-use Rattle.std.proofs.Common.{rules, ◌≡◌, ◌≤◌, ◌<◌, ◌+◌, List, ℕ, drop, length, set, get_or, refl, sym, ap, subst, ◌∙◌, arith}
+use Rattle.std.proofs.Common.{rules, ◌≡◌, ◌≤◌, ◌<◌, ◌+◌, ◌++◌, ◌∷◌, [], true, false, List, ℕ, drop, length, set, get_or, refl, sym, ap, subst, ◌∙◌, arith}
 use Rattle.std.proofs.lemmas.List.{length_push, length-set}
 use Rattle.cmark_inline.specs.Closers.{LeavesElement}
 use Rattle.cmark_inline.specs.Stands.{IsSlot, IsTarget, AreBrackets, AreFree, bytes_of}
@@ -9,10 +9,13 @@ use Rattle.cmark_inline.specs.declared.slot.Slot.{Slot}
 use Rattle.cmark_inline.specs.declared.slot.SlotKind.TheVariants as kind
 use Rattle.cmark_inline.proofs.Steps.{slots-on, brackets-on, free-on, part-from}
 use Rattle.cmark_inline.specs.Marked.{begun_as}
-use Rattle.cmark_inline.specs.SlotViews.{link_named}
+use Rattle.cmark_text.specs.Shown.{shown_options}
+use Rattle.cmark_inline.specs.SlotViews.{link_named, shown_slots}
+use Rattle.cmark_inline.specs.Written.{WritesElement, dressed_behind, end_slot}
 use Rattle.cmark_inline.specs.Sound.{CanSettle, IsSettled}
 use Rattle.cmark_inline.specs.declared.link.LinkParts.{LinkParts}
 use Rattle.cmark_inline.specs.declared.slot.Element.TheVariants as element
+use Rattle.cmark_inline.proofs.ElementWrites.{image-shown, link-shown, writes-element}
 use Rattle.cmark_inline.proofs.Forming.{link-formed, settle-set, settled-ended, sound-same}
 use Rattle.cmark_inline.proofs.Marks.{no-slot}
 use Rattle.cmark_inline.proofs.Soundness.{sound-settles}
@@ -176,3 +179,39 @@ returns-clause-ends c =
     let b = c.args.bracket in
     let s : Slot = begun_as (element.Link c.len-index.result) c.args.target.end (get_or old.slots.items b.slot no-slot) in
     settled-ended old.slots.items b.slot (b.slot + 1) s new.slots.items refl (subst (λ l. IsSettled (b.slot + 1) l new.slots.items) (c.begin-2.ensures.value no-slot p.there) c.in_ok-finish-2.ensures.settled)
+
+pub returns-then-bracket-clause-writes : goal.returns-then-bracket-clause-writes
+returns-then-bracket-clause-writes c =
+    let old = c.args.self.now in
+    let new = c.finish.new.self in
+    let b = c.args.bracket in
+    let p = c.requires.taken.placed in
+    let f = c.in_ok-finish.ensures in
+    let t = c.requires.target in
+    let begins = c.begin.ensures.value no-slot p.there in
+    let index : c.len-index.result ≡ length old.links.items = search rules in
+    let texts = ap (λ v. v.items) c.finish.ensures.texts in
+    let links = ap (λ v. v.items) c.finish.ensures.table ∙ c.in_ok-push.ensures.items in
+    let can = sound-settles (length old.texts.items) (length old.links.items) old.slots.items old.delimiters.placed.items old.quotes.placed.items old.brackets.standing.items old.doubled.standing.items c.requires.sound b p in
+    subst (λ z. WritesElement (shown_options c.args.options) (record b { is_image = z }) c.args.target old new) (sym c.if-bracket.true)
+    (writes-element (shown_options c.args.options) (record b { is_image = true }) c.args.target old new (element.Image c.len-index.result) p.there c.args.close c.args.text.now c.requires.stands.slots t.behind c.requires.sound.named can texts links
+    (image-shown old.links.items c.args.target.parts c.len-index.result index) f.placed f.quotes
+    (λ leaf pairs spans emphasis. f.dressed leaf new.texts.items new.links.items pairs spans emphasis ∙ ap (λ l. dressed_behind (shown_options c.args.options) b pairs old.delimiters.placed.items old.quotes.placed.items (shown_slots leaf new.texts.items new.links.items (l ++ (end_slot c.args.close c.args.target.end ∷ [])))) begins))
+
+pub returns-clause-writes : goal.returns-clause-writes
+returns-clause-writes c =
+    let old = c.args.self.now in
+    let new = c.finish-2.new.self in
+    let b = c.args.bracket in
+    let p = c.requires.taken.placed in
+    let f = c.in_ok-finish-2.ensures in
+    let t = c.requires.target in
+    let begins = c.begin-2.ensures.value no-slot p.there in
+    let index : c.len-index.result ≡ length old.links.items = search rules in
+    let texts = ap (λ v. v.items) c.finish-2.ensures.texts in
+    let links = ap (λ v. v.items) c.finish-2.ensures.table ∙ c.in_ok-push.ensures.items in
+    let can = sound-settles (length old.texts.items) (length old.links.items) old.slots.items old.delimiters.placed.items old.quotes.placed.items old.brackets.standing.items old.doubled.standing.items c.requires.sound b p in
+    subst (λ z. WritesElement (shown_options c.args.options) (record b { is_image = z }) c.args.target old (record new { brackets = c.shut_all.new.self; doubled = c.shut_all-2.new.self })) (sym c.if-bracket.false)
+    (writes-element (shown_options c.args.options) (record b { is_image = false }) c.args.target old (record new { brackets = c.shut_all.new.self; doubled = c.shut_all-2.new.self }) (element.Link c.len-index.result) p.there c.args.close c.args.text.now c.requires.stands.slots t.behind c.requires.sound.named can texts links
+    (link-shown old.links.items c.args.target.parts c.len-index.result index) f.placed f.quotes
+    (λ leaf pairs spans emphasis. f.dressed leaf new.texts.items new.links.items pairs spans emphasis ∙ ap (λ l. dressed_behind (shown_options c.args.options) b pairs old.delimiters.placed.items old.quotes.placed.items (shown_slots leaf new.texts.items new.links.items (l ++ (end_slot c.args.close c.args.target.end ∷ [])))) begins))

@@ -9,6 +9,7 @@ use Rattle.cmark_inline.specs.declared.bracket.Brackets.{Brackets}
 use Rattle.cmark_inline.specs.declared.slot.Slot.{Slot}
 use Rattle.cmark_inline.specs.declared.state.InlineState.{InlineState}
 use Rattle.cmark_inline.proofs.FootnoteSteps.{reference-part}
+use Rattle.cmark_inline.proofs.HiddenSlots.{writes-reference}
 use Rattle.cmark_inline.proofs.Forming.{reference-ended, reference-formed, sound-same}
 use Rattle.cmark_inline.proofs.Steps.{brackets-on, free-on, slots-on}
 use Rattle.cmark_inline.proofs.state.InlineState.form_footnote.Goals as goal
@@ -70,3 +71,14 @@ returns-clause-ends c =
     let b : Bracket = c.args.bracket in
     let puts : PutsReference b (reference_as b (length old.texts.items) (c.args.close + 1)) old.slots.items put.slots.items = search rules in
     reference-ended (length old.texts.items) (length old.links.items) old.slots.items put.slots.items b (reference_as b (length old.texts.items) (c.args.close + 1)) puts c.requires.taken.placed.there refl
+
+pub returns-clause-writes : goal.returns-clause-writes
+returns-clause-writes c =
+    let old : InlineState = c.args.self.now in
+    let put : InlineState = c.put_reference.new.self in
+    let b : Bracket = c.args.bracket in
+    let o = c.put_reference.ensures.others in
+    let puts : PutsReference b (reference_as b (length old.texts.items) (c.args.close + 1)) old.slots.items put.slots.items = search rules in
+    writes-reference b c.args.name (c.args.close + 1) old _ c.requires.taken.placed.there c.requires.sound.named puts
+    (ap (λ (s : InlineState). s.texts.items) o ∙ c.in_ok-push.ensures.items) (ap (λ (s : InlineState). s.links.items) o)
+    (c.truncate-2.ensures.placed ∙ ap (λ (s : InlineState). take b.runs s.delimiters.placed.items) o) (c.truncate.ensures ∙ ap (λ (s : InlineState). take b.quotes s.quotes.placed.items) o)

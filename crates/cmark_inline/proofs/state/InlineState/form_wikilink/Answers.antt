@@ -1,11 +1,14 @@
 use Rattle.std.specs.Prelude.{if◌then◌else◌}
-use Rattle.std.proofs.Common.{rules, ◌≡◌, ◌≤◌, ◌<◌, ◌+◌, List, [], ℕ, Some, drop, take, length, get_or, set, refl, sym, ap, subst, ◌∙◌, arith}
+use Rattle.std.proofs.Common.{rules, ◌≡◌, ◌++◌, ◌∷◌, ◌≤◌, ◌<◌, ◌+◌, List, [], ℕ, Some, drop, take, length, get_or, set, refl, sym, ap, subst, ◌∙◌, arith}
 use Rattle.std.proofs.lemmas.List.{length_push, length-set}
+use Rattle.cmark_grammar.specs.Emphasis.{IsEmphasis}
+use Rattle.cmark_text.specs.Shown.{shown_options}
 use Rattle.cmark_inline.specs.Doubled.{DropsBehind}
-use Rattle.cmark_inline.specs.Marked.{begun_as}
-use Rattle.cmark_inline.specs.SlotViews.{link_named, link_of, text_named}
+use Rattle.cmark_inline.specs.Marked.{begun_as, siblings_from}
+use Rattle.cmark_inline.specs.SlotViews.{link_named, link_of, shown_slots, text_named}
 use Rattle.cmark_inline.specs.Sound.{AreEnded, AreSound, CanSettle, EndsIn, IsSettled, IsSound}
 use Rattle.cmark_inline.specs.Stands.{IsEnd, AreBrackets, AreFree, bytes_of}
+use Rattle.cmark_inline.specs.Written.{dressed_behind, end_slot}
 use Rattle.cmark_inline.specs.declared.bracket.Bracket.{Bracket}
 use Rattle.cmark_inline.specs.declared.bracket.Brackets.{Brackets}
 use Rattle.cmark_inline.specs.declared.slot.Slot.{Slot}
@@ -17,6 +20,7 @@ use Rattle.cmark_inline.proofs.Forming.{settle-set, settled-ended, sound-same, t
 use Rattle.cmark_inline.proofs.Marks.{no-slot}
 use Rattle.cmark_inline.proofs.Soundness.{sound-more}
 use Rattle.cmark_inline.proofs.Steps.{brackets-on}
+use Rattle.cmark_inline.proofs.WikiSlots.{writes-shown}
 use Rattle.cmark_inline.proofs.state.InlineState.form_wikilink.Goals as goal
 
 pub returns-clause-stands : goal.returns-clause-stands
@@ -142,3 +146,36 @@ returns-clause-ends c = λ leaf ends source.
     let new : InlineState = c.finish.new.self in
     let settled : IsSettled (d.slot + 1) (set shown.slots.items d.slot s) new.slots.items = subst (λ l. IsSettled (d.slot + 1) l new.slots.items) begun (subst (λ k. IsSettled (k + 1) c.begin.new.slots.items new.slots.items) i.bracket c.in_ok-finish.ensures.settled) in
     settled-ended shown.slots.items d.slot (d.slot + 1) s new.slots.items refl settled leaf (i.ends leaf ends source)
+
+pub returns-clause-writes : goal.returns-clause-writes
+returns-clause-writes c =
+    let old : InlineState = c.args.self.now in
+    let d : Bracket = c.args.doubled in
+    let p = c.requires.taken.placed in
+    let shown : InlineState = c.show.new.self in
+    let o = c.show.ensures.others in
+    let i = c.in_ok-inside.ensures in
+    let size = i.longer in
+    let there = p.there in
+    let within : d.slot < length shown.slots.items = omega (arith, size, there) in
+    let inside : Bracket = c.in_ok-inside.inside in
+    let close : ℕ = c.args.close in
+    let options = shown_options c.args.options in
+    let s : Slot = begun_as c.linked_element-element.result (close + 2) (get_or shown.slots.items d.slot no-slot) in
+    let begun : c.begin.new.slots.items ≡ set shown.slots.items d.slot s = c.begin.ensures.value no-slot within in
+    let new : InlineState = c.finish.new.self in
+    let f = c.in_ok-finish.ensures in
+    let index : c.len-index.result ≡ length old.links.items = search rules in
+    writes-shown options c.args.text.now d close c.args.wikilink old _ c.link_parts.result c.len-index.result c.linked_element-element.result shown.slots.items inside i.shows
+    there size i.before c.requires.stands.slots (i.names (length old.texts.items) (length old.links.items) c.requires.sound.named) i.settles
+    (ap (λ v. v.items) c.finish.ensures.texts ∙ ap (λ (x : InlineState). x.texts.items) o)
+    (ap (λ v. v.items) c.finish.ensures.table ∙ ap (λ (x : InlineState). x.links.items) o ∙ c.in_ok-push.ensures.items)
+    c.link_parts.ensures index c.linked_element-element.ensures.value
+    (record {
+      runs = c.truncate-2.ensures.placed ∙ ap (take d.runs) f.placed ∙ take-fewer d.runs inside.runs shown.delimiters.placed.items i.runs ∙ ap (λ (x : InlineState). take d.runs x.delimiters.placed.items) o;
+      quotes = c.truncate.ensures ∙ ap (take d.quotes) f.quotes ∙ take-fewer d.quotes inside.quotes shown.quotes.placed.items i.quotes ∙ ap (λ (x : InlineState). take d.quotes x.quotes.placed.items) o;
+    })
+    (λ leaf pairs spans emphasis.
+    f.dressed leaf new.texts.items new.links.items pairs spans (subst (λ (x : InlineState). IsEmphasis (siblings_from 0 (drop inside.runs x.delimiters.placed.items)) pairs spans) (sym o) emphasis)
+    ∙ ap (λ (x : InlineState). dressed_behind options inside pairs x.delimiters.placed.items x.quotes.placed.items (shown_slots leaf new.texts.items new.links.items (c.begin.new.slots.items ++ (end_slot close (close + 2) ∷ [])))) o
+    ∙ ap (λ l. dressed_behind options inside pairs old.delimiters.placed.items old.quotes.placed.items (shown_slots leaf new.texts.items new.links.items (l ++ (end_slot close (close + 2) ∷ [])))) begun)

@@ -1,8 +1,12 @@
 use Rattle.std.proofs.Common.{◌-◌, length, sym, ◌∙◌, arith}
+use Rattle.cmark_text.specs.Shown.{shown_options}
+use Rattle.cmark_inline.specs.Hiding.{WritesWikilink}
+use Rattle.cmark_inline.specs.declared.bracket.Bracket.{Bracket}
 use Rattle.cmark_inline.specs.declared.state.InlineState.{InlineState}
 use Rattle.cmark_inline.proofs.Opening.{is-pair, last-nearest, sound-pair-taken, taken-fewer}
+use Rattle.cmark_inline.proofs.WikiSlots.{writes-taken}
 use Rattle.cmark_inline.proofs.WikiSteps.{two-brackets}
-use Rattle.std.specs.Prelude.{Some}
+use Rattle.std.specs.Prelude.{Some, IfSome, Option, Bool}
 use Rattle.std.proofs.Common.{◌+◌, ℕ, List, ap, subst}
 use Rattle.cmark_leaf_text.specs.Reads.{IsPart}
 use Rattle.cmark_inline.specs.Sound.{EndsIn}
@@ -85,3 +89,14 @@ returns-clause-ends c = λ e.
     let close : ℕ = c.args.close in
     let part = subst (λ (t : List ℕ). IsPart t close (close + 1)) c.requires.same c.requires.close in
     c.in_ok-form_wikilink.ensures.ends leaf e (subst (λ (p : ℕ). EndsIn leaf close (Some p)) (sym c.in-Some-wikilink_at.ensures.is.ends) (ends-at-byte leaf c.requires.read close part))
+
+pub returns-clause-writes : goal.returns-clause-writes
+returns-clause-writes c =
+    let old : InlineState = c.args.self.now in
+    let new : InlineState = c.form_wikilink.new.self in
+    let options = shown_options c.args.options in
+    subst (λ (o : Option (Bracket × Bool)). IfSome o (λ tried. WritesWikilink options c.args.leaf.now c.args.text.now tried.0 c.args.close old new)) (sym c.in-Some.is ∙ c.take.ensures.value) (record {
+      wikilink = c.in-Some-wikilink_at.wikilink;
+      is = c.in-Some-wikilink_at.ensures.is;
+      writes = writes-taken options c.args.text.now c.in-Some.doubled c.args.close c.in-Some-wikilink_at.wikilink old new c.take.new.self c.in_ok-form_wikilink.ensures.writes;
+    })

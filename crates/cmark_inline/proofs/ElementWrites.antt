@@ -1,0 +1,98 @@
+-- The slots of a link or an image.
+use Rattle.std.proofs.Common.{◌≡◌, ℕ, suc, ◌+◌, ◌-◌, ◌<◌, ◌≤◌, Bool, true, false, List, [], ◌∷◌, ◌++◌, length, drop, take, get_or, set, refl, sym, ap, subst, ◌∙◌, arith}
+use Rattle.std.specs.Prelude.{map, max}
+use Rattle.std.proofs.lemmas.List.{append-nil, get_or_default, length-map, map-append, map-set}
+use Rattle.cmark_grammar.specs.Emphasis.{IsEmphasis, Pair}
+use Rattle.cmark_grammar.specs.Options.{Options}
+use Rattle.cmark_grammar.specs.Siblings.{tag_by}
+use Rattle.cmark_grammar.specs.Spans.{Spans}
+use Rattle.cmark_grammar.specs.Tag.{Tag}
+use Rattle.cmark_leaf_text.specs.Reads.{place_of}
+use Rattle.cmark_leaf_text.specs.declared.leaf_text.LeafText.{LeafText}
+use Rattle.cmark_text.specs.declared.text.CowStr.{CowStr}
+use Rattle.cmark_inline_model.specs.SlotRows as row
+use Rattle.cmark_inline_model.specs.SlotRows.{marks_by}
+use Rattle.cmark_inline.specs.Marked.{begun_as, places_of, siblings_from}
+use Rattle.cmark_inline.specs.Quoted.{characters_of}
+use Rattle.cmark_inline.specs.SlotViews.{first_of, linked_or_none, shown_element, shown_parts, shown_slot, shown_slots}
+use Rattle.cmark_inline.specs.Sound.{AreNamed, CanSettle}
+use Rattle.cmark_inline.specs.Stands.{AreSlots}
+use Rattle.cmark_inline.specs.Written.{WritesElement, dressed_behind, end_slot, wrapped}
+use Rattle.cmark_inline.specs.declared.bracket.Bracket.{Bracket}
+use Rattle.cmark_inline.specs.declared.delimiter.PlacedRun.{PlacedRun}
+use Rattle.cmark_inline.specs.declared.link.LinkParts.{LinkParts}
+use Rattle.cmark_inline.specs.declared.link.Target.{Target}
+use Rattle.cmark_inline.specs.declared.quote.PlacedQuote.{PlacedQuote}
+use Rattle.cmark_inline.specs.declared.slot.Element.{Element}
+use Rattle.cmark_inline.specs.declared.slot.Element.TheVariants as element
+use Rattle.cmark_inline.specs.declared.slot.Slot.{Slot}
+use Rattle.cmark_inline.specs.declared.state.InlineState.{InlineState}
+use Rattle.cmark_inline.proofs.Marks.{no-slot}
+use Rattle.cmark_inline.proofs.Longer.{get-last, shown-longer}
+use Rattle.cmark_inline.proofs.RunPlaces.{all-ahead}
+use Rattle.cmark_inline.proofs.Wrapping.{AreInside, ahead-inside, dressed-wrapped, texts-inside}
+
+-- the tag of a link or an image whose parts come last into the table
+pub link-shown : (links : List LinkParts) (parts : LinkParts) (index : ℕ) → index ≡ length links → shown_element (links ++ (parts ∷ [])) (element.Link index) ≡ tag_by false (shown_parts parts)
+link-shown links parts index e = ap (λ i. shown_element (links ++ (parts ∷ [])) (element.Link i)) e ∙ ap (λ o. tag_by false (linked_or_none o)) (get-last links parts)
+
+pub image-shown : (links : List LinkParts) (parts : LinkParts) (index : ℕ) → index ≡ length links → shown_element (links ++ (parts ∷ [])) (element.Image index) ≡ tag_by true (shown_parts parts)
+image-shown links parts index e = ap (λ i. shown_element (links ++ (parts ∷ [])) (element.Image i)) e ∙ ap (λ o. tag_by true (linked_or_none o)) (get-last links parts)
+
+larger : (m n : ℕ) → m ≤ n → max m n ≡ n
+larger m n le = omega (arith, le)
+
+module _ (leaf : LeafText) (texts : List CowStr) (links links1 : List LinkParts) (at : ℕ) (slots : List Slot) (there : at < length slots) (element : Element) (tag : Tag) (shows : shown_element links1 element ≡ tag) (close end : ℕ) (s d : Slot) (before : (get_or slots at d).end ≤ end)
+    (same : shown_slots leaf texts links1 slots ≡ shown_slots leaf texts links slots) (begins : s ≡ begun_as element end (get_or slots at d)) where
+  abbrev begin : row.Slot
+  begin = row.BeginSlot tag (first_of leaf (get_or slots at d)) (place_of leaf (end - 1) + 1)
+
+  begin-shown : shown_slot leaf texts links1 s ≡ begin
+  begin-shown =
+      ap (shown_slot leaf texts links1) begins
+      ∙ ap (λ t. row.BeginSlot t (first_of leaf (get_or slots at d)) (place_of leaf (max (get_or slots at d).end end - 1) + 1)) shows
+      ∙ ap (λ n. row.BeginSlot tag (first_of leaf (get_or slots at d)) (place_of leaf (n - 1) + 1)) (larger (get_or slots at d).end end before)
+
+  -- the slots before they are dressed
+  pub ends-shown : shown_slots leaf texts links1 (set slots at s ++ (end_slot close end ∷ [])) ≡ set (shown_slots leaf texts links slots) at begin ++ (row.EndSlot ∷ [])
+  ends-shown =
+      map-append (shown_slot leaf texts links1) (set slots at s) (end_slot close end ∷ [])
+      ∙ ap (λ l. l ++ (row.EndSlot ∷ [])) (map-set (shown_slot leaf texts links1) slots at s ∙ ap (λ x. set (shown_slots leaf texts links1 slots) at x) begin-shown ∙ ap (λ l. set l at begin) same)
+
+  -- and dressed
+  pub element-dressed : (options : Options) (bracket : Bracket) (pairs : List Pair) (runs : List PlacedRun) (quotes : List PlacedQuote) → bracket.slot ≡ at → CanSettle (at + 1) slots (drop bracket.runs runs) (drop bracket.quotes quotes)
+      → dressed_behind options bracket pairs runs quotes (shown_slots leaf texts links1 (set slots at s ++ (end_slot close end ∷ []))) ≡ wrapped at begin (dressed_behind options bracket pairs runs quotes (shown_slots leaf texts links slots))
+  element-dressed options bracket pairs runs quotes slot_is can =
+      let shown = shown_slots leaf texts links slots in
+      let n = length-map slots (shown_slot leaf texts links) in
+      let lt : at < at + 1 = omega arith in
+      let places = places_of (drop bracket.runs runs) in
+      let inside : AreInside at (length shown) places = subst (λ k. AreInside at k places) (sym n) (ahead-inside slots (at + 1) 0 places at lt (all-ahead slots (at + 1) 0 (drop bracket.runs runs) can.runs_are)) in
+      let quoted_at = map (λ (q : PlacedQuote). q.slot) (drop bracket.quotes quotes) in
+      let among : AreInside at (length shown) quoted_at = subst (λ k. AreInside at k quoted_at) (sym n) (texts-inside slots (drop bracket.quotes quotes) (at + 1) at lt can.quotes_are can.quotes_behind) in
+      ap (dressed_behind options bracket pairs runs quotes) ends-shown
+      ∙ dressed-wrapped options at begin places (marks_by (length places) pairs) quoted_at (characters_of (drop bracket.quotes quotes)) shown (let q : at < length shown = omega (arith, n, there) in q) inside among
+
+-- by the calls for it
+pub writes-element : (options : Options) (bracket : Bracket) (target : Target) (old new : InlineState) (element : Element) → bracket.slot < length old.slots.items → (close : ℕ) (text : List ℕ) → AreSlots text close old.slots.items → close < target.end
+    → AreNamed (length old.texts.items) (length old.links.items) old.slots.items → CanSettle (bracket.slot + 1) old.slots.items (drop bracket.runs old.delimiters.placed.items) (drop bracket.quotes old.quotes.placed.items)
+    → new.texts.items ≡ old.texts.items → new.links.items ≡ old.links.items ++ (target.parts ∷ []) → shown_element (old.links.items ++ (target.parts ∷ [])) element ≡ tag_by bracket.is_image (shown_parts target.parts)
+    → new.delimiters.placed.items ≡ take bracket.runs old.delimiters.placed.items → new.quotes.placed.items ≡ take bracket.quotes old.quotes.placed.items
+    → ((leaf : LeafText) (pairs : List Pair) (spans : Spans) → IsEmphasis (siblings_from 0 (drop bracket.runs old.delimiters.placed.items)) pairs spans → shown_slots leaf new.texts.items new.links.items new.slots.items
+    ≡ dressed_behind options bracket pairs old.delimiters.placed.items old.quotes.placed.items (shown_slots leaf new.texts.items new.links.items (set old.slots.items bracket.slot (begun_as element target.end (get_or old.slots.items bracket.slot no-slot)) ++ (end_slot close target.end ∷ []))))
+    → WritesElement options bracket target old new
+writes-element options bracket target old new element there close text stand behind named can texts links shows runs quotes dressed = record {
+  forgets = record { runs = runs; quotes = quotes };
+  slots = λ leaf pairs spans d emphasis.
+      let slots : List Slot = old.slots.items in
+      let at : ℕ = bracket.slot in
+      let same : shown_slots leaf old.texts.items new.links.items slots ≡ shown_slots leaf old.texts.items old.links.items slots =
+      shown-longer leaf old.texts.items old.texts.items [] old.links.items new.links.items (target.parts ∷ []) slots (sym (append-nil old.texts.items)) links named in
+      let first : get_or slots at no-slot ≡ get_or slots at d = get_or_default slots at no-slot d there in
+      let e = (stand at d there).before in
+      let made : Slot = begun_as element target.end (get_or slots at no-slot) in
+      dressed leaf pairs spans emphasis
+      ∙ ap (λ l. dressed_behind options bracket pairs old.delimiters.placed.items old.quotes.placed.items (shown_slots leaf l new.links.items (set slots at made ++ (end_slot close target.end ∷ [])))) texts
+      ∙ element-dressed leaf old.texts.items old.links.items new.links.items at slots there element (tag_by bracket.is_image (shown_parts target.parts)) (ap (λ l. shown_element l element) links ∙ shows) close target.end made d
+      (let q : (get_or slots at d).end ≤ target.end = omega (arith, e, behind) in q) same (ap (begun_as element target.end) first) options bracket pairs old.delimiters.placed.items old.quotes.placed.items refl can;
+}
