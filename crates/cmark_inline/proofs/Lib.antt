@@ -49,6 +49,7 @@ pub mod ItemSlots
 pub mod LabelEnds
 pub mod LeafPlaces
 pub mod DecisionSteps
+pub mod DisplaySteps
 pub mod TargetSteps
 pub mod TargetMakes
 pub mod CloserSteps

@@ -8,6 +8,7 @@ mod delimiter;
 mod event;
 mod footnote;
 mod formula;
+pub mod display_laws;
 pub mod laws;
 mod link;
 mod markup;

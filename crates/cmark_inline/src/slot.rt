@@ -9,7 +9,7 @@ ghost use Rattle.cmark_inline.specs.Marked.{AreWhole, Merges, begun_as, ended, l
 ghost use Rattle.cmark_inline.specs.Quoted.{with_character};
 ghost use Rattle.cmark_leaf_text.specs.Reads.{IsPart};
 ghost use Rattle.cmark_inline.specs.Stands.{AreSlots, HoldNoLink, IsContent, IsSlot, NoNewLink, PushesText, begins_link, is_link};
-ghost use Rattle.cmark_inline.specs.Wikilinks.{Hides, IsFirstBehind, cut_at, cut_kind, cut_slot, hidden};
+ghost use Rattle.cmark_inline.specs.Wikilinks.{Hides, IsFirstBehind, cut_at, cut_kind, cut_slot, ends_by, hidden};
 ghost use Rattle.cmark_inline.specs.declared.slot.Slot.{Slot as Slots};
 
 use cmark_finds::has_line_ending;
@@ -254,10 +254,24 @@ pub fn first_behind(slots: &[Slot], from: usize, place: usize) -> usize
     ensures { IsFirstBehind slots.now from place result }
 {
     let mut at = from;
-    while at < slots.len() && slots[at].end <= place {
+    while at < slots.len() && ends_by(slots[at], place) {
         at += 1;
     }
     at
+}
+
+// Whether a slot has no bytes behind a place. The end of an element and what is nothing have none of their own, and a text of no
+// bytes ends where it begins.
+fn ends_by(slot: Slot, place: usize) -> bool
+    ensures value { result ≡ ends_by place slot }
+    ensures behind { result ≡ false → place < slot.end }
+{
+    let has_none = match slot.kind {
+        SlotKind::End | SlotKind::Nothing => true,
+        SlotKind::Empty => slot.start <= place,
+        _ => false,
+    };
+    has_none || slot.end <= place
 }
 
 /// Makes the slots from one up to before another nothing any more.

@@ -167,13 +167,16 @@ module _ (reader : Reader) (leaf : Leaf) (size : ℕ) (turn : InTurn 0 leaf.stre
       let e = ap length (parts x) in
       sym (take-append_seam (before reader leaf x) (from reader leaf x)) ∙ ap (λ n. take n (before reader leaf x ++ from reader leaf x)) (let q : length (before reader leaf x) ≡ count = omega arith in q) ∙ ap (take count) (parts x)
 
-  byte_is : (k : ℕ) → k < length text → (place k < length reader.source) × (get_or reader.source (place k) 0 ≡ get_or text k 0)
-  byte_is k lt =
-      let n : length text ≡ size_of leaf.stretches = ap length all_is ∙ all-size reader.source 0 leaf.stretches size turn within in
+  pub size-is : length text ≡ size_of leaf.stretches
+  size-is = ap length all_is ∙ all-size reader.source 0 leaf.stretches size turn within
+
+  pub byte-is : (k : ℕ) → k < length text → (place k < length reader.source) × (get_or reader.source (place k) 0 ≡ get_or text k 0)
+  byte-is k lt =
+      let n = size-is in
       let i = at-next reader.source leaf.stretches size turn within lines (length text - k) (place k) (get_or text k 0) (drop (suc k) text)
       ((let q : length text - k ≤ size_of leaf.stretches = omega arith in q), ap (λ m. place_with m leaf.stretches) (length-drop k text))
       (places.rest k (let q : k ≤ length text = omega arith in q) ∙ drop-cons text k 0 lt) in
       (i.inside, i.byte)
 
   pub leaf-places : HaveWholeEndings text place → AreLeafPlaces reader leaf text place
-  leaf-places whole = record { places = places; front = front_is; rest = rest_is; inside = λ k lt. (byte_is k lt).0; bytes = λ k lt. (byte_is k lt).1; endings = whole }
+  leaf-places whole = record { places = places; front = front_is; rest = rest_is; inside = λ k lt. (byte-is k lt).0; bytes = λ k lt. (byte-is k lt).1; endings = whole }

@@ -15,8 +15,8 @@ abbrev pub all_bytes : (source : List ℕ) → List Stretch → List ℕ
 all_bytes source [] = []
 all_bytes source (s ∷ more) = slice source s.start s.end ++ all_bytes source more
 
-slice_size : (source : List ℕ) (start end : ℕ) → end ≤ length source → length (slice source start end) ≡ end - start
-slice_size source start end h = let t = length-take (end - start) (drop start source) in let d = length-drop start source in omega arith
+pub slice-size : (source : List ℕ) (start end : ℕ) → end ≤ length source → length (slice source start end) ≡ end - start
+slice-size source start end h = let t = length-take (end - start) (drop start source) in let d = length-drop start source in omega arith
 
 slice_drop : (source : List ℕ) (start mid end : ℕ) → start ≤ mid → mid ≤ end → drop (mid - start) (slice source start end) ≡ slice source mid end
 slice_drop source start mid end h k =
@@ -82,7 +82,7 @@ bytes_at source from (s ∷ (t ∷ more)) size left h w k =
         let ends : s.end ≤ length source = up s.end (t ∷ more) h.2 in
         let e : max at s.start ≡ at = omega arith in
         let d : size_of (s ∷ (t ∷ more)) - left ≡ at - s.start = omega arith in
-        let l = slice_size source s.start s.end ends in
+        let l = slice-size source s.start s.end ends in
         ap (λ n. slice source n s.end ++ bytes_from source (t ∷ more) at) e
         ∙ ap (λ b. slice source at s.end ++ b) (bytes-low source at s.end (t ∷ more) size (omega arith) h.2)
         ∙ ap (λ b. b ++ all_bytes source (t ∷ more)) (sym (slice_drop source s.start at s.end (omega arith) (omega arith)))
@@ -100,7 +100,7 @@ bytes_at source from (s ∷ (t ∷ more)) size left h w k =
         let low = place-low s.end t more size left h.2 le in
         let x = h.1 in let y = h.2.0 in
         let ends : s.end ≤ length source = up s.end (t ∷ more) h.2 in
-        let l = slice_size source s.start s.end ends in
+        let l = slice-size source s.start s.end ends in
         let d : size_of (s ∷ (t ∷ more)) - left ≡ length (slice source s.start s.end) + (size_of (t ∷ more) - left) = omega arith in
         ap (λ b. b ++ bytes_from source (t ∷ more) at) (slice_none source (max at s.start) s.end (omega arith))
         ∙ i
@@ -116,7 +116,7 @@ all-size source from [] size h w = refl
 all-size source from (s ∷ more) size h w =
     let i = all-size source s.end more size h.2 w in
     let e = length-append (slice source s.start s.end) (all_bytes source more) in
-    let l = slice_size source s.start s.end (up s.end more h.2) in
+    let l = slice-size source s.start s.end (up s.end more h.2) in
     omega arith
   where
     up : (low : ℕ) (st : List Stretch) → InTurn low st size → low ≤ length source
@@ -137,7 +137,7 @@ byte_at source from (s ∷ more) size n h w k = go more refl (λ e. byte_at sour
     first : (i : ℕ) → s.start + i < s.end → (s.start + i < length source) × (get_or source (s.start + i) 0 ≡ get_or (all_bytes source (s ∷ more)) i 0)
     first i lt =
         let ends : s.end ≤ length source = up s.end more h.2 in
-        let l = slice_size source s.start s.end ends in
+        let l = slice-size source s.start s.end ends in
         let at = s.start + i in
         let cut : drop i (all_bytes source (s ∷ more)) ≡ slice source at s.end ++ all_bytes source more =
         drop-append-le i (slice source s.start s.end) (all_bytes source more) (omega arith)
@@ -176,7 +176,7 @@ byte_at source from (s ∷ more) size n h w k = go more refl (λ e. byte_at sour
         later le =
             let m : size_of more ≡ size_of (t ∷ rest) = ap size_of e in
             let i = subst (λ l. (place_with (suc n) l < length source) × (get_or source (place_with (suc n) l) 0 ≡ get_or (all_bytes source more) (size_of l - suc n) 0)) e (ih (omega arith)) in
-            let l = slice_size source s.start s.end (up s.end more h.2) in
+            let l = slice-size source s.start s.end (up s.end more h.2) in
             let x = h.1 in
             let a : length (slice source s.start s.end) + (size_of (t ∷ rest) - suc n) ≡ size_of (s ∷ (t ∷ rest)) - suc n = omega arith in
             let z : (size_of (t ∷ rest) - suc n) + 0 ≡ size_of (t ∷ rest) - suc n = omega arith in

@@ -46,7 +46,7 @@ autolink_behind (b ∷ bs) found e = scheme (has_scheme (b ∷ bs)) e
     scheme true f = closed (first_is (λ c. c == 62) (drop size (b ∷ bs))) f
     scheme false f = cc
 
-abbrev FillsItem : Item → Type 0
+abbrev pub FillsItem : Item → Type 0
 FillsItem x = Fills x.kind x.start x.end
 
 module _ (reader : Reader) (leaf : Leaf) (size : ℕ) (turn : InTurn 0 leaf.stretches size) where
@@ -92,12 +92,12 @@ part-up from (Opening opener after) to h = let a = h.0 in let b = h.1 in let c =
 -- ## Siblings behind a pipe
 
 -- the place of the pipe does not stand inside of a run
-abbrev FreeBy : ItemKind → (place start end : ℕ) → Type 0
+abbrev pub FreeBy : ItemKind → (place start end : ℕ) → Type 0
 FreeBy (Delimiters run) place start end = start < place → place ≤ end → ⊥
 FreeBy (Autolink uri) place start end = ⊥
 FreeBy _ place start end = Unit {0}
 
-abbrev IsFree : (place : ℕ) → Inline → Type 0
+abbrev pub IsFree : (place : ℕ) → Inline → Type 0
 IsFree place Nil = Unit {0}
 IsFree place (Single x after) = FreeBy x.kind place x.start x.end × IsFree place after
 IsFree place (Around tag start end inside after) = IsFree place after
@@ -180,7 +180,7 @@ module _ (Pipe : ℕ → Type 0) where
   footnote_order false from start label end others to a b k = (a, omega (arith, b), tt, k)
 
 module _ (reader : Reader) (leaf : Leaf) (size : ℕ) (turn : InTurn 0 leaf.stretches size) (within : size ≤ length reader.source) (lines : HaveLineEnds reader.source leaf.stretches) where
-  abbrev UncutItem : Item → Type 0
+  abbrev pub UncutItem : Item → Type 0
   UncutItem x = Uncut reader leaf size turn within lines x.kind x.start x.end
 
   abbrev Pipe : ℕ → Type 0
@@ -216,46 +216,46 @@ module _ (reader : Reader) (leaf : Leaf) (size : ℕ) (turn : InTurn 0 leaf.stre
   footnote_free place true start label end others k = (tt, (tt, k))
   footnote_free place false start label end others k = (tt, k)
 
-  parts_free : (place : ℕ) → Pipe place → (parts : Parts) → OfItems UncutItem parts → IsFree place (siblings_of reader.options parts)
-  parts_free place pipe NoParts u = tt
-  parts_free place pipe (SinglePart x after) u = item_free place pipe x (siblings_of reader.options after) u.0 (parts_free place pipe after u.1)
-  parts_free place pipe (Form opener inside closer (Linking target) after) u = parts_free place pipe after u.1
-  parts_free place pipe (Form opener inside closer (Footnote label end) after) u = footnote_free place opener.is_image opener.start label end (siblings_of reader.options after) (parts_free place pipe after u.1)
-  parts_free place pipe (Form opener inside closer (Wiki name None end) after) u = parts_free place pipe after u.1
-  parts_free place pipe (Form opener inside closer (Wiki name (Some display) end) after) u = parts_free place pipe after u.1
-  parts_free place pipe (Closing closer after) u = (tt, parts_free place pipe after u)
-  parts_free place pipe (Opening opener after) u = (tt, parts_free place pipe after u)
+  pub parts-free : (place : ℕ) → Pipe place → (parts : Parts) → OfItems UncutItem parts → IsFree place (siblings_of reader.options parts)
+  parts-free place pipe NoParts u = tt
+  parts-free place pipe (SinglePart x after) u = item_free place pipe x (siblings_of reader.options after) u.0 (parts-free place pipe after u.1)
+  parts-free place pipe (Form opener inside closer (Linking target) after) u = parts-free place pipe after u.1
+  parts-free place pipe (Form opener inside closer (Footnote label end) after) u = footnote_free place opener.is_image opener.start label end (siblings_of reader.options after) (parts-free place pipe after u.1)
+  parts-free place pipe (Form opener inside closer (Wiki name None end) after) u = parts-free place pipe after u.1
+  parts-free place pipe (Form opener inside closer (Wiki name (Some display) end) after) u = parts-free place pipe after u.1
+  parts-free place pipe (Closing closer after) u = (tt, parts-free place pipe after u)
+  parts-free place pipe (Opening opener after) u = (tt, parts-free place pipe after u)
 
-  siblings_order : (from : ℕ) (parts : Parts) (to : ℕ) → StandBetween from parts to → OfItems FillsItem parts → OfItems UncutItem parts → HavePipes reader parts → HaveGaps parts
+  pub siblings-order : (from : ℕ) (parts : Parts) (to : ℕ) → StandBetween from parts to → OfItems FillsItem parts → OfItems UncutItem parts → HavePipes reader parts → HaveGaps parts
       → SiblingOrder Pipe from (siblings_of reader.options parts) to
-  siblings_order from NoParts to h f u g w = h
-  siblings_order from (SinglePart x after) to h f u g w = item_order Pipe from x (siblings_of reader.options after) to h.0 h.1 f.0 (siblings_order x.end after to h.2 f.1 u.1 g w)
-  siblings_order from (Form opener inside closer (Linking target) after) to h f u g w =
+  siblings-order from NoParts to h f u g w = h
+  siblings-order from (SinglePart x after) to h f u g w = item_order Pipe from x (siblings_of reader.options after) to h.0 h.1 f.0 (siblings-order x.end after to h.2 f.1 u.1 g w)
+  siblings-order from (Form opener inside closer (Linking target) after) to h f u g w =
       let a = h.1 in let b = h.3 in let c = h.4 in let d = part-up opener.end inside closer.start h.2 in
-      let inner = dress-order Pipe reader.options opener.end (siblings_of reader.options inside) closer.start (siblings_order opener.end inside closer.start h.2 f.0 u.0 g.1 w.1) in (
+      let inner = dress-order Pipe reader.options opener.end (siblings_of reader.options inside) closer.start (siblings-order opener.end inside closer.start h.2 f.0 u.0 g.1 w.1) in (
         opener.start,
         h.0,
         inl refl,
         omega arith,
         inline-wide Pipe opener.start opener.end (dress reader.options (siblings_of reader.options inside)) closer.start target.end a (omega arith) inner,
-        siblings_order target.end after to h.5 f.1 u.1 g.2 w.2,
+        siblings-order target.end after to h.5 f.1 u.1 g.2 w.2,
         link_tag opener.is_image target.linked,
       )
-  siblings_order from (Form opener inside closer (Footnote label end) after) to h f u g w =
+  siblings-order from (Form opener inside closer (Footnote label end) after) to h f u g w =
       let a = h.1 in let b = h.3 in let c = h.4 in let d = part-up opener.end inside closer.start h.2 in
-      footnote_order Pipe opener.is_image from opener.start label end (siblings_of reader.options after) to h.0 (omega arith) (siblings_order end after to h.5 f.1 u.1 g.2 w.2)
-  siblings_order from (Form opener inside closer (Wiki name None end) after) to h f u g w =
+      footnote_order Pipe opener.is_image from opener.start label end (siblings_of reader.options after) to h.0 (omega arith) (siblings-order end after to h.5 f.1 u.1 g.2 w.2)
+  siblings-order from (Form opener inside closer (Wiki name None end) after) to h f u g w =
       let a = h.1 in let b = h.3 in let c = h.4 in let d = w.0 in
-      (opener.start, h.0, inl refl, omega arith, (omega arith, omega arith, omega arith), siblings_order end after to h.5 f.1 u.1 g.2 w.2, link_tag opener.is_image _)
-  siblings_order from (Form opener inside closer (Wiki name (Some place) end) after) to h f u g w =
+      (opener.start, h.0, inl refl, omega arith, (omega arith, omega arith, omega arith), siblings-order end after to h.5 f.1 u.1 g.2 w.2, link_tag opener.is_image _)
+  siblings-order from (Form opener inside closer (Wiki name (Some place) end) after) to h f u g w =
       let a = h.1 in let b = h.3 in let c = h.4 in let d = part-up opener.end inside closer.start h.2 in
       let display = display_from place closer.start (siblings_of reader.options inside) in
       let inner = dress-order Pipe reader.options opener.end display closer.start
-      (display_order Pipe place closer.start g.0.0 opener.end (siblings_of reader.options inside) d (siblings_order opener.end inside closer.start h.2 f.0 u.0 g.1 w.1) (parts_free place g.0.0 inside u.0)) in
-      (opener.start, h.0, inl refl, omega arith, inline-wide Pipe opener.start opener.end (dress reader.options display) closer.start end a (omega arith) inner, siblings_order end after to h.5 f.1 u.1 g.2 w.2, link_tag opener.is_image _)
-  siblings_order from (Closing closer after) to h f u g w = (h.0, (let b = h.1 in omega arith), tt, siblings_order closer.end after to h.2 f u g w)
-  siblings_order from (Opening opener after) to h f u g w = (h.0, h.1, tt, siblings_order opener.end after to h.2 f u g w)
+      (display_order Pipe place closer.start g.0.0 opener.end (siblings_of reader.options inside) d (siblings-order opener.end inside closer.start h.2 f.0 u.0 g.1 w.1) (parts-free place g.0.0 inside u.0)) in
+      (opener.start, h.0, inl refl, omega arith, inline-wide Pipe opener.start opener.end (dress reader.options display) closer.start end a (omega arith) inner, siblings-order end after to h.5 f.1 u.1 g.2 w.2, link_tag opener.is_image _)
+  siblings-order from (Closing closer after) to h f u g w = (h.0, (let b = h.1 in omega arith), tt, siblings-order closer.end after to h.2 f u g w)
+  siblings-order from (Opening opener after) to h f u g w = (h.0, h.1, tt, siblings-order opener.end after to h.2 f u g w)
 
   pub spans-order : (from : ℕ) (parts : Parts) (to : ℕ) → StandBetween from parts to → OfItems FillsItem parts → OfItems UncutItem parts → HavePipes reader parts → HaveGaps parts
       → InlineOrder Pipe from (spans_in reader.options parts) to
-  spans-order from parts to h f u g w = dress-order Pipe reader.options from (siblings_of reader.options parts) to (siblings_order from parts to h f u g w)
+  spans-order from parts to h f u g w = dress-order Pipe reader.options from (siblings_of reader.options parts) to (siblings-order from parts to h f u g w)

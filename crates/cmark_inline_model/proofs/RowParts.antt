@@ -30,15 +30,15 @@ footnote-then-append : (is_image : Bool) (start : ℕ) (label : List ℕ) (end :
 footnote-then-append true start label end a b = refl
 footnote-then-append false start label end a b = refl
 
-run-slots-grow : (start size : ℕ) (a b : List Slot) → run_slots start size a ++ b ≡ run_slots start size (a ++ b)
+pub run-slots-grow : (start size : ℕ) (a b : List Slot) → run_slots start size a ++ b ≡ run_slots start size (a ++ b)
 run-slots-grow start zero a b = refl
 run-slots-grow start (suc size) a b = ap (λ l. ItemSlot (item Own start (suc start)) ∷ l) (run-slots-grow (suc start) size a b)
 
-run-places-grow : (at size : ℕ) (a b : List ℕ) → run_places at size a ++ b ≡ run_places at size (a ++ b)
+pub run-places-grow : (at size : ℕ) (a b : List ℕ) → run_places at size a ++ b ≡ run_places at size (a ++ b)
 run-places-grow at zero a b = refl
 run-places-grow at (suc size) a b = ap (λ l. at ∷ l) (run-places-grow (suc at) size a b)
 
-length-run-slots : (start size : ℕ) (a : List Slot) → length (run_slots start size a) ≡ size + length a
+pub length-run-slots : (start size : ℕ) (a : List Slot) → length (run_slots start size a) ≡ size + length a
 length-run-slots start zero a = omega arith
 length-run-slots start (suc size) a = let i = length-run-slots (suc start) size a in omega arith
 
@@ -135,7 +135,7 @@ runs-quoted Nil cs = refl
 runs-quoted (Single x after) cs = run-quoted x.kind x after cs refl (runs-quoted after)
 runs-quoted (Around tag start end inside after) cs = runs-quoted after cs
 
-length-run-places : (at size : ℕ) (a : List ℕ) → length (run_places at size a) ≡ size + length a
+pub length-run-places : (at size : ℕ) (a : List ℕ) → length (run_places at size a) ≡ size + length a
 length-run-places at zero a = omega arith
 length-run-places at (suc size) a = let i = length-run-places (suc at) size a in omega arith
 

@@ -42,19 +42,19 @@ module _ (source : List ℕ) where
   like-length (s ∷ a) [] h = absurd h
   like-length (s ∷ a) (t ∷ b) h = ap suc (like-length a b h.1)
 
-  like-both : (a b c d : List Slot) → AreLike source a b → AreLike source c d → AreLike source (a ++ c) (b ++ d)
+  pub like-both : (a b c d : List Slot) → AreLike source a b → AreLike source c d → AreLike source (a ++ c) (b ++ d)
   like-both [] b c d h k = subst (λ l. AreLike source c (l ++ d)) (sym h) k
   like-both (s ∷ a) [] c d h k = absurd h
   like-both (s ∷ a) (t ∷ b) c d h k = (h.0, like-both a b c d h.1 k)
 
-  like-take : (n : ℕ) (a b c : List Slot) → n ≡ length b → AreLike source a (b ++ c) → AreLike source (take n a) b
+  pub like-take : (n : ℕ) (a b c : List Slot) → n ≡ length b → AreLike source a (b ++ c) → AreLike source (take n a) b
   like-take zero a [] c e h = refl
   like-take zero a (t ∷ b) c e h = absurd (omega arith)
   like-take (suc n) a [] c e h = absurd (omega arith)
   like-take (suc n) [] (t ∷ b) c e h = absurd (let z = ap length h in omega arith)
   like-take (suc n) (s ∷ a) (t ∷ b) c e h = (h.0, like-take n a b c (omega arith) h.1)
 
-  like-drop : (n : ℕ) (a b c : List Slot) → n ≡ length b → AreLike source a (b ++ c) → AreLike source (drop n a) c
+  pub like-drop : (n : ℕ) (a b c : List Slot) → n ≡ length b → AreLike source a (b ++ c) → AreLike source (drop n a) c
   like-drop zero a [] c e h = h
   like-drop zero a (t ∷ b) c e h = absurd (omega arith)
   like-drop (suc n) a [] c e h = absurd (omega arith)
@@ -178,7 +178,7 @@ module _ (reader : Reader) (leaf : Leaf) (before : Between) where
     -- ## What brackets form
     module _ (closer : Bracket) (nearer : ℕ) (formed : Formed) (next : State) (place : BracketPlace) (there : drop nearer bs ≡ place ∷ drop (suc nearer) bs) (t : token reader leaf p.state.at ≡ Closes closer)
         (comes : Comes AnyAnswer p.state.asked (decide reader leaf p.state closer) (record { result = Forms nearer formed; after = next })) where
-      inside : nearer < length bs
+      pub inside : nearer < length bs
       inside = go nearer bs (ap length there)
         where
           go : (n : ℕ) (l : List BracketPlace) → length (drop n l) ≡ suc (length (drop (suc nearer) bs)) → n < length l
@@ -190,7 +190,7 @@ module _ (reader : Reader) (leaf : Leaf) (before : Between) where
       pub c : CutsRow reader.options nearer bs p.here h.row bytes quotes runs quoted_are
       c = cut-row reader.options nearer bs p.here h.row bytes quotes runs quoted_are inside h.is_row
 
-      place_is : c.place ≡ place
+      pub place_is : c.place ≡ place
       place_is = first c.place place (drop (suc nearer) bs) (drop (suc nearer) bs) (sym c.place_is ∙ there)
         where
           first : (a b : BracketPlace) (l m : List BracketPlace) → a ∷ l ≡ b ∷ m → a ≡ b
@@ -205,19 +205,19 @@ module _ (reader : Reader) (leaf : Leaf) (before : Between) where
       quotes_count : length c.front_quotes ≡ place.quotes
       quotes_count = c.quotes_count ∙ ap (λ (b : BracketPlace). b.quotes) place_is
 
-      slot_is : place.slot ≡ length c.front
+      pub slot_is : place.slot ≡ length c.front
       slot_is = ap (λ (b : BracketPlace). b.slot) (sym place_is) ∙ c.slot_is
 
       front_bytes : c.front_bytes ≡ take count bytes
       front_bytes = sym (ap (take count) c.bytes_are ∙ ap (λ n. take n (c.front_bytes ++ c.behind_bytes)) (sym count_is) ∙ take-append_seam c.front_bytes c.behind_bytes)
 
-      behind_bytes : c.behind_bytes ≡ drop count bytes
+      pub behind_bytes : c.behind_bytes ≡ drop count bytes
       behind_bytes = sym (ap (drop count) c.bytes_are ∙ ap (λ n. drop n (c.front_bytes ++ c.behind_bytes)) (sym count_is) ∙ drop-append_seam c.front_bytes c.behind_bytes)
 
       front_quotes : c.front_quotes ≡ take place.quotes quotes
       front_quotes = sym (ap (take place.quotes) c.quotes_are ∙ ap (λ n. take n (c.front_quotes ++ c.behind_quotes)) (sym quotes_count) ∙ take-append_seam c.front_quotes c.behind_quotes)
 
-      behind_quotes : c.behind_quotes ≡ drop place.quotes quotes
+      pub behind_quotes : c.behind_quotes ≡ drop place.quotes quotes
       behind_quotes = sym (ap (drop place.quotes) c.quotes_are ∙ ap (λ n. drop n (c.front_quotes ++ c.behind_quotes)) (sym quotes_count) ∙ drop-append_seam c.front_quotes c.behind_quotes)
 
       abbrev pub to : Pass
@@ -226,14 +226,14 @@ module _ (reader : Reader) (leaf : Leaf) (before : Between) where
       abbrev pub piece : Parts
       piece = Form c.cut.opener c.cut.inside closer formed Nil
 
-      to_is : to ≡ pass next (join c.cut.before piece)
+      pub to_is : to ≡ pass next (join c.cut.before piece)
       to_is = ap (formed_by p closer formed next) c.cut_is
 
       abbrev pub others : List BracketPlace
       others = drop (suc nearer) bs
 
       -- with these slots in the place of the opening bracket's and of those behind it
-      reached-piece : (front more row : List Slot) → AreLike reader.source front c.front → AreLike reader.source more row → LaysOut (length c.front) (siblings_of reader.options piece) row [] [] → runs_in (siblings_of reader.options piece) ≡ []
+      pub reached-piece : (front more row : List Slot) → AreLike reader.source front c.front → AreLike reader.source more row → LaysOut (length c.front) (siblings_of reader.options piece) row [] [] → runs_in (siblings_of reader.options piece) ≡ []
           → quotes_of (siblings_of reader.options piece) ≡ []
           → IsReached reader leaf before to others (front ++ more) (take count bytes) (take place.quotes quotes) (take place.runs runs) (take place.quotes quoted_are)
       reached-piece front more row lf lm laid no_runs no_quotes =

@@ -1,6 +1,7 @@
 pub mod BracketPass
 pub mod CharacterRanges
 pub mod CutRanges
+pub mod Displays
 pub mod Expansion
 pub mod FormedParts
 pub mod LeafModel
@@ -11,6 +12,7 @@ pub mod OptionRules
 pub mod PartLists
 pub mod PartRanges
 pub mod PassSteps
+pub mod PlacedLeaves
 pub mod PlacedTokens
 pub mod Progress
 pub mod ReadingLinks

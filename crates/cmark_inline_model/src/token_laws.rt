@@ -1,13 +1,22 @@
 //! Theorems over what begins at the places of a leaf, each the contract of a function that does nothing: it is what begins in the leaf's
 //! text where that is read as a leaf of one stretch, in the places of the source.
 
-ghost use Rattle.std.specs.Prelude.{◌≡◌, ◌≤◌, ◌<◌, ◌-◌, ℕ, suc, true, false, List, drop, length};
+ghost use Rattle.std.specs.Prelude.{◌≡◌, ◌≤◌, ◌<◌, ◌-◌, ℕ, suc, true, false, List, [], ◌∷◌, drop, length};
+ghost use Rattle.cmark_grammar.specs.Answers.{Lookup};
+ghost use Rattle.cmark_grammar.specs.BlockDocument.{BlockDocument};
+ghost use Rattle.cmark_grammar.specs.Derivation.{Derives};
+ghost use Rattle.cmark_grammar.specs.Event.{Text};
 ghost use Rattle.cmark_grammar.specs.InlineTokens.{begins_at, from, item_at, read_on, token};
 ghost use Rattle.cmark_grammar.specs.Items.{Item, Plain, Stands};
+ghost use Rattle.cmark_grammar.specs.LeafReading.{Between, ReadsLeaf};
 ghost use Rattle.cmark_grammar.specs.LeafText.{InTurn, Leaf};
+ghost use Rattle.cmark_grammar.specs.Options.{Options};
+ghost use Rattle.cmark_grammar.specs.Questions.{Exchange, IsNext};
 ghost use Rattle.cmark_grammar.specs.Readers.{Reader};
+ghost use Rattle.cmark_grammar.specs.SpanDocuments.{segments};
 ghost use Rattle.cmark_grammar.specs.Tokens.{slice};
 ghost use Rattle.cmark_inline_model.specs.LeafModel.{HaveLineEnds};
+ghost use Rattle.cmark_inline_model.specs.PlacedLeaves.{AreLeavesPlaced, StandWhole};
 ghost use Rattle.cmark_inline_model.specs.PlacedTokens.{AreLeafPlaces, HaveWholeEndings, IsParted, StandsUpTo, StopsAt, is_as_written, may_open_markup, one_stretch, placed, text_reader};
 ghost use Rattle.cmark_inline_model.specs.TextPlaces.{place_in, text_of};
 
@@ -15,6 +24,13 @@ ghost use Rattle.cmark_inline_model.specs.TextPlaces.{place_in, text_of};
 pub fn places_part_the_text()
     ensures { (reader : Reader) (leaf : Leaf) (size : ℕ) → InTurn 0 leaf.stretches size → size ≤ length reader.source → HaveLineEnds reader.source leaf.stretches
         → HaveWholeEndings (text_of reader leaf) (place_in reader leaf) → AreLeafPlaces reader leaf (text_of reader leaf) (place_in reader leaf) }
+{}
+
+/// The leaves of a text stand in order in it, their lines end with line endings, of which none is parted, and the bytes of their texts have
+/// their places.
+pub fn leaves_have_their_places()
+    ensures { (reader : Reader) (options : Options) (lookup : Lookup) (document : BlockDocument)
+        → Derives reader.source options lookup document → AreLeavesPlaced reader (segments document) }
 {}
 
 /// At the place of a byte begins what begins at this byte of the text, with the items, their ranges and the place from which on the text is
@@ -51,4 +67,11 @@ pub fn texts_have_their_bytes_in_the_source()
 pub fn bytes_that_stand_for_themselves_are_one_text()
     ensures { (reader : Reader) (leaf : Leaf) (at start end to : ℕ) → begins_at reader leaf at ≡ item_at Plain start end → end ≤ to → to - end ≤ length (from reader leaf end)
         → ((k : ℕ) → end ≤ k → k < to → StandsUpTo reader leaf k to) → StopsAt reader leaf to → token reader leaf at ≡ item_at Plain start to }
+{}
+
+/// A leaf of one line in which each byte stands for itself is read as one text, and nothing is asked on the way.
+pub fn a_plain_line_is_read_as_one_text()
+    ensures { (reader : Reader) (all : List Exchange) (leaf : Leaf) (before : Between) (start end : ℕ) → leaf.stretches ≡ record { start = start; end = end } ∷ []
+        → start < end → end ≤ length reader.source → StandWhole reader.options reader.lookup leaf.is_cell (slice reader.source start end)
+        → ReadsLeaf reader (IsNext all) leaf before (record { event = Text (slice reader.source start end); start = start; end = end } ∷ []) before }
 {}

@@ -1,0 +1,300 @@
+-- What holds of the stretches of each paragraph holds of each leaf of a document that is derived, where it also holds of one stretch or
+-- none, and of stretches that are cut at a place.
+use Rattle.std.specs.Prelude.{◌==◌, nat_lt, if◌then◌else◌, take_while}
+use Rattle.std.proofs.Common.{◌≡◌, ℕ, zero, suc, ◌+◌, ◌<◌, Bool, true, false, List, [], ◌∷◌, ◌++◌, length, drop, refl, sym, ◌∙◌, subst, arith, Option, Some, None, true≢false}
+use Rattle.cmark_grammar.specs.Answers.{Lookup}
+use Rattle.cmark_grammar.specs.BlockDocument.{BlockKind, ListItem, Text, OwnedText, Html, BlockNode, BlockDocument, Nil, Node, node, BlockList, DefinitionList, DefinitionListTitle, DefinitionListDefinition}
+use Rattle.cmark_grammar.specs.BlockReading.{Reads, Around, Inside, Alone, First, Silent, starts_before, over, first_event, read_as}
+use Rattle.cmark_grammar.specs.Blocks.{Blocks, Nil as NoBlocks, BlankLine, Paragraph as ParagraphBlock, SetextHeading, LeafBlock, ContainerBlock, AreText, Body, behind_leaf, place_in}
+use Rattle.cmark_grammar.specs.Columns.{Column, is_blank_byte, drop_end}
+use Rattle.cmark_grammar.specs.Containers.{Container, Quote, Item, Footnote, ListDefinition, insides}
+use Rattle.cmark_grammar.specs.Derivation.{leaf_then, item_then, task_then, document_of, Derives, list_kind, paragraph_kind}
+use Rattle.cmark_grammar.specs.Event.{Ranged}
+use Rattle.cmark_grammar.specs.LeafText.{Stretch}
+use Rattle.cmark_grammar.specs.Lists.{ListBefore, tight_behind, goes_on, definition_mark, is_title, title_tight_behind}
+use Rattle.cmark_grammar.specs.Metadata.{ends_metadata}
+use Rattle.cmark_grammar.specs.Openings.{Leaf, ThematicBreak as ThematicBreakLeaf, AtxHeading as AtxHeadingLeaf, IndentedCode as IndentedCodeLeaf, FencedCode as FencedCodeLeaf, HtmlBlock as HtmlBlockLeaf, LinkDefinition as LinkDefinitionLeaf, MetadataBlock as MetadataBlockLeaf, Table as TableLeaf}
+use Rattle.cmark_grammar.specs.Options.{Options}
+use Rattle.cmark_grammar.specs.Places.{Place, Apart, BehindTitle, over_blank}
+use Rattle.cmark_grammar.specs.Rows.{Row, rows, without, first_place, begin_of, start_of, past_of, words_of}
+use Rattle.cmark_grammar.specs.SetextAttributes.{content_of, ends_in_braces, attributes_place, texts_before, texts_if, without_braces, setext_tokens}
+use Rattle.cmark_grammar.specs.SpanDocuments.{Segment, Given, Content, stretches_of, leaf_of, is_leaf, inside_of, node_segments, first_of_segments, with_first_segment, segments}
+use Rattle.cmark_grammar.specs.TableRows.{cells_start, cells_of}
+use Rattle.cmark_grammar.specs.TableTokens.{cell_tokens, cells_then, row_cells, row_tokens, table_tokens}
+use Rattle.cmark_grammar.specs.TaskItems.{behind_box}
+use Rattle.cmark_grammar.specs.Tokens.{Piece, slice, texts_then, text_kind_of, html_kind_of, html_then, code_tokens, html_tokens, fenced_lines, lines_before, piece_if, stretch_then, stretches, end_place, words_end, paragraph_tokens, heading_tokens, behind_hashes, heading_columns}
+
+-- ## Texts are no leaves
+
+abbrev AreTexts : BlockDocument → Type 0
+AreTexts Nil = Unit {0}
+AreTexts (Node node inside after) = (is_leaf node.kind ≡ false) × (inside ≡ Nil) × AreTexts after
+
+text_kind : (p : Piece) → is_leaf (text_kind_of p) ≡ false
+text_kind p = go p.owned
+  where
+    go : (b : Bool) → is_leaf (if b then OwnedText p.bytes else Text p.bytes) ≡ false
+    go true = refl
+    go false = refl
+
+html_kind : (p : Piece) → is_leaf (html_kind_of p) ≡ false
+html_kind p = go p.owned
+  where
+    go : (b : Bool) → is_leaf (if b then OwnedText p.bytes else Html p.bytes) ≡ false
+    go true = refl
+    go false = refl
+
+pieces_are_texts : (ps : List Piece) (after : BlockDocument) → AreTexts after → AreTexts (texts_then ps after)
+pieces_are_texts [] after h = h
+pieces_are_texts (p ∷ ps) after h = (text_kind p, refl, pieces_are_texts ps after h)
+
+html_are_texts : (ps : List Piece) (after : BlockDocument) → AreTexts after → AreTexts (html_then ps after)
+html_are_texts [] after h = h
+html_are_texts (p ∷ ps) after h = (html_kind p, refl, html_are_texts ps after h)
+
+list_no_leaf : (mark : ℕ) (number : Option ℕ) (tight : Bool) → is_leaf (list_kind mark number tight) ≡ false
+list_no_leaf mark number tight = go (mark == definition_mark)
+  where
+    go : (z : Bool) → is_leaf (if z then DefinitionList tight else BlockList number tight) ≡ false
+    go true = refl
+    go false = refl
+
+module _ (text : List ℕ) where
+  stretches_are_texts : (begin : ℕ) (r : Row) (more : List Row) → AreTexts (stretches text begin r more)
+  stretches_are_texts begin r [] = pieces_are_texts (piece_if text begin (words_end r) []) Nil tt
+  stretches_are_texts begin r (s ∷ more) = go (begin_of s == r.past) (stretches_are_texts begin s more) (stretches_are_texts (begin_of s) s more)
+    where
+      go : (z : Bool) → AreTexts (stretches text begin s more) → AreTexts (stretches text (begin_of s) s more)
+          → AreTexts (if z then stretches text begin s more else stretch_then text begin r.past (stretches text (begin_of s) s more))
+      go true p q = p
+      go false p q = pieces_are_texts (piece_if text begin r.past []) (stretches text (begin_of s) s more) q
+
+  before_are_texts : (at : ℕ) (d : BlockDocument) → AreTexts d → AreTexts (texts_before text at d)
+  before_are_texts at Nil h = tt
+  before_are_texts at (Node n inside after) h = go (nat_lt n.end at) (before_are_texts at after h.2)
+    where
+      go : (z : Bool) → AreTexts (texts_before text at after) → AreTexts (if z then Node n inside (texts_before text at after) else stretch_then text n.start at Nil)
+      go true ih = (h.0, h.1, ih)
+      go false ih = pieces_are_texts (piece_if text n.start at []) Nil tt
+
+  braces_are_texts : (attributes : Bool) (cs : List Column) (d : BlockDocument) → AreTexts d → AreTexts (without_braces text attributes cs d)
+  braces_are_texts false cs d h = h
+  braces_are_texts true cs d h = go (ends_in_braces cs)
+    where
+      go : (z : Bool) → AreTexts (texts_if z text (attributes_place cs) d)
+      go true = before_are_texts (attributes_place cs) d h
+      go false = h
+
+  heading_are_texts : (attributes : Bool) (level : ℕ) (r : Row) → AreTexts (heading_tokens text attributes level r)
+  heading_are_texts attributes level r =
+      let start = first_place r.stop (behind_hashes level r) in pieces_are_texts (piece_if text start (end_place start (heading_columns attributes level r)) []) Nil tt
+
+  html_tokens_are_texts : (rows : List Row) → AreTexts (html_tokens text rows)
+  html_tokens_are_texts [] = tt
+  html_tokens_are_texts (r ∷ more) = html_are_texts _ (html_tokens text more) (html_tokens_are_texts more)
+
+-- ## Documents
+
+-- it holds of the stretches of each leaf
+abbrev pub AllLeaves : (List Stretch → Type 0) → List Segment → Type 0
+AllLeaves Holds [] = Unit {0}
+AllLeaves Holds (Given r ∷ others) = AllLeaves Holds others
+AllLeaves Holds (Content leaf ∷ others) = Holds leaf.stretches × AllLeaves Holds others
+
+-- what holds of some lines, and what then holds of the stretches of a paragraph or a heading
+pub record KeepsStretches (text : List ℕ) (options : Options) (Holds : List Stretch → Type 0) (AreRows : List Row → Type 0) : Type 0 where
+  pub none : Holds []
+  pub one : (start end : ℕ) → start < end → Holds (record { start = start; end = end } ∷ [])
+  pub paragraph : (first : Row) (more rest : List Row) → AreRows (first ∷ (more ++ rest)) → AreText options more rest → Holds (stretches_of (paragraph_tokens text first more))
+  pub cut : (at : ℕ) (d : BlockDocument) → Holds (stretches_of d) → Holds (stretches_of (texts_before text at d))
+  pub behind : (r : Row) (rs : List Row) → AreRows (r ∷ rs) → AreRows rs
+  pub inside : (k : Container) (first : Row) (more rest : List Row) → AreRows (first ∷ (more ++ rest)) → AreRows (insides k first more)
+
+module _ (text : List ℕ) (options : Options) (Holds : List Stretch → Type 0) (AreRows : List Row → Type 0) (keeps : KeepsStretches text options Holds AreRows) where
+  -- it holds of the paragraphs, the headings and the cells of a document
+  abbrev AreHeld : BlockDocument → Type 0
+  AreHeld Nil = Unit {0}
+  AreHeld (Node node inside after) = (is_leaf node.kind ≡ true → Holds (stretches_of inside)) × AreHeld inside × AreHeld after
+
+  no_leaf : (inside : BlockDocument) → false ≡ true → Holds (stretches_of inside)
+  no_leaf inside e = absurd (true≢false (sym e))
+
+  rows_behind : (a b : List Row) → AreRows (a ++ b) → AreRows b
+  rows_behind [] b h = h
+  rows_behind (r ∷ a) b h = rows_behind a b (keeps.behind r (a ++ b) h)
+
+  texts_held : (document : BlockDocument) → AreTexts document → AreHeld document
+  texts_held Nil h = tt
+  texts_held (Node node inside after) h = ((λ e. absurd (true≢false (sym e ∙ h.0))), subst AreHeld (sym h.1) tt, texts_held after h.2)
+
+  stretch_held : (start end : ℕ) → Holds (stretches_of (stretch_then text start end Nil))
+  stretch_held start end = go (nat_lt start end) refl
+    where
+      go : (z : Bool) → nat_lt start end ≡ z → Holds (stretches_of (texts_then (if z then record { owned = false; bytes = slice text start end; start = start; end = end } ∷ [] else []) Nil))
+      go true q = keeps.one start end (let l : start < end = grind (arith) in l)
+      go false q = keeps.none
+
+  braces_held : (attributes : Bool) (cs : List Column) (d : BlockDocument) → Holds (stretches_of d) → Holds (stretches_of (without_braces text attributes cs d))
+  braces_held false cs d h = h
+  braces_held true cs d h = go (ends_in_braces cs)
+    where
+      go : (z : Bool) → Holds (stretches_of (texts_if z text (attributes_place cs) d))
+      go true = keeps.cut (attributes_place cs) d h
+      go false = h
+
+  cells_held : (columns at past : ℕ) (cells : List (List ℕ)) → AreHeld (cells_then text columns at past cells)
+  cells_held zero at past cells = tt
+  cells_held (suc columns) at past [] = ((λ e. keeps.none), tt, cells_held columns at past [])
+  cells_held (suc columns) at past (cell ∷ cells) =
+      let start = at + length (take_while is_blank_byte cell) in
+      let end = at + length (drop_end is_blank_byte cell) in (
+        (λ e. stretch_held start end),
+        texts_held (cell_tokens text at cell) (pieces_are_texts (piece_if text start end []) Nil tt),
+        cells_held columns (suc (at + length cell)) past cells,
+      )
+
+  row_held : (columns : ℕ) (r : Row) → AreHeld (row_cells text columns r)
+  row_held columns r = cells_held columns (cells_start r) r.past (cells_of (words_of r))
+
+  rows_held : (columns : ℕ) (rs : List Row) → AreHeld (row_tokens text columns rs)
+  rows_held columns [] = tt
+  rows_held columns (r ∷ rs) = (no_leaf (row_cells text columns r), row_held columns r, rows_held columns rs)
+
+  leaf_held : (lookup : Lookup) (leaf : Leaf) (first : Row) (more : List Row) (after : BlockDocument) → AreHeld after → AreHeld (leaf_then text options lookup leaf first more after)
+  leaf_held lookup ThematicBreakLeaf first more after a = (no_leaf Nil, tt, a)
+  leaf_held lookup (AtxHeadingLeaf level) first more after a =
+      let attributes = options.heading_attributes in
+      let start = first_place first.stop (behind_hashes level first) in
+      ((λ e. stretch_held start (end_place start (heading_columns attributes level first))), texts_held (heading_tokens text attributes level first) (heading_are_texts text attributes level first), a)
+  leaf_held lookup IndentedCodeLeaf first more after a =
+      let inside = code_tokens text 4 (first ∷ more) in (no_leaf inside, texts_held inside (pieces_are_texts _ Nil tt), a)
+  leaf_held lookup (FencedCodeLeaf fence) first more after a =
+      let inside = code_tokens text fence.indented (fenced_lines fence more) in (no_leaf inside, texts_held inside (pieces_are_texts _ Nil tt), a)
+  leaf_held lookup (HtmlBlockLeaf kind) first more after a =
+      let inside = html_tokens text (first ∷ more) in (no_leaf inside, texts_held inside (html_tokens_are_texts text (first ∷ more)), a)
+  leaf_held lookup (LinkDefinitionLeaf definition) first more after a = (no_leaf Nil, tt, a)
+  leaf_held lookup (MetadataBlockLeaf kind) first more after a =
+      let inside = code_tokens text 0 (lines_before (ends_metadata kind) more) in (no_leaf inside, texts_held inside (pieces_are_texts _ Nil tt), a)
+  leaf_held lookup (TableLeaf alignments) first more after a =
+      (no_leaf (table_tokens text (length alignments) first more), (no_leaf (row_cells text (length alignments) first), row_held (length alignments) first, rows_held (length alignments) (drop 1 more)), a)
+
+  item_held : (joins : Bool) (list : BlockKind) (item : BlockNode) (inside after : BlockDocument) → is_leaf list ≡ false → (is_leaf item.kind ≡ true → Holds (stretches_of inside)) → AreHeld inside → AreHeld after
+      → AreHeld (item_then joins list item inside after)
+  item_held false list item inside after l e i a = ((λ f. absurd (true≢false (sym f ∙ l))), (e, i, tt), a)
+  item_held true list item inside Nil l e i a = ((λ f. absurd (true≢false (sym f ∙ l))), (e, i, tt), tt)
+  item_held true list item inside (Node others items after) l e i a = ((λ f. absurd (true≢false (sym f ∙ l))), (e, i, a.1), a.2)
+
+  -- a paragraph, as a title or as itself
+  title_held : (is_title tight : Bool) (other : BlockKind) (start end : ℕ) (inside after behind : BlockDocument) → Holds (stretches_of inside) → AreHeld inside → AreHeld after → AreHeld behind
+      → AreHeld (if is_title then item_then true (DefinitionList tight) (node DefinitionListTitle start end) inside after else Node (node other start end) inside behind)
+  title_held true tight other start end inside after behind e i a b = item_held true (DefinitionList tight) (node DefinitionListTitle start end) inside after refl (λ f. e) i a
+  title_held false tight other start end inside after behind e i a b = ((λ f. e), i, b)
+
+  task_held : (task : Option Bool) (start end : ℕ) (inside : BlockDocument) → AreHeld inside → AreHeld (task_then task start end inside)
+  task_held None start end inside h = h
+  task_held (Some is_checked) start end inside h = (λ e. absurd (true≢false (sym e)), tt, h)
+
+  document_held : (lookup : Lookup) (direct : Bool) (before : Option ListBefore) (behind : Place) (all : List Row) (b : Blocks) → Body options behind all b → AreRows all → AreHeld (document_of text options lookup direct before b)
+  document_held lookup direct before behind all NoBlocks body g = tt
+  document_held lookup direct before behind all (BlankLine line after) body g =
+      let c : AreRows (line ∷ body.rest) = subst AreRows body.cut g in
+      document_held lookup direct before (over_blank behind) body.rest after body.after (keeps.behind line body.rest c)
+  document_held lookup direct before behind all (ParagraphBlock first more after) body g =
+      let c : AreRows (first ∷ (more ++ body.rest)) = subst AreRows body.cut g in
+      let s = rows_behind (first ∷ more) body.rest c in
+      let tight = title_tight_behind before after in
+      title_held (is_title after) tight (paragraph_kind direct) (start_of first) (past_of first more) (paragraph_tokens text first more)
+      (document_of text options lookup direct (Some (record { mark = definition_mark; tight = tight })) after) (document_of text options lookup direct None after)
+      (keeps.paragraph first more body.rest c body.others) (texts_held (paragraph_tokens text first more) (stretches_are_texts text (start_of first) first more))
+      (document_held lookup direct (Some (record { mark = definition_mark; tight = tight })) BehindTitle body.rest after body.after s)
+      (document_held lookup direct None BehindTitle body.rest after body.after s)
+  document_held lookup direct before behind all (SetextHeading level first more underline after) body g =
+      let c : AreRows (first ∷ (more ++ (underline ∷ body.rest))) = subst AreRows body.cut g in
+      let s = rows_behind (first ∷ more) (underline ∷ body.rest) c in (
+        (λ e. braces_held options.heading_attributes (content_of (first ∷ more)) (paragraph_tokens text first more) (keeps.paragraph first more (underline ∷ body.rest) c body.others)),
+        texts_held (setext_tokens text options.heading_attributes first more) (braces_are_texts text options.heading_attributes (content_of (first ∷ more)) (paragraph_tokens text first more) (stretches_are_texts text (start_of first) first more)),
+        document_held lookup direct None Apart body.rest after body.after (keeps.behind underline body.rest s),
+      )
+  document_held lookup direct before behind all (LeafBlock leaf first more after) body g =
+      let c : AreRows (first ∷ (more ++ body.rest)) = subst AreRows body.cut g in
+      let s = rows_behind (first ∷ more) body.rest c in
+      leaf_held lookup leaf first more (document_of text options lookup direct None after) (document_held lookup direct None (behind_leaf leaf) body.rest after body.after s)
+  document_held lookup direct before behind all (ContainerBlock (Quote alert) first more inside after) body g =
+      let c : AreRows (first ∷ (more ++ body.rest)) = subst AreRows body.cut g in
+      let s = rows_behind (first ∷ more) body.rest c in (
+        no_leaf (document_of text options lookup false None inside),
+        document_held lookup false None (place_in (Quote alert)) (insides (Quote alert) first more) inside body.contents (keeps.inside (Quote alert) first more body.rest c),
+        document_held lookup direct None Apart body.rest after body.after s,
+      )
+  document_held lookup direct before behind all (ContainerBlock (Footnote label old size) first more inside after) body g =
+      let c : AreRows (first ∷ (more ++ body.rest)) = subst AreRows body.cut g in
+      let s = rows_behind (first ∷ more) body.rest c in (
+        no_leaf (document_of text options lookup false None inside),
+        document_held lookup false None (place_in (Footnote label old size)) (insides (Footnote label old size) first more) inside body.contents (keeps.inside (Footnote label old size) first more body.rest c),
+        document_held lookup direct None Apart body.rest after body.after s,
+      )
+  document_held lookup direct before behind all (ContainerBlock (Item mark number width task) first more inside after) body g =
+      let c : AreRows (first ∷ (more ++ body.rest)) = subst AreRows body.cut g in
+      let s = rows_behind (first ∷ more) body.rest c in
+      let tight = tight_behind before mark inside after in
+      item_held (goes_on mark after) (list_kind mark number tight) (node ListItem (begin_of first) (past_of first more))
+      (task_then task (begin_of (without width first)) (begin_of (without (behind_box task width) first)) (document_of text options lookup tight None inside))
+      (document_of text options lookup direct (Some (record { mark = mark; tight = tight })) after) (list_no_leaf mark number tight) (λ f. absurd (true≢false (sym f)))
+      (task_held task (begin_of (without width first)) (begin_of (without (behind_box task width) first)) (document_of text options lookup tight None inside)
+      (document_held lookup tight None (place_in (Item mark number width task)) (insides (Item mark number width task) first more) inside body.contents (keeps.inside (Item mark number width task) first more body.rest c)))
+      (document_held lookup direct (Some (record { mark = mark; tight = tight })) Apart body.rest after body.after s)
+  document_held lookup direct before behind all (ContainerBlock (ListDefinition width) first more inside after) body g =
+      let c : AreRows (first ∷ (more ++ body.rest)) = subst AreRows body.cut g in
+      let s = rows_behind (first ∷ more) body.rest c in
+      let tight = tight_behind before definition_mark inside after in
+      item_held (goes_on definition_mark after) (DefinitionList tight) (node DefinitionListDefinition (begin_of first) (past_of first more)) (document_of text options lookup tight None inside)
+      (document_of text options lookup direct (Some (record { mark = definition_mark; tight = tight })) after) refl (λ f. absurd (true≢false (sym f)))
+      (document_held lookup tight None (place_in (ListDefinition width)) (insides (ListDefinition width) first more) inside body.contents (keeps.inside (ListDefinition width) first more body.rest c))
+      (document_held lookup direct (Some (record { mark = definition_mark; tight = tight })) BehindTitle body.rest after body.after s)
+
+  -- ## Leaves
+
+  leaves_append : (a b : List Segment) → AllLeaves Holds a → AllLeaves Holds b → AllLeaves Holds (a ++ b)
+  leaves_append [] b h k = k
+  leaves_append (Given r ∷ a) b h k = leaves_append a b h k
+  leaves_append (Content leaf ∷ a) b h k = (h.0, leaves_append a b h.1 k)
+
+  inside_leaves : (kind : BlockKind) (content : BlockDocument) (others : List Segment) → (is_leaf kind ≡ true → Holds (stretches_of content)) → AllLeaves Holds others → AllLeaves Holds (inside_of kind content others)
+  inside_leaves kind content others h k = go (is_leaf kind) refl
+    where
+      go : (z : Bool) → is_leaf kind ≡ z → AllLeaves Holds (if z then Content (leaf_of kind content) ∷ [] else others)
+      go true e = (h e, tt)
+      go false e = k
+
+  node_leaves : (reads : Reads) (node : BlockNode) (inside : List Segment) → AllLeaves Holds inside → AllLeaves Holds (node_segments reads node inside)
+  node_leaves (Around tag) node inside h = leaves_append inside (Given _ ∷ []) h tt
+  node_leaves Inside node inside h = h
+  node_leaves (Alone event) node inside h = tt
+  node_leaves (First event) node inside h = tt
+  node_leaves Silent node inside h = tt
+
+  first_leaves : (element : ℕ) (r : Ranged) (others : List Segment) → AllLeaves Holds others → AllLeaves Holds (first_of_segments element (Given r) others)
+  first_leaves zero r others h = h
+  first_leaves (suc element) r [] h = tt
+  first_leaves (suc element) r (Given x ∷ others) h = first_leaves element r others h
+  first_leaves (suc element) r (Content leaf ∷ others) h = (h.0, first_leaves element r others h.1)
+
+  with_leaves : (reads : Reads) (element : ℕ) (at : BlockNode) (others : List Segment) → AllLeaves Holds others → AllLeaves Holds (with_first_segment (first_event reads) element at others)
+  with_leaves (Around tag) element at others h = h
+  with_leaves Inside element at others h = h
+  with_leaves (Alone event) element at others h = h
+  with_leaves (First event) element at others h = first_leaves element (over at event) others h
+  with_leaves Silent element at others h = h
+
+  segments_leaves : (document : BlockDocument) → AreHeld document → AllLeaves Holds (segments document)
+  segments_leaves Nil h = tt
+  segments_leaves (Node node inside after) h =
+      let own = inside_of node.kind inside (segments inside) in
+      with_leaves (read_as node.kind) (starts_before after) node (node_segments (read_as node.kind) node own ++ segments after)
+      (leaves_append (node_segments (read_as node.kind) node own) (segments after)
+      (node_leaves (read_as node.kind) node own (inside_leaves node.kind inside (segments inside) h.0 (segments_leaves inside h.1)))
+      (segments_leaves after h.2))
+
+  pub derived-leaves : (lookup : Lookup) (document : BlockDocument) → Derives text options lookup document → AreRows (rows text) → AllLeaves Holds (segments document)
+  derived-leaves lookup document h g =
+      segments_leaves document (subst AreHeld (sym h.2) (document_held lookup false None Apart (rows text) h.0 h.1 g))
