@@ -5,7 +5,7 @@ use Rattle.std.proofs.Common.{◌≡◌, ℕ, zero, suc, ◌+◌, ◌-◌, ◌<�
 use Rattle.std.proofs.lemmas.Bool.{ltb-true, ltb-false}
 use Rattle.std.proofs.lemmas.Grind.{same_number_lists}
 use Rattle.std.proofs.lemmas.List.{get_or_default}
-use Rattle.std.proofs.lemmas.List.Folds.{Any-from_list_any, list_any_at}
+use Rattle.std.proofs.lemmas.List.Folds.{Any-from_list_any, list_any_at, list_any_none}
 use Rattle.cmark_grammar.specs.CodeSpans.{code_text}
 use Rattle.cmark_grammar.specs.Event as event
 use Rattle.cmark_grammar.specs.Event.{Event}
@@ -23,9 +23,9 @@ use Rattle.cmark_leaf_text.specs.Reads.{is_cell_of, place_of, text_of}
 use Rattle.cmark_leaf_text.specs.declared.leaf_text.LeafText.{LeafText}
 use Rattle.cmark_leaf_text.proofs.StretchSteps.{slice-length, byte-in-slice}
 use Rattle.cmark_text.specs.declared.text.CowStr.{CowStr}
-use Rattle.cmark_inline_model.specs.LikeSlots.{IsLike}
+use Rattle.cmark_inline_model.specs.LikeSlots.{IsLike, is_html}
 use Rattle.cmark_inline_model.specs.SlotRows as row
-use Rattle.cmark_inline.specs.Cuts.{CutKind, is_html, kind_of}
+use Rattle.cmark_inline.specs.Cuts.{CutKind}
 use Rattle.cmark_inline.specs.Reached.{ReadsPlaces}
 use Rattle.cmark_inline.specs.SlotViews.{first_of, item_slot, past_of, shown_slot, slot_as, text_at, written}
 use Rattle.cmark_inline.specs.Wikilinks.{cut_kind, cut_slot}
@@ -55,6 +55,26 @@ one-at : (bs : List ℕ) → takes_lines bs ≡ true → (k : ℕ) × (k < lengt
 one-at bs e =
     let a = Any-from_list_any ends_line bs e in
     (a.0, a.2, ap ends_line (get_or_default bs a.0 0 a.1 a.2 ∙ a.3) ∙ a.4)
+
+-- the last ones of bytes among which no line ends
+none-behind : (bs : List ℕ) (s e t : ℕ) → e ≤ length bs → s ≤ t → takes_lines (slice bs s e) ≡ false → takes_lines (slice bs t e) ≡ false
+none-behind bs s e t within le none = list_any_none ends_line (slice bs t e) (λ k d lt.
+    let m = slice-length bs t e within in
+    let n = slice-length bs s e within in
+    let less : k < e - t = omega (arith, lt, m) in
+    let at : get_or (slice bs t e) k d ≡ get_or (slice bs s e) (t - s + k) 0 =
+    get_or_default (slice bs t e) k d 0 lt ∙ byte-in-slice bs t e k less within
+    ∙ ap (λ j. get_or bs j 0) (let q : t + k ≡ s + (t - s + k) = omega (arith, le) in q)
+    ∙ sym (byte-in-slice bs s e (t - s + k) (omega (arith, less, le)) within) in
+    ap ends_line at ∙ not-content (get_or (slice bs s e) (t - s + k) 0) (none-at (slice bs s e) (t - s + k) none (omega (arith, less, le, n))))
+  where
+    not-content : (b : ℕ) → is_content b ≡ true → ends_line b ≡ false
+    not-content b c = go (b == 10) (b == 13) c
+      where
+        go : (y z : Bool) → (not y && not z) ≡ true → (y || z) ≡ false
+        go true z f = absurd (true≢false (sym f))
+        go false true f = absurd (true≢false (sym f))
+        go false false f = refl
 
 -- ## Bytes that stand side by side
 
@@ -197,6 +217,22 @@ text-event source x (items.FootnoteReference label) t = absurd t
 text-event source x items.SoftBreak t = absurd t
 text-event source x items.HardBreak t = absurd t
 
+text-html : (k : ItemKind) → IsText k → is_html k ≡ false
+text-html items.Plain t = refl
+text-html items.Own t = refl
+text-html (items.Quoted quote) t = refl
+text-html (items.Delimiters run) t = refl
+text-html (items.Autolink uri) t = refl
+text-html (items.Written text) t = refl
+text-html (items.Code text) t = refl
+text-html (items.InlineMath text) t = refl
+text-html (items.DisplayMath text) t = refl
+text-html items.Html t = absurd t
+text-html (items.OwnedHtml text) t = refl
+text-html (items.FootnoteReference label) t = refl
+text-html items.SoftBreak t = refl
+text-html items.HardBreak t = refl
+
 -- an event that is neither a text nor inline HTML
 abbrev IsOther : Event → Type 0
 IsOther (event.Text bytes) = ⊥
@@ -219,6 +255,22 @@ other-event source x y (items.Delimiters run) e o h = absurd (subst IsOther h o)
 other-event source x y (items.Autolink uri) e o h = absurd (subst IsOther h o)
 other-event source x y items.Html e o h = absurd (subst IsOther h o)
 other-event source x y (items.OwnedHtml text) e o h = absurd (subst IsOther h o)
+
+other-html : (source : List ℕ) (x : Item) (k : ItemKind) (e : Event) → IsOther e → e ≡ event_of source x k → is_html k ≡ false
+other-html source x items.Html e o h = absurd (subst IsOther h o)
+other-html source x items.Plain e o h = refl
+other-html source x items.Own e o h = refl
+other-html source x (items.Written text) e o h = refl
+other-html source x (items.Quoted quote) e o h = refl
+other-html source x (items.Delimiters run) e o h = refl
+other-html source x (items.Autolink uri) e o h = refl
+other-html source x (items.Code text) e o h = refl
+other-html source x (items.InlineMath text) e o h = refl
+other-html source x (items.DisplayMath text) e o h = refl
+other-html source x (items.OwnedHtml text) e o h = refl
+other-html source x (items.FootnoteReference label) e o h = refl
+other-html source x items.SoftBreak e o h = refl
+other-html source x items.HardBreak e o h = refl
 
 -- inline HTML is a part of the source, or has a text of its own
 data HtmlKind (source bytes : List ℕ) (x : Item) (k : ItemKind) : Type 0 where
@@ -291,60 +343,64 @@ module _ (leaf : LeafText) (reader : Reader) (read : Leaf) (place : ℕ → ℕ)
 
   -- a text of the bytes of its range
   as-bytes : slice src (place s) (suc (place (e - 1))) ≡ slice txt s e → IsText x.kind → place_of leaf (e - 1) + 1 ≡ x.end → Goal kind.Text
-  as-bytes same is b = record { start = first-is; end = b; event = ap event.Text (later same b) ∙ sym (text-event src cut_item x.kind is) }
+  as-bytes same is b = record { start = first-is; end = b; event = ap event.Text (later same b) ∙ sym (text-event src cut_item x.kind is); lines = λ q. sym (text-html x.kind is) }
 
   -- a text of the source
   as-source : (end : ℕ) → end ≡ x.end → IsText x.kind → IsLike src (row.ItemSlot (item items.Own (place_of leaf t) end)) (row.ItemSlot cut_item)
-  as-source end b is = record { start = first-is; end = b; event = ap event.Text (ap (λ n. slice src n end) first-is ∙ ap (slice src (place t)) b) ∙ sym (text-event src cut_item x.kind is) }
+  as-source end b is = record { start = first-is; end = b; event = ap event.Text (ap (λ n. slice src n end) first-is ∙ ap (slice src (place t)) b) ∙ sym (text-event src cut_item x.kind is); lines = λ q. sym (text-html x.kind is) }
 
   -- something else
-  as-other : (k : ItemKind) → place_of leaf (e - 1) + 1 ≡ x.end → (n : Event) → IsOther n → ((z : Item) → event_of src z k ≡ n) → n ≡ event_of src x x.kind → IsLike src (row.ItemSlot (item k (place_of leaf t) (place_of leaf (e - 1) + 1))) (row.ItemSlot cut_item)
-  as-other k b n o same h = record { start = first-is; end = b; event = same (item k (place_of leaf t) (place_of leaf (e - 1) + 1)) ∙ other-event src x cut_item x.kind n o h }
+  as-other : (k : ItemKind) → is_html k ≡ false → place_of leaf (e - 1) + 1 ≡ x.end → (n : Event) → IsOther n → ((z : Item) → event_of src z k ≡ n) → n ≡ event_of src x x.kind → IsLike src (row.ItemSlot (item k (place_of leaf t) (place_of leaf (e - 1) + 1))) (row.ItemSlot cut_item)
+  as-other k plain b n o same h = record { start = first-is; end = b; event = same (item k (place_of leaf t) (place_of leaf (e - 1) + 1)) ∙ other-event src x cut_item x.kind n o h; lines = λ q. plain ∙ sym (other-html src x x.kind n o h) }
 
   -- HTML that is a part of the source
-  html-part : (end : ℕ) → end ≡ x.end → x.kind ≡ items.Html → (bytes : List ℕ) → bytes ≡ slice src (place t) x.end → IsLike src (row.ItemSlot (item (items.OwnedHtml bytes) (place_of leaf t) end)) (row.ItemSlot cut_item)
-  html-part end b is bytes same = record { start = first-is; end = b; event = ap event.InlineHtml same ∙ sym (ap (event_of src cut_item) is) }
+  html-part : (end : ℕ) → end ≡ x.end → x.kind ≡ items.Html → (bytes : List ℕ) → bytes ≡ slice src (place t) x.end → takes_lines bytes ≡ false → IsLike src (row.ItemSlot (item (items.OwnedHtml bytes) (place_of leaf t) end)) (row.ItemSlot cut_item)
+  html-part end b is bytes same none = record {
+    start = first-is;
+    end = b;
+    event = ap event.InlineHtml same ∙ sym (ap (event_of src cut_item) is);
+    lines = λ q. absurd (true≢false (sym q ∙ ap takes_lines (ap (λ n. slice src n end) first-is ∙ ap (slice src (place t)) b ∙ sym same) ∙ none));
+  }
 
   html-owned : (end : ℕ) → end ≡ x.end → (bytes : List ℕ) → x.kind ≡ items.OwnedHtml bytes → IsLike src (row.ItemSlot (item (items.OwnedHtml bytes) (place_of leaf t) end)) (row.ItemSlot cut_item)
-  html-owned end b bytes is = record { start = first-is; end = b; event = sym (ap (event_of src cut_item) is) }
+  html-owned end b bytes is = record { start = first-is; end = b; event = sym (ap (event_of src cut_item) is); lines = λ q. sym (ap is_html is) }
+
+  line-kinds : (a b : ℕ) (z : Bool) → a ≡ x.start → b ≡ x.end → (takes_lines (slice src a b) ≡ true → z ≡ is_html x.kind) → takes_lines (slice src x.start x.end) ≡ true → z ≡ is_html x.kind
+  line-kinds a b z c d lines q = lines (ap takes_lines (ap (λ n. slice src n b) c ∙ ap (slice src x.start) d) ∙ q)
 
   owned-lines : (bytes : List ℕ) → x.kind ≡ items.OwnedHtml bytes → takes_lines bytes ≡ true
   owned-lines bytes is = subst CutKind is kinds
 
-  -- where a line ends in the item, it is HTML exactly where the slot shows a part of the source
-  abbrev Lines : ItemKind → Type 0
-  Lines k = takes_lines (slice src x.start x.end) ≡ true → is_html k ≡ is_html x.kind
-
-  cut-as : (k : SlotKind) → Lines (kind_of (slot_as leaf texts links slot k)) → Given k → Goal (cut_kind txt s e k)
-  cut-as kind.Text lines h =
+  cut-as : (k : SlotKind) → Given k → Goal (cut_kind txt s e k)
+  cut-as kind.Text h =
       let k = text-kind src (written leaf s e) x x.kind kinds h.event in
       as-bytes (sym (k.1 ∙ bytes-are h.start h.end)) k.0 h.end
-  cut-as (kind.OwnedText index) lines h = let k = text-kind src (text_at texts index) x x.kind kinds h.event in as-source (place_of leaf (e - 1) + 1) h.end k.0
-  cut-as (kind.Character character) lines h = let k = text-kind src (encode_utf8 character) x x.kind kinds h.event in as-source (place_of leaf (e - 1) + 1) h.end k.0
-  cut-as (kind.Whole last) lines h = let k = text-kind src _ x x.kind kinds h.event in as-source (place_of leaf (e - 1) + 1) h.end k.0
-  cut-as (kind.SourceText end) lines h = let k = text-kind src _ x x.kind kinds h.event in as-source end h.end k.0
-  cut-as kind.Empty lines h = absurd (
+  cut-as (kind.OwnedText index) h = let k = text-kind src (text_at texts index) x x.kind kinds h.event in as-source (place_of leaf (e - 1) + 1) h.end k.0
+  cut-as (kind.Character character) h = let k = text-kind src (encode_utf8 character) x x.kind kinds h.event in as-source (place_of leaf (e - 1) + 1) h.end k.0
+  cut-as (kind.Whole last) h = let k = text-kind src _ x x.kind kinds h.event in as-source (place_of leaf (e - 1) + 1) h.end k.0
+  cut-as (kind.SourceText end) h = let k = text-kind src _ x x.kind kinds h.event in as-source end h.end k.0
+  cut-as kind.Empty h = absurd (
       let a = h.start in
       let b = h.end in
       let c = places.bytes s (omega (arith, some, within)) in
       let d = places.places.places.order s t low (omega (arith, high, within)) in
       omega (arith, a, b, c, d, further))
-  cut-as kind.SoftBreak lines h = as-other items.SoftBreak h.end event.SoftBreak tt (λ z. refl) h.event
-  cut-as kind.HardBreak lines h = as-other items.HardBreak h.end event.HardBreak tt (λ z. refl) h.event
-  cut-as (kind.Code from to) lines h = as-other (items.Code (code_text (as_in (is_cell_of leaf) (written leaf from to)))) h.end _ tt (λ z. refl) h.event
-  cut-as (kind.InlineMath from to) lines h = as-other (items.InlineMath (as_in (is_cell_of leaf) (written leaf from to))) h.end _ tt (λ z. refl) h.event
-  cut-as (kind.DisplayMath from to) lines h = as-other (items.DisplayMath (as_in (is_cell_of leaf) (written leaf from to))) h.end _ tt (λ z. refl) h.event
-  cut-as (kind.FootnoteReference index) lines h = as-other (items.FootnoteReference (text_at texts index)) h.end _ tt (λ z. refl) h.event
-  cut-as kind.InlineHtml lines h = go (takes_lines (slice txt s e)) refl (html-kind src (written leaf s e) x x.kind h.event)
+  cut-as kind.SoftBreak h = as-other items.SoftBreak refl h.end event.SoftBreak tt (λ z. refl) h.event
+  cut-as kind.HardBreak h = as-other items.HardBreak refl h.end event.HardBreak tt (λ z. refl) h.event
+  cut-as (kind.Code from to) h = as-other (items.Code (code_text (as_in (is_cell_of leaf) (written leaf from to)))) refl h.end _ tt (λ z. refl) h.event
+  cut-as (kind.InlineMath from to) h = as-other (items.InlineMath (as_in (is_cell_of leaf) (written leaf from to))) refl h.end _ tt (λ z. refl) h.event
+  cut-as (kind.DisplayMath from to) h = as-other (items.DisplayMath (as_in (is_cell_of leaf) (written leaf from to))) refl h.end _ tt (λ z. refl) h.event
+  cut-as (kind.FootnoteReference index) h = as-other (items.FootnoteReference (text_at texts index)) refl h.end _ tt (λ z. refl) h.event
+  cut-as kind.InlineHtml h = go (takes_lines (slice txt s e)) refl (html-kind src (written leaf s e) x x.kind h.event)
     where
       go : (z : Bool) → takes_lines (slice txt s e) ≡ z → HtmlKind src (written leaf s e) x x.kind → Goal (cut_kind txt s e kind.InlineHtml)
-      go true f (Part is same) = absurd (true≢false (sym (lines (ap takes_lines (sym same) ∙ f) ∙ ap is_html is)))
+      go true f (Part is same) = absurd (true≢false (sym (line-kinds _ _ false h.start h.end h.lines (ap takes_lines (sym same) ∙ f) ∙ ap is_html is)))
       go true f (Owned is) = subst Goal (sym (ap (λ z. if z then kind.CutHtml s else kind.InlineHtml) f)) (html-owned (place_of leaf (e - 1) + 1) h.end (written leaf s e) is)
       go false f (Part is same) =
           subst Goal (sym (ap (λ z. if z then kind.CutHtml s else kind.InlineHtml) f))
-          (html-part (place_of leaf (e - 1) + 1) h.end is (written leaf t e) (later (sym (same ∙ bytes-are h.start h.end)) h.end))
+          (html-part (place_of leaf (e - 1) + 1) h.end is (written leaf t e) (later (sym (same ∙ bytes-are h.start h.end)) h.end) (none-behind txt s e t within (omega (arith, low)) f))
       go false f (Owned is) = absurd (true≢false (sym (owned-lines (written leaf s e) is) ∙ f))
-  cut-as (kind.CutHtml from) lines h = go (takes_lines (written leaf from e)) refl (html-kind src (written leaf from e) x x.kind h.event)
+  cut-as (kind.CutHtml from) h = go (takes_lines (written leaf from e)) refl (html-kind src (written leaf from e) x x.kind h.event)
     where
       -- no line ends among the bytes of the range
       joined : takes_lines (slice src x.start x.end) ≡ false → (z : Bool) → takes_lines (slice txt s e) ≡ z → slice src (place s) (suc (place (e - 1))) ≡ slice txt s e
@@ -352,29 +408,30 @@ module _ (leaf : LeafText) (reader : Reader) (read : Leaf) (place : ℕ → ℕ)
       joined n false f = behind leaf reader read place places s e some within (by-content leaf reader read place places s e some within f) s (omega arith) some
 
       go : (z : Bool) → takes_lines (written leaf from e) ≡ z → HtmlKind src (written leaf from e) x x.kind → Goal (cut_kind txt s e (kind.CutHtml from))
-      go true f (Part is same) = absurd (true≢false (sym (lines (ap takes_lines (sym same) ∙ f) ∙ ap is_html is)))
+      go true f (Part is same) = absurd (true≢false (sym (line-kinds _ _ false h.start h.end h.lines (ap takes_lines (sym same) ∙ f) ∙ ap is_html is)))
       go true f (Owned is) = subst Goal (sym (ap (λ z. if z then kind.CutHtml from else kind.InlineHtml) f)) (html-owned (place_of leaf (e - 1) + 1) h.end (written leaf from e) is)
       go false f (Part is same) =
           subst Goal (sym (ap (λ z. if z then kind.CutHtml from else kind.InlineHtml) f))
-          (html-part (place_of leaf (e - 1) + 1) h.end is (written leaf t e) (later (joined (ap takes_lines (sym same) ∙ f) (takes_lines (slice txt s e)) refl) h.end))
+          (html-part (place_of leaf (e - 1) + 1) h.end is (written leaf t e) (later (joined (ap takes_lines (sym same) ∙ f) (takes_lines (slice txt s e)) refl) h.end)
+          (none-behind txt s e t within (omega (arith, low)) (ap takes_lines (sym (bytes-are h.start h.end ∙ joined (ap takes_lines (sym same) ∙ f) (takes_lines (slice txt s e)) refl)) ∙ ap takes_lines (sym same) ∙ f)))
       go false f (Owned is) = absurd (true≢false (sym (owned-lines (written leaf from e) is) ∙ f))
-  cut-as (kind.SourceHtml end) lines h = go (html-kind src _ x x.kind h.event)
+  cut-as (kind.SourceHtml end) h = go (html-kind src _ x x.kind h.event)
     where
       go : HtmlKind src (slice src (place_of leaf s) end) x x.kind → IsLike src (row.ItemSlot (item items.Html (place_of leaf t) end)) (row.ItemSlot cut_item)
-      go (Part is same) = record { start = first-is; end = h.end; event = ap event.InlineHtml (ap (λ n. slice src n end) first-is ∙ ap (slice src (place t)) h.end) ∙ sym (ap (event_of src cut_item) is) }
+      go (Part is same) = record { start = first-is; end = h.end; event = ap event.InlineHtml (ap (λ n. slice src n end) first-is ∙ ap (slice src (place t)) h.end) ∙ sym (ap (event_of src cut_item) is); lines = λ q. sym (ap is_html is) }
       go (Owned is) =
           let o = owned-lines (slice src (place_of leaf s) end) is in
           let same : slice src x.start x.end ≡ slice src (place_of leaf s) end = ap (λ n. slice src n x.end) (sym h.start) ∙ ap (slice src (place_of leaf s)) (sym h.end) in
-          absurd (true≢false (lines (ap takes_lines same ∙ o) ∙ ap is_html is))
-  cut-as (kind.Begin element) lines h = absurd (let z : ⊥ = cc in z)
-  cut-as kind.End lines h = absurd (let z : ⊥ = cc in z)
-  cut-as kind.Nothing lines h = absurd (let z : ⊥ = cc in z)
+          absurd (true≢false (line-kinds _ _ true h.start h.end h.lines (ap takes_lines same ∙ o) ∙ ap is_html is))
+  cut-as (kind.Begin element) h = absurd (let z : ⊥ = cc in z)
+  cut-as kind.End h = absurd (let z : ⊥ = cc in z)
+  cut-as kind.Nothing h = absurd (let z : ⊥ = cc in z)
 
-  pub cut-like : Lines (kind_of (shown_slot leaf texts links slot)) → IsLike src (shown_slot leaf texts links slot) (row.ItemSlot x) → IsLike src (shown_slot leaf texts links (cut_slot txt t slot)) (row.ItemSlot cut_item)
-  cut-like lines h =
+  pub cut-like : IsLike src (shown_slot leaf texts links slot) (row.ItemSlot x) → IsLike src (shown_slot leaf texts links (cut_slot txt t slot)) (row.ItemSlot cut_item)
+  cut-like h =
       let a = low in
       let b = high in
-      subst (λ (c : Slot). IsLike src (shown_slot leaf texts links c) (row.ItemSlot cut_item)) (sym is) (cut-as slot.kind lines h)
+      subst (λ (c : Slot). IsLike src (shown_slot leaf texts links c) (row.ItemSlot cut_item)) (sym is) (cut-as slot.kind h)
     where
       go : (y z : Bool) → nat_lt s t ≡ y → nat_lt t e ≡ z → cut_slot txt t slot ≡ record { kind = cut_kind txt s e slot.kind; start = t; end = e }
       go true true f g = ap (λ y. if y && nat_lt t e then record { kind = cut_kind txt s e slot.kind; start = t; end = e } else slot) f ∙ ap (λ z. if z then record { kind = cut_kind txt s e slot.kind; start = t; end = e } else slot) g

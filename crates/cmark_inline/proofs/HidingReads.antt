@@ -56,7 +56,7 @@ use Rattle.cmark_inline.proofs.WikiSlots.{shows-own}
 -- ## Slots that are like themselves
 like-itself : (source : List ℕ) (slots : List row.Slot) → AreLike source slots slots
 like-itself source [] = refl
-like-itself source (row.ItemSlot x ∷ slots) = (record { start = refl; end = refl; event = refl }, like-itself source slots)
+like-itself source (row.ItemSlot x ∷ slots) = (record { start = refl; end = refl; event = refl; lines = λ q. refl }, like-itself source slots)
 like-itself source (row.BeginSlot tag start end ∷ slots) = (refl, like-itself source slots)
 like-itself source (row.EndSlot ∷ slots) = (refl, like-itself source slots)
 like-itself source (row.NothingSlot ∷ slots) = (refl, like-itself source slots)
@@ -87,6 +87,7 @@ module _ (leaf : LeafText) (reader : Reader) (read : Leaf) (place : ℕ → ℕ)
             one-of (text_of leaf) k (k + 1) (let q : k + 1 ≡ suc k = omega arith in q) within
             ∙ ap (λ x. x ∷ []) (sym (places.places.bytes k within))
             ∙ sym (one-of reader.source (place k) (suc (place k)) refl (places.places.inside k within)));
+        lines = λ q. refl;
       }
 
   -- the `[` behind a `!`
@@ -118,6 +119,7 @@ module _ (leaf : LeafText) (reader : Reader) (read : Leaf) (place : ℕ → ℕ)
       start = e;
       end = ap (λ n. place_of leaf n + 1) (let q : close + 1 - 1 ≡ close = omega arith in q) ∙ ap (λ n. n + 1) (places.bytes close within) ∙ (let q : place close + 1 ≡ suc (place close) = omega arith in q) ∙ sym ends;
       event = refl;
+      lines = λ q. refl;
     }
 
     abbrev StandsAs : Bool → Type 0
@@ -226,6 +228,7 @@ module _ (leaf : LeafText) (reader : Reader) (read : Leaf) (place : ℕ → ℕ)
             start = from;
             end = to;
             event = ap (λ n. event.Text (slice reader.source n source_end)) from ∙ ap (λ n. event.Text (slice reader.source (suc (place b.inside)) n)) to;
+            lines = λ q. refl;
           }),
         );
       }
@@ -245,6 +248,7 @@ module _ (leaf : LeafText) (reader : Reader) (read : Leaf) (place : ℕ → ℕ)
         start = first_is;
         end = first_is;
         event = ap event.Text (sym (ap (λ n. take n (drop display reader.source)) (let q : display - display ≡ 0 = omega arith in q)));
+        lines = λ q. refl;
       } in
       let tag = wiki_tag b.is_image name true in
       let own : List Slot = record { kind = kind.Empty; start = close; end = close + 1 } ∷ [] in
