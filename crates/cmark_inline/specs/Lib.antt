@@ -21,6 +21,7 @@ pub mod PlainStretches
 pub mod BracketViews
 pub mod Decided
 pub mod Closers
+pub mod Come
 pub mod Written
 pub mod Hiding
 pub mod Cuts
