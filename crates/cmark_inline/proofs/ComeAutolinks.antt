@@ -7,6 +7,7 @@ use Rattle.cmark_grammar.specs.InlineTokens.{item_at, token}
 use Rattle.cmark_grammar.specs.Items.{Autolink, Own, Item, Stands}
 use Rattle.cmark_grammar.specs.LeafReading.{Between}
 use Rattle.cmark_grammar.specs.LeafText.{Leaf}
+use Rattle.cmark_grammar.specs.Lines.{is_content}
 use Rattle.cmark_grammar.specs.LinkType as link
 use Rattle.cmark_grammar.specs.Parts.{Nil, Single}
 use Rattle.cmark_grammar.specs.Readers.{Reader}
@@ -79,7 +80,7 @@ module _ (leaf : LeafText) (reader : Reader) (read : Leaf) (place : ℕ → ℕ)
       let p = ap place (let q : s + 1 + (e - 2 - (s + 1)) ≡ e - 1 - 1 = omega (arith, some) in q) in
       let q = ap place (let q : e - 2 + 1 ≡ e - 1 = omega (arith, some) in q) in
       let u = ap place (let q : e - 2 ≡ e - 1 - 1 = omega arith in q) in
-      record { some = some; within = omega (arith, w); sizes = omega (arith, z, a, b, c, p, q, u, some); last = omega (arith, z, a, b, c, p, q, u, some) }
+      record { some = some; within = omega (arith, w); sizes = omega (arith, z, a, b, c, p, q, u, some); last = omega (arith, z, a, b, c, p, q, u, some); content = λ i lt. subst (λ n. is_content (get_or text n 0) ≡ true) (let q : s + (1 + i) ≡ s + 1 + i = omega arith in q) (t.content (1 + i) (omega (arith, lt))) }
 
   joined : (at : ℕ) (x : Item) (past : ℕ) → begins_at reader.options reader.lookup cell text at ≡ Stands x past → may_open_markup (drop at text) ≡ false → Joined reader read text place r.places (Stands x past)
   joined at x past t none =

@@ -23,9 +23,9 @@ use Rattle.cmark_leaf_text.specs.Reads.{is_cell_of, place_of, text_of}
 use Rattle.cmark_leaf_text.specs.declared.leaf_text.LeafText.{LeafText}
 use Rattle.cmark_leaf_text.proofs.StretchSteps.{slice-length, byte-in-slice}
 use Rattle.cmark_text.specs.declared.text.CowStr.{CowStr}
+use Rattle.cmark_inline_model.specs.Displays.{CutFacts, CutKind, OwnedFacts}
 use Rattle.cmark_inline_model.specs.LikeSlots.{IsLike, is_html}
 use Rattle.cmark_inline_model.specs.SlotRows as row
-use Rattle.cmark_inline.specs.Cuts.{CutKind}
 use Rattle.cmark_inline.specs.Reached.{ReadsPlaces}
 use Rattle.cmark_inline.specs.SlotViews.{first_of, item_slot, past_of, shown_slot, slot_as, text_at, written}
 use Rattle.cmark_inline.specs.Wikilinks.{cut_kind, cut_slot}
@@ -296,7 +296,7 @@ html-kind source bytes x items.HardBreak h = absurd (let z : ⊥ = cc in z)
 -- ## The slot that is cut
 
 module _ (leaf : LeafText) (reader : Reader) (read : Leaf) (place : ℕ → ℕ) (places : ReadsPlaces leaf reader read place) (texts : List CowStr) (links : List LinkParts) (slot : Slot) (t : ℕ) (low : slot.start < t) (high : t < slot.end) (within : slot.end ≤ length (text_of leaf))
-    (x : Item) (kinds : CutKind x.kind) (further : place t < x.end) where
+    (x : Item) (facts : CutFacts reader.source x) (further : place t < x.end) where
   abbrev src : List ℕ
   src = reader.source
 
@@ -369,16 +369,16 @@ module _ (leaf : LeafText) (reader : Reader) (read : Leaf) (place : ℕ → ℕ)
   line-kinds a b z c d lines q = lines (ap takes_lines (ap (λ n. slice src n b) c ∙ ap (slice src x.start) d) ∙ q)
 
   owned-lines : (bytes : List ℕ) → x.kind ≡ items.OwnedHtml bytes → takes_lines bytes ≡ true
-  owned-lines bytes is = subst CutKind is kinds
+  owned-lines bytes is = subst OwnedFacts is facts.owned
 
   cut-as : (k : SlotKind) → Given k → Goal (cut_kind txt s e k)
   cut-as kind.Text h =
-      let k = text-kind src (written leaf s e) x x.kind kinds h.event in
+      let k = text-kind src (written leaf s e) x x.kind facts.kind h.event in
       as-bytes (sym (k.1 ∙ bytes-are h.start h.end)) k.0 h.end
-  cut-as (kind.OwnedText index) h = let k = text-kind src (text_at texts index) x x.kind kinds h.event in as-source (place_of leaf (e - 1) + 1) h.end k.0
-  cut-as (kind.Character character) h = let k = text-kind src (encode_utf8 character) x x.kind kinds h.event in as-source (place_of leaf (e - 1) + 1) h.end k.0
-  cut-as (kind.Whole last) h = let k = text-kind src _ x x.kind kinds h.event in as-source (place_of leaf (e - 1) + 1) h.end k.0
-  cut-as (kind.SourceText end) h = let k = text-kind src _ x x.kind kinds h.event in as-source end h.end k.0
+  cut-as (kind.OwnedText index) h = let k = text-kind src (text_at texts index) x x.kind facts.kind h.event in as-source (place_of leaf (e - 1) + 1) h.end k.0
+  cut-as (kind.Character character) h = let k = text-kind src (encode_utf8 character) x x.kind facts.kind h.event in as-source (place_of leaf (e - 1) + 1) h.end k.0
+  cut-as (kind.Whole last) h = let k = text-kind src _ x x.kind facts.kind h.event in as-source (place_of leaf (e - 1) + 1) h.end k.0
+  cut-as (kind.SourceText end) h = let k = text-kind src _ x x.kind facts.kind h.event in as-source end h.end k.0
   cut-as kind.Empty h = absurd (
       let a = h.start in
       let b = h.end in

@@ -24,4 +24,3 @@ pub mod Closers
 pub mod Come
 pub mod Written
 pub mod Hiding
-pub mod Cuts
