@@ -1,6 +1,6 @@
 -- With the slots of an autolink the pass of the grammar has come behind that.
 use Rattle.std.specs.Prelude.{Option, map}
-use Rattle.std.proofs.Common.{◌≡◌, ℕ, zero, suc, ◌+◌, ◌-◌, ◌<◌, ◌≤◌, Bool, false, List, [], ◌∷◌, ◌++◌, length, drop, refl, sym, ap, ◌∙◌, subst, arith, append_assoc}
+use Rattle.std.proofs.Common.{◌≡◌, ℕ, zero, suc, ◌+◌, ◌-◌, ◌<◌, ◌≤◌, Bool, false, List, [], ◌∷◌, ◌++◌, length, drop, refl, sym, ap, ◌∙◌, subst, arith, append_assoc, get_or, true}
 use Rattle.std.proofs.lemmas.List.{append-nil, map-append}
 use Rattle.cmark_grammar.specs.BracketStates.{moved}
 use Rattle.cmark_grammar.specs.InlineTokens.{token}
