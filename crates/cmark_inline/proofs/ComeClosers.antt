@@ -107,7 +107,7 @@ module _ (leaf : LeafText) (reader : Reader) (read : Leaf) (place : ℕ → ℕ)
         let c = closes reader read place closer f.p.state f.bs same (record { within = lt; byte = byte; start = refl; end = refl }) shows in
         let t : token reader read f.p.state.at ≡ Closes closer = ap (token reader read) f.at_is ∙ closing-token here.at lt byte in
         let reads : HasRead leaf reader read place before (closed_by f.p closer c.outcome) (left_of c.outcome.result f.bs) new =
-        c.reads r ended t before f.p flush.flushed refl flush.pushes flush.others f.has_read in
+        c.reads ended r t before f.p flush.flushed refl flush.pushes flush.others f.has_read in
         let brackets : List BracketPlace = map (bracket_place place) f.bs in
         let count : length f.p.state.openers ≡ length brackets = placed-count place here.at f.p.state.openers f.bs shows.openers.placed ∙ sym (length-map f.bs (bracket_place place)) in
         let cuts : (nearer : ℕ) → nearer < length f.p.state.openers → (cut : Cut) × (cut_at nearer f.p.here ≡ Some cut) = λ nearer low.

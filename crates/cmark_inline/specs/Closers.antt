@@ -154,7 +154,7 @@ Notes StaysText old new = new.links ≡ old.links
 -- has read what the new state stands for once it has come to this with the bracket
 abbrev pub ReadsOn : LeafText → Reader → Leaf → (place : ℕ → ℕ) → (pending at : ℕ) → (closer : items.Bracket) → State → List Bracket → Outcome → (old new : InlineState) → Type 0
 ReadsOn leaf reader read place pending at closer s bs outcome old new =
-    ReadsPlaces leaf reader read place → AreEnded leaf old.slots.items → token reader read s.at ≡ items.Closes closer
+    ReadsPlaces leaf reader read place → token reader read s.at ≡ items.Closes closer
     → (before : Between) (p : Pass) (flushed : InlineState) → p.state ≡ s → PushesText pending at old.slots.items flushed.slots.items → flushed ≡ record old { slots = flushed.slots }
     → HasRead leaf reader read place before p bs flushed → HasRead leaf reader read place before (closed_by p closer outcome) (left_of outcome.result bs) new
 
@@ -168,7 +168,7 @@ pub record ClosesAs {F : Type 0} (R : F → BrokenLink → Option (CowStr × Cow
   pub pending : next.pending ≡ next.at
   pub shows : ShowsState wikilinks text place next.at outcome.after (left_of outcome.result bs) new
   pub notes : Notes outcome.result old new
-  pub reads : ReadsOn leaf reader read place from close closer s bs outcome old new
+  pub reads : AreEnded leaf old.slots.items → ReadsOn leaf reader read place from close closer s bs outcome old new
 
 abbrev pub Closes : {F : Type 0} → (F → BrokenLink → Option (CowStr × CowStr) → F → Type 0) → Options → Lookup → RefDefs → FootnoteDefs → LeafText → (text : List ℕ) → (pending at : ℕ) → (old new : InlineState) → (next : Cursor) → (before after : F) → Type 0
 Closes R options lookup references footnotes leaf text pending at old new next before after =
