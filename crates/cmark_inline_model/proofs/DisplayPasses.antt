@@ -1,6 +1,6 @@
 -- A wikilink that shows what stands behind its pipe takes the place of its slots, with the runs and quotes that are left.
 use Rattle.std.specs.Prelude.{◌-◌, ◌==◌, ◌&&◌, ◌||◌, if◌then◌else◌, drop, take, get_or, Some, None}
-use Rattle.std.proofs.Common.{◌≡◌, inl, inr, Bool, true, false, ℕ, zero, suc, ◌+◌, ◌<◌, ◌≤◌, List, [], ◌∷◌, ◌++◌, length, refl, sym, ap, ◌∙◌, subst, arith, append_assoc, append-nil, length-append, length-drop, eqb-true}
+use Rattle.std.proofs.Common.{◌≡◌, true≢false, Bool, true, false, ℕ, zero, suc, ◌+◌, ◌<◌, ◌≤◌, List, [], ◌∷◌, ◌++◌, length, refl, sym, ap, ◌∙◌, subst, arith, append_assoc, append-nil, length-append, length-drop, eqb-true}
 use Rattle.std.proofs.Math.Seq.{take-add, take-append_seam, drop-append_seam}
 use Rattle.std.proofs.lemmas.List.{drop-drop, get_or-drop}
 use Rattle.cmark_grammar.specs.BracketDecisions.{decide}
@@ -9,7 +9,7 @@ use Rattle.cmark_grammar.specs.BracketStates.{State, Forms}
 use Rattle.cmark_grammar.specs.Emphasis.{Run, Pair, IsEmphasis}
 use Rattle.cmark_grammar.specs.Flanking.{is_delimiter_run}
 use Rattle.cmark_grammar.specs.InlineTokens.{token}
-use Rattle.cmark_grammar.specs.Items.{ItemKind, Own, Delimiters, Item, Bracket, Closes}
+use Rattle.cmark_grammar.specs.Items.{ItemKind, Plain, Own, Written, Quoted, Delimiters, Autolink, OwnedHtml, FootnoteReference, Item, Bracket, Closes}
 use Rattle.cmark_grammar.specs.LeafReading.{Between, entering}
 use Rattle.cmark_grammar.specs.LeafText.{Leaf, Stretch, InTurn, begin_of, end_of, size_of}
 use Rattle.cmark_grammar.specs.Options.{Options}
@@ -17,12 +17,12 @@ use Rattle.cmark_grammar.specs.Parts.{Parts, Nil as NoParts, Single as SinglePar
 use Rattle.cmark_grammar.specs.Questions.{AnyAnswer}
 use Rattle.cmark_grammar.specs.Quotes.{Quote, quote_characters}
 use Rattle.cmark_grammar.specs.Readers.{Reader}
-use Rattle.cmark_grammar.specs.Siblings.{Inline, Nil, Single, Around, item, item_then, footnote_then, quotes_of, tag_by, from_place, display_from}
+use Rattle.cmark_grammar.specs.Siblings.{Inline, Nil, Single, Around, item, no_item, item_then, footnote_then, quotes_of, tag_by, from_place, display_from}
 use Rattle.cmark_grammar.specs.SiblingsModel.{dress, siblings_of}
 use Rattle.cmark_grammar.specs.Spans.{Spans}
 use Rattle.cmark_inline_model.specs.BracketPass.{Pass, closed_by}
 use Rattle.cmark_inline_model.specs.CutRanges.{IsBehindPipe}
-use Rattle.cmark_inline_model.specs.Displays.{hidden_by, shown_from, empty_text, display_slots, display_target, LeavesRuns, LeavesQuotes, CanBeCut, IsCutThere, ShowsLike}
+use Rattle.cmark_inline_model.specs.Displays.{hidden_by, shown_from, empty_text, display_slots, display_target, LeavesRuns, LeavesQuotes, CanBeCut, IsCutThere, ShowsLike, CutFacts, CutKind, IsText, OwnedFacts}
 use Rattle.cmark_inline_model.specs.LeafModel.{HaveLineEnds}
 use Rattle.cmark_inline_model.specs.LikeSlots.{AreLike}
 use Rattle.cmark_inline_model.specs.PartLists.{join}
@@ -30,9 +30,9 @@ use Rattle.cmark_inline_model.specs.RowParts.{BracketPlace, CutsRow, text_slot, 
 use Rattle.cmark_inline_model.specs.RowPasses.{IsReached, linked_slots}
 use Rattle.cmark_inline_model.specs.SlotRows.{Slot, ItemSlot, BeginSlot, EndSlot, NothingSlot, seen, slots_of, LaysOut, marked, marks_by, quoted}
 use Rattle.cmark_inline_model.proofs.BracketsSound.{results, split}
-use Rattle.cmark_inline_model.proofs.DisplayRows.{nothings, nothings-append, nothings-length, nothings-seen, Below, From, ExactBy, AreExact, ShowsRow, IsKnown, AreKnown, shows-row, first-shown, none-from}
+use Rattle.cmark_inline_model.proofs.DisplayRows.{nothings, nothings-append, nothings-length, nothings-seen, Below, From, ExactBy, AreExact, ShowsRow, AreKnown, shows-row, first-shown, none-from}
 use Rattle.cmark_inline_model.proofs.ForwardLaws.{leaf-forward, leaf-ranges}
-use Rattle.cmark_inline_model.proofs.KindViews.{KindView, AQuote, ARun, AnAutolink, AText, kind-view}
+use Rattle.cmark_inline_model.proofs.KindViews.{Stays, KindView, AQuote, ARun, AnAutolink, AText, kind-view}
 use Rattle.cmark_inline_model.proofs.LeafPlaces.{leaf-up}
 use Rattle.cmark_inline_model.proofs.LeafSteps.{IsAt, place-first}
 use Rattle.cmark_inline_model.proofs.LikeSlots.{like-quoted, like-marked}
@@ -42,6 +42,7 @@ use Rattle.cmark_inline_model.proofs.ReadingPlaces.{AreRead, reading-reaches}
 use Rattle.cmark_inline_model.proofs.RowParts.{row-dressed, lays-count}
 use Rattle.cmark_inline_model.proofs.RowPasses as passes
 use Rattle.cmark_inline_model.proofs.SpanRanges.{SiblingOrder}
+use Rattle.cmark_inline_model.proofs.TokenPlaces.{Uncut, HaveNoPipe, HaveContent}
 use Rattle.cmark_inline_model.proofs.TokenItems.{HoldsOfItems, HoldsOf, token-holds, OfItems, items-hold}
 use Rattle.cmark_inline_model.proofs.WikiGaps.{decide-far, reading-gaps}
 
@@ -224,6 +225,18 @@ module _ (Pipe : ℕ → Type 0) where
         quoted = ap (λ c. quotes_of (shown c)) e;
       }
 
+abbrev IsAutolink : ItemKind → Type 0
+IsAutolink (Autolink uri) = Unit {0}
+IsAutolink _ = ⊥
+
+-- which an item that stays as it is is not
+no_autolink : (kind : ItemKind) → Stays kind → IsAutolink kind → ⊥
+no_autolink (Autolink uri) t h = around no_item Nil (t.item no_item Nil)
+  where
+    around : (x : Item) (after : Inline) → item_then (Autolink uri) x after ≡ Single x after → ⊥
+    around x after e = cc
+no_autolink kind t h = absurd h
+
 module _ (reader : Reader) (leaf : Leaf) (before : Between) (turn : InTurn 0 leaf.stretches (length reader.source)) (lines : HaveLineEnds reader.source leaf.stretches) where
   size : ℕ
   size = length reader.source
@@ -234,6 +247,9 @@ module _ (reader : Reader) (leaf : Leaf) (before : Between) (turn : InTurn 0 lea
   abbrev Pipe : ℕ → Type 0
   Pipe at = IsBehindPipe reader.options reader.source at
 
+  abbrev UncutPart : Item → Type 0
+  UncutPart x = Uncut reader leaf (length reader.source) turn within lines x.kind x.start x.end
+
   begin_place : (st : List Stretch) (ended : HaveLineEnds reader.source st) (turn : InTurn 0 st (length reader.source)) → (left : ℕ) × IsAt reader.source st (length reader.source) turn within ended left (begin_of st)
   begin_place [] ended turn = (0, (omega arith, refl))
   begin_place (s ∷ more) ended turn = (size_of (s ∷ more), (omega arith, sym (place-first reader.source s more ended)))
@@ -243,35 +259,66 @@ module _ (reader : Reader) (leaf : Leaf) (before : Between) (turn : InTurn 0 lea
     order : SiblingOrder Pipe opener.end (siblings_of reader.options inside) closer.start
     free : IsFree display (siblings_of reader.options inside)
     exact : AreExact (siblings_of reader.options inside)
-    known : AreKnown Pipe reader leaf (siblings_of reader.options inside)
+    known : AreKnown Pipe reader.source display (siblings_of reader.options inside)
     pipe : Pipe display
     low : display ≤ closer.start
 
   abbrev ReadsTo : State → Parts → State → Type 0
   ReadsTo s parts t = Reads (token reader leaf) (decide reader leaf) AnyAnswer s parts t
 
-  item_known : (x : Item) (after : Inline) → IsKnown Pipe reader leaf x → AreKnown Pipe reader leaf after → AreKnown Pipe reader leaf (item_then x.kind x after)
-  item_known x after u k = go x.kind (kind-view x.kind)
-    where
-      go : (kind : ItemKind) → KindView kind → AreKnown Pipe reader leaf (item_then kind x after)
-      go _ (AQuote quote) = (u, k)
-      go _ (ARun run) = (u, k)
-      go _ (AnAutolink uri) = k
-      go _ (AText kind t) = subst (AreKnown Pipe reader leaf) (sym (t.item x after)) (u, k)
+  -- a pipe stands directly before the place
+  module _ (display : ℕ) (pipe : Pipe display) where
+    abbrev Known : Inline → Type 0
+    Known siblings = AreKnown Pipe reader.source display siblings
 
-  footnote_known : (is_image : Bool) (start : ℕ) (label : List ℕ) (end : ℕ) (others : Inline) → AreKnown Pipe reader leaf others → AreKnown Pipe reader leaf (footnote_then is_image start label end others)
-  footnote_known true start label end others k = (inr (inl (let e : suc start ≤ suc start = omega arith in e)), (inr (inr tt), k))
-  footnote_known false start label end others k = (inr (inr tt), k)
+    abbrev UncutAs : ItemKind → (start end : ℕ) → Type 0
+    UncutAs kind start end = Uncut reader leaf (length reader.source) turn within lines kind start end
 
-  siblings_known : (parts : Parts) → AreRead reader leaf (length reader.source) turn within lines parts → AreKnown Pipe reader leaf (siblings_of reader.options parts)
-  siblings_known NoParts u = tt
-  siblings_known (SinglePart x after) u = item_known x (siblings_of reader.options after) (inl u.0) (siblings_known after u.1)
-  siblings_known (Form opener inside closer (Linking target) after) u = siblings_known after u.1
-  siblings_known (Form opener inside closer (Footnote label end) after) u = footnote_known opener.is_image opener.start label end (siblings_of reader.options after) (siblings_known after u.1)
-  siblings_known (Form opener inside closer (Wiki name None end) after) u = siblings_known after u.1
-  siblings_known (Form opener inside closer (Wiki name (Some place) end) after) u = siblings_known after u.1
-  siblings_known (Closing closer after) u = (inl u.0, siblings_known after u.1)
-  siblings_known (Opening opener after) u = (inl u.0, siblings_known after u.1)
+    not_there : (start end : ℕ) → HaveNoPipe reader leaf (length reader.source) turn within lines start end → start < display → display < end → ⊥
+    not_there start end none a b =
+        let s = pipe.some in
+        let other : (get_or reader.source (display - 1) 0 == 124) ≡ false = none (display - 1) (omega arith) (omega arith) in
+        true≢false (sym (ap (λ b. b == 124) pipe.pipe) ∙ other)
+
+    -- each kind of item but an autolink
+    cut_facts : (x : Item) (kind : ItemKind) → x.kind ≡ kind → UncutAs kind x.start x.end → (IsAutolink kind → ⊥) → x.start < display → display < x.end → CutFacts reader.source x
+    cut_facts x (Written text) e u other a b = absurd (not_there x.start x.end u a b)
+    cut_facts x (Delimiters run) e u other a b = absurd (not_there x.start x.end u a b)
+    cut_facts x (Quoted quote) e u other a b = absurd (omega arith)
+    cut_facts x (Autolink uri) e u other a b = absurd (other tt)
+    cut_facts x Plain e u other a b = record { kind = subst CutKind (sym e) tt; text = λ t. u; owned = subst OwnedFacts (sym e) tt }
+    cut_facts x Own e u other a b = record { kind = subst CutKind (sym e) tt; text = λ t. u; owned = subst OwnedFacts (sym e) tt }
+    cut_facts x (OwnedHtml text) e u other a b = record { kind = subst CutKind (sym e) tt; text = λ t. absurd (subst IsText e t); owned = subst OwnedFacts (sym e) u }
+    cut_facts x kind e u other a b = record { kind = subst CutKind (sym e) tt; text = λ t. absurd (subst IsText e t); owned = subst OwnedFacts (sym e) tt }
+
+    item_known : (x : Item) (after : Inline) → UncutAs x.kind x.start x.end → Known after → Known (item_then x.kind x after)
+    item_known x after u k = go x.kind (kind-view x.kind) refl u
+      where
+        go : (kind : ItemKind) → KindView kind → x.kind ≡ kind → UncutAs kind x.start x.end → Known (item_then kind x after)
+        go _ (AQuote quote) e v = (cut_facts x (Quoted quote) e v (λ n. n), k)
+        go _ (ARun run) e v = (cut_facts x (Delimiters run) e v (λ n. n), k)
+        go _ (AnAutolink uri) e v = k
+        go _ (AText kind t) e v = subst Known (sym (t.item x after)) (cut_facts x kind e v (no_autolink kind t), k)
+
+    text_known : (start end : ℕ) (after : Inline) → HaveContent reader leaf (length reader.source) turn within lines start end → Known after → Known (Single (item Own start end) after)
+    text_known start end after u k = ((λ a b. record { kind = tt; text = λ t. u; owned = tt }), k)
+
+    reference_known : (label : List ℕ) (start end : ℕ) (after : Inline) → Known after → Known (Single (item (FootnoteReference label) start end) after)
+    reference_known label start end after k = ((λ a b. record { kind = tt; text = λ t. absurd t; owned = tt }), k)
+
+    footnote_known : (is_image : Bool) (start : ℕ) (label : List ℕ) (end : ℕ) (others : Inline) → Known others → Known (footnote_then is_image start label end others)
+    footnote_known true start label end others k = ((λ a b. absurd (omega arith)), reference_known label (suc start) end others k)
+    footnote_known false start label end others k = reference_known label start end others k
+
+    siblings_known : (parts : Parts) → OfItems UncutPart parts → AreRead reader leaf (length reader.source) turn within lines parts → Known (siblings_of reader.options parts)
+    siblings_known NoParts u r = tt
+    siblings_known (SinglePart x after) u r = item_known x (siblings_of reader.options after) u.0 (siblings_known after u.1 r)
+    siblings_known (Form opener inside closer (Linking target) after) u r = siblings_known after u.1 r.1
+    siblings_known (Form opener inside closer (Footnote label end) after) u r = footnote_known opener.is_image opener.start label end (siblings_of reader.options after) (siblings_known after u.1 r.1)
+    siblings_known (Form opener inside closer (Wiki name None end) after) u r = siblings_known after u.1 r.1
+    siblings_known (Form opener inside closer (Wiki name (Some place) end) after) u r = siblings_known after u.1 r.1
+    siblings_known (Closing closer after) u r = text_known closer.start closer.end (siblings_of reader.options after) r.0 (siblings_known after u r.1)
+    siblings_known (Opening opener after) u r = text_known opener.start opener.end (siblings_of reader.options after) r.0 (siblings_known after u r.1)
 
   form_between : (front : Parts) (opener closer : Bracket) (inside : Parts) (name : List ℕ) (display end : ℕ) (next : State)
       → ReadsTo (entering leaf before) (join front (Form opener inside closer (Wiki name (Some display) end) NoParts)) next → Held opener closer inside display
@@ -292,7 +339,7 @@ module _ (reader : Reader) (leaf : Leaf) (before : Between) (turn : InTurn 0 lea
         order = siblings-order reader leaf (length reader.source) turn within lines opener.end inside closer.start b.0.2 fills.0 reached.items.0 reached.pipes.1 gaps.1;
         free = parts-free reader leaf (length reader.source) turn within lines display reached.pipes.0.0 inside reached.items.0;
         exact = siblings_exact reader.options inside exact.0;
-        known = siblings_known inside reached.read.0;
+        known = siblings_known display reached.pipes.0.0 inside reached.items.0 reached.read.0;
         pipe = reached.pipes.0.0;
         low = reached.pipes.0.1;
       }
@@ -364,10 +411,10 @@ module _ (reader : Reader) (leaf : Leaf) (before : Between) (turn : InTurn 0 lea
     row : DisplayRow Pipe display closer.start (suc (length cut.front) + many) inside shows.rest shows.later_bytes shows.later_quotes
     row = display_row Pipe display closer.start cut.cut.opener.end (suc (length cut.front) + many) inside shows.rest shows.later_bytes shows.later_quotes held.order shows.laid
 
-    cut_there : IsCutThere reader leaf (suc place.slot) display h.row
+    cut_there : IsCutThere reader.source (suc place.slot) display h.row
     cut_there =
-        subst (λ l. hidden_by display l < length l → CanBeCut reader leaf display (get_or l (hidden_by display l) NothingSlot)) behind_is
-        (first-shown Pipe reader leaf display inside cut.cut.opener.end closer.start held.order held.free held.exact held.known (suc (length cut.front)) cut.behind cut.behind_bytes cut.behind_quotes cut.laid_behind)
+        subst (λ l. hidden_by display l < length l → CanBeCut reader.source display (get_or l (hidden_by display l) NothingSlot)) behind_is
+        (first-shown Pipe reader.source display inside cut.cut.opener.end closer.start held.order held.free held.exact held.known (suc (length cut.front)) cut.behind cut.behind_bytes cut.behind_quotes cut.laid_behind)
 
     module _ (left_runs left_quotes at : ℕ) (first : at ≡ suc place.slot + hidden_by display (drop (suc place.slot) h.row)) (lr : LeavesRuns place.runs left_runs at runs bytes) (lq : LeavesQuotes place.quotes left_quotes at quotes) where
       at_is : at ≡ suc (length cut.front) + many
@@ -489,7 +536,7 @@ module _ (reader : Reader) (leaf : Leaf) (before : Between) (turn : InTurn 0 lea
       → (closer : Bracket) (nearer : ℕ) (name : List ℕ) (display end : ℕ) (next : State) (place : BracketPlace) → drop nearer bs ≡ place ∷ drop (suc nearer) bs → token reader leaf p.state.at ≡ Closes closer
       → Comes AnyAnswer p.state.asked (decide reader leaf p.state closer) (record { result = Forms nearer (Wiki name (Some display) end); after = next })
       → (left_runs left_quotes at : ℕ) (now : List Slot) → LeavesRuns place.runs left_runs at runs bytes → LeavesQuotes place.quotes left_quotes at quotes
-      → ((row : List Slot) → AreLike reader.source slots row → IsCutThere reader leaf (suc place.slot) display row → IsBehindPipe reader.options reader.source display → display ≤ closer.start → ShowsLike reader.source (suc place.slot) display closer.start at row now)
+      → ((row : List Slot) → AreLike reader.source slots row → IsCutThere reader.source (suc place.slot) display row → IsBehindPipe reader.options reader.source display → display ≤ closer.start → ShowsLike reader.source (suc place.slot) display closer.start at row now)
       → (pairs : List Pair) (spans : Spans) → IsEmphasis (counted 0 (drop left_runs runs)) pairs spans
       → IsReached reader leaf before (closed_by p closer (record { result = Forms nearer (Wiki name (Some display) end); after = next })) (drop (suc nearer) bs)
       (linked_slots place (display_target name end)

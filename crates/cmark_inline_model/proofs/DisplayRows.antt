@@ -1,16 +1,14 @@
 -- A row of siblings of which the slots that end by a place are nothing any more is the row of those siblings that a wikilink shows from
 -- that place on.
 use Rattle.std.specs.Prelude.{nat_le, if◌then◌else◌, max, get_or}
-use Rattle.std.proofs.Common.{◌≡◌, ◌⊎◌, inl, inr, Bool, true, false, ℕ, zero, suc, ◌+◌, ◌<◌, ◌≤◌, List, [], ◌∷◌, ◌++◌, length, refl, sym, ap, ◌∙◌, subst, arith, append_assoc, length-append}
+use Rattle.std.proofs.Common.{◌≡◌, inl, inr, Bool, true, false, ℕ, zero, suc, ◌+◌, ◌<◌, ◌≤◌, List, [], ◌∷◌, ◌++◌, length, refl, sym, ap, ◌∙◌, subst, arith, append_assoc, length-append}
 use Rattle.std.proofs.lemmas.List.{get_or-append-add}
 use Rattle.cmark_grammar.specs.Emphasis.{Run}
 use Rattle.cmark_grammar.specs.Items.{ItemKind, Own, Quoted, Delimiters, FootnoteReference, Item}
-use Rattle.cmark_grammar.specs.LeafText.{Leaf}
 use Rattle.cmark_grammar.specs.Quotes.{Quote}
-use Rattle.cmark_grammar.specs.Readers.{Reader}
 use Rattle.cmark_grammar.specs.Siblings.{Inline, Nil, Single, Around, item, quote_then, quotes_of, from_place}
 use Rattle.cmark_grammar.specs.Tag.{Tag}
-use Rattle.cmark_inline_model.specs.Displays.{ends_by, begun_from, shown_from, hidden_by, ReadsItem, IsReference, CanBeCut}
+use Rattle.cmark_inline_model.specs.Displays.{ends_by, begun_from, shown_from, hidden_by, CutFacts, CanBeCut}
 use Rattle.cmark_inline_model.specs.RowParts.{run_before, runs_in, bytes_in}
 use Rattle.cmark_inline_model.specs.SlotRows.{Slot, ItemSlot, BeginSlot, EndSlot, NothingSlot, seen, slots_of, run_slots, run_places, LaysItem, LaysOut}
 use Rattle.cmark_inline_model.proofs.PartOrders.{FreeBy, IsFree}
@@ -484,35 +482,37 @@ module _ (Pipe : ℕ → Type 0) where
 
   -- ## The first slot that is shown
 
-  module _ (reader : Reader) (leaf : Leaf) where
-    -- an item was read, or it is one byte, or a footnote reference
-    abbrev pub IsKnown : Item → Type 0
-    IsKnown x = ReadsItem reader leaf x ⊎ ((x.end ≤ suc x.start) ⊎ IsReference x.kind)
+  module _ (source : List ℕ) where
+    -- an item can be cut where no autolink stands and the place is inside it
+    abbrev pub IsKnown : (place : ℕ) → Item → Type 0
+    IsKnown place x = x.start < place → place < x.end → CutFacts source x
 
-    abbrev pub AreKnown : Inline → Type 0
-    AreKnown Nil = Unit {0}
-    AreKnown (Single x after) = IsKnown x × AreKnown after
-    AreKnown (Around tag start end inside after) = AreKnown after
+    abbrev pub AreKnown : (place : ℕ) → Inline → Type 0
+    AreKnown place Nil = Unit {0}
+    AreKnown place (Single x after) = IsKnown place x × AreKnown place after
+    AreKnown place (Around tag start end inside after) = AreKnown place after
 
     abbrev IsFirst : (place : ℕ) → List Slot → Type 0
-    IsFirst place row = hidden_by place row < length row → CanBeCut reader leaf place (get_or row (hidden_by place row) NothingSlot)
+    IsFirst place row = hidden_by place row < length row → CanBeCut source place (get_or row (hidden_by place row) NothingSlot)
 
     first-behind : (place : ℕ) (front more row : List Slot) → row ≡ front ++ more → EndBy place front → IsFirst place more → IsFirst place row
     first-behind place front more row e ends h = λ lt.
         let s = shown-hidden place front more ends in
         let n = ap (hidden_by place) e ∙ s.1 in
         let l = ap length e ∙ length-append front more in
-        subst (CanBeCut reader leaf place) (sym (get_or-append-add front more (hidden_by place more) NothingSlot) ∙ ap (λ i. get_or (front ++ more) i NothingSlot) (sym n) ∙ ap (λ r. get_or r (hidden_by place row) NothingSlot) (sym e)) (h (omega arith))
+        subst (CanBeCut source place) (sym (get_or-append-add front more (hidden_by place more) NothingSlot) ∙ ap (λ i. get_or (front ++ more) i NothingSlot) (sym n) ∙ ap (λ r. get_or r (hidden_by place row) NothingSlot) (sym e)) (h (omega arith))
 
-    first-here : (place : ℕ) (slot : Slot) (more row : List Slot) → row ≡ slot ∷ more → hidden_by place row ≡ 0 → CanBeCut reader leaf place slot → IsFirst place row
-    first-here place slot more row e n h = λ lt. subst (CanBeCut reader leaf place) (sym (ap (λ r. get_or r 0 NothingSlot) e) ∙ ap (λ i. get_or row i NothingSlot) (sym n)) h
+    first-here : (place : ℕ) (slot : Slot) (more row : List Slot) → row ≡ slot ∷ more → hidden_by place row ≡ 0 → CanBeCut source place slot → IsFirst place row
+    first-here place slot more row e n h = λ lt. subst (CanBeCut source place) (sym (ap (λ r. get_or r 0 NothingSlot) e) ∙ ap (λ i. get_or row i NothingSlot) (sym n)) h
 
-    known-cut : (place : ℕ) (x : Item) → nat_le x.end place ≡ false → IsKnown x → CanBeCut reader leaf place (ItemSlot x)
-    known-cut place x e (inl r) = inr (inl r)
-    known-cut place x e (inr (inl r)) = let l : place < x.end = grind (arith) in inl (omega arith)
-    known-cut place x e (inr (inr r)) = inr (inr r)
+    known-cut : (place : ℕ) (x : Item) → nat_le x.end place ≡ false → IsKnown place x → CanBeCut source place (ItemSlot x)
+    known-cut place x e known = go (nat_le place x.start) refl
+      where
+        go : (c : Bool) → nat_le place x.start ≡ c → CanBeCut source place (ItemSlot x)
+        go true f = inl (grind (arith))
+        go false f = inr (known (grind (arith)) (grind (arith)))
 
-    first-item : (kind : ItemKind) (x : Item) (place : ℕ) (After : ℕ → List Slot → List ℕ → List ℕ → Type 0) → nat_le x.end place ≡ false → FreeBy kind place x.start x.end → ExactBy kind x.start x.end → IsKnown x
+    first-item : (kind : ItemKind) (x : Item) (place : ℕ) (After : ℕ → List Slot → List ℕ → List ℕ → Type 0) → nat_le x.end place ≡ false → FreeBy kind place x.start x.end → ExactBy kind x.start x.end → IsKnown place x
         → (at : ℕ) (s : List Slot) (b q : List ℕ) → LaysItem kind x After at s b q → IsFirst place s
     first-item (Delimiters run) x place After e free ex known at s b q h = go run.size refl
       where
@@ -529,7 +529,7 @@ module _ (Pipe : ℕ → Type 0) where
     first-item (FootnoteReference label) x place After e free ex known at s b q h = first-here place (ItemSlot x) (h.0 ++ h.1) s h.3 (ap (hidden_by place) h.3 ∙ (shown-kept place (ItemSlot x) (h.0 ++ h.1) e).1) (known-cut place x e known)
     first-item kind x place After e free ex known at s b q h = first-here place (ItemSlot x) h.0 s h.1 (ap (hidden_by place) h.1 ∙ (shown-kept place (ItemSlot x) h.0 e).1) (known-cut place x e known)
 
-    pub first-shown : (place : ℕ) (siblings : Inline) (from to : ℕ) → SiblingOrder Pipe from siblings to → IsFree place siblings → AreExact siblings → AreKnown siblings
+    pub first-shown : (place : ℕ) (siblings : Inline) (from to : ℕ) → SiblingOrder Pipe from siblings to → IsFree place siblings → AreExact siblings → AreKnown place siblings
         → (at : ℕ) (s : List Slot) (b q : List ℕ) → LaysOut at siblings s b q → IsFirst place s
     first-shown place Nil from to order free ex known at s b q h = λ lt. absurd (let n = ap length h.0 in omega arith)
     first-shown place (Single x after) from to order free ex known at s b q h =

@@ -6,9 +6,9 @@ use Rattle.std.proofs.lemmas.List.{length-take, get_or-drop}
 use Rattle.cmark_grammar.specs.BracketDecisions.{name_in, behind_pipe, wiki_text, behind, place, decide}
 use Rattle.cmark_grammar.specs.BracketReading.{Reads}
 use Rattle.cmark_grammar.specs.BracketStates.{State, moved, opened, Result, StaysText, Forms, Outcome}
-use Rattle.cmark_grammar.specs.InlineTokens.{from, place_of, token}
-use Rattle.cmark_grammar.specs.Items.{Own, Item, Bracket}
-use Rattle.cmark_grammar.specs.LeafText.{Leaf, InTurn, place_with}
+use Rattle.cmark_grammar.specs.InlineTokens.{from, token}
+use Rattle.cmark_grammar.specs.Items.{Item, Bracket}
+use Rattle.cmark_grammar.specs.LeafText.{Leaf, InTurn}
 use Rattle.cmark_grammar.specs.Letters.{first_is}
 use Rattle.cmark_grammar.specs.Lines.{is_content}
 use Rattle.cmark_grammar.specs.LinkTails.{LinkTail, link_tail_in}
@@ -16,18 +16,15 @@ use Rattle.cmark_grammar.specs.OpenBrackets.{Taken}
 use Rattle.cmark_grammar.specs.Parts.{Formed, Linking, Footnote, Wiki, Parts, Nil, Single, Form, Closing, Opening, openings}
 use Rattle.cmark_grammar.specs.Questions.{Exchange, Saying}
 use Rattle.cmark_grammar.specs.Readers.{Reader}
-use Rattle.cmark_grammar.specs.Siblings.{item}
 use Rattle.cmark_grammar.proofs.ShorterRests.{TailBelow, link_tail-shorter}
 use Rattle.cmark_inline_model.specs.LeafModel.{HaveLineEnds}
 use Rattle.cmark_inline_model.specs.Progress.{Always}
 use Rattle.cmark_inline_model.specs.CutRanges.{IsBehindPipe}
-use Rattle.cmark_inline_model.specs.Displays.{ReadsItem}
 use Rattle.cmark_inline_model.proofs.DecisionLaws.{always-by}
 use Rattle.cmark_inline_model.proofs.DecisionShape.{Shape, Stays, ToInline, ToReference, ToFootnote, ToWiki, IsPlace as IsPlaceBehind}
-use Rattle.cmark_inline_model.proofs.LeafSteps.{at-size}
 use Rattle.cmark_inline_model.proofs.LinkNesting.{always-comes}
 use Rattle.cmark_inline_model.proofs.TokenItems.{OfItems}
-use Rattle.cmark_inline_model.proofs.TokenPlaces.{IsPlace, next-place, rest-place, Uncut, Sits, token-sits}
+use Rattle.cmark_inline_model.proofs.TokenPlaces.{IsPlace, next-place, rest-place, Uncut, HaveContent, Sits, token-sits}
 
 -- ## Pipes
 
@@ -151,16 +148,13 @@ module _ (reader : Reader) (leaf : Leaf) (size : ℕ) (turn : InTurn 0 leaf.stre
   abbrev UncutItem : Item → Type 0
   UncutItem x = Uncut reader leaf size turn within lines x.kind x.start x.end
 
-  -- each item begins at a place of the leaf, and so does each bracket that is a text
+  -- no line ends in a bracket that is a text
   abbrev pub AreRead : Parts → Type 0
   AreRead Nil = Unit {0}
-  AreRead (Single x after) = ReadsItem reader leaf x × AreRead after
+  AreRead (Single x after) = AreRead after
   AreRead (Form opener inside closer formed after) = AreRead inside × AreRead after
-  AreRead (Closing closer after) = ReadsItem reader leaf (item Own closer.start closer.end) × AreRead after
-  AreRead (Opening opener after) = ReadsItem reader leaf (item Own opener.start opener.end) × AreRead after
-
-  leaf_place : (at : ℕ) → Place at → place_of reader leaf (from reader leaf at) ≡ at
-  leaf_place at h = ap (λ n. place_with n leaf.stretches) (at-size reader.source leaf.stretches size turn within lines h.0 at h.1) ∙ sym h.1.1
+  AreRead (Closing closer after) = HaveContent reader leaf size turn within lines closer.start closer.end × AreRead after
+  AreRead (Opening opener after) = HaveContent reader leaf size turn within lines opener.start opener.end × AreRead after
 
   pub record Reached (parts : Parts) (t : State) : Type 0 where
     pub place : Place t.at
@@ -173,20 +167,20 @@ module _ (reader : Reader) (leaf : Leaf) (size : ℕ) (turn : InTurn 0 leaf.stre
   reading-reaches Says s (Single item after) t w h =
       let k = subst (Sits reader leaf size turn within lines) h.1 (token-sits reader leaf size turn within lines s.at w) in
       let i = reading-reaches Says (moved h.0 s) after t k.0 h.2 in
-      record { place = i.place; items = (k.1, i.items); pipes = i.pipes; read = (record { at = s.at; is_place = leaf_place s.at w; begins = inl (h.0, h.1) }, i.read) }
+      record { place = i.place; items = (k.1, i.items); pipes = i.pipes; read = i.read }
   reading-reaches Says s (Form opener inside closer formed after) t w h =
       let k = subst (Sits reader leaf size turn within lines) h.opens (token-sits reader leaf size turn within lines s.at w) in
-      let i = reading-reaches Says (opened opener s) inside h.until k h.inside in
+      let i = reading-reaches Says (opened opener s) inside h.until k.0 h.inside in
       let c = subst (Sits reader leaf size turn within lines) h.closes (token-sits reader leaf size turn within lines h.until.at i.place) in
-      let o = always-comes (Comes closer) Says h.until.asked (decide reader leaf h.until closer) (record { result = Forms (openings inside) formed; after = h.next }) (comes h.until closer c) h.comes in
+      let o = always-comes (Comes closer) Says h.until.asked (decide reader leaf h.until closer) (record { result = Forms (openings inside) formed; after = h.next }) (comes h.until closer c.0) h.comes in
       let j = reading-reaches Says h.next after t o.reached h.after in
       record { place = j.place; items = (i.items, j.items); pipes = (o.display, i.pipes, j.pipes); read = (i.read, j.read) }
   reading-reaches Says s (Closing closer after) t w h =
       let c = subst (Sits reader leaf size turn within lines) h.closes (token-sits reader leaf size turn within lines s.at w) in
-      let o = always-comes (Comes closer) Says s.asked (decide reader leaf s closer) (record { result = StaysText; after = h.next }) (comes s closer c) h.comes in
+      let o = always-comes (Comes closer) Says s.asked (decide reader leaf s closer) (record { result = StaysText; after = h.next }) (comes s closer c.0) h.comes in
       let j = reading-reaches Says h.next after t o.reached h.after in
-      record { place = j.place; items = j.items; pipes = j.pipes; read = (record { at = s.at; is_place = leaf_place s.at w; begins = inr (closer, inr h.closes, refl) }, j.read) }
+      record { place = j.place; items = j.items; pipes = j.pipes; read = (c.1, j.read) }
   reading-reaches Says s (Opening opener after) t w h =
       let k = subst (Sits reader leaf size turn within lines) h.0 (token-sits reader leaf size turn within lines s.at w) in
-      let i = reading-reaches Says (opened opener s) after t k h.1 in
-      record { place = i.place; items = i.items; pipes = i.pipes; read = (record { at = s.at; is_place = leaf_place s.at w; begins = inr (opener, inl h.0, refl) }, i.read) }
+      let i = reading-reaches Says (opened opener s) after t k.0 h.1 in
+      record { place = i.place; items = i.items; pipes = i.pipes; read = (k.1, i.read) }

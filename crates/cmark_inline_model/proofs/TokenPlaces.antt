@@ -11,7 +11,7 @@ use Rattle.cmark_grammar.specs.Flanking.{flanking}
 use Rattle.cmark_grammar.specs.Formulas.{is_dollar, Braces, no_braces, braces_behind, inline_in, display_in}
 use Rattle.cmark_grammar.specs.InlineHtml.{behind_markup, takes_lines}
 use Rattle.cmark_grammar.specs.InlineTokens.{item_at, bracket, is_plain, from, before, place_of, size_to, character_before, character_at, line_begins, read_on, break_or, code_or, escaped_backtick, escape_at, entity_or, autolink_or, tag_or_text, source_from, markup_or, less_than, run_at, formula_or, dollar, dots, hyphens, quote_at, smart_or, begins, begins_at, goes_on, plain_end, longest, token}
-use Rattle.cmark_grammar.specs.Items.{ItemKind, Plain, Written, InlineMath, DisplayMath, Delimiters, Html, OwnedHtml, SoftBreak, HardBreak, Token, Stands, Opens, Closes, Ends}
+use Rattle.cmark_grammar.specs.Items.{ItemKind, Plain, Own, Quoted, Item, Written, InlineMath, DisplayMath, Delimiters, Html, OwnedHtml, SoftBreak, HardBreak, Token, Stands, Opens, Closes, Ends}
 use Rattle.cmark_grammar.specs.LabelsOverLines.{piped}
 use Rattle.cmark_grammar.specs.LeafText.{Leaf, size_of, end_of, InTurn}
 use Rattle.cmark_grammar.specs.Letters.{first_is, starts}
@@ -26,8 +26,9 @@ use Rattle.cmark_grammar.proofs.ShorterRests.{LeavesBelow, FoundBelow, either, t
 use Rattle.cmark_inline_model.specs.LeafModel.{HaveLineEnds}
 use Rattle.cmark_inline_model.proofs.LeafPlaces.{bytes-size}
 use Rattle.cmark_inline_model.proofs.LeafSteps.{IsAt, at-size, at-next}
+use Rattle.cmark_inline_model.proofs.PlainTokens.{Shaped, begins-shaped}
 use Rattle.cmark_inline_model.proofs.TokenLaws.{length-blanks}
-use Rattle.cmark_inline_model.proofs.WordBytes.{IsWord, and-right, or-either, word-is, punctuation-word, front-map, Leads, prefix-leads, starts-leads, first-leads, leads-cons, EntityLeads, entity-leads}
+use Rattle.cmark_inline_model.proofs.WordBytes.{IsWord, IsName, and-right, or-either, word-is, name-is, punctuation-word, front-map, Leads, prefix-leads, starts-leads, first-leads, leads-cons, EntityNames, entity-names}
 
 module _ (reader : Reader) (leaf : Leaf) (size : ℕ) (turn : InTurn 0 leaf.stretches size) (within : size ≤ length reader.source) (lines : HaveLineEnds reader.source leaf.stretches) where
   abbrev At : (left at : ℕ) → Type 0
@@ -37,9 +38,23 @@ module _ (reader : Reader) (leaf : Leaf) (size : ℕ) (turn : InTurn 0 leaf.stre
   abbrev pub IsPlace : ℕ → Type 0
   IsPlace at = (left : ℕ) × IsAt reader.source leaf.stretches size turn within lines left at
 
-  -- no pipe stands among the bytes of a delimiter run
+  -- no pipe stands among these bytes of the source
+  abbrev pub HaveNoPipe : (start end : ℕ) → Type 0
+  HaveNoPipe start end = (k : ℕ) → start ≤ k → k < end → (get_or reader.source k 0 == 124) ≡ false
+
+  -- no line ends among them
+  abbrev pub HaveContent : (start end : ℕ) → Type 0
+  HaveContent start end = (k : ℕ) → start ≤ k → k < end → is_content (get_or reader.source k 0) ≡ true
+
+  -- what an item of some kinds is where a pipe stands among its bytes: no delimiter run, no quote and no text that is written otherwise; a
+  -- text stands on one line, and a tag with a text of its own does not
   abbrev pub Uncut : ItemKind → (start end : ℕ) → Type 0
-  Uncut (Delimiters run) start end = (k : ℕ) → start ≤ k → k < end → (get_or reader.source k 0 == 124) ≡ false
+  Uncut (Delimiters run) start end = HaveNoPipe start end
+  Uncut (Written text) start end = HaveNoPipe start end
+  Uncut (Quoted quote) start end = end ≡ suc start
+  Uncut Plain start end = HaveContent start end
+  Uncut Own start end = HaveContent start end
+  Uncut (OwnedHtml text) start end = takes_lines text ≡ true
   Uncut _ start end = Unit {0}
 
   -- one byte, which ends no line, and the next
@@ -87,8 +102,8 @@ module _ (reader : Reader) (leaf : Leaf) (size : ℕ) (turn : InTurn 0 leaf.stre
 
   abbrev pub Sits : Token → Type 0
   Sits (Stands item past) = IsPlace past × Uncut item.kind item.start item.end
-  Sits (Opens opener) = IsPlace opener.end
-  Sits (Closes closer) = IsPlace closer.end
+  Sits (Opens opener) = IsPlace opener.end × HaveContent opener.start opener.end
+  Sits (Closes closer) = IsPlace closer.end × HaveContent closer.start closer.end
   Sits Ends = Unit {0}
 
   -- one of two, by the condition
@@ -102,6 +117,22 @@ module _ (reader : Reader) (leaf : Leaf) (size : ℕ) (turn : InTurn 0 leaf.stre
   -- behind words
   words : (n at : ℕ) (l : List ℕ) → IsPlace at → from reader leaf at ≡ l → Leads IsWord n l → IsPlace (at + n)
   words n at l h e k = (walk Anything n at l h e k.fits (front-map IsWord (λ b. (is_content b ≡ true) × Unit {0}) (λ b w. (w.content, tt)) n l k.front)).place
+
+  -- and what these are
+  words_are : (R : ℕ → Type 0) (n at : ℕ) (l : List ℕ) → IsPlace at → from reader leaf at ≡ l → Leads (λ b. IsWord b × R b) n l → IsPlace (at + n) × ((k : ℕ) → at ≤ k → k < at + n → R (get_or reader.source k 0))
+  words_are R n at l h e k =
+      let w = walk R n at l h e k.fits (front-map (λ b. IsWord b × R b) (λ b. (is_content b ≡ true) × R b) (λ b w. (w.0.content, w.1)) n l k.front) in
+      (w.place, w.bytes)
+
+  words_text : (n at : ℕ) (l : List ℕ) → IsPlace at → from reader leaf at ≡ l → Leads IsWord n l → IsPlace (at + n) × HaveContent at (at + n)
+  words_text n at l h e k =
+      words_are (λ b. is_content b ≡ true) n at l h e (record { front = front-map IsWord (λ b. IsWord b × (is_content b ≡ true)) (λ b w. (w, w.content)) n l k.front; fits = k.fits })
+
+  less_content : (start later end : ℕ) → start ≤ later → HaveContent start end → HaveContent later end
+  less_content start later end e h = λ k a b. h k (omega arith) b
+
+  one_content : (at b end : ℕ) → end ≡ suc at → get_or reader.source at 0 ≡ b → is_content b ≡ true → HaveContent at end
+  one_content at b end e is c = λ k x y. subst (λ j. is_content (get_or reader.source j 0) ≡ true) (let q : at ≡ k = omega arith in q) (subst (λ d. is_content d ≡ true) (sym is) c)
 
   pub read-on-place : (x : ℕ) → IsPlace (read_on reader leaf x)
   read-on-place x = (length rest, (fits, refl))
@@ -118,11 +149,15 @@ module _ (reader : Reader) (leaf : Leaf) (size : ℕ) (turn : InTurn 0 leaf.stre
     content_next : is_content b ≡ true → IsPlace (suc at)
     content_next c = (next-place at b bs there here c).0
 
+    -- one byte that is a text
+    text_next : is_content b ≡ true → IsPlace (suc at) × HaveContent at (suc at)
+    text_next c = let n = next-place at b bs there here c in (n.0, one_content at b (suc at) refl n.2 c)
+
     rest_there : (rest : List ℕ) → length rest ≤ suc (length bs) → IsPlace (place_of reader leaf rest)
     rest_there rest w = let e = ap length here in rest-place at rest there (omega arith)
 
-    word_next : IsWord b → IsPlace (suc at)
-    word_next w = content_next w.content
+    word_next : IsWord b → IsPlace (suc at) × HaveContent at (suc at)
+    word_next w = text_next w.content
 
     break_sits : (found : Option LineBreak) (other : Token) → (found ≡ None → Sits other) → Sits (break_or reader leaf at found other)
     break_sits None other h = h refl
@@ -134,12 +169,23 @@ module _ (reader : Reader) (leaf : Leaf) (size : ℕ) (turn : InTurn 0 leaf.stre
 
     code_sits : (found : Option Found) → FoundBelow (suc (length bs)) found → Leads IsWord (backticks (b ∷ bs)) (b ∷ bs) → Sits (code_or reader leaf at (backticks (b ∷ bs)) found)
     code_sits (Some found) h k = (rest_there found.behind (omega arith), tt)
-    code_sits None h k = (words (backticks (b ∷ bs)) at (b ∷ bs) there here k, tt)
+    code_sits None h k = words_text (backticks (b ∷ bs)) at (b ∷ bs) there here k
 
-    entity_sits : IsWord b → (entity : Option Entity) → EntityLeads bs entity → Sits (entity_or reader leaf at entity)
+    no_pipe : (c : ℕ) → IsName c → IsWord c × ((c == 124) ≡ false)
+    no_pipe c n = (n.word, go (c == 124) refl)
+      where
+        go : (x : Bool) → (c == 124) ≡ x → x ≡ false
+        go true e = absurd (let z = eqb-true c 124 e in let l = n.low in omega arith)
+        go false e = refl
+
+    names_no_pipe : (n : ℕ) (l : List ℕ) → Leads IsName n l → Leads (λ c. IsWord c × ((c == 124) ≡ false)) n l
+    names_no_pipe n l k = record { front = front-map IsName (λ c. IsWord c × ((c == 124) ≡ false)) no_pipe n l k.front; fits = k.fits }
+
+    entity_sits : IsName b → (entity : Option Entity) → EntityNames bs entity → Sits (entity_or reader leaf at entity)
     entity_sits w (Some entity) h =
-        (subst (λ n. IsPlace (at + n)) (sym h.1) (words (suc h.0) at (b ∷ bs) there here (leads-cons IsWord b h.0 bs w h.2)), tt)
-    entity_sits w None h = (word_next w, tt)
+        let r = words_are (λ c. (c == 124) ≡ false) (suc h.0) at (b ∷ bs) there here (names_no_pipe (suc h.0) (b ∷ bs) (leads-cons IsName b h.0 bs w h.2)) in
+        (subst (λ n. IsPlace (at + n)) (sym h.1) r.0, subst (λ n. HaveNoPipe at (at + n)) (sym h.1) r.1)
+    entity_sits w None h = word_next w.word
 
     backtick_word : (c : ℕ) → is_backtick c ≡ true → IsWord c
     backtick_word c e = word-is c 96 refl (omega arith) e
@@ -152,26 +198,29 @@ module _ (reader : Reader) (leaf : Leaf) (size : ℕ) (turn : InTurn 0 leaf.stre
         (λ e. escaped (code_in (drop 1 bs)) second.0 second.1 e)
         (λ e. when (leaf.is_cell && starts piped bs) (item_at Plain (at + 2) (at + 3)) (if first_is is_punctuation bs then item_at Plain (suc at) (at + 2) else item_at Plain at (suc at))
         (λ f. (let k = starts-leads IsWord piped bs (record { content = refl; ascii = omega arith }, (record { content = refl; ascii = omega arith }, tt)) (and-right leaf.is_cell (starts piped bs) f) in
-        (words 3 at (b ∷ bs) there here (leads-cons IsWord b 2 bs w k), tt)))
+        let t = words_text 3 at (b ∷ bs) there here (leads-cons IsWord b 2 bs w k) in (t.0, less_content at (at + 2) (at + 3) (omega arith) t.1)))
         (λ f. when (first_is is_punctuation bs) (item_at Plain (suc at) (at + 2)) (item_at Plain at (suc at))
-        (λ g. (words 2 at (b ∷ bs) there here (leads-cons IsWord b 1 bs w (first-leads IsWord is_punctuation bs punctuation-word g)), tt))
-        (λ g. (word_next w, tt))))
+        (λ g. (let t = words_text 2 at (b ∷ bs) there here (leads-cons IsWord b 1 bs w (first-leads IsWord is_punctuation bs punctuation-word g)) in (t.0, less_content at (suc at) (at + 2) (omega arith) t.1)))
+        (λ g. word_next w)))
       where
         escaped : (found : Option Found) → IsPlace (suc at) → from reader leaf (suc at) ≡ bs → first_is is_backtick bs ≡ true → Sits (escaped_backtick reader leaf (suc at) (backticks bs) found)
-        escaped (Some found) p q e = (let z : (suc at) + 1 ≡ suc (suc at) = omega arith in subst IsPlace z (words 1 (suc at) bs p q (first-leads IsWord is_backtick bs backtick_word e)), tt)
-        escaped None p q e = (words (backticks bs) (suc at) bs p q (prefix-leads is_backtick IsWord backtick_word bs), tt)
+        escaped (Some found) p q e =
+            let z : (suc at) + 1 ≡ suc (suc at) = omega arith in
+            let t = words_text 1 (suc at) bs p q (first-leads IsWord is_backtick bs backtick_word e) in
+            (subst IsPlace z t.0, subst (HaveContent (suc at)) z t.1)
+        escaped None p q e = words_text (backticks bs) (suc at) bs p q (prefix-leads is_backtick IsWord backtick_word bs)
 
     markup_sits : (found : Option (List ℕ)) (other : Token) → Sits other → Sits (markup_or reader leaf at found other)
     markup_sits None other h = h
     markup_sits (Some rest) other h = (read-on-place (at + (length (source_from reader leaf at) - length rest)), tt)
 
     tag_sits : IsWord b → (found : Option (List ℕ)) → LeavesBelow (length (from reader leaf at)) found → Sits (tag_or_text reader leaf at found)
-    tag_sits w None h = (word_next w, tt)
-    tag_sits w (Some rest) h = (let e = ap length here in rest_there rest (omega arith), kind (takes_lines (take (size_to reader leaf at rest) (from reader leaf at))))
+    tag_sits w None h = word_next w
+    tag_sits w (Some rest) h = (let e = ap length here in rest_there rest (omega arith), kind (takes_lines (take (size_to reader leaf at rest) (from reader leaf at))) refl)
       where
-        kind : (x : Bool) → Uncut (if x then OwnedHtml (take (size_to reader leaf at rest) (from reader leaf at)) else Html) at (place_of reader leaf rest)
-        kind true = tt
-        kind false = tt
+        kind : (x : Bool) → takes_lines (take (size_to reader leaf at rest) (from reader leaf at)) ≡ x → Uncut (if x then OwnedHtml (take (size_to reader leaf at rest) (from reader leaf at)) else Html) at (place_of reader leaf rest)
+        kind true e = e
+        kind false e = tt
 
     autolink_sits : (found : Option Found) (other : Token) → FoundBelow (suc (length bs)) found → Sits other → Sits (autolink_or reader leaf at found other)
     autolink_sits None other h k = k
@@ -181,7 +230,7 @@ module _ (reader : Reader) (leaf : Leaf) (size : ℕ) (turn : InTurn 0 leaf.stre
     less_than_sits w =
         let tag = tag_or_text reader leaf at (behind_tag no_prefix (from reader leaf at)) in
         let others = markup_or reader leaf at (behind_markup (source_from reader leaf at)) tag in
-        when (first_is (λ c. c == 92) bs) (item_at Plain at (suc at)) (autolink_or reader leaf at (autolink_in bs) others) (λ e. (word_next w, tt))
+        when (first_is (λ c. c == 92) bs) (item_at Plain at (suc at)) (autolink_or reader leaf at (autolink_in bs) others) (λ e. word_next w)
         (λ e. autolink_sits (autolink_in bs) others (autolink-within bs)
         (markup_sits (behind_markup (source_from reader leaf at)) tag (tag_sits w (behind_tag no_prefix (from reader leaf at)) (tag-shorter no_prefix (from reader leaf at)))))
 
@@ -194,14 +243,15 @@ module _ (reader : Reader) (leaf : Leaf) (size : ℕ) (turn : InTurn 0 leaf.stre
         let beside = flanking reader.options b n (character_before reader leaf at) (character_at reader leaf (at + n)) in
         let k = prefix-leads (λ c. c == b) (λ c. (is_content c ≡ true) × ((c == b) ≡ true)) (λ c e. same_byte c w e) (b ∷ bs) in
         let walked = walk (λ c. (c == b) ≡ true) n at (b ∷ bs) there here k.fits k.front in
+        let text : HaveContent at (at + n) = λ i x y. subst (λ c. is_content c ≡ true) (sym (eqb-true (get_or reader.source i 0) b (walked.bytes i x y))) w.content in
         when (beside.opens || beside.closes) (item_at (Delimiters (record { mark = b; size = n; at = 0; left = n; opens = beside.opens; closes = beside.closes })) at (at + n)) (item_at Plain at (at + n))
         (λ e. (walked.place, (λ k x y. subst (λ c. (c == 124) ≡ false) (sym (eqb-true (get_or reader.source k 0) b (walked.bytes k x y))) other)))
-        (λ e. (walked.place, tt))
+        (λ e. (walked.place, text))
 
     formula_sits : IsWord b → (kind : List ℕ → ItemKind) (found : Option Found) → ((text : List ℕ) (start end : ℕ) → Uncut (kind text) start end) → FoundBelow (suc (length bs)) found
         → Sits (formula_or reader leaf kind at found)
     formula_sits w kind (Some found) u h = (rest_there found.behind (omega arith), u _ at (place_of reader leaf found.behind))
-    formula_sits w kind None u h = (word_next w, tt)
+    formula_sits w kind None u h = word_next w
 
     more_found : (n m : ℕ) (found : Option Found) → n ≤ m → FoundBelow n found → FoundBelow m found
     more_found n m None h k = tt
@@ -217,18 +267,17 @@ module _ (reader : Reader) (leaf : Leaf) (size : ℕ) (turn : InTurn 0 leaf.stre
     dots_sits : IsWord b → Sits (dots reader leaf at)
     dots_sits w =
         when (starts (codes "...") (from reader leaf at)) (item_at (Written (226 ∷ 128 ∷ 166 ∷ [])) at (at + 3)) (item_at Plain at (suc at))
-        (λ f. (
-          words 3 at (from reader leaf at) there refl
-              (starts-leads IsWord (codes "...") (from reader leaf at) (record { content = refl; ascii = omega arith }, (record { content = refl; ascii = omega arith }, (record { content = refl; ascii = omega arith }, tt))) f),
-          tt,
-        ))
-        (λ f. (word_next w, tt))
+        (λ f. (let dot : IsWord 46 × ((46 == 124) ≡ false) = (record { content = refl; ascii = omega arith }, refl) in
+        let t = words_are (λ c. (c == 124) ≡ false) 3 at (from reader leaf at) there refl (starts-leads (λ c. IsWord c × ((c == 124) ≡ false)) (codes "...") (from reader leaf at) (dot, (dot, (dot, tt))) f) in (t.0, t.1)))
+        (λ f. word_next w)
 
     hyphens_sits : Sits (hyphens reader leaf at (prefix_len (λ c. c == 45) (from reader leaf at)))
     hyphens_sits =
         let n = prefix_len (λ c. c == 45) (from reader leaf at) in
-        let k = words n at (from reader leaf at) there refl (prefix-leads (λ c. c == 45) IsWord (λ c e. word-is c 45 refl (omega arith) e) (from reader leaf at)) in
-        when (nat_lt n 2) (item_at Plain at (at + n)) (item_at (Written (dash_text (dashes_of n))) at (at + n)) (λ e. (k, tt)) (λ e. (k, tt))
+        let t = words_text n at (from reader leaf at) there refl (prefix-leads (λ c. c == 45) IsWord (λ c e. word-is c 45 refl (omega arith) e) (from reader leaf at)) in
+        let p = words_are (λ c. (c == 124) ≡ false) n at (from reader leaf at) there refl
+        (prefix-leads (λ c. c == 45) (λ c. IsWord c × ((c == 124) ≡ false)) (λ c e. (word-is c 45 refl (omega arith) e, subst (λ x. (x == 124) ≡ false) (sym (eqb-true c 45 e)) refl)) (from reader leaf at)) in
+        when (nat_lt n 2) (item_at Plain at (at + n)) (item_at (Written (dash_text (dashes_of n))) at (at + n)) (λ e. t) (λ e. p)
 
     smart_sits : is_content b ≡ true → Sits (smart_or reader leaf at b)
     smart_sits c =
@@ -236,7 +285,7 @@ module _ (reader : Reader) (leaf : Leaf) (size : ℕ) (turn : InTurn 0 leaf.stre
         when (b == 46) (dots reader leaf at) (if b == 45 then hyphens reader leaf at n else if (b == 34) || (b == 39) then quote_at reader leaf at b else item_at Plain at (suc at))
         (λ e. dots_sits (word-is b 46 refl (omega arith) e))
         (λ e. when (b == 45) (hyphens reader leaf at n) (if (b == 34) || (b == 39) then quote_at reader leaf at b else item_at Plain at (suc at)) (λ f. hyphens_sits)
-        (λ f. when ((b == 34) || (b == 39)) (quote_at reader leaf at b) (item_at Plain at (suc at)) (λ g. (content_next c, tt)) (λ g. (content_next c, tt))))
+        (λ f. when ((b == 34) || (b == 39)) (quote_at reader leaf at b) (item_at Plain at (suc at)) (λ g. (content_next c, refl)) (λ g. text_next c)))
 
     -- a blank ends no line, and a line ending is a break
     no_break : (is_blank_byte b || not (is_content b)) ≡ true → blank_break_in (b ∷ bs) ≡ None → is_content b ≡ true
@@ -289,21 +338,21 @@ module _ (reader : Reader) (leaf : Leaf) (size : ℕ) (turn : InTurn 0 leaf.stre
         let c2 = if b == 96 then code_or reader leaf at (backticks (b ∷ bs)) (code_in (b ∷ bs)) else c3 in
         let c1 = if b == 38 then entity_or reader leaf at (entity_in reader.lookup bs) else c2 in
         let c0 = if b == 92 then break_or reader leaf at (backslash_break_in (b ∷ bs)) (escape_at reader leaf at bs) else c1 in
-        when (is_blank_byte b || not (is_content b)) (break_or reader leaf at (blank_break_in (b ∷ bs)) plain) c0 (λ e. break_sits (blank_break_in (b ∷ bs)) plain (λ n. (content_next (no_break e n), tt)))
+        when (is_blank_byte b || not (is_content b)) (break_or reader leaf at (blank_break_in (b ∷ bs)) plain) c0 (λ e. break_sits (blank_break_in (b ∷ bs)) plain (λ n. text_next (no_break e n)))
         (λ e0. (let c = both_false (is_blank_byte b) (is_content b) e0 in
         when (b == 92) (break_or reader leaf at (backslash_break_in (b ∷ bs)) (escape_at reader leaf at bs)) c1 (λ e. break_sits (backslash_break_in (b ∷ bs)) (escape_at reader leaf at bs) (λ n. escape_sits (word-is b 92 refl (omega arith) e)))
-        (λ e1. when (b == 38) (entity_or reader leaf at (entity_in reader.lookup bs)) c2 (λ e. entity_sits (word-is b 38 refl (omega arith) e) (entity_in reader.lookup bs) (entity-leads reader.lookup bs))
+        (λ e1. when (b == 38) (entity_or reader leaf at (entity_in reader.lookup bs)) c2 (λ e. entity_sits (name-is b 38 refl (omega arith) e) (entity_in reader.lookup bs) (entity-names reader.lookup bs))
         (λ e2. when (b == 96) (code_or reader leaf at (backticks (b ∷ bs)) (code_in (b ∷ bs))) c3 (λ e. code_sits (code_in (b ∷ bs)) (code-shorter (b ∷ bs)) (prefix-leads is_backtick IsWord backtick_word (b ∷ bs)))
         (λ e3. when (b == 60) (less_than reader leaf at bs) c4 (λ e. less_than_sits (word-is b 60 refl (omega arith) e))
         (λ e4. when (b == 33) bang c5
         (λ e. when (first_is (λ c. c == 91) bs) (Opens (bracket true at (at + 2))) plain
-        (λ g. words 2 at (b ∷ bs) there here (leads-cons IsWord b 1 bs (word-is b 33 refl (omega arith) e) (first-leads IsWord (λ c. c == 91) bs (λ c x. word-is c 91 refl (omega arith) x) g))) (λ g. (content_next c, tt)))
-        (λ e5. when (b == 91) (Opens (bracket false at (suc at))) c6 (λ e. content_next c)
-        (λ e6. when (b == 93) (Closes (bracket false at (suc at))) c7 (λ e. content_next c)
+        (λ g. words_text 2 at (b ∷ bs) there here (leads-cons IsWord b 1 bs (word-is b 33 refl (omega arith) e) (first-leads IsWord (λ c. c == 91) bs (λ c x. word-is c 91 refl (omega arith) x) g))) (λ g. text_next c))
+        (λ e5. when (b == 91) (Opens (bracket false at (suc at))) c6 (λ e. text_next c)
+        (λ e6. when (b == 93) (Closes (bracket false at (suc at))) c7 (λ e. text_next c)
         (λ e7. when ((b == 42) || ((b == 95) || ((b == 126) || (b == 94)))) (run_at reader leaf at b (prefix_len (λ c. c == b) (b ∷ bs))) c8 (λ e. (let m = mark_word e in run_sits m.0 m.1))
         (λ e8. when (reader.options.math && is_dollar b) (dollar reader leaf at bs (braces_behind false (before reader leaf at) no_braces)) c9
         (λ e. dollar_sits (word-is b 36 refl (omega arith) (and-right reader.options.math (is_dollar b) e)) (braces_behind false (before reader leaf at) no_braces))
-        (λ e9. when reader.options.smart_punctuation (smart_or reader leaf at b) plain (λ e. smart_sits c) (λ e. (content_next c, tt)))))))))))))
+        (λ e9. when reader.options.smart_punctuation (smart_or reader leaf at b) plain (λ e. smart_sits c) (λ e. text_next c))))))))))))
 
   begins_at_sits : (at : ℕ) → IsPlace at → Sits (begins_at reader leaf at)
   begins_at_sits at h = go (from reader leaf at) refl
@@ -326,13 +375,50 @@ module _ (reader : Reader) (leaf : Leaf) (size : ℕ) (turn : InTurn 0 leaf.stre
   plain_place zero stop h = h
   plain_place (suc n) stop h = goes_place (begins_at reader leaf stop) stop (plain_end reader leaf n) h (begins_at_sits stop h) (λ x k. plain_place n x k)
 
-  longest_sits : (t : Token) → Sits t → Sits (longest reader leaf t)
-  longest_sits (Stands item past) h =
-      when (is_plain item.kind) (item_at Plain item.start (plain_end reader leaf (length (from reader leaf past)) past)) (Stands item past) (λ e. (plain_place (length (from reader leaf past)) past h.0, tt)) (λ e. h)
-  longest_sits (Opens opener) h = h
-  longest_sits (Closes closer) h = h
-  longest_sits Ends h = tt
+  -- texts without a gap are one text
+  plain_is : (kind : ItemKind) (start end : ℕ) → is_plain kind ≡ true → Uncut kind start end → HaveContent start end
+  plain_is Plain start end e h = h
+  plain_is kind start end e h = absurd (true≢false (sym e))
+
+  both_content : (start mid end : ℕ) → HaveContent start mid → HaveContent mid end → HaveContent start end
+  both_content start mid end h k = λ i x y. go i x y (nat_lt i mid) refl
+    where
+      go : (i : ℕ) → start ≤ i → i < end → (z : Bool) → nat_lt i mid ≡ z → is_content (get_or reader.source i 0) ≡ true
+      go i x y true e = h i x (grind (arith))
+      go i x y false e = k i (grind (arith)) y
+
+  ends_there : (at past : ℕ) (item : Item) → begins_at reader leaf at ≡ Stands item past → is_plain item.kind ≡ true → item.end ≡ past
+  ends_there at past item e f = (subst (Shaped reader leaf) e (begins-shaped reader leaf at (from reader leaf at))) f
+
+  plain_content : (n start stop : ℕ) → HaveContent start stop → IsPlace stop → HaveContent start (plain_end reader leaf n stop)
+  plain_content zero start stop h w = h
+  plain_content (suc n) start stop h w = go (begins_at reader leaf stop) refl (begins_at_sits stop w) (λ past q p. plain_content n start past q p)
+    where
+      go : (t : Token) → begins_at reader leaf stop ≡ t → Sits t → ((past : ℕ) → HaveContent start past → IsPlace past → HaveContent start (plain_end reader leaf n past)) → HaveContent start (goes_on reader leaf t stop (plain_end reader leaf n))
+      go (Stands item past) e k more = by (is_plain item.kind) (item.start == stop) refl refl
+        where
+          by : (x y : Bool) → is_plain item.kind ≡ x → (item.start == stop) ≡ y → HaveContent start (if x && y then plain_end reader leaf n past else stop)
+          by true true f g =
+              more past
+              (both_content start stop past h (subst (HaveContent stop) (ends_there stop past item e f) (subst (λ s. HaveContent s item.end) (eqb-true item.start stop g) (plain_is item.kind item.start item.end f k.1))))
+              k.0
+          by true false f g = h
+          by false y f g = h
+      go (Opens opener) e k more = h
+      go (Closes closer) e k more = h
+      go Ends e k more = h
+
+  longest_sits : (at : ℕ) (t : Token) → begins_at reader leaf at ≡ t → Sits t → Sits (longest reader leaf t)
+  longest_sits at (Stands item past) is h =
+      when (is_plain item.kind) (item_at Plain item.start (plain_end reader leaf (length (from reader leaf past)) past)) (Stands item past)
+      (λ e. (
+        plain_place (length (from reader leaf past)) past h.0,
+        plain_content (length (from reader leaf past)) item.start past (subst (HaveContent item.start) (ends_there at past item is e) (plain_is item.kind item.start item.end e h.1)) h.0,
+      )) (λ e. h)
+  longest_sits at (Opens opener) is h = h
+  longest_sits at (Closes closer) is h = h
+  longest_sits at Ends is h = tt
 
   pub token-sits : (at : ℕ) → IsPlace at → Sits (token reader leaf at)
   unfolding token
-  token-sits at h = longest_sits (begins_at reader leaf at) (begins_at_sits at h)
+  token-sits at h = longest_sits at (begins_at reader leaf at) refl (begins_at_sits at h)

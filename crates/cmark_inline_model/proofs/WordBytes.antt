@@ -19,6 +19,11 @@ pub record IsWord (b : ℕ) : Type 0 where
   pub content : is_content b ≡ true
   pub ascii : b < 128
 
+-- and stands before the braces and the pipe
+pub record IsName (b : ℕ) : Type 0 where
+  pub word : IsWord b
+  pub low : b < 123
+
 le : (a b : ℕ) → nat_le a b ≡ true → a ≤ b
 le a b e = grind (arith)
 
@@ -45,33 +50,39 @@ word_between b h k = record { content = go (b == 10) (b == 13) refl refl; ascii 
     go false true e f = absurd (let p = eqb-true b 13 f in omega arith)
     go false false e f = refl
 
-number_word : (b : ℕ) → is_number b ≡ true → IsWord b
-number_word b e = let x = le 48 b (and-left (nat_le 48 b) (nat_le b 57) e) in let y = le b 57 (and-right (nat_le 48 b) (nat_le b 57) e) in word_between b (omega arith) (omega arith)
+name_between : (b : ℕ) → 14 ≤ b → b < 123 → IsName b
+name_between b h k = record { word = word_between b h (omega arith); low = k }
+
+pub name-is : (b c : ℕ) → is_content c ≡ true → c < 123 → (b == c) ≡ true → IsName b
+name-is b c h k e = subst IsName (sym (eqb-true b c e)) (record { word = record { content = h; ascii = omega arith }; low = k })
+
+number_name : (b : ℕ) → is_number b ≡ true → IsName b
+number_name b e = let x = le 48 b (and-left (nat_le 48 b) (nat_le b 57) e) in let y = le b 57 (and-right (nat_le 48 b) (nat_le b 57) e) in name_between b (omega arith) (omega arith)
 
 -- by its lower case
-lower_word : (b low high : ℕ) → 97 ≤ low → high ≤ 122 → (nat_le low (lower b) && nat_le (lower b) high) ≡ true → IsWord b
-lower_word b low high h k e = go (nat_le 65 b && nat_le b 90) refl (le low (lower b) (and-left (nat_le low (lower b)) (nat_le (lower b) high) e)) (le (lower b) high (and-right (nat_le low (lower b)) (nat_le (lower b) high) e))
+lower_name : (b low high : ℕ) → 97 ≤ low → high ≤ 122 → (nat_le low (lower b) && nat_le (lower b) high) ≡ true → IsName b
+lower_name b low high h k e = go (nat_le 65 b && nat_le b 90) refl (le low (lower b) (and-left (nat_le low (lower b)) (nat_le (lower b) high) e)) (le (lower b) high (and-right (nat_le low (lower b)) (nat_le (lower b) high) e))
   where
-    go : (x : Bool) → (nat_le 65 b && nat_le b 90) ≡ x → low ≤ (if x then b + 32 else b) → (if x then b + 32 else b) ≤ high → IsWord b
-    go true f i j = word_between b (omega arith) (omega arith)
-    go false f i j = word_between b (omega arith) (omega arith)
+    go : (x : Bool) → (nat_le 65 b && nat_le b 90) ≡ x → low ≤ (if x then b + 32 else b) → (if x then b + 32 else b) ≤ high → IsName b
+    go true f i j = name_between b (omega arith) (omega arith)
+    go false f i j = name_between b (omega arith) (omega arith)
 
-letter_word : (b : ℕ) → is_letter b ≡ true → IsWord b
-letter_word b e = lower_word b 97 122 (omega arith) (omega arith) e
+letter_name : (b : ℕ) → is_letter b ≡ true → IsName b
+letter_name b e = lower_name b 97 122 (omega arith) (omega arith) e
 
-hexadecimal_word : (b : ℕ) → is_hexadecimal b ≡ true → IsWord b
-hexadecimal_word b e = go (or-either (is_number b) (nat_le 97 (lower b) && nat_le (lower b) 102) e)
+hexadecimal_name : (b : ℕ) → is_hexadecimal b ≡ true → IsName b
+hexadecimal_name b e = go (or-either (is_number b) (nat_le 97 (lower b) && nat_le (lower b) 102) e)
   where
-    go : (is_number b ≡ true) ⊎ ((nat_le 97 (lower b) && nat_le (lower b) 102) ≡ true) → IsWord b
-    go (inl f) = number_word b f
-    go (inr f) = lower_word b 97 102 (omega arith) (omega arith) f
+    go : (is_number b ≡ true) ⊎ ((nat_le 97 (lower b) && nat_le (lower b) 102) ≡ true) → IsName b
+    go (inl f) = number_name b f
+    go (inr f) = lower_name b 97 102 (omega arith) (omega arith) f
 
-alphanumeric_word : (b : ℕ) → is_alphanumeric b ≡ true → IsWord b
-alphanumeric_word b e = go (or-either (is_letter b) (is_number b) e)
+alphanumeric_name : (b : ℕ) → is_alphanumeric b ≡ true → IsName b
+alphanumeric_name b e = go (or-either (is_letter b) (is_number b) e)
   where
-    go : (is_letter b ≡ true) ⊎ (is_number b ≡ true) → IsWord b
-    go (inl f) = letter_word b f
-    go (inr f) = number_word b f
+    go : (is_letter b ≡ true) ⊎ (is_number b ≡ true) → IsName b
+    go (inl f) = letter_name b f
+    go (inr f) = number_name b f
 
 range_word : (b low high : ℕ) → 14 ≤ low → high < 128 → (nat_le low b && nat_le b high) ≡ true → IsWord b
 range_word b low high h k e =
@@ -154,48 +165,60 @@ while-leads Q p f l = record { front = prefix-front p Q f l; fits = fits l }
         by false i = omega arith
 
 -- the bytes of an entity behind its `&`
-abbrev pub EntityLeads : List ℕ → Option Entity → Type 0
-EntityLeads l None = Unit {0}
-EntityLeads l (Some entity) = (size : ℕ) × (entity.size ≡ suc size) × Leads IsWord size l
+abbrev pub EntityNames : List ℕ → Option Entity → Type 0
+EntityNames l None = Unit {0}
+EntityNames l (Some entity) = (size : ℕ) × (entity.size ≡ suc size) × Leads IsName size l
 
-closed_leads : (p : ℕ → Bool) → ((b : ℕ) → p b ≡ true → IsWord b) → (l : List ℕ) → first_is (λ b. b == 59) (drop (length (take_while p l)) l) ≡ true → Leads IsWord (length (take_while p l) + 1) l
+closed_leads : (p : ℕ → Bool) → ((b : ℕ) → p b ≡ true → IsName b) → (l : List ℕ) → first_is (λ b. b == 59) (drop (length (take_while p l)) l) ≡ true → Leads IsName (length (take_while p l) + 1) l
 closed_leads p f l e =
-    leads_both IsWord (length (take_while p l)) 1 l (while-leads IsWord p f l)
-    (first-leads IsWord (λ b. b == 59) (drop (length (take_while p l)) l) (λ b x. word-is b 59 refl (omega arith) x) e)
+    leads_both IsName (length (take_while p l)) 1 l (while-leads IsName p f l)
+    (first-leads IsName (λ b. b == 59) (drop (length (take_while p l)) l) (λ b x. name-is b 59 refl (omega arith) x) e)
 
 when : {A : Type 0} (P : A → Type 0) (b : Bool) (x y : A) → (b ≡ true → P x) → (b ≡ false → P y) → P (if b then x else y)
 when P true x y h k = h refl
 when P false x y h k = k refl
 
-numeric_leads : (base most size : ℕ) (p : ℕ → Bool) → ((b : ℕ) → p b ≡ true → IsWord b) → (head l : List ℕ)
-    → ((n : ℕ) → Leads IsWord n l → (m : ℕ) × (n + (size - 1) ≡ suc m) × Leads IsWord m head) → 2 ≤ size
-    → EntityLeads head (numeric base most size (take_while p l) (drop (length (take_while p l)) l))
+numeric_leads : (base most size : ℕ) (p : ℕ → Bool) → ((b : ℕ) → p b ≡ true → IsName b) → (head l : List ℕ)
+    → ((n : ℕ) → Leads IsName n l → (m : ℕ) × (n + (size - 1) ≡ suc m) × Leads IsName m head) → 2 ≤ size
+    → EntityNames head (numeric base most size (take_while p l) (drop (length (take_while p l)) l))
 numeric_leads base most size p f head l put w =
     let n = length (take_while p l) in
-    when (EntityLeads head) (nat_lt 0 n && (nat_le n most && first_is (λ b. b == 59) (drop n l))) (Some (record { bytes = character (value_of base (take_while p l)); size = n + size })) None
+    when (EntityNames head) (nat_lt 0 n && (nat_le n most && first_is (λ b. b == 59) (drop n l))) (Some (record { bytes = character (value_of base (take_while p l)); size = n + size })) None
     (λ e. (let k = put (n + 1) (closed_leads p f l (and-right (nat_le n most) (first_is (λ b. b == 59) (drop n l)) (and-right (nat_lt 0 n) (nat_le n most && first_is (λ b. b == 59) (drop n l)) e))) in
     let s = k.1 in (k.0, omega arith, k.2))) (λ e. tt)
 
-pub entity-leads : (lookup : Lookup) (l : List ℕ) → EntityLeads l (entity_in lookup l)
-entity-leads lookup l =
-    when (EntityLeads l) (first_is (λ b. b == 35) l) (numeric_in (drop 1 l)) (named lookup (take_while is_alphanumeric l) (drop (length (take_while is_alphanumeric l)) l))
-    (λ e. (let hash = first-leads IsWord (λ b. b == 35) l (λ b x. word-is b 35 refl (omega arith) x) e in
-    when (EntityLeads l) (first_is (λ b. (b == 120) || (b == 88)) (drop 1 l)) (hexadecimal_in (drop 1 (drop 1 l))) (decimal_in (drop 1 l))
-    (λ x. numeric_leads 16 6 4 is_hexadecimal hexadecimal_word l (drop 1 (drop 1 l))
-    (λ n k. (1 + (1 + n), omega arith, leads_both IsWord 1 (1 + n) l hash (leads_both IsWord 1 n (drop 1 l) (first-leads IsWord (λ b. (b == 120) || (b == 88)) (drop 1 l) ex x) k))) (omega arith))
-    (λ x. numeric_leads 10 7 3 is_number number_word l (drop 1 l) (λ n k. (1 + n, omega arith, leads_both IsWord 1 n l hash k)) (omega arith))))
-    (λ e. when (EntityLeads l) (not (is_empty (take_while is_alphanumeric l)) && first_is (λ b. b == 59) (drop (length (take_while is_alphanumeric l)) l))
+pub entity-names : (lookup : Lookup) (l : List ℕ) → EntityNames l (entity_in lookup l)
+entity-names lookup l =
+    when (EntityNames l) (first_is (λ b. b == 35) l) (numeric_in (drop 1 l)) (named lookup (take_while is_alphanumeric l) (drop (length (take_while is_alphanumeric l)) l))
+    (λ e. (let hash = first-leads IsName (λ b. b == 35) l (λ b x. name-is b 35 refl (omega arith) x) e in
+    when (EntityNames l) (first_is (λ b. (b == 120) || (b == 88)) (drop 1 l)) (hexadecimal_in (drop 1 (drop 1 l))) (decimal_in (drop 1 l))
+    (λ x. numeric_leads 16 6 4 is_hexadecimal hexadecimal_name l (drop 1 (drop 1 l))
+    (λ n k. (1 + (1 + n), omega arith, leads_both IsName 1 (1 + n) l hash (leads_both IsName 1 n (drop 1 l) (first-leads IsName (λ b. (b == 120) || (b == 88)) (drop 1 l) ex x) k))) (omega arith))
+    (λ x. numeric_leads 10 7 3 is_number number_name l (drop 1 l) (λ n k. (1 + n, omega arith, leads_both IsName 1 n l hash k)) (omega arith))))
+    (λ e. when (EntityNames l) (not (is_empty (take_while is_alphanumeric l)) && first_is (λ b. b == 59) (drop (length (take_while is_alphanumeric l)) l))
     (entity_if (lookup (take_while is_alphanumeric l)) (length (take_while is_alphanumeric l) + 2)) None
     (λ x. if_some (lookup (take_while is_alphanumeric l))
-    (closed_leads is_alphanumeric alphanumeric_word l (and-right (not (is_empty (take_while is_alphanumeric l))) (first_is (λ b. b == 59) (drop (length (take_while is_alphanumeric l)) l)) x))) (λ x. tt))
+    (closed_leads is_alphanumeric alphanumeric_name l (and-right (not (is_empty (take_while is_alphanumeric l))) (first_is (λ b. b == 59) (drop (length (take_while is_alphanumeric l)) l)) x))) (λ x. tt))
   where
-    ex : (b : ℕ) → ((b == 120) || (b == 88)) ≡ true → IsWord b
+    ex : (b : ℕ) → ((b == 120) || (b == 88)) ≡ true → IsName b
     ex b e = go (or-either (b == 120) (b == 88) e)
       where
-        go : ((b == 120) ≡ true) ⊎ ((b == 88) ≡ true) → IsWord b
-        go (inl x) = word-is b 120 refl (omega arith) x
-        go (inr x) = word-is b 88 refl (omega arith) x
+        go : ((b == 120) ≡ true) ⊎ ((b == 88) ≡ true) → IsName b
+        go (inl x) = name-is b 120 refl (omega arith) x
+        go (inr x) = name-is b 88 refl (omega arith) x
 
-    if_some : (o : Option (List ℕ)) → Leads IsWord (length (take_while is_alphanumeric l) + 1) l → EntityLeads l (entity_if o (length (take_while is_alphanumeric l) + 2))
+    if_some : (o : Option (List ℕ)) → Leads IsName (length (take_while is_alphanumeric l) + 1) l → EntityNames l (entity_if o (length (take_while is_alphanumeric l) + 2))
     if_some None k = tt
     if_some (Some bytes) k = (length (take_while is_alphanumeric l) + 1, omega arith, k)
+
+-- which are words
+abbrev pub EntityLeads : List ℕ → Option Entity → Type 0
+EntityLeads l None = Unit {0}
+EntityLeads l (Some entity) = (size : ℕ) × (entity.size ≡ suc size) × Leads IsWord size l
+
+pub entity-leads : (lookup : Lookup) (l : List ℕ) → EntityLeads l (entity_in lookup l)
+entity-leads lookup l = go (entity_in lookup l) (entity-names lookup l)
+  where
+    go : (found : Option Entity) → EntityNames l found → EntityLeads l found
+    go None h = tt
+    go (Some entity) h = (h.0, h.1, record { front = front-map IsName IsWord (λ b n. n.word) h.0 l h.2.front; fits = h.2.fits })

@@ -2,14 +2,13 @@
 use Rattle.std.specs.Prelude.{◌≡◌, ℕ, suc, ◌+◌, Bool, true, ◌==◌, nat_le, if◌then◌else◌, max, ◌≤◌, ◌<◌, ◌⊎◌, List, [], ◌∷◌, ◌++◌, length, drop, take, get_or}
 use Rattle.cmark_grammar.specs.BracketDecisions.{linked}
 use Rattle.cmark_grammar.specs.Emphasis.{Run, Pair}
-use Rattle.cmark_grammar.specs.InlineTokens.{from, place_of, token}
-use Rattle.cmark_grammar.specs.Items.{ItemKind, Own, FootnoteReference, Item, Bracket, Stands, Opens, Closes}
-use Rattle.cmark_grammar.specs.LeafText.{Leaf}
+use Rattle.cmark_grammar.specs.InlineHtml.{takes_lines}
+use Rattle.cmark_grammar.specs.Items.{ItemKind, Plain, Own, Written, Quoted, Delimiters, Autolink, OwnedHtml, Item}
+use Rattle.cmark_grammar.specs.Lines.{is_content}
 use Rattle.cmark_grammar.specs.LinkType as link_type
 use Rattle.cmark_grammar.specs.Options.{Options}
 use Rattle.cmark_grammar.specs.Parts.{Target}
 use Rattle.cmark_grammar.specs.Quotes.{Quote, quote_characters}
-use Rattle.cmark_grammar.specs.Readers.{Reader}
 use Rattle.cmark_grammar.specs.Siblings.{item}
 use Rattle.cmark_inline_model.specs.LikeSlots.{AreLike}
 use Rattle.cmark_inline_model.specs.RowParts.{bytes_in}
@@ -62,30 +61,41 @@ pub record LeavesQuotes (first left at : ℕ) (quotes : List ℕ) : Type 0 where
 
 -- ## The slot that is cut
 
--- an item is what begins at a place of the leaf, or the text of a bracket that does
-pub record ReadsItem (reader : Reader) (leaf : Leaf) (x : Item) : Type 0 where
-  pub at : ℕ
-  pub is_place : place_of reader leaf (from reader leaf at) ≡ at
-  pub begins :
-      ((past : ℕ) × (token reader leaf at ≡ Stands x past))
-      ⊎ ((b : Bracket) × ((token reader leaf at ≡ Opens b) ⊎ (token reader leaf at ≡ Closes b)) × (x ≡ item Own b.start b.end))
+-- what an item is that has a pipe among its bytes, but not as the last one: no delimiter run, no quote, and no text that is written otherwise
+abbrev pub CutKind : ItemKind → Type 0
+CutKind (Written text) = ⊥
+CutKind (Quoted quote) = ⊥
+CutKind (Delimiters run) = ⊥
+CutKind (Autolink uri) = ⊥
+CutKind _ = Unit {0}
 
-abbrev pub IsReference : ItemKind → Type 0
-IsReference (FootnoteReference label) = Unit {0}
-IsReference _ = ⊥
+abbrev pub IsText : ItemKind → Type 0
+IsText Plain = Unit {0}
+IsText Own = Unit {0}
+IsText _ = ⊥
 
--- the first slot that ends behind the place is that of an item that was read, or of a footnote reference, or an element begins in it; or it begins
--- at the place or behind it
-abbrev pub CanBeCut : Reader → Leaf → (place : ℕ) → Slot → Type 0
-CanBeCut reader leaf place (ItemSlot x) = (place ≤ x.start) ⊎ (ReadsItem reader leaf x ⊎ IsReference x.kind)
-CanBeCut reader leaf place (BeginSlot tag start end) = Unit {0}
-CanBeCut reader leaf place EndSlot = ⊥
-CanBeCut reader leaf place NothingSlot = ⊥
+-- a tag has a text of its own only over lines
+abbrev pub OwnedFacts : ItemKind → Type 0
+OwnedFacts (OwnedHtml text) = takes_lines text ≡ true
+OwnedFacts _ = Unit {0}
+
+-- and a text stands on one line
+pub record CutFacts (source : List ℕ) (x : Item) : Type 0 where
+  pub kind : CutKind x.kind
+  pub text : IsText x.kind → (k : ℕ) → x.start ≤ k → k < x.end → is_content (get_or source k 0) ≡ true
+  pub owned : OwnedFacts x.kind
+
+-- the first slot that ends behind the place is that of such an item, or an element begins in it; or it begins at the place or behind it
+abbrev pub CanBeCut : (source : List ℕ) → (place : ℕ) → Slot → Type 0
+CanBeCut source place (ItemSlot x) = (place ≤ x.start) ⊎ CutFacts source x
+CanBeCut source place (BeginSlot tag start end) = Unit {0}
+CanBeCut source place EndSlot = ⊥
+CanBeCut source place NothingSlot = ⊥
 
 -- so it is in a row from a slot on, if there is such a slot
-abbrev pub IsCutThere : Reader → Leaf → (from place : ℕ) → List Slot → Type 0
-IsCutThere reader leaf from place row =
-    hidden_by place (drop from row) < length (drop from row) → CanBeCut reader leaf place (get_or (drop from row) (hidden_by place (drop from row)) NothingSlot)
+abbrev pub IsCutThere : (source : List ℕ) → (from place : ℕ) → List Slot → Type 0
+IsCutThere source from place row =
+    hidden_by place (drop from row) < length (drop from row) → CanBeCut source place (get_or (drop from row) (hidden_by place (drop from row)) NothingSlot)
 
 -- slots that are like a row became slots that are like what is left of it, and the first that is shown stands at this place
 pub record ShowsLike (source : List ℕ) (from place close at : ℕ) (row now : List Slot) : Type 0 where
