@@ -19,6 +19,7 @@ pub mod Merging
 pub mod RunPlaces
 pub mod Runs
 pub mod ShortSteps
+pub mod ShortFirst
 pub mod StillToCome
 pub mod Steps
 pub mod Bytes

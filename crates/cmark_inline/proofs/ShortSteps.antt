@@ -19,7 +19,7 @@ use Rattle.cmark_inline.specs.declared.slot.Slot.{Slot}
 use Rattle.cmark_inline.proofs.Lending.{there}
 
 -- the elements that are open stay so
-short-opens : (s : Short) (opened : List Opened) (start end : ℕ) → IsInline (shown_short s) → Opens opened (shown_short s) start end opened
+pub short-opens : (s : Short) (opened : List Opened) (start end : ℕ) → IsInline (shown_short s) → Opens opened (shown_short s) start end opened
 short-opens (short.Text text) opened start end inline = (tt, refl)
 short-opens (short.Code text) opened start end inline = (tt, refl)
 short-opens (short.InlineHtml text) opened start end inline = (tt, refl)
@@ -30,7 +30,7 @@ short-opens (short.End tag) opened start end inline = absurd inline
 short-opens (short.Html text) opened start end inline = absurd inline
 short-opens short.Rule opened start end inline = absurd inline
 
-part-range : (source : List ℕ) (start end : ℕ) → IsPart source start end → IsRange source start end
+pub part-range : (source : List ℕ) (start end : ℕ) → IsPart source start end → IsRange source start end
 part-range source start end part = record { ordered = let h = part.some in omega (arith, h); within = part.within; starts = part.starts; ends = part.ends }
 
 -- the event over these bytes of a leaf's text

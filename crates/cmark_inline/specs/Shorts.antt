@@ -1,5 +1,5 @@
 -- What is handed on of a leaf without an event being made.
-use Rattle.std.specs.Prelude.{◌≡◌, ◌+◌, ◌-◌, ◌<◌, ℕ, List, [], Some}
+use Rattle.std.specs.Prelude.{◌≡◌, ◌+◌, ◌-◌, ◌<◌, ℕ, List, [], ◌∷◌, Some}
 use Rattle.cmark_grammar.specs.CodeSpans.{code_text}
 use Rattle.cmark_grammar.specs.Event.{Ranged}
 use Rattle.cmark_grammar.specs.InlineTokens.{as_in}
@@ -72,3 +72,36 @@ abbrev pub LeavesFewer : InlineState → Next → InlineState → Type 0
 LeavesFewer old (next.Short short) new = events_left new < events_left old
 LeavesFewer old next.Long new = Unit {0}
 LeavesFewer old next.Over new = Unit {0}
+
+-- ## What is given of the events that are still to come
+
+-- that event, with its range, is the first of some, and these are behind it
+pub record IsShortFirst (source : List ℕ) (old : List Opened) (short : Short) (new : List Opened) (events behind : List Ranged) : Type 0 where
+  pub given : Ranged
+  pub is : given.event ≡ shown_short short
+  pub follows : Follows source old given new
+  pub lent : IsShortZeroCopy source short given.start given.end
+  pub first : events ≡ given ∷ behind
+
+-- there are some
+abbrev pub AreSome : List Ranged → Type 0
+AreSome events = (first : Ranged) × (others : List Ranged) × (events ≡ first ∷ others)
+
+-- that event is; or one of another kind, which was not given yet; or there are none
+abbrev pub IsNextFirst : (source : List ℕ) → (old : List Opened) → Next → (new : List Opened) → (events behind : List Ranged) → Type 0
+IsNextFirst source old (next.Short short) new events behind = IsShortFirst source old short new events behind
+IsNextFirst source old next.Long new events behind = AreSome events × (behind ≡ events)
+IsNextFirst source old next.Over new events behind = (events ≡ []) × (behind ≡ [])
+
+-- that event is the first of those of a slot and those behind it; or one of another kind; or the slot has none
+abbrev pub PassesFirst : (source : List ℕ) → (old : List Opened) → Next → (new : List Opened) → (events behind : List Ranged) → Type 0
+PassesFirst source old (next.Short short) new events behind = IsShortFirst source old short new events behind
+PassesFirst source old next.Long new events behind = AreSome events
+PassesFirst source old next.Over new events behind = events ≡ behind
+
+-- a slot of this kind has an event of its own, which is not the begin and not the end of an element
+abbrev pub IsAlone : SlotKind → Type 0
+IsAlone (kind.Begin element) = ⊥
+IsAlone kind.End = ⊥
+IsAlone kind.Nothing = ⊥
+IsAlone _ = Unit {0}

@@ -1,6 +1,6 @@
 //! The events of a leaf's slots that own nothing, of which no event of any kind is made.
 
-ghost use Rattle.std.specs.Prelude.{◌≡◌, ◌<◌, ◌≤◌, ◌+◌, ◌-◌, ℕ, List, IfOk, IfSome, OnOk, get_or, length, option_map};
+ghost use Rattle.std.specs.Prelude.{◌≡◌, ◌<◌, ◌≤◌, ◌+◌, ◌-◌, ◌∷◌, ℕ, List, IfOk, IfSome, OnOk, get_or, length, option_map};
 ghost use Rattle.std.specs.Str.{IsCharBoundary};
 ghost use Rattle.cmark_grammar.specs.CodeSpans.{code_text};
 ghost use Rattle.cmark_grammar.specs.InlineTokens.{as_in};
@@ -13,14 +13,16 @@ ghost use Rattle.cmark_text.specs.Shown.{shown_end};
 ghost use Rattle.cmark_text.specs.ZeroCopy.{IsPartOf};
 ghost use Rattle.cmark_inline.specs.Elements.{emphasis_tag};
 ghost use Rattle.cmark_inline.specs.Opens.{events_left};
-ghost use Rattle.cmark_inline.specs.Shorts.{GivesNext, IfShort, LeavesFewer, PassesShort, StandsFor};
-ghost use Rattle.cmark_inline.specs.SlotViews.{AreLeft};
+ghost use Rattle.cmark_inline.specs.Shorts.{GivesNext, IfShort, IsAlone, IsNextFirst, LeavesFewer, PassesFirst, PassesShort, StandsFor};
+ghost use Rattle.cmark_inline.specs.SlotViews.{AreLeft, events_of, events_to_come, shown_opened};
 ghost use Rattle.cmark_inline.specs.Stands.{AreOpened, AreSlots, IsSlot};
 ghost use Rattle.cmark_inline.specs.declared.event.Opened.{Opened as OpenedOnes};
 ghost use Rattle.cmark_inline.specs.declared.slot.SlotKind.TheVariants as kind;
 ghost use Rattle.cmark_inline.specs.declared.slot.Slot.{Slot as Slots};
 ghost use Rattle.cmark_leaf_text.specs.declared.leaf_text.LeafText.{LeafText as LeafTexts};
+ghost use Rattle.cmark_inline.specs.declared.link.LinkParts.{LinkParts as Links};
 ghost use Rattle.cmark_text.specs.declared.event.TagEnd.{TagEnd as TagEnds};
+ghost use Rattle.cmark_text.specs.declared.text.CowStr.{CowStr as Texts};
 ghost use Rattle.cmark_text.specs.declared.short.PlainTag.{PlainTag as PlainTags};
 
 use crate::event::Opened;
@@ -46,6 +48,7 @@ impl<'a> InlineState<'a> {
         ensures fewer { IfOk result (λ next. LeavesFewer self.old next self.new) }
         ensures most { OnOk result (events_left self.new ≤ events_left self.old) }
         ensures few { OnOk result (length self.new.slots.items < 18446744073709551616) }
+        ensures events { IfOk result (λ next. IsNextFirst (source_of leaf.now) self.old.walk.opened.items next self.new.walk.opened.items (events_to_come leaf.now self.old) (events_to_come leaf.now self.new)) }
     {
         while self.walk.next < self.slots.len() {
             let slot = self.slots[self.walk.next];
@@ -74,6 +77,9 @@ impl<'a> InlineState<'a> {
         ensures opened { AreOpened (source_of leaf.now) self.new.walk.opened.items }
         ensures stands { IfOk result (λ next. IfShort next (StandsFor leaf.now slot)) }
         ensures gives { IfOk result (λ next. PassesShort (source_of leaf.now) self.old.walk.opened.items next self.new.walk.opened.items) }
+        ensures first { IfOk result (λ next. (texts : List Texts) (links : List Links) (behind : List Slots)
+            → PassesFirst (source_of leaf.now) self.old.walk.opened.items next self.new.walk.opened.items
+            (events_of leaf.now texts links (slot ∷ behind) self.old.walk.opened.items) (events_of leaf.now texts links behind self.new.walk.opened.items)) }
     {
         match slot.kind {
             SlotKind::Begin(element) => self.begin_short(leaf, slot, element),
@@ -102,6 +108,9 @@ impl<'a> InlineState<'a> {
         ensures opened { AreOpened (source_of leaf.now) self.new.walk.opened.items }
         ensures stands { IfOk result (λ next. IfShort next (StandsFor leaf.now slot)) }
         ensures gives { IfOk result (λ next. PassesShort (source_of leaf.now) self.old.walk.opened.items next self.new.walk.opened.items) }
+        ensures first { IfOk result (λ next. (texts : List Texts) (links : List Links) (behind : List Slots)
+            → PassesFirst (source_of leaf.now) self.old.walk.opened.items next self.new.walk.opened.items
+            (events_of leaf.now texts links (slot ∷ behind) self.old.walk.opened.items) (events_of leaf.now texts links behind self.new.walk.opened.items)) }
     {
         let Some((tag, end)) = plain_element(element) else {
             return Ok(Next::Long);
@@ -127,6 +136,8 @@ impl<'a> InlineState<'a> {
         ensures stands { (text : LeafTexts) (slot : Slots) → IfShort result (StandsFor text slot) }
         ensures fewer { IfShort result (λ short. length self.new.walk.opened.items < length self.old.walk.opened.items) }
         ensures most { length self.new.walk.opened.items ≤ length self.old.walk.opened.items }
+        ensures first { (source : List ℕ) → AreOpened source self.old.walk.opened.items
+            → IsNextFirst source self.old.walk.opened.items result self.new.walk.opened.items (shown_opened self.old.walk.opened.items) (shown_opened self.new.walk.opened.items) }
     {
         match self.walk.opened.pop() {
             Some(opened) => Next::Short(Short::End(opened.tag)),
@@ -159,6 +170,8 @@ fn single_short<'a>(leaf: &LeafText<'a>, slot: Slot) -> Next<'a>
     requires slot { IsSlot (text_of leaf.now) (length (text_of leaf.now)) slot }
     ensures stands { IfShort result (StandsFor leaf.now slot) }
     ensures gives { (opened : List OpenedOnes) → PassesShort (source_of leaf.now) opened result opened }
+    ensures first { (texts : List Texts) (links : List Links) (opened : List OpenedOnes) (behind : List Slots) → IsAlone slot.kind
+        → PassesFirst (source_of leaf.now) opened result opened (events_of leaf.now texts links (slot ∷ behind) opened) (events_of leaf.now texts links behind opened) }
 {
     match part_of(leaf, slot) {
         Some(short) => Next::Short(short),

@@ -1,8 +1,10 @@
-use Rattle.std.proofs.Common.{◌≤◌, ◌+◌, sym, subst, ◌∙◌, ◌-◌, arith}
+use Rattle.std.proofs.Common.{◌≤◌, ◌+◌, sym, subst, ◌∙◌, ◌-◌, ◌<◌, length, ap, arith}
 use Rattle.cmark_inline.specs.declared.state.InlineState.{InlineState}
 use Rattle.cmark_inline.proofs.StillToCome.{left-later}
 use Rattle.cmark_leaf_text.specs.Reads.{source_of}
 use Rattle.cmark_inline.specs.Stands.{AreOpened}
+use Rattle.cmark_inline.specs.Shorts.{IfShort, StandsFor}
+use Rattle.cmark_inline.proofs.ShortFirst.{stands-at}
 use Rattle.cmark_inline.proofs.ShortSteps.{any-slot}
 use Rattle.cmark_inline.proofs.state.InlineState.next_short.Goals as goal
 
@@ -11,6 +13,17 @@ returns-clause-opened c = c.end_short.ensures.opened (source_of c.args.leaf.now)
 
 pub returns-clause-stands : goal.returns-clause-stands
 returns-clause-stands c = any-slot c.end_short.result c.args.leaf.now c.args.self.now.slots.items (c.end_short.new.self.walk.next - 1) c.end_short.ensures.stands
+
+pub returns-in-Short-clause-stands : goal.returns-in-Short-clause-stands
+returns-in-Short-clause-stands c =
+    let i = c.loop-self.invariant in
+    let e = c.in_ok-short.ensures in
+    let old = c.loop-self.self in
+    let t = c.loop-self-test.true in
+    let n = c.len.ensures in
+    let lt : old.walk.next < length old.slots.items = omega (arith, t, n) in
+    stands-at c.args.leaf.now old.slots.items c.args.self.now.slots.items old.walk.next c.give_short.new.self.walk.next c.index-slot.result.now c.in-Short.short (ap (λ v. v.items) i.0) lt c.index-slot.ensures e.place
+    (subst (λ n. IfShort n (StandsFor c.args.leaf.now c.index-slot.result.now)) c.in-Short.is e.stands)
 
 pub returns-in-Short-clause-left : goal.returns-in-Short-clause-left
 returns-in-Short-clause-left c = λ left.
