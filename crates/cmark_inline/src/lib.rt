@@ -9,6 +9,7 @@ mod event;
 mod footnote;
 mod formula;
 pub mod display_laws;
+pub mod temp_display;
 pub mod laws;
 mod link;
 mod markup;

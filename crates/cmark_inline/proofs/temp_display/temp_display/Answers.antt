@@ -1,0 +1,6 @@
+use Rattle.std.proofs.Common.{refl}
+use Rattle.cmark_inline.proofs.DisplaySlots.{shows-left}
+use Rattle.cmark_inline.proofs.temp_display.temp_display.Goals as goal
+
+pub returns : goal.returns
+returns c = λ n. refl
