@@ -1,11 +1,12 @@
 -- Slots for what begins at an angle bracket.
-use Rattle.std.specs.Prelude.{Some, None, option_map, not}
+use Rattle.std.specs.Prelude.{Some, None, option_map, not, if◌then◌else◌}
 use Rattle.std.proofs.Common.{◌≡◌, inl, inr, ℕ, suc, ◌+◌, ◌-◌, ◌<◌, ◌≤◌, ◌==◌, Bool, true, false, List, [], ◌∷◌, ◌++◌, length, drop, get_or, refl, sym, ap, subst, ◌∙◌, arith, length-drop}
 use Rattle.std.proofs.lemmas.List.{get_or-drop}
 use Rattle.cmark_grammar.specs.Answers.{Lookup}
 use Rattle.cmark_grammar.specs.Autolinks.{autolink_in}
-use Rattle.cmark_grammar.specs.InlineTokens.{item_at, tag_kind}
-use Rattle.cmark_grammar.specs.Items.{ItemKind, Own, Autolink, Stands}
+use Rattle.cmark_grammar.specs.InlineHtml.{takes_lines}
+use Rattle.cmark_grammar.specs.InlineTokens.{is_plain, item_at, tag_kind}
+use Rattle.cmark_grammar.specs.Items.{ItemKind, Own, Autolink, Html, OwnedHtml, Stands}
 use Rattle.cmark_grammar.specs.Letters.{first_is}
 use Rattle.cmark_grammar.specs.Lines.{is_content}
 use Rattle.cmark_grammar.specs.Options.{Options}
@@ -16,7 +17,7 @@ use Rattle.cmark_leaf_text.specs.declared.leaf_text.LeafText.{LeafText}
 use Rattle.cmark_scan_parts.proofs.Endings.{tag-behind}
 use Rattle.cmark_inline.specs.FoundInSource.{IsTag, IsFound, FindsNone, ReadsLess}
 use Rattle.cmark_inline.specs.Linked.{IsAutolink}
-use Rattle.cmark_inline.specs.Tokens.{whole, reading, read_on, opens_markup, shown_autolink, Says, Puts, PutsAutolink}
+use Rattle.cmark_inline.specs.Tokens.{whole, reading, read_on, opens_markup, shown_autolink, Says, Puts, BeginsThere, PutsAutolink}
 use Rattle.cmark_inline.specs.declared.link.LinkParts.{LinkParts}
 use Rattle.cmark_inline.specs.declared.markup.FoundHtml.{FoundHtml}
 use Rattle.cmark_inline.specs.declared.slot.SlotKind.TheVariants as kind
@@ -68,6 +69,16 @@ module _ (o : Options) (l : Lookup) (leaf : LeafText) (here : Cursor) (old new :
       others = others;
     }))
 
+    at-less : opens_markup (drop (here.at + 1) text) ≡ false → BeginsThere text here here.at
+    at-less e = inl (refl, ap is_content is, (λ same. e), λ same one two. absurd (let q : 60 ≡ 96 = sym is ∙ same in omega (arith, q)))
+
+    no-text : (bytes : List ℕ) → is_plain (tag_kind (reading o l text) (whole cell text) bytes) ≡ false
+    no-text bytes = go (takes_lines bytes)
+      where
+        go : (z : Bool) → is_plain (if z then OwnedHtml bytes else Html) ≡ false
+        go true = refl
+        go false = refl
+
     module _ (none : None ≡ autolink_in (drop (here.at + 1) text)) (pending : next.pending ≡ next.at) (others : new ≡ record old { slots = new.slots }) where
       tag-made : (found : FoundHtml) → IsTag leaf here.at found → IsPart text here.at found.end → next.at ≡ read_on text found.end
           → Puts here.pending here.at (record { kind = found.kind; start = here.at; end = found.end }) old.slots.items new.slots.items → ReadsLess o l leaf here old new next
@@ -85,6 +96,8 @@ module _ (o : Options) (l : Lookup) (leaf : LeafText) (here : Cursor) (old new :
             behind = behind;
             before = omega arith;
             blanks = λ k le high. absurd (omega (arith, le, high));
+            there = at-less tag.opens;
+            own = no-text bytes;
             token = less-html o l cell text here.at lt is slash none tag.opens end (sym closes) (let q : here.at ≤ end = omega (arith, some) in q) part.within ∙ ap (Stands (record { kind = its; start = here.at; end = end })) (sym to);
             pending = pending;
             slots = slots;
@@ -97,7 +110,7 @@ module _ (o : Options) (l : Lookup) (leaf : LeafText) (here : Cursor) (old new :
       html-made : (found : FoundHtml) → IsFound leaf here.at found → IsPart text here.at found.end → next.at ≡ read_on text found.end
           → Puts here.pending here.at (record { kind = found.kind; start = here.at; end = found.end }) old.slots.items new.slots.items → ReadsLess o l leaf here old new next
       html-made found (inl tag) part at slots = tag-made found tag part at slots
-      html-made found (inr markup) part at slots = inr (inr (inr (inl (record { autolink = sym none; found = found; is = markup; at = at; pending = pending; slots = slots; others = others }))))
+      html-made found (inr markup) part at slots = inr (inr (inr (inl (record { byte = is; autolink = sym none; found = found; is = markup; at = at; pending = pending; slots = slots; others = others }))))
 
       less-stays : FindsNone leaf here.at → (end : ℕ) → end ≡ here.at + 1 → next.at ≡ end
           → Puts here.pending here.at (record { kind = kind.Text; start = here.at; end = end }) old.slots.items new.slots.items → ReadsLess o l leaf here old new next
@@ -105,6 +118,7 @@ module _ (o : Options) (l : Lookup) (leaf : LeafText) (here : Cursor) (old new :
         where
           by : (z : Bool) → opens_markup (drop (here.at + 1) text) ≡ z → ReadsLess o l leaf here old new next
           by true e = inr (inr (inr (inr (record {
+            byte = is;
             autolink = sym none;
             opens = e;
             closes = finds.markup e;
@@ -114,7 +128,7 @@ module _ (o : Options) (l : Lookup) (leaf : LeafText) (here : Cursor) (old new :
             others = others;
           }))))
           by false e =
-              inr (inr (inl (own-appends o l cell text here old new next here.at end behind
+              inr (inr (inl (own-appends o l cell text here old new next here.at end behind (at-less e)
               (less-own o l cell text here.at lt is slash none e (sym (finds.tag e) ∙ tag-find text here.at lt is e) ∙ ap (item_at Own here.at) (sym is-next)) at pending slots others)))
 
 -- ## In a text that is the leaf's

@@ -1,17 +1,19 @@
 -- Slots that stand for the item that begins where they were appended.
-use Rattle.std.specs.Prelude.{Option, Some, None, option_map, if◌then◌else◌, slice_get, encode_utf8}
-use Rattle.std.proofs.Common.{◌≡◌, ◌⊎◌, inl, inr, ℕ, suc, ◌+◌, ◌-◌, ◌<◌, ◌≤◌, ◌==◌, ◌&&◌, Bool, true, false, List, [], ◌∷◌, ◌++◌, length, drop, get_or, refl, sym, ap, subst, ◌∙◌, arith, length-drop, append_assoc, zero}
+use Rattle.std.specs.Prelude.{Option, Some, None, is_some, option_map, if◌then◌else◌, slice_get, encode_utf8}
+use Rattle.std.proofs.Common.{◌≡◌, ◌⊎◌, inl, inr, ℕ, suc, ◌+◌, ◌-◌, ◌<◌, ◌≤◌, ◌==◌, ◌&&◌, Bool, true, false, List, [], ◌∷◌, ◌++◌, length, drop, get_or, refl, sym, ap, subst, ◌∙◌, arith, length-drop, append_assoc, zero, true≢false}
 use Rattle.std.specs.List.{prefix_len}
+use Rattle.std.proofs.lemmas.Bool.{eq-eqb}
 use Rattle.std.proofs.lemmas.List.{append-nil, length_push, get_or_push}
 use Rattle.std.proofs.lemmas.Option.{slice_get-get_or}
 use Rattle.cmark_grammar.specs.Answers.{Lookup}
 use Rattle.cmark_grammar.specs.CodeSpans.{is_backtick, backticks, code_in, code_text}
 use Rattle.cmark_grammar.specs.Columns.{is_blank_byte}
-use Rattle.cmark_grammar.specs.InlineTokens.{as_in, item_at, code_or, entity_or, place_of, break_or, escape_at, escaped_backtick}
+use Rattle.cmark_grammar.specs.InlineTokens.{as_in, is_plain, item_at, code_or, entity_or, place_of, break_or, escape_at, escaped_backtick}
 use Rattle.cmark_grammar.specs.Items.{SoftBreak, HardBreak, Plain, Own, Code, Written, Item, Stands}
 use Rattle.cmark_grammar.specs.LabelsOverLines.{piped}
 use Rattle.cmark_grammar.specs.Letters.{first_is, starts, behind_if, and_then}
 use Rattle.cmark_grammar.specs.LineBreaks.{ends_with_two_spaces, hard_break, backslash_break_in, line_break_in}
+use Rattle.cmark_grammar.specs.Lines.{is_content}
 use Rattle.cmark_grammar.specs.Options.{Options}
 use Rattle.cmark_grammar.specs.Tokens.{slice, Entity, entity_in, is_punctuation}
 use Rattle.cmark_text.specs.Shown.{text_bytes}
@@ -19,7 +21,7 @@ use Rattle.cmark_text.specs.declared.text.CowStr.{CowStr}
 use Rattle.cmark_finds.specs.Shown.{shown_break, shown_code, IsBreakAt, IsCodeAt}
 use Rattle.cmark_finds.specs.declared.breaks.LineBreak as find
 use Rattle.cmark_finds.specs.declared.code.CodeSpan.{CodeSpan}
-use Rattle.cmark_inline.specs.Tokens.{whole, reading, begins_at, read_on, Says, IsItem, Puts, Appends, Escapes, EscapesPipe, TakesEscaped, byte_slots}
+use Rattle.cmark_inline.specs.Tokens.{whole, reading, begins_at, read_on, Says, IsItem, Puts, BeginsThere, Appends, Escapes, EscapesPipe, TakesEscaped, byte_slots}
 use Rattle.cmark_inline.specs.Stands.{PushesText}
 use Rattle.cmark_inline.specs.declared.slot.Slot.{Slot}
 use Rattle.cmark_inline.specs.declared.slot.SlotKind.{SlotKind}
@@ -34,6 +36,11 @@ kept old new between e f = e ∙ f ∙ ap (λ (s : InlineState). record old { sl
 
 pub slots-alone : (old new : InlineState) → new ≡ record old { slots = new.slots } → new ≡ record old { slots = new.slots; texts = new.texts }
 slots-alone old new e = kept old new (record old { slots = new.slots }) e refl
+
+-- an item begins at a byte that is none of those that are looked at twice
+pub at-byte : (text : List ℕ) (here : Cursor) (b : ℕ) → get_or text here.at 0 ≡ b → is_content b ≡ true → (b == 60) ≡ false → (b == 96) ≡ false → BeginsThere text here here.at
+at-byte text here b is content less tick =
+    inl (refl, ap is_content is ∙ content, (λ e. absurd (true≢false (sym (eq-eqb b 60 (sym is ∙ e)) ∙ less))), λ e one two. absurd (true≢false (sym (eq-eqb b 96 (sym is ∙ e)) ∙ tick)))
 
 module _ (o : Options) (l : Lookup) (cell : Bool) (text : List ℕ) (here : Cursor) (old new : InlineState) (next : Cursor) where
   -- where only slots were appended
@@ -54,15 +61,23 @@ module _ (o : Options) (l : Lookup) (cell : Bool) (text : List ℕ) (here : Curs
       says true k q = subst (Says cell text texts slot.start slot.end HardBreak) (sym q) tt
       says false k q = subst (Says cell text texts slot.start slot.end SoftBreak) (sym q) tt
 
+  no-content : (b : ℕ) → (b ≡ 10) ⊎ (b ≡ 13) → is_content b ≡ false
+  no-content b (inl e) = ap is_content e
+  no-content b (inr e) = ap is_content e
+
+  no-text : (hard : Bool) → is_plain (if hard then HardBreak else SoftBreak) ≡ false
+  no-text true = refl
+  no-text false = refl
+
   pub break-appends : (stop : ℕ) (found : find.LineBreak) (slot : Slot) (hard : Bool)
-      → here.pending ≤ stop → stop ≤ here.at → here.at < length text
+      → here.pending ≤ stop → stop ≤ here.at → here.at < length text → (here.pending < stop → is_blank_byte (get_or text (stop - 1) 0) ≡ false)
       → ((k : ℕ) → stop ≤ k → k < here.at → is_blank_byte (get_or text k 0) ≡ true) → (get_or text here.at 0 ≡ 10) ⊎ (get_or text here.at 0 ≡ 13)
       → option_map (shown_break text here.at) (Some found) ≡ line_break_in (drop here.at text) → IsBreakAt text here.at found
       → hard ≡ ends_with_two_spaces (slice text stop here.at)
       → slot ≡ record { kind = if hard then kind.HardBreak else kind.SoftBreak; start = if hard then stop else here.at; end = found.end }
       → next.at ≡ read_on text slot.end → next.pending ≡ next.at → Puts here.pending stop slot old.slots.items new.slots.items → new ≡ record old { slots = new.slots }
       → Appends o l cell text here old new next
-  break-appends stop found slot hard behind before lt blanks ends value places is-hard is at pending slots others =
+  break-appends stop found slot hard behind before lt first blanks ends value places is-hard is at pending slots others =
       let two : Bool = ends_with_two_spaces (slice text stop here.at) in
       let slot-is = ap (λ z. record { kind = if z then kind.HardBreak else kind.SoftBreak; start = if z then stop else here.at; end = found.end }) is-hard in
       let a = places.behind in let b = places.ordered in let w = places.ends.0 in
@@ -73,6 +88,8 @@ module _ (o : Options) (l : Lookup) (cell : Bool) (text : List ℕ) (here : Curs
         behind = behind;
         before = before;
         blanks = blanks;
+        there = inr (no-content (get_or text here.at 0) ends, first);
+        own = no-text two;
         token =
             line-token o l cell text stop here.at found.end before lt (let q : here.at ≤ found.end = omega (arith, a, b) in q) w blanks ends (found-at-ending text here.at lt found ends value)
             ∙ ap (Stands (record { kind = if two then HardBreak else SoftBreak; start = if two then stop else here.at; end = found.end })) (sym (at ∙ ap (λ (s : Slot). read_on text s.end) is));
@@ -101,6 +118,8 @@ module _ (o : Options) (l : Lookup) (cell : Bool) (text : List ℕ) (here : Curs
         behind = behind;
         before = omega arith;
         blanks = λ k le high. absurd (omega (arith, le, high));
+        there = at-byte text here 92 byte refl refl refl;
+        own = refl;
         token =
             slash-begins o l cell text here.at lt byte
             ∙ ap (λ x. break_or (reading o l text) (whole cell text) here.at x (escape_at (reading o l text) (whole cell text) here.at (drop (suc here.at) text))) (slash-break-behind text here.at lt byte found value)
@@ -121,16 +140,18 @@ module _ (o : Options) (l : Lookup) (cell : Bool) (text : List ℕ) (here : Curs
 
   -- ## Texts of their own
   pub own-appends : (start end : ℕ)
-      → here.pending ≤ here.at → begins_at o l cell text here.at ≡ item_at Own start end → next.at ≡ end → next.pending ≡ next.at
+      → here.pending ≤ here.at → BeginsThere text here here.at → begins_at o l cell text here.at ≡ item_at Own start end → next.at ≡ end → next.pending ≡ next.at
       → Puts here.pending here.at (record { kind = kind.Text; start = start; end = end }) old.slots.items new.slots.items → new ≡ record old { slots = new.slots }
       → Appends o l cell text here old new next
-  own-appends start end behind token at pending slots others = record {
+  own-appends start end behind there token at pending slots others = record {
     from = here.at;
     item = record { kind = Own; start = start; end = end };
     slot = record { kind = kind.Text; start = start; end = end };
     behind = behind;
     before = omega arith;
     blanks = λ k le high. absurd (omega (arith, le, high));
+    there = there;
+    own = refl;
     token = token ∙ ap (Stands (record { kind = Own; start = start; end = end })) (sym at);
     pending = pending;
     slots = slots;
@@ -158,6 +179,8 @@ module _ (o : Options) (l : Lookup) (cell : Bool) (text : List ℕ) (here : Curs
         behind = behind;
         before = omega arith;
         blanks = λ k le high. absurd (omega (arith, le, high));
+        there = inl (refl, ap is_content byte, (λ e. absurd (let q : 96 ≡ 60 = sym byte ∙ e in omega (arith, q))), λ e one two. ap is_some (sym value));
+        own = refl;
         token =
             code-begins o l cell text here.at lt byte
             ∙ ap (code_or (reading o l text) (whole cell text) here.at (backticks (drop here.at text))) (sym value)
@@ -186,18 +209,20 @@ module _ (o : Options) (l : Lookup) (cell : Bool) (text : List ℕ) (here : Curs
       ap (λ l. slice_get l n) e ∙ slice_get-get_or (xs ++ (x ∷ [])) n x (let q : n < length (xs ++ (x ∷ [])) = omega (arith, m, is) in q) ∙ ap Some (get_or_push xs x x n (sym is))
 
   pub owned-appends : (bytes : List ℕ) (end index : ℕ) (text_is : CowStr)
-      → here.pending ≤ here.at → begins_at o l cell text here.at ≡ item_at (Written bytes) here.at end → next.at ≡ end → next.pending ≡ next.at
+      → here.pending ≤ here.at → BeginsThere text here here.at → begins_at o l cell text here.at ≡ item_at (Written bytes) here.at end → next.at ≡ end → next.pending ≡ next.at
       → Puts here.pending here.at (record { kind = kind.OwnedText index; start = here.at; end = end }) old.slots.items new.slots.items
       → new.texts.items ≡ old.texts.items ++ (text_is ∷ []) → index ≡ length old.texts.items → text_bytes text_is ≡ bytes
       → new ≡ record old { slots = new.slots; texts = new.texts }
       → Appends o l cell text here old new next
-  owned-appends bytes end index text_is behind token at pending slots texts place is others = record {
+  owned-appends bytes end index text_is behind there token at pending slots texts place is others = record {
     from = here.at;
     item = record { kind = Written bytes; start = here.at; end = end };
     slot = record { kind = kind.OwnedText index; start = here.at; end = end };
     behind = behind;
     before = omega arith;
     blanks = λ k le high. absurd (omega (arith, le, high));
+    there = there;
+    own = refl;
     token = token ∙ ap (Stands (record { kind = Written bytes; start = here.at; end = end })) (sym at);
     pending = pending;
     slots = slots;
@@ -209,16 +234,18 @@ module _ (o : Options) (l : Lookup) (cell : Bool) (text : List ℕ) (here : Curs
 
   -- a character that stands for some bytes
   pub character-appends : (bytes : List ℕ) (end character : ℕ)
-      → here.pending ≤ here.at → begins_at o l cell text here.at ≡ item_at (Written bytes) here.at end → next.at ≡ end → next.pending ≡ next.at
+      → here.pending ≤ here.at → BeginsThere text here here.at → begins_at o l cell text here.at ≡ item_at (Written bytes) here.at end → next.at ≡ end → next.pending ≡ next.at
       → Puts here.pending here.at (record { kind = kind.Character character; start = here.at; end = end }) old.slots.items new.slots.items → new ≡ record old { slots = new.slots } → encode_utf8 character ≡ bytes
       → Appends o l cell text here old new next
-  character-appends bytes end character behind token at pending slots others is = record {
+  character-appends bytes end character behind there token at pending slots others is = record {
     from = here.at;
     item = record { kind = Written bytes; start = here.at; end = end };
     slot = record { kind = kind.Character character; start = here.at; end = end };
     behind = behind;
     before = omega arith;
     blanks = λ k le high. absurd (omega (arith, le, high));
+    there = there;
+    own = refl;
     token = token ∙ ap (Stands (record { kind = Written bytes; start = here.at; end = end })) (sym at);
     pending = pending;
     slots = slots;
@@ -251,6 +278,8 @@ module _ (o : Options) (l : Lookup) (cell : Bool) (text : List ℕ) (here : Curs
       let no-break : backslash_break_in (drop here.at text) ≡ None = sym (none ∙ line-at-slash text here.at lt is) in
       let two : end ≡ here.at + 2 = omega (arith, e, f) in
       record {
+        byte = is;
+        escaped = sym punctuation;
         pending = e;
         at = two;
         token = λ t. slash-escapes o l cell text here.at lt is no-break t (ap (λ s. cell && starts piped (drop s text)) (sym e) ∙ no-pipe) (sym punctuation) ∙ ap (λ s. item_at Plain s (here.at + 2)) (sym e) ∙ ap (item_at Plain escaped) (sym two);
@@ -275,6 +304,7 @@ module _ (o : Options) (l : Lookup) (cell : Bool) (text : List ℕ) (here : Curs
       let three : past ≡ here.at + 3 = omega (arith, two, g) in
       record {
         cell = in-cell;
+        pipe = ap (λ s. starts piped (drop s text)) (sym e) ∙ pipe;
         pending = two;
         at = three;
         token =
@@ -289,12 +319,15 @@ module _ (o : Options) (l : Lookup) (cell : Bool) (text : List ℕ) (here : Curs
   pub ticks-make : (start end : ℕ) → here.pending ≤ here.at → here.at < length text → get_or text here.at 0 ≡ 96 → None ≡ code_in (drop here.at text)
       → end ≡ here.at + prefix_len (λ b. b == get_or text here.at 0) (drop here.at text)
       → (start ≡ here.at) ⊎ ((start ≡ here.pending) × (here.pending + 1 ≡ here.at) × (get_or text here.pending 0 ≡ 96))
+      → (here.pending + 1 ≡ here.at → get_or text here.pending 0 ≡ 96 → start ≡ here.pending)
       → next.at ≡ end → next.pending ≡ next.at → Puts here.pending start (record { kind = kind.Text; start = start; end = end }) old.slots.items new.slots.items → new ≡ record old { slots = new.slots }
       → Appends o l cell text here old new next ⊎ TakesEscaped o l cell text here old new next
-  ticks-make start end ordered lt is none ends (inl e) at pending slots others =
-      inl (own-appends o l cell text here old new next here.at end ordered (run-token o l cell text here old new next end lt is none ends) at pending
+  ticks-make start end ordered lt is none ends (inl e) escaped at pending slots others =
+      inl (own-appends o l cell text here old new next here.at end ordered
+      (inl (refl, ap is_content is, (λ x. absurd (let q : 96 ≡ 60 = sym is ∙ x in omega (arith, q))), λ x one two. absurd (let q = escaped one two in omega (arith, q, e, one))))
+      (run-token o l cell text here old new next end lt is none ends) at pending
       (subst (λ (s : ℕ). Puts here.pending s (record { kind = kind.Text; start = s; end = end }) old.slots.items new.slots.items) e slots) others)
-  ticks-make start end ordered lt is none ends (inr e) at pending slots others =
+  ticks-make start end ordered lt is none ends (inr e) escaped at pending slots others =
       let puts : Puts here.pending here.pending (record { kind = kind.Text; start = here.pending; end = end }) old.slots.items new.slots.items =
       subst (λ (s : ℕ). Puts here.pending s (record { kind = kind.Text; start = s; end = end }) old.slots.items new.slots.items) e.0 slots in
       inr (record {

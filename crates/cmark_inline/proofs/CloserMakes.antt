@@ -5,7 +5,7 @@ use Rattle.std.proofs.lemmas.Bool.{ltb-true, ltb-false, eq-eqb}
 use Rattle.std.proofs.lemmas.List.{get_or-drop, length-drop}
 use Rattle.cmark_grammar.specs.Answers.{Lookup}
 use Rattle.cmark_grammar.specs.BracketDecisions as decisions
-use Rattle.cmark_grammar.specs.BracketDecisions.{decide, taking, wikilink_or, with_taken, link_or, stays, links, forms, wikilink, name_in, is_there}
+use Rattle.cmark_grammar.specs.BracketDecisions.{decide, taking, wikilink_or, with_taken, link_or, stays, links, forms, wikilink, name_in, behind_pipe, is_there}
 use Rattle.cmark_grammar.specs.BracketReading.{Comes}
 use Rattle.cmark_grammar.specs.BracketStates.{Opener, State, Decision, Settled, Outcome, StaysText, Forms}
 use Rattle.cmark_grammar.specs.Items as items
@@ -31,12 +31,12 @@ use Rattle.cmark_inline_model.specs.TextPlaces.{ArePlaces}
 use Rattle.cmark_inline.specs.Decided.{ComesTo, EndsWithin, IsCloser, ReadsSame, Remembers, TargetDecides, target_outcome, with_left}
 use Rattle.cmark_inline.specs.Doubled as stacks
 use Rattle.cmark_inline.specs.Footnoted.{KeepsLabel, footnote_of, forms_footnote}
-use Rattle.cmark_inline.specs.Hiding.{WritesReference}
+use Rattle.cmark_inline.specs.Hiding.{WritesReference, WritesWikilink}
 use Rattle.cmark_inline.specs.SlotViews.{shown_parts}
-use Rattle.cmark_inline.specs.Sound.{IsTakenFrom}
-use Rattle.cmark_inline.specs.Stands.{IsBracket}
+use Rattle.cmark_inline.specs.Sound.{IsSound, IsTakenFrom}
+use Rattle.cmark_inline.specs.Stands.{IsBracket, Stands}
 use Rattle.cmark_inline.specs.Written.{WritesElement}
-use Rattle.cmark_inline.specs.Wikilinks.{forms_wikilink, is_wikilink, wiki_text}
+use Rattle.cmark_inline.specs.Wikilinks.{forms_wikilink, is_wikilink, wiki_start, wiki_text}
 use Rattle.cmark_inline.specs.declared.bracket.Bracket.{Bracket}
 use Rattle.cmark_inline.specs.declared.bracket.Brackets.{Brackets}
 use Rattle.cmark_inline.specs.declared.callback.BrokenLink.{BrokenLink}
@@ -48,7 +48,7 @@ use Rattle.cmark_inline.specs.declared.step.Cursor.{Cursor}
 use Rattle.cmark_inline.proofs.AfterSteps.{IsTried, TriedAs, footnote-formed, image-formed, link-formed, tried-as, tried-one, tried_by, wikilink-formed}
 use Rattle.cmark_inline.proofs.BracketSteps.{Takes, takes, and-right, fresh-past, placed-lower, tried-rest, tried-standing}
 use Rattle.cmark_inline.proofs.ClosingReads.{IsFlushed, SameRows, comes-any, link-reads, rows-on}
-use Rattle.cmark_inline.proofs.HidingReads.{footnote-reads}
+use Rattle.cmark_inline.proofs.HidingReads.{footnote-reads, wikilink-reads}
 use Rattle.cmark_inline.proofs.TargetSteps.{behind-is, closer-end, footnote-named, next-of, there-same}
 
 abbrev pub with_openers : List Opener → State → State
@@ -108,18 +108,22 @@ module _ (options : Options) (lookup : Lookup) (references : RefDefs) (footnotes
     pub none : (t : Taken) → tk ≡ Some t → NoneStand (suc t.nearer) openers bs
 
   -- the name of a wikilink is the same
-  text_same : (first : Taken) (e : Option (Bracket × Bool)) (i : IsTried place close bs first e) → decisions.wiki_text reader read first closer ≡ wiki_text leaf (record i.bracket { inside = i.inner + 1 }) close
-  text_same first e i =
+  start_same : (first : Taken) (e : Option (Bracket × Bool)) (i : IsTried place close bs first e) → suc first.opener.bracket.end ≡ wiki_start leaf (record i.bracket { inside = i.inner + 1 })
+  start_same first e i =
       let w = c.within in
       let b = i.before in
       let size = ap length same in
-      let start : suc first.opener.bracket.end ≡ reads.place_of leaf (i.inner + 1 - 1) + 1 =
       ap suc (sym i.meets) ∙ (let q : suc (place i.inner) ≡ place i.inner + 1 = omega arith in q)
-      ∙ ap (λ n. n + 1) (sym (ap (reads.place_of leaf) (let q : i.inner + 1 - 1 ≡ i.inner = omega arith in q) ∙ r.bytes i.inner (let q : i.inner < length (text_of leaf) = omega (arith, b, w, size) in q))) in
+      ∙ ap (λ n. n + 1) (sym (ap (reads.place_of leaf) (let q : i.inner + 1 - 1 ≡ i.inner = omega arith in q) ∙ r.bytes i.inner (let q : i.inner < length (text_of leaf) = omega (arith, b, w, size) in q)))
+
+  text_same : (first : Taken) (e : Option (Bracket × Bool)) (i : IsTried place close bs first e) → decisions.wiki_text reader read first closer ≡ wiki_text leaf (record i.bracket { inside = i.inner + 1 }) close
+  text_same first e i =
+      let w = c.within in
+      let size = ap length same in
       let end : closer.start ≡ reads.place_of leaf close = c.start ∙ sym (r.bytes close (let q : close < length (text_of leaf) = omega (arith, w, size) in q)) in
       ap (λ l. slice l (suc first.opener.bracket.end) closer.start) r.source
-      ∙ ap (λ n. slice (source_of leaf) n closer.start) start
-      ∙ ap (λ n. slice (source_of leaf) (reads.place_of leaf (i.inner + 1 - 1) + 1) n) end
+      ∙ ap (λ n. slice (source_of leaf) n closer.start) (start_same first e i)
+      ∙ ap (λ n. slice (source_of leaf) (wiki_start leaf (record i.bracket { inside = i.inner + 1 })) n) end
 
   -- where the doubled bracket ends at the closing one, the name has no byte
   no_text : (first : Taken) (e : Option (Bracket × Bool)) (i : IsTried place close bs first e) → close ≤ i.inner + 1 → decisions.wiki_text reader read first closer ≡ []
@@ -246,8 +250,9 @@ module _ (options : Options) (lookup : Lookup) (references : RefDefs) (footnotes
 
     -- a wikilink
     pub wikilink-closes : (mid : InlineState) → StandFor options.wikilinks place close os bs mid.brackets mid.doubled → true ≡ forms_wikilink options leaf close mid.doubled
-        → IfSome (stacks.nearest mid.doubled) (λ t. LeavesWikilink t.0.start mid new) → Remembers text place s new → next.at ≡ close + 2 → next.pending ≡ next.at → after ≡ before → Goal
-    wikilink-closes mid h formed leaves m at pending same_callback =
+        → IfSome (stacks.nearest mid.doubled) (λ t. LeavesWikilink t.0.start mid new) → Remembers text place s new → next.at ≡ close + 2 → next.pending ≡ next.at → after ≡ before
+        → (mine : InlineState) → IsFlushed from close old mine → SameRows mine mid → IsSound mid → Stands text close mid → IfSome (stacks.nearest mid.doubled) (λ t. WritesWikilink options leaf text t.0 close mid new) → Goal
+    wikilink-closes mid h formed leaves m at pending same_callback mine flushed rows sound stands writes =
         let wiki = left-true options.wikilinks (first_is (λ b. b == 93) (drop (close + 1) (text_of leaf)) && is_wikilink leaf close (stacks.nearest mid.doubled)) (sym formed) in
         let both = and-right options.wikilinks (first_is (λ b. b == 93) (drop (close + 1) (text_of leaf)) && is_wikilink leaf close (stacks.nearest mid.doubled)) (sym formed) in
         let follows = left-true (first_is (λ b. b == 93) (drop (close + 1) (text_of leaf))) (is_wikilink leaf close (stacks.nearest mid.doubled)) both in
@@ -272,12 +277,14 @@ module _ (options : Options) (lookup : Lookup) (references : RefDefs) (footnotes
             let some = byte.0 in
             let there : get_or text (close + 1) 0 ≡ 93 = ap (λ k. get_or text k 0) (let q : close + 1 ≡ close + 1 + 0 = omega arith in q) ∙ sym (get_or-drop (close + 1) text 0 0) ∙ byte.1 in
             let past = next-of reader read text place p (close + 1) 93 (let q : close + 1 < length text = omega (arith, some, size) in q) there refl in
+            let comes : ComesTo R (decide reader read s closer) (wikilink reader read first closer used) before after = subst (λ (d : Decision). ComesTo R d (wikilink reader read first closer used) before after)
+            (sym (decide-is reader read s closer ∙ ap cond (tests_are ∙ trying) ∙ ap (λ d. wikilink_or reader read d tk closer used) f
+            ∙ ap (λ z. if z then with_taken reader read tk closer (with_openers (tried first.nearer os) s) else Settled (wikilink reader read first closer used)) goes))
+            (refl, same_callback) in
+            let shown_text = decisions.wiki_text reader read first closer in
             record {
               outcome = wikilink reader read first closer used;
-              comes = subst (λ (d : Decision). ComesTo R d (wikilink reader read first closer used) before after)
-                  (sym (decide-is reader read s closer ∙ ap cond (tests_are ∙ trying) ∙ ap (λ d. wikilink_or reader read d tk closer used) f
-                  ∙ ap (λ z. if z then with_taken reader read tk closer (with_openers (tried first.nearer os) s) else Settled (wikilink reader read first closer used)) goes))
-                  (refl, same_callback);
+              comes = comes;
               at = ap suc (closer-end reader read text place p close closer c) ∙ sym past ∙ ap place (let q : close + 1 + 1 ≡ close + 2 = omega arith in q ∙ sym at);
               pending = pending;
               shows = shown (map undoubled (map inactive (drop (suc first.nearer) os))) (drop (suc first.nearer) bs) (wikilink reader read first closer used).after refl lt
@@ -285,7 +292,13 @@ module _ (options : Options) (lookup : Lookup) (references : RefDefs) (footnotes
                   (record { drops = leaving.drops; shut = refl }) (record { standing = refl; shut = leaving.shut }) leaving.none)
                   (record { expansion = m.expansion; label = m.label; within = m.within });
               notes = tt;
-              reads = λ said. absurd said;
+              reads = λ said.
+                  wikilink-reads leaf reader read place closer s bs from close old mine mid new flushed rows text same c (let q : close + 1 < length text = omega (arith, some, size) in q) first i sound stands options
+                  (subst (λ (o : Option (Bracket × Bool)). IfSome o (λ t. WritesWikilink options leaf text t.0 close mid new)) i.is writes)
+                  (name_in shown_text) (ap name_in (text_same first (stacks.nearest mid.doubled) i))
+                  (behind_pipe (suc first.opener.bracket.end) shown_text)
+                  (ap (λ n. behind_pipe n shown_text) (start_same first (stacks.nearest mid.doubled) i) ∙ ap (behind_pipe (wiki_start leaf (record i.bracket { inside = i.inner + 1 }))) (text_same first (stacks.nearest mid.doubled) i))
+                  (wikilink reader read first closer used).after (comes-any R (decide reader read s closer) (wikilink reader read first closer used) s.asked before after comes) said;
             }
 
     -- the taken bracket is there, and forms what it can

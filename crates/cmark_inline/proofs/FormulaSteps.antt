@@ -3,7 +3,7 @@ use Rattle.std.specs.Prelude.{Option, Some, None, option_map, if◌then◌else�
 use Rattle.std.proofs.Common.{◌≡◌, ℕ, suc, ◌+◌, ◌-◌, ◌<◌, ◌≤◌, ◌&&◌, Bool, true, false, List, [], length, drop, get_or, refl, sym, ap, subst, ◌∙◌, arith, length-drop, drop-drop}
 use Rattle.cmark_grammar.specs.Answers.{Lookup}
 use Rattle.cmark_grammar.specs.Formulas.{Braces, is_dollar, no_braces, braces_behind, inline_in, display_in}
-use Rattle.cmark_grammar.specs.InlineTokens.{as_in, item_at, before, dollar, formula_or, place_of}
+use Rattle.cmark_grammar.specs.InlineTokens.{as_in, is_plain, item_at, before, dollar, formula_or, place_of}
 use Rattle.cmark_grammar.specs.Items.{ItemKind, Plain, Own, InlineMath, DisplayMath, Token, Stands}
 use Rattle.cmark_grammar.specs.Letters.{first_is}
 use Rattle.cmark_grammar.specs.LinkDefinitions.{Found}
@@ -19,7 +19,7 @@ use Rattle.cmark_inline.specs.declared.slot.SlotKind.{SlotKind}
 use Rattle.cmark_inline.specs.declared.slot.SlotKind.TheVariants as kind
 use Rattle.cmark_inline.specs.declared.state.InlineState.{InlineState}
 use Rattle.cmark_inline.specs.declared.step.Cursor.{Cursor}
-use Rattle.cmark_inline.proofs.Appended.{no-texts, slots-alone, own-appends}
+use Rattle.cmark_inline.proofs.Appended.{at-byte, no-texts, slots-alone, own-appends}
 use Rattle.cmark_inline.proofs.ReadingOn.{before-is}
 use Rattle.cmark_inline.proofs.TokenSteps.{begins-with}
 
@@ -70,6 +70,10 @@ module _ (o : Options) (l : Lookup) (cell : Bool) (text : List ℕ) (here : Curs
   says-by texts start end from to true = refl
   says-by texts start end from to false = refl
 
+  not-plain : (double : Bool) (bytes : List ℕ) → is_plain (kind_by double bytes) ≡ false
+  not-plain true bytes = refl
+  not-plain false bytes = refl
+
   pub formula-appends : (formula : Formula) (k : SlotKind)
       → here.pending ≤ here.at → here.at < length text → get_or text here.at 0 ≡ 36 → o.math ≡ true
       → option_map (shown_formula text) (Some formula) ≡ formula_at text here.at → formula.is_display ≡ first_is is_dollar (drop (here.at + 1) text) → IsFormulaAt text here.at formula
@@ -86,6 +90,8 @@ module _ (o : Options) (l : Lookup) (cell : Bool) (text : List ℕ) (here : Curs
         behind = behind;
         before = omega arith;
         blanks = λ n le high. absurd (omega (arith, le, high));
+        there = at-byte text here 36 byte refl refl refl;
+        own = not-plain formula.is_display bytes;
         token =
             formula-begins o l cell text here.at lt byte math formula.is_display kind-is
             ∙ ap (formula_or (reading o l text) (whole cell text) (kind_by formula.is_display) here.at) (sym value)
@@ -105,7 +111,7 @@ module _ (o : Options) (l : Lookup) (cell : Bool) (text : List ℕ) (here : Curs
       → Puts here.pending here.at (record { kind = kind.Text; start = here.at; end = end }) old.slots.items new.slots.items → new ≡ record old { slots = new.slots }
       → Appends o l cell text here old new next
   sign-appends end behind lt byte math none one at pending slots others =
-      own-appends o l cell text here old new next here.at end behind
+      own-appends o l cell text here old new next here.at end behind (at-byte text here 36 byte refl refl refl)
       (formula-begins o l cell text here.at lt byte math (first_is is_dollar (drop (here.at + 1) text)) refl
       ∙ ap (formula_or (reading o l text) (whole cell text) (kind_by (first_is is_dollar (drop (here.at + 1) text))) here.at) (sym none)
       ∙ ap (item_at Own here.at) (let q : suc here.at ≡ end = omega (arith, one) in q))

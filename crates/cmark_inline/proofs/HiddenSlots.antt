@@ -1,5 +1,5 @@
 -- The slots behind an opening bracket that become nothing, and those that are put in their place.
-use Rattle.std.proofs.Common.{◌≡◌, ℕ, zero, suc, ◌+◌, ◌-◌, ◌<◌, ◌≤◌, Bool, true, false, List, [], ◌∷◌, ◌++◌, length, drop, take, get_or, set, refl, sym, ap, subst, ◌∙◌, arith, append_assoc, append-nil, length-append}
+use Rattle.std.proofs.Common.{◌≡◌, ℕ, suc, ◌+◌, ◌-◌, ◌<◌, Bool, true, false, List, [], ◌∷◌, ◌++◌, length, drop, take, get_or, set, refl, sym, ap, subst, ◌∙◌, arith, append_assoc, append-nil, length-append}
 use Rattle.std.specs.Prelude.{if◌then◌else◌, map, min, nat_lt}
 use Rattle.std.proofs.Math.Seq.{drop-cons, set-append_seam}
 use Rattle.std.proofs.lemmas.Bool.{ltb-true, ltb-false}
@@ -16,7 +16,6 @@ use Rattle.cmark_inline.specs.Hiding.{WritesReference, mark_before, mark_slot, s
 use Rattle.cmark_inline.specs.SlotViews.{bytes_or_none, item_slot, shown_slot, shown_slots}
 use Rattle.cmark_inline.specs.Sound.{AreNamed}
 use Rattle.cmark_inline.specs.Wikilinks.{Hides, hidden}
-use Rattle.cmark_inline.specs.Written.{Forgets}
 use Rattle.cmark_inline.specs.declared.bracket.Bracket.{Bracket}
 use Rattle.cmark_inline.specs.declared.link.LinkParts.{LinkParts}
 use Rattle.cmark_inline.specs.declared.slot.Slot.{Slot}

@@ -1,7 +1,7 @@
 -- What the grammar's pass has read with a closing bracket that forms what shows nothing of what stands between its brackets.
 use Rattle.std.specs.Prelude.{drop, take, Option, Some, None}
 use Rattle.std.proofs.lemmas.Bool.{cases_lt, eq-eqb}
-use Rattle.std.proofs.Common.{◌≡◌, ◌⊎◌, inl, inr, ◌==◌, ℕ, zero, suc, ◌+◌, ◌-◌, ◌<◌, ◌≤◌, Bool, true, false, if◌then◌else◌, List, [], ◌∷◌, ◌++◌, length, get_or, refl, sym, ap, subst, ◌∙◌, arith, append-nil}
+use Rattle.std.proofs.Common.{◌≡◌, ◌⊎◌, inl, inr, ◌==◌, ℕ, suc, ◌+◌, ◌-◌, ◌<◌, ◌≤◌, Bool, true, false, if◌then◌else◌, List, [], ◌∷◌, ◌++◌, length, get_or, refl, sym, ap, subst, ◌∙◌, arith, append-nil}
 use Rattle.std.proofs.Math.Seq.{drop-cons}
 use Rattle.cmark_grammar.specs.BracketDecisions.{decide, name_in, behind_pipe}
 use Rattle.cmark_grammar.specs.BracketReading.{Comes}
@@ -35,7 +35,7 @@ use Rattle.cmark_inline.specs.Closers.{IsSaid, ReadsOn}
 use Rattle.cmark_inline.specs.Decided.{IsCloser}
 use Rattle.cmark_inline.specs.Doubled.{nearest}
 use Rattle.cmark_inline.specs.Hiding.{WritesReference, WritesWikilink, mark_before, mark_slot, shown_reference}
-use Rattle.cmark_inline.specs.Reached.{HasRead, ReadsPlaces, bracket_place}
+use Rattle.cmark_inline.specs.Reached.{ReadsPlaces, bracket_place}
 use Rattle.cmark_inline.specs.SlotViews.{first_of, item_slot, shown_slot, shown_slots}
 use Rattle.cmark_inline.specs.Sound.{IsSound, IsTakenPair}
 use Rattle.cmark_inline.specs.Stands.{Stands}
@@ -56,7 +56,7 @@ use Rattle.cmark_inline.proofs.WikiSlots.{shows-own}
 -- ## Slots that are like themselves
 like-itself : (source : List ℕ) (slots : List row.Slot) → AreLike source slots slots
 like-itself source [] = refl
-like-itself source (row.ItemSlot x ∷ slots) = (record { start = refl; end = refl; event = refl }, like-itself source slots)
+like-itself source (row.ItemSlot x ∷ slots) = (record { start = refl; end = refl; event = refl; lines = λ q. refl }, like-itself source slots)
 like-itself source (row.BeginSlot tag start end ∷ slots) = (refl, like-itself source slots)
 like-itself source (row.EndSlot ∷ slots) = (refl, like-itself source slots)
 like-itself source (row.NothingSlot ∷ slots) = (refl, like-itself source slots)
@@ -85,8 +85,9 @@ module _ (leaf : LeafText) (reader : Reader) (read : Leaf) (place : ℕ → ℕ)
         end = ap (λ n. place_of leaf n + 1) last ∙ ap (λ n. n + 1) b ∙ (let q : place k + 1 ≡ suc (place k) = omega arith in q);
         event = ap event.Text (
             one-of (text_of leaf) k (k + 1) (let q : k + 1 ≡ suc k = omega arith in q) within
-                ∙ ap (λ x. x ∷ []) (sym (places.places.bytes k within))
-                ∙ sym (one-of reader.source (place k) (suc (place k)) refl (places.places.inside k within)));
+            ∙ ap (λ x. x ∷ []) (sym (places.places.bytes k within))
+            ∙ sym (one-of reader.source (place k) (suc (place k)) refl (places.places.inside k within)));
+        lines = λ q. refl;
       }
 
   -- the `[` behind a `!`
@@ -118,6 +119,7 @@ module _ (leaf : LeafText) (reader : Reader) (read : Leaf) (place : ℕ → ℕ)
       start = e;
       end = ap (λ n. place_of leaf n + 1) (let q : close + 1 - 1 ≡ close = omega arith in q) ∙ ap (λ n. n + 1) (places.bytes close within) ∙ (let q : place close + 1 ≡ suc (place close) = omega arith in q) ∙ sym ends;
       event = refl;
+      lines = λ q. refl;
     }
 
     abbrev StandsAs : Bool → Type 0
@@ -220,11 +222,15 @@ module _ (leaf : LeafText) (reader : Reader) (read : Leaf) (place : ℕ → ℕ)
       record {
         row = row.BeginSlot (wiki_tag b.is_image name false) (place b.start) (suc closer.end) ∷ ((nothing ++ (row.ItemSlot shows ∷ [])) ++ (row.EndSlot ∷ []));
         laid = own-laid (wiki_tag b.is_image name false) (place b.start) (suc closer.end) at (name_text (bracket_place place b).bracket closer) shows nothing none refl;
-        like = (begin-is (wiki_tag b.is_image name false), like-around reader.source nothing (item_slot items.Own (place_of leaf (inner + 1)) source_end) (row.ItemSlot shows) none (record {
-          start = from;
-          end = to;
-          event = ap (λ n. event.Text (slice reader.source n source_end)) from ∙ ap (λ n. event.Text (slice reader.source (suc (place b.inside)) n)) to;
-        }));
+        like = (
+          begin-is (wiki_tag b.is_image name false),
+          like-around reader.source nothing (item_slot items.Own (place_of leaf (inner + 1)) source_end) (row.ItemSlot shows) none (record {
+            start = from;
+            end = to;
+            event = ap (λ n. event.Text (slice reader.source n source_end)) from ∙ ap (λ n. event.Text (slice reader.source (suc (place b.inside)) n)) to;
+            lines = λ q. refl;
+          }),
+        );
       }
 
   -- nothing, where the pipe stands directly before the closing bracket
@@ -242,6 +248,7 @@ module _ (leaf : LeafText) (reader : Reader) (read : Leaf) (place : ℕ → ℕ)
         start = first_is;
         end = first_is;
         event = ap event.Text (sym (ap (λ n. take n (drop display reader.source)) (let q : display - display ≡ 0 = omega arith in q)));
+        lines = λ q. refl;
       } in
       let tag = wiki_tag b.is_image name true in
       let own : List Slot = record { kind = kind.Empty; start = close; end = close + 1 } ∷ [] in

@@ -3,7 +3,8 @@ use Rattle.std.specs.Prelude.{Option, reverse, chars, encode_utf8, codes, if◌t
 use Rattle.std.proofs.Common.{◌≡◌, ◌⊎◌, inl, inr, ℕ, suc, ◌+◌, ◌-◌, ◌<◌, ◌≤◌, ◌==◌, ◌&&◌, ◌||◌, Bool, true, false, List, [], ◌∷◌, ◌++◌, length, take, drop, get_or, refl, sym, ap, ◌∙◌, arith, eqb-true}
 use Rattle.std.specs.List.{prefix_len}
 use Rattle.std.proofs.lemmas.Bool.{or_cases, not-true, lt-ltb, le-ltb, false_from_ne_true}
-use Rattle.std.proofs.lemmas.List.{take-append-drop}
+use Rattle.std.proofs.lemmas.List.{take-append-drop, get_or-drop}
+use Rattle.std.proofs.lemmas.List.Sums.{prefix_len_passes}
 use Rattle.std.proofs.lemmas.Slice.Eq.{bytes_eq-Decides}
 use lib.Utf8.{encode}
 use Rattle.cmark_grammar.specs.Answers.{Lookup}
@@ -13,6 +14,7 @@ use Rattle.cmark_grammar.specs.InlineTokens.{first_of, item_at, run_at, run_or, 
 use Rattle.cmark_grammar.specs.Formulas.{no_braces, braces_behind}
 use Rattle.cmark_grammar.specs.Items.{Plain, Written, Quoted, Delimiters, Token}
 use Rattle.cmark_grammar.specs.Letters.{starts}
+use Rattle.cmark_grammar.specs.Lines.{is_content}
 use Rattle.cmark_grammar.specs.Options.{Options}
 use Rattle.cmark_grammar.specs.Quotes.{quote_beside}
 use Rattle.cmark_inline.specs.Tokens.{whole, reading, begins_at, is_mark}
@@ -137,6 +139,28 @@ module _ (o : Options) (l : Lookup) (cell : Bool) (text : List ℕ) (at : ℕ) (
 pub ellipsis-bytes : encode_utf8 8230 ≡ 226 ∷ 128 ∷ 166 ∷ []
 unfolding encode
 ellipsis-bytes = refl
+
+-- each byte of a run ends no line
+pub run-content : (text : List ℕ) (at end b : ℕ) → get_or text at 0 ≡ b → is_mark b ≡ true → end ≡ at + prefix_len (λ c. c == get_or text at 0) (drop at text) → (k : ℕ) → at ≤ k → k < end → is_content (get_or text k 0) ≡ true
+run-content text at end b is mark ends k low high =
+    let p : ℕ → Bool = λ c. c == get_or text at 0 in
+    let inside : k - at < prefix_len p (drop at text) = omega (arith, ends, low, high) in
+    let byte : get_or text k 0 ≡ b =
+    ap (λ i. get_or text i 0) (let q : k ≡ at + (k - at) = omega (arith, low) in q) ∙ sym (get_or-drop at text (k - at) 0)
+    ∙ eqb-true (get_or (drop at text) (k - at) 0) (get_or text at 0) (prefix_len_passes p (drop at text) (k - at) 0 inside) ∙ is in
+    ap is_content byte ∙ go (or_cases (b == 42) ((b == 95) || ((b == 126) || (b == 94))) mark)
+  where
+    last : ((b == 126) ≡ true) ⊎ ((b == 94) ≡ true) → is_content b ≡ true
+    last (inl h) = ap is_content (eqb-true b 126 h)
+    last (inr h) = ap is_content (eqb-true b 94 h)
+
+    more : ((b == 95) ≡ true) ⊎ (((b == 126) || (b == 94)) ≡ true) → is_content b ≡ true
+    more (inl h) = ap is_content (eqb-true b 95 h)
+    more (inr h) = last (or_cases (b == 126) (b == 94) h)
+
+    go : ((b == 42) ≡ true) ⊎ (((b == 95) || ((b == 126) || (b == 94))) ≡ true) → is_content b ≡ true
+    go (inl h) = ap is_content (eqb-true b 42 h)
+    go (inr h) = more (or_cases (b == 95) ((b == 126) || (b == 94)) h)
 
 -- ## Runs, by what the code finds
 module _ (o : Options) (l : Lookup) (cell : Bool) (text : List ℕ) (at : ℕ) (lt : at < length text) (b end size : ℕ) (before after : Option ℕ) (beside : Flanking) where

@@ -4,8 +4,8 @@ use Rattle.cmark_grammar.specs.Answers.{Lookup}
 use Rattle.cmark_grammar.specs.Options.{Options}
 use Rattle.cmark_leaf_text.specs.Reads.{is_cell_of, text_of}
 use Rattle.cmark_leaf_text.specs.declared.leaf_text.LeafText.{LeafText}
-use Rattle.cmark_inline.specs.SpecialReads.{ReadsSpecial}
-use Rattle.cmark_inline.specs.Tokens.{Passes, Appends, Escapes, TakesEscaped, AppendsRun, AppendsQuote, OpensBracket, PassesOver, EscapesPipe}
+use Rattle.cmark_inline.specs.SpecialReads.{OpensBracket, ReadsSpecial}
+use Rattle.cmark_inline.specs.Tokens.{Passes, Appends, Escapes, TakesEscaped, AppendsRun, AppendsQuote, PassesOver, EscapesPipe}
 use Rattle.cmark_inline.specs.declared.state.InlineState.{InlineState}
 use Rattle.cmark_inline.specs.declared.step.Cursor.{Cursor}
 

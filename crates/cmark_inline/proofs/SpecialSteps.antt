@@ -6,6 +6,7 @@ use Rattle.std.proofs.lemmas.Bool.{or_cases, and_parts}
 use Rattle.std.proofs.lemmas.List.{get_or-drop}
 use Rattle.std.proofs.lemmas.List.Sums.{prefix_len_passes, prefix_len-le-length}
 use Rattle.cmark_grammar.specs.Answers.{Lookup}
+use Rattle.cmark_grammar.specs.Columns.{is_blank_byte}
 use Rattle.cmark_grammar.specs.Flanking.{Flanking, flanking}
 use Rattle.cmark_grammar.specs.Formulas.{no_braces, braces_behind}
 use Rattle.cmark_grammar.specs.InlineTokens.{item_at, bracket, before, dollar}
@@ -175,17 +176,31 @@ module _ (o : Options) (l : Lookup) (cell : Bool) (text : List ℕ) (at : ℕ) (
       go (inr h) = more (or_cases (b == 123) (b == 125) h)
 
 -- each byte of a run of them
-pub others-stand : (o : Options) (l : Lookup) (cell : Bool) (text : List ℕ) (at b end : ℕ) → get_or text at 0 ≡ b → is_other b ≡ true → end ≡ at + prefix_len (λ c. c == get_or text at 0) (drop at text)
-    → (k : ℕ) → at ≤ k → k < end → begins_at o l cell text k ≡ item_at Plain k (k + 1)
-others-stand o l cell text at b end is e ends k low high =
+run-byte : (text : List ℕ) (at b end : ℕ) → get_or text at 0 ≡ b → end ≡ at + prefix_len (λ c. c == get_or text at 0) (drop at text) → (k : ℕ) → at ≤ k → k < end → (k < length text) × (get_or text k 0 ≡ b)
+run-byte text at b end is ends k low high =
     let p : ℕ → Bool = λ c. c == get_or text at 0 in
     let n = prefix_len-le-length p (drop at text) in
     let d = length-drop at text in
-    let inside : k - at < prefix_len p (drop at text) = omega (arith, ends, low, high) in
-    let byte : get_or text k 0 ≡ b =
-    ap (λ i. get_or text i 0) (let q : k ≡ at + (k - at) = omega (arith, low) in q) ∙ sym (get_or-drop at text (k - at) 0)
-    ∙ eqb-true (get_or (drop at text) (k - at) 0) (get_or text at 0) (prefix_len_passes p (drop at text) (k - at) 0 inside) ∙ is in
-    other-stands o l cell text k (let q : k < length text = omega (arith, inside, n, d) in q) b byte e
+    let inside : k - at < prefix_len p (drop at text) = omega (arith, ends, low, high) in (
+      (let q : k < length text = omega (arith, inside, n, d) in q),
+      ap (λ i. get_or text i 0) (let q : k ≡ at + (k - at) = omega (arith, low) in q) ∙ sym (get_or-drop at text (k - at) 0)
+          ∙ eqb-true (get_or (drop at text) (k - at) 0) (get_or text at 0) (prefix_len_passes p (drop at text) (k - at) 0 inside) ∙ is,
+    )
+
+pub others-stand : (o : Options) (l : Lookup) (cell : Bool) (text : List ℕ) (at b end : ℕ) → get_or text at 0 ≡ b → is_other b ≡ true → end ≡ at + prefix_len (λ c. c == get_or text at 0) (drop at text)
+    → (k : ℕ) → at ≤ k → k < end → begins_at o l cell text k ≡ item_at Plain k (k + 1)
+others-stand o l cell text at b end is e ends k low high = let h = run-byte text at b end is ends k low high in other-stands o l cell text k h.0 b h.1 e
+
+pub others-last : (text : List ℕ) (at b end : ℕ) → get_or text at 0 ≡ b → is_other b ≡ true → end ≡ at + prefix_len (λ c. c == get_or text at 0) (drop at text) → at < end → is_blank_byte (get_or text (end - 1) 0) ≡ false
+others-last text at b end is e ends some = ap is_blank_byte (run-byte text at b end is ends (end - 1) (omega (arith, some)) (omega (arith, some))).1 ∙ go (or_cases (b == 124) ((b == 123) || (b == 125)) e)
+  where
+    more : ((b == 123) ≡ true) ⊎ ((b == 125) ≡ true) → is_blank_byte b ≡ false
+    more (inl h) = ap is_blank_byte (eqb-true b 123 h)
+    more (inr h) = ap is_blank_byte (eqb-true b 125 h)
+
+    go : ((b == 124) ≡ true) ⊎ (((b == 123) || (b == 125)) ≡ true) → is_blank_byte b ≡ false
+    go (inl h) = ap is_blank_byte (eqb-true b 124 h)
+    go (inr h) = more (or_cases (b == 123) (b == 125) h)
 
 abbrev none : Flanking
 none = record { opens = false; closes = false }

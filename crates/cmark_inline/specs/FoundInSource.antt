@@ -1,5 +1,5 @@
 -- Inline HTML that is found in the text of a leaf, or in its source.
-use Rattle.std.specs.Prelude.{◌≡◌, ◌⊎◌, ℕ, ◌+◌, ◌-◌, ◌≤◌, ◌<◌, Bool, true, false, ◌&&◌, List, length, drop, codes, Some, None}
+use Rattle.std.specs.Prelude.{◌≡◌, ◌⊎◌, ℕ, ◌+◌, ◌-◌, ◌≤◌, ◌<◌, Bool, true, false, ◌&&◌, List, length, drop, slice_index, codes, Some, None}
 use Rattle.cmark_grammar.specs.Answers.{Lookup}
 use Rattle.cmark_grammar.specs.Autolinks.{autolink_in}
 use Rattle.cmark_grammar.specs.InlineHtml.{behind_inline_html, behind_markup}
@@ -39,6 +39,7 @@ pub record IsTag (leaf : LeafText) (at : ℕ) (found : FoundHtml) : Type 0 where
 pub record IsInSource (leaf : LeafText) (at : ℕ) (found : FoundHtml) : Type 0 where
   pub size : ℕ
   pub opens : opens_markup (drop (at + 1) (text_of leaf)) ≡ true
+  pub within : size ≤ length (source_from leaf at)
   pub closes : behind_markup (source_from leaf at) ≡ Some (drop size (source_from leaf at))
   pub kind_is : found.kind ≡ kind.SourceHtml (place_of leaf at + size)
   pub goes_on : IsFirstFrom leaf (place_of leaf at + size) found.end
@@ -66,6 +67,7 @@ pub record AreUnclosed (leaf : LeafText) (at : ℕ) (unclosed : Unclosed) : Type
 
 -- the text that was pending, and then a slot for markup that the source closes
 pub record AppendsMarkup (leaf : LeafText) (here : Cursor) (old new : InlineState) (next : Cursor) : Type 0 where
+  pub byte : slice_index (text_of leaf) here.at ≡ 60
   pub autolink : autolink_in (drop (here.at + 1) (text_of leaf)) ≡ None
   pub found : FoundHtml
   pub is : IsInSource leaf here.at found
@@ -76,6 +78,7 @@ pub record AppendsMarkup (leaf : LeafText) (here : Cursor) (old new : InlineStat
 
 -- the text that was pending, and then the `<` as a text of its own, where markup opens that the source does not close
 pub record AppendsUnclosed (leaf : LeafText) (here : Cursor) (old new : InlineState) (next : Cursor) : Type 0 where
+  pub byte : slice_index (text_of leaf) here.at ≡ 60
   pub autolink : autolink_in (drop (here.at + 1) (text_of leaf)) ≡ None
   pub opens : opens_markup (drop (here.at + 1) (text_of leaf)) ≡ true
   pub closes : behind_markup (source_from leaf here.at) ≡ None

@@ -21,5 +21,6 @@ pub mod PlainStretches
 pub mod BracketViews
 pub mod Decided
 pub mod Closers
+pub mod Come
 pub mod Written
 pub mod Hiding

@@ -1,8 +1,8 @@
 -- How far a leaf is read, in the states of the code and of the grammar.
-use Rattle.std.specs.Prelude.{◌≡◌, ℕ, List, map}
+use Rattle.std.specs.Prelude.{◌≡◌, ℕ, suc, ◌-◌, List, map}
 use Rattle.cmark_grammar.specs.Emphasis.{Run}
 use Rattle.cmark_grammar.specs.LeafReading.{Between}
-use Rattle.cmark_grammar.specs.LeafText.{Leaf}
+use Rattle.cmark_grammar.specs.LeafText.{Leaf, begin_of}
 use Rattle.cmark_grammar.specs.Quotes.{Quote}
 use Rattle.cmark_grammar.specs.Readers.{Reader}
 use Rattle.cmark_leaf_text.specs.Reads.{is_cell_of, place_of, text_of}
@@ -25,6 +25,8 @@ pub record ReadsPlaces (leaf : LeafText) (reader : Reader) (read : Leaf) (place 
   pub places : AreLeafPlaces reader read (text_of leaf) place
   pub cell : read.is_cell ≡ is_cell_of leaf
   pub bytes : (k : ℕ) → k < length (text_of leaf) → place_of leaf k ≡ place k
+  pub first : begin_of read.stretches ≡ place 0
+  pub last : 0 < length (text_of leaf) → place (length (text_of leaf)) ≡ suc (place (length (text_of leaf) - 1))
 
 -- an opening bracket, with what stands before it in the row
 abbrev pub bracket_place : (place : ℕ → ℕ) → Bracket → BracketPlace

@@ -133,6 +133,12 @@ IsEnd text at close end = IsSlot text at (record { kind = kind.End; start = clos
 abbrev pub PushesText : (start end : ℕ) → (old new : List Slot) → Type 0
 PushesText start end old new = (start < end → new ≡ old ++ (record { kind = kind.Text; start = start; end = end } ∷ [])) × (end ≤ start → new ≡ old)
 
+-- a state that had room for the slot of the text that was pending up to a place
+pub record Flushes (start end : ℕ) (old : InlineState) : Type 0 where
+  pub flushed : InlineState
+  pub pushes : PushesText start end old.slots.items flushed.slots.items
+  pub others : flushed ≡ record old { slots = flushed.slots }
+
 -- what forms a link ends behind its closing bracket, and so does what it uses up
 pub record IsTarget (text : List ℕ) (close : ℕ) (target : Target) : Type 0 where
   pub behind : close < target.end

@@ -1,18 +1,20 @@
 -- What begins at a place of a leaf's text, and the slots that stand for it. The text is read as a leaf of one stretch, so places are
 -- those of the text; it may be that of a cell of a table, where a backslash before a pipe means something else.
-use Rattle.std.specs.Prelude.{◌≡◌, ℕ, zero, suc, ◌+◌, ◌-◌, ◌≤◌, ◌<◌, Bool, true, false, ◌==◌, ◌||◌, List, [], ◌∷◌, ◌++◌, length, drop, encode_utf8, slice_index, slice_get, Some, None}
+use Rattle.std.specs.Prelude.{◌≡◌, ◌⊎◌, ℕ, zero, suc, ◌+◌, ◌-◌, ◌≤◌, ◌<◌, Bool, true, false, ◌==◌, ◌||◌, List, [], ◌∷◌, ◌++◌, length, drop, encode_utf8, slice_index, slice_get, Some, None, is_some}
 use Rattle.cmark_grammar.specs.Answers.{Lookup}
 use Rattle.cmark_grammar.specs.CodeSpans.{is_backtick, backticks, code_in, code_text}
 use Rattle.cmark_grammar.specs.Columns.{is_blank_byte}
 use Rattle.cmark_grammar.specs.InlineTokens as tokens
-use Rattle.cmark_grammar.specs.InlineTokens.{as_in, item_at}
-use Rattle.cmark_grammar.specs.Items.{ItemKind, Plain, Own, Written, Quoted, Delimiters, Code, InlineMath, DisplayMath, Autolink, Html, OwnedHtml, SoftBreak, HardBreak, Item, Token, Stands, Opens}
+use Rattle.cmark_grammar.specs.InlineTokens.{as_in, is_plain, item_at}
+use Rattle.cmark_grammar.specs.Items.{ItemKind, Plain, Own, Written, Quoted, Delimiters, Code, InlineMath, DisplayMath, Autolink, Html, OwnedHtml, SoftBreak, HardBreak, Item, Token, Stands}
+use Rattle.cmark_grammar.specs.LabelsOverLines.{piped}
 use Rattle.cmark_grammar.specs.LeafText.{Leaf}
-use Rattle.cmark_grammar.specs.Letters.{first_is}
+use Rattle.cmark_grammar.specs.Letters.{first_is, starts}
+use Rattle.cmark_grammar.specs.Lines.{is_content}
 use Rattle.cmark_grammar.specs.LinkDefinitions.{Found}
 use Rattle.cmark_grammar.specs.Options.{Options, no_options}
 use Rattle.cmark_grammar.specs.Readers.{Reader}
-use Rattle.cmark_grammar.specs.Tokens.{slice}
+use Rattle.cmark_grammar.specs.Tokens.{is_punctuation, slice}
 use Rattle.cmark_emphasis.specs.Shown.{shown_quote, shown_run}
 use Rattle.cmark_emphasis.specs.declared.quotes.Quote.{Quote}
 use Rattle.cmark_emphasis.specs.declared.run.Run.{Run}
@@ -107,10 +109,20 @@ is_other b = (b == 124) || ((b == 123) || (b == 125))
 pub record PassesOver (options : Options) (lookup : Lookup) (is_cell : Bool) (text : List ℕ) (here : Cursor) (old new : InlineState) (next : Cursor) : Type 0 where
   pub further : here.at < next.at
   pub plain : (k : ℕ) → here.at ≤ k → k < next.at → begins_at options lookup is_cell text k ≡ item_at Plain k (k + 1)
+  pub last : is_blank_byte (slice_index text (next.at - 1)) ≡ false
   pub pending : next.pending ≡ here.pending
   pub same : new ≡ old
 
--- the text that was pending, and then a slot for the item that begins at the place that was reached, or at the blanks before it
+-- The item begins at the byte that was reached, which ends no line and opens no markup that is sought in the source; a run of backticks
+-- behind one that is pending opens a code span. Or it begins at the blanks in front of a line ending, of those that are pending the first
+abbrev pub BeginsThere : (text : List ℕ) → (here : Cursor) → (from : ℕ) → Type 0
+BeginsThere text here from =
+    ((from ≡ here.at) × (is_content (slice_index text here.at) ≡ true) × (slice_index text here.at ≡ 60 → opens_markup (drop (here.at + 1) text) ≡ false)
+    × (slice_index text here.at ≡ 96 → here.pending + 1 ≡ here.at → slice_index text here.pending ≡ 96 → is_some (code_in (drop here.at text)) ≡ true))
+    ⊎ ((is_content (slice_index text here.at) ≡ false) × (here.pending < from → is_blank_byte (slice_index text (from - 1)) ≡ false))
+
+-- the text that was pending, and then a slot for the item that begins at the place that was reached, or at the blanks before it; it is
+-- no text that goes on with what it touches
 pub record Appends (options : Options) (lookup : Lookup) (is_cell : Bool) (text : List ℕ) (here : Cursor) (old new : InlineState) (next : Cursor) : Type 0 where
   pub from : ℕ
   pub item : Item
@@ -118,6 +130,8 @@ pub record Appends (options : Options) (lookup : Lookup) (is_cell : Bool) (text 
   pub behind : here.pending ≤ from
   pub before : from ≤ here.at
   pub blanks : (k : ℕ) → from ≤ k → k < here.at → is_blank_byte (slice_index text k) ≡ true
+  pub there : BeginsThere text here from
+  pub own : is_plain item.kind ≡ false
   pub token : begins_at options lookup is_cell text from ≡ Stands item next.at
   pub pending : next.pending ≡ next.at
   pub slots : Puts here.pending from slot old.slots.items new.slots.items
@@ -139,6 +153,8 @@ pub record AppendsAutolink (options : Options) (lookup : Lookup) (is_cell : Bool
 -- the text that was pending; behind the backslash at the place that was reached a text begins with the byte that it escapes. A run
 -- of backticks is not settled there yet: its first one stands for itself where the rest of it opens a code span
 pub record Escapes (options : Options) (lookup : Lookup) (is_cell : Bool) (text : List ℕ) (here : Cursor) (old new : InlineState) (next : Cursor) : Type 0 where
+  pub byte : slice_index text here.at ≡ 92
+  pub escaped : first_is is_punctuation (drop (here.at + 1) text) ≡ true
   pub pending : next.pending ≡ here.at + 1
   pub at : next.at ≡ here.at + 2
   pub token : first_is is_backtick (drop (here.at + 1) text) ≡ false → begins_at options lookup is_cell text here.at ≡ item_at Plain next.pending next.at
@@ -152,6 +168,7 @@ pub record Escapes (options : Options) (lookup : Lookup) (is_cell : Bool) (text 
 -- with which a text begins
 pub record EscapesPipe (options : Options) (lookup : Lookup) (is_cell : Bool) (text : List ℕ) (here : Cursor) (old new : InlineState) (next : Cursor) : Type 0 where
   pub cell : is_cell ≡ true
+  pub pipe : starts piped (drop (here.at + 1) text) ≡ true
   pub pending : next.pending ≡ here.at + 2
   pub at : next.at ≡ here.at + 3
   pub token : begins_at options lookup is_cell text here.at ≡ item_at Plain next.pending next.at
@@ -172,6 +189,7 @@ pub record TakesEscaped (options : Options) (lookup : Lookup) (is_cell : Bool) (
 pub record AppendsQuote (options : Options) (lookup : Lookup) (is_cell : Bool) (text : List ℕ) (here : Cursor) (old new : InlineState) (next : Cursor) : Type 0 where
   pub quote : Quote
   pub token : begins_at options lookup is_cell text here.at ≡ item_at (Quoted (shown_quote quote)) here.at next.at
+  pub size : next.at ≡ here.at + 1
   pub pending : next.pending ≡ next.at
   pub before : List Slot
   pub text_is : PushesText here.pending here.at old.slots.items before
@@ -191,6 +209,8 @@ byte_slots start (suc size) = record { kind = kind.Text; start = start; end = st
 pub record AppendsRun (options : Options) (lookup : Lookup) (is_cell : Bool) (text : List ℕ) (here : Cursor) (old new : InlineState) (next : Cursor) : Type 0 where
   pub run : Run
   pub token : begins_at options lookup is_cell text here.at ≡ item_at (Delimiters (shown_run run)) here.at next.at
+  pub size : next.at ≡ here.at + run.size
+  pub bytes : (k : ℕ) → here.at ≤ k → k < next.at → is_content (slice_index text k) ≡ true
   pub pending : next.pending ≡ next.at
   pub before : List Slot
   pub text_is : PushesText here.pending here.at old.slots.items before
@@ -212,10 +232,3 @@ pub record PutsBracket (is_image : Bool) (start at inside : ℕ) (old new : Inli
       ++ (record { slot = length before; runs = length old.delimiters.placed.items; quotes = length old.quotes.placed.items; start = at; inside = inside; is_image = is_image } ∷ [])
   pub shut : new.brackets.shut ≡ old.brackets.shut
   pub others : new ≡ record old { slots = new.slots; brackets = new.brackets; doubled = new.doubled }
-
--- the opening bracket that begins at the place that was reached
-pub record OpensBracket (options : Options) (lookup : Lookup) (is_cell : Bool) (text : List ℕ) (here : Cursor) (old new : InlineState) (next : Cursor) : Type 0 where
-  pub is_image : Bool
-  pub token : begins_at options lookup is_cell text here.at ≡ Opens (tokens.bracket is_image here.at next.at)
-  pub pending : next.pending ≡ next.at
-  pub puts : PutsBracket is_image here.pending here.at next.at old new

@@ -91,9 +91,12 @@ pub record Hides (from to : ℕ) (old new : List Slot) : Type 0 where
   pub before : (k : ℕ) (d : Slot) → k < from → get_or new k d ≡ get_or old k d
   pub behind : (k : ℕ) (d : Slot) → to ≤ k → get_or new k d ≡ get_or old k d
 
--- a slot that begins at a place inside it: a tag over lines stays whole
+-- a slot that begins at a place inside it: a tag over lines stays whole, and a text is what stands in the source
 abbrev pub cut_kind : (text : List ℕ) → (start end : ℕ) → SlotKind → SlotKind
 cut_kind text start end kind.InlineHtml = if takes_lines (slice text start end) then kind.CutHtml start else kind.InlineHtml
+cut_kind text start end (kind.CutHtml from) = if takes_lines (slice text from end) then kind.CutHtml from else kind.InlineHtml
+cut_kind text start end (kind.OwnedText index) = kind.Whole 0
+cut_kind text start end (kind.Character character) = kind.Whole 0
 cut_kind text start end other = other
 
 abbrev pub cut_slot : (text : List ℕ) → (place : ℕ) → Slot → Slot

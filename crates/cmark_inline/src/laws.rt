@@ -1,15 +1,15 @@
 //! Theorems over the text of a leaf and the grammar's leaf, each the contract of a function that does nothing.
 
-ghost use Rattle.std.specs.Prelude.{◌≡◌, ◌<◌, ◌≤◌, ℕ, false, List, drop, length};
+ghost use Rattle.std.specs.Prelude.{◌≡◌, ◌<◌, ◌≤◌, ◌-◌, ℕ, suc, false, List, drop, length};
 ghost use Rattle.cmark_grammar.specs.InlineTokens.{item_at, token};
 ghost use Rattle.cmark_grammar.specs.Items.{Item, Plain, Stands};
-ghost use Rattle.cmark_grammar.specs.LeafText.{Leaf};
+ghost use Rattle.cmark_grammar.specs.LeafText.{InTurn, Leaf, begin_of};
 ghost use Rattle.cmark_grammar.specs.Readers.{Reader};
 ghost use Rattle.cmark_inline_model.specs.LeafModel.{HaveLineEnds};
 ghost use Rattle.cmark_inline_model.specs.LikeSlots.{IsLike};
 ghost use Rattle.cmark_inline_model.specs.PlacedTokens.{AreLeafPlaces, HaveWholeEndings, StopsAt, may_open_markup, one_stretch, placed_item, text_reader};
 ghost use Rattle.cmark_inline_model.specs.SlotRows.{ItemSlot};
-ghost use Rattle.cmark_inline_model.specs.TextPlaces.{place_in};
+ghost use Rattle.cmark_inline_model.specs.TextPlaces.{place_in, text_of as bytes_in};
 ghost use Rattle.cmark_leaf_text.specs.Reads.{IsRead, is_cell_of, place_of, source_of, text_of};
 ghost use Rattle.cmark_leaf_text.specs.declared.leaf_text.LeafText.{LeafText};
 ghost use Rattle.cmark_text.specs.declared.text.CowStr.{CowStr};
@@ -30,6 +30,14 @@ pub fn a_leaf_text_is_a_leaf_of_the_grammar()
         → AreLeafPlaces reader (shown_leaf leaf) (text_of leaf) (place_in reader (shown_leaf leaf)) }
     ensures bytes { (leaf : LeafText) (reader : Reader) → IsRead leaf → reader.source ≡ source_of leaf
         → (k : ℕ) → k < length (text_of leaf) → place_of leaf k ≡ place_in reader (shown_leaf leaf) k }
+{}
+
+/// A leaf whose lines end with line endings begins in the place of its first byte (`first`), and ends directly behind that of its last one
+/// (`last`).
+pub fn a_leaf_begins_and_ends_with_its_bytes()
+    ensures first { (reader : Reader) (leaf : Leaf) → InTurn 0 leaf.stretches (length reader.source) → HaveLineEnds reader.source leaf.stretches → begin_of leaf.stretches ≡ place_in reader leaf 0 }
+    ensures last { (reader : Reader) (leaf : Leaf) → HaveLineEnds reader.source leaf.stretches → 0 < length (bytes_in reader leaf)
+        → place_in reader leaf (length (bytes_in reader leaf)) ≡ suc (place_in reader leaf (length (bytes_in reader leaf) - 1)) }
 {}
 
 /// A slot that stands for an item of a leaf's text is like this item in the places of the source: it gives the same event, and comes from

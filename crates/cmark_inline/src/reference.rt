@@ -8,7 +8,6 @@ ghost use Rattle.cmark_items.specs.Definitions.{definition};
 ghost use Rattle.cmark_text.specs.Labelled.{link_text};
 ghost use Rattle.cmark_inline.specs.Linked.{Answers, Refers, left_behind};
 ghost use Rattle.cmark_grammar.specs.Answers.{Lookup};
-ghost use Rattle.cmark_grammar.specs.Options.{Options as Extensions};
 ghost use Rattle.cmark_grammar.specs.Spans.{Spans};
 ghost use Rattle.cmark_text.specs.Shown.{shown_link_type, shown_options};
 ghost use Rattle.cmark_text.specs.declared.text.CowStr.{CowStr as Texts};
@@ -27,9 +26,10 @@ ghost use Rattle.cmark_inline.specs.SlotViews.{shown_slots};
 ghost use Rattle.cmark_inline.specs.Written.{WritesElement, dressed_behind, end_slot};
 ghost use Rattle.cmark_inline.specs.declared.link.LinkParts.{LinkParts as Parts};
 ghost use Rattle.cmark_inline.specs.Sound.{AreEnded, CanSettle, IsSettled, IsSound, IsTakenFrom, KeepsSound};
-ghost use Rattle.cmark_inline.specs.Tokens.{OpensBracket, Passes, PutsBracket};
+ghost use Rattle.cmark_inline.specs.SpecialReads.{OpensBracket};
+ghost use Rattle.cmark_inline.specs.Tokens.{Passes, PutsBracket};
 ghost use Rattle.cmark_leaf_text.specs.declared.leaf_text.LeafText.{LeafText as LeafTexts};
-ghost use Rattle.cmark_inline.specs.Stands.{HoldNoLink, IsEnd, NoNewLink, AreSlots, AreBrackets, IsBracket, IsCursor, IsSlot, IsTarget, Moves, SameSpans, Stands, bytes_of};
+ghost use Rattle.cmark_inline.specs.Stands.{HoldNoLink, IsEnd, NoNewLink, AreSlots, AreBrackets, IsBracket, IsCursor, IsSlot, IsTarget, Moves, SameSpans, Stands, Flushes, bytes_of};
 
 use crate::bracket::Bracket;
 use crate::callback::{BrokenLink, BrokenLinkCallback};
@@ -62,7 +62,7 @@ impl<'a> InlineState<'a> {
         ensures expansion { self.new.expansion ≡ self.old.expansion }
         ensures keeps { OnOk result (KeepsSound self.old self.new) }
         ensures moves { IfOk result (Moves text.now here.at self.new) }
-        ensures token { (options : Extensions) (lookup : Lookup) (is_cell : Bool) → slice_index text.now here.at ≡ 33 → IfOk result (λ next. Passes options lookup is_cell text.now here self.old self.new next ⊎ OpensBracket options lookup is_cell text.now here self.old self.new next) }
+        ensures token { (lookup : Lookup) (is_cell : Bool) → slice_index text.now here.at ≡ 33 → IfOk result (λ next. Passes (shown_options options) lookup is_cell text.now here self.old self.new next ⊎ OpensBracket (shown_options options) lookup is_cell text.now here self.old self.new next) }
     {
         if is_followed_by(text, here.at, b'[') {
             let inside = behind(text, behind(text, here.at));
@@ -134,6 +134,7 @@ impl<'a> InlineState<'a> {
         ensures spent { self.old.expansion ≡ 0 → (callback.new ≡ callback.old) × (self.new.expansion ≡ 0) }
         ensures moves { IfOk result (Moves text.now here.at self.new) }
         ensures footnotes { SameFootnotes footnotes.old footnotes.new }
+        ensures flushes { OnOk result (Flushes here.pending here.at self.old) }
         ensures closes { IfOk result (λ next. Closes F.answers (shown_options reader.now.options) (E.replacement reader.now.entities.now) reader.now.references.now footnotes.old leaf.now text.now here.pending here.at self.old self.new next callback.old callback.new) }
     {
         self.flush(text, here, here.at)?;

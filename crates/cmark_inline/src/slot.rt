@@ -2,6 +2,8 @@
 
 ghost use Rattle.std.specs.Prelude.{◌≡◌, ◌<◌, ◌≤◌, ◌+◌, ◌++◌, ◌∷◌, ◌&&◌, nat_lt, true, false, [], ℕ, List, get_or, length, set, OnOk};
 ghost use Rattle.std.specs.Str.{IsCharBoundary};
+ghost use Rattle.cmark_grammar.specs.InlineHtml.{takes_lines};
+ghost use Rattle.cmark_grammar.specs.Tokens.{slice};
 ghost use Rattle.cmark_inline.specs.Footnoted.{put_at};
 ghost use Rattle.cmark_inline.specs.Marked.{AreWhole, Merges, begun_as, ended, last_in, whole_to};
 ghost use Rattle.cmark_inline.specs.Quoted.{with_character};
@@ -288,7 +290,7 @@ pub fn hide(slots: &mut Vec<Slot>, from: usize, to: usize)
 }
 
 /// Makes a slot begin at a place, if that is inside it. What it holds stays whole, but for a text and for HTML on one line, which
-/// are the bytes of their range.
+/// are what stands there.
 pub fn cut(slots: &mut Vec<Slot>, at: usize, text: &str, place: usize)
     requires slots { (end : ℕ) × AreSlots text.now end slots.old.items }
     requires place { IsCharBoundary text.now place }
@@ -305,7 +307,8 @@ pub fn cut(slots: &mut Vec<Slot>, at: usize, text: &str, place: usize)
 
 // A slot that begins at a place, if that is inside it.
 fn cut_slot(slot: Slot, text: &str, place: usize) -> Slot
-    requires { IsPart text.now slot.start slot.end }
+    requires part { IsPart text.now slot.start slot.end }
+    requires content { IsContent text.now slot.kind }
     ensures value { result ≡ cut_slot text.now place slot }
     ensures slot { (end : ℕ) → IsSlot text.now end slot → IsCharBoundary text.now place → IsSlot text.now end result }
     ensures link { begins_link result.kind ≡ begins_link slot.kind }
@@ -329,17 +332,29 @@ fn is_inside(slot: Slot, place: usize) -> bool
 
 // What a slot stands for that begins behind its first bytes.
 fn cut_kind(slot: Slot, text: &str) -> SlotKind
-    requires { IsPart text.now slot.start slot.end }
+    requires part { IsPart text.now slot.start slot.end }
+    requires content { IsContent text.now slot.kind }
     ensures value { result ≡ cut_kind text.now slot.start slot.end slot.kind }
     ensures content { IsContent text.now slot.kind → IsContent text.now result }
     ensures link { begins_link result ≡ begins_link slot.kind }
 {
     match slot.kind {
-        SlotKind::InlineHtml if has_line_ending(&text[slot.start..slot.end]) => {
+        SlotKind::OwnedText(_) | SlotKind::Character(_) => SlotKind::Whole(0),
+        SlotKind::InlineHtml if takes_lines(text, slot.start, slot.end) => {
             SlotKind::CutHtml(slot.start)
         }
+        SlotKind::CutHtml(from) if !takes_lines(text, from, slot.end) => SlotKind::InlineHtml,
         kind => kind,
     }
+}
+
+// Whether a line ends between two places of the text.
+fn takes_lines(text: &str, from: usize, end: usize) -> bool
+    requires from { IsCharBoundary text.now from }
+    requires end { IsCharBoundary text.now end }
+    ensures { result ≡ takes_lines (slice text.now from end) }
+{
+    from < end && has_line_ending(&text[from..end])
 }
 
 // The index of the last slot that belongs to that of this index.

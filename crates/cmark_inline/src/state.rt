@@ -1,6 +1,7 @@
 //! The state of the inline pass.
 
 ghost use Rattle.std.specs.Prelude.{◌≡◌, ℕ, List, [], max};
+ghost use Rattle.cmark_inline.specs.Come.{IsCleared};
 ghost use Rattle.cmark_inline.specs.Sound.{IsSound};
 ghost use Rattle.cmark_inline.specs.Stands.{Stands};
 
@@ -58,6 +59,7 @@ impl<'a> InlineState<'a> {
         ensures stands { (text : List ℕ) → Stands text 0 self.new }
         ensures sound { IsSound self.new }
         ensures slots { self.new.slots.items ≡ [] }
+        ensures cleared { IsCleared self.new }
         ensures expansion { self.new.expansion ≡ self.old.expansion }
     {
         self.slots.clear();

@@ -6,6 +6,9 @@ ghost use Rattle.cmark_finds.specs.Backticks.{AreRunsOf};
 ghost use Rattle.cmark_finds.specs.Dollars.{AreDollarsOf};
 ghost use Rattle.cmark_leaf_text.specs.Reads.{IsRead, IsPart, text_of};
 ghost use Rattle.cmark_inline.specs.Asking.{AsksBetween, AsksUpTo, closing_brackets};
+ghost use Rattle.cmark_inline.specs.Come.{ComesOn};
+ghost use Rattle.cmark_inline.specs.PlainStretches.{IsSetOf};
+ghost use Rattle.cmark_inline.specs.Resolved.{Resolves};
 ghost use Rattle.cmark_inline.specs.Stands.{AreSlots, AreBrackets, IsBracket, IsCursor, IsSlot, IsTarget, Moves, SameSpans, Stands, PushesText, begins_link, bytes_of};
 ghost use Rattle.cmark_inline.specs.Footnoted.{SameFootnotes};
 ghost use Rattle.cmark_inline.specs.FoundInSource.{AreUnclosed};
@@ -67,6 +70,7 @@ impl<'a> InlineState<'a> {
         ensures whole { OnOk result (AreWhole self.new.slots.items × EndWithin self.new.slots.items) }
         ensures first { OnOk result (self.new.walk.next ≡ 0) }
         ensures footnotes { SameFootnotes footnotes.old footnotes.new }
+        ensures reads { IsSetOf (shown_options reader.now.options) reader.now.special.now → (shown_options reader.now.options).wikilinks ≡ false → OnOk result (Resolves F.answers (shown_options reader.now.options) (E.replacement reader.now.entities.now) reader.now.references.now footnotes.old leaf.now self.old.expansion self.new callback.old callback.new) }
     {
         self.clear();
         let text = leaf.as_str();
@@ -117,6 +121,7 @@ impl<'a> InlineState<'a> {
         ensures spent { self.old.expansion ≡ 0 → (callback.new ≡ callback.old) × (self.new.expansion ≡ 0) }
         ensures moves { IfOk result (Moves text.now cursor.at self.new) }
         ensures footnotes { SameFootnotes footnotes.old footnotes.new }
+        ensures come { IsSetOf (shown_options reader.now.options) reader.now.special.now → IfOk result (λ next. ComesOn F.answers (shown_options reader.now.options) (E.replacement reader.now.entities.now) reader.now.references.now footnotes.old leaf.now cursor next self.old self.new callback.old callback.new) }
         ensures rest { cursor.at + position_or_len (in_rows reader.now.special.now) (drop cursor.at text.now) ≡ length text.now → IfOk result (λ next. (next.pending ≡ cursor.pending) × (next.at ≡ length text.now) × (self.new ≡ self.old)) }
         ensures token { (at : ℕ) → at ≡ cursor.at + position_or_len (in_rows reader.now.special.now) (drop cursor.at text.now) → at < length text.now → is_special (shown_options reader.now.options) (slice_index text.now at) ≡ true → (slice_index text.now at == 93) ≡ false → IfOk result (ReadsSpecial (shown_options reader.now.options) (E.replacement reader.now.entities.now) leaf.now (record { pending = cursor.pending; at = at }) self.old self.new) }
     {

@@ -30,10 +30,12 @@ pub mod LeafExamples3
 pub mod LeafExamples4
 pub mod LeafExamples5
 pub mod LeafFronts
+pub mod LeafGaps
 pub mod LeafLaws
 pub mod LeafLines
 pub mod LeafParts
 pub mod LeafPlaces
+pub mod LeafPrefixes
 pub mod LeafRules
 pub mod LeafSteps
 pub mod LeafStretches

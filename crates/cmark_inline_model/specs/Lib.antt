@@ -4,6 +4,7 @@ pub mod CutRanges
 pub mod Displays
 pub mod Expansion
 pub mod FormedParts
+pub mod LeafGaps
 pub mod LeafModel
 pub mod LikeSlots
 pub mod LinkRules

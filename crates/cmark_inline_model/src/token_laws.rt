@@ -15,6 +15,7 @@ ghost use Rattle.cmark_grammar.specs.Questions.{Exchange, IsNext};
 ghost use Rattle.cmark_grammar.specs.Readers.{Reader};
 ghost use Rattle.cmark_grammar.specs.SpanDocuments.{segments};
 ghost use Rattle.cmark_grammar.specs.Tokens.{slice};
+ghost use Rattle.cmark_inline_model.specs.LeafGaps.{HaveNoPipesBetween, HavePrefixesBetween};
 ghost use Rattle.cmark_inline_model.specs.LeafModel.{HaveLineEnds};
 ghost use Rattle.cmark_inline_model.specs.PlacedLeaves.{AreLeavesPlaced, StandWhole};
 ghost use Rattle.cmark_inline_model.specs.PlacedTokens.{AreLeafPlaces, HaveWholeEndings, IsParted, StandsUpTo, StopsAt, is_as_written, may_open_markup, one_stretch, placed, text_reader};
@@ -31,6 +32,15 @@ pub fn places_part_the_text()
 pub fn leaves_have_their_places()
     ensures { (reader : Reader) (options : Options) (lookup : Lookup) (document : BlockDocument)
         → Derives reader.source options lookup document → AreLeavesPlaced reader (segments document) }
+{}
+
+/// Between the lines of a leaf of a text stand in it only prefixes of the containers around the leaf, blanks and `>` (`prefixes`), so no pipe
+/// (`pipes`).
+pub fn no_pipe_stands_between_the_lines_of_a_leaf()
+    ensures prefixes { (reader : Reader) (options : Options) (lookup : Lookup) (document : BlockDocument)
+        → Derives reader.source options lookup document → HavePrefixesBetween reader (segments document) }
+    ensures pipes { (reader : Reader) (options : Options) (lookup : Lookup) (document : BlockDocument)
+        → Derives reader.source options lookup document → HaveNoPipesBetween reader (segments document) }
 {}
 
 /// At the place of a byte begins what begins at this byte of the text, with the items, their ranges and the place from which on the text is

@@ -4,7 +4,7 @@ use Rattle.cmark_grammar.specs.InlineTokens.{item_at}
 use Rattle.cmark_grammar.specs.Items.{Plain, Own}
 use Rattle.cmark_grammar.specs.LabelsOverLines.{piped}
 use Rattle.cmark_grammar.specs.Letters.{starts}
-use Rattle.cmark_inline.proofs.Appended.{own-appends, pipe-makes, slash-appends, slash-makes}
+use Rattle.cmark_inline.proofs.Appended.{at-byte, own-appends, pipe-makes, slash-appends, slash-makes}
 use Rattle.cmark_inline.proofs.TokenSteps.{line-at-slash, slash-lone, slash-stands}
 use Rattle.cmark_inline.proofs.Keeping.{keeps-pending, keeps-puts, keeps-same}
 use Rattle.cmark_inline.proofs.state.InlineState.backslash.Goals as goal
@@ -34,7 +34,7 @@ returns-then-is_lone_backtick-clause-token c = λ o l is.
     let e = c.behind-escaped.ensures.value in
     let f = c.behind-end.ensures.value in
     let lone : backticks (drop c.behind-escaped.result text) ≡ 1 = eqb-true (backticks (drop c.behind-escaped.result text)) 1 (sym c.if-is_lone_backtick.ensures) in
-    inr (inl (own-appends o l c.args.is_cell text c.args.here c.args.self.now c.put.new.self c.in_ok-next-2.next c.behind-escaped.result c.behind-end.result c.requires.cursor.ordered
+    inr (inl (own-appends o l c.args.is_cell text c.args.here c.args.self.now c.put.new.self c.in_ok-next-2.next c.behind-escaped.result c.behind-end.result c.requires.cursor.ordered (at-byte text c.args.here 92 is refl refl refl)
     (slash-lone o l c.args.is_cell text at c.requires.here is (sym (c.in_default.ensures.value ∙ line-at-slash text at c.requires.here is)) (ap (λ (k : ℕ). backticks (drop k text)) (sym e) ∙ lone)
     ∙ ap (λ (s : ℕ). item_at Own s (at + 2)) (sym e) ∙ ap (item_at Own c.behind-escaped.result) (let q : at + 2 ≡ c.behind-end.result = omega (arith, e, f) in q))
     next.at (next.end ∙ sym next.at) next.slots next.others))

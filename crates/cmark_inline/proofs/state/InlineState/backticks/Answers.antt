@@ -17,7 +17,7 @@ pub returns-clause-token : goal.returns-clause-token
 returns-clause-token c = λ o l cell is.
     let next = c.in_ok-next-2.ensures in
     ticks-make o l cell c.args.text.now c.args.here c.args.self.now c.put-2.new.self c.in_ok-next-2.next c.text_start-start.result c.run_end.result c.requires.cursor.ordered c.requires.here is
-    (ap (option_map (shown_code c.args.text.now)) (sym c.in_default.is) ∙ c.in_ok-span.ensures.value) c.run_end.ensures.value c.text_start-start.ensures.value
+    (ap (option_map (shown_code c.args.text.now)) (sym c.in_default.is) ∙ c.in_ok-span.ensures.value) c.run_end.ensures.value c.text_start-start.ensures.value c.text_start-start.ensures.escaped
     next.at (next.end ∙ sym next.at) next.slots next.others
 
 pub returns-in-Some-clause-keeps : goal.returns-in-Some-clause-keeps

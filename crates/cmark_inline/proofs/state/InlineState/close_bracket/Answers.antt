@@ -5,7 +5,7 @@ use Rattle.cmark_leaf_text.specs.Reads.{IsPart, is_cell_of}
 use Rattle.cmark_text.specs.Shown.{shown_options}
 use Rattle.cmark_grammar.specs.Labels.{normal_form}
 use Rattle.cmark_inline.specs.Footnoted.{KeepsLabel, footnote_of, forms_footnote}
-use Rattle.cmark_inline.specs.Hiding.{WritesReference}
+use Rattle.cmark_inline.specs.Hiding.{WritesReference, WritesWikilink}
 use Rattle.cmark_inline.specs.Closers.{LeavesFootnote, LeavesWikilink, LinksTaken}
 use Rattle.cmark_inline.specs.Doubled.{nearest}
 use Rattle.cmark_inline.specs.Stands.{HoldNoLink, Moves, Stands}
@@ -36,6 +36,8 @@ returns-in-Some-clause-closes g c = λ reader read place closer s bs r at shows.
     (subst (λ (x : Option Cursor). IfSome x (λ next. IfSome (nearest took.doubled) (λ tried. LeavesWikilink tried.0.start took new))) c.in-Some.is c.in_ok-next.ensures.leaves)
     (remembers-on o l refs notes c.args.leaf.now c.args.text.now c.requires.same reader read place closer s bs c.args.here.at r at c.args.self.now shows took new i.remembers c.wikilink.ensures.expansion c.wikilink.ensures.shut)
     next.1 (next.0 ∙ sym next.1) refl
+    c.flush.new.self (record { pushes = c.in_ok-flush.ensures.slots; others = c.in_ok-flush.ensures.others }) (rows-brackets c.flush.new.self took c.take_bracket-taken.ensures.others) c.take_bracket-taken.ensures.sound c.take_bracket-taken.ensures.stands
+    (subst (λ (x : Option Cursor). IfSome x (λ next. IfSome (nearest took.doubled) (λ tried. WritesWikilink o c.args.leaf.now c.args.text.now tried.0 c.args.here.at took new))) c.in-Some.is c.in_ok-next.ensures.writes)
 
 pub returns-in-Some-2-clause-closes : goal.returns-in-Some-2-clause-closes
 returns-in-Some-2-clause-closes g c = λ reader read place closer s bs r at shows.
@@ -158,3 +160,15 @@ returns-clause-ends g c = λ e.
     let took : AreEnded leaf c.take_bracket-taken.new.self.slots.items = subst (λ (s : InlineState). AreEnded leaf s.slots.items) (sym c.take_bracket-taken.ensures.others) flushed in
     let tried = c.in_ok-next.ensures.ends took in
     (keeps-puts c.link.new.self c.put.new.self c.in_ok-next-4.ensures.others c.args.here.at c.args.here.at _ c.in_ok-next-4.ensures.slots ((refl, refl, refl), λ i. refl)).ends leaf (c.in_ok-next-3.ensures.ends leaf (c.in_ok-next-2.ensures.ends leaf tried))
+
+pub returns-in-Some-clause-flushes : goal.returns-in-Some-clause-flushes
+returns-in-Some-clause-flushes g c = record { flushed = c.flush.new.self; pushes = c.in_ok-flush.ensures.slots; others = c.in_ok-flush.ensures.others }
+
+pub returns-in-Some-2-clause-flushes : goal.returns-in-Some-2-clause-flushes
+returns-in-Some-2-clause-flushes g c = record { flushed = c.flush.new.self; pushes = c.in_ok-flush.ensures.slots; others = c.in_ok-flush.ensures.others }
+
+pub returns-in-Some-3-clause-flushes : goal.returns-in-Some-3-clause-flushes
+returns-in-Some-3-clause-flushes g c = record { flushed = c.flush.new.self; pushes = c.in_ok-flush.ensures.slots; others = c.in_ok-flush.ensures.others }
+
+pub returns-clause-flushes : goal.returns-clause-flushes
+returns-clause-flushes g c = record { flushed = c.flush.new.self; pushes = c.in_ok-flush.ensures.slots; others = c.in_ok-flush.ensures.others }

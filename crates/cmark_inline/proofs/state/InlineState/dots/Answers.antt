@@ -1,7 +1,7 @@
 use Rattle.std.proofs.Common.{inl, inr, refl, sym, ap, ◌∙◌, drop}
 use Rattle.cmark_grammar.specs.InlineTokens.{item_at}
 use Rattle.cmark_grammar.specs.Items.{Plain}
-use Rattle.cmark_inline.proofs.Appended.{character-appends}
+use Rattle.cmark_inline.proofs.Appended.{at-byte, character-appends}
 use Rattle.cmark_inline.proofs.MarkSteps.{ellipsis-begins, ellipsis-bytes, no-ellipsis}
 use Rattle.cmark_inline.proofs.Keeping.{keeps-puts, keeps-same}
 use Rattle.cmark_inline.proofs.state.InlineState.dots.Goals as goal
@@ -18,7 +18,7 @@ pub returns-clause-token : goal.returns-clause-token
 returns-clause-token c = λ o l cell smart is.
     let next = c.in_ok-next.ensures in
     let cases = c.if-not-starts_with.ensures.cases in
-    inr (character-appends o l cell c.args.text.now c.args.here c.args.self.now c.put.new.self c.in_ok-next.next _ _ _ c.requires.cursor.ordered
+    inr (character-appends o l cell c.args.text.now c.args.here c.args.self.now c.put.new.self c.in_ok-next.next _ _ _ c.requires.cursor.ordered (at-byte c.args.text.now c.args.here 46 is refl refl refl)
     (ellipsis-begins o l cell c.args.text.now c.args.here.at c.requires.here smart (drop cases.0 c.range_from.result.now) is (sym c.range_from.ensures.value ∙ cases.1.1))
     next.at (next.end ∙ sym next.at) next.slots next.others ellipsis-bytes)
 

@@ -5,7 +5,7 @@ use Rattle.std.proofs.lemmas.Str.{IsCharBoundary-from_rest}
 use Rattle.cmark_grammar.specs.Answers.{Lookup}
 use Rattle.cmark_scan_parts.specs.Shown.{shown_entity}
 use Rattle.cmark_inline.specs.declared.state.InlineState.{InlineState}
-use Rattle.cmark_inline.proofs.Appended.{kept, owned-appends, entity-is, entity-token, no-entity}
+use Rattle.cmark_inline.proofs.Appended.{at-byte, kept, owned-appends, entity-is, entity-token, no-entity}
 use Rattle.cmark_inline.proofs.Keeping.{keeps-owned, keeps-same}
 use Rattle.cmark_inline.proofs.state.InlineState.entity.Goals as goal
 
@@ -31,7 +31,7 @@ returns-clause-token g c = λ o cell is.
     let l : Lookup = g.E.EntityLookup.replacement c.args.entities.now in
     let next = c.in_ok-next.ensures in
     let found = entity-is o l cell c.args.text.now c.args.here c.args.self.now c.put.new.self c.in_ok-next.next c.as_bytes.result.now c.range_from.result.now (Some (shown_entity c.in-Some.entity)) c.requires.here is c.as_bytes.ensures.value c.range_from.ensures.value c.in-Some.ensures.value in
-    inr (owned-appends o l cell c.args.text.now c.args.here c.args.self.now c.put.new.self c.in_ok-next.next (shown_entity c.in-Some.entity).bytes c.in-Some-end_behind.end c.len.result c.in_ok-owned.owned c.requires.cursor.ordered
+    inr (owned-appends o l cell c.args.text.now c.args.here c.args.self.now c.put.new.self c.in_ok-next.next (shown_entity c.in-Some.entity).bytes c.in-Some-end_behind.end c.len.result c.in_ok-owned.owned c.requires.cursor.ordered (at-byte c.args.text.now c.args.here 38 is refl refl refl)
     (entity-token o l cell c.args.text.now c.args.here c.args.self.now c.put.new.self c.in_ok-next.next (shown_entity c.in-Some.entity) c.in-Some-end_behind.end c.requires.here is found c.in-Some-end_behind.ensures.value)
     next.at (next.end ∙ sym next.at) next.slots (ap (λ (s : InlineState). s.texts.items) next.others ∙ c.in_ok-push.ensures.items) (let q : c.len.result ≡ length c.args.self.now.texts.items = search rules in q) c.in_ok-owned.ensures.value (kept c.args.self.now c.put.new.self _ next.others refl))
 

@@ -1,30 +1,45 @@
-use Rattle.std.proofs.Common.{◌≡◌, ◌+◌, inl, inr, true, refl, sym, ap, subst, ◌∙◌, arith}
+use Rattle.std.proofs.Common.{◌≡◌, ◌⊎◌, ◌+◌, ◌<◌, ◌≤◌, ℕ, List, get_or, inl, inr, true, refl, sym, ap, subst, ◌∙◌, arith}
 use Rattle.cmark_grammar.specs.InlineTokens.{bracket, item_at}
 use Rattle.cmark_grammar.specs.Items.{Plain, Opens}
+use Rattle.cmark_grammar.specs.Lines.{is_content}
+use Rattle.cmark_text.specs.Shown.{shown_options}
+use Rattle.cmark_inline.specs.Closers.{OpensAs}
 use Rattle.cmark_inline.specs.Tokens.{PutsBracket}
+use Rattle.cmark_inline.proofs.PlainChains.{before-or-behind}
 use Rattle.cmark_inline.proofs.SpecialSteps.{image-opens, mark-stands}
 use Rattle.cmark_inline.proofs.Keeping.{keeps-same}
 use Rattle.cmark_inline.proofs.state.InlineState.exclamation.Goals as goal
 
+-- the two bytes end no line
+two : (text : List ℕ) (at : ℕ) → get_or text at 0 ≡ 33 → get_or text (at + 1) 0 ≡ 91 → (k : ℕ) → at ≤ k → k < at + 2 → is_content (get_or text k 0) ≡ true
+two text at one next k low high = go (before-or-behind k at)
+  where
+    go : (k ≤ at) ⊎ (at < k) → is_content (get_or text k 0) ≡ true
+    go (inl le) = ap (λ n. is_content (get_or text n 0)) (let q : k ≡ at = omega (arith, le, low) in q) ∙ ap is_content one
+    go (inr lt) = ap (λ n. is_content (get_or text n 0)) (let q : k ≡ at + 1 = omega (arith, lt, high) in q) ∙ ap is_content next
+
 pub returns-clause-token : goal.returns-clause-token
-returns-clause-token c = λ o l cell is.
+returns-clause-token c = λ l cell is.
     inl (record {
-      token = mark-stands o l cell c.args.text.now c.args.here.at c.requires.here is (sym c.if-is_followed_by.ensures.value) ∙ ap (item_at Plain c.args.here.at) (sym c.pass.ensures.at);
+      token = mark-stands (shown_options c.args.options) l cell c.args.text.now c.args.here.at c.requires.here is (sym c.if-is_followed_by.ensures.value) ∙ ap (item_at Plain c.args.here.at) (sym c.pass.ensures.at);
       pending = c.pass.ensures.pending;
       same = refl;
     })
 
 pub returns-then-is_followed_by-clause-token : goal.returns-then-is_followed_by-clause-token
-returns-then-is_followed_by-clause-token c = λ o l cell is.
+returns-then-is_followed_by-clause-token c = λ l cell is.
     let a = c.behind.ensures.value in
     let b = c.behind-inside.ensures.value in
     let next = c.in_ok-next.ensures in
     let e : c.args.here.at + 2 ≡ c.in_ok-next.next.at = (let q : c.args.here.at + 2 ≡ c.behind-inside.result = omega (arith, a, b) in q) ∙ sym next.at.1 in
     inr (record {
       is_image = true;
-      token = image-opens o l cell c.args.text.now c.args.here.at c.requires.here is (sym c.if-is_followed_by.ensures.value) ∙ ap (λ k. Opens (bracket true c.args.here.at k)) e;
+      token = image-opens (shown_options c.args.options) l cell c.args.text.now c.args.here.at c.requires.here is (sym c.if-is_followed_by.ensures.value) ∙ ap (λ k. Opens (bracket true c.args.here.at k)) e;
+      inside = sym e;
+      bytes = λ k low high. two c.args.text.now c.args.here.at is (c.if-is_followed_by.ensures.byte refl) k low (omega (arith, high, e));
       pending = next.at.0 ∙ sym next.at.1;
       puts = subst (λ k. PutsBracket true c.args.here.pending c.args.here.at k c.args.self.now c.open_bracket.new.self) (sym next.at.1) next.puts;
+      opens = subst (λ k. OpensAs (shown_options c.args.options).wikilinks true c.args.text.now c.args.here.at k c.args.self.now c.open_bracket.new.self) (sym next.at.1) next.opens;
     })
 
 pub returns-clause-keeps : goal.returns-clause-keeps

@@ -2,7 +2,7 @@ use Rattle.std.proofs.Common.{◌≡◌, inl, inr, Some, length, refl, sym, ap, 
 use Rattle.cmark_grammar.specs.InlineTokens.{item_at}
 use Rattle.cmark_grammar.specs.Items.{Plain}
 use Rattle.cmark_inline.specs.declared.state.InlineState.{InlineState}
-use Rattle.cmark_inline.proofs.Appended.{kept, owned-appends}
+use Rattle.cmark_inline.proofs.Appended.{at-byte, kept, owned-appends}
 use Rattle.cmark_inline.proofs.MarkSteps.{many-hyphens, one-hyphen}
 use Rattle.cmark_inline.proofs.Keeping.{keeps-owned, keeps-same}
 use Rattle.cmark_inline.proofs.state.InlineState.hyphens.Goals as goal
@@ -18,7 +18,7 @@ returns-then-size-lt2-clause-token c = λ o l cell smart is.
 pub returns-clause-token : goal.returns-clause-token
 returns-clause-token c = λ o l cell smart is.
     let next = c.in_ok-next.ensures in
-    inr (owned-appends o l cell c.args.text.now c.args.here c.args.self.now c.put.new.self c.in_ok-next.next _ c.run_end-end.result c.len.result c.in_ok-owned.owned c.requires.cursor.ordered
+    inr (owned-appends o l cell c.args.text.now c.args.here c.args.self.now c.put.new.self c.in_ok-next.next _ c.run_end-end.result c.len.result c.in_ok-owned.owned c.requires.cursor.ordered (at-byte c.args.text.now c.args.here 45 is refl refl refl)
     (many-hyphens o l cell c.args.text.now c.args.here.at c.requires.here smart c.run_end-end.result _ is c.run_end-end.ensures.value refl c.if-size-lt2.false)
     next.at (next.end ∙ sym next.at) next.slots (ap (λ (s : InlineState). s.texts.items) next.others ∙ c.in_ok-push.ensures.items) (let q : c.len.result ≡ length c.args.self.now.texts.items = search rules in q)
     (c.in_ok-owned.ensures.value ∙ c.in_ok-dash_text.ensures) (kept c.args.self.now c.put.new.self _ next.others refl))

@@ -1,10 +1,20 @@
-use Rattle.std.proofs.Common.{rules, ◌≡◌, ◌≤◌, ℕ, List, drop, get_or, length, refl, sym, ◌∙◌, subst, arith}
+use Rattle.std.specs.Prelude.{map}
+use Rattle.std.proofs.Common.{rules, ◌≡◌, ◌≤◌, ℕ, List, [], drop, get_or, length, refl, sym, ap, ◌∙◌, subst, arith}
 use Rattle.std.proofs.lemmas.Str.{IsCharBoundary-start}
+use Rattle.cmark_grammar.specs.EmphasisModel.{pairs_of, spans_of}
+use Rattle.cmark_grammar.proofs.EmphasisSound.{sound as emphasis}
+use Rattle.cmark_leaf_text.specs.Reads.{text_of}
+use Rattle.cmark_text.specs.Shown.{shown_options}
+use Rattle.cmark_inline_model.specs.SlotRows.{marked, marks_by, quoted}
+use Rattle.cmark_inline.specs.Come.{HasCome}
+use Rattle.cmark_inline.specs.SlotViews.{shown_slots}
+use Rattle.cmark_inline.proofs.ComeLoops.{begin-comes, comes-further}
+use Rattle.cmark_inline.proofs.ComeEnds.{end-reads}
 use Rattle.cmark_inline.specs.Asking.{AsksUpTo, closing_brackets}
-use Rattle.cmark_inline.specs.Marked.{AreWhole, EndWithin, HaveBytes}
+use Rattle.cmark_inline.specs.Marked.{AreWhole, EndWithin, HaveBytes, places_of, siblings_from}
 use Rattle.cmark_inline.specs.Quoted.{characters_of, with_characters}
 use Rattle.cmark_inline.specs.Sound.{AreEnded, IsSound, NamesNoMore}
-use Rattle.cmark_inline.specs.Stands.{AreSlots}
+use Rattle.cmark_inline.specs.Stands.{AreSlots, PushesText}
 use Rattle.cmark_inline.specs.declared.delimiter.PlacedRun.{PlacedRun}
 use Rattle.cmark_inline.specs.declared.quote.PlacedQuote.{PlacedQuote}
 use Rattle.cmark_inline.specs.declared.slot.Slot.{Slot}
@@ -20,7 +30,7 @@ use Rattle.cmark_inline.proofs.state.InlineState.resolve.Goals as goal
 pub loop-cursor-init : goal.loop-cursor-init
 loop-cursor-init g c =
     let b = IsCharBoundary-start c.as_str-text.result.now c.as_str-text.utf8 in
-    (c.clear.ensures.stands c.as_str-text.result.now, record { pending = b; at = b; ordered = omega arith }, refl, (λ none. (refl, none)), search rules, c.none.ensures c.args.leaf.now 0, search rules, (λ folded. refl), c.clear.ensures.sound, subst (AreEnded c.args.leaf.now) (sym c.clear.ensures.slots) (λ k d lt. absurd (omega (arith, lt))))
+    (c.clear.ensures.stands c.as_str-text.result.now, record { pending = b; at = b; ordered = omega arith }, refl, (λ none. (refl, none)), search rules, c.none.ensures c.args.leaf.now 0, search rules, (λ folded. refl), c.clear.ensures.sound, subst (AreEnded c.args.leaf.now) (sym c.clear.ensures.slots) (λ k d lt. absurd (omega (arith, lt))), λ set. begin-comes g.F.BrokenLinkCallback.answers (shown_options c.args.reader.now.options) (g.E.EntityLookup.replacement c.args.reader.now.entities.now) c.args.reader.now.references.now c.args.footnotes.now c.args.leaf.now c.args.callback.now c.clear.new.self c.clear.ensures.cleared)
 
 pub returns-clause-slots : goal.returns-clause-slots
 returns-clause-slots g c =
@@ -45,6 +55,8 @@ loop-cursor-preserved g c =
       (λ folded. c.step.ensures.footnotes folded ∙ i.7 folded),
       c.in_ok-cursor.ensures.sound,
       c.in_ok-cursor.ensures.ends i.9,
+      (λ set. comes-further g.F.BrokenLinkCallback.answers (shown_options c.args.reader.now.options) (g.E.EntityLookup.replacement c.args.reader.now.entities.now) c.args.reader.now.references.now c.args.footnotes.now c.loop-cursor.footnotes c.args.leaf.now c.clear.new.self.expansion c.args.callback.now
+          c.loop-cursor.cursor c.in_ok-cursor.cursor c.loop-cursor.self c.step.new.self c.loop-cursor.callback c.step.new.callback i.7 (i.10 set) (c.in_ok-cursor.ensures.come set)),
     )
 
 pub returns-in_err-cursor-clause-asks : goal.returns-in_err-cursor-clause-asks
@@ -97,3 +109,32 @@ returns-clause-left g c =
     let text : List ℕ = c.as_str-text.result.now in
     let slots = c.in_ok-resolve-2.ensures.slots text (length text) (c.in_ok-resolve.ensures.slots text (length text) c.in_ok-flush.ensures.stands.slots) in
     left-of leaf mid.texts.items mid.links.items new c.clear-2.new.self.next c.clear-2.ensures.next named (λ k d lt. ends-behind leaf (get_or new k d) (get_or new k d).kind (slots k d lt).part.some (ended k d lt))
+
+pub returns-clause-reads : goal.returns-clause-reads
+returns-clause-reads g c = λ set said reader read place same places.
+    let mid : InlineState = c.flush.new.self in
+    let one : List Slot = mid.slots.items in
+    let two : List Slot = c.resolve.new.slots.items in
+    let new : List Slot = c.resolve-2.new.slots.items in
+    let runs : List PlacedRun = drop 0 mid.delimiters.placed.items in
+    let quotes : List PlacedQuote = drop 0 mid.quotes.placed.items in
+    let sound : IsSound mid = (keeps-pending c.loop-cursor.self mid c.in_ok-flush.ensures.others c.loop-cursor.cursor.pending _ c.in_ok-flush.ensures.slots).sound c.loop-cursor.invariant.8 in
+    let can = sound-settles-all (length mid.texts.items) (length mid.links.items) one mid.delimiters.placed.items mid.quotes.placed.items mid.brackets.standing.items mid.doubled.standing.items sound in
+    let v : two ≡ with_characters quotes (characters_of quotes) one = c.in_ok-resolve.ensures.value in
+    let t = letters-settle 0 one runs quotes can (characters_of quotes) in
+    let whole : AreWhole two = subst AreWhole (sym v) t.0 in
+    let bytes : HaveBytes two 0 0 runs = subst (λ l. HaveBytes l 0 0 runs) (sym v) t.2 in
+    let leaf = c.args.leaf.now in
+    let marks = c.in_ok-resolve-2.ensures.marks leaf mid.texts.items mid.links.items 0 0 (pairs_of (siblings_from 0 runs)) (spans_of (siblings_from 0 runs)) bytes whole (emphasis (siblings_from 0 runs)) in
+    let letters = c.in_ok-resolve.ensures.quotes leaf mid.texts.items mid.links.items sound.quotes_are in
+    let cursor = c.loop-cursor.cursor in
+    let le = c.loop-cursor.invariant.1.at.0 in
+    let over = c.loop-cursor-test.false in
+    let size = ap length c.as_str-text.ensures in
+    let at : cursor.at ≡ length (text_of leaf) = omega (arith, le, over, size) in
+    end-reads leaf reader read place places g.F.BrokenLinkCallback.answers c.args.self.now.expansion c.args.callback.now c.loop-cursor.callback cursor c.loop-cursor.self mid
+    (subst (λ n. HasCome g.F.BrokenLinkCallback.answers leaf reader read place (record { expansion = n; asked = [] }) c.args.callback.now cursor c.loop-cursor.self c.loop-cursor.callback) c.clear.ensures.expansion (c.loop-cursor.invariant.10 set reader read place same places said))
+    at (subst (λ n. PushesText cursor.pending n c.loop-cursor.self.slots.items mid.slots.items) size c.in_ok-flush.ensures.slots) c.in_ok-flush.ensures.others same.source _
+    (marks ∙ ap (λ l. marked (shown_options c.args.reader.now.options) (places_of runs) (marks_by (length (places_of runs)) (pairs_of (siblings_from 0 runs))) l []) letters
+    ∙ ap (λ o. marked o (places_of runs) (marks_by (length (places_of runs)) (pairs_of (siblings_from 0 runs))) (quoted (map (λ (q : PlacedQuote). q.slot) quotes) (characters_of quotes) (shown_slots leaf mid.texts.items mid.links.items one)) []) (sym same.options_are))
+    c.clear-2.ensures.next c.clear-2.ensures.opened refl

@@ -2,10 +2,13 @@ use Rattle.std.proofs.Common.{◌≡◌, ◌-◌, length, take}
 use Rattle.cmark_finds.specs.Backticks.{AreRunsOf}
 use Rattle.cmark_finds.specs.Dollars.{AreDollarsOf}
 use Rattle.cmark_inline.specs.Asking.{AsksUpTo, closing_brackets}
+use Rattle.cmark_inline.specs.Come.{ComesTo}
 use Rattle.cmark_inline.specs.Footnoted.{SameFootnotes}
 use Rattle.cmark_inline.specs.FoundInSource.{AreUnclosed}
+use Rattle.cmark_inline.specs.PlainStretches.{IsSetOf}
 use Rattle.cmark_inline.specs.Sound.{AreEnded, IsSound}
 use Rattle.cmark_inline.specs.Stands.{Stands, IsCursor}
+use Rattle.cmark_text.specs.Shown.{shown_options}
 use Rattle.cmark_inline.proofs.state.InlineState.resolve.Given as goal
 
 abbrev pub invariant-loop-cursor : goal.invariant-loop-cursor
@@ -20,6 +23,8 @@ invariant-loop-cursor g l =
     × SameFootnotes l.initial.footnotes l.footnotes
     × IsSound l.self
     × AreEnded l.leaf l.self.slots.items
+    × (IsSetOf (shown_options l.reader.options) l.reader.special.now
+    → ComesTo g.F.BrokenLinkCallback.answers (shown_options l.reader.options) (g.E.EntityLookup.replacement l.reader.entities.now) l.reader.references.now l.initial.footnotes l.leaf l.initial.self.expansion l.initial.callback l.cursor l.self l.callback)
 
 abbrev pub decreases-loop-cursor : goal.decreases-loop-cursor
 decreases-loop-cursor g l = length l.text - l.cursor.at

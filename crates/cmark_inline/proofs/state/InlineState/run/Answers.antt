@@ -6,8 +6,8 @@ use Rattle.cmark_inline.specs.declared.delimiter.Delimiters.{Delimiters}
 use Rattle.cmark_inline.specs.declared.state.InlineState.{InlineState}
 use Rattle.cmark_text.specs.Shown.{shown_options}
 use Rattle.cmark_grammar.specs.Flanking.{Flanking}
-use Rattle.cmark_inline.proofs.SpecialSteps.{others-flank, others-stand}
-use Rattle.cmark_inline.proofs.MarkSteps.{run-stays, run-begins-there}
+use Rattle.cmark_inline.proofs.SpecialSteps.{others-flank, others-last, others-stand}
+use Rattle.cmark_inline.proofs.MarkSteps.{run-content, run-stays, run-begins-there}
 use Rattle.cmark_inline.proofs.Keeping.{keeps-run, keeps-same}
 use Rattle.cmark_inline.proofs.state.InlineState.run.Goals as goal
 use Rattle.cmark_inline.proofs.state.InlineState.run.Goals.{else-not-flanking-via-then-not-flanking+else-not-flanking-2, else-not-flanking-via-else-not-flanking}
@@ -57,6 +57,8 @@ returns-clause-token c = λ l cell is mark.
             right = c.character_at-after.ensures;
             flanks = c.flanking_of-flanking.ensures;
           }) some;
+      size = (let f = c.run_end-end.ensures.further in omega (arith, f));
+      bytes = run-content c.args.text.now c.args.here.at c.run_end-end.result c.args.mark is mark c.run_end-end.ensures.value;
       pending = refl;
       before = c.flush.new.self.slots.items;
       text_is = c.in_ok-flush.ensures.slots;
@@ -73,6 +75,7 @@ returns-then-not-flanking-2-clause-others c = λ l cell is other.
     record {
       further = c.run_end-end.ensures.further;
       plain = others-stand (shown_options c.args.options) l cell c.args.text.now c.args.here.at c.args.mark c.run_end-end.result is other c.run_end-end.ensures.value;
+      last = others-last c.args.text.now c.args.here.at c.args.mark c.run_end-end.result is other c.run_end-end.ensures.value c.run_end-end.ensures.further;
       pending = refl;
       same = refl;
     }

@@ -1,12 +1,17 @@
-use Rattle.std.proofs.Common.{◌≡◌, ◌⊎◌, inl, inr, ⊎_elim, true, false, ℕ, List, get_or, refl, sym, ap, subst, ◌∙◌, rules}
+use Rattle.std.proofs.Common.{arith, ◌+◌, ◌≡◌, ◌⊎◌, inl, inr, ⊎_elim, true, false, ℕ, List, get_or, refl, sym, ap, subst, ◌∙◌, rules}
 use Rattle.std.proofs.lemmas.Result.{IfOk-weaker}
 use Rattle.cmark_grammar.specs.Answers.{Lookup}
+use Rattle.cmark_grammar.specs.InlineTokens.{bracket}
+use Rattle.cmark_grammar.specs.Items.{Opens}
+use Rattle.cmark_grammar.specs.Lines.{is_content}
 use Rattle.cmark_grammar.specs.Options.{Options}
 use Rattle.cmark_grammar.specs.SpecialBytes.{is_special}
 use Rattle.cmark_leaf_text.specs.Reads.{is_cell_of}
 use Rattle.cmark_text.specs.Shown.{shown_options}
-use Rattle.cmark_inline.proofs.SpanReads.{appends, appends-quote, backslash-reads, backticks-read, passes-or-appends, passes-or-opens, passes-over, run-reads}
-use Rattle.cmark_inline.proofs.SpecialSteps.{has_call, other-special, smart-special, math-special}
+use Rattle.cmark_inline.specs.Closers.{OpensAs}
+use Rattle.cmark_inline.specs.Tokens.{PutsBracket}
+use Rattle.cmark_inline.proofs.SpanReads.{appends, appends-quote, backslash-reads, backticks-read, opens, passes-or-appends, passes-or-opens, passes-over, run-reads}
+use Rattle.cmark_inline.proofs.SpecialSteps.{has_call, link-opens, other-special, smart-special, math-special}
 use Rattle.cmark_inline.proofs.Keeping.{keeps-quote}
 use Rattle.cmark_inline.proofs.state.InlineState.span.Goals as goal
 
@@ -50,7 +55,7 @@ returns-in-33-clause-token g c = λ special other.
     let o : Options = shown_options c.args.reader.now.options in
     let l : Lookup = g.E.EntityLookup.replacement c.args.reader.now.entities.now in
     IfOk-weaker c.exclamation.result _ _ (passes-or-opens o l c.args.leaf.now c.args.text.now c.requires.same c.args.here c.args.self.now c.exclamation.new.self)
-    (c.exclamation.ensures.token o l (is_cell_of c.args.leaf.now) (subst (λ (bs : List ℕ). get_or bs c.args.here.at 0 ≡ 33) c.as_bytes.ensures.value c.in-33.is))
+    (c.exclamation.ensures.token l (is_cell_of c.args.leaf.now) (subst (λ (bs : List ℕ). get_or bs c.args.here.at 0 ≡ 33) c.as_bytes.ensures.value c.in-33.is))
 
 pub returns-in-36-clause-token : goal.returns-in-36-clause-token
 returns-in-36-clause-token g c = λ special other.
@@ -83,6 +88,26 @@ returns-in-34-clause-token g c = λ special other.
     let is = subst (λ (bs : List ℕ). (get_or bs c.args.here.at 0 ≡ 34) ⊎ (get_or bs c.args.here.at 0 ≡ 39)) c.as_bytes.ensures.value c.in-34.is in
     IfOk-weaker c.quote.result _ _ (appends-quote o l c.args.leaf.now c.args.text.now c.requires.same c.args.here c.args.self.now c.quote.new.self)
     (c.quote.ensures.token o l (is_cell_of c.args.leaf.now) (smart-special o (get_or c.args.text.now c.args.here.at 0) (inr (inr is)) special) is)
+
+pub returns-in_ok-next-in-91-clause-token : goal.returns-in_ok-next-in-91-clause-token
+returns-in_ok-next-in-91-clause-token g c = λ special other.
+    let o : Options = shown_options c.args.reader.now.options in
+    let l : Lookup = g.E.EntityLookup.replacement c.args.reader.now.entities.now in
+    let text : List ℕ = c.args.text.now in
+    let at : ℕ = c.args.here.at in
+    let next = c.in_ok-next-in-91.ensures in
+    let is : get_or text at 0 ≡ 91 = subst (λ (bs : List ℕ). get_or bs at 0 ≡ 91) c.as_bytes.ensures.value c.in-91.is in
+    let e : at + 1 ≡ c.in_ok-next-in-91.next.at = sym c.behind-inside.ensures.value ∙ sym next.at.1 in
+    opens o l c.args.leaf.now text c.requires.same c.args.here c.args.self.now c.open_bracket.new.self c.in_ok-next-in-91.next
+    (record {
+      is_image = false;
+      token = link-opens o l (is_cell_of c.args.leaf.now) text at c.requires.here is ∙ ap (λ k. Opens (bracket false at k)) e;
+      inside = sym e;
+      bytes = λ k low high. ap (λ n. is_content (get_or text n 0)) (let q : k ≡ at = omega (arith, low, high, e) in q) ∙ ap is_content is;
+      pending = next.at.0 ∙ sym next.at.1;
+      puts = subst (λ k. PutsBracket false c.args.here.pending at k c.args.self.now c.open_bracket.new.self) (sym next.at.1) next.puts;
+      opens = subst (λ k. OpensAs o.wikilinks false text at k c.args.self.now c.open_bracket.new.self) (sym next.at.1) next.opens;
+    })
 
 pub returns-in_default-clause-token : goal.returns-in_default-clause-token
 returns-in_default-clause-token g c = λ special other.

@@ -1,0 +1,115 @@
+-- Before a leaf is read nothing of it is; at its end it is read as the events that are still to come.
+use Rattle.std.specs.Prelude.{Option, map, option_map, take}
+use Rattle.std.proofs.Common.{◌≡◌, ◌⊎◌, inl, inr, ℕ, ◌-◌, ◌<◌, ◌≤◌, Bool, true, false, List, [], ◌∷◌, ◌++◌, length, drop, None, refl, sym, ap, ◌∙◌, subst, arith, length-drop}
+use Rattle.cmark_grammar.specs.Emphasis.{IsEmphasis}
+use Rattle.cmark_grammar.specs.EmphasisModel.{pairs_of, spans_of}
+use Rattle.cmark_grammar.proofs.EmphasisSound.{sound}
+use Rattle.cmark_grammar.specs.InlineTokens.{begins, longest, token}
+use Rattle.cmark_grammar.specs.Items.{Ends}
+use Rattle.cmark_grammar.specs.LeafReading.{Between, ReadsLeaf, entering, leaving}
+use Rattle.cmark_grammar.specs.LeafText.{Leaf}
+use Rattle.cmark_grammar.specs.Parts.{Nil}
+use Rattle.cmark_grammar.specs.Questions.{Exchange, IsNext}
+use Rattle.cmark_grammar.specs.Readers.{Reader}
+use Rattle.cmark_leaf_text.specs.Reads.{is_cell_of, source_of, text_of}
+use Rattle.cmark_leaf_text.specs.declared.leaf_text.LeafText.{LeafText}
+use Rattle.cmark_text.specs.declared.text.CowStr.{CowStr}
+use Rattle.cmark_inline_model.specs.BracketPass.{pass}
+use Rattle.cmark_inline_model.specs.PlacedTokens.{may_open_markup, placed, one_stretch, text_reader}
+use Rattle.cmark_inline_model.specs.SlotRows.{marked, marks_by, quoted}
+use Rattle.cmark_inline.specs.BracketViews.{StandFor}
+use Rattle.cmark_inline.specs.Come.{HasBegun, HasCome, HasReached, IsCleared, IsPending}
+use Rattle.cmark_inline.specs.Decided.{EndsWithin}
+use Rattle.cmark_inline.specs.Marked.{places_of, siblings_from}
+use Rattle.cmark_inline.specs.Quoted.{characters_of}
+use Rattle.cmark_inline.specs.Reached.{ReadsPlaces}
+use Rattle.cmark_inline.specs.Resolved.{ResolvesAs}
+use Rattle.cmark_inline.specs.SlotViews.{events_to_come, shown_slots}
+use Rattle.cmark_inline.specs.Stands.{PushesText}
+use Rattle.cmark_inline.specs.Tokens.{begins_at}
+use Rattle.cmark_inline.specs.declared.callback.BrokenLink.{BrokenLink}
+use Rattle.cmark_inline.specs.declared.quote.PlacedQuote.{PlacedQuote}
+use Rattle.cmark_inline.specs.declared.state.InlineState.{InlineState}
+use Rattle.cmark_inline.specs.declared.step.Cursor.{Cursor}
+use Rattle.cmark_inline.proofs.ComeTexts.{tick-there}
+use Rattle.cmark_inline.proofs.EndSteps.{first-read, leaf-read}
+use Rattle.cmark_inline.proofs.PendingReads.{flushed-reached, stops-there, token-placed}
+use Rattle.cmark_inline.proofs.PlainChains.{IsHeld}
+use Rattle.cmark_inline.proofs.TokenSteps.{from-is}
+
+module _ (leaf : LeafText) (reader : Reader) (read : Leaf) (place : ℕ → ℕ) (r : ReadsPlaces leaf reader read place) {F : Type 0} (R : F → BrokenLink → Option (CowStr × CowStr) → F → Type 0) (expansion : ℕ) (initial : F) where
+  abbrev text : List ℕ
+  text = text_of leaf
+
+  abbrev cell : Bool
+  cell = is_cell_of leaf
+
+  abbrev before : Between
+  before = record { expansion = expansion; asked = [] }
+
+  pub begin-come : (state : InlineState) → IsCleared state → state.expansion ≡ expansion → HasCome R leaf reader read place before initial (record { pending = 0; at = 0 }) state initial
+  begin-come state c left = record {
+    from = 0;
+    reached = record {
+      p = pass (entering read before) Nil;
+      bs = [];
+      has_read = first-read leaf reader read place before state c.slots c.runs c.quotes;
+      at_is = r.first;
+      shows = record {
+        openers = record {
+          placed = tt;
+          standing_are = record { are = c.brackets.0; few = (let e = c.brackets.1 in omega (arith, e)) };
+          inactive = tt;
+          doubled_are = λ w. record { are = c.doubled.0; few = (let e = c.doubled.1 in omega (arith, e)) };
+          doubled_inactive = λ w. tt;
+        };
+        fresh = tt;
+        remembers = record { expansion = sym left; label = ap (option_map place) (sym c.label); within = subst (EndsWithin text) (sym c.label) tt };
+      };
+      answered = refl;
+    };
+    pending = inl (refl, refl);
+  }
+
+  none-left : drop (length text) text ≡ []
+  none-left = go (drop (length text) text) (length-drop (length text) text)
+    where
+      go : (l : List ℕ) → length l ≡ length text - length text → l ≡ []
+      go [] e = refl
+      go (x ∷ l) e = absurd (omega (arith, e))
+
+  end-begins : begins_at reader.options reader.lookup cell text (length text) ≡ Ends
+  end-begins = ap (begins (text_reader reader.options reader.lookup text) (one_stretch cell text) (length text)) (from-is reader.options reader.lookup cell text (length text) ∙ none-left)
+
+  end-token : token reader read (place (length text)) ≡ Ends
+  unfolding token
+  end-token =
+      token-placed leaf reader read place r (length text) (omega arith) (ap may_open_markup none-left)
+      ∙ ap (λ y. placed place (longest (text_reader reader.options reader.lookup text) (one_stretch cell text) y)) end-begins
+
+  module _ (now : F) (cursor : Cursor) (old mid : InlineState) (come : HasCome R leaf reader read place before initial cursor old now) (at : cursor.at ≡ length text) (pushes : PushesText cursor.pending (length text) old.slots.items mid.slots.items) (others : mid ≡ record old { slots = mid.slots }) where
+    end-held : IsPending reader.options reader.lookup cell text come.from cursor → IsHeld reader.options reader.lookup cell text come.from cursor.pending (length text)
+    end-held (inl h) = inl (h.0, h.1 ∙ at)
+    end-held (inr (inl h)) = inr (subst (λ n. HasBegun reader.options reader.lookup cell text come.from cursor.pending n) at h.0)
+    end-held (inr (inr h)) = absurd (let lt = (tick-there reader.options reader.lookup cell text come.from cursor.pending cursor.at h).0 in omega (arith, lt, at))
+
+    reached : HasReached R leaf reader read place before initial (length text) mid now
+    reached =
+        flushed-reached leaf reader read place r R before initial now come.from cursor.pending (length text) old mid come.reached (end-held come.pending) (omega arith)
+        (stops-there reader.options reader.lookup cell text (length text) Ends end-begins tt) pushes others
+
+    -- the quotes are characters, and the pairs have written their marks
+    pub end-reads : reader.source ≡ source_of leaf → (new : InlineState)
+        → shown_slots leaf new.texts.items new.links.items new.slots.items
+        ≡ marked reader.options (places_of mid.delimiters.placed.items) (marks_by (length (places_of mid.delimiters.placed.items)) (pairs_of (siblings_from 0 mid.delimiters.placed.items)))
+        (quoted (map (λ (q : PlacedQuote). q.slot) mid.quotes.placed.items) (characters_of mid.quotes.placed.items) (shown_slots leaf mid.texts.items mid.links.items mid.slots.items)) []
+        → new.walk.next ≡ 0 → new.walk.opened.items ≡ [] → new.expansion ≡ mid.expansion → ResolvesAs R leaf reader read expansion new initial now
+    end-reads source new slots next opened left =
+        let siblings = siblings_from 0 mid.delimiters.placed.items in
+        let h = reached in record {
+          asked = h.p.state.asked;
+          answered = h.answered;
+          reads = λ rest.
+              (subst (λ n. ReadsLeaf reader (IsNext (h.p.state.asked ++ rest)) read before (events_to_come leaf new) (record { expansion = n; asked = h.p.state.asked })) (h.shows.remembers.expansion ∙ sym left)
+              (leaf-read leaf reader read place before h.p h.bs mid new h.has_read source (ap (token reader read) h.at_is ∙ end-token) (pairs_of siblings) (spans_of siblings) (sound siblings) slots next opened (h.p.state.asked ++ rest) rest refl));
+        }

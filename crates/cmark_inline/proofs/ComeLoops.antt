@@ -1,0 +1,42 @@
+-- Calls that read a leaf on, one after the other.
+use Rattle.std.specs.Prelude.{Option}
+use Rattle.std.proofs.Common.{◌≡◌, ℕ, List, [], refl, sym, ◌∙◌}
+use Rattle.cmark_grammar.specs.Answers.{Lookup}
+use Rattle.cmark_grammar.specs.LeafText.{Leaf}
+use Rattle.cmark_grammar.specs.Options.{Options}
+use Rattle.cmark_grammar.specs.Readers.{Reader}
+use Rattle.cmark_items.specs.declared.definitions.RefDefs.{RefDefs}
+use Rattle.cmark_items.specs.declared.footnotes.FootnoteDefs.{FootnoteDefs}
+use Rattle.cmark_leaf_text.specs.declared.leaf_text.LeafText.{LeafText}
+use Rattle.cmark_text.specs.declared.text.CowStr.{CowStr}
+use Rattle.cmark_inline.specs.Come.{ComesOn, ComesTo, IsCleared}
+use Rattle.cmark_inline.specs.Decided.{ReadsSame}
+use Rattle.cmark_inline.specs.Footnoted.{SameFootnotes}
+use Rattle.cmark_inline.specs.declared.callback.BrokenLink.{BrokenLink}
+use Rattle.cmark_inline.specs.declared.state.InlineState.{InlineState}
+use Rattle.cmark_inline.specs.declared.step.Cursor.{Cursor}
+use Rattle.cmark_inline.proofs.ComeEnds.{begin-come}
+
+module _ {F : Type 0} (R : F → BrokenLink → Option (CowStr × CowStr) → F → Type 0) (options : Options) (lookup : Lookup) (references : RefDefs) where
+  -- footnotes of the same labels are read as the same
+  reads-notes : (one other : FootnoteDefs) (leaf : LeafText) (reader : Reader) (read : Leaf) (place : ℕ → ℕ) → SameFootnotes one other → ReadsSame options lookup references one leaf reader read place → ReadsSame options lookup references other leaf reader read place
+  reads-notes one other leaf reader read place e h = record {
+    source = h.source;
+    options_are = h.options_are;
+    lookup_is = h.lookup_is;
+    definitions = h.definitions;
+    footnotes_are = λ folded. h.footnotes_are folded ∙ sym (e folded);
+    callback = h.callback;
+    cell = h.cell;
+    places = h.places;
+    bytes = h.bytes;
+  }
+
+  pub begin-comes : (footnotes : FootnoteDefs) (leaf : LeafText) (initial : F) (state : InlineState) → IsCleared state → ComesTo R options lookup references footnotes leaf state.expansion initial (record { pending = 0; at = 0 }) state initial
+  begin-comes footnotes leaf initial state c = λ reader read place same places said. begin-come leaf reader read place places R state.expansion initial state c refl
+
+  pub comes-further : (footnotes notes : FootnoteDefs) (leaf : LeafText) (expansion : ℕ) (initial : F) (cursor next : Cursor) (old new : InlineState) (now later : F) → SameFootnotes footnotes notes
+      → ComesTo R options lookup references footnotes leaf expansion initial cursor old now → ComesOn R options lookup references notes leaf cursor next old new now later
+      → ComesTo R options lookup references footnotes leaf expansion initial next new later
+  comes-further footnotes notes leaf expansion initial cursor next old new now later e h k = λ reader read place same places said.
+      k reader read place (record { expansion = expansion; asked = [] }) initial (reads-notes footnotes notes leaf reader read place e same) places said (h reader read place same places said)

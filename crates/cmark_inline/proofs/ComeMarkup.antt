@@ -1,0 +1,161 @@
+-- With the slot of markup that the source closes, or of a `<` that opens markup which it does not close, the pass of the grammar has come
+-- behind that.
+use Rattle.std.specs.Prelude.{Option, map, max, if◌then◌else◌}
+use Rattle.std.proofs.Common.{◌≡◌, ◌⊎◌, inl, inr, ℕ, suc, ◌+◌, ◌-◌, ◌<◌, ◌≤◌, ◌==◌, ◌&&◌, ◌||◌, Bool, true, false, List, [], ◌∷◌, ◌++◌, length, take, drop, get_or, Some, None, refl, sym, ap, ◌∙◌, subst, arith, eqb-true, length-drop}
+use Rattle.std.proofs.Math.Seq.{drop-cons}
+use Rattle.std.proofs.lemmas.Bool.{or_cases}
+use Rattle.std.proofs.lemmas.List.{append-nil}
+use Rattle.cmark_grammar.specs.InlineHtml.{behind_markup}
+use Rattle.cmark_grammar.specs.InlineReading.{event_of}
+use Rattle.cmark_grammar.specs.InlineTokens as grammar
+use Rattle.cmark_grammar.specs.InlineTokens.{begins, from, item_at, longest, markup_or, read_on, tag_or_text, token}
+use Rattle.cmark_grammar.specs.Items.{Html, Own, Item, Stands}
+use Rattle.cmark_grammar.specs.LeafReading.{Between}
+use Rattle.cmark_grammar.specs.LeafText.{Leaf, end_of}
+use Rattle.cmark_grammar.specs.Lines.{is_content}
+use Rattle.cmark_grammar.specs.Readers.{Reader}
+use Rattle.cmark_grammar.specs.Siblings.{item}
+use Rattle.cmark_grammar.specs.Tags.{behind_tag, no_prefix}
+use Rattle.cmark_grammar.specs.Tokens.{slice}
+use Rattle.cmark_leaf_text.specs.Reads.{is_cell_of, place_of, source_of, text_of}
+use Rattle.cmark_leaf_text.specs.declared.leaf_text.LeafText.{LeafText}
+use Rattle.cmark_text.specs.declared.text.CowStr.{CowStr}
+use Rattle.cmark_inline_model.specs.LikeSlots.{IsLike}
+use Rattle.cmark_inline_model.specs.PlacedTokens.{IsParted, may_open_markup, one_stretch, text_reader}
+use Rattle.cmark_inline_model.specs.RowPasses.{has_own_slot}
+use Rattle.cmark_inline_model.specs.SlotRows.{ItemSlot}
+use Rattle.cmark_inline_model.proofs.PlacedTokens as places
+use Rattle.cmark_inline_model.proofs.PlacedTokens.{from-place}
+use Rattle.cmark_inline.specs.Come.{HasReached}
+use Rattle.cmark_inline.specs.FoundInSource.{AppendsMarkup, AppendsUnclosed, source_from}
+use Rattle.cmark_inline.specs.Reached.{ReadsPlaces}
+use Rattle.cmark_inline.specs.SlotViews.{first_of, shown_slot, shown_slots}
+use Rattle.cmark_inline.specs.Tokens as tokens
+use Rattle.cmark_inline.specs.Tokens.{Puts, opens_markup}
+use Rattle.cmark_inline.specs.declared.callback.BrokenLink.{BrokenLink}
+use Rattle.cmark_inline.specs.declared.slot.Slot.{Slot}
+use Rattle.cmark_inline.specs.declared.slot.SlotKind.{SlotKind}
+use Rattle.cmark_inline.specs.declared.slot.SlotKind.TheVariants as kind
+use Rattle.cmark_inline.specs.declared.state.InlineState.{InlineState}
+use Rattle.cmark_inline.specs.declared.step.Cursor.{Cursor}
+use Rattle.cmark_inline.proofs.ComeItems.{flushed, has-room, with_slots}
+use Rattle.cmark_inline.proofs.ComeMarks.{side-by-side, text-like}
+use Rattle.cmark_inline.proofs.MarkupTokens.{less-is, no-link-there}
+use Rattle.cmark_inline.proofs.PendingReads.{stops-markup}
+use Rattle.cmark_inline.proofs.PendingTexts.{text_slot}
+use Rattle.cmark_inline.proofs.PlainChains.{IsHeld}
+use Rattle.cmark_inline.proofs.ReachedItems.{item-reached}
+
+-- no tag begins with `<!` or `<?`
+no-tag : (bs : List ℕ) → opens_markup bs ≡ true → behind_tag no_prefix (60 ∷ bs) ≡ None
+no-tag [] e = refl
+no-tag (c ∷ cs) e = go (or_cases (c == 33) (c == 63) e)
+  where
+    go : ((c == 33) ≡ true) ⊎ ((c == 63) ≡ true) → behind_tag no_prefix (60 ∷ (c ∷ cs)) ≡ None
+    go (inl h) = ap (λ d. behind_tag no_prefix (60 ∷ (d ∷ cs))) (eqb-true c 33 h)
+    go (inr h) = ap (λ d. behind_tag no_prefix (60 ∷ (d ∷ cs))) (eqb-true c 63 h)
+
+module _ (leaf : LeafText) (reader : Reader) (read : Leaf) (place : ℕ → ℕ) (r : ReadsPlaces leaf reader read place) (source : reader.source ≡ source_of leaf) where
+  abbrev text : List ℕ
+  text = text_of leaf
+
+  abbrev cell : Bool
+  cell = is_cell_of leaf
+
+  module _ (at : ℕ) (lt : at < length text) (byte : get_or text at 0 ≡ 60) (opens : opens_markup (drop (at + 1) text) ≡ true) where
+    front : drop at text ≡ 60 ∷ drop (at + 1) text
+    front = drop-cons text at 0 lt ∙ ap (λ b. b ∷ drop (suc at) text) byte ∙ ap (λ n. 60 ∷ drop n text) (let q : suc at ≡ at + 1 = omega arith in q)
+
+    pub opens-there : may_open_markup (drop at text) ≡ true
+    opens-there = ap may_open_markup front ∙ opens
+
+    -- the source from there on, up to the end of the leaf
+    source-there : grammar.source_from reader read (place at) ≡ source_from leaf at
+    source-there =
+        ap (λ (s : List ℕ). slice s (place at) (end_of read.stretches)) source
+        ∙ ap (λ n. slice (source_of leaf) n (end_of read.stretches)) (sym (r.bytes at lt))
+        ∙ ap (slice (source_of leaf) (place_of leaf at)) ends
+      where
+        none-left : drop (length text) text ≡ []
+        none-left = go (drop (length text) text) (length-drop (length text) text)
+          where
+            go : (l : List ℕ) → length l ≡ length text - length text → l ≡ []
+            go [] e = refl
+            go (x ∷ l) e = absurd (omega (arith, e))
+
+        ends : end_of read.stretches ≡ place_of leaf (length text - 1) + 1
+        ends =
+            ap (λ (l : List ℕ). grammar.place_of reader read l) (sym none-left) ∙ r.places.places.ends (length text) (omega arith) ∙ r.last (omega (arith, lt))
+            ∙ (let q = r.bytes (length text - 1) (omega (arith, lt)) in let z : suc (place (length text - 1)) ≡ place_of leaf (length text - 1) + 1 = omega (arith, q) in z)
+
+    there : grammar.begins_at reader read (place at) ≡ markup_or reader read (place at) (behind_markup (source_from leaf at)) (tag_or_text reader read (place at) (behind_tag no_prefix (from reader read (place at))))
+    there =
+        let n = no-link-there (drop (at + 1) text) opens in
+        ap (begins reader read (place at)) (from-place reader read text place r.places at (omega (arith, lt)) ∙ front) ∙ less-is reader read (place at) (drop (at + 1) text) n.0 n.1
+        ∙ ap (λ s. markup_or reader read (place at) (behind_markup s) (tag_or_text reader read (place at) (behind_tag no_prefix (from reader read (place at))))) source-there
+
+    pub closed-token : (size end : ℕ) → size ≤ length (source_from leaf at) → behind_markup (source_from leaf at) ≡ Some (drop size (source_from leaf at)) → IsParted (length text) place (place at + size) end
+        → token reader read (place at) ≡ Stands (record { kind = Html; start = place at; end = place at + size }) (place (tokens.read_on text end))
+    unfolding token
+    closed-token size end fits closes parted =
+        let d = length-drop size (source_from leaf at) in
+        ap (longest reader read) there ∙ ap (λ m. longest reader read (markup_or reader read (place at) m (tag_or_text reader read (place at) (behind_tag no_prefix (from reader read (place at)))))) closes
+        ∙ ap (λ n. Stands (record { kind = Html; start = place at; end = place at + n }) (read_on reader read (place at + n)))
+        (ap (λ s. length s - length (drop size (source_from leaf at))) source-there ∙ (let q : length (source_from leaf at) - length (drop size (source_from leaf at)) ≡ size = omega (arith, d, fits) in q))
+        ∙ ap (Stands (record { kind = Html; start = place at; end = place at + size })) (places.read-on reader read text place r.places (place at + size) end parted)
+
+    pub unclosed-token : behind_markup (source_from leaf at) ≡ None → token reader read (place at) ≡ Stands (record { kind = Own; start = place at; end = suc (place at) }) (place (at + 1))
+    unfolding token
+    unclosed-token closes =
+        ap (longest reader read) there ∙ ap (λ m. longest reader read (markup_or reader read (place at) m (tag_or_text reader read (place at) (behind_tag no_prefix (from reader read (place at)))))) closes
+        ∙ ap (λ l. longest reader read (tag_or_text reader read (place at) (behind_tag no_prefix l))) (from-place reader read text place r.places at (omega (arith, lt)) ∙ front)
+        ∙ ap (λ m. longest reader read (tag_or_text reader read (place at) m)) (no-tag (drop (at + 1) text) opens)
+        ∙ ap (Stands (record { kind = Own; start = place at; end = suc (place at) }))
+        (sym (ap place (let q : at + 1 ≡ suc at = omega arith in q) ∙ r.places.places.next at lt (ap is_content byte)))
+
+  module _ {F : Type 0} (R : F → BrokenLink → Option (CowStr × CowStr) → F → Type 0) (before : Between) (initial now : F) (here : Cursor) (m : ℕ) (old new : InlineState) (next : Cursor) (h : HasReached R leaf reader read place before initial m old now)
+      (held : IsHeld reader.options reader.lookup cell text m here.pending here.at) (further : here.at < next.at) (within : next.at ≤ length text) where
+    slot-reached : (slot : Slot) (x : Item) → may_open_markup (drop here.at text) ≡ true → Puts here.pending here.at slot old.slots.items new.slots.items → new ≡ record old { slots = new.slots }
+        → token reader read (place here.at) ≡ Stands x (place next.at) → (x.kind ≡ Html) ⊎ (x.kind ≡ Own) → IsLike reader.source (shown_slot leaf new.texts.items new.links.items slot) (ItemSlot x) → HasReached R leaf reader read place before initial next.at new now
+    slot-reached slot x opens puts others t own like =
+        let room = has-room new puts.before (slot ∷ []) puts.slot_is in
+        let mid : InlineState = with_slots old new puts.before room in
+        let f = flushed leaf reader read place r R before initial now m here.pending here.at old new puts.before room h held (omega (arith, further, within)) (stops-markup reader.options reader.lookup cell text here.at opens) puts.text in
+        item-reached leaf reader read place before R initial now here.at next.at mid new f (omega (arith, further))
+        (record { brackets = ap (λ (s : InlineState). s.brackets) others; doubled = ap (λ (s : InlineState). s.doubled) others; expansion = ap (λ (s : InlineState). s.expansion) others; label = ap (λ (s : InlineState). s.shut_close) others })
+        (ap (λ y. shown_slots leaf y new.links.items puts.before) (ap (λ (s : InlineState). s.texts.items) others) ∙ ap (λ y. shown_slots leaf old.texts.items y puts.before) (ap (λ (s : InlineState). s.links.items) others))
+        x.kind x.start x.end slot t (either x own) like puts.slot_is (ap (λ (s : InlineState). s.delimiters.placed.items) others) (ap (λ (s : InlineState). s.quotes.placed.items) others)
+      where
+        either : (x : Item) → (x.kind ≡ Html) ⊎ (x.kind ≡ Own) → has_own_slot x.kind ≡ true
+        either x (inl e) = ap has_own_slot e
+        either x (inr e) = ap has_own_slot e
+
+    pub unclosed-reached : AppendsUnclosed leaf here old new next → HasReached R leaf reader read place before initial next.at new now
+    unclosed-reached a =
+        let lt : here.at < length text = omega (arith, further, within) in
+        let at = a.at in
+        let x : Item = record { kind = Own; start = place here.at; end = suc (place here.at) } in
+        let side = side-by-side leaf reader read place r here.at next.at further within (λ k low high. ap (λ n. is_content (get_or text n 0)) (let q : k ≡ here.at = omega (arith, low, high, at) in q) ∙ ap is_content a.byte) in
+        let like = text-like leaf reader read place r here.at next.at side Own (λ y. refl) new.texts.items new.links.items in
+        slot-reached (text_slot here.at next.at) x (opens-there here.at lt a.byte a.opens) a.slots a.others
+        (unclosed-token here.at lt a.byte a.opens a.closes ∙ ap (λ n. Stands x (place n)) (sym at)) (inr refl)
+        (subst (λ n. IsLike reader.source (shown_slot leaf new.texts.items new.links.items (text_slot here.at next.at)) (ItemSlot (record { kind = Own; start = place here.at; end = suc (place n) }))) (let q : next.at - 1 ≡ here.at = omega (arith, at) in q) like)
+
+    pub markup-reached : AppendsMarkup leaf here old new next → HasReached R leaf reader read place before initial next.at new now
+    markup-reached a =
+        let lt : here.at < length text = omega (arith, further, within) in
+        let i = a.is in
+        let end : ℕ = place here.at + i.size in
+        let x : Item = record { kind = Html; start = place here.at; end = end } in
+        let slot : Slot = record { kind = a.found.kind; start = here.at; end = a.found.end } in
+        let byte = r.bytes here.at lt in
+        let parted : IsParted (length text) place end a.found.end = record {
+          within = i.goes_on.within;
+          earlier = λ k low. (let p = i.goes_on.before k low in let w = i.goes_on.within in let q = r.bytes k (omega (arith, low, w)) in omega (arith, p, q, byte));
+          later = λ k low high. (let p = i.goes_on.behind k low high in let q = r.bytes k high in omega (arith, p, q, byte));
+        } in
+        let like : IsLike reader.source (shown_slot leaf new.texts.items new.links.items (record { kind = kind.SourceHtml (place_of leaf here.at + i.size); start = here.at; end = a.found.end })) (ItemSlot x) =
+        record { start = byte; end = ap (λ n. n + i.size) byte; event = ap (λ n. event_of reader.source (item Html n (place_of leaf here.at + i.size)) Html) byte ∙ ap (λ n. event_of reader.source (item Html (place here.at) (n + i.size)) Html) byte; lines = λ q. refl } in
+        slot-reached slot x (opens-there here.at lt a.byte i.opens) a.slots a.others
+        (closed-token here.at lt a.byte i.opens i.size a.found.end i.within i.closes parted ∙ ap (λ n. Stands x (place n)) (sym a.at)) (inl refl)
+        (subst (λ (k : SlotKind). IsLike reader.source (shown_slot leaf new.texts.items new.links.items (record { kind = k; start = here.at; end = a.found.end })) (ItemSlot x)) (sym i.kind_is) like)

@@ -1,0 +1,367 @@
+-- Behind each special byte but a closing bracket the leaf is read on as the grammar's pass reads it.
+use Rattle.std.specs.Prelude.{Option, codes, is_some, not}
+use Rattle.std.proofs.Common.{◌≡◌, ◌⊎◌, inl, inr, ℕ, zero, suc, ◌+◌, ◌-◌, ◌<◌, ◌≤◌, ◌==◌, Bool, true, false, List, [], ◌∷◌, ◌++◌, length, drop, get_or, Some, None, refl, sym, ap, ◌∙◌, subst, arith, eqb-true, true≢false, length-drop}
+use Rattle.std.proofs.lemmas.Bool.{eq-eqb, not-true}
+use Rattle.std.proofs.lemmas.List.{get_or_append_left, get_or_push, length_push}
+use Rattle.cmark_emphasis.specs.Shown.{shown_quote, shown_run}
+use Rattle.cmark_grammar.specs.CodeSpans.{backticks, code_in}
+use Rattle.cmark_grammar.specs.Columns.{is_blank_byte}
+use Rattle.cmark_grammar.specs.InlineTokens.{bracket, code_or, item_at}
+use Rattle.cmark_grammar.specs.Items.{ItemKind, Plain, Own, Code, Autolink, Delimiters, Quoted, Item, Token, Stands, Opens, Closes, Ends}
+use Rattle.cmark_grammar.specs.LeafReading.{Between}
+use Rattle.cmark_grammar.specs.LeafText.{Leaf}
+use Rattle.cmark_grammar.specs.LinkDefinitions.{Found, behind_blanks}
+use Rattle.cmark_grammar.specs.Lines.{is_content}
+use Rattle.cmark_grammar.specs.Options.{Options}
+use Rattle.cmark_grammar.specs.Readers.{Reader}
+use Rattle.cmark_grammar.specs.SpecialBytes.{is_special}
+use Rattle.cmark_grammar.specs.Tags.{behind_ending}
+use Rattle.cmark_grammar.specs.Tokens.{slice}
+use Rattle.cmark_items.specs.declared.definitions.RefDefs.{RefDefs}
+use Rattle.cmark_items.specs.declared.footnotes.FootnoteDefs.{FootnoteDefs}
+use Rattle.cmark_leaf_text.specs.Reads.{is_cell_of, source_of, text_of}
+use Rattle.cmark_leaf_text.specs.declared.leaf_text.LeafText.{LeafText}
+use Rattle.cmark_text.specs.declared.text.CowStr.{CowStr}
+use Rattle.cmark_inline_model.specs.PlacedTokens.{may_open_markup}
+use Rattle.cmark_inline.specs.Closers as closers
+use Rattle.cmark_inline.specs.Decided.{ReadsSame}
+use Rattle.cmark_inline.specs.Come.{HasCome, HasEscaped, HasReached, IsPending}
+use Rattle.cmark_inline.specs.FoundInSource.{AppendsMarkup, AppendsUnclosed, ReadsLess}
+use Rattle.cmark_inline.specs.PlainStretches.{StandUpTo}
+use Rattle.cmark_inline.specs.Reached.{ReadsPlaces}
+use Rattle.cmark_inline.specs.SlotViews.{shown_slots}
+use Rattle.cmark_inline.specs.Sound.{IsSound}
+use Rattle.cmark_inline.specs.SpecialReads.{OpensBracket, ReadsSpecial}
+use Rattle.cmark_inline.specs.Stands.{Flushes, IsSlot, Moves}
+use Rattle.cmark_inline.specs.Tokens.{Appends, AppendsAutolink, AppendsQuote, AppendsRun, BeginsThere, Escapes, EscapesPipe, Passes, PassesOver, TakesEscaped, begins_at, reading, whole}
+use Rattle.cmark_inline.specs.declared.callback.BrokenLink.{BrokenLink}
+use Rattle.cmark_inline.specs.declared.slot.Element.TheVariants as element
+use Rattle.cmark_inline.specs.declared.slot.Slot.{Slot}
+use Rattle.cmark_inline.specs.declared.slot.SlotKind.TheVariants as kind
+use Rattle.cmark_inline.specs.declared.state.InlineState.{InlineState}
+use Rattle.cmark_inline.specs.declared.step.Cursor.{Cursor}
+use Rattle.cmark_inline.proofs.ComeAutolinks.{autolink-reached}
+use Rattle.cmark_inline.proofs.ComeBrackets.{opening-reached}
+use Rattle.cmark_inline.proofs.ComeClosers.{closing-reached}
+use Rattle.cmark_inline.proofs.ComeItems.{appends-reached, no-markup-at, other-token}
+use Rattle.cmark_inline.proofs.ComeMarks.{quote-reached, run-reached}
+use Rattle.cmark_inline.proofs.ComeMarkup.{markup-reached, unclosed-reached}
+use Rattle.cmark_inline.proofs.ComeTexts.{IsFree, escaped-begun, escaped-next, escaped-own, escapes-pending, escapes-stop, held-pending, passes-over-pending, passes-pending, pipe-pending, pipe-stop, tick-there}
+use Rattle.cmark_inline.proofs.ItemSlots.{slot-like}
+use Rattle.cmark_inline.proofs.PendingReads.{flushed-reached, item-within}
+use Rattle.cmark_inline.proofs.PlainBytes.{breaks, content-there, ending-there, plain-tick}
+use Rattle.cmark_inline.proofs.PlainChains.{IsHeld, Reaches, before-or-behind, begun-order, held-further, held-order}
+use Rattle.cmark_inline.proofs.PlainUpTo.{reaches-to}
+use Rattle.cmark_inline.proofs.ReachedItems.{item-reached}
+use Rattle.cmark_inline.proofs.SpecialSteps.{Kinds, sign-passes, special-kinds}
+use Rattle.cmark_inline.proofs.TokenSteps.{code-begins}
+
+-- a special byte is no blank
+pub special-no-blank : (o : Options) (b : ℕ) → is_special o b ≡ true → is_blank_byte b ≡ false
+special-no-blank o b e = not-true (is_blank_byte b) (kinds (special-kinds o b e))
+  where
+    p : ℕ → Bool
+    p n = not (is_blank_byte n)
+
+    here : (n : ℕ) → (b == n) ≡ true → not (is_blank_byte n) ≡ true → not (is_blank_byte b) ≡ true
+    here n h k = ap (λ m. not (is_blank_byte m)) (eqb-true b n h) ∙ k
+
+    kinds : Kinds o b → not (is_blank_byte b) ≡ true
+    kinds (inl h) = sign-passes (λ n. not (is_blank_byte n)) b (codes "\n\r*_&\\[]<!`") (refl, (refl, (refl, (refl, (refl, (refl, (refl, (refl, (refl, (refl, (refl, tt))))))))))) h
+    kinds (inr (inl h)) = here 124 h refl
+    kinds (inr (inr (inl h))) = here 126 h refl
+    kinds (inr (inr (inr (inl h)))) = here 94 h refl
+    kinds (inr (inr (inr (inr (inl h))))) = sign-passes (λ n. not (is_blank_byte n)) b (codes "${}") (refl, (refl, (refl, tt))) h.1
+    kinds (inr (inr (inr (inr (inr h))))) = sign-passes (λ n. not (is_blank_byte n)) b (codes ".-\"'") (refl, (refl, (refl, (refl, tt)))) h.1
+
+abbrev tick_kind : ItemKind → Bool
+tick_kind (Code bytes) = true
+tick_kind Own = true
+tick_kind other = false
+
+abbrev ticks : Token → Bool
+ticks (Stands x past) = tick_kind x.kind
+ticks (Opens b) = false
+ticks (Closes b) = false
+ticks Ends = false
+
+module _ (leaf : LeafText) (reader : Reader) (read : Leaf) (place : ℕ → ℕ) (r : ReadsPlaces leaf reader read place) (source : reader.source ≡ source_of leaf) where
+  abbrev text : List ℕ
+  text = text_of leaf
+
+  abbrev cell : Bool
+  cell = is_cell_of leaf
+
+  module _ {F : Type 0} (R : F → BrokenLink → Option (CowStr × CowStr) → F → Type 0) (before : Between) (initial now : F) (cursor : Cursor) (old : InlineState) (come : HasCome R leaf reader read place before initial cursor old now) where
+    abbrev m : ℕ
+    m = come.from
+
+    abbrev start : ℕ
+    start = cursor.pending
+
+    abbrev Held : ℕ → Type 0
+    Held to = IsHeld reader.options reader.lookup cell text m start to
+
+    -- nothing, or a text that has begun: it goes on
+    goes-on : (to : ℕ) → Reaches reader.options reader.lookup cell text cursor.at to → (HasEscaped reader.options reader.lookup cell text m start cursor.at → Held cursor.at) → Held to
+    goes-on to reach escaped = held-further reader.options reader.lookup cell text m start cursor.at to (by come.pending) reach
+      where
+        by : IsPending reader.options reader.lookup cell text m cursor → Held cursor.at
+        by (inl h) = inl h
+        by (inr (inl h)) = inr h.0
+        by (inr (inr h)) = escaped h
+
+    is-free : (HasEscaped reader.options reader.lookup cell text m start cursor.at → ⊥) → IsFree reader.options reader.lookup cell text m start
+    is-free never = by come.pending
+      where
+        by : IsPending reader.options reader.lookup cell text m cursor → IsFree reader.options reader.lookup cell text m start
+        by (inl h) = inl h.0
+        by (inr (inl h)) = inr h.1
+        by (inr (inr h)) = absurd (never h)
+
+    pub come-order : start ≤ cursor.at
+    come-order = by come.pending
+      where
+        by : IsPending reader.options reader.lookup cell text m cursor → start ≤ cursor.at
+        by (inl h) = let e = h.1 in omega (arith, e)
+        by (inr (inl h)) = let lt = begun-order reader.options reader.lookup cell text m start cursor.at h.0 in omega (arith, lt)
+        by (inr (inr h)) = let b = h.behind in omega (arith, b)
+
+    -- before the leaf ends, a pending text ends with no blank
+    no-blank-before : start < cursor.at → cursor.at < length text → is_blank_byte (get_or text (cursor.at - 1) 0) ≡ false
+    no-blank-before some lt = by come.pending
+      where
+        by : IsPending reader.options reader.lookup cell text m cursor → is_blank_byte (get_or text (cursor.at - 1) 0) ≡ false
+        by (inl h) = absurd (let e = h.1 in omega (arith, e, some))
+        by (inr (inl h)) = h.2 lt
+        by (inr (inr h)) = ap (λ n. is_blank_byte (get_or text n 0)) (let b = h.behind in let q : cursor.at - 1 ≡ start = omega (arith, b) in q) ∙ ap is_blank_byte h.byte
+
+    module _ (at : ℕ) (order : cursor.at ≤ at) (lt : at < length text) (stands : StandUpTo reader.options reader.lookup cell text cursor.at at) (special : is_special reader.options (get_or text at 0) ≡ true) (new : InlineState) (next : Cursor) (sound : IsSound old)
+        (moves : Moves text at new next) where
+      abbrev here : Cursor
+      here = record { pending = start; at = at }
+
+      none : is_blank_byte (get_or text at 0) ≡ false
+      none = special-no-blank reader.options (get_or text at 0) special
+
+      within : next.at ≤ length text
+      within = moves.cursor.at.0
+
+      further : at < next.at
+      further = moves.further
+
+      reach : is_content (get_or text at 0) ≡ true → Reaches reader.options reader.lookup cell text cursor.at at
+      reach content =
+          reaches-to reader.options reader.lookup cell text cursor.at at at (omega (arith, lt)) stands order (omega arith) (λ j a b. absurd (omega (arith, a, b))) (λ some blank. ending-there text at lt content none)
+
+      -- behind a backtick that is escaped the special byte is the next one of its run
+      module _ (h : HasEscaped reader.options reader.lookup cell text m start cursor.at) where
+        same : at ≡ cursor.at
+        same = escaped-next reader.options reader.lookup cell text m start cursor.at h at order (omega (arith, lt)) stands
+
+        tick : get_or text at 0 ≡ 96
+        tick = ap (λ n. get_or text n 0) same ∙ (tick-there reader.options reader.lookup cell text m start cursor.at h).1
+
+        tick-token : (t : Token) → begins_at reader.options reader.lookup cell text at ≡ t → ticks t ≡ true
+        tick-token t e = sym (ap ticks (sym (code-begins reader.options reader.lookup cell text at lt tick) ∙ e)) ∙ go (backticks (drop at text)) (code_in (drop at text))
+          where
+            go : (n : ℕ) (found : Option Found) → ticks (code_or (reading reader.options reader.lookup text) (whole cell text) at n found) ≡ true
+            go n None = refl
+            go n (Some found) = refl
+
+        not-plain : (s e : ℕ) → begins_at reader.options reader.lookup cell text at ≡ item_at Plain s e → ⊥
+        not-plain s e t = plain-tick reader.options reader.lookup cell text at lt s e t tick
+
+        no-other : (t : Token) → begins_at reader.options reader.lookup cell text at ≡ t → ticks t ≡ false → ⊥
+        no-other t e f = true≢false (sym (tick-token t e) ∙ f)
+
+        held-code : is_some (code_in (drop at text)) ≡ true → Held cursor.at
+        held-code e = inr (escaped-begun reader.options reader.lookup cell text m start cursor.at h (ap (λ n. is_some (code_in (drop n text))) (sym same) ∙ e))
+
+      -- up to the special byte
+      held-there : is_content (get_or text at 0) ≡ true → (HasEscaped reader.options reader.lookup cell text m start cursor.at → ⊥) → Held at
+      held-there content never = goes-on at (reach content) (λ h. absurd (never h))
+
+      nothing-pending : HasReached R leaf reader read place before initial next.at new now → next.pending ≡ next.at → HasCome R leaf reader read place before initial next new now
+      nothing-pending h e = record { from = next.at; reached = h; pending = inl (sym e, e) }
+
+      from-token : (t : Token) → begins_at reader.options reader.lookup cell text at ≡ t → breaks t ≡ false → is_content (get_or text at 0) ≡ true
+      from-token t e f = content-there reader.options reader.lookup cell text at lt t e f
+
+      -- ## What stands for itself
+      come-passes : Passes reader.options reader.lookup cell text here old new next → HasCome R leaf reader read place before initial next new now
+      come-passes p =
+          let never = λ (h : HasEscaped reader.options reader.lookup cell text m start cursor.at). not-plain h at next.at p.token in
+          let content = from-token (item_at Plain at next.at) p.token refl in
+          record {
+            from = m;
+            reached = subst (λ (s : InlineState). HasReached R leaf reader read place before initial m s now) (sym p.same) come.reached;
+            pending = passes-pending reader.options reader.lookup cell text m here old new next (held-there content never) (is-free never) further within p none;
+          }
+
+      come-over : PassesOver reader.options reader.lookup cell text here old new next → HasCome R leaf reader read place before initial next new now
+      come-over p =
+          let first = p.plain at (omega arith) further in
+          let never = λ (h : HasEscaped reader.options reader.lookup cell text m start cursor.at). not-plain h at (at + 1) first in
+          let content = from-token (item_at Plain at (at + 1)) first refl in
+          record {
+            from = m;
+            reached = subst (λ (s : InlineState). HasReached R leaf reader read place before initial m s now) (sym p.same) come.reached;
+            pending = passes-over-pending reader.options reader.lookup cell text m here old new next (held-there content never) (is-free never) further within p;
+          }
+
+      -- ## Backslashes
+      come-escapes : Escapes reader.options reader.lookup cell text here old new next → HasCome R leaf reader read place before initial next new now
+      come-escapes x =
+          let never = λ (h : HasEscaped reader.options reader.lookup cell text m start cursor.at). (let q : 92 ≡ 96 = sym x.byte ∙ tick h in absurd (omega (arith, q))) in
+          record {
+            from = at;
+            reached = flushed-reached leaf reader read place r R before initial now m start at old new come.reached (held-there (ap is_content x.byte) never) (omega (arith, lt)) (escapes-stop reader.options reader.lookup cell text here old new next x) x.slots x.others;
+            pending = escapes-pending reader.options reader.lookup cell text here old new next x;
+          }
+
+      come-pipe : EscapesPipe reader.options reader.lookup cell text here old new next → HasCome R leaf reader read place before initial next new now
+      come-pipe x =
+          let never = λ (h : HasEscaped reader.options reader.lookup cell text m start cursor.at). not-plain h next.pending next.at x.token in
+          let content = from-token (item_at Plain next.pending next.at) x.token refl in
+          record {
+            from = at;
+            reached = flushed-reached leaf reader read place r R before initial now m start at old new come.reached (held-there content never) (omega (arith, lt)) (pipe-stop reader.options reader.lookup cell text here old new next x) x.slots x.others;
+            pending = pipe-pending reader.options reader.lookup cell text here old new next x;
+          }
+
+      -- ## Items
+      come-appends : Appends reader.options reader.lookup cell text here old new next → HasCome R leaf reader read place before initial next new now
+      come-appends a = nothing-pending (appends-reached leaf reader read place r R before initial now here m old new next sound come.reached moves.stands a (by a.there)) a.pending
+        where
+          by : BeginsThere text here a.from → Held a.from
+          by (inl t) =
+              subst Held (sym t.0) (goes-on at (reach t.1)
+              (λ h. held-code h (t.3 (tick h) (let e = same h in let b = h.behind in omega (arith, e, b)) h.byte)))
+          by (inr t) = goes-on a.from (go (before-or-behind cursor.at a.from)) (λ h. absurd (true≢false (sym (ap is_content (tick h)) ∙ t.0)))
+            where
+              go : (cursor.at ≤ a.from) ⊎ (a.from < cursor.at) → Reaches reader.options reader.lookup cell text cursor.at a.from
+              go (inl le) =
+                  reaches-to reader.options reader.lookup cell text cursor.at a.from at (omega (arith, lt)) stands le a.before a.blanks
+                  (λ some blank. absurd (true≢false (sym blank ∙ t.1 (let s = come-order in omega (arith, s, some)))))
+              go (inr low) =
+                  absurd (let s = a.behind in true≢false (sym (a.blanks (cursor.at - 1) (omega (arith, low)) (omega (arith, low, order))) ∙ no-blank-before (omega (arith, s, low)) (omega (arith, order, lt))))
+
+      come-autolink : AppendsAutolink reader.options reader.lookup cell text here old new next → HasCome R leaf reader read place before initial next new now
+      come-autolink a =
+          let x : Item = record { kind = Autolink (slice text (at + 1) (next.at - 1)); start = at; end = next.at } in
+          let never = λ (h : HasEscaped reader.options reader.lookup cell text m start cursor.at). no-other h (Stands x next.at) a.token refl in
+          nothing-pending (autolink-reached leaf reader read place r R before initial now here m old new next sound come.reached (held-there (from-token (Stands x next.at) a.token refl) never) a inside) a.pending
+        where
+          inside : at + 1 < next.at - 1
+          inside =
+              let one : List Slot = a.slots.before ++ (record { kind = kind.Begin (element.Autolink (length old.links.items)); start = at; end = next.at } ∷ []) in
+              let uri : Slot = record { kind = kind.Text; start = at + 1; end = next.at - 1 } in
+              let last : Slot = record { kind = kind.End; start = next.at - 1; end = next.at } in
+              let n = length_push one uri in
+              let k = length_push (one ++ (uri ∷ [])) last in
+              let e = ap length a.slots.slots_are in
+              let there : length one < length new.slots.items = omega (arith, n, k, e) in
+              let is : get_or new.slots.items (length one) uri ≡ uri =
+              ap (λ (l : List Slot). get_or l (length one) uri) a.slots.slots_are ∙ get_or_append_left (one ++ (uri ∷ [])) (last ∷ []) uri (length one) (omega (arith, n)) ∙ get_or_push one uri uri (length one) refl in
+              (subst (IsSlot text next.pending) is (moves.stands.slots (length one) uri there)).part.some
+
+      come-markup : AppendsMarkup leaf here old new next → HasCome R leaf reader read place before initial next new now
+      come-markup a =
+          let never = λ (h : HasEscaped reader.options reader.lookup cell text m start cursor.at). (let q : 60 ≡ 96 = sym a.byte ∙ tick h in absurd (omega (arith, q))) in
+          nothing-pending (markup-reached leaf reader read place r source R before initial now here m old new next come.reached (held-there (ap is_content a.byte) never) further within a) a.pending
+
+      come-unclosed : AppendsUnclosed leaf here old new next → HasCome R leaf reader read place before initial next new now
+      come-unclosed a =
+          let never = λ (h : HasEscaped reader.options reader.lookup cell text m start cursor.at). (let q : 60 ≡ 96 = sym a.byte ∙ tick h in absurd (omega (arith, q))) in
+          nothing-pending (unclosed-reached leaf reader read place r source R before initial now here m old new next come.reached (held-there (ap is_content a.byte) never) further within a) a.pending
+
+      come-run : AppendsRun reader.options reader.lookup cell text here old new next → HasCome R leaf reader read place before initial next new now
+      come-run a =
+          let never = λ (h : HasEscaped reader.options reader.lookup cell text m start cursor.at). no-other h (item_at (Delimiters (shown_run a.run)) at next.at) a.token refl in
+          nothing-pending (run-reached leaf reader read place r R before initial now here m old new next come.reached (held-there (from-token (item_at (Delimiters (shown_run a.run)) at next.at) a.token refl) never) a) a.pending
+
+      come-quote : AppendsQuote reader.options reader.lookup cell text here old new next → HasCome R leaf reader read place before initial next new now
+      come-quote a =
+          let never = λ (h : HasEscaped reader.options reader.lookup cell text m start cursor.at). no-other h (item_at (Quoted (shown_quote a.quote)) at next.at) a.token refl in
+          let content = from-token (item_at (Quoted (shown_quote a.quote)) at next.at) a.token refl in
+          nothing-pending (quote-reached leaf reader read place r R before initial now here m old new next come.reached (held-there content never) a content a.size) a.pending
+
+      come-opens : OpensBracket reader.options reader.lookup cell text here old new next → HasCome R leaf reader read place before initial next new now
+      come-opens a =
+          let never = λ (h : HasEscaped reader.options reader.lookup cell text m start cursor.at). no-other h (Opens (bracket a.is_image at next.at)) a.token refl in
+          nothing-pending (opening-reached leaf reader read place r R before initial now here m old new next come.reached (held-there (from-token (Opens (bracket a.is_image at next.at)) a.token refl) never) a within) a.pending
+
+      -- the rest of a run of backticks of which the first is escaped
+      come-taken : TakesEscaped reader.options reader.lookup cell text here old new next → HasCome R leaf reader read place before initial next new now
+      come-taken a = nothing-pending (by come.pending) a.pending
+        where
+          by : IsPending reader.options reader.lookup cell text m cursor → HasReached R leaf reader read place before initial next.at new now
+          by (inl h) =
+              let one = a.escaped.0 in
+              let e = h.1 in
+              let is : get_or text cursor.at 0 ≡ 96 = ap (λ n. get_or text n 0) (sym e) ∙ a.escaped.1 in
+              let s = stands cursor.at (omega arith) (omega (arith, e, one)) (λ blank. absurd (true≢false (sym blank ∙ ap is_blank_byte is))) in
+              absurd (plain-tick reader.options reader.lookup cell text cursor.at (omega (arith, order, lt)) cursor.at s.end s.token is)
+          by (inr (inl h)) = absurd (h.1 a.escaped.1)
+          by (inr (inr h)) =
+              let t = escaped-own reader.options reader.lookup cell text m start cursor.at h next.at (ap (begins_at reader.options reader.lookup cell text) (sym (same h)) ∙ a.token ∙ ap (λ n. item_at Own n next.at) (same h)) in
+              let x : Item = record { kind = Own; start = start; end = next.at } in
+              let w = item-within reader.options reader.lookup cell text m x next.at t.0 in
+              let low = w.begins in
+              let some = t.1 in
+              let slot : Slot = record { kind = kind.Text; start = start; end = next.at } in
+              let others = a.others in
+              let none : may_open_markup (drop m text) ≡ false = no-markup-at text m (omega (arith, low, some, within)) (λ is. absurd (let q : 92 ≡ 60 = sym h.slash ∙ is in omega (arith, q))) in
+              let texts : new.texts.items ≡ old.texts.items = ap (λ (s : InlineState). s.texts.items) others in
+              let links : new.links.items ≡ old.links.items = ap (λ (s : InlineState). s.links.items) others in
+              item-reached leaf reader read place before R initial now m next.at old new come.reached (omega (arith, low, some))
+              (record { brackets = ap (λ (s : InlineState). s.brackets) others; doubled = ap (λ (s : InlineState). s.doubled) others; expansion = ap (λ (s : InlineState). s.expansion) others; label = ap (λ (s : InlineState). s.shut_close) others })
+              (ap (λ y. shown_slots leaf y new.links.items old.slots.items) texts ∙ ap (λ y. shown_slots leaf old.texts.items y old.slots.items) links)
+              Own (place start) (suc (place (next.at - 1))) slot (other-token leaf reader read place r m x next.at (omega (arith, low, some, within)) t.0 refl none) refl
+              (slot-like leaf reader read place r.places r.cell r.bytes new.texts.items new.links.items slot x m next.at t.0 none (record { start = refl; end = refl; says = tt }) some within)
+              a.slots (ap (λ (s : InlineState). s.delimiters.placed.items) others) (ap (λ (s : InlineState). s.quotes.placed.items) others)
+
+      less : ReadsLess reader.options reader.lookup leaf here old new next → HasCome R leaf reader read place before initial next new now
+      less (inl p) = come-passes p
+      less (inr (inl p)) = come-autolink p
+      less (inr (inr (inl p))) = come-appends p
+      less (inr (inr (inr (inl p)))) = come-markup p
+      less (inr (inr (inr (inr p)))) = come-unclosed p
+
+      pub come-special : ReadsSpecial reader.options reader.lookup leaf here old new next → HasCome R leaf reader read place before initial next new now
+      come-special (inl p) = less p
+      come-special (inr (inl p)) = come-escapes p
+      come-special (inr (inr (inl p))) = come-taken p
+      come-special (inr (inr (inr (inl p)))) = come-run p
+      come-special (inr (inr (inr (inr (inl p))))) = come-quote p
+      come-special (inr (inr (inr (inr (inr (inl p)))))) = come-opens p
+      come-special (inr (inr (inr (inr (inr (inr (inl p))))))) = come-over p
+      come-special (inr (inr (inr (inr (inr (inr (inr p))))))) = come-pipe p
+
+      -- ## Closing brackets
+      pub come-closing : (later : F) (references : RefDefs) (footnotes : FootnoteDefs) → get_or text at 0 ≡ 93 → ReadsSame reader.options reader.lookup references footnotes leaf reader read place → Flushes start at old
+          → closers.Closes R reader.options reader.lookup references footnotes leaf text start at old new next now later → reader.options.wikilinks ≡ false → HasCome R leaf reader read place before initial next new later
+      come-closing later references footnotes byte same_reading flush closes said =
+          let never = λ (h : HasEscaped reader.options reader.lookup cell text m start cursor.at). (let q : 93 ≡ 96 = sym byte ∙ tick h in absurd (omega (arith, q))) in
+          let c = closing-reached leaf reader read place r R before initial now later here m old new next come.reached (held-there (ap is_content byte) never) lt byte references footnotes same_reading flush closes said in
+          record { from = next.at; reached = c.0; pending = inl (sym c.1, c.1) }
+
+    -- where no special byte is left
+    pub come-rest : cursor.at < length text → StandUpTo reader.options reader.lookup cell text cursor.at (length text) → HasCome R leaf reader read place before initial (record { pending = start; at = length text }) old now
+    come-rest lt stands =
+        let never = λ (h : HasEscaped reader.options reader.lookup cell text m start cursor.at). (let q = escaped-next reader.options reader.lookup cell text m start cursor.at h (length text) (omega (arith, lt)) (omega arith) stands in absurd (omega (arith, q, lt))) in
+        let order = come-order in
+        let reach = reaches-to reader.options reader.lookup cell text cursor.at (length text) (length text) (omega arith) stands (omega (arith, lt)) (omega arith) (λ j a b. absurd (omega (arith, a, b))) (λ some blank. ap (λ l. behind_ending (behind_blanks l)) none-left) in
+        record {
+          from = m;
+          reached = come.reached;
+          pending = held-pending reader.options reader.lookup cell text m (record { pending = start; at = length text }) (goes-on (length text) reach (λ h. absurd (never h))) (is-free never) (omega (arith, order, lt)) (omega arith) (λ over. absurd (omega (arith, over)));
+        }
+      where
+        none-left : drop (length text) text ≡ []
+        none-left = go (drop (length text) text) (length-drop (length text) text)
+          where
+            go : (l : List ℕ) → length l ≡ length text - length text → l ≡ []
+            go [] e = refl
+            go (x ∷ l) e = absurd (omega (arith, e))

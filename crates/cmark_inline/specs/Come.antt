@@ -1,0 +1,100 @@
+-- How far the text of a leaf is read at a cursor, in the states of the code and of the grammar.
+use Rattle.std.specs.Prelude.{◌≡◌, ◌⊎◌, ℕ, ◌+◌, ◌-◌, ◌<◌, Bool, false, List, [], ◌∷◌, length, drop, slice_index, Option, None}
+use Rattle.cmark_grammar.specs.Answers.{Lookup}
+use Rattle.cmark_grammar.specs.CodeSpans.{backticks, code_in}
+use Rattle.cmark_grammar.specs.Columns.{is_blank_byte}
+use Rattle.cmark_grammar.specs.InlineTokens.{escaped_backtick, item_at}
+use Rattle.cmark_grammar.specs.Items.{Plain}
+use Rattle.cmark_grammar.specs.LeafReading.{Between}
+use Rattle.cmark_grammar.specs.LeafText.{Leaf}
+use Rattle.cmark_grammar.specs.Options.{Options}
+use Rattle.cmark_grammar.specs.Readers.{Reader}
+use Rattle.cmark_items.specs.declared.definitions.RefDefs.{RefDefs}
+use Rattle.cmark_items.specs.declared.footnotes.FootnoteDefs.{FootnoteDefs}
+use Rattle.cmark_leaf_text.specs.Reads.{is_cell_of, text_of}
+use Rattle.cmark_leaf_text.specs.declared.leaf_text.LeafText.{LeafText}
+use Rattle.cmark_text.specs.declared.text.CowStr.{CowStr}
+use Rattle.cmark_inline_model.specs.BracketPass.{Pass}
+use Rattle.cmark_inline.specs.Closers.{ShowsState}
+use Rattle.cmark_inline.specs.Decided.{ReadsSame}
+use Rattle.cmark_inline.specs.Reached.{HasRead, ReadsPlaces}
+use Rattle.cmark_inline.specs.Resolved.{Answered}
+use Rattle.cmark_inline.specs.Tokens.{begins_at, reading, whole}
+use Rattle.cmark_inline.specs.declared.bracket.Bracket.{Bracket}
+use Rattle.cmark_inline.specs.declared.callback.BrokenLink.{BrokenLink}
+use Rattle.cmark_inline.specs.declared.state.InlineState.{InlineState}
+use Rattle.cmark_inline.specs.declared.step.Cursor.{Cursor}
+
+-- ## The text that is pending
+module _ (options : Options) (lookup : Lookup) (is_cell : Bool) (text : List ℕ) where
+  -- bytes that stand for themselves, one item behind the other, from a place up to another: each item ends at one of these places
+  abbrev pub AreTexts : (from : ℕ) → (ends : List ℕ) → (to : ℕ) → Type 0
+  AreTexts from [] to = from ≡ to
+  AreTexts from (end ∷ ends) to = (from < end) × (begins_at options lookup is_cell text from ≡ item_at Plain from end) × AreTexts end ends to
+
+  -- at one place bytes begin that stand for themselves, perhaps behind a backslash; with those that touch them they are a text from
+  -- `start` up to another place
+  pub record HasBegun (at start to : ℕ) : Type 0 where
+    pub end : ℕ
+    pub some : start < end
+    pub token : begins_at options lookup is_cell text at ≡ item_at Plain start end
+    pub ends : List ℕ
+    pub texts : AreTexts end ends to
+
+  -- behind the backslash at one place stands a run of backticks, of which the first was read: it stands for itself where the rest of the
+  -- run opens a code span
+  pub record HasEscaped (at start to : ℕ) : Type 0 where
+    pub slash : slice_index text at ≡ 92
+    pub token : begins_at options lookup is_cell text at ≡ escaped_backtick (reading options lookup text) (whole is_cell text) start (backticks (drop start text)) (code_in (drop to text))
+    pub behind : to ≡ start + 1
+    pub byte : slice_index text start ≡ 96
+    pub several : 1 < backticks (drop start text)
+
+  -- while the pass of the grammar stands at one place: nothing is pending there; or a text has begun, which is no backtick, and does not
+  -- end with a blank before the leaf does; or a backtick that is escaped
+  abbrev pub IsPending : (at : ℕ) → Cursor → Type 0
+  IsPending at cursor =
+      ((at ≡ cursor.pending) × (cursor.pending ≡ cursor.at))
+      ⊎ ((HasBegun at cursor.pending cursor.at × (slice_index text cursor.pending ≡ 96 → ⊥) × (cursor.at < length text → is_blank_byte (slice_index text (cursor.at - 1)) ≡ false))
+      ⊎ HasEscaped at cursor.pending cursor.at)
+
+-- ## What is read
+module _ {F : Type 0} (R : F → BrokenLink → Option (CowStr × CowStr) → F → Type 0) (leaf : LeafText) (reader : Reader) (read : Leaf) (place : ℕ → ℕ) (before : Between) where
+  -- a pass of the grammar has come to a place, and has read what this state stands for, with the answers that the callback gave
+  pub record HasReached (initial : F) (at : ℕ) (state : InlineState) (now : F) : Type 0 where
+    pub p : Pass
+    pub bs : List Bracket
+    pub has_read : HasRead leaf reader read place before p bs state
+    pub at_is : p.state.at ≡ place at
+    pub shows : ShowsState reader.options.wikilinks (text_of leaf) place at p.state bs state
+    pub answered : Answered R p.state.asked initial now
+
+  -- and the text from there on up to a cursor is pending
+  pub record HasCome (initial : F) (cursor : Cursor) (state : InlineState) (now : F) : Type 0 where
+    pub from : ℕ
+    pub reached : HasReached initial from state now
+    pub pending : IsPending reader.options reader.lookup (is_cell_of leaf) (text_of leaf) from cursor
+
+-- where a leaf is read up to a cursor as the grammar reads it, it is so up to the next one: for each reading with the same options,
+-- entities, definitions and footnotes. Wikilinks are left out: which slots one has that shows what stands behind its pipe is not said yet
+abbrev pub ComesOn : {F : Type 0} → (F → BrokenLink → Option (CowStr × CowStr) → F → Type 0) → Options → Lookup → RefDefs → FootnoteDefs → LeafText → (cursor next : Cursor) → (old new : InlineState) → (now later : F) → Type 0
+ComesOn {F} R options lookup references footnotes leaf cursor next old new now later =
+    (reader : Reader) (read : Leaf) (place : ℕ → ℕ) (before : Between) (initial : F) → ReadsSame options lookup references footnotes leaf reader read place → ReadsPlaces leaf reader read place
+    → options.wikilinks ≡ false → HasCome R leaf reader read place before initial cursor old now → HasCome R leaf reader read place before initial next new later
+
+-- so far it is read from its begin on, with so much left of the expansion limit there and nothing asked
+abbrev pub ComesTo : {F : Type 0} → (F → BrokenLink → Option (CowStr × CowStr) → F → Type 0) → Options → Lookup → RefDefs → FootnoteDefs → LeafText → (expansion : ℕ) → (initial : F) → Cursor → InlineState → (now : F) → Type 0
+ComesTo R options lookup references footnotes leaf expansion initial cursor state now =
+    (reader : Reader) (read : Leaf) (place : ℕ → ℕ) → ReadsSame options lookup references footnotes leaf reader read place → ReadsPlaces leaf reader read place
+    → options.wikilinks ≡ false → HasCome R leaf reader read place (record { expansion = expansion; asked = [] }) initial cursor state now
+
+-- ## The begin of a leaf
+
+-- a state without slots, runs, quotes and brackets, as it is before a leaf is read
+pub record IsCleared (state : InlineState) : Type 0 where
+  pub slots : state.slots.items ≡ []
+  pub runs : state.delimiters.placed.items ≡ []
+  pub quotes : state.quotes.placed.items ≡ []
+  pub brackets : (state.brackets.standing.items ≡ []) × (state.brackets.shut ≡ 0)
+  pub doubled : (state.doubled.standing.items ≡ []) × (state.doubled.shut ≡ 0)
+  pub label : state.shut_close ≡ None
