@@ -1,9 +1,9 @@
 -- With the slots of an autolink the pass of the grammar has come behind that.
-use Rattle.std.specs.Prelude.{Option, slice_get, map}
-use Rattle.std.proofs.Common.{◌≡◌, ◌⊎◌, inl, inr, ℕ, zero, suc, ◌+◌, ◌-◌, ◌<◌, ◌≤◌, Bool, true, false, List, [], ◌∷◌, ◌++◌, length, drop, get_or, Some, refl, sym, ap, ◌∙◌, subst, arith, append_assoc}
-use Rattle.std.proofs.lemmas.List.{append-nil, get_or-append_right, length-append, length_push, map-append}
+use Rattle.std.specs.Prelude.{Option, map}
+use Rattle.std.proofs.Common.{◌≡◌, ℕ, zero, suc, ◌+◌, ◌-◌, ◌<◌, ◌≤◌, Bool, false, List, [], ◌∷◌, ◌++◌, length, drop, refl, sym, ap, ◌∙◌, subst, arith, append_assoc}
+use Rattle.std.proofs.lemmas.List.{append-nil, map-append}
 use Rattle.cmark_grammar.specs.BracketStates.{moved}
-use Rattle.cmark_grammar.specs.InlineTokens.{item_at, token}
+use Rattle.cmark_grammar.specs.InlineTokens.{token}
 use Rattle.cmark_grammar.specs.Items.{Autolink, Own, Item, Stands}
 use Rattle.cmark_grammar.specs.LeafReading.{Between}
 use Rattle.cmark_grammar.specs.LeafText.{Leaf}
@@ -17,7 +17,7 @@ use Rattle.cmark_grammar.specs.Tag.{Linked}
 use Rattle.cmark_grammar.specs.Tokens.{slice}
 use Rattle.cmark_leaf_text.specs.Reads.{is_cell_of, place_of, text_of}
 use Rattle.cmark_leaf_text.specs.declared.leaf_text.LeafText.{LeafText}
-use Rattle.cmark_text.specs.Shown.{shown_link_type, text_bytes}
+use Rattle.cmark_text.specs.Shown.{text_bytes}
 use Rattle.cmark_text.specs.declared.text.CowStr.{CowStr}
 use Rattle.cmark_inline_model.specs.BracketPass.{pass}
 use Rattle.cmark_inline_model.specs.LikeSlots.{IsLike}
@@ -31,12 +31,11 @@ use Rattle.cmark_inline_model.proofs.RowPasses.{reached-autolink}
 use Rattle.cmark_inline_model.proofs.TogetherTokens.{Joined, Together, begins-joined}
 use Rattle.cmark_inline.specs.Come.{HasReached}
 use Rattle.cmark_inline.specs.Marked.{places_of}
-use Rattle.cmark_inline.specs.Reached.{HasRead, ReadsPlaces, bracket_place, quotes_of, runs_of}
+use Rattle.cmark_inline.specs.Reached.{ReadsPlaces, bracket_place, quotes_of, runs_of}
 use Rattle.cmark_inline.specs.Sound.{IsSound}
 use Rattle.cmark_inline.specs.SlotViews.{linked_at, linked_or_none, shown_slot, shown_slots}
 use Rattle.cmark_inline.specs.Tokens.{AppendsAutolink, begins_at}
 use Rattle.cmark_inline.specs.declared.callback.BrokenLink.{BrokenLink}
-use Rattle.cmark_inline.specs.declared.delimiter.PlacedRun.{PlacedRun}
 use Rattle.cmark_inline.specs.declared.link.LinkParts.{LinkParts}
 use Rattle.cmark_inline.specs.declared.quote.PlacedQuote.{PlacedQuote}
 use Rattle.cmark_inline.specs.declared.slot.Element.TheVariants as element
@@ -50,7 +49,6 @@ use Rattle.cmark_inline.proofs.Keeping.{keeps-pending}
 use Rattle.cmark_inline.proofs.Longer.{get-last, shown-longer}
 use Rattle.cmark_inline.proofs.MarkupTokens.{no-markup-by}
 use Rattle.cmark_inline.proofs.PendingReads.{item-within, stops-there}
-use Rattle.cmark_inline.proofs.PendingTexts.{text_slot}
 use Rattle.cmark_inline.proofs.PlainChains.{IsHeld}
 use Rattle.cmark_inline.proofs.ReachedItems.{shows-on}
 

@@ -1,6 +1,6 @@
 -- With the slot of an opening bracket the pass of the grammar has come behind that.
 use Rattle.std.specs.Prelude.{Option}
-use Rattle.std.proofs.Common.{◌≡◌, ◌⊎◌, inl, inr, ℕ, suc, ◌+◌, ◌-◌, ◌<◌, ◌≤◌, Bool, true, false, List, [], ◌∷◌, ◌++◌, length, drop, get_or, refl, sym, ap, ◌∙◌, subst, arith}
+use Rattle.std.proofs.Common.{◌≡◌, ℕ, suc, ◌+◌, ◌-◌, ◌<◌, ◌≤◌, Bool, true, false, List, [], ◌∷◌, ◌++◌, length, get_or, refl, sym, ap, ◌∙◌, subst, arith}
 use Rattle.std.proofs.lemmas.List.{get_or_push}
 use Rattle.cmark_grammar.specs.BracketStates.{opened}
 use Rattle.cmark_grammar.specs.InlineTokens.{bracket, longest, token}
@@ -17,7 +17,6 @@ use Rattle.cmark_inline_model.specs.BracketPass.{pass}
 use Rattle.cmark_inline_model.specs.LikeSlots.{IsLike}
 use Rattle.cmark_inline_model.specs.PartLists.{join}
 use Rattle.cmark_inline_model.specs.PlacedTokens.{placed, one_stretch, text_reader}
-use Rattle.cmark_inline_model.specs.RowParts.{text_slot as bracket_slot}
 use Rattle.cmark_inline_model.specs.SlotRows.{ItemSlot}
 use Rattle.cmark_inline.specs.BracketViews.{past_opening}
 use Rattle.cmark_inline.specs.Closers.{ShowsState}

@@ -1,6 +1,6 @@
 -- Behind a closing bracket the pass of the grammar has read what the new state stands for, with what was asked there.
 use Rattle.std.specs.Prelude.{Option, map}
-use Rattle.std.proofs.Common.{◌≡◌, ℕ, suc, ◌+◌, ◌<◌, ◌≤◌, Bool, true, false, List, [], ◌∷◌, ◌++◌, length, drop, get_or, Some, None, refl, sym, ap, ◌∙◌, subst, arith, true≢false}
+use Rattle.std.proofs.Common.{◌≡◌, ℕ, suc, ◌+◌, ◌<◌, Bool, false, List, [], ◌∷◌, ◌++◌, length, get_or, Some, refl, sym, ap, ◌∙◌, subst, arith, true≢false}
 use Rattle.std.proofs.lemmas.List.{length-map}
 use Rattle.cmark_grammar.specs.Answers.{Destination}
 use Rattle.cmark_grammar.specs.BracketDecisions.{decide}
@@ -18,7 +18,7 @@ use Rattle.cmark_items.specs.declared.footnotes.FootnoteDefs.{FootnoteDefs}
 use Rattle.cmark_leaf_text.specs.Reads.{is_cell_of, text_of}
 use Rattle.cmark_leaf_text.specs.declared.leaf_text.LeafText.{LeafText}
 use Rattle.cmark_text.specs.declared.text.CowStr.{CowStr}
-use Rattle.cmark_inline_model.specs.BracketPass.{Pass, closed_by, formed_by, pass, resulting}
+use Rattle.cmark_inline_model.specs.BracketPass.{Pass, closed_by, formed_by, resulting}
 use Rattle.cmark_inline_model.specs.PartLists.{Cut, cut_at}
 use Rattle.cmark_inline_model.specs.PlacedTokens.{placed, one_stretch, text_reader}
 use Rattle.cmark_inline_model.specs.Progress.{Always, Fits, Keeps}
@@ -30,13 +30,11 @@ use Rattle.cmark_inline.specs.BracketViews.{ArePlaced}
 use Rattle.cmark_inline.specs.Closers as closers
 use Rattle.cmark_inline.specs.Closers.{ClosesAs, IsSaid, ShowsState, left_of}
 use Rattle.cmark_inline.specs.Come.{HasReached}
-use Rattle.cmark_inline.specs.Decided.{AsksThis, ComesTo, IsCloser, ReadsSame}
+use Rattle.cmark_inline.specs.Decided.{AsksThis, ComesTo, ReadsSame}
 use Rattle.cmark_inline.specs.Marked.{places_of}
 use Rattle.cmark_inline.specs.Reached.{HasRead, ReadsPlaces, bracket_place, quotes_of, runs_of}
 use Rattle.cmark_inline.specs.Resolved.{Answered}
-use Rattle.cmark_inline.specs.SlotViews.{shown_slots}
 use Rattle.cmark_inline.specs.Stands.{Flushes}
-use Rattle.cmark_inline.specs.Tokens.{begins_at}
 use Rattle.cmark_inline.specs.declared.bracket.Bracket.{Bracket}
 use Rattle.cmark_inline.specs.declared.callback.BrokenLink.{BrokenLink}
 use Rattle.cmark_inline.specs.declared.quote.PlacedQuote.{PlacedQuote}

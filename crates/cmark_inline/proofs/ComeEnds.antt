@@ -1,15 +1,14 @@
 -- Before a leaf is read nothing of it is; at its end it is read as the events that are still to come.
-use Rattle.std.specs.Prelude.{Option, map, option_map, take}
-use Rattle.std.proofs.Common.{◌≡◌, ◌⊎◌, inl, inr, ℕ, ◌-◌, ◌<◌, ◌≤◌, Bool, true, false, List, [], ◌∷◌, ◌++◌, length, drop, None, refl, sym, ap, ◌∙◌, subst, arith, length-drop}
-use Rattle.cmark_grammar.specs.Emphasis.{IsEmphasis}
+use Rattle.std.specs.Prelude.{Option, map, option_map}
+use Rattle.std.proofs.Common.{◌≡◌, inl, inr, ℕ, ◌-◌, Bool, List, [], ◌∷◌, ◌++◌, length, drop, refl, sym, ap, ◌∙◌, subst, arith, length-drop}
 use Rattle.cmark_grammar.specs.EmphasisModel.{pairs_of, spans_of}
 use Rattle.cmark_grammar.proofs.EmphasisSound.{sound}
 use Rattle.cmark_grammar.specs.InlineTokens.{begins, longest, token}
 use Rattle.cmark_grammar.specs.Items.{Ends}
-use Rattle.cmark_grammar.specs.LeafReading.{Between, ReadsLeaf, entering, leaving}
+use Rattle.cmark_grammar.specs.LeafReading.{Between, ReadsLeaf, entering}
 use Rattle.cmark_grammar.specs.LeafText.{Leaf}
 use Rattle.cmark_grammar.specs.Parts.{Nil}
-use Rattle.cmark_grammar.specs.Questions.{Exchange, IsNext}
+use Rattle.cmark_grammar.specs.Questions.{IsNext}
 use Rattle.cmark_grammar.specs.Readers.{Reader}
 use Rattle.cmark_leaf_text.specs.Reads.{is_cell_of, source_of, text_of}
 use Rattle.cmark_leaf_text.specs.declared.leaf_text.LeafText.{LeafText}
@@ -17,7 +16,6 @@ use Rattle.cmark_text.specs.declared.text.CowStr.{CowStr}
 use Rattle.cmark_inline_model.specs.BracketPass.{pass}
 use Rattle.cmark_inline_model.specs.PlacedTokens.{may_open_markup, placed, one_stretch, text_reader}
 use Rattle.cmark_inline_model.specs.SlotRows.{marked, marks_by, quoted}
-use Rattle.cmark_inline.specs.BracketViews.{StandFor}
 use Rattle.cmark_inline.specs.Come.{HasBegun, HasCome, HasReached, IsCleared, IsPending}
 use Rattle.cmark_inline.specs.Decided.{EndsWithin}
 use Rattle.cmark_inline.specs.Marked.{places_of, siblings_from}

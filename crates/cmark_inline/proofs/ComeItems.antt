@@ -1,17 +1,16 @@
 -- With the slot of an item the pass of the grammar has come behind that item.
-use Rattle.std.specs.Prelude.{Option, ◌==◌, ◌&&◌, is_some, slice_get, if◌then◌else◌}
-use Rattle.std.proofs.Common.{◌≡◌, ◌⊎◌, inl, inr, ℕ, suc, ◌+◌, ◌-◌, ◌<◌, ◌≤◌, Bool, true, false, List, [], ◌∷◌, ◌++◌, length, drop, get_or, Some, None, refl, sym, ap, ◌∙◌, subst, arith, eqb-true, true≢false}
+use Rattle.std.specs.Prelude.{Option, ◌==◌, ◌&&◌, if◌then◌else◌}
+use Rattle.std.proofs.Common.{◌≡◌, ◌⊎◌, inl, inr, ℕ, suc, ◌+◌, ◌-◌, ◌<◌, ◌≤◌, Bool, true, false, List, [], ◌∷◌, ◌++◌, length, drop, get_or, refl, sym, ap, ◌∙◌, subst, arith, eqb-true, true≢false}
 use Rattle.std.proofs.Math.Seq.{drop-cons}
-use Rattle.std.proofs.lemmas.Bool.{eq-eqb}
 use Rattle.std.proofs.lemmas.List.{append-nil, get_or_push, length-append, length_push}
 use Rattle.cmark_grammar.specs.Columns.{is_blank_byte}
-use Rattle.cmark_grammar.specs.InlineTokens.{begins, from, is_plain, item_at, longest, plain_end, token}
-use Rattle.cmark_grammar.specs.Items.{ItemKind, Plain, Own, Written, Quoted, Delimiters, Code, InlineMath, DisplayMath, Autolink, Html, OwnedHtml, FootnoteReference, SoftBreak, HardBreak, Item, Token, Stands}
+use Rattle.cmark_grammar.specs.InlineTokens.{from, is_plain, item_at, longest, plain_end, token}
+use Rattle.cmark_grammar.specs.Items.{ItemKind, Plain, Own, Written, Quoted, Delimiters, Code, InlineMath, DisplayMath, Autolink, Html, OwnedHtml, FootnoteReference, SoftBreak, HardBreak, Item, Stands}
 use Rattle.cmark_grammar.specs.LeafReading.{Between}
 use Rattle.cmark_grammar.specs.LeafText.{Leaf}
 use Rattle.cmark_grammar.specs.Lines.{is_content}
 use Rattle.cmark_grammar.specs.Readers.{Reader}
-use Rattle.cmark_leaf_text.specs.Reads.{IsPart, text_of, is_cell_of}
+use Rattle.cmark_leaf_text.specs.Reads.{text_of, is_cell_of}
 use Rattle.cmark_leaf_text.specs.declared.leaf_text.LeafText.{LeafText}
 use Rattle.cmark_text.specs.declared.text.CowStr.{CowStr}
 use Rattle.cmark_inline_model.specs.PlacedTokens.{StopsAt, may_open_markup, placed, placed_item, one_stretch, text_reader}
@@ -25,15 +24,14 @@ use Rattle.cmark_inline.specs.Tokens.{Appends, BeginsThere, Says, begins_at, ope
 use Rattle.cmark_inline.specs.declared.callback.BrokenLink.{BrokenLink}
 use Rattle.cmark_inline.specs.declared.slot.Slot.{Slot}
 use Rattle.cmark_inline.specs.declared.slot.SlotKind.{SlotKind}
-use Rattle.cmark_inline.specs.declared.slot.SlotKind.TheVariants as kind
 use Rattle.cmark_inline.specs.declared.state.InlineState.{InlineState}
 use Rattle.cmark_inline.specs.declared.step.Cursor.{Cursor}
 use Rattle.cmark_inline.proofs.ItemSlots.{slot-like}
 use Rattle.cmark_inline.proofs.Keeping.{keeps-pending}
 use Rattle.cmark_inline.proofs.Longer.{shown-longer}
-use Rattle.cmark_inline.proofs.PendingReads.{IsWithin, flushed-reached, item-within, stops-there, token-placed}
+use Rattle.cmark_inline.proofs.PendingReads.{flushed-reached, item-within, stops-there, token-placed}
 use Rattle.cmark_inline.proofs.PlainChains.{IsHeld, before-or-behind}
-use Rattle.cmark_inline.proofs.ReachedItems.{SameBrackets, item-reached}
+use Rattle.cmark_inline.proofs.ReachedItems.{item-reached}
 
 -- a slot that stands for an item is its own
 pub says-own : (cell : Bool) (text : List ℕ) (texts : List CowStr) (start end : ℕ) (x : ItemKind) (k : SlotKind) → Says cell text texts start end x k → has_own_slot x ≡ true

@@ -1,50 +1,44 @@
 -- With the slots of a delimiter run, of a quote, or of an opening bracket the pass of the grammar has come behind that.
-use Rattle.std.specs.Prelude.{Option, encode_utf8}
-use Rattle.std.proofs.Common.{◌≡◌, ◌⊎◌, inl, inr, ℕ, zero, suc, ◌+◌, ◌-◌, ◌<◌, ◌≤◌, Bool, true, false, List, [], ◌∷◌, ◌++◌, length, drop, get_or, refl, sym, ap, ◌∙◌, subst, arith}
-use Rattle.std.proofs.lemmas.List.{append-nil, get_or_push, length_push}
+use Rattle.std.specs.Prelude.{Option}
+use Rattle.std.proofs.Common.{◌≡◌, ℕ, zero, suc, ◌+◌, ◌-◌, ◌<◌, ◌≤◌, Bool, true, List, [], ◌∷◌, ◌++◌, length, get_or, refl, sym, ap, ◌∙◌, subst, arith}
+use Rattle.std.proofs.lemmas.List.{get_or_push}
 use Rattle.cmark_emphasis.specs.Shown.{shown_quote, shown_run}
-use Rattle.cmark_grammar.specs.BracketStates.{moved, opened}
+use Rattle.cmark_grammar.specs.BracketStates.{moved}
 use Rattle.cmark_grammar.specs.Event as event
 use Rattle.cmark_grammar.specs.InlineReading.{event_of}
-use Rattle.cmark_grammar.specs.InlineTokens.{bracket, is_plain, item_at, longest, token}
-use Rattle.cmark_grammar.specs.Items as items
-use Rattle.cmark_grammar.specs.Items.{ItemKind, Own, Quoted, Delimiters, Item, Token, Stands, Opens}
+use Rattle.cmark_grammar.specs.InlineTokens.{token}
+use Rattle.cmark_grammar.specs.Items.{ItemKind, Own, Quoted, Delimiters, Item, Stands}
 use Rattle.cmark_grammar.specs.LeafReading.{Between}
 use Rattle.cmark_grammar.specs.LeafText.{Leaf}
 use Rattle.cmark_grammar.specs.Lines.{is_content}
-use Rattle.cmark_grammar.specs.Parts.{Nil, Opening, Single}
+use Rattle.cmark_grammar.specs.Parts.{Nil, Single}
 use Rattle.cmark_grammar.specs.Readers.{Reader}
 use Rattle.cmark_grammar.specs.Siblings.{item}
 use Rattle.cmark_grammar.specs.Tokens.{slice}
-use Rattle.cmark_leaf_text.specs.Reads.{is_cell_of, place_of, text_of}
+use Rattle.cmark_leaf_text.specs.Reads.{is_cell_of, text_of}
 use Rattle.cmark_leaf_text.specs.declared.leaf_text.LeafText.{LeafText}
 use Rattle.cmark_text.specs.declared.text.CowStr.{CowStr}
 use Rattle.cmark_inline_model.specs.BracketPass.{pass}
 use Rattle.cmark_inline_model.specs.LikeSlots.{AreLike, IsLike, is_html}
 use Rattle.cmark_inline_model.specs.PartLists.{join}
-use Rattle.cmark_inline_model.specs.PlacedTokens.{placed, placed_item, one_stretch, text_reader, may_open_markup}
 use Rattle.cmark_inline_model.specs.SlotRows.{ItemSlot, run_slots}
 use Rattle.cmark_inline_model.proofs.TogetherTokens.{Together, together-slice}
-use Rattle.cmark_inline.specs.BracketViews.{past_opening}
-use Rattle.cmark_inline.specs.Closers.{ShowsState}
 use Rattle.cmark_inline.specs.Come.{HasReached}
 use Rattle.cmark_inline.specs.Reached.{ReadsPlaces}
-use Rattle.cmark_inline.specs.SlotViews.{first_of, past_of, shown_slot, shown_slots}
-use Rattle.cmark_inline.specs.Tokens.{AppendsQuote, AppendsRun, begins_at, byte_slots}
-use Rattle.cmark_inline.specs.declared.bracket.Bracket.{Bracket}
+use Rattle.cmark_inline.specs.SlotViews.{shown_slot, shown_slots}
+use Rattle.cmark_inline.specs.Tokens.{AppendsQuote, AppendsRun, byte_slots}
 use Rattle.cmark_inline.specs.declared.callback.BrokenLink.{BrokenLink}
 use Rattle.cmark_inline.specs.declared.link.LinkParts.{LinkParts}
 use Rattle.cmark_inline.specs.declared.slot.Slot.{Slot}
-use Rattle.cmark_inline.specs.declared.slot.SlotKind.TheVariants as kind
 use Rattle.cmark_inline.specs.declared.state.InlineState.{InlineState}
 use Rattle.cmark_inline.specs.declared.step.Cursor.{Cursor}
 use Rattle.cmark_inline.proofs.ComeItems.{flushed, has-room, other-token, with_slots}
 use Rattle.cmark_inline.proofs.MarkupTokens.{no-markup-by}
-use Rattle.cmark_inline.proofs.PendingReads.{item-within, stops-there, token-placed}
+use Rattle.cmark_inline.proofs.PendingReads.{item-within, stops-there}
 use Rattle.cmark_inline.proofs.PendingTexts.{text_slot}
 use Rattle.cmark_inline.proofs.PlainChains.{IsHeld}
-use Rattle.cmark_inline.proofs.ReachedItems.{SameBrackets, shows-on}
-use Rattle.cmark_inline.proofs.ReachedSteps.{opening-read, quote-read, run-read}
+use Rattle.cmark_inline.proofs.ReachedItems.{shows-on}
+use Rattle.cmark_inline.proofs.ReachedSteps.{quote-read, run-read}
 
 -- the last of a list
 last-same : {X : Type 0} (xs : List X) (a b : X) → xs ++ (a ∷ []) ≡ xs ++ (b ∷ []) → a ≡ b

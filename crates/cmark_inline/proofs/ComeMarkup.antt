@@ -1,10 +1,9 @@
 -- With the slot of markup that the source closes, or of a `<` that opens markup which it does not close, the pass of the grammar has come
 -- behind that.
-use Rattle.std.specs.Prelude.{Option, map, max, if◌then◌else◌}
-use Rattle.std.proofs.Common.{◌≡◌, ◌⊎◌, inl, inr, ℕ, suc, ◌+◌, ◌-◌, ◌<◌, ◌≤◌, ◌==◌, ◌&&◌, ◌||◌, Bool, true, false, List, [], ◌∷◌, ◌++◌, length, take, drop, get_or, Some, None, refl, sym, ap, ◌∙◌, subst, arith, eqb-true, length-drop}
+use Rattle.std.specs.Prelude.{Option}
+use Rattle.std.proofs.Common.{◌≡◌, ◌⊎◌, inl, inr, ℕ, suc, ◌+◌, ◌-◌, ◌<◌, ◌≤◌, ◌==◌, Bool, true, List, [], ◌∷◌, length, drop, get_or, Some, None, refl, sym, ap, ◌∙◌, subst, arith, eqb-true, length-drop}
 use Rattle.std.proofs.Math.Seq.{drop-cons}
 use Rattle.std.proofs.lemmas.Bool.{or_cases}
-use Rattle.std.proofs.lemmas.List.{append-nil}
 use Rattle.cmark_grammar.specs.InlineHtml.{behind_markup}
 use Rattle.cmark_grammar.specs.InlineReading.{event_of}
 use Rattle.cmark_grammar.specs.InlineTokens as grammar
@@ -21,7 +20,7 @@ use Rattle.cmark_leaf_text.specs.Reads.{is_cell_of, place_of, source_of, text_of
 use Rattle.cmark_leaf_text.specs.declared.leaf_text.LeafText.{LeafText}
 use Rattle.cmark_text.specs.declared.text.CowStr.{CowStr}
 use Rattle.cmark_inline_model.specs.LikeSlots.{IsLike}
-use Rattle.cmark_inline_model.specs.PlacedTokens.{IsParted, may_open_markup, one_stretch, text_reader}
+use Rattle.cmark_inline_model.specs.PlacedTokens.{IsParted, may_open_markup}
 use Rattle.cmark_inline_model.specs.RowPasses.{has_own_slot}
 use Rattle.cmark_inline_model.specs.SlotRows.{ItemSlot}
 use Rattle.cmark_inline_model.proofs.PlacedTokens as places
@@ -29,7 +28,7 @@ use Rattle.cmark_inline_model.proofs.PlacedTokens.{from-place}
 use Rattle.cmark_inline.specs.Come.{HasReached}
 use Rattle.cmark_inline.specs.FoundInSource.{AppendsMarkup, AppendsUnclosed, source_from}
 use Rattle.cmark_inline.specs.Reached.{ReadsPlaces}
-use Rattle.cmark_inline.specs.SlotViews.{first_of, shown_slot, shown_slots}
+use Rattle.cmark_inline.specs.SlotViews.{shown_slot, shown_slots}
 use Rattle.cmark_inline.specs.Tokens as tokens
 use Rattle.cmark_inline.specs.Tokens.{Puts, opens_markup}
 use Rattle.cmark_inline.specs.declared.callback.BrokenLink.{BrokenLink}

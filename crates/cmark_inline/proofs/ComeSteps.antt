@@ -1,7 +1,7 @@
 -- Behind each special byte but a closing bracket the leaf is read on as the grammar's pass reads it.
 use Rattle.std.specs.Prelude.{Option, codes, is_some, not}
-use Rattle.std.proofs.Common.{◌≡◌, ◌⊎◌, inl, inr, ℕ, zero, suc, ◌+◌, ◌-◌, ◌<◌, ◌≤◌, ◌==◌, Bool, true, false, List, [], ◌∷◌, ◌++◌, length, drop, get_or, Some, None, refl, sym, ap, ◌∙◌, subst, arith, eqb-true, true≢false, length-drop}
-use Rattle.std.proofs.lemmas.Bool.{eq-eqb, not-true}
+use Rattle.std.proofs.Common.{◌≡◌, ◌⊎◌, inl, inr, ℕ, suc, ◌+◌, ◌-◌, ◌<◌, ◌≤◌, ◌==◌, Bool, true, false, List, [], ◌∷◌, ◌++◌, length, drop, get_or, Some, None, refl, sym, ap, ◌∙◌, subst, arith, eqb-true, true≢false, length-drop}
+use Rattle.std.proofs.lemmas.Bool.{not-true}
 use Rattle.std.proofs.lemmas.List.{get_or_append_left, get_or_push, length_push}
 use Rattle.cmark_emphasis.specs.Shown.{shown_quote, shown_run}
 use Rattle.cmark_grammar.specs.CodeSpans.{backticks, code_in}
@@ -50,7 +50,7 @@ use Rattle.cmark_inline.proofs.ComeTexts.{IsFree, escaped-begun, escaped-next, e
 use Rattle.cmark_inline.proofs.ItemSlots.{slot-like}
 use Rattle.cmark_inline.proofs.PendingReads.{flushed-reached, item-within}
 use Rattle.cmark_inline.proofs.PlainBytes.{breaks, content-there, ending-there, plain-tick}
-use Rattle.cmark_inline.proofs.PlainChains.{IsHeld, Reaches, before-or-behind, begun-order, held-further, held-order}
+use Rattle.cmark_inline.proofs.PlainChains.{IsHeld, Reaches, before-or-behind, begun-order, held-further}
 use Rattle.cmark_inline.proofs.PlainUpTo.{reaches-to}
 use Rattle.cmark_inline.proofs.ReachedItems.{item-reached}
 use Rattle.cmark_inline.proofs.SpecialSteps.{Kinds, sign-passes, special-kinds}

@@ -1,33 +1,30 @@
 -- What is pending behind bytes that stand for themselves, and behind a backslash with what it escapes.
-use Rattle.std.specs.Prelude.{Option, is_some, if◌then◌else◌}
-use Rattle.std.specs.List.{prefix_len}
-use Rattle.std.proofs.Common.{◌≡◌, ◌⊎◌, inl, inr, ℕ, zero, suc, ◌+◌, ◌-◌, ◌<◌, ◌≤◌, ◌==◌, ◌&&◌, Bool, true, false, List, [], ◌∷◌, length, take, drop, get_or, Some, None, refl, sym, ap, ◌∙◌, subst, arith, eqb-true, true≢false, length-drop}
+use Rattle.std.specs.Prelude.{Option, is_some}
+use Rattle.std.proofs.Common.{◌≡◌, ◌⊎◌, inl, inr, ℕ, suc, ◌+◌, ◌-◌, ◌<◌, ◌≤◌, ◌==◌, Bool, true, false, List, [], ◌∷◌, length, take, drop, get_or, Some, None, refl, sym, ap, ◌∙◌, subst, arith, eqb-true, true≢false, length-drop}
 use Rattle.std.proofs.lemmas.Bool.{eq-eqb, or_cases}
-use Rattle.std.proofs.lemmas.List.{get_or-drop, length-take}
+use Rattle.std.proofs.lemmas.List.{get_or-drop}
 use Rattle.std.proofs.lemmas.List.Sums.{prefix_len_passes, prefix_len-le-length}
 use Rattle.std.proofs.lemmas.Slice.Eq.{bytes_eq-Decides}
 use Rattle.cmark_grammar.specs.Answers.{Lookup}
 use Rattle.cmark_grammar.specs.CodeSpans.{is_backtick, backticks, code_in}
 use Rattle.cmark_grammar.specs.Columns.{is_blank_byte}
 use Rattle.cmark_grammar.specs.InlineTokens.{code_or, escaped_backtick, item_at}
-use Rattle.cmark_grammar.specs.Items.{ItemKind, Plain, Own, Code, Token, Stands}
+use Rattle.cmark_grammar.specs.Items.{ItemKind, Own, Code, Token, Stands}
 use Rattle.cmark_grammar.specs.LabelsOverLines.{piped}
-use Rattle.cmark_grammar.specs.LeafText.{Leaf}
-use Rattle.cmark_grammar.specs.Letters.{first_is, starts}
+use Rattle.cmark_grammar.specs.Letters.{first_is}
 use Rattle.cmark_grammar.specs.LinkDefinitions.{Found}
 use Rattle.cmark_grammar.specs.Options.{Options}
-use Rattle.cmark_grammar.specs.Readers.{Reader}
 use Rattle.cmark_grammar.specs.Tokens.{is_punctuation}
 use Rattle.cmark_inline_model.specs.PlacedTokens.{StopsAt}
 use Rattle.cmark_inline.specs.Come.{HasBegun, HasEscaped, IsPending}
 use Rattle.cmark_inline.specs.PlainStretches.{StandsForItself, StandUpTo}
-use Rattle.cmark_inline.specs.Tokens.{Escapes, EscapesPipe, Passes, PassesOver, TakesEscaped, begins_at, reading, whole}
+use Rattle.cmark_inline.specs.Tokens.{Escapes, EscapesPipe, Passes, PassesOver, begins_at, reading, whole}
 use Rattle.cmark_inline.specs.declared.state.InlineState.{InlineState}
 use Rattle.cmark_inline.specs.declared.step.Cursor.{Cursor}
 use Rattle.cmark_inline.proofs.Bytes.{first-at, first-past, prefix-more}
 use Rattle.cmark_inline.proofs.PendingReads.{stops-before, stops-there}
 use Rattle.cmark_inline.proofs.PlainBytes.{plain-last, plain-tick}
-use Rattle.cmark_inline.proofs.PlainChains.{IsHeld, Reaches, before-or-behind, begun-order, held-further, held-order, reaches-all, reaches-one}
+use Rattle.cmark_inline.proofs.PlainChains.{IsHeld, Reaches, before-or-behind, held-further, held-order, reaches-all, reaches-one}
 use Rattle.cmark_inline.proofs.TokenSteps.{code-begins}
 
 abbrev past_of : Token → ℕ

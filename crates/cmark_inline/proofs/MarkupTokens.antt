@@ -1,6 +1,6 @@
 -- Where markup opens that is sought in the source, nothing begins but HTML or a text.
-use Rattle.std.specs.Prelude.{Option, Some, None, ◌==◌, ◌&&◌, ◌||◌, if◌then◌else◌, take, not}
-use Rattle.std.proofs.Common.{◌≡◌, ◌⊎◌, inl, inr, ℕ, suc, Bool, true, false, List, [], ◌∷◌, drop, refl, sym, ap, ◌∙◌, subst, eqb-true, true≢false}
+use Rattle.std.specs.Prelude.{Option, Some, None, ◌==◌, ◌||◌, if◌then◌else◌, take}
+use Rattle.std.proofs.Common.{◌≡◌, ◌⊎◌, inl, inr, ℕ, suc, Bool, true, false, List, [], ◌∷◌, drop, refl, sym, ap, ◌∙◌, eqb-true, true≢false}
 use Rattle.std.proofs.lemmas.Bool.{false_from_ne_true, or_cases, and_parts}
 use Rattle.cmark_grammar.specs.Answers.{Lookup}
 use Rattle.cmark_grammar.specs.Autolinks.{autolink_in}
@@ -9,7 +9,6 @@ use Rattle.cmark_grammar.specs.InlineTokens.{autolink_or, begins, from, item_at,
 use Rattle.cmark_grammar.specs.Items.{ItemKind, Plain, Own, Html, OwnedHtml, Token, Stands, Opens, Closes, Ends}
 use Rattle.cmark_grammar.specs.LeafText.{Leaf}
 use Rattle.cmark_grammar.specs.Letters.{first_is}
-use Rattle.cmark_grammar.specs.LinkDefinitions.{Found}
 use Rattle.cmark_grammar.specs.Options.{Options}
 use Rattle.cmark_grammar.specs.Readers.{Reader}
 use Rattle.cmark_grammar.specs.Tags.{behind_tag, no_prefix}

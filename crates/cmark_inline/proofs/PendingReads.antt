@@ -3,7 +3,7 @@ use Rattle.std.specs.Prelude.{◌&&◌, ◌==◌, if◌then◌else◌, Option}
 use Rattle.std.proofs.Common.{◌≡◌, ◌⊎◌, inl, inr, ℕ, ◌+◌, ◌-◌, ◌<◌, ◌≤◌, Bool, true, false, List, [], ◌∷◌, ◌++◌, length, drop, refl, sym, ap, ◌∙◌, subst, arith, eqb-true, true≢false}
 use Rattle.std.proofs.lemmas.Bool.{false_from_ne_true}
 use Rattle.cmark_grammar.specs.Answers.{Lookup}
-use Rattle.cmark_grammar.specs.InlineTokens.{begins, goes_on, is_plain, item_at, token}
+use Rattle.cmark_grammar.specs.InlineTokens.{begins, goes_on, item_at, token}
 use Rattle.cmark_grammar.specs.Items.{Plain, Item, Token, Stands}
 use Rattle.cmark_grammar.specs.LeafReading.{Between}
 use Rattle.cmark_grammar.specs.LeafText.{InTurn, Leaf}
@@ -25,12 +25,11 @@ use Rattle.cmark_inline.specs.Stands.{PushesText}
 use Rattle.cmark_inline.specs.Tokens.{begins_at, reading, whole}
 use Rattle.cmark_inline.specs.declared.callback.BrokenLink.{BrokenLink}
 use Rattle.cmark_inline.specs.declared.link.LinkParts.{LinkParts}
-use Rattle.cmark_inline.specs.declared.slot.Slot.{Slot}
 use Rattle.cmark_inline.specs.declared.slot.SlotKind.TheVariants as kind
 use Rattle.cmark_inline.specs.declared.state.InlineState.{InlineState}
 use Rattle.cmark_inline.proofs.ItemSlots.{item-like}
 use Rattle.cmark_inline.proofs.PendingTexts.{text_item, text_slot}
-use Rattle.cmark_inline.proofs.PlainChains.{IsHeld, begun-order, begun-token, held-order}
+use Rattle.cmark_inline.proofs.PlainChains.{IsHeld, begun-order, begun-token}
 use Rattle.cmark_inline.proofs.ReachedItems.{SameBrackets, item-reached, same-reached}
 use Rattle.cmark_inline.proofs.TokenSteps.{from-is}
 

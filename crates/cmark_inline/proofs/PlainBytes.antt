@@ -15,7 +15,7 @@ use Rattle.cmark_grammar.specs.Flanking.{Flanking, flanking}
 use Rattle.cmark_grammar.specs.Formulas.{is_dollar, Braces, no_braces, braces_behind, inline_in, display_in}
 use Rattle.cmark_grammar.specs.InlineHtml.{behind_markup, takes_lines}
 use Rattle.cmark_grammar.specs.InlineTokens.{as_in, item_at, bracket, is_plain, from, before, size_to, character_before, character_at, break_or, code_or, escaped_backtick, escape_at, entity_or, autolink_or, tag_or_text, source_from, markup_or, less_than, run_or, run_at, formula_or, dollar, dots, hyphens, quote_at, smart_or, begins}
-use Rattle.cmark_grammar.specs.Items.{ItemKind, Plain, Written, InlineMath, DisplayMath, Delimiters, Html, OwnedHtml, SoftBreak, HardBreak, Item, Token, Stands, Opens, Closes, Ends}
+use Rattle.cmark_grammar.specs.Items.{ItemKind, Plain, Written, InlineMath, DisplayMath, Delimiters, Html, OwnedHtml, SoftBreak, HardBreak, Token, Stands, Opens, Closes, Ends}
 use Rattle.cmark_grammar.specs.LabelsOverLines.{piped}
 use Rattle.cmark_grammar.specs.LeafText.{Leaf}
 use Rattle.cmark_grammar.specs.Letters.{first_is, starts}
@@ -27,11 +27,9 @@ use Rattle.cmark_grammar.specs.Readers.{Reader}
 use Rattle.cmark_grammar.specs.Tags.{behind_ending, behind_line_feed, behind_tag, no_prefix}
 use Rattle.cmark_grammar.specs.Tokens.{Entity, entity_in, is_punctuation}
 use Rattle.cmark_inline_model.proofs.PlacedTokens.{no-break}
-use Rattle.cmark_inline.specs.PlainStretches.{StandsForItself, StandUpTo}
 use Rattle.cmark_inline.specs.Tokens.{begins_at, reading, whole}
 use Rattle.cmark_inline.proofs.Bytes.{behind-more, behind-none}
-use Rattle.cmark_inline.proofs.PlainChains.{before-or-behind}
-use Rattle.cmark_inline.proofs.TokenSteps.{begins-with, code-begins, from-is, front}
+use Rattle.cmark_inline.proofs.TokenSteps.{begins-with, code-begins, from-is}
 
 abbrev is_break : ItemKind → Bool
 is_break SoftBreak = true

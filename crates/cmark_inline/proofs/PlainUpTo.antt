@@ -12,7 +12,6 @@ use Rattle.cmark_grammar.specs.LinkDefinitions.{behind_blanks}
 use Rattle.cmark_grammar.specs.Options.{Options}
 use Rattle.cmark_grammar.specs.Tags.{behind_ending}
 use Rattle.cmark_inline.specs.PlainStretches.{StandsForItself, StandUpTo}
-use Rattle.cmark_inline.specs.Tokens.{begins_at}
 use Rattle.cmark_inline.proofs.PlainBytes.{content-there, no-blank-break, no-break-before, plain-bytes}
 use Rattle.cmark_inline.proofs.PlainChains.{Reaches, before-or-behind, reaches-all}
 
