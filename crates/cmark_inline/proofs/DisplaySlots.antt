@@ -225,7 +225,7 @@ module _ (leaf : LeafText) (source : List ℕ) (texts : List CowStr) (links : Li
   begin-start slot kind.Nothing tag start end h = absurd (let z : ⊥ = cc in z)
 
   module _ (text : List ℕ) (slot : Slot) (good : IsGood slot) (behind : t < slot.end)
-      (cuts : (x : Item) → IsLike source (shown_slot leaf texts links slot) (row.ItemSlot x) → x.start < display → display < x.end → CutFacts source x → IsLike source (shown_slot leaf texts links (cut_slot text t slot)) (row.ItemSlot (item x.kind display x.end))) where
+      (cuts : (x : Item) → IsLike source (shown_slot leaf texts links slot) (row.ItemSlot x) → slot.start < t → display < x.end → CutFacts source x → IsLike source (shown_slot leaf texts links (cut_slot text t slot)) (row.ItemSlot (item x.kind display x.end))) where
     kept : nat_lt slot.start t ≡ false → cut_slot text t slot ≡ slot
     kept e = ap (λ z. if z && nat_lt t slot.end then record { kind = cut_kind text slot.start slot.end slot.kind; start = t; end = slot.end } else slot) e
 
@@ -255,7 +255,7 @@ module _ (leaf : LeafText) (source : List ℕ) (texts : List CowStr) (links : Li
             let a = early slot.start l in
             let lt : x.start < display = omega (arith, a, first) in
             let past : display < x.end = grind (arith) in
-            subst (λ n. IsLike source (shown_slot leaf texts links (cut_slot text t slot)) (row.ItemSlot (item x.kind n x.end))) (let q : display ≡ max x.start display = omega (arith, lt) in q) (cuts x h lt past facts)
+            subst (λ n. IsLike source (shown_slot leaf texts links (cut_slot text t slot)) (row.ItemSlot (item x.kind n x.end))) (let q : display ≡ max x.start display = omega (arith, lt) in q) (cuts x h l past facts)
     shown-cut (row.BeginSlot tag start end) h e can = go (nat_lt slot.start t) refl
       where
         b : IsBegin slot slot.kind tag start end
@@ -337,7 +337,7 @@ module _ (leaf : LeafText) (source : List ℕ) (texts : List CowStr) (links : Li
     FirstShown [] = Unit {0}
     FirstShown (slot ∷ slots) =
         IsGood slot × (ends_by t slot ≡ false) × (t < slot.end)
-        × ((x : Item) → IsLike source (shown_slot leaf texts links slot) (row.ItemSlot x) → x.start < display → display < x.end → CutFacts source x
+        × ((x : Item) → IsLike source (shown_slot leaf texts links slot) (row.ItemSlot x) → slot.start < t → display < x.end → CutFacts source x
         → IsLike source (shown_slot leaf texts links (cut_slot text t slot)) (row.ItemSlot (item x.kind display x.end)))
 
     record RestShown (others : List Slot) (r : List row.Slot) : Type 0 where
@@ -366,7 +366,7 @@ module _ (leaf : LeafText) (source : List ℕ) (texts : List CowStr) (links : Li
           both : (a b : Bool) → a ≡ b → (a ≡ true → place_of leaf close ≡ display)
               → AreLike source (L (if a then record { kind = kind.Empty; start = close; end = close + 1 } ∷ [] else [])) (if b then row.ItemSlot (item items.Own display display) ∷ [] else [])
           both true true e f =
-              (record { start = f refl; end = f refl; event = ap event.Text (sym (ap (λ n. take n (drop display source)) (let q : display - display ≡ 0 = omega arith in q))) }, refl)
+              (record { start = f refl; end = f refl; event = ap event.Text (sym (ap (λ n. take n (drop display source)) (let q : display - display ≡ 0 = omega arith in q))); lines = λ q. refl }, refl)
           both false false e f = refl
           both true false e f = absurd (let z : ⊥ = cc in z)
           both false true e f = absurd (let z : ⊥ = cc in z)
