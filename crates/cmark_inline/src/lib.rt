@@ -9,7 +9,6 @@ mod event;
 mod footnote;
 mod formula;
 pub mod display_laws;
-pub mod temp_display;
 pub mod laws;
 mod link;
 mod markup;
