@@ -25,7 +25,7 @@ use Rattle.cmark_inline.proofs.Marks.{no-slot}
 
 -- ## Slots that are hidden
 
-hides-tail : (from to : ℕ) (s x : Slot) (old new : List Slot) → Hides (suc from) (suc to) (s ∷ old) (x ∷ new) → Hides from to old new
+pub hides-tail : (from to : ℕ) (s x : Slot) (old new : List Slot) → Hides (suc from) (suc to) (s ∷ old) (x ∷ new) → Hides from to old new
 hides-tail from to s x old new h = record {
   size = (let n = h.size in let q : length new ≡ length old = omega (arith, n) in q);
   inside = λ k d low high. h.inside (suc k) d (omega (arith, low)) (omega (arith, high));
@@ -33,7 +33,7 @@ hides-tail from to s x old new h = record {
   behind = λ k d le. h.behind (suc k) d (omega (arith, le));
 }
 
-hides-next : (to : ℕ) (s x : Slot) (old new : List Slot) → Hides 0 (suc to) (s ∷ old) (x ∷ new) → Hides 0 to old new
+pub hides-next : (to : ℕ) (s x : Slot) (old new : List Slot) → Hides 0 (suc to) (s ∷ old) (x ∷ new) → Hides 0 to old new
 hides-next to s x old new h = record {
   size = (let n = h.size in let q : length new ≡ length old = omega (arith, n) in q);
   inside = λ k d low high. h.inside (suc k) d (omega arith) (omega (arith, high));

@@ -50,6 +50,8 @@ pub mod ItemSlots
 pub mod LabelEnds
 pub mod LeafPlaces
 pub mod DecisionSteps
+pub mod DisplayReads
+pub mod DisplaySlots
 pub mod DisplaySteps
 pub mod TargetSteps
 pub mod TargetMakes

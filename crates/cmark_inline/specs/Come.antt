@@ -19,8 +19,8 @@ use Rattle.cmark_inline.specs.Closers.{ShowsState}
 use Rattle.cmark_inline.specs.Decided.{ReadsSame}
 use Rattle.cmark_inline.specs.Reached.{HasRead, ReadsPlaces}
 use Rattle.cmark_inline.specs.Resolved.{Answered}
-use Rattle.cmark_inline.specs.Tokens.{begins_at, reading, whole}
 use Rattle.cmark_inline.specs.Sound.{AreEnded}
+use Rattle.cmark_inline.specs.Tokens.{begins_at, reading, whole}
 use Rattle.cmark_inline.specs.declared.bracket.Bracket.{Bracket}
 use Rattle.cmark_inline.specs.declared.callback.BrokenLink.{BrokenLink}
 use Rattle.cmark_inline.specs.declared.state.InlineState.{InlineState}
@@ -77,7 +77,7 @@ module _ {F : Type 0} (R : F → BrokenLink → Option (CowStr × CowStr) → F 
     pub pending : IsPending reader.options reader.lookup (is_cell_of leaf) (text_of leaf) from cursor
 
 -- where a leaf is read up to a cursor as the grammar reads it, it is so up to the next one: for each reading with the same options,
--- entities, definitions and footnotes
+-- entities, definitions and footnotes, where HTML and texts of the source end in the source where their slots end
 abbrev pub ComesOn : {F : Type 0} → (F → BrokenLink → Option (CowStr × CowStr) → F → Type 0) → Options → Lookup → RefDefs → FootnoteDefs → LeafText → (cursor next : Cursor) → (old new : InlineState) → (now later : F) → Type 0
 ComesOn {F} R options lookup references footnotes leaf cursor next old new now later =
     (reader : Reader) (read : Leaf) (place : ℕ → ℕ) (before : Between) (initial : F) → ReadsSame options lookup references footnotes leaf reader read place → ReadsPlaces leaf reader read place

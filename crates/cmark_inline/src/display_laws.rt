@@ -39,7 +39,7 @@ pub fn what_a_wikilink_shows_is_read()
         → (b : Bracket) (closer : Closer) (nearer : ℕ) (name : List ℕ) (display end : ℕ) (next : State) → drop nearer bs ≡ b ∷ drop (suc nearer) bs → token reader read p.state.at ≡ Closes closer
         → Comes AnyAnswer p.state.asked (decide reader read p.state closer) (record { result = Forms nearer (Wiki name (Some display) end); after = next })
         → HaveSizes old.delimiters.placed.items → (left : Bracket) (at : ℕ) (now : List RowSlot) → AreLeft at old.delimiters.placed.items old.quotes.placed.items b left
-        → ((slots : List RowSlot) → AreLike reader.source (shown_slots leaf old.texts.items old.links.items old.slots.items) slots → IsCutThere reader read (suc b.slot) display slots
+        → ((slots : List RowSlot) → AreLike reader.source (shown_slots leaf old.texts.items old.links.items old.slots.items) slots → IsCutThere reader.source (suc b.slot) display slots
         → IsBehindPipe reader.options reader.source display → display ≤ closer.start → ShowsLike reader.source (suc b.slot) display closer.start at slots now)
         → (pairs : List Pair) (spans : Spans) → IsEmphasis (siblings_from 0 (drop left.runs old.delimiters.placed.items)) pairs spans
         → shown_slots leaf new.texts.items new.links.items new.slots.items

@@ -56,7 +56,7 @@ loop-cursor-preserved g c =
       c.in_ok-cursor.ensures.sound,
       c.in_ok-cursor.ensures.ends i.9,
       (λ set. comes-further g.F.BrokenLinkCallback.answers (shown_options c.args.reader.now.options) (g.E.EntityLookup.replacement c.args.reader.now.entities.now) c.args.reader.now.references.now c.args.footnotes.now c.loop-cursor.footnotes c.args.leaf.now c.clear.new.self.expansion c.args.callback.now
-          c.loop-cursor.cursor c.in_ok-cursor.cursor c.loop-cursor.self c.step.new.self c.loop-cursor.callback c.step.new.callback i.7 i.9 (i.10 set) (c.in_ok-cursor.ensures.come set)),
+          c.loop-cursor.cursor c.in_ok-cursor.cursor c.loop-cursor.self c.step.new.self c.loop-cursor.callback c.step.new.callback i.7 (i.10 set) (c.in_ok-cursor.ensures.come set) i.9),
     )
 
 pub returns-in_err-cursor-clause-asks : goal.returns-in_err-cursor-clause-asks
