@@ -352,8 +352,8 @@ module _ (leaf : LeafText) (reader : Reader) (read : Leaf) (place : ℕ → ℕ)
         quotes_behind = w.left.quotes_behind;
       })
       (λ slots like cut pipe low.
-          let th = display-there leaf reader read place places i.inner close display t close_fits (let q = i.before in omega (arith, q, close_fits)) behind (omega (arith, low, at_close)) from_there pipe in
-          shows-like leaf reader read place places text same st close close_fits stands.slots (ended-now ended) b pair.placed.there i.inner wikilink display t shows_at w.shown w.at w.shows th.within th.low th.is closer.start (sym at_close) slots like cut)
+      let th = display-there leaf reader read place places i.inner close display t close_fits (let q = i.before in omega (arith, q, close_fits)) behind (omega (arith, low, at_close)) from_there pipe in
+      shows-like leaf reader read place places text same st close close_fits stands.slots (ended-now ended) b pair.placed.there i.inner wikilink display t shows_at w.shown w.at w.shows th.within th.low th.is closer.start (sym at_close) slots like cut)
       (pairs_of siblings) (spans_of siblings) (sound siblings)
       (w.slots leaf (pairs_of siblings) (spans_of siblings) no-slot (sound siblings)
       ∙ ap (λ o. wrapped b.slot (begin wikilink.name.now (has_pothole wikilink.display) (first_of leaf (get_or st.slots.items b.slot no-slot)) (place_of leaf (close + 1) + 1)) (dressed o)) options_are

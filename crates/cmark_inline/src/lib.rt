@@ -5,10 +5,10 @@
 mod bracket;
 mod callback;
 mod delimiter;
+pub mod display_laws;
 mod event;
 mod footnote;
 mod formula;
-pub mod display_laws;
 pub mod laws;
 mod link;
 mod markup;
