@@ -292,13 +292,13 @@ module _ (options : Options) (lookup : Lookup) (references : RefDefs) (footnotes
                   (record { drops = leaving.drops; shut = refl }) (record { standing = refl; shut = leaving.shut }) leaving.none)
                   (record { expansion = m.expansion; label = m.label; within = m.within });
               notes = tt;
-              reads = λ said.
-                  wikilink-reads leaf reader read place closer s bs from close old mine mid new flushed rows text same c (let q : close + 1 < length text = omega (arith, some, size) in q) first i sound stands options
+              reads = λ ended.
+                  wikilink-reads leaf reader read place closer s bs from close old mine mid new flushed rows text same c (let q : close + 1 < length text = omega (arith, some, size) in q) first i sound stands options (sym r.options_are)
                   (subst (λ (o : Option (Bracket × Bool)). IfSome o (λ t. WritesWikilink options leaf text t.0 close mid new)) i.is writes)
                   (name_in shown_text) (ap name_in (text_same first (stacks.nearest mid.doubled) i))
                   (behind_pipe (suc first.opener.bracket.end) shown_text)
                   (ap (λ n. behind_pipe n shown_text) (start_same first (stacks.nearest mid.doubled) i) ∙ ap (behind_pipe (wiki_start leaf (record i.bracket { inside = i.inner + 1 }))) (text_same first (stacks.nearest mid.doubled) i))
-                  (wikilink reader read first closer used).after (comes-any R (decide reader read s closer) (wikilink reader read first closer used) s.asked before after comes) said;
+                  (wikilink reader read first closer used).after (comes-any R (decide reader read s closer) (wikilink reader read first closer used) s.asked before after comes) ended;
             }
 
     -- the taken bracket is there, and forms what it can
@@ -368,7 +368,7 @@ module _ (options : Options) (lookup : Lookup) (references : RefDefs) (footnotes
                       (footnote-formed options.wikilinks place close close t.nearer ready.openers bs b mid.brackets mid.doubled ready.view here i.1 new.brackets new.doubled leaving.none leaving.drops)
                       (record { expansion = m.expansion; label = m.label; within = m.within });
                   notes = (owned.0, owned.1, owned.2 ∙ ap (λ v. v.items ++ (owned.0 ∷ [])) texts);
-                  reads = λ said.
+                  reads = λ ended.
                       footnote-reads leaf reader read place closer s bs from close old mine mid new flushed rows text same c t.opener b i.2 le (normal_form note) made t.nearer i.1 to.after (comes-any R (decide reader read s closer) to s.asked before after comes);
                 }
 
@@ -405,7 +405,7 @@ module _ (options : Options) (lookup : Lookup) (references : RefDefs) (footnotes
             record {
               outcome = target_outcome reader read place t closer (with_left between.expansion (option_map place between.shut_close) l.asked s2) (Some target);
               comes = comes;
-              reads = λ said. reading t.nearer i.1 all.1 to.after (comes-any R (decide reader read s closer) to s.asked before after comes);
+              reads = λ ended. reading t.nearer i.1 all.1 to.after (comes-any R (decide reader read s closer) to s.asked before after comes);
               at = ap place (sym at);
               pending = formed.pending ∙ sym at;
               shows = shown (behind_link t.opener.bracket.is_image (drop (suc t.nearer) ready.openers)) (drop (suc t.nearer) bs)
@@ -446,7 +446,7 @@ module _ (options : Options) (lookup : Lookup) (references : RefDefs) (footnotes
             record {
               outcome = stays reader read closer s2;
               comes = comes;
-              reads = λ said. reading (stays reader read closer s2).after (comes-any R (decide reader read s closer) (stays reader read closer s2) s.asked before after comes);
+              reads = λ ended. reading (stays reader read closer s2).after (comes-any R (decide reader read s closer) (stays reader read closer s2) s.asked before after comes);
               at = place_at;
               pending = pending;
               shows = shown ready.openers bs (stays reader read closer s2).after refl lt
@@ -476,7 +476,7 @@ module _ (options : Options) (lookup : Lookup) (references : RefDefs) (footnotes
                 record {
                   outcome = stays reader read closer s3;
                   comes = comes;
-                  reads = λ said. reading (stays reader read closer s3).after (comes-any R (decide reader read s closer) (stays reader read closer s3) s.asked before after comes);
+                  reads = λ ended. reading (stays reader read closer s3).after (comes-any R (decide reader read s closer) (stays reader read closer s3) s.asked before after comes);
                   at = place_at;
                   pending = pending;
                   shows = shown ready.openers bs (stays reader read closer s3).after refl lt (view_by l.between l.same.brackets l.same.doubled (same_brackets ∙ ap (λ (x : InlineState). x.brackets) same_state) (same_doubled ∙ ap (λ (x : InlineState). x.doubled) same_state))

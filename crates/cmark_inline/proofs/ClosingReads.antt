@@ -212,6 +212,7 @@ closer-like leaf reader read place text close closer texts links same places c =
           ∙ sym (one-byte reader.source (place close) (suc (place close)) refl (places.places.inside close within))
           ∙ ap (λ k. slice reader.source k (suc (place close))) (sym c.start)
           ∙ ap (λ k. slice reader.source closer.start k) (sym c.end));
+      lines = λ q. refl;
     }
 
 module _ (leaf : LeafText) (reader : Reader) (read : Leaf) (place : ℕ → ℕ) (closer : items.Bracket) (s : State) (bs : List Bracket) (from close : ℕ) (old mine st new : InlineState) (is : IsFlushed from close old mine) (rows : SameRows mine st) where

@@ -1,12 +1,13 @@
 -- With the slots of an autolink the pass of the grammar has come behind that.
 use Rattle.std.specs.Prelude.{Option, map}
-use Rattle.std.proofs.Common.{◌≡◌, ℕ, zero, suc, ◌+◌, ◌-◌, ◌<◌, ◌≤◌, Bool, false, List, [], ◌∷◌, ◌++◌, length, drop, refl, sym, ap, ◌∙◌, subst, arith, append_assoc}
+use Rattle.std.proofs.Common.{◌≡◌, ℕ, zero, suc, ◌+◌, ◌-◌, ◌<◌, ◌≤◌, Bool, false, List, [], ◌∷◌, ◌++◌, length, drop, refl, sym, ap, ◌∙◌, subst, arith, append_assoc, get_or, true}
 use Rattle.std.proofs.lemmas.List.{append-nil, map-append}
 use Rattle.cmark_grammar.specs.BracketStates.{moved}
 use Rattle.cmark_grammar.specs.InlineTokens.{token}
 use Rattle.cmark_grammar.specs.Items.{Autolink, Own, Item, Stands}
 use Rattle.cmark_grammar.specs.LeafReading.{Between}
 use Rattle.cmark_grammar.specs.LeafText.{Leaf}
+use Rattle.cmark_grammar.specs.Lines.{is_content}
 use Rattle.cmark_grammar.specs.LinkType as link
 use Rattle.cmark_grammar.specs.Parts.{Nil, Single}
 use Rattle.cmark_grammar.specs.Readers.{Reader}
@@ -77,7 +78,7 @@ module _ (leaf : LeafText) (reader : Reader) (read : Leaf) (place : ℕ → ℕ)
       let p = ap place (let q : s + 1 + (e - 2 - (s + 1)) ≡ e - 1 - 1 = omega (arith, some) in q) in
       let q = ap place (let q : e - 2 + 1 ≡ e - 1 = omega (arith, some) in q) in
       let u = ap place (let q : e - 2 ≡ e - 1 - 1 = omega arith in q) in
-      record { some = some; within = omega (arith, w); sizes = omega (arith, z, a, b, c, p, q, u, some); last = omega (arith, z, a, b, c, p, q, u, some) }
+      record { some = some; within = omega (arith, w); sizes = omega (arith, z, a, b, c, p, q, u, some); last = omega (arith, z, a, b, c, p, q, u, some); content = λ i lt. subst (λ n. is_content (get_or text n 0) ≡ true) (let q : s + (1 + i) ≡ s + 1 + i = omega arith in q) (t.content (1 + i) (omega (arith, lt))) }
 
   joined : (at : ℕ) (x : Item) (past : ℕ) → begins_at reader.options reader.lookup cell text at ≡ Stands x past → may_open_markup (drop at text) ≡ false → Joined reader read text place r.places (Stands x past)
   joined at x past t none =

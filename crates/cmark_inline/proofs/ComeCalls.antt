@@ -62,7 +62,7 @@ module _ {F : Type 0} (R : F → BrokenLink → Option (CowStr × CowStr) → F 
     reads-own = subst (λ o. ReadsSame o reader.lookup references footnotes leaf reader read place) (sym reads.options_are) (subst (λ l. ReadsSame options l references footnotes leaf reader read place) (sym reads.lookup_is) reads)
 
   pub rest-comes : (now : F) (end : ℕ) → end ≡ length text → end ≤ at → cursor.at < length text → ComesOn R options lookup references footnotes leaf cursor (record { pending = cursor.pending; at = end }) old old now now
-  rest-comes now end e le lt = λ reader read place before initial reads places said come.
+  rest-comes now end e le lt = λ reader read place before initial reads places ended come.
       let size : end ≡ length (text_of leaf) = e ∙ ap length same_text in
       let to : at ≡ length (text_of leaf) = (let m = ap length same_text in let w = h.within in omega (arith, e, le, w, m)) in
       subst (λ n. HasCome R leaf reader read place before initial (record { pending = cursor.pending; at = n }) old now) (sym size)
@@ -80,13 +80,13 @@ module _ {F : Type 0} (R : F → BrokenLink → Option (CowStr × CowStr) → F 
     own_special = ap (λ t. is_special options (get_or t at 0)) (sym same_text) ∙ special-there options rows text cursor.at at set h lt
 
     pub span-comes : ReadsSpecial options lookup leaf (record { pending = cursor.pending; at = at }) old new next → ComesOn R options lookup references footnotes leaf cursor next old new now now
-    span-comes own = λ reader read place before initial reads places said come.
+    span-comes own = λ reader read place before initial reads places ended come.
         come-special leaf reader read place places reads.source R before initial now cursor old come at h.order own_lt (stands reader read place reads) (ap (λ o. is_special o (get_or (text_of leaf) at 0)) reads.options_are ∙ own_special) new next sound own_moves
         (subst (λ o. ReadsSpecial o reader.lookup leaf (record { pending = cursor.pending; at = at }) old new next) (sym reads.options_are) (subst (λ l. ReadsSpecial options l leaf (record { pending = cursor.pending; at = at }) old new next) (sym reads.lookup_is) own))
 
     pub close-comes : (later : F) → get_or text at 0 ≡ 93 → Flushes cursor.pending at old → Closes R options lookup references footnotes leaf text cursor.pending at old new next now later → ComesOn R options lookup references footnotes leaf cursor next old new now later
-    close-comes later byte flush closes = λ reader read place before initial reads places said come.
+    close-comes later byte flush closes = λ reader read place before initial reads places ended come.
         come-closing leaf reader read place places reads.source R before initial now cursor old come at h.order own_lt (stands reader read place reads) (ap (λ o. is_special o (get_or (text_of leaf) at 0)) reads.options_are ∙ own_special) new next sound own_moves
         later references footnotes (ap (λ t. get_or t at 0) (sym same_text) ∙ byte) (reads-own reader read place reads) flush
         (subst (λ t. Closes R reader.options reader.lookup references footnotes leaf t cursor.pending at old new next now later) same_text
-        (subst (λ o. Closes R o reader.lookup references footnotes leaf text cursor.pending at old new next now later) (sym reads.options_are) (subst (λ l. Closes R options l references footnotes leaf text cursor.pending at old new next now later) (sym reads.lookup_is) closes))) (ap (λ (o : Options). o.wikilinks) reads.options_are ∙ said)
+        (subst (λ o. Closes R o reader.lookup references footnotes leaf text cursor.pending at old new next now later) (sym reads.options_are) (subst (λ l. Closes R options l references footnotes leaf text cursor.pending at old new next now later) (sym reads.lookup_is) closes))) ended

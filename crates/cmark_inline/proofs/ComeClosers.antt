@@ -24,11 +24,11 @@ use Rattle.cmark_inline_model.specs.PlacedTokens.{placed, one_stretch, text_read
 use Rattle.cmark_inline_model.specs.Progress.{Always, Fits, Keeps}
 use Rattle.cmark_inline_model.specs.RowParts.{BracketPlace}
 use Rattle.cmark_inline_model.proofs.DecisionLaws.{decide-fits, decide-recorded}
-use Rattle.cmark_inline_model.proofs.DecisionShape.{DecisionShape, Shape, Stays, ToInline, ToReference, ToFootnote, ToWiki, decide-shape}
 use Rattle.cmark_inline_model.proofs.RowParts.{cut-row}
 use Rattle.cmark_inline.specs.BracketViews.{ArePlaced}
 use Rattle.cmark_inline.specs.Closers as closers
-use Rattle.cmark_inline.specs.Closers.{ClosesAs, IsSaid, ShowsState, left_of}
+use Rattle.cmark_inline.specs.Closers.{ClosesAs, ShowsState, left_of}
+use Rattle.cmark_inline.specs.Sound.{AreEnded}
 use Rattle.cmark_inline.specs.Come.{HasReached}
 use Rattle.cmark_inline.specs.Decided.{AsksThis, ComesTo, ReadsSame}
 use Rattle.cmark_inline.specs.Marked.{places_of}
@@ -64,19 +64,6 @@ module _ {F : Type 0} (R : F → BrokenLink → Option (CowStr × CowStr) → F 
   always-comes Holds (Settled settled) outcome mid last h c = subst Holds (sym c.0) h
   always-comes Holds (Asks question answered) outcome mid last h c = subst Holds (sym c.2) (h c.0)
 
--- ## Where no wikilinks are read, none is formed
-module _ (reader : Reader) (read : Leaf) {F : Type 0} (R : F → BrokenLink → Option (CowStr × CowStr) → F → Type 0) (off : reader.options.wikilinks ≡ false) where
-  said : (s : State) (closer : items.Bracket) (asked : List Exchange) (o : Outcome) → Shape reader read s closer asked o → IsSaid o.result
-  said s closer asked o (Stays label os h e) = subst (λ (x : Outcome). IsSaid x.result) (sym e) tt
-  said s closer asked o (ToInline label os taken tail h t found e) = subst (λ (x : Outcome). IsSaid x.result) (sym e) tt
-  said s closer asked o (ToReference label os taken named link_type found h t n some l e) = subst (λ (x : Outcome). IsSaid x.result) (sym e) tt
-  said s closer asked o (ToFootnote label os taken name h t on e) = subst (λ (x : Outcome). IsSaid x.result) (sym e) tt
-  said s closer asked o (ToWiki label os first far h t on next e) = absurd (true≢false (sym on ∙ off))
-
-  pub said-by : (d : Decision) (s : State) (closer : items.Bracket) (outcome : Outcome) (mid last : F) → DecisionShape reader read s closer d → ComesTo R d outcome mid last → IsSaid outcome.result
-  said-by (Settled o) s closer outcome mid last h c = subst (λ (x : Outcome). IsSaid x.result) (sym c.0) (said s closer s.asked o h)
-  said-by (Asks q answered) s closer outcome mid last h c = subst (λ (x : Outcome). IsSaid x.result) (sym c.2) (said s closer (s.asked ++ (record { question = q; answer = c.0 } ∷ [])) (answered c.0) (h.1 c.0))
-
 -- ## The state behind it
 placed-count : (place : ℕ → ℕ) (at : ℕ) (os : List Opener) (bs : List Bracket) → ArePlaced place at os bs → length os ≡ length bs
 placed-count place at [] [] h = refl
@@ -106,9 +93,9 @@ module _ (leaf : LeafText) (reader : Reader) (read : Leaf) (place : ℕ → ℕ)
   module _ {F : Type 0} (R : F → BrokenLink → Option (CowStr × CowStr) → F → Type 0) (before : Between) (initial now later : F) (here : Cursor) (m : ℕ) (old new : InlineState) (next : Cursor) (h : HasReached R leaf reader read place before initial m old now)
       (held : IsHeld reader.options reader.lookup cell text m here.pending here.at) (lt : here.at < length text) (byte : get_or text here.at 0 ≡ 93) where
     pub closing-reached : (references : RefDefs) (footnotes : FootnoteDefs) → ReadsSame reader.options reader.lookup references footnotes leaf reader read place → Flushes here.pending here.at old
-        → closers.Closes R reader.options reader.lookup references footnotes leaf text here.pending here.at old new next now later → reader.options.wikilinks ≡ false
+        → closers.Closes R reader.options reader.lookup references footnotes leaf text here.pending here.at old new next now later → AreEnded leaf old.slots.items
         → HasReached R leaf reader read place before initial next.at new later × (next.pending ≡ next.at)
-    closing-reached references footnotes same flush closes said =
+    closing-reached references footnotes same flush closes ended =
         let closer : items.Bracket = record { is_image = false; start = place here.at; end = suc (place here.at) } in
         let f = flushed-reached leaf reader read place r R before initial now m here.pending here.at old flush.flushed h held (omega (arith, lt))
         (stops-there reader.options reader.lookup cell text here.at (Closes (bracket false here.at (here.at + 1))) (bracket-closes reader.options reader.lookup cell text here.at lt byte) tt) flush.pushes flush.others in
@@ -120,7 +107,7 @@ module _ (leaf : LeafText) (reader : Reader) (read : Leaf) (place : ℕ → ℕ)
         let c = closes reader read place closer f.p.state f.bs same (record { within = lt; byte = byte; start = refl; end = refl }) shows in
         let t : token reader read f.p.state.at ≡ Closes closer = ap (token reader read) f.at_is ∙ closing-token here.at lt byte in
         let reads : HasRead leaf reader read place before (closed_by f.p closer c.outcome) (left_of c.outcome.result f.bs) new =
-        c.reads (said-by reader read R said (decide reader read f.p.state closer) f.p.state closer c.outcome now later (decide-shape reader read f.p.state closer) c.comes) r t before f.p flush.flushed refl flush.pushes flush.others f.has_read in
+        c.reads ended r t before f.p flush.flushed refl flush.pushes flush.others f.has_read in
         let brackets : List BracketPlace = map (bracket_place place) f.bs in
         let count : length f.p.state.openers ≡ length brackets = placed-count place here.at f.p.state.openers f.bs shows.openers.placed ∙ sym (length-map f.bs (bracket_place place)) in
         let cuts : (nearer : ℕ) → nearer < length f.p.state.openers → (cut : Cut) × (cut_at nearer f.p.here ≡ Some cut) = λ nearer low.

@@ -9,6 +9,7 @@ use Rattle.cmark_items.specs.declared.definitions.RefDefs.{RefDefs}
 use Rattle.cmark_items.specs.declared.footnotes.FootnoteDefs.{FootnoteDefs}
 use Rattle.cmark_leaf_text.specs.declared.leaf_text.LeafText.{LeafText}
 use Rattle.cmark_text.specs.declared.text.CowStr.{CowStr}
+use Rattle.cmark_inline.specs.Sound.{AreEnded}
 use Rattle.cmark_inline.specs.Come.{ComesOn, ComesTo, IsCleared}
 use Rattle.cmark_inline.specs.Decided.{ReadsSame}
 use Rattle.cmark_inline.specs.Footnoted.{SameFootnotes}
@@ -33,10 +34,10 @@ module _ {F : Type 0} (R : F → BrokenLink → Option (CowStr × CowStr) → F 
   }
 
   pub begin-comes : (footnotes : FootnoteDefs) (leaf : LeafText) (initial : F) (state : InlineState) → IsCleared state → ComesTo R options lookup references footnotes leaf state.expansion initial (record { pending = 0; at = 0 }) state initial
-  begin-comes footnotes leaf initial state c = λ reader read place same places said. begin-come leaf reader read place places R state.expansion initial state c refl
+  begin-comes footnotes leaf initial state c = λ reader read place same places. begin-come leaf reader read place places R state.expansion initial state c refl
 
   pub comes-further : (footnotes notes : FootnoteDefs) (leaf : LeafText) (expansion : ℕ) (initial : F) (cursor next : Cursor) (old new : InlineState) (now later : F) → SameFootnotes footnotes notes
       → ComesTo R options lookup references footnotes leaf expansion initial cursor old now → ComesOn R options lookup references notes leaf cursor next old new now later
-      → ComesTo R options lookup references footnotes leaf expansion initial next new later
-  comes-further footnotes notes leaf expansion initial cursor next old new now later e h k = λ reader read place same places said.
-      k reader read place (record { expansion = expansion; asked = [] }) initial (reads-notes footnotes notes leaf reader read place e same) places said (h reader read place same places said)
+      → AreEnded leaf old.slots.items → ComesTo R options lookup references footnotes leaf expansion initial next new later
+  comes-further footnotes notes leaf expansion initial cursor next old new now later e h k ended = λ reader read place same places.
+      k reader read place (record { expansion = expansion; asked = [] }) initial (reads-notes footnotes notes leaf reader read place e same) places ended (h reader read place same places)

@@ -1,12 +1,13 @@
 -- With the slots of a delimiter run, of a quote, or of an opening bracket the pass of the grammar has come behind that.
 use Rattle.std.specs.Prelude.{Option}
-use Rattle.std.proofs.Common.{◌≡◌, ℕ, zero, suc, ◌+◌, ◌-◌, ◌<◌, ◌≤◌, Bool, true, List, [], ◌∷◌, ◌++◌, length, get_or, refl, sym, ap, ◌∙◌, subst, arith}
+use Rattle.std.proofs.Common.{◌≡◌, ℕ, zero, suc, ◌+◌, ◌-◌, ◌<◌, ◌≤◌, Bool, true, List, [], ◌∷◌, ◌++◌, length, get_or, refl, sym, ap, ◌∙◌, subst, arith, false}
 use Rattle.std.proofs.lemmas.List.{get_or_push}
 use Rattle.cmark_emphasis.specs.Shown.{shown_quote, shown_run}
 use Rattle.cmark_grammar.specs.BracketStates.{moved}
 use Rattle.cmark_grammar.specs.Event as event
 use Rattle.cmark_grammar.specs.InlineReading.{event_of}
 use Rattle.cmark_grammar.specs.InlineTokens.{token}
+use Rattle.cmark_grammar.specs.Items as items
 use Rattle.cmark_grammar.specs.Items.{ItemKind, Own, Quoted, Delimiters, Item, Stands}
 use Rattle.cmark_grammar.specs.LeafReading.{Between}
 use Rattle.cmark_grammar.specs.LeafText.{Leaf}
@@ -19,7 +20,7 @@ use Rattle.cmark_leaf_text.specs.Reads.{is_cell_of, text_of}
 use Rattle.cmark_leaf_text.specs.declared.leaf_text.LeafText.{LeafText}
 use Rattle.cmark_text.specs.declared.text.CowStr.{CowStr}
 use Rattle.cmark_inline_model.specs.BracketPass.{pass}
-use Rattle.cmark_inline_model.specs.LikeSlots.{AreLike, IsLike}
+use Rattle.cmark_inline_model.specs.LikeSlots.{AreLike, IsLike, is_html}
 use Rattle.cmark_inline_model.specs.PartLists.{join}
 use Rattle.cmark_inline_model.specs.SlotRows.{ItemSlot, run_slots}
 use Rattle.cmark_inline_model.proofs.TogetherTokens.{Together, together-slice}
@@ -44,6 +45,23 @@ use Rattle.cmark_inline.proofs.ReachedSteps.{quote-read, run-read}
 last-same : {X : Type 0} (xs : List X) (a b : X) → xs ++ (a ∷ []) ≡ xs ++ (b ∷ []) → a ≡ b
 last-same xs a b e = sym (get_or_push xs a a (length xs) refl) ∙ ap (λ l. get_or l (length xs) a) e ∙ get_or_push xs b a (length xs) refl
 
+-- what gives a text is no HTML
+no-html : (source : List ℕ) (x : Item) (bytes : List ℕ) (k : ItemKind) → event_of source x k ≡ event.Text bytes → false ≡ is_html k
+no-html source x bytes items.Html h = absurd (let z : ⊥ = cc in z)
+no-html source x bytes items.Plain h = refl
+no-html source x bytes items.Own h = refl
+no-html source x bytes (items.Written text) h = refl
+no-html source x bytes (items.Quoted quote) h = refl
+no-html source x bytes (items.Delimiters run) h = refl
+no-html source x bytes (items.Autolink uri) h = refl
+no-html source x bytes (items.Code text) h = refl
+no-html source x bytes (items.InlineMath text) h = refl
+no-html source x bytes (items.DisplayMath text) h = refl
+no-html source x bytes (items.OwnedHtml text) h = refl
+no-html source x bytes (items.FootnoteReference label) h = refl
+no-html source x bytes items.SoftBreak h = refl
+no-html source x bytes items.HardBreak h = refl
+
 module _ (leaf : LeafText) (reader : Reader) (read : Leaf) (place : ℕ → ℕ) (r : ReadsPlaces leaf reader read place) where
   abbrev text : List ℕ
   text = text_of leaf
@@ -66,7 +84,7 @@ module _ (leaf : LeafText) (reader : Reader) (read : Leaf) (place : ℕ → ℕ)
       let b = steps (n - 1) s (omega (arith, some, within)) (λ k low high. all k low (omega (arith, high, some))) in
       let p = ap place (let q : s + n ≡ e = omega (arith, some) in q) in
       let q = ap place (let q : s + (n - 1) ≡ e - 1 = omega (arith, some) in q) in
-      record { some = some; within = within; sizes = omega (arith, a, b, p, q, some); last = omega (arith, a, b, p, q, some) }
+      record { some = some; within = within; sizes = omega (arith, a, b, p, q, some); last = omega (arith, a, b, p, q, some); content = λ i lt. all (s + i) (omega arith) lt }
 
   -- a text of these bytes
   pub text-like : (s e : ℕ) → Together reader read text place r.places s e → (k : ItemKind) → ((x : Item) → event_of reader.source x k ≡ event.Text (slice reader.source x.start x.end)) → (texts : List CowStr) (links : List LinkParts)
@@ -78,6 +96,7 @@ module _ (leaf : LeafText) (reader : Reader) (read : Leaf) (place : ℕ → ℕ)
         start = r.bytes s (omega (arith, some, within));
         end = ap (λ n. n + 1) (r.bytes (e - 1) (omega (arith, some, within))) ∙ (let q : place (e - 1) + 1 ≡ suc (place (e - 1)) = omega arith in q);
         event = ap event.Text (sym (together-slice reader read text place r.places s e t)) ∙ sym (is (item k (place s) (suc (place (e - 1)))));
+        lines = λ q. no-html reader.source (item k (place s) (suc (place (e - 1)))) (slice reader.source (place s) (suc (place (e - 1)))) k (is (item k (place s) (suc (place (e - 1)))));
       }
 
   pub bytes-like : (size at : ℕ) (texts : List CowStr) (links : List LinkParts) → at + size ≤ length text → ((k : ℕ) → at ≤ k → k < at + size → is_content (get_or text k 0) ≡ true)

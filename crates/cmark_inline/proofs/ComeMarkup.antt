@@ -154,7 +154,7 @@ module _ (leaf : LeafText) (reader : Reader) (read : Leaf) (place : ℕ → ℕ)
           later = λ k low high. (let p = i.goes_on.behind k low high in let q = r.bytes k high in omega (arith, p, q, byte));
         } in
         let like : IsLike reader.source (shown_slot leaf new.texts.items new.links.items (record { kind = kind.SourceHtml (place_of leaf here.at + i.size); start = here.at; end = a.found.end })) (ItemSlot x) =
-        record { start = byte; end = ap (λ n. n + i.size) byte; event = ap (λ n. event_of reader.source (item Html n (place_of leaf here.at + i.size)) Html) byte ∙ ap (λ n. event_of reader.source (item Html (place here.at) (n + i.size)) Html) byte } in
+        record { start = byte; end = ap (λ n. n + i.size) byte; event = ap (λ n. event_of reader.source (item Html n (place_of leaf here.at + i.size)) Html) byte ∙ ap (λ n. event_of reader.source (item Html (place here.at) (n + i.size)) Html) byte; lines = λ q. refl } in
         slot-reached slot x (opens-there here.at lt a.byte i.opens) a.slots a.others
         (closed-token here.at lt a.byte i.opens i.size a.found.end i.within i.closes parted ∙ ap (λ n. Stands x (place n)) (sym a.at)) (inl refl)
         (subst (λ (k : SlotKind). IsLike reader.source (shown_slot leaf new.texts.items new.links.items (record { kind = k; start = here.at; end = a.found.end })) (ItemSlot x)) (sym i.kind_is) like)

@@ -30,7 +30,7 @@ use Rattle.cmark_inline.specs.FoundInSource.{AppendsMarkup, AppendsUnclosed, Rea
 use Rattle.cmark_inline.specs.PlainStretches.{StandUpTo}
 use Rattle.cmark_inline.specs.Reached.{ReadsPlaces}
 use Rattle.cmark_inline.specs.SlotViews.{shown_slots}
-use Rattle.cmark_inline.specs.Sound.{IsSound}
+use Rattle.cmark_inline.specs.Sound.{AreEnded, IsSound}
 use Rattle.cmark_inline.specs.SpecialReads.{OpensBracket, ReadsSpecial}
 use Rattle.cmark_inline.specs.Stands.{Flushes, IsSlot, Moves}
 use Rattle.cmark_inline.specs.Tokens.{Appends, AppendsAutolink, AppendsQuote, AppendsRun, BeginsThere, Escapes, EscapesPipe, Passes, PassesOver, TakesEscaped, begins_at, reading, whole}
@@ -341,10 +341,10 @@ module _ (leaf : LeafText) (reader : Reader) (read : Leaf) (place : ℕ → ℕ)
 
       -- ## Closing brackets
       pub come-closing : (later : F) (references : RefDefs) (footnotes : FootnoteDefs) → get_or text at 0 ≡ 93 → ReadsSame reader.options reader.lookup references footnotes leaf reader read place → Flushes start at old
-          → closers.Closes R reader.options reader.lookup references footnotes leaf text start at old new next now later → reader.options.wikilinks ≡ false → HasCome R leaf reader read place before initial next new later
-      come-closing later references footnotes byte same_reading flush closes said =
+          → closers.Closes R reader.options reader.lookup references footnotes leaf text start at old new next now later → AreEnded leaf old.slots.items → HasCome R leaf reader read place before initial next new later
+      come-closing later references footnotes byte same_reading flush closes ended =
           let never = λ (h : HasEscaped reader.options reader.lookup cell text m start cursor.at). (let q : 93 ≡ 96 = sym byte ∙ tick h in absurd (omega (arith, q))) in
-          let c = closing-reached leaf reader read place r R before initial now later here m old new next come.reached (held-there (ap is_content byte) never) lt byte references footnotes same_reading flush closes said in
+          let c = closing-reached leaf reader read place r R before initial now later here m old new next come.reached (held-there (ap is_content byte) never) lt byte references footnotes same_reading flush closes ended in
           record { from = next.at; reached = c.0; pending = inl (sym c.1, c.1) }
 
     -- where no special byte is left

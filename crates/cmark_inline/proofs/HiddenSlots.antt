@@ -1,5 +1,5 @@
 -- The slots behind an opening bracket that become nothing, and those that are put in their place.
-use Rattle.std.proofs.Common.{◌≡◌, ℕ, zero, suc, ◌+◌, ◌-◌, ◌<◌, ◌≤◌, Bool, true, false, List, [], ◌∷◌, ◌++◌, length, drop, take, get_or, set, refl, sym, ap, subst, ◌∙◌, arith, append_assoc, append-nil, length-append}
+use Rattle.std.proofs.Common.{◌≡◌, ℕ, suc, ◌+◌, ◌-◌, ◌<◌, Bool, true, false, List, [], ◌∷◌, ◌++◌, length, drop, take, get_or, set, refl, sym, ap, subst, ◌∙◌, arith, append_assoc, append-nil, length-append}
 use Rattle.std.specs.Prelude.{if◌then◌else◌, map, min, nat_lt}
 use Rattle.std.proofs.Math.Seq.{drop-cons, set-append_seam}
 use Rattle.std.proofs.lemmas.Bool.{ltb-true, ltb-false}
@@ -16,7 +16,6 @@ use Rattle.cmark_inline.specs.Hiding.{WritesReference, mark_before, mark_slot, s
 use Rattle.cmark_inline.specs.SlotViews.{bytes_or_none, item_slot, shown_slot, shown_slots}
 use Rattle.cmark_inline.specs.Sound.{AreNamed}
 use Rattle.cmark_inline.specs.Wikilinks.{Hides, hidden}
-use Rattle.cmark_inline.specs.Written.{Forgets}
 use Rattle.cmark_inline.specs.declared.bracket.Bracket.{Bracket}
 use Rattle.cmark_inline.specs.declared.link.LinkParts.{LinkParts}
 use Rattle.cmark_inline.specs.declared.slot.Slot.{Slot}
@@ -26,7 +25,7 @@ use Rattle.cmark_inline.proofs.Marks.{no-slot}
 
 -- ## Slots that are hidden
 
-hides-tail : (from to : ℕ) (s x : Slot) (old new : List Slot) → Hides (suc from) (suc to) (s ∷ old) (x ∷ new) → Hides from to old new
+pub hides-tail : (from to : ℕ) (s x : Slot) (old new : List Slot) → Hides (suc from) (suc to) (s ∷ old) (x ∷ new) → Hides from to old new
 hides-tail from to s x old new h = record {
   size = (let n = h.size in let q : length new ≡ length old = omega (arith, n) in q);
   inside = λ k d low high. h.inside (suc k) d (omega (arith, low)) (omega (arith, high));
@@ -34,7 +33,7 @@ hides-tail from to s x old new h = record {
   behind = λ k d le. h.behind (suc k) d (omega (arith, le));
 }
 
-hides-next : (to : ℕ) (s x : Slot) (old new : List Slot) → Hides 0 (suc to) (s ∷ old) (x ∷ new) → Hides 0 to old new
+pub hides-next : (to : ℕ) (s x : Slot) (old new : List Slot) → Hides 0 (suc to) (s ∷ old) (x ∷ new) → Hides 0 to old new
 hides-next to s x old new h = record {
   size = (let n = h.size in let q : length new ≡ length old = omega (arith, n) in q);
   inside = λ k d low high. h.inside (suc k) d (omega arith) (omega (arith, high));

@@ -1,7 +1,7 @@
 -- What the grammar's pass has read with a closing bracket that forms what shows nothing of what stands between its brackets.
 use Rattle.std.specs.Prelude.{drop, take, Option, Some, None}
 use Rattle.std.proofs.lemmas.Bool.{cases_lt, eq-eqb}
-use Rattle.std.proofs.Common.{◌≡◌, ◌⊎◌, inl, inr, ◌==◌, ℕ, zero, suc, ◌+◌, ◌-◌, ◌<◌, ◌≤◌, Bool, true, false, if◌then◌else◌, List, [], ◌∷◌, ◌++◌, length, get_or, refl, sym, ap, subst, ◌∙◌, arith, append-nil}
+use Rattle.std.proofs.Common.{◌≡◌, ◌⊎◌, inl, inr, ◌==◌, ℕ, suc, ◌+◌, ◌-◌, ◌<◌, ◌≤◌, Bool, true, false, if◌then◌else◌, List, [], ◌∷◌, ◌++◌, length, get_or, refl, sym, ap, subst, ◌∙◌, arith, append-nil}
 use Rattle.std.proofs.Math.Seq.{drop-cons}
 use Rattle.cmark_grammar.specs.BracketDecisions.{decide, name_in, behind_pipe}
 use Rattle.cmark_grammar.specs.BracketReading.{Comes}
@@ -31,13 +31,13 @@ use Rattle.cmark_inline_model.specs.RowPasses.{StandsFor}
 use Rattle.cmark_inline_model.specs.SlotRows as row
 use Rattle.cmark_inline_model.specs.SlotRows.{LaysOut, seen, slots_of}
 use Rattle.cmark_inline.specs.BracketViews.{IsPlaced, past_opening}
-use Rattle.cmark_inline.specs.Closers.{IsSaid, ReadsOn}
+use Rattle.cmark_inline.specs.Closers.{ReadsOn}
 use Rattle.cmark_inline.specs.Decided.{IsCloser}
 use Rattle.cmark_inline.specs.Doubled.{nearest}
 use Rattle.cmark_inline.specs.Hiding.{WritesReference, WritesWikilink, mark_before, mark_slot, shown_reference}
-use Rattle.cmark_inline.specs.Reached.{HasRead, ReadsPlaces, bracket_place}
+use Rattle.cmark_inline.specs.Reached.{ReadsPlaces, bracket_place}
 use Rattle.cmark_inline.specs.SlotViews.{first_of, item_slot, shown_slot, shown_slots}
-use Rattle.cmark_inline.specs.Sound.{IsSound, IsTakenPair}
+use Rattle.cmark_inline.specs.Sound.{AreEnded, IsSound, IsTakenPair}
 use Rattle.cmark_inline.specs.Stands.{Stands}
 use Rattle.cmark_inline.specs.Wikilinks.{ShowsFrom, display_place, has_pothole, shown_name, wiki_start, wiki_text}
 use Rattle.cmark_inline.specs.declared.bracket.Bracket.{Bracket}
@@ -48,6 +48,7 @@ use Rattle.cmark_inline.specs.declared.state.InlineState.{InlineState}
 use Rattle.cmark_inline.specs.declared.wikilink.Wikilink.{Wikilink}
 use Rattle.cmark_inline.proofs.AfterSteps.{IsTried}
 use Rattle.cmark_inline.proofs.ClosingReads.{IsFlushed, SameRows, opener-first, read-before}
+use Rattle.cmark_inline.proofs.DisplayReads.{display-reads}
 use Rattle.cmark_inline.proofs.LinkSteps.{formed-read}
 use Rattle.cmark_inline.proofs.Marks.{no-slot}
 use Rattle.cmark_inline.proofs.Opening.{is-pair, last-nearest}
@@ -56,7 +57,7 @@ use Rattle.cmark_inline.proofs.WikiSlots.{shows-own}
 -- ## Slots that are like themselves
 like-itself : (source : List ℕ) (slots : List row.Slot) → AreLike source slots slots
 like-itself source [] = refl
-like-itself source (row.ItemSlot x ∷ slots) = (record { start = refl; end = refl; event = refl }, like-itself source slots)
+like-itself source (row.ItemSlot x ∷ slots) = (record { start = refl; end = refl; event = refl; lines = λ q. refl }, like-itself source slots)
 like-itself source (row.BeginSlot tag start end ∷ slots) = (refl, like-itself source slots)
 like-itself source (row.EndSlot ∷ slots) = (refl, like-itself source slots)
 like-itself source (row.NothingSlot ∷ slots) = (refl, like-itself source slots)
@@ -87,6 +88,7 @@ module _ (leaf : LeafText) (reader : Reader) (read : Leaf) (place : ℕ → ℕ)
             one-of (text_of leaf) k (k + 1) (let q : k + 1 ≡ suc k = omega arith in q) within
             ∙ ap (λ x. x ∷ []) (sym (places.places.bytes k within))
             ∙ sym (one-of reader.source (place k) (suc (place k)) refl (places.places.inside k within)));
+        lines = λ q. refl;
       }
 
   -- the `[` behind a `!`
@@ -118,6 +120,7 @@ module _ (leaf : LeafText) (reader : Reader) (read : Leaf) (place : ℕ → ℕ)
       start = e;
       end = ap (λ n. place_of leaf n + 1) (let q : close + 1 - 1 ≡ close = omega arith in q) ∙ ap (λ n. n + 1) (places.bytes close within) ∙ (let q : place close + 1 ≡ suc (place close) = omega arith in q) ∙ sym ends;
       event = refl;
+      lines = λ q. refl;
     }
 
     abbrev StandsAs : Bool → Type 0
@@ -168,21 +171,6 @@ no-display leaf None None e h = refl
 no-display leaf None (Some at) e h = absurd h
 no-display leaf (Some place) at e h = absurd (let z : ⊥ = cc in z)
 
--- the first byte at the place of the closing bracket or behind it is that bracket
-first-closing : (leaf : LeafText) (reader : Reader) (read : Leaf) (place : ℕ → ℕ) (places : ReadsPlaces leaf reader read place) (close : ℕ) (closer : items.Bracket) → close < length (text_of leaf) → closer.start ≡ place close → (display shown_place : ℕ) → display ≡ closer.start
-    → IsFirstFrom leaf display shown_place → shown_place ≡ close
-first-closing leaf reader read place places close closer within start display shown_place e h = go (cases_lt shown_place close) (cases_lt close shown_place)
-  where
-    go : (shown_place < close) ⊎ (close ≤ shown_place) → (close < shown_place) ⊎ (shown_place ≤ close) → shown_place ≡ close
-    go (inl lt) other =
-        let n : shown_place < length (text_of leaf) = omega (arith, lt, within) in
-        let behind = h.behind shown_place (omega arith) n in
-        let low = places.bytes shown_place n in
-        let order = places.places.places.order shown_place close lt (omega (arith, within)) in
-        absurd (omega (arith, behind, low, order, start, e))
-    go (inr ge) (inl lt) = let early = h.before close lt in let a = places.bytes close within in absurd (omega (arith, early, a, e, start))
-    go (inr ge) (inr le) = omega (arith, ge, le)
-
 module _ (leaf : LeafText) (reader : Reader) (read : Leaf) (place : ℕ → ℕ) (places : ReadsPlaces leaf reader read place) (text : List ℕ) (same : text ≡ text_of leaf) (close : ℕ) (closer : items.Bracket) (c : IsCloser text place close closer) (past : close + 1 < length text) (b : Bracket)
     (inner : ℕ) (before : inner + 1 ≤ close) (meets : place inner ≡ place b.inside) (follows : place (inner + 1) ≡ suc (place inner)) (name : List ℕ) (first : ℕ) (starts : first ≡ place b.start) (nothing : List row.Slot) (none : seen nothing ≡ []) (inside : Parts) (at : ℕ) where
   two-within : close + 1 < length (text_of leaf)
@@ -226,36 +214,10 @@ module _ (leaf : LeafText) (reader : Reader) (read : Leaf) (place : ℕ → ℕ)
             start = from;
             end = to;
             event = ap (λ n. event.Text (slice reader.source n source_end)) from ∙ ap (λ n. event.Text (slice reader.source (suc (place b.inside)) n)) to;
+            lines = λ q. refl;
           }),
         );
       }
-
-  -- nothing, where the pipe stands directly before the closing bracket
-  pub empty-stands : (source_end shown_place display : ℕ) → shown_place ≡ close → display ≡ closer.start
-      → StandsFor reader at (Form (bracket_place place b).bracket inside closer (Wiki name (Some display) (suc closer.end)) Nil)
-      (row.BeginSlot (wiki_tag b.is_image name true) first (place_of leaf (close + 1) + 1) ∷ ((nothing ++ shown_slots leaf [] [] (shown_name doubled close source_end (Some shown_place))) ++ (row.EndSlot ∷ []))) [] []
-  empty-stands source_end shown_place display shown_is display_is =
-      let there : (display == closer.start) ≡ true = eq-eqb display closer.start display_is in
-      let here : (shown_place == close) ≡ true = eq-eqb shown_place close shown_is in
-      let shows = item items.Own display display in
-      let inner : Bool → Inline = λ z. if z then siblings.Single shows siblings.Nil else from_place display (siblings_of reader.options inside) in
-      let first_is : place_of leaf close ≡ display = at-close ∙ sym display_is in
-      let empty : row.Slot = item_slot (items.Written []) (place_of leaf close) (place_of leaf close) in
-      let like : IsLike reader.source empty (row.ItemSlot shows) = record {
-        start = first_is;
-        end = first_is;
-        event = ap event.Text (sym (ap (λ n. take n (drop display reader.source)) (let q : display - display ≡ 0 = omega arith in q)));
-      } in
-      let tag = wiki_tag b.is_image name true in
-      let own : List Slot = record { kind = kind.Empty; start = close; end = close + 1 } ∷ [] in
-      let stands : StandsFor reader at (Form (bracket_place place b).bracket inside closer (Wiki name (Some display) (suc closer.end)) Nil) (row.BeginSlot tag first (place_of leaf (close + 1) + 1) ∷ ((nothing ++ (empty ∷ [])) ++ (row.EndSlot ∷ []))) [] [] = record {
-        row = row.BeginSlot tag (place b.start) (suc closer.end) ∷ ((nothing ++ (row.ItemSlot shows ∷ [])) ++ (row.EndSlot ∷ []));
-        laid = own-laid tag (place b.start) (suc closer.end) at (dress reader.options (display_from display closer.start (siblings_of reader.options inside))) shows nothing none
-            (sym (ap (λ z. slots_of (dress reader.options (inner z))) there));
-        like = (begin-is tag, like-around reader.source nothing empty (row.ItemSlot shows) none like);
-      } in
-      subst (λ l. StandsFor reader at (Form (bracket_place place b).bracket inside closer (Wiki name (Some display) (suc closer.end)) Nil) (row.BeginSlot tag first (place_of leaf (close + 1) + 1) ∷ ((nothing ++ shown_slots leaf [] [] l) ++ (row.EndSlot ∷ []))) [] [])
-      (sym (ap (λ z. if z then own else []) here)) stands
 
 -- ## The steps
 
@@ -276,7 +238,7 @@ module _ (leaf : LeafText) (reader : Reader) (read : Leaf) (place : ℕ → ℕ)
       (writes.slots leaf) writes.forgets.runs writes.forgets.quotes
 
   module _ (text : List ℕ) (same : text ≡ text_of leaf) (c : IsCloser text place close closer) (past : close + 1 < length text) (first : Taken) (i : IsTried place close bs first (nearest st.doubled)) (sound : IsSound st) (stands : Stands text close st)
-      (options : Options) (writes : WritesWikilink options leaf text (record i.bracket { inside = i.inner + 1 }) close st new) (name : List ℕ) (name_is : name ≡ name_in (wiki_text leaf (record i.bracket { inside = i.inner + 1 }) close)) where
+      (options : Options) (options_are : options ≡ reader.options) (writes : WritesWikilink options leaf text (record i.bracket { inside = i.inner + 1 }) close st new) (name : List ℕ) (name_is : name ≡ name_in (wiki_text leaf (record i.bracket { inside = i.inner + 1 }) close)) where
     abbrev b : Bracket
     b = i.bracket
 
@@ -321,22 +283,14 @@ module _ (leaf : LeafText) (reader : Reader) (read : Leaf) (place : ℕ → ℕ)
 
     -- a wikilink
     pub wikilink-reads : (display : Option ℕ) → display ≡ behind_pipe (wiki_start leaf entry) (wiki_text leaf entry close) → (next : State)
-        → Comes AnyAnswer s.asked (decide reader read s closer) (record { result = Forms first.nearer (Wiki name display (suc closer.end)); after = next }) → IsSaid (Forms first.nearer (Wiki name display (suc closer.end)))
+        → Comes AnyAnswer s.asked (decide reader read s closer) (record { result = Forms first.nearer (Wiki name display (suc closer.end)); after = next }) → AreEnded leaf old.slots.items
         → ReadsOn leaf reader read place from close closer s bs (record { result = Forms first.nearer (Wiki name display (suc closer.end)); after = next }) old new
-    wikilink-reads None display_is next comes said =
+    wikilink-reads None display_is next comes ended =
         own-reads None None (no-display leaf (behind_pipe (wiki_start leaf entry) (wiki_text leaf entry close)) wikilink.display (sym display_is) writes.is.display) refl
         (λ nothing none places starts inside. name-stands leaf reader read place places text same close closer c past b i.inner i.before meets i.next name first_place starts nothing none inside b.slot wikilink.source_end writes.is.ends)
         (λ cut. (refl, refl)) next comes
-    wikilink-reads (Some place_behind) display_is next comes said = go wikilink.display refl
+    wikilink-reads (Some display) display_is next comes ended = go wikilink.display refl
       where
-        starts_there : place_behind ≡ closer.start
-        starts_there = let e = said in let a = c.start in let b = c.end in omega (arith, e, a, b)
-
-        go : (shown : Option ℕ) → wikilink.display ≡ shown → ReadsOn leaf reader read place from close closer s bs (record { result = Forms first.nearer (Wiki name (Some place_behind) (suc closer.end)); after = next }) old new
+        go : (shown : Option ℕ) → wikilink.display ≡ shown → ReadsOn leaf reader read place from close closer s bs (record { result = Forms first.nearer (Wiki name (Some display) (suc closer.end)); after = next }) old new
         go None shown_is = absurd (subst (λ o. ShowsFrom leaf o None) (sym display_is) (subst (ShowsFrom leaf (behind_pipe (wiki_start leaf entry) (wiki_text leaf entry close))) shown_is writes.is.display))
-        go (Some shown_place) shown_is = λ places.
-            let from_there : IsFirstFrom leaf place_behind shown_place = subst (λ o. ShowsFrom leaf o (Some shown_place)) (sym display_is) (subst (ShowsFrom leaf (behind_pipe (wiki_start leaf entry) (wiki_text leaf entry close))) shown_is writes.is.display) in
-            let at : shown_place ≡ close = first-closing leaf reader read place places close closer (subst (λ (l : List ℕ). close < length l) same c.within) c.start place_behind shown_place starts_there from_there in
-            own-reads (Some place_behind) (Some shown_place) shown_is at
-            (λ nothing none places starts inside. empty-stands leaf reader read place places text same close closer c past b i.inner i.before meets i.next name first_place starts nothing none inside b.slot wikilink.source_end shown_place place_behind at starts_there)
-            (λ cut. (refl, refl)) next comes places
+        go (Some t) shown_is = display-reads leaf reader read place closer s bs from close old mine st new is rows text same c past first i sound stands options options_are writes name name_is display t shown_is display_is next comes ended

@@ -50,6 +50,9 @@ pub mod ItemSlots
 pub mod LabelEnds
 pub mod LeafPlaces
 pub mod DecisionSteps
+pub mod DisplayReads
+pub mod DisplaySlots
+pub mod DisplaySteps
 pub mod TargetSteps
 pub mod TargetMakes
 pub mod CloserSteps
@@ -72,6 +75,7 @@ pub mod ClosingReads
 pub mod HiddenSlots
 pub mod HidingReads
 pub mod WikiSlots
+pub mod CutSlots
 pub mod ComeAutolinks
 pub mod ComeMarkup
 pub mod ComeClosers

@@ -47,12 +47,12 @@ take-places n at zero l = ap (λ k. take k l) (let q : 0 + n ≡ n = omega arith
 take-places n at (suc size) l =
     ap (λ k. take k (run_places at (suc size) l)) (let q : suc size + n ≡ suc (size + n) = omega arith in q) ∙ ap (λ m. at ∷ m) (take-places n (suc at) size l)
 
-bytes-behind : (n : ℕ) (placed : List PlacedRun) → drop (bytes_in (take n (runs_of placed))) (places_of placed) ≡ places_of (drop n placed)
+pub bytes-behind : (n : ℕ) (placed : List PlacedRun) → drop (bytes_in (take n (runs_of placed))) (places_of placed) ≡ places_of (drop n placed)
 bytes-behind zero placed = refl
 bytes-behind (suc n) [] = refl
 bytes-behind (suc n) (x ∷ placed) = drop-places (bytes_in (take n (runs_of placed))) x.slot x.run.size (places_of placed) ∙ bytes-behind n placed
 
-bytes-front : (n : ℕ) (placed : List PlacedRun) → take (bytes_in (take n (runs_of placed))) (places_of placed) ≡ places_of (take n placed)
+pub bytes-front : (n : ℕ) (placed : List PlacedRun) → take (bytes_in (take n (runs_of placed))) (places_of placed) ≡ places_of (take n placed)
 bytes-front zero placed = refl
 bytes-front (suc n) [] = refl
 bytes-front (suc n) (x ∷ placed) = take-places (bytes_in (take n (runs_of placed))) x.slot x.run.size (places_of placed) ∙ ap (run_places x.slot x.run.size) (bytes-front n placed)

@@ -1,6 +1,6 @@
 -- The text that is pending is one item of the grammar, and its slot is like it.
 use Rattle.std.specs.Prelude.{◌&&◌, ◌==◌, if◌then◌else◌, Option}
-use Rattle.std.proofs.Common.{◌≡◌, inl, inr, ℕ, ◌<◌, ◌≤◌, Bool, true, false, List, length, drop, refl, sym, ap, ◌∙◌, subst, arith, eqb-true}
+use Rattle.std.proofs.Common.{◌≡◌, ◌⊎◌, inl, inr, ℕ, ◌+◌, ◌-◌, ◌<◌, ◌≤◌, Bool, true, false, List, [], ◌∷◌, ◌++◌, length, drop, refl, sym, ap, ◌∙◌, subst, arith, eqb-true, true≢false}
 use Rattle.std.proofs.lemmas.Bool.{false_from_ne_true}
 use Rattle.cmark_grammar.specs.Answers.{Lookup}
 use Rattle.cmark_grammar.specs.InlineTokens.{begins, goes_on, item_at, token}
@@ -107,7 +107,7 @@ module _ (leaf : LeafText) (reader : Reader) (read : Leaf) (place : ℕ → ℕ)
     pub begun-like : (texts : List CowStr) (links : List LinkParts) → IsLike reader.source (shown_slot leaf texts links (text_slot start to)) (ItemSlot (placed_item place (text_item start to)))
     begun-like texts links =
         item-like leaf reader read place r.places r.cell r.bytes texts links (text_slot start to) start to refl refl some within Plain kind.Text
-        (text-together reader read text place r.places at none (text_item start to) to (subst (λ c. token (text_reader reader.options reader.lookup text) (one_stretch c text) at ≡ item_at Plain start to) (sym r.cell) own_token)) tt
+        (text-together reader read text place r.places at none (text_item start to) to (subst (λ c. token (text_reader reader.options reader.lookup text) (one_stretch c text) at ≡ item_at Plain start to) (sym r.cell) own_token)) (λ h. absurd (true≢false (sym h))) tt
 
   -- ## Once it has a slot, the pass stands behind it
   module _ {F : Type 0} (R : F → BrokenLink → Option (CowStr × CowStr) → F → Type 0) (before : Between) (initial now : F) where

@@ -1,5 +1,5 @@
 -- A text that is pending is one item of the grammar, and its slot is like it.
-use Rattle.std.proofs.Common.{◌≡◌, ℕ, ◌-◌, ◌<◌, ◌≤◌, Bool, false, List, length, drop, refl, sym, ap, ◌∙◌, subst, arith, length-drop}
+use Rattle.std.proofs.Common.{◌≡◌, ℕ, ◌-◌, ◌<◌, ◌≤◌, Bool, false, List, length, drop, refl, sym, ap, ◌∙◌, subst, arith, length-drop, true≢false}
 use Rattle.cmark_grammar.specs.InlineTokens.{from, item_at, token}
 use Rattle.cmark_grammar.specs.Items.{Plain, Item, Stands}
 use Rattle.cmark_grammar.specs.LeafText.{Leaf}
@@ -56,4 +56,4 @@ module _ (leaf : LeafText) (reader : Reader) (read : Leaf) (place : ℕ → ℕ)
     pub pending-like : (texts : List CowStr) (links : List LinkParts) → IsLike reader.source (shown_slot leaf texts links (text_slot start to)) (ItemSlot (placed_item place (text_item start to)))
     pending-like texts links =
         item-like leaf reader read place r.places r.cell r.bytes texts links (text_slot start to) start to refl refl (omega arith) within Plain kind.Text
-        (text-together reader read text place r.places at none (text_item start to) to there) tt
+        (text-together reader read text place r.places at none (text_item start to) to there) (λ h. absurd (true≢false (sym h))) tt

@@ -30,18 +30,32 @@ kind-stays text start end kind.InlineHtml = go (takes_lines (slice text start en
     go : (z : Bool) → takes_lines (slice text start end) ≡ z → Stays kind.InlineHtml (cut_kind text start end kind.InlineHtml)
     go true e = let is : cut_kind text start end kind.InlineHtml ≡ kind.CutHtml start = ap (λ z. if z then kind.CutHtml start else kind.InlineHtml) e in inr ((λ q. let z : ⊥ = cc in z), λ i. ap (λ x. last_in x i) is)
     go false e = inl (ap (λ z. if z then kind.CutHtml start else kind.InlineHtml) e)
+kind-stays text start end (kind.CutHtml from) = go (takes_lines (slice text from end)) refl
+  where
+    go : (z : Bool) → takes_lines (slice text from end) ≡ z → Stays (kind.CutHtml from) (cut_kind text start end (kind.CutHtml from))
+    go true e = inl (ap (λ z. if z then kind.CutHtml from else kind.InlineHtml) e)
+    go false e = let is : cut_kind text start end (kind.CutHtml from) ≡ kind.InlineHtml = ap (λ z. if z then kind.CutHtml from else kind.InlineHtml) e in inr ((λ q. let z : ⊥ = cc in z), λ i. ap (λ x. last_in x i) is)
+kind-stays text start end (kind.OwnedText index) = inr ((λ q. let z : ⊥ = cc in z), λ i. (let q : last_in (kind.Whole 0) i ≡ i = omega arith in q))
+kind-stays text start end (kind.Character character) = inr ((λ q. let z : ⊥ = cc in z), λ i. (let q : last_in (kind.Whole 0) i ≡ i = omega arith in q))
 kind-stays text start end other = inl refl
 
 abbrev NamesKind : (old new : SlotKind) → Type 0
-NamesKind old new = (text_named new ≡ text_named old) × (link_named new ≡ link_named old) × (source_end new ≡ source_end old)
+NamesKind old new = IsPlain new ⊎ ((text_named new ≡ text_named old) × (link_named new ≡ link_named old) × (source_end new ≡ source_end old))
 
 kind-names : (text : List ℕ) (start end : ℕ) (k : SlotKind) → NamesKind k (cut_kind text start end k)
 kind-names text start end kind.InlineHtml = go (takes_lines (slice text start end)) refl
   where
     go : (z : Bool) → takes_lines (slice text start end) ≡ z → NamesKind kind.InlineHtml (cut_kind text start end kind.InlineHtml)
-    go true e = let is : cut_kind text start end kind.InlineHtml ≡ kind.CutHtml start = ap (λ z. if z then kind.CutHtml start else kind.InlineHtml) e in subst (λ x. NamesKind kind.InlineHtml x) (sym is) (refl, refl, refl)
-    go false e = let is : cut_kind text start end kind.InlineHtml ≡ kind.InlineHtml = ap (λ z. if z then kind.CutHtml start else kind.InlineHtml) e in subst (λ x. NamesKind kind.InlineHtml x) (sym is) (refl, refl, refl)
-kind-names text start end other = (refl, refl, refl)
+    go true e = let is : cut_kind text start end kind.InlineHtml ≡ kind.CutHtml start = ap (λ z. if z then kind.CutHtml start else kind.InlineHtml) e in subst (λ x. NamesKind kind.InlineHtml x) (sym is) (inl (refl, refl, refl))
+    go false e = let is : cut_kind text start end kind.InlineHtml ≡ kind.InlineHtml = ap (λ z. if z then kind.CutHtml start else kind.InlineHtml) e in subst (λ x. NamesKind kind.InlineHtml x) (sym is) (inl (refl, refl, refl))
+kind-names text start end (kind.CutHtml from) = go (takes_lines (slice text from end)) refl
+  where
+    go : (z : Bool) → takes_lines (slice text from end) ≡ z → NamesKind (kind.CutHtml from) (cut_kind text start end (kind.CutHtml from))
+    go true e = let is : cut_kind text start end (kind.CutHtml from) ≡ kind.CutHtml from = ap (λ z. if z then kind.CutHtml from else kind.InlineHtml) e in subst (λ x. NamesKind (kind.CutHtml from) x) (sym is) (inl (refl, refl, refl))
+    go false e = let is : cut_kind text start end (kind.CutHtml from) ≡ kind.InlineHtml = ap (λ z. if z then kind.CutHtml from else kind.InlineHtml) e in subst (λ x. NamesKind (kind.CutHtml from) x) (sym is) (inl (refl, refl, refl))
+kind-names text start end (kind.OwnedText index) = inl (refl, refl, refl)
+kind-names text start end (kind.Character character) = inl (refl, refl, refl)
+kind-names text start end other = inr (refl, refl, refl)
 
 module _ (text : List ℕ) (place : ℕ) (s : Slot) where
   abbrev is-cut : Bool
@@ -57,12 +71,16 @@ module _ (text : List ℕ) (place : ℕ) (s : Slot) where
       go true e = subst (λ (x : Slot). Stays s.kind x.kind) (sym (ap made e)) (kind-stays text s.start s.end s.kind)
       go false e = subst (λ (x : Slot). Stays s.kind x.kind) (sym (ap made e)) (inl refl)
 
-  cut-names : NamesAs s (cut_slot text place s)
+  cut-names : IsPlain (cut_slot text place s).kind ⊎ NamesAs s (cut_slot text place s)
   cut-names = go is-cut refl
     where
-      go : (z : Bool) → is-cut ≡ z → NamesAs s (cut_slot text place s)
-      go true e = let n = kind-names text s.start s.end s.kind in subst (λ (x : Slot). NamesAs s x) (sym (ap made e)) (n.0, n.1, n.2, refl)
-      go false e = subst (λ (x : Slot). NamesAs s x) (sym (ap made e)) (refl, refl, refl, refl)
+      by : NamesKind s.kind (cut_kind text s.start s.end s.kind) → IsPlain (made true).kind ⊎ NamesAs s (made true)
+      by (inl plain) = inl plain
+      by (inr n) = inr (n.0, n.1, n.2, refl)
+
+      go : (z : Bool) → is-cut ≡ z → IsPlain (cut_slot text place s).kind ⊎ NamesAs s (cut_slot text place s)
+      go true e = subst (λ (x : Slot). IsPlain x.kind ⊎ NamesAs s x) (sym (ap made e)) (by (kind-names text s.start s.end s.kind))
+      go false e = subst (λ (x : Slot). IsPlain x.kind ⊎ NamesAs s x) (sym (ap made e)) (inr (refl, refl, refl, refl))
 
   cut-text : s.kind ≡ kind.Text → (cut_slot text place s).kind ≡ kind.Text
   cut-text is = go is-cut refl
@@ -143,7 +161,11 @@ module _ (texts links : ℕ) (slots : List Slot) (runs : List PlacedRun) (quotes
     where
       go : (k : ℕ) (d : Slot) → k < length between → Cut text place at between shown k d → IsPlain (get_or shown k d).kind ⊎ ((k < length between) × NamesAs (get_or between k d) (get_or shown k d))
       go k d lt (inl e) = inr (lt, same-as (get_or between k d) (get_or shown k d) e)
-      go k d lt (inr (is, there, e)) = inr (lt, subst (λ (x : Slot). NamesAs (get_or between k d) x) (sym e) (cut-names text place (get_or between k d)))
+      go k d lt (inr (is, there, e)) = by (cut-names text place (get_or between k d))
+        where
+          by : IsPlain (cut_slot text place (get_or between k d)).kind ⊎ NamesAs (get_or between k d) (cut_slot text place (get_or between k d)) → IsPlain (get_or shown k d).kind ⊎ ((k < length between) × NamesAs (get_or between k d) (get_or shown k d))
+          by (inl plain) = inl (subst (λ (x : Slot). IsPlain x.kind) (sym e) plain)
+          by (inr names) = inr (lt, subst (λ (x : Slot). NamesAs (get_or between k d) x) (sym e) names)
 
   pub shown-before : SameBefore low slots shown
   shown-before = λ k d lt. go k d lt (cut-get text place at between k d)

@@ -3,7 +3,7 @@ use Rattle.std.specs.Prelude.{All, if◌then◌else◌, nat_lt, Some}
 use Rattle.std.proofs.lemmas.Option.{same_Some}
 use Rattle.std.proofs.Common.{◌≡◌, ◌⊎◌, inl, inr, ap, ℕ, ◌+◌, ◌-◌, ◌≤◌, ◌<◌, Bool, true, false, List, [], ◌∷◌, drop, length, refl, sym, subst, ◌∙◌, arith}
 use Rattle.std.specs.Str.{IsCharBoundary}
-use Rattle.std.proofs.lemmas.Bool.{ltb-true, ltb-false}
+use Rattle.std.proofs.lemmas.Bool.{cases_lt, ltb-true, ltb-false}
 use Rattle.cmark_leaf_text.specs.declared.leaf_text.LeafText.{LeafText}
 use Rattle.cmark_leaf_text.specs.declared.stretch.Stretch.{Stretch}
 use Rattle.cmark_leaf_text.specs.Reads.{IsRead, IsPart, text_of, source_of, place_of}
@@ -70,7 +70,14 @@ ends-at-byte leaf read at part =
     let there = part-there (source_of leaf) leaf.stretches.items at (at + 1) read.stretches part in (
       (λ k lt. place-before (source_of leaf) 0 0 leaf.stretches.items k at read.stretches (omega arith) lt (let q : at < 0 + length (joined (source_of leaf) leaf.stretches.items) = omega (arith, w) in q)),
       there.starts,
+      (λ k le lt. behind k lt le (cases_lt at k)),
     )
+  where
+    behind : (k : ℕ) → k < length (text_of leaf) → at ≤ k → (at < k) ⊎ (k ≤ at) → place_of leaf at ≤ place_of leaf k
+    behind k lt le (inl l) =
+        let b = place-before (source_of leaf) 0 0 leaf.stretches.items at k read.stretches (omega arith) l (let q : k < 0 + length (joined (source_of leaf) leaf.stretches.items) = omega (arith, lt) in q) in
+        omega (arith, b)
+    behind k lt le (inr g) = subst (λ j. place_of leaf at ≤ place_of leaf j) (let q : at ≡ k = omega (arith, g, le) in q) (omega arith)
 
 pub source-ends : (one other : ℕ) → kind.SourceHtml one ≡ kind.SourceHtml other → one ≡ other
 source-ends one other e = same_Some one other (ap source_end e)
@@ -78,7 +85,7 @@ source-ends one other e = same_Some one other (ap source_end e)
 -- inline HTML that is a part of the source ends in the source where its slot ends
 pub found-ends : (leaf : LeafText) (at : ℕ) (found : FoundHtml) → IsFound leaf at found → ((end : ℕ) → found.kind ≡ kind.SourceHtml end → IsCharBoundary (source_of leaf) end) → EndsIn leaf found.end (source_end found.kind)
 found-ends leaf at found (inl t) edge = subst (λ k. EndsIn leaf found.end (source_end k)) (sym t.kind_is) tt
-found-ends leaf at found (inr s) edge = subst (λ k. EndsIn leaf found.end (source_end k)) (sym s.kind_is) (s.goes_on.before, edge (place_of leaf at + s.size) s.kind_is)
+found-ends leaf at found (inr s) edge = subst (λ k. EndsIn leaf found.end (source_end k)) (sym s.kind_is) (s.goes_on.before, edge (place_of leaf at + s.size) s.kind_is, s.goes_on.behind)
 
 -- such a slot ends behind its begin
 pub ends-behind : (leaf : LeafText) (slot : Slot) (k : SlotKind) → slot.start < slot.end → EndsIn leaf slot.end (source_end k) → EndsBehind leaf slot k

@@ -1,5 +1,5 @@
 -- The slots of a wikilink.
-use Rattle.std.proofs.Common.{◌≡◌, ◌⊎◌, inl, inr, ℕ, zero, suc, ◌+◌, ◌-◌, ◌<◌, ◌≤◌, ◌==◌, Bool, true, false, List, [], ◌∷◌, ◌++◌, length, drop, take, get_or, set, Option, Some, None, refl, sym, ap, subst, ◌∙◌, arith, append_assoc, length-append}
+use Rattle.std.proofs.Common.{◌≡◌, ◌⊎◌, inl, inr, ℕ, suc, ◌+◌, ◌-◌, ◌<◌, ◌≤◌, ◌==◌, Bool, true, false, List, [], ◌∷◌, ◌++◌, length, drop, take, get_or, set, Option, Some, None, refl, sym, ap, subst, ◌∙◌, arith, append_assoc, length-append}
 use Rattle.std.specs.Prelude.{if◌then◌else◌, map}
 use Rattle.std.proofs.Math.Seq.{drop-append_seam, take-append_seam}
 use Rattle.std.proofs.lemmas.Bool.{cases_lt}
@@ -14,7 +14,6 @@ use Rattle.cmark_grammar.specs.Tag.{Linked}
 use Rattle.cmark_grammar.proofs.EmphasisSound.{sound}
 use Rattle.cmark_leaf_text.specs.Reads.{place_of}
 use Rattle.cmark_leaf_text.specs.declared.leaf_text.LeafText.{LeafText}
-use Rattle.cmark_text.specs.declared.text.CowStr.{CowStr}
 use Rattle.cmark_inline_model.specs.SlotRows as row
 use Rattle.cmark_inline_model.specs.SlotRows.{marked, marks_by, quoted, seen}
 use Rattle.cmark_inline.specs.Hiding.{AreLeft, WritesShown}
@@ -23,7 +22,7 @@ use Rattle.cmark_inline.specs.Quoted.{characters_of}
 use Rattle.cmark_inline.specs.SlotViews.{first_of, shown_element, shown_parts, shown_slot, shown_slots}
 use Rattle.cmark_inline.specs.Sound.{AreNamed, AreSound, CanSettle}
 use Rattle.cmark_inline.specs.Stands.{AreSlots}
-use Rattle.cmark_inline.specs.Wikilinks.{Hides, IsNamed, Shows, cut_at, display_place, has_pothole, hidden, shown_name}
+use Rattle.cmark_inline.specs.Wikilinks.{Hides, IsNamed, Shows, display_place, has_pothole, hidden, shown_name}
 use Rattle.cmark_inline.specs.Written.{Forgets, dressed_behind, end_slot, wrapped}
 use Rattle.cmark_inline.specs.declared.bracket.Bracket.{Bracket}
 use Rattle.cmark_inline.specs.declared.bracket.Brackets.{Brackets}
@@ -37,7 +36,7 @@ use Rattle.cmark_inline.specs.declared.slot.SlotKind.TheVariants as kind
 use Rattle.cmark_inline.specs.declared.state.InlineState.{InlineState}
 use Rattle.cmark_inline.specs.declared.wikilink.Wikilink.{Wikilink}
 use Rattle.cmark_inline.proofs.ElementWrites.{element-dressed, image-shown, link-shown}
-use Rattle.cmark_inline.proofs.HiddenSlots.{cut-at-slot, hidden-seen, hides-behind}
+use Rattle.cmark_inline.proofs.HiddenSlots.{cut-at-slot, hides-behind}
 use Rattle.cmark_inline.proofs.Longer.{shown-longer}
 use Rattle.cmark_inline.proofs.Marks.{no-slot}
 use Rattle.cmark_inline.proofs.Placing.{no-quote, no-run, runs-within}

@@ -20,6 +20,7 @@ use Rattle.cmark_inline.specs.BracketViews.{StandFor, IsFresh, past_opening, sta
 use Rattle.cmark_inline.specs.Decided.{ReadsSame, IsCloser, Remembers, ComesTo, EndsWithin, TargetDecides, shown_parts}
 use Rattle.cmark_inline.specs.Doubled.{DropsBehind}
 use Rattle.cmark_inline.specs.Reached.{HasRead, ReadsPlaces}
+use Rattle.cmark_inline.specs.Sound.{AreEnded}
 use Rattle.cmark_inline.specs.Stands.{PushesText, SameSpans}
 use Rattle.cmark_inline.specs.Written.{WritesElement}
 use Rattle.cmark_inline.specs.declared.bracket.Bracket.{Bracket}
@@ -157,14 +158,6 @@ ReadsOn leaf reader read place pending at closer s bs outcome old new =
     → (before : Between) (p : Pass) (flushed : InlineState) → p.state ≡ s → PushesText pending at old.slots.items flushed.slots.items → flushed ≡ record old { slots = flushed.slots }
     → HasRead leaf reader read place before p bs flushed → HasRead leaf reader read place before (closed_by p closer outcome) (left_of outcome.result bs) new
 
--- which slots stand for a wikilink that shows what stands behind its pipe is not said yet; one with nothing there shows an empty text
-abbrev pub IsSaid : Result → Type 0
-IsSaid (Forms nearer (Wiki name None end)) = Unit {0}
-IsSaid (Forms nearer (Wiki name (Some place) end)) = suc (suc place) ≡ end
-IsSaid (Forms nearer (Footnote label end)) = Unit {0}
-IsSaid (Forms nearer (Linking target)) = Unit {0}
-IsSaid StaysText = Unit {0}
-
 -- a closing bracket comes to what the grammar says for the answer that the callback gave, and asks what it says; the slots that are
 -- written stand for it
 pub record ClosesAs {F : Type 0} (R : F → BrokenLink → Option (CowStr × CowStr) → F → Type 0) (wikilinks : Bool) (leaf : LeafText) (text : List ℕ) (reader : Reader) (read : Leaf) (place : ℕ → ℕ) (from close : ℕ) (closer : items.Bracket) (s : State)
@@ -175,7 +168,7 @@ pub record ClosesAs {F : Type 0} (R : F → BrokenLink → Option (CowStr × Cow
   pub pending : next.pending ≡ next.at
   pub shows : ShowsState wikilinks text place next.at outcome.after (left_of outcome.result bs) new
   pub notes : Notes outcome.result old new
-  pub reads : IsSaid outcome.result → ReadsOn leaf reader read place from close closer s bs outcome old new
+  pub reads : AreEnded leaf old.slots.items → ReadsOn leaf reader read place from close closer s bs outcome old new
 
 abbrev pub Closes : {F : Type 0} → (F → BrokenLink → Option (CowStr × CowStr) → F → Type 0) → Options → Lookup → RefDefs → FootnoteDefs → LeafText → (text : List ℕ) → (pending at : ℕ) → (old new : InlineState) → (next : Cursor) → (before after : F) → Type 0
 Closes R options lookup references footnotes leaf text pending at old new next before after =

@@ -19,6 +19,7 @@ use Rattle.cmark_inline.specs.Closers.{ShowsState}
 use Rattle.cmark_inline.specs.Decided.{ReadsSame}
 use Rattle.cmark_inline.specs.Reached.{HasRead, ReadsPlaces}
 use Rattle.cmark_inline.specs.Resolved.{Answered}
+use Rattle.cmark_inline.specs.Sound.{AreEnded}
 use Rattle.cmark_inline.specs.Tokens.{begins_at, reading, whole}
 use Rattle.cmark_inline.specs.declared.bracket.Bracket.{Bracket}
 use Rattle.cmark_inline.specs.declared.callback.BrokenLink.{BrokenLink}
@@ -76,17 +77,17 @@ module _ {F : Type 0} (R : F → BrokenLink → Option (CowStr × CowStr) → F 
     pub pending : IsPending reader.options reader.lookup (is_cell_of leaf) (text_of leaf) from cursor
 
 -- where a leaf is read up to a cursor as the grammar reads it, it is so up to the next one: for each reading with the same options,
--- entities, definitions and footnotes. Wikilinks are left out: which slots one has that shows what stands behind its pipe is not said yet
+-- entities, definitions and footnotes, where HTML and texts of the source end in the source where their slots end
 abbrev pub ComesOn : {F : Type 0} → (F → BrokenLink → Option (CowStr × CowStr) → F → Type 0) → Options → Lookup → RefDefs → FootnoteDefs → LeafText → (cursor next : Cursor) → (old new : InlineState) → (now later : F) → Type 0
 ComesOn {F} R options lookup references footnotes leaf cursor next old new now later =
     (reader : Reader) (read : Leaf) (place : ℕ → ℕ) (before : Between) (initial : F) → ReadsSame options lookup references footnotes leaf reader read place → ReadsPlaces leaf reader read place
-    → options.wikilinks ≡ false → HasCome R leaf reader read place before initial cursor old now → HasCome R leaf reader read place before initial next new later
+    → AreEnded leaf old.slots.items → HasCome R leaf reader read place before initial cursor old now → HasCome R leaf reader read place before initial next new later
 
 -- so far it is read from its begin on, with so much left of the expansion limit there and nothing asked
 abbrev pub ComesTo : {F : Type 0} → (F → BrokenLink → Option (CowStr × CowStr) → F → Type 0) → Options → Lookup → RefDefs → FootnoteDefs → LeafText → (expansion : ℕ) → (initial : F) → Cursor → InlineState → (now : F) → Type 0
 ComesTo R options lookup references footnotes leaf expansion initial cursor state now =
     (reader : Reader) (read : Leaf) (place : ℕ → ℕ) → ReadsSame options lookup references footnotes leaf reader read place → ReadsPlaces leaf reader read place
-    → options.wikilinks ≡ false → HasCome R leaf reader read place (record { expansion = expansion; asked = [] }) initial cursor state now
+    → HasCome R leaf reader read place (record { expansion = expansion; asked = [] }) initial cursor state now
 
 -- ## The begin of a leaf
 

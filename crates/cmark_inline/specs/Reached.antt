@@ -1,8 +1,8 @@
 -- How far a leaf is read, in the states of the code and of the grammar.
-use Rattle.std.specs.Prelude.{◌≡◌, ℕ, suc, ◌-◌, List, map}
+use Rattle.std.specs.Prelude.{◌≡◌, ℕ, suc, ◌-◌, false, ◌==◌, List, get_or, map}
 use Rattle.cmark_grammar.specs.Emphasis.{Run}
 use Rattle.cmark_grammar.specs.LeafReading.{Between}
-use Rattle.cmark_grammar.specs.LeafText.{Leaf, begin_of}
+use Rattle.cmark_grammar.specs.LeafText.{InTurn, Leaf, begin_of}
 use Rattle.cmark_grammar.specs.Quotes.{Quote}
 use Rattle.cmark_grammar.specs.Readers.{Reader}
 use Rattle.cmark_leaf_text.specs.Reads.{is_cell_of, place_of, text_of}
@@ -10,6 +10,7 @@ use Rattle.cmark_leaf_text.specs.declared.leaf_text.LeafText.{LeafText}
 use Rattle.cmark_emphasis.specs.Shown.{shown_quote, shown_run}
 use Rattle.std.specs.Prelude.{◌<◌, length}
 use Rattle.cmark_inline_model.specs.BracketPass.{Pass}
+use Rattle.cmark_inline_model.specs.LeafModel.{HaveLineEnds}
 use Rattle.cmark_inline_model.specs.PlacedTokens.{AreLeafPlaces}
 use Rattle.cmark_inline_model.specs.RowParts.{BracketPlace}
 use Rattle.cmark_inline_model.specs.RowPasses.{IsReached}
@@ -20,13 +21,17 @@ use Rattle.cmark_inline.specs.declared.delimiter.PlacedRun.{PlacedRun}
 use Rattle.cmark_inline.specs.declared.quote.PlacedQuote.{PlacedQuote}
 use Rattle.cmark_inline.specs.declared.state.InlineState.{InlineState}
 
--- the grammar reads the leaf whose text this is, and its bytes have these places
+-- the grammar reads the leaf whose text this is, and its bytes have these places: its lines stand in order in the source and end with line
+-- endings, and no pipe stands between them
 pub record ReadsPlaces (leaf : LeafText) (reader : Reader) (read : Leaf) (place : ℕ → ℕ) : Type 0 where
   pub places : AreLeafPlaces reader read (text_of leaf) place
   pub cell : read.is_cell ≡ is_cell_of leaf
   pub bytes : (k : ℕ) → k < length (text_of leaf) → place_of leaf k ≡ place k
   pub first : begin_of read.stretches ≡ place 0
   pub last : 0 < length (text_of leaf) → place (length (text_of leaf)) ≡ suc (place (length (text_of leaf) - 1))
+  pub turn : InTurn 0 read.stretches (length reader.source)
+  pub lines : HaveLineEnds reader.source read.stretches
+  pub pipes : (k x : ℕ) → suc k < length (text_of leaf) → place k < x → x < place (suc k) → (get_or reader.source x 0 == 124) ≡ false
 
 -- an opening bracket, with what stands before it in the row
 abbrev pub bracket_place : (place : ℕ → ℕ) → Bracket → BracketPlace

@@ -2,7 +2,7 @@
 -- and the brackets that stand in them.
 use Rattle.std.specs.Prelude.{◌≡◌, ◌⊎◌, ℕ, ◌+◌, ◌<◌, ◌≤◌, List, length, get_or, All, Option, Some, None}
 use Rattle.std.specs.Str.{IsCharBoundary}
-use Rattle.cmark_leaf_text.specs.Reads.{place_of, source_of}
+use Rattle.cmark_leaf_text.specs.Reads.{place_of, source_of, text_of}
 use Rattle.cmark_leaf_text.specs.declared.leaf_text.LeafText.{LeafText}
 use Rattle.cmark_inline.specs.Marked.{AreWhole, EndWithin, HaveBytes, HaveTexts, SameBefore, last_in}
 use Rattle.cmark_inline.specs.SlotViews.{AreOnce, IsThere, link_named, text_named}
@@ -29,10 +29,12 @@ source_end (kind.SourceHtml end) = Some end
 source_end (kind.SourceText end) = Some end
 source_end _ = None
 
--- it is no place inside a character, and each byte of the leaf's text before the end of the slot stands before it
+-- it is no place inside a character; each byte of the leaf's text before the end of the slot stands before it, and each other one at it or
+-- behind it
 abbrev pub EndsIn : LeafText → (end : ℕ) → Option ℕ → Type 0
 EndsIn leaf end None = Unit {0}
-EndsIn leaf end (Some past) = ((k : ℕ) → k < end → place_of leaf k < past) × IsCharBoundary (source_of leaf) past
+EndsIn leaf end (Some past) =
+    ((k : ℕ) → k < end → place_of leaf k < past) × IsCharBoundary (source_of leaf) past × ((k : ℕ) → end ≤ k → k < length (text_of leaf) → past ≤ place_of leaf k)
 
 abbrev pub AreEnded : LeafText → List Slot → Type 0
 AreEnded leaf slots = All (λ (slot : Slot). EndsIn leaf slot.end (source_end slot.kind)) slots

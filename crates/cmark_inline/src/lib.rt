@@ -5,6 +5,7 @@
 mod bracket;
 mod callback;
 mod delimiter;
+pub mod display_laws;
 mod event;
 mod footnote;
 mod formula;

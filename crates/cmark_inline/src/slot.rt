@@ -2,12 +2,14 @@
 
 ghost use Rattle.std.specs.Prelude.{◌≡◌, ◌<◌, ◌≤◌, ◌+◌, ◌++◌, ◌∷◌, ◌&&◌, nat_lt, true, false, [], ℕ, List, get_or, length, set, OnOk};
 ghost use Rattle.std.specs.Str.{IsCharBoundary};
+ghost use Rattle.cmark_grammar.specs.InlineHtml.{takes_lines};
+ghost use Rattle.cmark_grammar.specs.Tokens.{slice};
 ghost use Rattle.cmark_inline.specs.Footnoted.{put_at};
 ghost use Rattle.cmark_inline.specs.Marked.{AreWhole, Merges, begun_as, ended, last_in, whole_to};
 ghost use Rattle.cmark_inline.specs.Quoted.{with_character};
 ghost use Rattle.cmark_leaf_text.specs.Reads.{IsPart};
 ghost use Rattle.cmark_inline.specs.Stands.{AreSlots, HoldNoLink, IsContent, IsSlot, NoNewLink, PushesText, begins_link, is_link};
-ghost use Rattle.cmark_inline.specs.Wikilinks.{Hides, IsFirstBehind, cut_at, cut_kind, cut_slot, hidden};
+ghost use Rattle.cmark_inline.specs.Wikilinks.{Hides, IsFirstBehind, cut_at, cut_kind, cut_slot, ends_by, hidden};
 ghost use Rattle.cmark_inline.specs.declared.slot.Slot.{Slot as Slots};
 
 use cmark_finds::has_line_ending;
@@ -252,10 +254,24 @@ pub fn first_behind(slots: &[Slot], from: usize, place: usize) -> usize
     ensures { IsFirstBehind slots.now from place result }
 {
     let mut at = from;
-    while at < slots.len() && slots[at].end <= place {
+    while at < slots.len() && ends_by(slots[at], place) {
         at += 1;
     }
     at
+}
+
+// Whether a slot has no bytes behind a place. The end of an element and what is nothing have none of their own, and a text of no
+// bytes ends where it begins.
+fn ends_by(slot: Slot, place: usize) -> bool
+    ensures value { result ≡ ends_by place slot }
+    ensures behind { result ≡ false → place < slot.end }
+{
+    let has_none = match slot.kind {
+        SlotKind::End | SlotKind::Nothing => true,
+        SlotKind::Empty => slot.start <= place,
+        _ => false,
+    };
+    has_none || slot.end <= place
 }
 
 /// Makes the slots from one up to before another nothing any more.
@@ -274,7 +290,7 @@ pub fn hide(slots: &mut Vec<Slot>, from: usize, to: usize)
 }
 
 /// Makes a slot begin at a place, if that is inside it. What it holds stays whole, but for a text and for HTML on one line, which
-/// are the bytes of their range.
+/// are what stands there.
 pub fn cut(slots: &mut Vec<Slot>, at: usize, text: &str, place: usize)
     requires slots { (end : ℕ) × AreSlots text.now end slots.old.items }
     requires place { IsCharBoundary text.now place }
@@ -291,7 +307,8 @@ pub fn cut(slots: &mut Vec<Slot>, at: usize, text: &str, place: usize)
 
 // A slot that begins at a place, if that is inside it.
 fn cut_slot(slot: Slot, text: &str, place: usize) -> Slot
-    requires { IsPart text.now slot.start slot.end }
+    requires part { IsPart text.now slot.start slot.end }
+    requires content { IsContent text.now slot.kind }
     ensures value { result ≡ cut_slot text.now place slot }
     ensures slot { (end : ℕ) → IsSlot text.now end slot → IsCharBoundary text.now place → IsSlot text.now end result }
     ensures link { begins_link result.kind ≡ begins_link slot.kind }
@@ -315,17 +332,29 @@ fn is_inside(slot: Slot, place: usize) -> bool
 
 // What a slot stands for that begins behind its first bytes.
 fn cut_kind(slot: Slot, text: &str) -> SlotKind
-    requires { IsPart text.now slot.start slot.end }
+    requires part { IsPart text.now slot.start slot.end }
+    requires content { IsContent text.now slot.kind }
     ensures value { result ≡ cut_kind text.now slot.start slot.end slot.kind }
     ensures content { IsContent text.now slot.kind → IsContent text.now result }
     ensures link { begins_link result ≡ begins_link slot.kind }
 {
     match slot.kind {
-        SlotKind::InlineHtml if has_line_ending(&text[slot.start..slot.end]) => {
+        SlotKind::OwnedText(_) | SlotKind::Character(_) => SlotKind::Whole(0),
+        SlotKind::InlineHtml if takes_lines(text, slot.start, slot.end) => {
             SlotKind::CutHtml(slot.start)
         }
+        SlotKind::CutHtml(from) if !takes_lines(text, from, slot.end) => SlotKind::InlineHtml,
         kind => kind,
     }
+}
+
+// Whether a line ends between two places of the text.
+fn takes_lines(text: &str, from: usize, end: usize) -> bool
+    requires from { IsCharBoundary text.now from }
+    requires end { IsCharBoundary text.now end }
+    ensures { result ≡ takes_lines (slice text.now from end) }
+{
+    from < end && has_line_ending(&text[from..end])
 }
 
 // The index of the last slot that belongs to that of this index.

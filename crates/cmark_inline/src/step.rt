@@ -70,7 +70,7 @@ impl<'a> InlineState<'a> {
         ensures whole { OnOk result (AreWhole self.new.slots.items × EndWithin self.new.slots.items) }
         ensures first { OnOk result (self.new.walk.next ≡ 0) }
         ensures footnotes { SameFootnotes footnotes.old footnotes.new }
-        ensures reads { IsSetOf (shown_options reader.now.options) reader.now.special.now → (shown_options reader.now.options).wikilinks ≡ false → OnOk result (Resolves F.answers (shown_options reader.now.options) (E.replacement reader.now.entities.now) reader.now.references.now footnotes.old leaf.now self.old.expansion self.new callback.old callback.new) }
+        ensures reads { IsSetOf (shown_options reader.now.options) reader.now.special.now → OnOk result (Resolves F.answers (shown_options reader.now.options) (E.replacement reader.now.entities.now) reader.now.references.now footnotes.old leaf.now self.old.expansion self.new callback.old callback.new) }
     {
         self.clear();
         let text = leaf.as_str();

@@ -37,7 +37,7 @@ pub nothings-seen : (n : ℕ) (rest : List Slot) → seen (nothings n rest) ≡ 
 nothings-seen zero rest = refl
 nothings-seen (suc n) rest = nothings-seen n rest
 
-abbrev EndBy : (place : ℕ) → List Slot → Type 0
+abbrev pub EndBy : (place : ℕ) → List Slot → Type 0
 EndBy place [] = Unit {0}
 EndBy place (slot ∷ slots) = (ends_by place slot ≡ true) × EndBy place slots
 
@@ -45,7 +45,7 @@ end-by-append : (place : ℕ) (a b : List Slot) → EndBy place a → EndBy plac
 end-by-append place [] b h k = k
 end-by-append place (s ∷ a) b h k = (h.0, end-by-append place a b h.1 k)
 
-shown-hidden : (place : ℕ) (front more : List Slot) → EndBy place front
+pub shown-hidden : (place : ℕ) (front more : List Slot) → EndBy place front
     → (shown_from place (front ++ more) ≡ nothings (length front) (shown_from place more)) × (hidden_by place (front ++ more) ≡ length front + hidden_by place more)
 shown-hidden place [] more h = (refl, omega arith)
 shown-hidden place (s ∷ front) more h =
@@ -54,7 +54,7 @@ shown-hidden place (s ∷ front) more h =
       ap (λ b. if b then suc (hidden_by place (front ++ more)) else 0) h.0 ∙ ap suc i.1 ∙ (let e : suc (length front + hidden_by place more) ≡ suc (length front) + hidden_by place more = omega arith in e),
     )
 
-shown-kept : (place : ℕ) (slot : Slot) (slots : List Slot) → ends_by place slot ≡ false
+pub shown-kept : (place : ℕ) (slot : Slot) (slots : List Slot) → ends_by place slot ≡ false
     → (shown_from place (slot ∷ slots) ≡ begun_from place slot ∷ slots) × (hidden_by place (slot ∷ slots) ≡ 0)
 shown-kept place slot slots e = (
   ap (λ b. if b then NothingSlot ∷ shown_from place slots else begun_from place slot ∷ slots) e,

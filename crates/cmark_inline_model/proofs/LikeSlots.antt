@@ -13,7 +13,7 @@ use Rattle.cmark_inline_model.specs.SlotRows.{Slot, ItemSlot, BeginSlot, EndSlot
 
 module _ (source : List ℕ) where
   same-slot : (s : Slot) → IsLike source s s
-  same-slot (ItemSlot x) = record { start = refl; end = refl; event = refl }
+  same-slot (ItemSlot x) = record { start = refl; end = refl; event = refl; lines = λ l. refl }
   same-slot (BeginSlot tag start end) = refl
   same-slot EndSlot = refl
   same-slot NothingSlot = refl

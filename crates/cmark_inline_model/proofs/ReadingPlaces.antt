@@ -29,14 +29,14 @@ use Rattle.cmark_inline_model.proofs.TokenPlaces.{IsPlace, next-place, rest-plac
 -- ## Pipes
 
 -- the pipe in front of a display
-record IsPipe (at : ℕ) (bs : List ℕ) (found : ℕ) : Type 0 where
+pub record IsPipe (at : ℕ) (bs : List ℕ) (found : ℕ) : Type 0 where
   pub behind : at < found
   pub within : found ≤ at + length bs
   pub byte : get_or bs (found - suc at) 0 ≡ 124
 
-pipe_is : (at : ℕ) (bs : List ℕ) (found : ℕ) → behind_pipe at bs ≡ Some found → IsPipe at bs found
-pipe_is at [] found e = cc
-pipe_is at (b ∷ bs) found e = go (b == 124) refl e (λ f. pipe_is (suc at) bs found f)
+pub pipe-is : (at : ℕ) (bs : List ℕ) (found : ℕ) → behind_pipe at bs ≡ Some found → IsPipe at bs found
+pipe-is at [] found e = cc
+pipe-is at (b ∷ bs) found e = go (b == 124) refl e (λ f. pipe-is (suc at) bs found f)
   where
     go : (x : Bool) → (b == 124) ≡ x → (if x then Some (suc at) else behind_pipe (suc at) bs) ≡ Some found → (behind_pipe (suc at) bs ≡ Some found → IsPipe (suc at) bs found) → IsPipe at (b ∷ bs) found
     go true q f ih =
@@ -86,7 +86,7 @@ module _ (reader : Reader) where
       go : (o : Option ℕ) → behind_pipe at text ≡ o → DisplayBy (Wiki name o end) closer
       go None e = tt
       go (Some found) e =
-          let p = pipe_is at text found e in
+          let p = pipe-is at text found e in
           let x = p.behind in let y = p.within in
           let l = length-take (closer.start - at) (drop at reader.source) in
           let i : ℕ = found - suc at in

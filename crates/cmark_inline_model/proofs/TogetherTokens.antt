@@ -2,7 +2,9 @@
 use Rattle.std.specs.Prelude.{suc, zero, ◌-◌, ◌==◌, ◌&&◌, ◌||◌, not, nat_le, nat_lt, if◌then◌else◌, get_or, drop, take, codes}
 use Rattle.std.specs.List.{prefix_len}
 use Rattle.std.proofs.Common.{◌≡◌, ◌<◌, ◌≤◌, ◌+◌, ℕ, Bool, true, false, List, [], ◌∷◌, length, Option, Some, None, refl, sym, ap, ◌∙◌, subst, arith, eqb-true, true≢false, length-drop}
-use Rattle.std.proofs.lemmas.Bool.{eq-eqb, or_parts}
+use Rattle.std.proofs.lemmas.Bool.{eq-eqb, ltb-false, ltb-true, or_parts}
+use Rattle.std.proofs.lemmas.List.{get_or-drop, get_or-take, get_or_default, length-take}
+use Rattle.std.proofs.lemmas.List.Folds.{list_any_none}
 use Rattle.std.proofs.Math.Seq.{drop-cons}
 use Rattle.cmark_grammar.specs.Autolinks.{closed_by, has_scheme, is_uri_byte, autolink_in}
 use Rattle.cmark_grammar.specs.CodeSpans.{is_backtick, backticks, code_in}
@@ -36,8 +38,15 @@ module _ (reader : Reader) (leaf : Leaf) (text : List ℕ) (place : ℕ → ℕ)
     pub within : end ≤ length text
     pub sizes : suc (place (end - 1)) ≡ place start + (end - start)
     pub last : place end ≡ suc (place (end - 1))
+    pub content : (i : ℕ) → start + i < end → is_content (get_or text (start + i) 0) ≡ true
 
   -- so many bytes that end no line
+  front-at : (n : ℕ) (l : List ℕ) (j : ℕ) → Front (λ b. is_content b ≡ true) n l → j < n → j < length l → is_content (get_or l j 0) ≡ true
+  front-at n [] j f lt m = absurd (omega (arith, m))
+  front-at zero (b ∷ l) j f lt m = absurd (omega (arith, lt))
+  front-at (suc n) (b ∷ l) zero f lt m = f.0
+  front-at (suc n) (b ∷ l) (suc j) f lt m = front-at n l j f.1 (omega (arith, lt)) (omega (arith, m))
+
   leads-together : (k o n : ℕ) (l : List ℕ) → drop k text ≡ l → Leads (λ b. is_content b ≡ true) n l → o < n → (s e : ℕ) → s ≡ k + o → e ≡ k + n → Together s e
   leads-together k o n l d f lt s e a b =
       let x = fewer-steps reader leaf text place h o n k l (omega arith) d f in
@@ -49,7 +58,14 @@ module _ (reader : Reader) (leaf : Leaf) (text : List ℕ) (place : ℕ → ℕ)
       let p = ap place a in
       let u = ap place b in
       let q = ap place (let z : e - 1 ≡ k + (n - 1) = omega arith in z) in
-      record { some = omega arith; within = omega arith; sizes = omega arith; last = omega arith }
+      record {
+        some = omega arith;
+        within = omega arith;
+        sizes = omega arith;
+        last = omega arith;
+        content = λ i less. ap is_content (ap (λ j. get_or text j 0) (let z : s + i ≡ k + (o + i) = omega (arith, a) in z) ∙ sym (get_or-drop k text (o + i) 0) ∙ ap (λ x. get_or x (o + i) 0) d)
+            ∙ front-at n l (o + i) f.front (omega (arith, less, a, b)) (omega (arith, less, a, b, w));
+      }
 
   between : (s e i : ℕ) → Together s e → s + i < e → place (s + i) ≡ place s + i
   between s e i t lt = go (rises i s) (rises ((e - 1) - (s + i)) (s + i))
@@ -348,7 +364,14 @@ module _ (reader : Reader) (leaf : Leaf) (text : List ℕ) (place : ℕ → ℕ)
     within = b.within;
     sizes = (let x = a.some in let y = b.some in let z = a.sizes in let w = b.sizes in let v = a.last in omega arith);
     last = b.last;
+    content = λ i lt. go i lt (nat_lt (s + i) m) refl;
   }
+    where
+      go : (i : ℕ) → s + i < e → (z : Bool) → nat_lt (s + i) m ≡ z → is_content (get_or text (s + i) 0) ≡ true
+      go i lt true f = a.content i (ltb-true (s + i) m f)
+      go i lt false f =
+          let g = ltb-false (s + i) m f in
+          ap is_content (ap (λ j. get_or text j 0) (let z : s + i ≡ m + (s + i - m) = omega (arith, g) in z)) ∙ b.content (s + i - m) (omega (arith, g, lt))
 
   plain_written : (kind : ItemKind) → is_plain kind ≡ true → is_as_written kind ≡ true
   plain_written Plain e = refl
@@ -397,3 +420,21 @@ module _ (reader : Reader) (leaf : Leaf) (text : List ℕ) (place : ℕ → ℕ)
 
   pub byte-together : (k : ℕ) → may_open_markup (drop k text) ≡ false → (x : Item) (past : ℕ) → begins_at one alone k ≡ Stands x past → is_as_written x.kind ≡ true → slice reader.source (place x.start) (suc (place (x.end - 1))) ≡ slice text x.start x.end
   byte-together k none x past e w = together-slice x.start x.end (subst Joined e (begins-joined k none) w)
+
+  -- no line ends among these bytes
+  no-content : (b : ℕ) → is_content b ≡ true → ((b == 10) || (b == 13)) ≡ false
+  no-content b e = go (b == 10) (b == 13) e
+    where
+      go : (x y : Bool) → (not x && not y) ≡ true → (x || y) ≡ false
+      go true y f = not_written f
+      go false true f = not_written f
+      go false false f = refl
+
+  pub byte-lines : (k : ℕ) → may_open_markup (drop k text) ≡ false → (x : Item) (past : ℕ) → begins_at one alone k ≡ Stands x past → is_as_written x.kind ≡ true → takes_lines (slice text x.start x.end) ≡ false
+  byte-lines k none x past e w =
+      let t = subst Joined e (begins-joined k none) w in
+      list_any_none (λ b. (b == 10) || (b == 13)) (slice text x.start x.end) (λ j d lt.
+      let m = length-take (x.end - x.start) (drop x.start text) in
+      let less : j < x.end - x.start = omega (arith, lt, m) in
+      ap (λ b. (b == 10) || (b == 13)) (get_or_default (slice text x.start x.end) j d 0 lt ∙ get_or-take (x.end - x.start) (drop x.start text) j 0 less ∙ get_or-drop x.start text j 0)
+      ∙ no-content (get_or text (x.start + j) 0) (t.content j (omega (arith, less))))

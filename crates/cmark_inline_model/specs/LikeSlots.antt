@@ -1,16 +1,25 @@
 -- Slots that give the same events, whatever their items are called: a text is the same text, whether it is said to be bytes that stand
 -- for themselves, or a text of its own.
-use Rattle.std.specs.Prelude.{◌≡◌, ℕ, List, [], ◌∷◌}
+use Rattle.std.specs.Prelude.{◌≡◌, ℕ, Bool, true, false, List, [], ◌∷◌}
+use Rattle.cmark_grammar.specs.InlineHtml.{takes_lines}
 use Rattle.cmark_grammar.specs.InlineReading.{event_of}
-use Rattle.cmark_grammar.specs.Items.{Item}
+use Rattle.cmark_grammar.specs.Items.{Html, Item, ItemKind}
+use Rattle.cmark_grammar.specs.Tokens.{slice}
 use Rattle.cmark_inline_model.specs.SlotRows.{Slot, ItemSlot, BeginSlot, EndSlot, NothingSlot}
 
+-- HTML that is a part of the source
+abbrev pub is_html : ItemKind → Bool
+is_html Html = true
+is_html _ = false
+
 module _ (source : List ℕ) where
-  -- an item gives the event of another, and comes from the same bytes
+  -- an item gives the event of another, and comes from the same bytes; where a line ends among these, both are HTML that is a part of the
+  -- source, or neither is
   pub record GivesTheSame (x y : Item) : Type 0 where
     pub start : x.start ≡ y.start
     pub end : x.end ≡ y.end
     pub event : event_of source x x.kind ≡ event_of source y y.kind
+    pub lines : takes_lines (slice source x.start x.end) ≡ true → is_html x.kind ≡ is_html y.kind
 
   abbrev pub IsLike : (one other : Slot) → Type 0
   IsLike (ItemSlot x) (ItemSlot y) = GivesTheSame x y

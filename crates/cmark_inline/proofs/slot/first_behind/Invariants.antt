@@ -1,4 +1,5 @@
-use Rattle.std.proofs.Common.{◌≤◌, ◌<◌, ◌-◌, ℕ, length, get_or}
+use Rattle.std.proofs.Common.{◌≡◌, ◌≤◌, ◌<◌, ◌-◌, ℕ, true, length, get_or}
+use Rattle.cmark_inline.specs.Wikilinks.{ends_by}
 use Rattle.cmark_inline.specs.declared.slot.Slot.{Slot}
 use Rattle.cmark_inline.proofs.slot.first_behind.Given as goal
 
@@ -6,7 +7,7 @@ abbrev pub invariant-loop-at : goal.invariant-loop-at
 invariant-loop-at l = record {
   order : l.from ≤ l.at;
   within : l.at ≤ length l.slots;
-  before : (k : ℕ) (d : Slot) → l.from ≤ k → k < l.at → (get_or l.slots k d).end ≤ l.place;
+  before : (k : ℕ) (d : Slot) → l.from ≤ k → k < l.at → ends_by l.place (get_or l.slots k d) ≡ true;
 }
 
 abbrev pub decreases-loop-at : goal.decreases-loop-at

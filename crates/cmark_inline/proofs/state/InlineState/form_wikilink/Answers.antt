@@ -1,20 +1,17 @@
-use Rattle.std.specs.Prelude.{if◌then◌else◌}
 use Rattle.std.proofs.Common.{rules, ◌≡◌, ◌++◌, ◌∷◌, ◌≤◌, ◌<◌, ◌+◌, List, [], ℕ, Some, drop, take, length, get_or, set, refl, sym, ap, subst, ◌∙◌, arith}
-use Rattle.std.proofs.lemmas.List.{length_push, length-set}
+use Rattle.std.proofs.lemmas.List.{length_push}
 use Rattle.cmark_grammar.specs.Emphasis.{IsEmphasis}
 use Rattle.cmark_text.specs.Shown.{shown_options}
 use Rattle.cmark_inline.specs.Doubled.{DropsBehind}
 use Rattle.cmark_inline.specs.Marked.{begun_as, siblings_from}
-use Rattle.cmark_inline.specs.SlotViews.{link_named, link_of, shown_slots, text_named}
-use Rattle.cmark_inline.specs.Sound.{AreEnded, AreSound, CanSettle, EndsIn, IsSettled, IsSound}
+use Rattle.cmark_inline.specs.SlotViews.{shown_slots}
+use Rattle.cmark_inline.specs.Sound.{CanSettle, IsSettled}
 use Rattle.cmark_inline.specs.Stands.{IsEnd, AreBrackets, AreFree, bytes_of}
 use Rattle.cmark_inline.specs.Written.{dressed_behind, end_slot}
 use Rattle.cmark_inline.specs.declared.bracket.Bracket.{Bracket}
 use Rattle.cmark_inline.specs.declared.bracket.Brackets.{Brackets}
 use Rattle.cmark_inline.specs.declared.slot.Slot.{Slot}
 use Rattle.cmark_inline.specs.declared.state.InlineState.{InlineState}
-use Rattle.cmark_inline.specs.declared.slot.Element.{Element}
-use Rattle.cmark_inline.specs.declared.slot.Element.TheVariants as element
 use Rattle.cmark_inline.specs.declared.slot.SlotKind.TheVariants as kind
 use Rattle.cmark_inline.proofs.Forming.{settle-set, settled-ended, sound-same, take-fewer, wikilink-formed}
 use Rattle.cmark_inline.proofs.Marks.{no-slot}

@@ -7,7 +7,7 @@ use Rattle.cmark_inline.proofs.Opening.{is-pair, last-nearest, sound-pair-taken,
 use Rattle.cmark_inline.proofs.WikiSlots.{writes-taken}
 use Rattle.cmark_inline.proofs.WikiSteps.{two-brackets}
 use Rattle.std.specs.Prelude.{Some, IfSome, Option, Bool}
-use Rattle.std.proofs.Common.{◌+◌, ℕ, List, ap, subst}
+use Rattle.std.proofs.Common.{◌+◌, ℕ, List, subst}
 use Rattle.cmark_leaf_text.specs.Reads.{IsPart}
 use Rattle.cmark_inline.specs.Sound.{EndsIn}
 use Rattle.cmark_inline.proofs.SourceOrder.{ends-at-byte}
