@@ -1,2 +1,3 @@
-pub mod Completing
+pub mod LeafReads
+pub mod Readings
 pub mod Walks

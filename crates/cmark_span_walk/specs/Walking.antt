@@ -1,38 +1,53 @@
 -- Where a walk with spans stands, and what it still has to give.
-use Rattle.std.specs.Prelude.{◌≡◌, ℕ, ◌+◌, ◌*◌, ◌<◌, ◌≤◌, Bool, true, false, List, [], ◌∷◌, ◌++◌, length, Option, Some, None}
+use Rattle.std.specs.Prelude.{◌≡◌, ℕ, ◌+◌, ◌*◌, ◌<◌, ◌≤◌, Bool, true, false, List, [], ◌∷◌, ◌++◌, length, Option, Some, None, is_some, option_map}
+use Rattle.cmark_grammar.specs.Answers.{Lookup}
 use Rattle.cmark_grammar.specs.Event.{Ranged}
-use Rattle.cmark_grammar.specs.LeafSpans.{AreGiven}
+use Rattle.cmark_grammar.specs.LeafSpans.{IsRange}
 use Rattle.cmark_grammar.specs.LeafText.{Leaf}
-use Rattle.cmark_grammar.specs.SpanDocuments.{Segment}
+use Rattle.cmark_grammar.specs.Options.{Options}
+use Rattle.cmark_grammar.specs.Questions.{Exchange}
+use Rattle.cmark_grammar.specs.Readers.{Reader}
+use Rattle.cmark_grammar.specs.SpanDocuments as documents
+use Rattle.cmark_grammar.specs.SpanDocuments.{Segment, Left}
+use Rattle.cmark_grammar.specs.Tokens.{slice}
+use Rattle.cmark_inline_model.specs.PlacedLeaves.{IsPlaced}
+use Rattle.cmark_items.specs.Definitions.{definition}
+use Rattle.cmark_items.specs.Footnotes.{footnote}
 use Rattle.cmark_items.specs.declared.definitions.RefDefs.{RefDefs}
 use Rattle.cmark_items.specs.declared.footnotes.FootnoteDefs.{FootnoteDefs}
-use Rattle.cmark_inline.specs.declared.event.Opened.{Opened}
+use Rattle.cmark_inline.specs.Decided.{said}
+use Rattle.cmark_inline.specs.Linked.{said_by}
 use Rattle.cmark_inline.specs.Opens as opens
-use Rattle.cmark_inline.specs.Opens.{Follows}
+use Rattle.cmark_inline.specs.PlainStretches.{IsSetOf}
+use Rattle.cmark_inline.specs.Resolved.{Answered, ResolvesAs}
+use Rattle.cmark_inline.specs.SlotViews.{AreLeft, events_to_come}
 use Rattle.cmark_inline.specs.Stands.{AreOpened, AreSlots}
+use Rattle.cmark_inline.specs.declared.callback.BrokenLink.{BrokenLink}
+use Rattle.cmark_inline.specs.declared.event.Opened.{Opened}
 use Rattle.cmark_leaf_text.specs.Reads as reads
-use Rattle.cmark_grammar.specs.Tokens.{slice}
+use Rattle.cmark_leaf_text.specs.Reads.{IsPart, IsRead, text_of}
 use Rattle.cmark_leaf_text.specs.declared.stretch.LeafLine.{LeafLine}
-use Rattle.cmark_leaf_text.specs.Reads.{IsPart, IsRead, is_cell_of, text_of}
-use Rattle.cmark_leaf_text.specs.Stretches.{leaf_bytes}
+use Rattle.cmark_text.specs.Short.{IsShortZeroCopy, shown_short}
+use Rattle.cmark_text.specs.Shown.{shown_options}
+use Rattle.cmark_text.specs.ZeroCopy.{IsZeroCopy}
 use Rattle.cmark_text.specs.declared.short.Next.{Next}
 use Rattle.cmark_text.specs.declared.short.Next.TheVariants as next
 use Rattle.cmark_text.specs.declared.short.Short.{Short}
-use Rattle.cmark_text.specs.Short.{IsShortZeroCopy, shown_short}
-use Rattle.cmark_text.specs.ZeroCopy.{IsZeroCopy}
-use Rattle.cmark_walk.specs.declared.reading.Ranged.{Ranged as Given}
+use Rattle.cmark_text.specs.declared.text.CowStr.{CowStr}
 use Rattle.cmark_walk.specs.Walking as walking
-use Rattle.cmark_walk.specs.Walking.{AreLinesOf, lines_of, shown_ranged}
+use Rattle.cmark_walk.specs.Walking.{AreLinesOf, shown_ranged}
+use Rattle.cmark_walk.specs.declared.reading.Ranged.{Ranged as Given}
 use Rattle.cmark_span_walk.specs.declared.span_walk.SpanWalk.{SpanWalk}
 
--- events that end all open elements, the last opened first, and elements of their own between
-abbrev pub Completes : (source : List ℕ) → (open_ones : List Opened) → List Ranged → Type 0
-Completes source open_ones [] = open_ones ≡ []
-Completes source open_ones (r ∷ rs) = (next : List Opened) × Follows source open_ones r next × Completes source next rs
+-- ## Events and leaves
 
 -- the zero-copy law of an event with its range
 abbrev pub GivesZeroCopy : (source : List ℕ) → Given → Type 0
 GivesZeroCopy source given = IsZeroCopy source given.event given.range.start given.range.end
+
+-- the bytes of an event lie in the text and cut no character
+abbrev pub HasRange : (source : List ℕ) → Ranged → Type 0
+HasRange source r = IsRange source r.start r.end
 
 -- there is one line alone, and this text, which is not empty and cuts no character, is what stands in it
 pub record IsOnlyLine (source : List ℕ) (lines : List LeafLine) (text : List ℕ) : Type 0 where
@@ -41,12 +56,32 @@ pub record IsOnlyLine (source : List ℕ) (lines : List LeafLine) (text : List �
   pub part : IsPart source line.start line.stop
   pub is : text ≡ slice source line.start line.stop
 
+-- each event of the blocks has such a range, and each leaf has its places in the text
+abbrev pub ArePlaced : Reader → List Segment → Type 0
+ArePlaced reader [] = Unit {0}
+ArePlaced reader (documents.Given r ∷ others) = HasRange reader.source r × ArePlaced reader others
+ArePlaced reader (documents.Content leaf ∷ others) = IsPlaced reader leaf × ArePlaced reader others
+
+-- ## Where the walk stands
+
 module _ {E F : Type 0} where
   abbrev pub source_of : SpanWalk E F → List ℕ
   source_of walk = reads.source_of walk.leaf
 
   abbrev pub opened_of : SpanWalk E F → List Opened
   opened_of walk = walk.inline.walk.opened.items
+
+  -- the options that spans are read with
+  abbrev pub options_of : SpanWalk E F → Options
+  options_of walk = shown_options walk.options
+
+  -- what is asked for references without a definition
+  abbrev pub callback_of : SpanWalk E F → F
+  callback_of walk = walk.callback
+
+  -- how many bytes of destinations and titles references may still take
+  abbrev pub expansion_of : SpanWalk E F → ℕ
+  expansion_of walk = walk.inline.expansion
 
   -- the definitions of links
   abbrev pub definitions_of : SpanWalk E F → RefDefs
@@ -56,17 +91,23 @@ module _ {E F : Type 0} where
   abbrev pub footnotes_of : SpanWalk E F → FootnoteDefs
   footnotes_of walk = walk.footnotes
 
+  -- the bytes that are special are those of the options
+  abbrev pub HasSpecialBytes : SpanWalk E F → Type 0
+  HasSpecialBytes walk = IsSetOf (options_of walk) walk.special
+
   -- these events and leaves of the document are left
   pub record BlocksLeft (walk : SpanWalk E F) (left : List Segment) : Type 0 where
     pub remains : walking.Remains walk.walk left
     pub few : length left < walk.budget
     pub same_text : walking.text_of walk.walk ≡ source_of walk
+    pub special : HasSpecialBytes walk
 
   -- in a leaf
   pub record StandsInLeaf (walk : SpanWalk E F) : Type 0 where
     pub read : IsRead walk.leaf
     pub slots : AreSlots (text_of walk.leaf) (length (text_of walk.leaf)) walk.inline.slots.items
     pub opened : AreOpened (source_of walk) (opened_of walk)
+    pub given : AreLeft walk.leaf walk.inline
 
   abbrev pub StandsIn : (in_leaf : Bool) → SpanWalk E F → Type 0
   StandsIn true walk = StandsInLeaf walk
@@ -80,55 +121,26 @@ module _ {E F : Type 0} where
   abbrev pub Stands : SpanWalk E F → Type 0
   Stands walk = (left : List Segment) × StandsAt walk left
 
-  -- the events that are left in a leaf, and then those behind it
-  abbrev pub LeftIn : (in_leaf : Bool) → SpanWalk E F → (left : List Segment) → (events : List Ranged) → Type 0
-  LeftIn true walk left events = (spans later : List Ranged) × (events ≡ spans ++ later) × Completes (source_of walk) (opened_of walk) spans × AreGiven (source_of walk) left later
-  LeftIn false walk left events = AreGiven (source_of walk) left events
-
-  -- these events are left: those of the document, with spans
-  pub record Remains (walk : SpanWalk E F) (events : List Ranged) : Type 0 where
-    pub left : List Segment
-    pub stands : StandsAt walk left
-    pub are : LeftIn walk.in_leaf walk left events
+  -- the spans that are left in a leaf
+  abbrev pub spans_to_come : (in_leaf : Bool) → SpanWalk E F → List Ranged
+  spans_to_come true walk = events_to_come walk.leaf walk.inline
+  spans_to_come false walk = []
 
   -- more than the number of all events that are left, where a leaf has fewer than 2^66
   abbrev pub events_left : SpanWalk E F → ℕ
   events_left walk = walk.budget * 73786976294838206464 + opens.events_left walk.inline
 
-  -- a call gives the first of the events that are left, however they go on; or nothing was left
-  abbrev pub Gives : SpanWalk E F → Option Given → SpanWalk E F → Type 0
-  Gives old None new = Remains old []
-  Gives old (Some given) new = (events : List Ranged) → Remains new events → Remains old (shown_ranged given ∷ events)
+  -- fewer are left behind an event that was given, and no more where none was
+  abbrev pub LeavesFewer : SpanWalk E F → Next → SpanWalk E F → Type 0
+  LeavesFewer old (next.Short short) new = events_left new < events_left old
+  LeavesFewer old next.Long new = events_left new ≤ events_left old
+  LeavesFewer old next.Over new = Unit {0}
 
-  -- the event that such an answer stands for, with some range, is the first of those that are left
-  pub record GivesShort (old : SpanWalk E F) (short : Short) (new : SpanWalk E F) : Type 0 where
-    pub given : Ranged
-    pub is : given.event ≡ shown_short short
-    pub gives : (events : List Ranged) → Remains new events → Remains old (given ∷ events)
-    pub lent : IsShortZeroCopy (source_of old) short given.start given.end
-    pub fewer : events_left new < events_left old
-
-  -- no event was given, and the same are left
-  pub record KeepsLeft (old new : SpanWalk E F) : Type 0 where
-    pub back : (events : List Ranged) → Remains new events → Remains old events
-    pub most : events_left new ≤ events_left old
-
-  -- an event that owns nothing is the first of those that are left; where it is of another kind, it was not given yet; or nothing was left
-  abbrev pub GivesNext : SpanWalk E F → Next → SpanWalk E F → Type 0
-  GivesNext old (next.Short short) new = GivesShort old short new
-  GivesNext old next.Long new = KeepsLeft old new
-  GivesNext old next.Over new = Remains old []
-
-  -- the same in a leaf; where nothing is left there, the walk then stands in no leaf, and before the same events
-  abbrev pub GivesInLeaf : SpanWalk E F → Next → SpanWalk E F → Type 0
-  GivesInLeaf old (next.Short short) new = GivesShort old short new
-  GivesInLeaf old next.Long new = KeepsLeft old new
-  GivesInLeaf old next.Over new = (new.in_leaf ≡ false) × ((events : List Ranged) → Remains new events → Remains old events)
-
-  -- a call gives the first of the events that are left, in a leaf; or the walk then stands in no leaf, and before the same events
-  abbrev pub GivesSpan : SpanWalk E F → Option Given → SpanWalk E F → Type 0
-  GivesSpan old None new = (new.in_leaf ≡ false) × ((events : List Ranged) → Remains new events → Remains old events)
-  GivesSpan old (Some given) new = Gives old (Some given) new
+  -- where nothing is left in a leaf, the walk then stands in none
+  abbrev pub LeavesLeaf : Next → SpanWalk E F → Type 0
+  LeavesLeaf (next.Short short) new = Unit {0}
+  LeavesLeaf next.Long new = Unit {0}
+  LeavesLeaf next.Over new = new.in_leaf ≡ false
 
   -- the lines of a leaf were met, before these events and leaves of the document, and whether it is the cell of a table
   pub record BeforeLeaf (walk : SpanWalk E F) (is_cell : Bool) (leaf : Leaf) (others : List Segment) : Type 0 where
@@ -136,10 +148,87 @@ module _ {E F : Type 0} where
     pub cell : is_cell ≡ leaf.is_cell
     pub blocks : BlocksLeft walk others
 
-  -- the walk stands in the leaf, before its first span: what is read is the text of its lines, as that of a cell where it is one
-  pub record EntersLeaf (leaf : Leaf) (others : List Segment) (walk : SpanWalk E F) : Type 0 where
-    pub text : text_of walk.leaf ≡ leaf_bytes (source_of walk) (lines_of leaf.stretches)
-    pub cell : is_cell_of walk.leaf ≡ leaf.is_cell
+  -- the walk stands in the leaf, before its first span
+  pub record EntersLeaf (others : List Segment) (walk : SpanWalk E F) : Type 0 where
     pub stands : StandsAt walk others
     pub inside : walk.in_leaf ≡ true
     pub none_open : opened_of walk ≡ []
+
+-- ## What the walk reads
+
+-- `replacement` says what a look-up answers
+module _ {E F : Type 0} (replacement : E → Lookup) (reader : Reader) where
+  -- the grammar reads the text of the walk, with its options, entities, definitions and footnotes, and with a callback
+  pub record ReadsSame (walk : SpanWalk E F) : Type 0 where
+    pub source : reader.source ≡ source_of walk
+    pub options_are : reader.options ≡ options_of walk
+    pub lookup_is : reader.lookup ≡ replacement walk.entities.now
+    pub definitions : (folded : List ℕ) → option_map said (reader.definition folded) ≡ option_map said_by (definition (definitions_of walk) folded)
+    pub footnotes_are : (folded : List ℕ) → reader.has_footnote folded ≡ is_some (footnote (footnotes_of walk) folded)
+    pub callback : reader.has_callback ≡ true
+
+  -- the walk stands before some events and leaves of a document, which the grammar reads
+  pub record IsReadBy (walk : SpanWalk E F) : Type 0 where
+    pub left : List Segment
+    pub stands : StandsAt walk left
+    pub placed : ArePlaced reader left
+    pub same : ReadsSame walk
+
+  -- these events are left where these further questions are answered so: those of the leaf that the walk stands in, and then those that
+  -- the grammar reads the others as
+  pub record Remains (walk : SpanWalk E F) (exchanges : List Exchange) (events : List Ranged) : Type 0 where
+    pub read_by : IsReadBy walk
+    pub later : List Ranged
+    pub reads : Left reader read_by.left (expansion_of walk) exchanges later
+    pub are : events ≡ spans_to_come walk.in_leaf walk ++ later
+
+-- ## What a call gives
+
+-- `Says` says what a callback answers
+module _ {E F : Type 0} (Says : F → BrokenLink → Option (CowStr × CowStr) → F → Type 0) (replacement : E → Lookup) (reader : Reader) where
+  -- these events are the first of those that are left, however the walk goes on, and these questions were put on the way
+  pub record Passes (front : List Ranged) (old new : SpanWalk E F) : Type 0 where
+    pub taken : List Exchange
+    pub answered : Answered Says taken (callback_of old) (callback_of new)
+    pub read_by : IsReadBy replacement reader new
+    pub back : (rest : List Exchange) (events : List Ranged) → Remains replacement reader new rest events → Remains replacement reader old (taken ++ rest) (front ++ events)
+
+  -- nothing is left, and these questions were put on the way
+  pub record Ends (old new : SpanWalk E F) : Type 0 where
+    pub taken : List Exchange
+    pub answered : Answered Says taken (callback_of old) (callback_of new)
+    pub none : Remains replacement reader old taken []
+
+  -- a call gives the first of the events that are left, in its range; or nothing was left
+  abbrev pub Gives : SpanWalk E F → Option Given → SpanWalk E F → Type 0
+  Gives old None new = Ends old new
+  Gives old (Some given) new = HasRange (source_of old) (shown_ranged given) × Passes (shown_ranged given ∷ []) old new
+
+  -- the event that such an answer stands for, with some range, is the first of those that are left
+  pub record GivesShort (old : SpanWalk E F) (short : Short) (new : SpanWalk E F) : Type 0 where
+    pub given : Ranged
+    pub is : given.event ≡ shown_short short
+    pub range : HasRange (source_of old) given
+    pub lent : IsShortZeroCopy (source_of old) short given.start given.end
+    pub passes : Passes (given ∷ []) old new
+
+  -- an event that owns nothing is the first of those that are left; where it is of another kind, it was not given yet; or nothing was left
+  abbrev pub GivesNext : SpanWalk E F → Next → SpanWalk E F → Type 0
+  GivesNext old (next.Short short) new = GivesShort old short new
+  GivesNext old next.Long new = Passes [] old new
+  GivesNext old next.Over new = Ends old new
+
+  -- the same in a leaf
+  abbrev pub GivesInLeaf : SpanWalk E F → Next → SpanWalk E F → Type 0
+  GivesInLeaf old (next.Short short) new = GivesShort old short new
+  GivesInLeaf old next.Long new = Passes [] old new
+  GivesInLeaf old next.Over new = Passes [] old new
+
+  abbrev pub GivesSpan : SpanWalk E F → Option Given → SpanWalk E F → Type 0
+  GivesSpan old None new = Passes [] old new
+  GivesSpan old (Some given) new = HasRange (source_of old) (shown_ranged given) × Passes (shown_ranged given ∷ []) old new
+
+  -- the leaf is read as the spans that are still to come
+  pub record ReadsLeaf (leaf : Leaf) (old new : SpanWalk E F) : Type 0 where
+    pub resolves : ResolvesAs Says new.leaf reader leaf (expansion_of old) new.inline (callback_of old) (callback_of new)
+    pub same : ReadsSame replacement reader new

@@ -1,18 +1,21 @@
 //! The walk over a document's events with the spans of its leaves.
 
-ghost use Rattle.std.specs.Prelude.{◌≡◌, ◌<◌, ◌≤◌, ℕ, Bool, true, false, List, [], None, length, IfOk, IfSome, OnOk, OnSome};
+ghost use Rattle.std.specs.Prelude.{◌≡◌, ◌<◌, ◌≤◌, ℕ, Bool, true, false, List, [], None, is_some, length, max, IfOk, IfSome, OnOk, OnSome};
 ghost use Rattle.cmark_grammar.specs.Answers.{Lookup};
 ghost use Rattle.cmark_grammar.specs.Event.{Ranged as Shown};
-ghost use Rattle.cmark_grammar.specs.LeafSpans.{AreGiven};
+ghost use Rattle.cmark_grammar.specs.Questions.{Exchange};
+ghost use Rattle.cmark_grammar.specs.Readers.{Reader as GrammarReader};
 ghost use Rattle.cmark_grammar.specs.LeafText.{Leaf};
 ghost use Rattle.cmark_grammar.specs.Options.{Options as Extensions};
-ghost use Rattle.cmark_grammar.specs.SpanDocuments.{Segment};
+ghost use Rattle.cmark_grammar.specs.SpanDocuments.{Left, Segment};
 ghost use Rattle.cmark_inline.specs.Footnoted.{SameFootnotes};
 ghost use Rattle.cmark_inline.specs.PlainStretches.{IsSetOf, StandUpTo};
 ghost use Rattle.cmark_leaf_text.specs.Stretches.{AreLines};
+ghost use Rattle.cmark_inline_model.specs.PlacedLeaves.{IsPlaced};
 ghost use Rattle.cmark_inline.specs.Opens.{shown_given, GivesZeroCopy as SpanZeroCopy};
 ghost use Rattle.cmark_walk.specs.Walking.{Remains as BlocksRemain, definitions_of as block_definitions, shown_ranged, text_of};
-ghost use Rattle.cmark_span_walk.specs.Walking.{GivesZeroCopy, IsOnlyLine};
+ghost use Rattle.cmark_text.specs.Shown.{shown_options};
+ghost use Rattle.cmark_span_walk.specs.Walking.{ArePlaced, GivesZeroCopy, IsOnlyLine};
 
 use cmark_inline::{BrokenLinkCallback, Given, InlineState, Reader, SpecialBytes, special_bytes};
 use cmark_items::{FootnoteDefs, RefDefs};
@@ -44,7 +47,7 @@ pub struct SpanWalk<'input, 'e, E, F> {
 }
 
 impl<'input, 'e, E: EntityLookup, F: BrokenLinkCallback<'input> + Drop> SpanWalk<'input, 'e, E, F> {
-    ghost use Rattle.cmark_span_walk.specs.Walking.{definitions_of, footnotes_of, source_of, events_left, Stands, Remains, Gives, GivesNext, GivesInLeaf, GivesSpan, BeforeLeaf, EntersLeaf};
+    ghost use Rattle.cmark_span_walk.specs.Walking.{BeforeLeaf, EntersLeaf, Gives, GivesInLeaf, GivesNext, GivesSpan, IsReadBy, LeavesFewer, LeavesLeaf, ReadsLeaf, ReadsSame, Remains, Stands, callback_of, definitions_of, events_left, expansion_of, footnotes_of, options_of, source_of};
 
     /// A walk over what this walk over the text meets, which are fewer events and leaves than `budget`. `entities` says what the
     /// entity names stand for; `footnotes` are those that the text defines, of which each counts its references; `callback` is asked
@@ -59,16 +62,23 @@ impl<'input, 'e, E: EntityLookup, F: BrokenLinkCallback<'input> + Drop> SpanWalk
         footnotes: FootnoteDefs,
         callback: F,
     ) -> SpanWalk<'input, 'e, E, F>
-        ensures begins { (left : List Segment) (events : List Shown)
+        ensures stands { (left : List Segment) → BlocksRemain walk.entry left → text_of walk.entry ≡ text.entry.now → length left < budget → Stands result }
+        ensures begins { (reader : GrammarReader) (left : List Segment)
             → BlocksRemain walk.entry left
             → text_of walk.entry ≡ text.entry.now
             → length left < budget
-            → AreGiven text.entry.now left events
-            → Remains result events }
-        ensures reads { (left : List Segment) (events : List Shown)
+            → ArePlaced reader left
+            → ReadsSame E.replacement reader result
+            → IsReadBy E.replacement reader result
+            × ((exchanges : List Exchange) (events : List Shown) → Left reader left (expansion_of result) exchanges events → Remains E.replacement reader result exchanges events) }
+        ensures reads { (reader : GrammarReader) (left : List Segment) (exchanges : List Exchange) (events : List Shown)
             → BlocksRemain walk.entry left
-            → Remains result events
-            → AreGiven text.entry.now left events }
+            → Remains E.replacement reader result exchanges events
+            → Left reader left (expansion_of result) exchanges events }
+        ensures expansion { expansion_of result ≡ max (length text.entry.now) 100000 }
+        ensures options { options_of result ≡ shown_options options }
+        ensures entities { result.entities.now ≡ entities.entry.now }
+        ensures callback { callback_of result ≡ callback }
         ensures definitions { definitions_of result ≡ block_definitions walk.entry }
         ensures footnotes { footnotes_of result ≡ footnotes }
         ensures source { source_of result ≡ text.entry.now }
@@ -100,7 +110,7 @@ impl<'input, 'e, E: EntityLookup, F: BrokenLinkCallback<'input> + Drop> SpanWalk
     pub fn next(&mut self) -> Result<Option<Ranged<'input>>, AllocError>
         requires { Stands self.old }
         ensures stands { OnOk result (Stands self.new) }
-        ensures given { IfOk result (λ given. Gives self.old given self.new) }
+        ensures given { (reader : GrammarReader) → IsReadBy E.replacement reader self.old → IfOk result (λ given. Gives F.answers E.replacement reader self.old given self.new) }
         ensures lent { IfOk result (λ given. IfSome given (GivesZeroCopy (source_of self.old))) }
         ensures fewer { IfOk result (λ given. OnSome given (events_left self.new < events_left self.old)) }
         ensures definitions { definitions_of self.new ≡ definitions_of self.old }
@@ -130,7 +140,8 @@ impl<'input, 'e, E: EntityLookup, F: BrokenLinkCallback<'input> + Drop> SpanWalk
     pub fn next_short(&mut self) -> Result<Next<'input>, AllocError>
         requires { Stands self.old }
         ensures stands { OnOk result (Stands self.new) }
-        ensures given { IfOk result (λ next. GivesNext self.old next self.new) }
+        ensures given { (reader : GrammarReader) → IsReadBy E.replacement reader self.old → IfOk result (λ next. GivesNext F.answers E.replacement reader self.old next self.new) }
+        ensures fewer { IfOk result (λ next. LeavesFewer self.old next self.new) }
         ensures definitions { definitions_of self.new ≡ definitions_of self.old }
         ensures footnotes { SameFootnotes (footnotes_of self.old) (footnotes_of self.new) }
         ensures source { source_of self.new ≡ source_of self.old }
@@ -164,7 +175,9 @@ impl<'input, 'e, E: EntityLookup, F: BrokenLinkCallback<'input> + Drop> SpanWalk
     fn next_in_leaf(&mut self) -> Result<Next<'input>, AllocError>
         requires { Stands self.old }
         ensures stands { OnOk result (Stands self.new) }
-        ensures given { IfOk result (λ next. GivesInLeaf self.old next self.new) }
+        ensures outside { IfOk result (λ next. LeavesLeaf next self.new) }
+        ensures given { (reader : GrammarReader) → IsReadBy E.replacement reader self.old → IfOk result (λ next. GivesInLeaf F.answers E.replacement reader self.old next self.new) }
+        ensures fewer { IfOk result (λ next. LeavesFewer self.old next self.new) }
         ensures most { OnOk result (events_left self.new ≤ events_left self.old) }
         ensures few { OnOk result (self.old.in_leaf ≡ true → length self.new.inline.slots.items < 18446744073709551616) }
         ensures slots { OnOk result (self.new.inline.slots ≡ self.old.inline.slots) }
@@ -191,7 +204,8 @@ impl<'input, 'e, E: EntityLookup, F: BrokenLinkCallback<'input> + Drop> SpanWalk
     fn next_span(&mut self) -> Result<Option<Ranged<'input>>, AllocError>
         requires { Stands self.old }
         ensures stands { OnOk result (Stands self.new) }
-        ensures given { IfOk result (λ given. GivesSpan self.old given self.new) }
+        ensures outside { IfOk result (λ given. is_some given ≡ false → self.new.in_leaf ≡ false) }
+        ensures given { (reader : GrammarReader) → IsReadBy E.replacement reader self.old → IfOk result (λ given. GivesSpan F.answers E.replacement reader self.old given self.new) }
         ensures lent { IfOk result (λ given. IfSome given (GivesZeroCopy (source_of self.old))) }
         ensures fewer { IfOk result (λ given. OnSome given (events_left self.new < events_left self.old)) }
         ensures most { OnOk result (events_left self.new ≤ events_left self.old) }
@@ -239,7 +253,9 @@ impl<'input, 'e, E: EntityLookup, F: BrokenLinkCallback<'input> + Drop> SpanWalk
     // Into the leaf whose lines were met, perhaps the cell of a table.
     fn enter_leaf(&mut self, is_cell: bool) -> Result<(), AllocError>
         requires { (leaf : Leaf) × (others : List Segment) × BeforeLeaf self.old is_cell leaf others }
-        ensures enters { OnOk result ((leaf : Leaf) (others : List Segment) → BeforeLeaf self.old is_cell leaf others → EntersLeaf leaf others self.new) }
+        ensures enters { OnOk result ((leaf : Leaf) (others : List Segment) → BeforeLeaf self.old is_cell leaf others → EntersLeaf others self.new) }
+        ensures reads { OnOk result ((reader : GrammarReader) (leaf : Leaf) (others : List Segment) → BeforeLeaf self.old is_cell leaf others → IsPlaced reader leaf → ReadsSame E.replacement reader self.old
+            → ReadsLeaf F.answers E.replacement reader leaf self.old self.new) }
         ensures source { source_of self.new ≡ source_of self.old }
         ensures budget { self.new.budget ≡ self.old.budget }
         ensures definitions { definitions_of self.new ≡ definitions_of self.old }

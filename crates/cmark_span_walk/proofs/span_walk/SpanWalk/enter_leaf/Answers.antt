@@ -1,8 +1,37 @@
-use Rattle.std.proofs.Common.{ap, ◌∙◌}
+use Rattle.std.specs.Prelude.{is_some}
+use Rattle.std.proofs.Common.{sym, ap, ◌∙◌}
+use Rattle.cmark_inline_model.specs.TextPlaces.{place_in}
 use Rattle.cmark_leaf_text.specs.Stretches.{leaf_bytes}
+use Rattle.cmark_text.specs.Shown.{shown_options}
+use Rattle.cmark_span_walk.proofs.LeafReads.{leaf-same, place-same, read-places, text-same}
 use Rattle.cmark_span_walk.proofs.Walks.{enters}
 use Rattle.cmark_span_walk.proofs.span_walk.SpanWalk.enter_leaf.Goals as goal
 
 pub returns-clause-enters : goal.returns-clause-enters
 returns-clause-enters g c = enters c.args.self.now c.read.new.self c.resolve.new.self c.resolve.new.footnotes c.resolve.new.callback c.args.is_cell c.in_ok-read.ensures.read c.in_ok-read.ensures.source
-    (c.in_ok-read.ensures.text ∙ ap (leaf_bytes c.args.self.now.leaf.source.now) c.as_slice.ensures.value) c.in_ok-read.ensures.cell c.in_ok-resolve.ensures.slots c.in_ok-resolve.ensures.opened
+    c.in_ok-resolve.ensures.slots c.in_ok-resolve.ensures.opened c.in_ok-resolve.ensures.left
+
+pub returns-clause-reads : goal.returns-clause-reads
+returns-clause-reads g c = λ reader leaf others before placed same.
+    let walk = c.args.self.now in
+    let read = c.read.new.self in
+    let e = c.in_ok-read.ensures in
+    let source = same.source ∙ sym e.source in
+    let text = text-same reader leaf placed read walk.lines.items (sym source) before.lines.are (e.text ∙ ap (leaf_bytes walk.leaf.source.now) c.as_slice.ensures.value ∙ ap (λ s. leaf_bytes s walk.lines.items) (sym e.source)) in
+    let stand = place-same reader leaf placed read c.as_slice.result.now (c.as_slice.ensures.value ∙ before.lines.are) text e.places in
+    let places = read-places reader leaf placed read text (sym before.cell ∙ sym e.cell) stand in
+    record {
+      resolves =
+          c.in_ok-resolve.ensures.reads before.blocks.special reader leaf (place_in reader leaf)
+          (leaf-same (shown_options walk.options) (g.E.EntityLookup.replacement walk.entities.now) c.definitions.result.now _ walk.footnotes reader leaf read source same.options_are same.lookup_is same.definitions c.definitions.ensures same.footnotes_are
+          same.callback places)
+          places;
+      same = record {
+        source = source;
+        options_are = same.options_are;
+        lookup_is = same.lookup_is;
+        definitions = same.definitions;
+        footnotes_are = λ folded. same.footnotes_are folded ∙ sym (c.resolve.ensures.footnotes folded);
+        callback = same.callback;
+      };
+    }

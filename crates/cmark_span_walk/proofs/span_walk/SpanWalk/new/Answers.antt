@@ -1,9 +1,21 @@
-use Rattle.std.proofs.Common.{refl}
-use Rattle.cmark_span_walk.proofs.Walks.{new-begins, new-reads}
+use Rattle.std.proofs.Common.{refl, sym, subst}
+use Rattle.cmark_grammar.specs.SpanDocuments.{Left}
+use Rattle.cmark_span_walk.specs.Walking.{IsReadBy}
+use Rattle.cmark_walk.proofs.OneRemainder.{one-remainder}
+use Rattle.cmark_span_walk.proofs.Walks.{new-stands}
+use Rattle.cmark_span_walk.proofs.Readings.{outside-remains, remains-outside}
 use Rattle.cmark_span_walk.proofs.span_walk.SpanWalk.new.Goals as goal
 
+pub returns-clause-stands : goal.returns-clause-stands
+returns-clause-stands g c = λ left remains same few. (left, new-stands _ c.args.text.now left refl c.new-2.ensures.source c.special_bytes.ensures remains same few)
+
 pub returns-clause-begins : goal.returns-clause-begins
-returns-clause-begins g c = λ left events remains same few given. new-begins _ c.args.text.now left events refl c.new-2.ensures.source remains same few given
+returns-clause-begins g c = λ reader left remains same few placed read.
+    let stands = new-stands _ c.args.text.now left refl c.new-2.ensures.source c.special_bytes.ensures remains same few in
+    let by : IsReadBy g.E.EntityLookup.replacement reader _ = record { left = left; stands = stands; placed = placed; same = read } in
+    (by, λ exchanges events h. outside-remains g.E.EntityLookup.replacement reader _ by refl exchanges events h)
 
 pub returns-clause-reads : goal.returns-clause-reads
-returns-clause-reads g c = λ left events remains r. new-reads _ c.args.text.now left events refl c.new-2.ensures.source remains r
+returns-clause-reads g c = λ reader left exchanges events remains m.
+    subst (λ l. Left reader l c.new-3.result.expansion exchanges events) (one-remainder c.args.walk m.read_by.left left m.read_by.stands.blocks.remains remains)
+    (remains-outside g.E.EntityLookup.replacement reader _ m.read_by refl exchanges events m)

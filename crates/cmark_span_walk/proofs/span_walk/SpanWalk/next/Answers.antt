@@ -1,70 +1,113 @@
 use Rattle.std.specs.Prelude.{is_some}
-use Rattle.std.proofs.Common.{refl, ap, ◌∙◌, subst}
+use Rattle.std.proofs.Common.{[], ◌∷◌, refl, sym, ap, ◌∙◌, subst}
+use Rattle.cmark_grammar.specs.SpanDocuments.{Content, Given as GivenOf}
 use Rattle.cmark_items.specs.Footnotes.{footnote}
 use Rattle.cmark_walk.specs.Walking as walking
 use Rattle.cmark_walk.specs.Walking.{MeetsZeroCopy, shown_ranged}
-use Rattle.cmark_span_walk.specs.Walking.{GivesSpan, GivesZeroCopy}
-use Rattle.cmark_span_walk.proofs.Walks.{before-leaf, event-back, event-stands, lasts-leaf, lasts-none, over-back, over-stands}
+use Rattle.cmark_span_walk.specs.Walking.{ArePlaced, GivesSpan, GivesZeroCopy, HasRange, Passes, source_of}
+use Rattle.cmark_span_walk.proofs.Readings.{ends-on, event-passes, leaf-passes, met-same, over-ends, passes-none, passes-on}
+use Rattle.cmark_span_walk.proofs.Walks.{before-leaf, behind-at, lasts-leaf, lasts-none, over-at}
 use Rattle.cmark_span_walk.proofs.span_walk.SpanWalk.next.Goals as goal
 
 pub loop-given-init : goal.loop-given-init
-loop-given-init g c = lasts-none c.args.self.now c.requires
+loop-given-init g c = record {
+  lasts = lasts-none c.args.self.now c.requires;
+  reads = λ reader r. passes-none g.F.BrokenLinkCallback.answers g.E.EntityLookup.replacement reader c.args.self.now r;
+}
+
+pub returns-in-Some-clause-given : goal.returns-in-Some-clause-given
+returns-in-Some-clause-given g c = λ reader r.
+    let old = c.args.self.now in
+    let head = c.loop-given.self in
+    let new = c.next_span.new.self in
+    let p = c.loop-given.invariant.reads reader r in
+    let given = subst (λ o. GivesSpan g.F.BrokenLinkCallback.answers g.E.EntityLookup.replacement reader head o new) c.in-Some.is (c.in_ok-given.ensures.given reader p.read_by) in
+    (subst (λ t. HasRange t (shown_ranged c.in-Some.given)) c.loop-given.invariant.lasts.source given.0, passes-on g.F.BrokenLinkCallback.answers g.E.EntityLookup.replacement reader old head new _ p given.1)
 
 pub returns-in-Event-clause-stands : goal.returns-in-Event-clause-stands
 returns-in-Event-clause-stands g c =
     let mid = c.next_span.new.self in
     let s = c.in_ok-given.ensures.stands in
-    let none = subst (λ o. GivesSpan c.loop-given.self o mid) c.in_default.is c.in_ok-given.ensures.given in
+    let out = c.in_ok-given.ensures.outside (ap is_some c.in_default.is) in
     let gives = subst (λ m. walking.Gives s.0 m c.next.new.lines.items c.next.new.self) c.in-Event.is (c.in_ok-given-2.ensures.given s.0 s.1.blocks.remains) in
-    event-stands mid c.next.new.self c.next.new.lines s none.0 c.in_ok-given-2.ensures.text _ (shown_ranged c.in-Event.given) gives.0 gives.1 gives.2 refl
+    (gives.0, behind-at mid c.next.new.self c.next.new.lines out c.in_ok-given-2.ensures.text _ s.0 (GivenOf (shown_ranged c.in-Event.given)) gives.0 s.1 gives.1 gives.2 refl)
 
 pub returns-in-Event-clause-given : goal.returns-in-Event-clause-given
-returns-in-Event-clause-given g c = λ events r.
+returns-in-Event-clause-given g c = λ reader r.
+    let old = c.args.self.now in
+    let head = c.loop-given.self in
     let mid = c.next_span.new.self in
-    let s = c.in_ok-given.ensures.stands in
-    let none = subst (λ o. GivesSpan c.loop-given.self o mid) c.in_default.is c.in_ok-given.ensures.given in
-    let gives = subst (λ m. walking.Gives s.0 m c.next.new.lines.items c.next.new.self) c.in-Event.is (c.in_ok-given-2.ensures.given s.0 s.1.blocks.remains) in
-    c.loop-given.invariant.back _ (none.1 _ (event-back mid c.next.new.self c.next.new.lines s none.0 c.in_ok-given-2.ensures.text _ (shown_ranged c.in-Event.given) gives.0 gives.1 gives.2 refl events r))
+    let m = c.in_ok-given-2.ensures in
+    let out = c.in_ok-given.ensures.outside (ap is_some c.in_default.is) in
+    let p = c.loop-given.invariant.reads reader r in
+    let none = subst (λ o. GivesSpan g.F.BrokenLinkCallback.answers g.E.EntityLookup.replacement reader head o mid) c.in_default.is (c.in_ok-given.ensures.given reader p.read_by) in
+    let q = passes-on g.F.BrokenLinkCallback.answers g.E.EntityLookup.replacement reader old head mid [] p none in
+    let by = q.read_by in
+    let gives = subst (λ m. walking.Gives by.left m c.next.new.lines.items c.next.new.self) c.in-Event.is (m.given by.left by.stands.blocks.remains) in
+    let event = event-passes g.F.BrokenLinkCallback.answers g.E.EntityLookup.replacement reader mid c.next.new.self c.next.new.lines out m.text m.definitions _ (shown_ranged c.in-Event.given) gives.0 by gives.1 gives.2 refl in
+    (subst (λ t. HasRange t (shown_ranged c.in-Event.given)) (c.in_ok-given.ensures.source ∙ c.loop-given.invariant.lasts.source) event.0, passes-on g.F.BrokenLinkCallback.answers g.E.EntityLookup.replacement reader old mid _ _ q event.1)
 
 pub enter_leaf-requires : goal.enter_leaf-requires
 enter_leaf-requires g c κs =
     let mid = c.next_span.new.self in
     let s = c.in_ok-given.ensures.stands in
-    let none = subst (λ o. GivesSpan c.loop-given.self o mid) c.in_default.is c.in_ok-given.ensures.given in
+    let out = c.in_ok-given.ensures.outside (ap is_some c.in_default.is) in
     let gives = subst (λ m. walking.Gives s.0 m c.next.new.lines.items c.next.new.self) c.in-Leaf.is (c.in_ok-given-2.ensures.given s.0 s.1.blocks.remains) in
-    ((refl, tt), (gives.0, gives.1, before-leaf mid c.next.new.self c.next.new.lines s none.0 c.in_ok-given-2.ensures.text c.in-Leaf.is_cell _ gives.0 gives.1 gives.2 gives.3 gives.4 gives.5 refl))
+    ((refl, tt), (gives.0, gives.1, before-leaf mid c.next.new.self c.next.new.lines out c.in_ok-given-2.ensures.text c.in-Leaf.is_cell _ s.0 gives.0 gives.1 s.1 gives.2 gives.3 gives.4 gives.5 refl))
 
 pub loop-given-preserved : goal.loop-given-preserved
 loop-given-preserved g c =
+    let head = c.loop-given.self in
     let mid = c.next_span.new.self in
+    let new = c.enter_leaf.new.self in
     let s = c.in_ok-given.ensures.stands in
+    let m = c.in_ok-given-2.ensures in
     let e = c.in_ok-enter_leaf-in-Leaf.ensures in
-    let none = subst (λ o. GivesSpan c.loop-given.self o mid) c.in_default.is c.in_ok-given.ensures.given in
-    let gives = subst (λ m. walking.Gives s.0 m c.next.new.lines.items c.next.new.self) c.in-Leaf.is (c.in_ok-given-2.ensures.given s.0 s.1.blocks.remains) in
-    let before = before-leaf mid c.next.new.self c.next.new.lines s none.0 c.in_ok-given-2.ensures.text c.in-Leaf.is_cell _ gives.0 gives.1 gives.2 gives.3 gives.4 gives.5 refl in
-    lasts-leaf mid c.next.new.self c.next.new.lines s none.0 c.in_ok-given-2.ensures.text c.args.self.now c.loop-given.self c.enter_leaf.new.self gives.0 gives.1 c.loop-given.invariant c.in_ok-given.ensures.budget none.1
-    (e.definitions ∙ c.in_ok-given-2.ensures.definitions ∙ c.in_ok-given.ensures.definitions)
-    (λ folded. e.footnotes folded ∙ ap (λ t. is_some (footnote t folded)) c.in_ok-given.ensures.footnotes) c.in_ok-given.ensures.source gives.2 (e.enters gives.0 gives.1 before) e.source e.budget
+    let out = c.in_ok-given.ensures.outside (ap is_some c.in_default.is) in
+    let gives = subst (λ m. walking.Gives s.0 m c.next.new.lines.items c.next.new.self) c.in-Leaf.is (m.given s.0 s.1.blocks.remains) in
+    let before = before-leaf mid c.next.new.self c.next.new.lines out m.text c.in-Leaf.is_cell _ s.0 gives.0 gives.1 s.1 gives.2 gives.3 gives.4 gives.5 refl in
+    record {
+      lasts = lasts-leaf mid c.next.new.self c.next.new.lines out m.text c.args.self.now head new s.0 gives.0 gives.1 s.1 c.loop-given.invariant.lasts c.in_ok-given.ensures.budget
+          (e.definitions ∙ m.definitions ∙ c.in_ok-given.ensures.definitions)
+          (λ folded. e.footnotes folded ∙ ap (λ t. is_some (footnote t folded)) c.in_ok-given.ensures.footnotes) c.in_ok-given.ensures.source gives.2 (e.enters gives.0 gives.1 before) e.source e.budget;
+      reads = λ reader r.
+          let p = c.loop-given.invariant.reads reader r in
+          let none = subst (λ o. GivesSpan g.F.BrokenLinkCallback.answers g.E.EntityLookup.replacement reader head o mid) c.in_default.is (c.in_ok-given.ensures.given reader p.read_by) in
+          let q = passes-on g.F.BrokenLinkCallback.answers g.E.EntityLookup.replacement reader c.args.self.now head mid [] p none in
+          let by = q.read_by in
+          let met = subst (λ m. walking.Gives by.left m c.next.new.lines.items c.next.new.self) c.in-Leaf.is (m.given by.left by.stands.blocks.remains) in
+          let here = before-leaf mid c.next.new.self c.next.new.lines out m.text c.in-Leaf.is_cell _ by.left met.0 met.1 by.stands met.2 met.3 met.4 met.5 refl in
+          let placed : ArePlaced reader (Content met.0 ∷ met.1) = subst (ArePlaced reader) met.2 by.placed in
+          passes-on g.F.BrokenLinkCallback.answers g.E.EntityLookup.replacement reader c.args.self.now mid new [] q
+          (leaf-passes g.F.BrokenLinkCallback.answers g.E.EntityLookup.replacement reader mid c.next.new.self c.next.new.lines out m.text m.definitions _ met.0 met.1 new by met.2 (e.enters met.0 met.1 here)
+          (e.reads reader met.0 met.1 here placed.0 (met-same g.F.BrokenLinkCallback.answers g.E.EntityLookup.replacement reader mid c.next.new.self c.next.new.lines out m.text m.definitions _ by.same)));
+    }
 
 pub returns-in-Over-clause-stands : goal.returns-in-Over-clause-stands
 returns-in-Over-clause-stands g c =
     let mid = c.next_span.new.self in
     let s = c.in_ok-given.ensures.stands in
-    let none = subst (λ o. GivesSpan c.loop-given.self o mid) c.in_default.is c.in_ok-given.ensures.given in
+    let out = c.in_ok-given.ensures.outside (ap is_some c.in_default.is) in
     let gives = subst (λ m. walking.Gives s.0 m c.next.new.lines.items c.next.new.self) c.in-Over.is (c.in_ok-given-2.ensures.given s.0 s.1.blocks.remains) in
-    over-stands mid c.next.new.self c.next.new.lines s none.0 c.in_ok-given-2.ensures.text gives.0 gives.1
+    ([], over-at mid c.next.new.self c.next.new.lines out c.in_ok-given-2.ensures.text s.0 s.1 gives.0 gives.1)
 
 pub returns-in-Over-clause-given : goal.returns-in-Over-clause-given
-returns-in-Over-clause-given g c =
+returns-in-Over-clause-given g c = λ reader r.
+    let old = c.args.self.now in
+    let head = c.loop-given.self in
     let mid = c.next_span.new.self in
-    let s = c.in_ok-given.ensures.stands in
-    let none = subst (λ o. GivesSpan c.loop-given.self o mid) c.in_default.is c.in_ok-given.ensures.given in
-    let gives = subst (λ m. walking.Gives s.0 m c.next.new.lines.items c.next.new.self) c.in-Over.is (c.in_ok-given-2.ensures.given s.0 s.1.blocks.remains) in
-    c.loop-given.invariant.back _ (none.1 _ (over-back mid c.next.new.self c.next.new.lines s none.0 c.in_ok-given-2.ensures.text gives.0))
+    let m = c.in_ok-given-2.ensures in
+    let out = c.in_ok-given.ensures.outside (ap is_some c.in_default.is) in
+    let p = c.loop-given.invariant.reads reader r in
+    let none = subst (λ o. GivesSpan g.F.BrokenLinkCallback.answers g.E.EntityLookup.replacement reader head o mid) c.in_default.is (c.in_ok-given.ensures.given reader p.read_by) in
+    let q = passes-on g.F.BrokenLinkCallback.answers g.E.EntityLookup.replacement reader old head mid [] p none in
+    let by = q.read_by in
+    let gives = subst (λ m. walking.Gives by.left m c.next.new.lines.items c.next.new.self) c.in-Over.is (m.given by.left by.stands.blocks.remains) in
+    ends-on g.F.BrokenLinkCallback.answers g.E.EntityLookup.replacement reader old mid _ q (over-ends g.F.BrokenLinkCallback.answers g.E.EntityLookup.replacement reader mid c.next.new.self c.next.new.lines out m.text m.definitions by gives.0)
 
 pub returns-in-Event-clause-lent : goal.returns-in-Event-clause-lent
 returns-in-Event-clause-lent g c =
     let mid = c.next_span.new.self in
     let s = c.in_ok-given.ensures.stands in
     let meets = subst (MeetsZeroCopy (walking.text_of mid.walk)) c.in-Event.is c.in_ok-given-2.ensures.lent in
-    subst (λ t. GivesZeroCopy t c.in-Event.given) (s.1.blocks.same_text ∙ c.in_ok-given.ensures.source ∙ c.loop-given.invariant.source) meets
+    subst (λ t. GivesZeroCopy t c.in-Event.given) (s.1.blocks.same_text ∙ c.in_ok-given.ensures.source ∙ c.loop-given.invariant.lasts.source) meets

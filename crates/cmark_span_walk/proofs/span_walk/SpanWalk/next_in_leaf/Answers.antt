@@ -1,15 +1,51 @@
-use Rattle.std.proofs.Common.{subst}
+use Rattle.std.proofs.Common.{[], ◌∷◌, refl, sym, subst}
 use Rattle.cmark_text.specs.declared.short.Next.{Next}
-use Rattle.cmark_inline.specs.Shorts.{GivesNext, LeavesFewer}
-use Rattle.cmark_span_walk.specs.Walking.{opened_of, source_of}
-use Rattle.cmark_span_walk.proofs.Walks.{spanned-short, spanned-stands}
+use Rattle.cmark_inline.specs.Shorts.{GivesToCome}
+use Rattle.cmark_inline.specs.Shorts as shorts
+use Rattle.cmark_inline.specs.SlotViews.{events_to_come}
+use Rattle.cmark_span_walk.proofs.Readings.{closed-passes, passes-none, spanned}
+use Rattle.cmark_span_walk.proofs.Walks.{closed-at, given-left, spanned-at}
 use Rattle.cmark_span_walk.proofs.span_walk.SpanWalk.next_in_leaf.Goals as goal
 
+pub returns-then-not-self-clause-given : goal.returns-then-not-self-clause-given
+returns-then-not-self-clause-given g c = λ reader r. passes-none g.F.BrokenLinkCallback.answers g.E.EntityLookup.replacement reader c.args.self.now r
+
 pub returns-in-Short-clause-stands : goal.returns-in-Short-clause-stands
-returns-in-Short-clause-stands g c = spanned-stands c.args.self.now c.next_short.new.self c.requires c.if-not-self.false c.in_ok-short.ensures.slots c.in_ok-short.ensures.opened
+returns-in-Short-clause-stands g c =
+    let walk = c.args.self.now in
+    let s = c.requires in
+    let inside = c.if-not-self.false in
+    let e = c.in_ok-short.ensures in
+    (s.0, spanned-at walk c.next_short.new.self s.0 s.1 inside e.slots e.opened (e.left (given-left walk s.0 s.1 inside)))
 
 pub returns-in-Short-clause-given : goal.returns-in-Short-clause-given
-returns-in-Short-clause-given g c =
-    spanned-short c.args.self.now c.next_short.new.self c.in-Short.short c.requires c.if-not-self.false
-    (subst (λ (n : Next). GivesNext (source_of c.args.self.now) (opened_of c.args.self.now) n c.next_short.new.self.walk.opened.items) c.in-Short.is c.in_ok-short.ensures.gives)
-    (subst (λ (n : Next). LeavesFewer c.args.self.now.inline n c.next_short.new.self) c.in-Short.is c.in_ok-short.ensures.fewer)
+returns-in-Short-clause-given g c = λ reader r.
+    let walk = c.args.self.now in
+    let inside = c.if-not-self.false in
+    let e = c.in_ok-short.ensures in
+    let given = given-left walk r.left r.stands inside in
+    let h = subst (λ (n : Next). GivesToCome walk.leaf walk.inline n c.next_short.new.self) c.in-Short.is (e.events given) in
+    record {
+      given = h.given;
+      is = h.is;
+      range = h.range;
+      lent = h.lent;
+      passes = spanned g.F.BrokenLinkCallback.answers g.E.EntityLookup.replacement reader walk c.next_short.new.self (h.given ∷ []) r inside (spanned-at walk c.next_short.new.self r.left r.stands inside e.slots e.opened (e.left given)) e.expansion h.first;
+    }
+
+pub returns-in-Long-clause-given : goal.returns-in-Long-clause-given
+returns-in-Long-clause-given g c = λ reader r.
+    let walk = c.args.self.now in
+    let inside = c.if-not-self.false in
+    let e = c.in_ok-short.ensures in
+    let given = given-left walk r.left r.stands inside in
+    let h = subst (λ (n : Next). GivesToCome walk.leaf walk.inline n c.next_short.new.self) c.in-Long.is (e.events given) in
+    spanned g.F.BrokenLinkCallback.answers g.E.EntityLookup.replacement reader walk c.next_short.new.self [] r inside (spanned-at walk c.next_short.new.self r.left r.stands inside e.slots e.opened (e.left given)) e.expansion (sym h)
+
+pub returns-in-Over-clause-given : goal.returns-in-Over-clause-given
+returns-in-Over-clause-given g c = λ reader r.
+    let walk = c.args.self.now in
+    let inside = c.if-not-self.false in
+    let e = c.in_ok-short.ensures in
+    let h = subst (λ (n : Next). GivesToCome walk.leaf walk.inline n c.next_short.new.self) c.in-Over.is (e.events (given-left walk r.left r.stands inside)) in
+    closed-passes g.F.BrokenLinkCallback.answers g.E.EntityLookup.replacement reader walk c.next_short.new.self r inside e.expansion h

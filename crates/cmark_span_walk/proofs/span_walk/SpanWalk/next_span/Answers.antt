@@ -1,23 +1,41 @@
-use Rattle.std.proofs.Common.{List, ◌∷◌, refl, sym, subst}
-use Rattle.cmark_grammar.specs.Event.{Ranged}
-use Rattle.cmark_inline.specs.Opens.{Gives}
-use Rattle.cmark_span_walk.specs.Walking.{opened_of, source_of, Remains}
-use Rattle.cmark_span_walk.proofs.Walks.{closed-back, closed-stands, spanned-gives, spanned-stands}
+use Rattle.std.proofs.Common.{[], ◌∷◌, refl, sym, subst}
+use Rattle.cmark_inline.specs.Opens.{Gives as GivesSlot}
+use Rattle.cmark_inline.specs.SlotViews.{IsFirst, events_to_come}
+use Rattle.cmark_span_walk.specs.Walking.{HasRange, Passes, opened_of, source_of}
+use Rattle.cmark_span_walk.proofs.Readings.{closed-passes, passes-none, spanned}
+use Rattle.cmark_span_walk.proofs.Walks.{closed-at, given-left, spanned-at}
 use Rattle.cmark_span_walk.proofs.span_walk.SpanWalk.next_span.Goals as goal
 
+pub returns-then-not-self-clause-given : goal.returns-then-not-self-clause-given
+returns-then-not-self-clause-given g c = λ reader r. passes-none g.F.BrokenLinkCallback.answers g.E.EntityLookup.replacement reader c.args.self.now r
+
 pub returns-in-Some-clause-stands : goal.returns-in-Some-clause-stands
-returns-in-Some-clause-stands g c = spanned-stands c.args.self.now c.next.new.self c.requires c.if-not-self.false c.in_ok-given.ensures.slots c.in_ok-given.ensures.opened
+returns-in-Some-clause-stands g c =
+    let walk = c.args.self.now in
+    let s = c.requires in
+    let inside = c.if-not-self.false in
+    let e = c.in_ok-given.ensures in
+    (s.0, spanned-at walk c.next.new.self s.0 s.1 inside e.slots e.opened (e.left (given-left walk s.0 s.1 inside)))
 
 pub returns-in-Some-clause-given : goal.returns-in-Some-clause-given
-returns-in-Some-clause-given g c =
-    let follows = subst (λ o. Gives (source_of c.args.self.now) (opened_of c.args.self.now) o c.next.new.self.walk.opened.items) c.in-Some.is c.in_ok-given.ensures.gives in
-    let new = record c.args.self.now { inline = c.next.new.self } in
-    subst (λ r. (events : List Ranged) → Remains new events → Remains c.args.self.now (r ∷ events)) (sym c.ranged.ensures.value) (spanned-gives c.args.self.now c.next.new.self _ c.requires c.if-not-self.false follows)
+returns-in-Some-clause-given g c = λ reader r.
+    let walk = c.args.self.now in
+    let inside = c.if-not-self.false in
+    let e = c.in_ok-given.ensures in
+    let given = given-left walk r.left r.stands inside in
+    let new = record walk { inline = c.next.new.self } in
+    let follows = subst (λ o. GivesSlot (source_of walk) (opened_of walk) o c.next.new.self.walk.opened.items) c.in-Some.is e.gives in
+    let first = subst (λ o. IsFirst o (events_to_come walk.leaf walk.inline) (events_to_come walk.leaf c.next.new.self)) c.in-Some.is (e.events given) in
+    subst (λ x. HasRange (source_of walk) x × Passes g.F.BrokenLinkCallback.answers g.E.EntityLookup.replacement reader (x ∷ []) walk new) (sym c.ranged.ensures.value)
+    (follows.range, spanned g.F.BrokenLinkCallback.answers g.E.EntityLookup.replacement reader walk c.next.new.self _ r inside (spanned-at walk c.next.new.self r.left r.stands inside e.slots e.opened (e.left given)) e.expansion first)
 
 pub returns-in-None-clause-stands : goal.returns-in-None-clause-stands
-returns-in-None-clause-stands g c = closed-stands c.args.self.now c.next.new.self c.requires
+returns-in-None-clause-stands g c = let s = c.requires in (s.0, closed-at c.args.self.now c.next.new.self s.0 s.1)
 
 pub returns-in-None-clause-given : goal.returns-in-None-clause-given
-returns-in-None-clause-given g c =
-    let gives = subst (λ o. Gives (source_of c.args.self.now) (opened_of c.args.self.now) o c.next.new.self.walk.opened.items) c.in-None.is c.in_ok-given.ensures.gives in
-    (refl, closed-back c.args.self.now c.next.new.self c.requires c.if-not-self.false gives.0)
+returns-in-None-clause-given g c = λ reader r.
+    let walk = c.args.self.now in
+    let inside = c.if-not-self.false in
+    let e = c.in_ok-given.ensures in
+    let first = subst (λ o. IsFirst o (events_to_come walk.leaf walk.inline) (events_to_come walk.leaf c.next.new.self)) c.in-None.is (e.events (given-left walk r.left r.stands inside)) in
+    closed-passes g.F.BrokenLinkCallback.answers g.E.EntityLookup.replacement reader walk c.next.new.self r inside e.expansion first.0

@@ -1,0 +1,280 @@
+-- Steps of a walk with spans: what it reads.
+use Rattle.std.proofs.Common.{◌≡◌, ℕ, ◌<◌, ◌≤◌, ◌-◌, arith, Bool, true, false, List, [], ◌∷◌, ◌++◌, append_assoc, append-nil, drop, get_or, length, Option, None, Some, refl, sym, ap, ◌∙◌, subst}
+use Rattle.std.specs.Prelude.{option_map, is_some}
+use Rattle.std.proofs.Common.{Bor}
+use Rattle.std.specs.Global.{Vec}
+use Rattle.cmark_grammar.specs.Answers.{Lookup}
+use Rattle.cmark_grammar.specs.Columns.{is_blank_byte}
+use Rattle.cmark_grammar.specs.Event.{Ranged, Text}
+use Rattle.cmark_grammar.specs.LeafReading.{Between, ReadsLeaf as ReadsGrammarLeaf}
+use Rattle.cmark_grammar.specs.LeafText.{Leaf, Stretch}
+use Rattle.cmark_grammar.specs.LineBreaks.{blank_break_in}
+use Rattle.cmark_grammar.specs.Options.{Options}
+use Rattle.cmark_grammar.specs.Questions.{Exchange, IsNext}
+use Rattle.cmark_grammar.specs.Readers.{Reader}
+use Rattle.cmark_grammar.specs.SpanDocuments.{Segment, Given as GivenOf, Content, Left}
+use Rattle.cmark_grammar.specs.Tokens.{slice}
+use Rattle.cmark_inline.specs.Footnoted.{SameFootnotes}
+use Rattle.cmark_inline.specs.Linked.{said_by}
+use Rattle.cmark_inline.specs.PlainStretches.{StandUpTo}
+use Rattle.cmark_inline.specs.Resolved.{Answered}
+use Rattle.cmark_inline.specs.SlotViews.{events_to_come}
+use Rattle.cmark_inline.specs.declared.callback.BrokenLink.{BrokenLink}
+use Rattle.cmark_inline.specs.declared.state.InlineState.{InlineState}
+use Rattle.cmark_inline_model.specs.PlacedLeaves.{StandWhole}
+use Rattle.cmark_inline_model.proofs.Backwards.{left-given, left-leaf}
+use Rattle.cmark_inline_model.proofs.DecisionLaws.{decide-recorded}
+use Rattle.cmark_inline_model.proofs.DecisionShifted.{decide-shifted}
+use Rattle.cmark_inline_model.proofs.PlainLeaves.{plain-leaf}
+use Rattle.cmark_items.specs.Definitions.{definition}
+use Rattle.cmark_items.specs.declared.definitions.RefDefs.{RefDefs}
+use Rattle.cmark_leaf_text.specs.declared.stretch.LeafLine.{LeafLine}
+use Rattle.cmark_text.specs.Short.{IsShortZeroCopy, shown_short}
+use Rattle.cmark_text.specs.declared.short.Short.{Short}
+use Rattle.cmark_text.specs.declared.short.Short.TheVariants as short
+use Rattle.cmark_text.specs.declared.text.CowStr.{CowStr}
+use Rattle.cmark_walk.specs.declared.walk.Walk.{Walk}
+use Rattle.cmark_walk.specs.Walking as walking
+use Rattle.cmark_walk.specs.Walking.{AreLinesOf, lines_of}
+use Rattle.cmark_span_walk.specs.declared.span_walk.SpanWalk.{SpanWalk}
+use Rattle.cmark_span_walk.specs.Walking.{ArePlaced, Ends, EntersLeaf, HasRange, IsOnlyLine, IsReadBy, Passes, ReadsLeaf, ReadsSame, Remains, Stands, StandsAt, callback_of, definitions_of, expansion_of, source_of, spans_to_come}
+use Rattle.cmark_span_walk.proofs.Walks.{Lasts, behind-at, closed, closed-at, met-by, one-left, same-at}
+
+-- texts of which each byte stands for itself
+stand-whole : (options : Options) (lookup : Lookup) (is_cell : Bool) (text : List ℕ) → StandUpTo options lookup is_cell text 0 (length text) → StandWhole options lookup is_cell text
+stand-whole options lookup is_cell text h k lt blank =
+    let i = h k (omega arith) lt blank in
+    record { end = i.end; further = i.further; within = i.within; token = i.token }
+
+one-line : (ss : List Stretch) (line : LeafLine) → lines_of ss ≡ line ∷ [] → ss ≡ record { start = line.start; end = line.stop } ∷ []
+one-line [] line e = absurd (let q : [] ≡ line ∷ [] = e in cc)
+one-line (s ∷ []) line e = ap (λ (l : List LeafLine). stretches l) e
+  where
+    stretches : List LeafLine → List Stretch
+    stretches [] = []
+    stretches (l ∷ ls) = record { start = l.start; end = l.stop } ∷ []
+one-line (s ∷ (t ∷ ss)) line e = absurd (let q : line_of s ∷ (line_of t ∷ lines_of ss) ≡ line ∷ [] = e in cc)
+  where
+    line_of : Stretch → LeafLine
+    line_of s = record { start = s.start; stop = s.end; past = s.end }
+
+module _ {F : Type 0} (Says : F → BrokenLink → Option (CowStr × CowStr) → F → Type 0) where
+  -- questions behind others
+  pub answered-on : (xs ys : List Exchange) (a b c : F) → Answered Says xs a b → Answered Says ys b c → Answered Says (xs ++ ys) a c
+  answered-on [] ys a b c h k = subst (λ x. Answered Says ys x c) h k
+  answered-on (x ∷ xs) ys a b c h k = (h.0, h.1, answered-on xs ys h.0 b c h.2 k)
+
+module _ {E F : Type 0} (replacement : E → Lookup) (reader : Reader) where
+  -- what is left behind what the walk stands in
+  remains-left : (walk : SpanWalk E F) (r : IsReadBy replacement reader walk) (rest : List Exchange) (events : List Ranged) (m : Remains replacement reader walk rest events) → Left reader r.left (expansion_of walk) rest m.later
+  remains-left walk r rest events m = subst (λ l. Left reader l (expansion_of walk) rest m.later) (one-left walk m.read_by.left r.left m.read_by.stands.blocks r.stands.blocks) m.reads
+
+  -- outside of a leaf
+  pub outside-remains : (walk : SpanWalk E F) (r : IsReadBy replacement reader walk) → walk.in_leaf ≡ false → (rest : List Exchange) (events : List Ranged) → Left reader r.left (expansion_of walk) rest events → Remains replacement reader walk rest events
+  outside-remains walk r out rest events h = record { read_by = r; later = events; reads = h; are = sym (ap (λ b. spans_to_come b walk ++ events) out) }
+
+  pub remains-outside : (walk : SpanWalk E F) (r : IsReadBy replacement reader walk) → walk.in_leaf ≡ false → (rest : List Exchange) (events : List Ranged) → Remains replacement reader walk rest events → Left reader r.left (expansion_of walk) rest events
+  remains-outside walk r out rest events m = subst (Left reader r.left (expansion_of walk) rest) (sym (m.are ∙ ap (λ b. spans_to_come b walk ++ m.later) out)) (remains-left walk r rest events m)
+
+module _ {E F : Type 0} (Says : F → BrokenLink → Option (CowStr × CowStr) → F → Type 0) (replacement : E → Lookup) where
+  -- what is read over the turns of a call, for each reader
+  abbrev pub ReadsOn : (old new : SpanWalk E F) → Type 0
+  ReadsOn old new = (reader : Reader) → IsReadBy replacement reader old → Passes Says replacement reader [] old new
+
+  pub record Turns (old walk : SpanWalk E F) : Type 0 where
+    pub lasts : Lasts old walk
+    pub reads : ReadsOn old walk
+
+  module _ (reader : Reader) where
+    -- nothing was given yet
+    pub passes-none : (walk : SpanWalk E F) → IsReadBy replacement reader walk → Passes Says replacement reader [] walk walk
+    passes-none walk r = record { taken = []; answered = refl; read_by = r; back = λ rest events m. m }
+
+    -- steps behind one another
+    pub passes-on : (old mid new : SpanWalk E F) (front : List Ranged) → Passes Says replacement reader [] old mid → Passes Says replacement reader front mid new → Passes Says replacement reader front old new
+    passes-on old mid new front p q = record {
+      taken = p.taken ++ q.taken;
+      answered = answered-on Says p.taken q.taken (callback_of old) (callback_of mid) (callback_of new) p.answered q.answered;
+      read_by = q.read_by;
+      back = λ rest events m. subst (λ xs. Remains replacement reader old xs (front ++ events)) (sym (append_assoc p.taken q.taken rest)) (p.back (q.taken ++ rest) (front ++ events) (q.back rest events m));
+    }
+
+    pub ends-on : (old mid new : SpanWalk E F) → Passes Says replacement reader [] old mid → Ends Says replacement reader mid new → Ends Says replacement reader old new
+    ends-on old mid new p e = record {
+      taken = p.taken ++ e.taken;
+      answered = answered-on Says p.taken e.taken (callback_of old) (callback_of mid) (callback_of new) p.answered e.answered;
+      none = p.back e.taken [] e.none;
+    }
+
+    -- ## In a leaf
+
+    same-inline : (walk : SpanWalk E F) (inline : InlineState) → ReadsSame replacement reader walk → ReadsSame replacement reader (record walk { inline = inline })
+    same-inline walk inline s = record { source = s.source; options_are = s.options_are; lookup_is = s.lookup_is; definitions = s.definitions; footnotes_are = s.footnotes_are; callback = s.callback }
+
+    -- spans of the leaf, or none
+    pub spanned : (walk : SpanWalk E F) (inline : InlineState) (front : List Ranged) (r : IsReadBy replacement reader walk) → walk.in_leaf ≡ true → StandsAt (record walk { inline = inline }) r.left → inline.expansion ≡ walk.inline.expansion
+        → events_to_come walk.leaf walk.inline ≡ front ++ events_to_come walk.leaf inline → Passes Says replacement reader front walk (record walk { inline = inline })
+    spanned walk inline front r inside stands expansion first = record { taken = []; answered = refl; read_by = read; back = back }
+      where
+        new : SpanWalk E F
+        new = record walk { inline = inline }
+
+        read : IsReadBy replacement reader new
+        read = record { left = r.left; stands = stands; placed = r.placed; same = same-inline walk inline r.same }
+
+        back : (rest : List Exchange) (events : List Ranged) → Remains replacement reader new rest events → Remains replacement reader walk rest (front ++ events)
+        back rest events m = record {
+          read_by = r;
+          later = m.later;
+          reads = subst (λ n. Left reader r.left n rest m.later) expansion (remains-left replacement reader new read rest events m);
+          are =
+              ap (λ l. front ++ l) (m.are ∙ ap (λ b. spans_to_come b new ++ m.later) inside)
+              ∙ sym (append_assoc front (events_to_come walk.leaf inline) m.later)
+              ∙ ap (λ l. l ++ m.later) (sym first)
+              ∙ sym (ap (λ b. spans_to_come b walk ++ m.later) inside);
+        }
+
+    -- the leaf has no more
+    pub closed-passes : (walk : SpanWalk E F) (inline : InlineState) (r : IsReadBy replacement reader walk) → walk.in_leaf ≡ true → inline.expansion ≡ walk.inline.expansion → events_to_come walk.leaf walk.inline ≡ []
+        → Passes Says replacement reader [] walk (closed walk inline)
+    closed-passes walk inline r inside expansion none = record { taken = []; answered = refl; read_by = read; back = back }
+      where
+        new : SpanWalk E F
+        new = closed walk inline
+
+        read : IsReadBy replacement reader new
+        read = record {
+          left = r.left;
+          stands = closed-at walk inline r.left r.stands;
+          placed = r.placed;
+          same = record { source = r.same.source; options_are = r.same.options_are; lookup_is = r.same.lookup_is; definitions = r.same.definitions; footnotes_are = r.same.footnotes_are; callback = r.same.callback };
+        }
+
+        back : (rest : List Exchange) (events : List Ranged) → Remains replacement reader new rest events → Remains replacement reader walk rest events
+        back rest events m = record {
+          read_by = r;
+          later = events;
+          reads = subst (λ n. Left reader r.left n rest events) expansion (remains-outside replacement reader new read refl rest events m);
+          are = sym (ap (λ b. spans_to_come b walk ++ events) inside ∙ ap (λ l. l ++ events) none);
+        }
+
+    -- ## Outside of a leaf
+
+    module _ (mid : SpanWalk E F) (walk : Walk) (lines : Vec LeafLine) (out : mid.in_leaf ≡ false) (same-text : walking.text_of walk ≡ walking.text_of mid.walk) (known : walking.definitions_of walk ≡ definitions_of mid) where
+      pub met-same : (budget : ℕ) → ReadsSame replacement reader mid → ReadsSame replacement reader (met-by mid walk lines out same-text budget)
+      met-same budget s = record {
+        source = s.source;
+        options_are = s.options_are;
+        lookup_is = s.lookup_is;
+        definitions = λ folded. s.definitions folded ∙ ap (λ (t : RefDefs). option_map said_by (definition t folded)) (sym known);
+        footnotes_are = s.footnotes_are;
+        callback = s.callback;
+      }
+
+      -- an event of the document
+      pub event-passes : (budget : ℕ) (e : Ranged) (others : List Segment) (r : IsReadBy replacement reader mid) → r.left ≡ GivenOf e ∷ others → walking.Remains walk others → budget ≡ mid.budget - 1
+          → HasRange (source_of mid) e × Passes Says replacement reader (e ∷ []) mid (met-by mid walk lines out same-text budget)
+      event-passes budget e others r is remains less =
+          let new : SpanWalk E F = met-by mid walk lines out same-text budget in
+          let placed : ArePlaced reader (GivenOf e ∷ others) = subst (ArePlaced reader) is r.placed in
+          let read : IsReadBy replacement reader new = record { left = others; stands = behind-at mid walk lines out same-text budget r.left (GivenOf e) others r.stands is remains less; placed = placed.1; same = met-same budget r.same } in (
+            subst (λ t. HasRange t e) r.same.source placed.0,
+            record {
+              taken = [];
+              answered = refl;
+              read_by = read;
+              back = λ rest events m.
+                  outside-remains replacement reader mid r out rest (e ∷ events)
+                  (subst (λ l. Left reader l (expansion_of mid) rest (e ∷ events)) (sym is) (left-given reader e others (expansion_of mid) rest events (remains-outside replacement reader new read out rest events m)));
+            },
+          )
+
+      -- an event of another kind, which was not met yet
+      pub long-passes : (r : IsReadBy replacement reader mid) → walking.Remains walk r.left → Passes Says replacement reader [] mid (met-by mid walk lines out same-text mid.budget)
+      long-passes r remains =
+          let new : SpanWalk E F = met-by mid walk lines out same-text mid.budget in
+          let read : IsReadBy replacement reader new = record { left = r.left; stands = same-at mid walk lines out same-text r.left r.stands remains; placed = r.placed; same = met-same mid.budget r.same } in
+          record {
+            taken = [];
+            answered = refl;
+            read_by = read;
+            back = λ rest events m. outside-remains replacement reader mid r out rest events (remains-outside replacement reader new read out rest events m);
+          }
+
+      -- nothing
+      pub over-ends : (r : IsReadBy replacement reader mid) → r.left ≡ [] → Ends Says replacement reader mid (met-by mid walk lines out same-text mid.budget)
+      over-ends r is = record {
+        taken = [];
+        answered = refl;
+        none = outside-remains replacement reader mid r out [] [] (subst (λ l. Left reader l (expansion_of mid) [] []) (sym is) (record { after = record { expansion = expansion_of mid; asked = [] }; reads = (refl, refl); asked = refl }));
+      }
+
+      -- a leaf in front of what is left
+      behind-leaf : (leaf : Leaf) (others : List Segment) (r : IsReadBy replacement reader mid) → r.left ≡ Content leaf ∷ others → (taken rest : List Exchange) (spans later : List Ranged) (between : Between)
+          → ReadsGrammarLeaf reader (IsNext taken) leaf (record { expansion = expansion_of mid; asked = [] }) spans between → between.asked ≡ taken
+          → Left reader others between.expansion rest later → Remains replacement reader mid (taken ++ rest) (spans ++ later)
+      behind-leaf leaf others r is taken rest spans later between h asked left =
+          outside-remains replacement reader mid r out (taken ++ rest) (spans ++ later)
+          (subst (λ l. Left reader l (expansion_of mid) (taken ++ rest) (spans ++ later)) (sym is)
+          (left-leaf reader (decide-recorded reader) (decide-shifted reader) leaf others (expansion_of mid) taken rest spans later between h asked left))
+
+      -- a leaf that is entered
+      pub leaf-passes : (budget : ℕ) (leaf : Leaf) (others : List Segment) (new : SpanWalk E F) (r : IsReadBy replacement reader mid) → r.left ≡ Content leaf ∷ others → EntersLeaf others new
+          → ReadsLeaf Says replacement reader leaf (met-by mid walk lines out same-text budget) new → Passes Says replacement reader [] mid new
+      leaf-passes budget leaf others new r is enters reads = record { taken = reads.resolves.asked; answered = reads.resolves.answered; read_by = read; back = back }
+        where
+          taken : List Exchange
+          taken = reads.resolves.asked
+
+          placed : ArePlaced reader (Content leaf ∷ others)
+          placed = subst (ArePlaced reader) is r.placed
+
+          read : IsReadBy replacement reader new
+          read = record { left = others; stands = enters.stands; placed = placed.1; same = reads.same }
+
+          between : Between
+          between = record { expansion = expansion_of new; asked = taken }
+
+          leaf-read : ReadsGrammarLeaf reader (IsNext taken) leaf (record { expansion = expansion_of mid; asked = [] }) (events_to_come new.leaf new.inline) between
+          leaf-read = subst (λ xs. ReadsGrammarLeaf reader (IsNext xs) leaf (record { expansion = expansion_of mid; asked = [] }) (events_to_come new.leaf new.inline) between) (append-nil taken) (reads.resolves.reads [])
+
+          back : (rest : List Exchange) (events : List Ranged) → Remains replacement reader new rest events → Remains replacement reader mid (taken ++ rest) events
+          back rest events m =
+              subst (Remains replacement reader mid (taken ++ rest)) (sym (m.are ∙ ap (λ b. spans_to_come b new ++ m.later) enters.inside))
+              (behind-leaf leaf others r is taken rest (events_to_come new.leaf new.inline) m.later between leaf-read refl (remains-left replacement reader new read rest events m))
+
+      -- a leaf that is one plain text
+      pub plain-passes : (budget : ℕ) (leaf : Leaf) (others : List Segment) (text : List ℕ) (r : IsReadBy replacement reader mid) → r.left ≡ Content leaf ∷ others → walking.Remains walk others → budget ≡ mid.budget - 1
+          → (only : IsOnlyLine (source_of mid) lines.items text) → lines.items ≡ lines_of leaf.stretches → StandUpTo reader.options reader.lookup leaf.is_cell text 0 (length text)
+          → Passes Says replacement reader (record { event = Text text; start = only.line.start; end = only.line.stop } ∷ []) mid (met-by mid walk lines out same-text budget)
+      plain-passes budget leaf others text r is remains less only are plain = record { taken = []; answered = refl; read_by = read; back = back }
+        where
+          new : SpanWalk E F
+          new = met-by mid walk lines out same-text budget
+
+          placed : ArePlaced reader (Content leaf ∷ others)
+          placed = subst (ArePlaced reader) is r.placed
+
+          read : IsReadBy replacement reader new
+          read = record { left = others; stands = behind-at mid walk lines out same-text budget r.left (Content leaf) others r.stands is remains less; placed = placed.1; same = met-same budget r.same }
+
+          spans : List Ranged
+          spans = record { event = Text text; start = only.line.start; end = only.line.stop } ∷ []
+
+          between : Between
+          between = record { expansion = expansion_of mid; asked = [] }
+
+          text-is : text ≡ slice reader.source only.line.start only.line.stop
+          text-is = only.is ∙ ap (λ (t : List ℕ). slice t only.line.start only.line.stop) (sym r.same.source)
+
+          leaf-read : ReadsGrammarLeaf reader (IsNext []) leaf between spans between
+          leaf-read =
+              let some = only.part.some in
+              let whole = stand-whole reader.options reader.lookup leaf.is_cell text plain in
+              subst (λ (t : List ℕ). ReadsGrammarLeaf reader (IsNext []) leaf between (record { event = Text t; start = only.line.start; end = only.line.stop } ∷ []) between) (sym text-is)
+              (plain-leaf reader [] leaf between only.line.start only.line.stop (one-line leaf.stretches only.line (sym are ∙ only.alone)) some
+              (subst (λ (t : List ℕ). only.line.stop ≤ length t) (sym r.same.source) only.part.within)
+              (subst (StandWhole reader.options reader.lookup leaf.is_cell) text-is whole))
+
+          back : (rest : List Exchange) (events : List Ranged) → Remains replacement reader new rest events → Remains replacement reader mid rest (spans ++ events)
+          back rest events m = behind-leaf leaf others r is [] rest spans events between leaf-read refl (remains-outside replacement reader new read out rest events m)
