@@ -8,6 +8,7 @@ use Rattle.cmark_grammar.specs.Columns.{is_blank_byte}
 use Rattle.cmark_grammar.specs.Event.{Ranged, Text}
 use Rattle.cmark_grammar.specs.LeafReading.{Between, ReadsLeaf as ReadsGrammarLeaf}
 use Rattle.cmark_grammar.specs.LeafText.{Leaf, Stretch}
+use Rattle.cmark_grammar.specs.LeafSpans.{IsRange}
 use Rattle.cmark_grammar.specs.LineBreaks.{blank_break_in}
 use Rattle.cmark_grammar.specs.Options.{Options}
 use Rattle.cmark_grammar.specs.Questions.{Exchange, IsNext}
@@ -57,6 +58,12 @@ one-line (s ∷ (t ∷ ss)) line e = absurd (let q : line_of s ∷ (line_of t �
   where
     line_of : Stretch → LeafLine
     line_of s = record { start = s.start; stop = s.end; past = s.end }
+
+-- the range of a line
+pub plain-range : (source : List ℕ) (lines : List LeafLine) (text : List ℕ) → (only : IsOnlyLine source lines text) → IsRange source only.line.start only.line.stop
+plain-range source lines text only =
+    let some = only.part.some in
+    record { ordered = (let q : only.line.start ≤ only.line.stop = omega (arith, some) in q); within = only.part.within; starts = only.part.starts; ends = only.part.ends }
 
 module _ {F : Type 0} (Says : F → BrokenLink → Option (CowStr × CowStr) → F → Type 0) where
   -- questions behind others

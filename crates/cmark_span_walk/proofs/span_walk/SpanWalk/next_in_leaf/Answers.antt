@@ -1,8 +1,8 @@
 use Rattle.std.proofs.Common.{[], ◌∷◌, refl, sym, subst}
 use Rattle.cmark_text.specs.declared.short.Next.{Next}
-use Rattle.cmark_inline.specs.Shorts.{GivesToCome}
-use Rattle.cmark_inline.specs.Shorts as shorts
+use Rattle.cmark_inline.specs.Shorts.{IsNextFirst}
 use Rattle.cmark_inline.specs.SlotViews.{events_to_come}
+use Rattle.cmark_span_walk.specs.Walking.{opened_of, source_of}
 use Rattle.cmark_span_walk.proofs.Readings.{closed-passes, passes-none, spanned}
 use Rattle.cmark_span_walk.proofs.Walks.{closed-at, given-left, spanned-at}
 use Rattle.cmark_span_walk.proofs.span_walk.SpanWalk.next_in_leaf.Goals as goal
@@ -24,11 +24,11 @@ returns-in-Short-clause-given g c = λ reader r.
     let inside = c.if-not-self.false in
     let e = c.in_ok-short.ensures in
     let given = given-left walk r.left r.stands inside in
-    let h = subst (λ (n : Next). GivesToCome walk.leaf walk.inline n c.next_short.new.self) c.in-Short.is (e.events given) in
+    let h = subst (λ (n : Next). IsNextFirst (source_of walk) (opened_of walk) n c.next_short.new.self.walk.opened.items (events_to_come walk.leaf walk.inline) (events_to_come walk.leaf c.next_short.new.self)) c.in-Short.is e.events in
     record {
       given = h.given;
       is = h.is;
-      range = h.range;
+      range = h.follows.range;
       lent = h.lent;
       passes = spanned g.F.BrokenLinkCallback.answers g.E.EntityLookup.replacement reader walk c.next_short.new.self (h.given ∷ []) r inside (spanned-at walk c.next_short.new.self r.left r.stands inside e.slots e.opened (e.left given)) e.expansion h.first;
     }
@@ -39,13 +39,13 @@ returns-in-Long-clause-given g c = λ reader r.
     let inside = c.if-not-self.false in
     let e = c.in_ok-short.ensures in
     let given = given-left walk r.left r.stands inside in
-    let h = subst (λ (n : Next). GivesToCome walk.leaf walk.inline n c.next_short.new.self) c.in-Long.is (e.events given) in
-    spanned g.F.BrokenLinkCallback.answers g.E.EntityLookup.replacement reader walk c.next_short.new.self [] r inside (spanned-at walk c.next_short.new.self r.left r.stands inside e.slots e.opened (e.left given)) e.expansion (sym h)
+    let h = subst (λ (n : Next). IsNextFirst (source_of walk) (opened_of walk) n c.next_short.new.self.walk.opened.items (events_to_come walk.leaf walk.inline) (events_to_come walk.leaf c.next_short.new.self)) c.in-Long.is e.events in
+    spanned g.F.BrokenLinkCallback.answers g.E.EntityLookup.replacement reader walk c.next_short.new.self [] r inside (spanned-at walk c.next_short.new.self r.left r.stands inside e.slots e.opened (e.left given)) e.expansion (sym h.1)
 
 pub returns-in-Over-clause-given : goal.returns-in-Over-clause-given
 returns-in-Over-clause-given g c = λ reader r.
     let walk = c.args.self.now in
     let inside = c.if-not-self.false in
     let e = c.in_ok-short.ensures in
-    let h = subst (λ (n : Next). GivesToCome walk.leaf walk.inline n c.next_short.new.self) c.in-Over.is (e.events (given-left walk r.left r.stands inside)) in
-    closed-passes g.F.BrokenLinkCallback.answers g.E.EntityLookup.replacement reader walk c.next_short.new.self r inside e.expansion h
+    let h = subst (λ (n : Next). IsNextFirst (source_of walk) (opened_of walk) n c.next_short.new.self.walk.opened.items (events_to_come walk.leaf walk.inline) (events_to_come walk.leaf c.next_short.new.self)) c.in-Over.is e.events in
+    closed-passes g.F.BrokenLinkCallback.answers g.E.EntityLookup.replacement reader walk c.next_short.new.self r inside e.expansion h.0

@@ -1,124 +1,302 @@
 use Rattle.std.specs.Prelude.{is_some}
-use Rattle.std.proofs.Common.{refl, ap, ◌∙◌, subst}
+use Rattle.std.proofs.Common.{[], ◌∷◌, length, refl, sym, ap, ◌∙◌, subst}
+use Rattle.cmark_grammar.specs.Event.{Text}
+use Rattle.cmark_grammar.specs.SpanDocuments.{Content, Given as GivenOf}
+use Rattle.cmark_grammar.specs.SpecialBytes.{is_special}
 use Rattle.cmark_items.specs.Footnotes.{footnote}
 use Rattle.cmark_text.specs.declared.short.Next.{Next}
+use Rattle.cmark_text.specs.Short.{IsShortZeroCopy}
+use Rattle.cmark_text.specs.declared.short.Short.TheVariants as short
 use Rattle.cmark_walk.specs.declared.reading.Brief.{Brief}
 use Rattle.cmark_walk.specs.Walking as walking
-use Rattle.cmark_span_walk.specs.Walking.{GivesInLeaf}
-use Rattle.cmark_span_walk.proofs.Walks.{before-leaf, lasts-leaf, lasts-none, met-long, met-long-stands, met-short, met-short-stands, next-over, over-stands, plain-short, plain-stands}
+use Rattle.cmark_span_walk.specs.Walking.{ArePlaced, GivesInLeaf, HasRange, LeavesFewer, LeavesLeaf, source_of}
+use Rattle.cmark_span_walk.proofs.Readings.{ends-on, event-passes, leaf-passes, long-passes, met-same, over-ends, passes-none, passes-on, plain-passes, plain-range}
+use Rattle.cmark_span_walk.proofs.Walks.{before-leaf, behind-at, lasts-leaf, lasts-none, less-since, met-by, met-fewer, most-since, over-at, same-at}
 use Rattle.cmark_span_walk.proofs.span_walk.SpanWalk.next_short.Goals as goal
 
 pub loop-short-init : goal.loop-short-init
-loop-short-init g c = lasts-none c.args.self.now c.requires
+loop-short-init g c =
+    record { lasts = lasts-none c.args.self.now c.requires; reads = λ reader r. passes-none g.F.BrokenLinkCallback.answers g.E.EntityLookup.replacement reader c.args.self.now r }
+
+pub returns-in-Short-clause-given : goal.returns-in-Short-clause-given
+returns-in-Short-clause-given g c = λ reader r.
+    let old = c.args.self.now in
+    let head = c.loop-short.self in
+    let new = c.next_in_leaf.new.self in
+    let p = c.loop-short.invariant.reads reader r in
+    let h = subst (λ (n : Next). GivesInLeaf g.F.BrokenLinkCallback.answers g.E.EntityLookup.replacement reader head n new) c.in-Short.is (c.in_ok-short.ensures.given reader p.read_by) in
+    let source = c.loop-short.invariant.lasts.source in
+    record {
+      given = h.given;
+      is = h.is;
+      range = subst (λ t. HasRange t h.given) source h.range;
+      lent = subst (λ t. IsShortZeroCopy t c.in-Short.short h.given.start h.given.end) source h.lent;
+      passes = passes-on g.F.BrokenLinkCallback.answers g.E.EntityLookup.replacement reader old head new (h.given ∷ []) p h.passes;
+    }
+
+pub returns-in-Long-clause-given : goal.returns-in-Long-clause-given
+returns-in-Long-clause-given g c = λ reader r.
+    let old = c.args.self.now in
+    let head = c.loop-short.self in
+    let new = c.next_in_leaf.new.self in
+    let p = c.loop-short.invariant.reads reader r in
+    let h = subst (λ (n : Next). GivesInLeaf g.F.BrokenLinkCallback.answers g.E.EntityLookup.replacement reader head n new) c.in-Long.is (c.in_ok-short.ensures.given reader p.read_by) in
+    passes-on g.F.BrokenLinkCallback.answers g.E.EntityLookup.replacement reader old head new [] p h
+
+pub returns-in-Short-clause-fewer : goal.returns-in-Short-clause-fewer
+returns-in-Short-clause-fewer g c =
+    let head = c.loop-short.self in
+    let new = c.next_in_leaf.new.self in
+    let e = c.in_ok-short.ensures in
+    less-since c.args.self.now head new c.loop-short.invariant.lasts (subst (λ (n : Next). LeavesFewer head n new) c.in-Short.is e.fewer) e.few e.slots e.budget
+
+pub returns-in-Long-clause-fewer : goal.returns-in-Long-clause-fewer
+returns-in-Long-clause-fewer g c =
+    let e = c.in_ok-short.ensures in
+    most-since c.args.self.now c.loop-short.self c.next_in_leaf.new.self c.loop-short.invariant.lasts e.most e.few e.slots e.budget
+
+pub returns-in-Long-2-clause-fewer : goal.returns-in-Long-2-clause-fewer
+returns-in-Long-2-clause-fewer g c =
+    let e = c.in_ok-short.ensures in
+    most-since c.args.self.now c.loop-short.self c.next_in_leaf.new.self c.loop-short.invariant.lasts e.most e.few e.slots e.budget
 
 pub returns-in-Short-2-clause-stands : goal.returns-in-Short-2-clause-stands
 returns-in-Short-2-clause-stands g c =
+    let old = c.args.self.now in
+    let head = c.loop-short.self in
     let mid = c.next_in_leaf.new.self in
+    let walk = c.next_short.new.self in
+    let lines = c.next_short.new.lines in
     let e = c.in_ok-short.ensures in
+    let m = c.in_ok-short-2.ensures in
+    let out = subst (λ (n : Next). LeavesLeaf n mid) c.in-Over.is e.outside in
     let s = e.stands in
-    let none = subst (λ (n : Next). GivesInLeaf c.loop-short.self n mid) c.in-Over.is e.given in
-    let given = subst (λ (b : Brief). walking.GivesBrief mid.walk b c.next_short.new.lines.items c.next_short.new.self) c.in-Short-2.is c.in_ok-short-2.ensures.given in
-    met-short-stands mid c.next_short.new.self c.next_short.new.lines s none.0 c.in_ok-short-2.ensures.text _ c.in-Short-2.short given refl
+    let given = subst (λ (b : Brief). walking.GivesBrief mid.walk b lines.items walk) c.in-Short-2.is m.given in
+    let first = given.gives s.0 s.1.blocks.remains in
+    (first.0, behind-at mid walk lines out m.text _ s.0 (GivenOf given.given) first.0 s.1 first.1 first.2 refl)
 
 pub returns-in-Short-2-clause-given : goal.returns-in-Short-2-clause-given
-returns-in-Short-2-clause-given g c =
+returns-in-Short-2-clause-given g c = λ reader r.
+    let old = c.args.self.now in
+    let head = c.loop-short.self in
     let mid = c.next_in_leaf.new.self in
+    let walk = c.next_short.new.self in
+    let lines = c.next_short.new.lines in
     let e = c.in_ok-short.ensures in
+    let m = c.in_ok-short-2.ensures in
+    let out = subst (λ (n : Next). LeavesLeaf n mid) c.in-Over.is e.outside in
+    let given = subst (λ (b : Brief). walking.GivesBrief mid.walk b lines.items walk) c.in-Short-2.is m.given in
+    let p = c.loop-short.invariant.reads reader r in
+    let none = subst (λ (n : Next). GivesInLeaf g.F.BrokenLinkCallback.answers g.E.EntityLookup.replacement reader head n mid) c.in-Over.is (e.given reader p.read_by) in
+    let q = passes-on g.F.BrokenLinkCallback.answers g.E.EntityLookup.replacement reader old head mid [] p none in
+    let by = q.read_by in
+    let first = given.gives by.left by.stands.blocks.remains in
+    let source = e.source ∙ c.loop-short.invariant.lasts.source in
+    let event = event-passes g.F.BrokenLinkCallback.answers g.E.EntityLookup.replacement reader mid walk lines out m.text m.definitions _ given.given first.0 by first.1 first.2 refl in
+    record {
+      given = given.given;
+      is = given.is;
+      range = subst (λ t. HasRange t given.given) source event.0;
+      lent = subst (λ t. IsShortZeroCopy t c.in-Short-2.short given.given.start given.given.end) (by.stands.blocks.same_text ∙ source) given.lent;
+      passes = passes-on g.F.BrokenLinkCallback.answers g.E.EntityLookup.replacement reader old mid _ (given.given ∷ []) q event.1;
+    }
+
+pub returns-in-Short-2-clause-fewer : goal.returns-in-Short-2-clause-fewer
+returns-in-Short-2-clause-fewer g c =
+    let old = c.args.self.now in
+    let head = c.loop-short.self in
+    let mid = c.next_in_leaf.new.self in
+    let walk = c.next_short.new.self in
+    let lines = c.next_short.new.lines in
+    let e = c.in_ok-short.ensures in
+    let m = c.in_ok-short-2.ensures in
+    let out = subst (λ (n : Next). LeavesLeaf n mid) c.in-Over.is e.outside in
     let s = e.stands in
-    let none = subst (λ (n : Next). GivesInLeaf c.loop-short.self n mid) c.in-Over.is e.given in
-    let given = subst (λ (b : Brief). walking.GivesBrief mid.walk b c.next_short.new.lines.items c.next_short.new.self) c.in-Short-2.is c.in_ok-short-2.ensures.given in
-    met-short mid c.next_short.new.self c.next_short.new.lines s none.0 c.in_ok-short-2.ensures.text c.args.self.now c.loop-short.self _ c.in-Short-2.short given c.loop-short.invariant none.1 e.source e.most e.few e.slots e.budget refl
+    let given = subst (λ (b : Brief). walking.GivesBrief mid.walk b lines.items walk) c.in-Short-2.is m.given in
+    let first = given.gives s.0 s.1.blocks.remains in
+    met-fewer mid walk lines out m.text old head _ s.0 (GivenOf given.given) first.0 s.1 first.1 c.loop-short.invariant.lasts e.most e.few e.slots e.budget refl
 
 pub plain_text-requires : goal.plain_text-requires
 plain_text-requires g c κs =
+    let old = c.args.self.now in
+    let head = c.loop-short.self in
     let mid = c.next_in_leaf.new.self in
+    let walk = c.next_short.new.self in
+    let lines = c.next_short.new.lines in
     let e = c.in_ok-short.ensures in
+    let m = c.in_ok-short-2.ensures in
+    let out = subst (λ (n : Next). LeavesLeaf n mid) c.in-Over.is e.outside in
     let s = e.stands in
-    let none = subst (λ (n : Next). GivesInLeaf c.loop-short.self n mid) c.in-Over.is e.given in
-    let given = subst (λ (b : Brief). walking.GivesBrief mid.walk b c.next_short.new.lines.items c.next_short.new.self) c.in-Leaf.is c.in_ok-short-2.ensures.given in
+    let given = subst (λ (b : Brief). walking.GivesBrief mid.walk b lines.items walk) c.in-Leaf.is m.given in
     let gives = given s.0 s.1.blocks.remains in
-    let before = before-leaf mid c.next_short.new.self c.next_short.new.lines s none.0 c.in_ok-short-2.ensures.text c.in-Leaf.is_cell _ gives.0 gives.1 gives.2 gives.3 gives.4 gives.5 refl in
+    let before = before-leaf mid walk lines out m.text c.in-Leaf.is_cell _ s.0 gives.0 gives.1 s.1 gives.2 gives.3 gives.4 gives.5 refl in
     ((refl, tt), before.lines.in_turn)
 
 pub returns-in-Some-clause-stands : goal.returns-in-Some-clause-stands
 returns-in-Some-clause-stands g c =
+    let old = c.args.self.now in
+    let head = c.loop-short.self in
     let mid = c.next_in_leaf.new.self in
+    let walk = c.next_short.new.self in
+    let lines = c.next_short.new.lines in
     let e = c.in_ok-short.ensures in
+    let m = c.in_ok-short-2.ensures in
+    let out = subst (λ (n : Next). LeavesLeaf n mid) c.in-Over.is e.outside in
     let s = e.stands in
-    let none = subst (λ (n : Next). GivesInLeaf c.loop-short.self n mid) c.in-Over.is e.given in
-    let given = subst (λ (b : Brief). walking.GivesBrief mid.walk b c.next_short.new.lines.items c.next_short.new.self) c.in-Leaf.is c.in_ok-short-2.ensures.given in
+    let given = subst (λ (b : Brief). walking.GivesBrief mid.walk b lines.items walk) c.in-Leaf.is m.given in
     let gives = given s.0 s.1.blocks.remains in
-    plain-stands mid c.next_short.new.self c.next_short.new.lines s none.0 c.in_ok-short-2.ensures.text _ gives.0 gives.1 gives.2 gives.4 refl
+    (gives.1, behind-at mid walk lines out m.text _ s.0 (Content gives.0) gives.1 s.1 gives.2 gives.4 refl)
 
 pub returns-in-Some-clause-given : goal.returns-in-Some-clause-given
-returns-in-Some-clause-given g c =
+returns-in-Some-clause-given g c = λ reader r.
+    let old = c.args.self.now in
+    let head = c.loop-short.self in
     let mid = c.next_in_leaf.new.self in
+    let walk = c.next_short.new.self in
+    let lines = c.next_short.new.lines in
     let e = c.in_ok-short.ensures in
+    let m = c.in_ok-short-2.ensures in
+    let out = subst (λ (n : Next). LeavesLeaf n mid) c.in-Over.is e.outside in
+    let given = subst (λ (b : Brief). walking.GivesBrief mid.walk b lines.items walk) c.in-Leaf.is m.given in
+    let p = c.loop-short.invariant.reads reader r in
+    let none = subst (λ (n : Next). GivesInLeaf g.F.BrokenLinkCallback.answers g.E.EntityLookup.replacement reader head n mid) c.in-Over.is (e.given reader p.read_by) in
+    let q = passes-on g.F.BrokenLinkCallback.answers g.E.EntityLookup.replacement reader old head mid [] p none in
+    let by = q.read_by in
+    let gives = given by.left by.stands.blocks.remains in
+    let only = c.in-Some.ensures.line in
+    let special = by.stands.blocks.special in
+    let plain = c.in-Some.ensures.plain reader.options reader.lookup gives.0.is_cell (λ byte less. special byte less ∙ ap (λ o. is_special o byte) (sym by.same.options_are)) in
+    let source = e.source ∙ c.loop-short.invariant.lasts.source in
+    record {
+      given = record { event = Text c.in-Some.text.now; start = only.line.start; end = only.line.stop };
+      is = refl;
+      range = subst (λ t. HasRange t (record { event = Text c.in-Some.text.now; start = only.line.start; end = only.line.stop })) source (plain-range mid.leaf.source.now lines.items c.in-Some.text.now only);
+      lent = subst (λ t. IsShortZeroCopy t (short.Text c.in-Some.text) only.line.start only.line.stop) source only.is;
+      passes = passes-on g.F.BrokenLinkCallback.answers g.E.EntityLookup.replacement reader old mid _ _ q (plain-passes g.F.BrokenLinkCallback.answers g.E.EntityLookup.replacement reader mid walk lines out m.text m.definitions _ gives.0 gives.1 c.in-Some.text.now by gives.2 gives.4 refl only gives.3.are plain);
+    }
+
+pub returns-in-Some-clause-fewer : goal.returns-in-Some-clause-fewer
+returns-in-Some-clause-fewer g c =
+    let old = c.args.self.now in
+    let head = c.loop-short.self in
+    let mid = c.next_in_leaf.new.self in
+    let walk = c.next_short.new.self in
+    let lines = c.next_short.new.lines in
+    let e = c.in_ok-short.ensures in
+    let m = c.in_ok-short-2.ensures in
+    let out = subst (λ (n : Next). LeavesLeaf n mid) c.in-Over.is e.outside in
     let s = e.stands in
-    let none = subst (λ (n : Next). GivesInLeaf c.loop-short.self n mid) c.in-Over.is e.given in
-    let given = subst (λ (b : Brief). walking.GivesBrief mid.walk b c.next_short.new.lines.items c.next_short.new.self) c.in-Leaf.is c.in_ok-short-2.ensures.given in
+    let given = subst (λ (b : Brief). walking.GivesBrief mid.walk b lines.items walk) c.in-Leaf.is m.given in
     let gives = given s.0 s.1.blocks.remains in
-    plain-short mid c.next_short.new.self c.next_short.new.lines s none.0 c.in_ok-short-2.ensures.text c.args.self.now c.loop-short.self _ c.in-Some.text gives.0 gives.1 c.in-Some.ensures.line gives.2 gives.4
-    c.loop-short.invariant none.1 e.source e.most e.few e.slots e.budget refl
+    met-fewer mid walk lines out m.text old head _ s.0 (Content gives.0) gives.1 s.1 gives.2 c.loop-short.invariant.lasts e.most e.few e.slots e.budget refl
 
 pub enter_leaf-requires : goal.enter_leaf-requires
 enter_leaf-requires g c κs =
+    let old = c.args.self.now in
+    let head = c.loop-short.self in
     let mid = c.next_in_leaf.new.self in
+    let walk = c.next_short.new.self in
+    let lines = c.next_short.new.lines in
     let e = c.in_ok-short.ensures in
+    let m = c.in_ok-short-2.ensures in
+    let out = subst (λ (n : Next). LeavesLeaf n mid) c.in-Over.is e.outside in
     let s = e.stands in
-    let none = subst (λ (n : Next). GivesInLeaf c.loop-short.self n mid) c.in-Over.is e.given in
-    let given = subst (λ (b : Brief). walking.GivesBrief mid.walk b c.next_short.new.lines.items c.next_short.new.self) c.in-Leaf.is c.in_ok-short-2.ensures.given in
+    let given = subst (λ (b : Brief). walking.GivesBrief mid.walk b lines.items walk) c.in-Leaf.is m.given in
     let gives = given s.0 s.1.blocks.remains in
-    ((refl, tt), (gives.0, gives.1, before-leaf mid c.next_short.new.self c.next_short.new.lines s none.0 c.in_ok-short-2.ensures.text c.in-Leaf.is_cell _ gives.0 gives.1 gives.2 gives.3 gives.4 gives.5 refl))
+    ((refl, tt), (gives.0, gives.1, before-leaf mid walk lines out m.text c.in-Leaf.is_cell _ s.0 gives.0 gives.1 s.1 gives.2 gives.3 gives.4 gives.5 refl))
 
 pub loop-short-preserved : goal.loop-short-preserved
 loop-short-preserved g c =
+    let old = c.args.self.now in
+    let head = c.loop-short.self in
     let mid = c.next_in_leaf.new.self in
+    let walk = c.next_short.new.self in
+    let lines = c.next_short.new.lines in
     let e = c.in_ok-short.ensures in
+    let m = c.in_ok-short-2.ensures in
+    let out = subst (λ (n : Next). LeavesLeaf n mid) c.in-Over.is e.outside in
     let s = e.stands in
-    let none = subst (λ (n : Next). GivesInLeaf c.loop-short.self n mid) c.in-Over.is e.given in
-    let given = subst (λ (b : Brief). walking.GivesBrief mid.walk b c.next_short.new.lines.items c.next_short.new.self) c.in-Leaf.is c.in_ok-short-2.ensures.given in
+    let given = subst (λ (b : Brief). walking.GivesBrief mid.walk b lines.items walk) c.in-Leaf.is m.given in
     let gives = given s.0 s.1.blocks.remains in
     let entered = c.in_ok-enter_leaf-in-Leaf.ensures in
-    let before = before-leaf mid c.next_short.new.self c.next_short.new.lines s none.0 c.in_ok-short-2.ensures.text c.in-Leaf.is_cell _ gives.0 gives.1 gives.2 gives.3 gives.4 gives.5 refl in
-    lasts-leaf mid c.next_short.new.self c.next_short.new.lines s none.0 c.in_ok-short-2.ensures.text c.args.self.now c.loop-short.self c.enter_leaf.new.self gives.0 gives.1 c.loop-short.invariant e.budget none.1
-    (entered.definitions ∙ c.in_ok-short-2.ensures.definitions ∙ e.definitions)
-    (λ folded. entered.footnotes folded ∙ ap (λ t. is_some (footnote t folded)) e.footnotes) e.source gives.2 (entered.enters gives.0 gives.1 before) entered.source entered.budget
+    let new = c.enter_leaf.new.self in
+    let before = before-leaf mid walk lines out m.text c.in-Leaf.is_cell _ s.0 gives.0 gives.1 s.1 gives.2 gives.3 gives.4 gives.5 refl in
+    record {
+      lasts = lasts-leaf mid walk lines out m.text old head new s.0 gives.0 gives.1 s.1 c.loop-short.invariant.lasts e.budget (entered.definitions ∙ m.definitions ∙ e.definitions)
+          (λ folded. entered.footnotes folded ∙ ap (λ t. is_some (footnote t folded)) e.footnotes) e.source gives.2 (entered.enters gives.0 gives.1 before) entered.source entered.budget;
+      reads = λ reader r.
+          let p = c.loop-short.invariant.reads reader r in
+          let none = subst (λ (n : Next). GivesInLeaf g.F.BrokenLinkCallback.answers g.E.EntityLookup.replacement reader head n mid) c.in-Over.is (e.given reader p.read_by) in
+          let q = passes-on g.F.BrokenLinkCallback.answers g.E.EntityLookup.replacement reader old head mid [] p none in
+          let by = q.read_by in
+          let met = given by.left by.stands.blocks.remains in
+          let here = before-leaf mid walk lines out m.text c.in-Leaf.is_cell _ by.left met.0 met.1 by.stands met.2 met.3 met.4 met.5 refl in
+          let placed : ArePlaced reader (Content met.0 ∷ met.1) = subst (ArePlaced reader) met.2 by.placed in
+          passes-on g.F.BrokenLinkCallback.answers g.E.EntityLookup.replacement reader old mid new [] q
+          (leaf-passes g.F.BrokenLinkCallback.answers g.E.EntityLookup.replacement reader mid walk lines out m.text m.definitions _ met.0 met.1 new by met.2 (entered.enters met.0 met.1 here)
+          (entered.reads reader met.0 met.1 here placed.0 (met-same g.F.BrokenLinkCallback.answers g.E.EntityLookup.replacement reader mid walk lines out m.text m.definitions _ by.same)));
+    }
 
 pub returns-in-Long-2-clause-stands : goal.returns-in-Long-2-clause-stands
 returns-in-Long-2-clause-stands g c =
+    let old = c.args.self.now in
+    let head = c.loop-short.self in
     let mid = c.next_in_leaf.new.self in
+    let walk = c.next_short.new.self in
+    let lines = c.next_short.new.lines in
     let e = c.in_ok-short.ensures in
+    let m = c.in_ok-short-2.ensures in
+    let out = subst (λ (n : Next). LeavesLeaf n mid) c.in-Over.is e.outside in
     let s = e.stands in
-    let none = subst (λ (n : Next). GivesInLeaf c.loop-short.self n mid) c.in-Over.is e.given in
-    let given = subst (λ (b : Brief). walking.GivesBrief mid.walk b c.next_short.new.lines.items c.next_short.new.self) c.in-Long-2.is c.in_ok-short-2.ensures.given in
-    met-long-stands mid c.next_short.new.self c.next_short.new.lines s none.0 c.in_ok-short-2.ensures.text (given s.0 s.1.blocks.remains)
+    let given = subst (λ (b : Brief). walking.GivesBrief mid.walk b lines.items walk) c.in-Long-2.is m.given in
+    (s.0, same-at mid walk lines out m.text s.0 s.1 (given s.0 s.1.blocks.remains))
 
 pub returns-in-Long-2-clause-given : goal.returns-in-Long-2-clause-given
-returns-in-Long-2-clause-given g c =
+returns-in-Long-2-clause-given g c = λ reader r.
+    let old = c.args.self.now in
+    let head = c.loop-short.self in
     let mid = c.next_in_leaf.new.self in
+    let walk = c.next_short.new.self in
+    let lines = c.next_short.new.lines in
     let e = c.in_ok-short.ensures in
-    let s = e.stands in
-    let none = subst (λ (n : Next). GivesInLeaf c.loop-short.self n mid) c.in-Over.is e.given in
-    let given = subst (λ (b : Brief). walking.GivesBrief mid.walk b c.next_short.new.lines.items c.next_short.new.self) c.in-Long-2.is c.in_ok-short-2.ensures.given in
-    met-long mid c.next_short.new.self c.next_short.new.lines s none.0 c.in_ok-short-2.ensures.text c.args.self.now c.loop-short.self (given s.0 s.1.blocks.remains) c.loop-short.invariant none.1 e.most e.few e.slots e.budget
+    let m = c.in_ok-short-2.ensures in
+    let out = subst (λ (n : Next). LeavesLeaf n mid) c.in-Over.is e.outside in
+    let given = subst (λ (b : Brief). walking.GivesBrief mid.walk b lines.items walk) c.in-Long-2.is m.given in
+    let p = c.loop-short.invariant.reads reader r in
+    let none = subst (λ (n : Next). GivesInLeaf g.F.BrokenLinkCallback.answers g.E.EntityLookup.replacement reader head n mid) c.in-Over.is (e.given reader p.read_by) in
+    let q = passes-on g.F.BrokenLinkCallback.answers g.E.EntityLookup.replacement reader old head mid [] p none in
+    let by = q.read_by in
+    passes-on g.F.BrokenLinkCallback.answers g.E.EntityLookup.replacement reader old mid _ [] q (long-passes g.F.BrokenLinkCallback.answers g.E.EntityLookup.replacement reader mid walk lines out m.text m.definitions by (given by.left by.stands.blocks.remains))
 
 pub returns-in-Over-2-clause-stands : goal.returns-in-Over-2-clause-stands
 returns-in-Over-2-clause-stands g c =
+    let old = c.args.self.now in
+    let head = c.loop-short.self in
     let mid = c.next_in_leaf.new.self in
+    let walk = c.next_short.new.self in
+    let lines = c.next_short.new.lines in
     let e = c.in_ok-short.ensures in
+    let m = c.in_ok-short-2.ensures in
+    let out = subst (λ (n : Next). LeavesLeaf n mid) c.in-Over.is e.outside in
     let s = e.stands in
-    let none = subst (λ (n : Next). GivesInLeaf c.loop-short.self n mid) c.in-Over.is e.given in
-    let given = subst (λ (b : Brief). walking.GivesBrief mid.walk b c.next_short.new.lines.items c.next_short.new.self) c.in-Over-2.is c.in_ok-short-2.ensures.given in
+    let given = subst (λ (b : Brief). walking.GivesBrief mid.walk b lines.items walk) c.in-Over-2.is m.given in
     let gives = given s.0 s.1.blocks.remains in
-    over-stands mid c.next_short.new.self c.next_short.new.lines s none.0 c.in_ok-short-2.ensures.text gives.0 gives.1
+    ([], over-at mid walk lines out m.text s.0 s.1 gives.0 gives.1)
 
 pub returns-in-Over-2-clause-given : goal.returns-in-Over-2-clause-given
-returns-in-Over-2-clause-given g c =
+returns-in-Over-2-clause-given g c = λ reader r.
+    let old = c.args.self.now in
+    let head = c.loop-short.self in
     let mid = c.next_in_leaf.new.self in
+    let walk = c.next_short.new.self in
+    let lines = c.next_short.new.lines in
     let e = c.in_ok-short.ensures in
-    let s = e.stands in
-    let none = subst (λ (n : Next). GivesInLeaf c.loop-short.self n mid) c.in-Over.is e.given in
-    let given = subst (λ (b : Brief). walking.GivesBrief mid.walk b c.next_short.new.lines.items c.next_short.new.self) c.in-Over-2.is c.in_ok-short-2.ensures.given in
-    let gives = given s.0 s.1.blocks.remains in
-    next-over mid c.next_short.new.self c.next_short.new.lines s none.0 c.in_ok-short-2.ensures.text c.args.self.now c.loop-short.self c.loop-short.invariant none.1 gives.0
+    let m = c.in_ok-short-2.ensures in
+    let out = subst (λ (n : Next). LeavesLeaf n mid) c.in-Over.is e.outside in
+    let given = subst (λ (b : Brief). walking.GivesBrief mid.walk b lines.items walk) c.in-Over-2.is m.given in
+    let p = c.loop-short.invariant.reads reader r in
+    let none = subst (λ (n : Next). GivesInLeaf g.F.BrokenLinkCallback.answers g.E.EntityLookup.replacement reader head n mid) c.in-Over.is (e.given reader p.read_by) in
+    let q = passes-on g.F.BrokenLinkCallback.answers g.E.EntityLookup.replacement reader old head mid [] p none in
+    let by = q.read_by in
+    let gives = given by.left by.stands.blocks.remains in
+    ends-on g.F.BrokenLinkCallback.answers g.E.EntityLookup.replacement reader old mid _ q (over-ends g.F.BrokenLinkCallback.answers g.E.EntityLookup.replacement reader mid walk lines out m.text m.definitions by gives.0)
