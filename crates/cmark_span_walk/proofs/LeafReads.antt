@@ -61,8 +61,8 @@ line-place from (s ∷ (t ∷ ss)) size k h lt =
     (λ l. by-less (λ p. place_on (lines_of (t ∷ ss)) (k - m) ≡ p) rest ((m + rest) - k) (s.end - (((m + rest) - k) - rest)) (place_with ((m + rest) - k) (t ∷ ss))
     (λ less. absurd (omega (arith, less, l, lt)))
     (λ more.
-        line-place s.end (t ∷ ss) size (k - m) h.2 (let q : k - m < rest = omega (arith, l, lt) in q)
-        ∙ ap (λ n. place_with n (t ∷ ss)) (let q : rest - (k - m) ≡ (m + rest) - k = omega (arith, l, lt) in q)))
+    line-place s.end (t ∷ ss) size (k - m) h.2 (let q : k - m < rest = omega (arith, l, lt) in q)
+    ∙ ap (λ n. place_with n (t ∷ ss)) (let q : rest - (k - m) ≡ (m + rest) - k = omega (arith, l, lt) in q)))
 
 module _ (reader : Reader) (leaf : Leaf) (placed : IsPlaced reader leaf) where
   whole-text : places.text_of reader leaf ≡ all_bytes reader.source leaf.stretches

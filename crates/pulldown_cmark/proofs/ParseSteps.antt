@@ -1,65 +1,176 @@
 -- Steps of a walk.
-use Rattle.std.specs.Prelude.{IfOk, OnOk, Result, Err, ◌++◌}
+use Rattle.std.specs.Prelude.{IfOk, Option, Result, Err, IsUtf8, is_some, max, option_map}
 use Rattle.std.specs.declared.alloc.AllocError.{AllocError}
-use Rattle.std.proofs.Common.{◌≡◌, ◌+◌, ◌*◌, ◌<◌, ℕ, suc, true, false, if◌then◌else◌, List, [], ◌∷◌, length, None, Some, Ok, inl, inr, refl, sym, ap, ◌∙◌, subst, arith}
+use Rattle.std.proofs.Common.{◌≡◌, ◌+◌, ◌*◌, ◌<◌, ℕ, suc, Bool, true, false, if◌then◌else◌, List, [], ◌∷◌, ◌++◌, length, None, Some, Ok, inl, inr, refl, sym, ap, ◌∙◌, subst, arith}
 use Rattle.cmark_block_model.proofs.Drawings.{derived}
 use Rattle.cmark_block_model.proofs.LeafDrawings.{segments-bounded}
+use Rattle.cmark_blocks.specs.Footnotes.{HasLabels, unused_if}
+use Rattle.cmark_blocks.specs.Runs.{shown_reference}
 use Rattle.cmark_grammar.specs.Answers.{Lookup}
+use Rattle.cmark_grammar.specs.BlockDocument.{Reference}
+use Rattle.cmark_grammar.specs.BracketDecisions.{or_empty}
 use Rattle.cmark_grammar.specs.Derivation.{document}
 use Rattle.cmark_grammar.specs.Event.{Ranged}
-use Rattle.cmark_grammar.specs.LeafSpans.{AreGiven}
+use Rattle.cmark_grammar.specs.Labels.{fold}
 use Rattle.cmark_grammar.specs.Options.{Options}
-use Rattle.cmark_grammar.specs.SpanDocuments.{Segment, segments}
-use Rattle.cmark_grammar.proofs.LeafSpanLaws.{some-given}
+use Rattle.cmark_grammar.specs.Questions.{Exchange, Plan}
+use Rattle.cmark_grammar.specs.Readers.{Reader}
+use Rattle.cmark_grammar.specs.References.{first_with, references}
+use Rattle.cmark_grammar.specs.SpanDocuments.{Content, Given as GivenOf, Segment, footnote_labels, has_label, segments}
+use Rattle.cmark_grammar.specs.SpanDocuments as documents
+use Rattle.cmark_inline.specs.Decided.{said}
 use Rattle.cmark_inline.specs.Footnoted.{SameFootnotes}
+use Rattle.cmark_inline.specs.Linked.{Said, said_by, title_or_none}
+use Rattle.cmark_inline.specs.Resolved.{Answered}
+use Rattle.cmark_inline.specs.declared.callback.BrokenLink.{BrokenLink}
+use Rattle.cmark_inline_model.specs.CharacterRanges.{HaveRanges}
+use Rattle.cmark_inline_model.specs.LeafModel.{AreLeavesInTurn}
+use Rattle.cmark_inline_model.specs.PlacedLeaves.{AreLeavesPlaced}
+use Rattle.cmark_inline_model.specs.Unanswered.{AreUnanswered}
+use Rattle.cmark_inline_model.proofs.BlockRanges.{derived-ranges}
+use Rattle.cmark_inline_model.proofs.PlannedReadings.{left-planned}
+use Rattle.cmark_items.specs.Definitions.{ShownDefinition, definition, shown_definition}
+use Rattle.cmark_items.specs.Footnotes.{footnote}
+use Rattle.cmark_items.specs.declared.definitions.LinkDef.{LinkDef}
+use Rattle.cmark_items.specs.declared.footnotes.FootnoteDef.{FootnoteDef}
+use Rattle.cmark_span_walk.specs.Callback.{AnswersIfAny}
 use Rattle.cmark_span_walk.specs.Walking as walking
-use Rattle.cmark_span_walk.proofs.Walks.{some-left}
+use Rattle.cmark_span_walk.specs.Walking.{ArePlaced}
+use Rattle.cmark_span_walk.specs.declared.callback.OptionalCallback.{OptionalCallback}
+use Rattle.cmark_text.specs.Shown.{text_bytes}
 use Rattle.cmark_text.specs.declared.short.Next.{Next}
 use Rattle.cmark_text.specs.declared.short.Next.TheVariants as next
+use Rattle.cmark_text.specs.declared.text.CowStr.{CowStr}
 use Rattle.cmark_walk.specs.declared.reading.Ranged.{Ranged as Item}
 use Rattle.cmark_walk.specs.Walking.{shown_ranged}
 use Rattle.pulldown_cmark.specs.declared.parse.Parser.{Parser}
-use Rattle.pulldown_cmark.specs.Walking.{GoesOn}
-use Rattle.pulldown_cmark.specs.Parsing.{CanGo, IsOver, GivesAs, GivesOrErr, GivesStep, Left, Reads, Remains, definitions, footnotes, events_left, is_last, text_of}
+use Rattle.pulldown_cmark.specs.Walking.{GoesOn, SomeLeft, reader_by}
+use Rattle.pulldown_cmark.specs.Parsing.{CanGo, IsOver, GivesAs, GivesOrErr, GivesStep, Left, Passes, Reads, Remains, definitions, footnotes, events_left, is_last, lookup_of, options_of, reader_for, text_of}
 
-module _ {E F : Type 0} where
+-- ## Questions
+
+module _ {F : Type 0} (Says : F → BrokenLink → Option (CowStr × CowStr) → F → Type 0) where
+  -- what a callback that may be absent answers
+  abbrev pub SaysIfAny : OptionalCallback F → BrokenLink → Option (CowStr × CowStr) → OptionalCallback F → Type 0
+  SaysIfAny before link answer after = AnswersIfAny Says before.callback link answer after.callback
+
+  asked-of : (taken : List Exchange) (before after : OptionalCallback F) → Answered SaysIfAny taken before after → Answered (AnswersIfAny Says) taken before.callback after.callback
+  asked-of [] before after h = ap OptionalCallback.callback h
+  asked-of (x ∷ xs) before after h =
+      (h.0.callback, record { link = h.1.link; told = h.1.told; question_is = h.1.question_is; answer_is = h.1.answer_is; run = h.1.run }, asked-of xs h.0 after h.2)
+
+  -- where there is no callback, each question is answered by nothing
+  pub none-answered : (taken : List Exchange) (after : Option F) → Answered (AnswersIfAny Says) taken None after → AreUnanswered taken
+  none-answered [] after h = tt
+  none-answered (x ∷ xs) after h = (sym h.1.answer_is ∙ ap (option_map _) h.1.run.0, none-answered xs after (subst (λ (o : Option F). Answered (AnswersIfAny Says) xs o after) h.1.run.1 h.2))
+
+-- ## What is read
+
+placed-both : (reader : Reader) (others : List Segment) → HaveRanges reader.source others → AreLeavesPlaced reader others → ArePlaced reader others
+placed-both reader [] h k = tt
+placed-both reader (GivenOf r ∷ others) h k = (h.0, placed-both reader others h.1 k)
+placed-both reader (Content leaf ∷ others) h k = (k.0, placed-both reader others h k.1)
+
+placed-turn : (reader : Reader) (others : List Segment) → ArePlaced reader others → AreLeavesInTurn (length reader.source) others
+placed-turn reader [] h = tt
+placed-turn reader (GivenOf r ∷ others) h = placed-turn reader others h.1
+placed-turn reader (Content leaf ∷ others) h = (h.0.turn, placed-turn reader others h.1)
+
+-- the definitions and the footnotes of the text
+abbrev from-shown : ShownDefinition → Said
+from-shown d = record { destination = d.destination; title = or_empty d.title }
+
+title-same : (title : Option CowStr) → or_empty (option_map text_bytes title) ≡ title_or_none title
+title-same None = refl
+title-same (Some text) = refl
+
+said-shown : (found : Option LinkDef) → option_map said_by found ≡ option_map from-shown (option_map shown_definition found)
+said-shown None = refl
+said-shown (Some def) = ap (λ t. Some (record { destination = text_bytes def.dest; title = t })) (sym (title-same def.title))
+
+said-reference : (found : Option Reference) → option_map said found ≡ option_map from-shown (option_map shown_reference found)
+said-reference None = refl
+said-reference (Some r) = refl
+
+pub said-same : (found : Option Reference) (def : Option LinkDef) → option_map shown_definition def ≡ option_map shown_reference found → option_map said found ≡ option_map said_by def
+said-same found def e = said-reference found ∙ ap (option_map from-shown) (sym e) ∙ sym (said-shown def)
+
+pub label-same : (known : Option FootnoteDef) (b : Bool) → known ≡ unused_if b → b ≡ is_some known
+label-same known true e = sym (ap is_some e)
+label-same known false e = sym (ap is_some e)
+
+module _ {E F : Type 0} (replacement : E → Lookup) where
+  -- a reader of the same text, with the same options and entities
+  reader-same : (old new : Parser E F) → walking.ReadsSame replacement (reader_for replacement old) new.spans → reader_for replacement old ≡ reader_for replacement new
+  reader-same old new s =
+      ap (λ t. reader_by t (options_of old) (lookup_of replacement old)) s.source
+      ∙ ap (λ o. reader_by (text_of new) o (lookup_of replacement old)) s.options_are
+      ∙ ap (reader_by (text_of new) (options_of new)) s.lookup_is
+
   -- the walk of a parser that is not over
-  pub going : (parser : Parser E F) → parser.is_over ≡ false → CanGo parser → walking.Stands parser.spans
-  going parser e can = go can.goes
+  pub read-by : (parser : Parser E F) → parser.is_over ≡ false → CanGo replacement parser → walking.IsReadBy replacement (reader_for replacement parser) parser.spans
+  read-by parser e can = go can.goes
     where
-      go : GoesOn Remains IsOver parser → walking.Stands parser.spans
+      go : GoesOn (Remains replacement) IsOver parser → walking.IsReadBy replacement (reader_for replacement parser) parser.spans
       go (inl over) = absurd (let q : true ≡ false = sym over ∙ e in cc)
-      go (inr l) = let r = subst (λ b. Left b parser l.0) e l.1 in (r.left, r.stands)
+      go (inr some) = let l = some (λ asked question. None) in (subst (λ b. Left replacement b parser l.0 l.1) e l.3).read_by
 
-  goes : (parser : Parser E F) → parser.is_over ≡ false → walking.Stands parser.spans → GoesOn Remains IsOver parser
-  goes parser e s = let l = some-left parser.spans s in inr (l.0, subst (λ b. Left b parser l.0) (sym e) l.1)
+  pub going : (parser : Parser E F) → parser.is_over ≡ false → CanGo replacement parser → walking.Stands parser.spans
+  going parser e can = let r = read-by parser e can in (r.left, r.stands)
 
-  left-of : (parser : Parser E F) → parser.is_over ≡ false → events_left parser ≡ suc (walking.events_left parser.spans)
-  left-of parser e = ap (λ b. if b then 0 else suc (walking.events_left parser.spans)) e
+  some-left : (parser : Parser E F) → parser.is_over ≡ false → walking.IsReadBy replacement (reader_for replacement parser) parser.spans → (plan : Plan) → SomeLeft (Remains replacement) plan parser
+  some-left parser e r plan =
+      let reader = reader_for replacement parser in
+      let l = left-planned reader r.left (walking.expansion_of parser.spans) plan (placed-turn reader r.left r.placed) in
+      let events = walking.spans_to_come parser.spans.in_leaf parser.spans ++ l.1 in
+      (l.0, events, l.2, subst (λ b. Left replacement b parser l.0 events) (sym e) (record { read_by = r; later = l.1; reads = l.3; are = refl }))
+
+  goes : (old new : Parser E F) → new.is_over ≡ false → walking.IsReadBy replacement (reader_for replacement old) new.spans → GoesOn (Remains replacement) IsOver new
+  goes old new e r = inr (some-left new e (subst (λ reader. walking.IsReadBy replacement reader new.spans) (reader-same old new r.same) r))
+
+left-of : {E F : Type 0} → (parser : Parser E F) → parser.is_over ≡ false → events_left parser ≡ suc (walking.events_left parser.spans)
+left-of parser e = ap (λ b. if b then 0 else suc (walking.events_left parser.spans)) e
+
+module _ {E F : Type 0} (Says : F → BrokenLink → Option (CowStr × CowStr) → F → Type 0) (replacement : E → Lookup) where
+  abbrev WalkPasses : (front : List Ranged) → (old new : Parser E F) → Type 0
+  WalkPasses front old new = walking.Passes (SaysIfAny Says) replacement (reader_for replacement old) front old.spans new.spans
+
+  -- what the walk passes over
+  passes-of : (front : List Ranged) (old new : Parser E F) → old.is_over ≡ false → new.is_over ≡ false → WalkPasses front old new → Passes Says replacement front old new
+  passes-of front old new e n p = record {
+    taken = p.taken;
+    asks = asked-of Says p.taken old.spans.callback new.spans.callback p.answered;
+    back = λ rest events m.
+        subst (λ b. Left replacement b old (p.taken ++ rest) (front ++ events)) (sym e)
+        (p.back rest events
+        (subst (λ reader. walking.Remains replacement reader new.spans rest events) (sym (reader-same replacement old new p.read_by.same)) (subst (λ b. Left replacement b new rest events) n m)));
+  }
 
   -- an event is given, and the others are left
-  pub gives-some : (old new : Parser E F) (item : Item) → old.is_over ≡ false → new.is_over ≡ false → walking.Stands new.spans → walking.Gives old.spans (Some item) new.spans
-      → walking.GivesZeroCopy (text_of old) item → walking.events_left new.spans < walking.events_left old.spans → text_of new ≡ text_of old → definitions new ≡ definitions old → SameFootnotes (footnotes old) (footnotes new) → GivesStep old (Some (Ok item)) new
-  gives-some old new item e n stands gives lent less text same known = record {
-    next = record {
-      first = (shown_ranged item, record { is = refl; lent = lent }, back);
-      goes_on = goes new n stands;
-      over = λ over. absurd (let q : true ≡ false = sym over ∙ e in cc);
-    };
-    text = text;
-    definitions = same;
-    footnotes = known;
-    fewer = let a = left-of old e in let b = left-of new n in omega (arith, a, b, less);
-  }
-    where
-      back : (events : List Ranged) → Remains new events → Remains old (shown_ranged item ∷ events)
-      back events r = subst (λ b. Left b old (shown_ranged item ∷ events)) (sym e) (gives events (subst (λ b. Left b new events) n r))
+  pub gives-some : (old new : Parser E F) (item : Item) → old.is_over ≡ false → new.is_over ≡ false → walking.Gives (SaysIfAny Says) replacement (reader_for replacement old) old.spans (Some item) new.spans
+      → walking.GivesZeroCopy (text_of old) item → walking.events_left new.spans < walking.events_left old.spans → text_of new ≡ text_of old → definitions new ≡ definitions old → SameFootnotes (footnotes old) (footnotes new) → GivesStep Says replacement old (Some (Ok item)) new
+  gives-some old new item e n gives lent less text same known =
+      let p = passes-of (shown_ranged item ∷ []) old new e n gives.1 in
+      record {
+        next = record {
+          taken = p.taken;
+          first = (p.asks, (shown_ranged item, record { is = refl; range = gives.0; lent = lent }, p.back));
+          goes_on = goes replacement old new n gives.1.read_by;
+          over = λ over. absurd (let q : true ≡ false = sym over ∙ e in cc);
+        };
+        text = text;
+        definitions = same;
+        footnotes = known;
+        fewer = let a = left-of old e in let b = left-of new n in omega (arith, a, b, less);
+      }
 
   -- no event was left
-  pub gives-none : (old new : Parser E F) → old.is_over ≡ false → new.is_over ≡ true → walking.Gives old.spans None new.spans → text_of new ≡ text_of old → definitions new ≡ definitions old → SameFootnotes (footnotes old) (footnotes new) → GivesStep old None new
-  gives-none old new e n gives text same known = record {
+  pub gives-none : (old new : Parser E F) → old.is_over ≡ false → new.is_over ≡ true → walking.Gives (SaysIfAny Says) replacement (reader_for replacement old) old.spans None new.spans → text_of new ≡ text_of old → definitions new ≡ definitions old
+      → SameFootnotes (footnotes old) (footnotes new) → GivesStep Says replacement old None new
+  gives-none old new e n ends text same known = record {
     next = record {
-      first = (subst (λ b. Left b old []) (sym e) gives, n);
+      taken = ends.taken;
+      first = (asked-of Says ends.taken old.spans.callback new.spans.callback ends.answered, subst (λ b. Left replacement b old ends.taken []) (sym e) ends.none, n);
       goes_on = inl n;
       over = λ over. absurd (let q : true ≡ false = sym over ∙ e in cc);
     };
@@ -69,86 +180,129 @@ module _ {E F : Type 0} where
     fewer = tt;
   }
 
+  -- behind the end
+  pub gives-nothing : (parser : Parser E F) → parser.is_over ≡ true → GivesStep Says replacement parser None parser
+  gives-nothing parser e = record {
+    next = record { taken = []; first = (refl, subst (λ b. Left replacement b parser [] []) (sym e) (refl, refl), e); goes_on = inl e; over = λ over. (refl, refl, e) };
+    text = refl;
+    definitions = refl;
+    footnotes = λ folded. refl;
+    fewer = tt;
+  }
+
   -- nothing is given any more
-  pub gives-over : (parser : Parser E F) → parser.is_over ≡ true → GivesAs parser next.Over parser
+  pub gives-over : (parser : Parser E F) → parser.is_over ≡ true → GivesAs Says replacement parser next.Over parser
   gives-over parser e = record {
-    answers = (subst (λ b. Left b parser []) (sym e) refl, e);
+    answers = record { taken = []; asks = refl; none = subst (λ b. Left replacement b parser [] []) (sym e) (refl, refl); over = e };
     can = record { goes = inl e };
     text = refl;
     definitions = refl;
     footnotes = λ folded. refl;
   }
 
+  pub gives-error : (old new : Parser E F) (error : AllocError) → old.is_over ≡ false → new.is_over ≡ true → text_of new ≡ text_of old → definitions new ≡ definitions old → SameFootnotes (footnotes old) (footnotes new) → GivesStep Says replacement old (Some (Err error)) new
+  gives-error old new error e n text same known = record {
+    next = record { taken = []; first = n; goes_on = inl n; over = λ over. absurd (let q : true ≡ false = sym over ∙ e in cc) };
+    text = text;
+    definitions = same;
+    footnotes = known;
+    fewer =
+        let a = ap (λ b. if b then 0 else suc (walking.events_left old.spans)) e in
+        let b = ap (λ b. if b then 0 else suc (walking.events_left new.spans)) n in
+        omega (arith, a, b);
+  }
+
   -- what the walk gives is handed on
   module _ (old new : Parser E F) (e : old.is_over ≡ false) (text : text_of new ≡ text_of old) (same : definitions new ≡ definitions old) (known : SameFootnotes (footnotes old) (footnotes new)) where
-    gives-back : (n : new.is_over ≡ false) (front : List Ranged) → ((events : List Ranged) → walking.Remains new.spans events → walking.Remains old.spans (front ++ events)) → (events : List Ranged) → Remains new events → Remains old (front ++ events)
-    gives-back n front back events r = subst (λ b. Left b old (front ++ events)) (sym e) (back events (subst (λ b. Left b new events) n r))
-
-    gives-next : (next : Next) → new.is_over ≡ is_last (Ok next) → walking.Stands new.spans → walking.GivesNext old.spans next new.spans → GivesAs old next new
-    gives-next (next.Short short) n stands h = record {
+    gives-next : (next : Next) → new.is_over ≡ is_last (Ok next) → walking.GivesNext (SaysIfAny Says) replacement (reader_for replacement old) old.spans next new.spans → walking.LeavesFewer old.spans next new.spans → GivesAs Says replacement old next new
+    gives-next (next.Short short) n h less = record {
       answers = record {
         given = h.given;
         is = h.is;
-        gives = gives-back n (h.given ∷ []) h.gives;
+        range = h.range;
         lent = h.lent;
-        fewer = let a = left-of old e in let b = left-of new n in let less = h.fewer in omega (arith, a, b, less);
+        passes = passes-of (h.given ∷ []) old new e n h.passes;
+        fewer = let a = left-of old e in let b = left-of new n in omega (arith, a, b, less);
       };
-      can = record { goes = goes new n stands };
+      can = record { goes = goes replacement old new n h.passes.read_by };
       text = text;
       definitions = same;
       footnotes = known;
     }
-    gives-next next.Long n stands h = record {
+    gives-next next.Long n h most = record {
       answers = record {
-        back = gives-back n [] h.back;
-        most = let a = left-of old e in let b = left-of new n in let most = h.most in omega (arith, a, b, most);
+        passes = passes-of [] old new e n h;
+        most = let a = left-of old e in let b = left-of new n in omega (arith, a, b, most);
       };
-      can = record { goes = goes new n stands };
+      can = record { goes = goes replacement old new n h.read_by };
       text = text;
       definitions = same;
       footnotes = known;
     }
-    gives-next next.Over n stands h = record {
-      answers = (subst (λ b. Left b old []) (sym e) h, n);
+    gives-next next.Over n h none = record {
+      answers = record {
+        taken = h.taken;
+        asks = asked-of Says h.taken old.spans.callback new.spans.callback h.answered;
+        none = subst (λ b. Left replacement b old h.taken []) (sym e) h.none;
+        over = n;
+      };
       can = record { goes = inl n };
       text = text;
       definitions = same;
       footnotes = known;
     }
 
-    gives-error : (error : AllocError) → new.is_over ≡ true → GivesStep old (Some (Err error)) new
-    gives-error error n = record {
-      next = record { first = n; goes_on = inl n; over = λ over. absurd (let q : true ≡ false = sym over ∙ e in cc) };
-      text = text;
-      definitions = same;
-      footnotes = known;
-      fewer =
-          let a = ap (λ b. if b then 0 else suc (walking.events_left old.spans)) e in
-          let b = ap (λ b. if b then 0 else suc (walking.events_left new.spans)) n in
-          omega (arith, a, b);
-    }
+    pub gives-or-err : (o : Result Next AllocError) → new.is_over ≡ is_last o → IfOk o (λ next. walking.GivesNext (SaysIfAny Says) replacement (reader_for replacement old) old.spans next new.spans) → IfOk o (λ next. walking.LeavesFewer old.spans next new.spans)
+        → GivesOrErr Says replacement old o new
+    gives-or-err (Ok next) n h less = gives-next next n h less
+    gives-or-err (Err error) n h less = gives-error old new error e n text same known
 
-    pub gives-or-err : (o : Result Next AllocError) → new.is_over ≡ is_last o → OnOk o (walking.Stands new.spans) → IfOk o (λ next. walking.GivesNext old.spans next new.spans) → GivesOrErr old o new
-    gives-or-err (Ok next) n stands h = gives-next next n stands h
-    gives-or-err (Err error) n stands h = gives-error error n
+-- ## A parser at the start
 
-  -- a parser at the start
-  module _ (parser : Parser E F) (text : List ℕ) (options : Options) (lookup : Lookup) where
-    abbrev pub left : List Segment
-    left = segments (document text options lookup)
+module _ {E F : Type 0} (replacement : E → Lookup) (parser : Parser E F) (text : List ℕ) (options : Options) (lookup : Lookup) where
+  abbrev pub left : List Segment
+  left = segments (document text options lookup)
 
-    pub reads-from : parser.is_over ≡ false → ((events : List Ranged) → AreGiven text left events → walking.Remains parser.spans events) → ((events : List Ranged) → walking.Remains parser.spans events → AreGiven text left events)
-        → Reads text options lookup parser
-    reads-from e begins reads =
-        let l = some-given text left in
-        record {
-          some = (l.0, subst (λ b. Left b parser l.0) (sym e) (begins l.0 l.1));
-          reads = λ events r. record { document = document text options lookup; derives = derived text options lookup; given = reads events (subst (λ b. Left b parser events) e r) };
-        }
+  abbrev pub reader : Reader
+  reader = reader_by text options lookup
 
-    -- at its start a parser can go
-    pub can-begin : Reads text options lookup parser → CanGo parser
-    can-begin r = record { goes = inr r.some }
+  -- each event of the blocks and each leaf has its place
+  pub begin-placed : IsUtf8 text → AreLeavesPlaced reader left → ArePlaced reader left
+  begin-placed utf8 leaves = placed-both reader left (derived-ranges text options lookup (document text options lookup) utf8 (derived text options lookup)) leaves
+
+  -- the reader is that of the parser
+  pub begin-same : text_of parser ≡ text → options_of parser ≡ options → lookup_of replacement parser ≡ lookup
+      → ((folded : List ℕ) → option_map shown_definition (definition (definitions parser) folded) ≡ option_map shown_reference (first_with fold folded (references (document text options lookup))))
+      → HasLabels (footnote_labels (document text options lookup)) (footnotes parser) → walking.ReadsSame replacement reader parser.spans
+  begin-same text_is options_is lookup_is known labels = record {
+    source = sym text_is;
+    options_are = sym options_is;
+    lookup_is = sym lookup_is;
+    definitions = λ folded. said-same (first_with fold folded (references (document text options lookup))) (definition (definitions parser) folded) (known folded);
+    footnotes_are = λ folded. label-same (footnote (footnotes parser) folded) (has_label folded (footnote_labels (document text options lookup))) (labels folded);
+    callback = refl;
+  }
+
+  pub begin-reader : text_of parser ≡ text → options_of parser ≡ options → lookup_of replacement parser ≡ lookup → reader ≡ reader_for replacement parser
+  begin-reader text_is options_is lookup_is =
+      ap (λ t. reader_by t options lookup) (sym text_is) ∙ ap (λ o. reader_by (text_of parser) o lookup) (sym options_is) ∙ ap (reader_by (text_of parser) (options_of parser)) (sym lookup_is)
+
+  pub reads-from : parser.is_over ≡ false → reader ≡ reader_for replacement parser → walking.expansion_of parser.spans ≡ max (length text) 100000 → ArePlaced reader left
+      → ((exchanges : List Exchange) (events : List Ranged) → documents.Left reader left (walking.expansion_of parser.spans) exchanges events → walking.Remains replacement reader parser.spans exchanges events)
+      → ((exchanges : List Exchange) (events : List Ranged) → walking.Remains replacement reader parser.spans exchanges events → documents.Left reader left (walking.expansion_of parser.spans) exchanges events)
+      → Reads replacement text options lookup parser
+  reads-from e same limit placed begins reads = record {
+    some = λ plan.
+        let l = left-planned reader left (walking.expansion_of parser.spans) plan (placed-turn reader left placed) in
+        (l.0, l.1, l.2, subst (λ b. Left replacement b parser l.0 l.1) (sym e) (subst (λ r. walking.Remains replacement r parser.spans l.0 l.1) same (begins l.0 l.1 l.3)));
+    reads = λ exchanges events m.
+        let h = subst (λ n. documents.Left reader left n exchanges events) limit (reads exchanges events (subst (λ r. walking.Remains replacement r parser.spans exchanges events) (sym same) (subst (λ b. Left replacement b parser exchanges events) e m))) in
+        record { document = document text options lookup; after = h.after; derives = derived text options lookup; reads = h.reads; asked = h.asked };
+  }
+
+  -- at its start a parser can go
+  pub can-begin : Reads replacement text options lookup parser → CanGo replacement parser
+  can-begin r = record { goes = inr r.some }
 
 -- the events and leaves of its document are few
 pub begin-few : (text : List ℕ) (options : Options) (lookup : Lookup) → length (segments (document text options lookup)) < length text * 786444 + 1

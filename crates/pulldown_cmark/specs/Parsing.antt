@@ -1,5 +1,5 @@
 -- What a parser still has to give, and the definitions of links and of footnotes that it found.
-use Rattle.std.specs.Prelude.{◌≡◌, ◌<◌, ◌≤◌, ℕ, suc, Bool, true, false, if◌then◌else◌, List, [], ◌∷◌, OnSome, Option, Some, option_map, Result, Ok, Err}
+use Rattle.std.specs.Prelude.{◌≡◌, ◌<◌, ◌≤◌, ℕ, suc, Bool, true, false, if◌then◌else◌, List, [], ◌∷◌, ◌++◌, OnSome, Option, Some, option_map, Result, Ok, Err}
 use Rattle.std.specs.declared.alloc.AllocError.{AllocError}
 use Rattle.std.specs.declared.ops.Range.{Range}
 use Rattle.cmark_blocks.specs.Footnotes.{HasLabels}
@@ -9,13 +9,19 @@ use Rattle.cmark_grammar.specs.BlockDocument.{BlockDocument}
 use Rattle.cmark_grammar.specs.Derivation.{Derives}
 use Rattle.cmark_grammar.specs.Event.{Ranged}
 use Rattle.cmark_grammar.specs.Labels.{fold}
+use Rattle.cmark_grammar.specs.LeafSpans.{IsRange}
 use Rattle.cmark_grammar.specs.Options.{Options}
+use Rattle.cmark_grammar.specs.Questions.{Exchange}
+use Rattle.cmark_grammar.specs.Readers.{Reader}
 use Rattle.cmark_grammar.specs.References.{first_with, references}
 use Rattle.cmark_grammar.specs.SpanDocuments.{footnote_labels}
 use Rattle.cmark_inline.specs.Footnoted.{SameFootnotes}
+use Rattle.cmark_inline.specs.Resolved.{Answered}
+use Rattle.cmark_inline.specs.declared.callback.BrokenLink.{BrokenLink}
 use Rattle.cmark_items.specs.Definitions.{definition, shown_definition}
 use Rattle.cmark_items.specs.declared.definitions.RefDefs.{RefDefs}
 use Rattle.cmark_items.specs.declared.footnotes.FootnoteDefs.{FootnoteDefs}
+use Rattle.cmark_span_walk.specs.Callback.{AnswersIfAny}
 use Rattle.cmark_span_walk.specs.Walking as walking
 use Rattle.cmark_text.specs.declared.event.Event.{Event}
 use Rattle.cmark_text.specs.declared.short.Next.{Next}
@@ -24,19 +30,22 @@ use Rattle.cmark_text.specs.declared.short.Short.{Short}
 use Rattle.cmark_text.specs.Short.{IsShortZeroCopy, shown_short}
 use Rattle.cmark_text.specs.Shown.{shown}
 use Rattle.cmark_text.specs.ZeroCopy.{IsZeroCopy}
+use Rattle.cmark_text.specs.declared.text.CowStr.{CowStr}
 use Rattle.cmark_walk.specs.declared.reading.Ranged.{Ranged as Given}
 use Rattle.cmark_walk.specs.Walking.{shown_ranged}
 use Rattle.pulldown_cmark.specs.declared.parse.Parser.{Parser}
 use Rattle.pulldown_cmark.specs.declared.parse.OffsetIter.{OffsetIter}
-use Rattle.pulldown_cmark.specs.Walking.{GoesOn, GivesNext, ReadsFrom}
+use Rattle.pulldown_cmark.specs.Walking.{GoesOn, GivesNext, ReadsFrom, reader_by}
 
--- an item is the event, or the event with its range, and its text is borrowed as the zero-copy law says
+-- an item is the event, or the event with its range, which cuts no character, and its text is borrowed as the zero-copy law says
 pub record Shows (text : List ℕ) (event : Event) (r : Ranged) : Type 0 where
   pub is : shown event ≡ r.event
+  pub range : IsRange text r.start r.end
   pub lent : IsZeroCopy text event r.start r.end
 
 pub record ShowsStep (text : List ℕ) (given : Given) (r : Ranged) : Type 0 where
   pub is : shown_ranged given ≡ r
+  pub range : IsRange text r.start r.end
   pub lent : IsZeroCopy text given.event r.start r.end
 
 abbrev pub shown_item : Event × Range ℕ → Ranged
@@ -44,12 +53,18 @@ shown_item item = record { event = shown item.0; start = item.1.start; end = ite
 
 pub record ShowsRanged (text : List ℕ) (item : Event × Range ℕ) (r : Ranged) : Type 0 where
   pub is : shown_item item ≡ r
+  pub range : IsRange text r.start r.end
   pub lent : IsZeroCopy text item.0 r.start r.end
 
 -- each of these events is borrowed as the zero-copy law says
 abbrev pub AreZeroCopy : (text : List ℕ) → List (Event × Range ℕ) → Type 0
 AreZeroCopy text [] = Unit {0}
 AreZeroCopy text (item ∷ items) = IsZeroCopy text item.0 item.1.start item.1.end × AreZeroCopy text items
+
+-- each of these ranges lies in the text and cuts no character
+abbrev pub CutNone : (text : List ℕ) → List (Event × Range ℕ) → Type 0
+CutNone text [] = Unit {0}
+CutNone text (item ∷ items) = IsRange text item.1.start item.1.end × CutNone text items
 
 -- nothing is given behind such an answer
 abbrev pub is_last : Result Next AllocError → Bool
@@ -67,6 +82,14 @@ module _ {E F : Type 0} where
   abbrev pub text_of : Parser E F → List ℕ
   text_of parser = walking.source_of parser.spans
 
+  -- the options that it is parsed with
+  abbrev pub options_of : Parser E F → Options
+  options_of parser = walking.options_of parser.spans
+
+  -- what is asked for references without a definition, if anything is
+  abbrev pub callback_of : Parser E F → Option F
+  callback_of parser = parser.spans.callback.callback
+
   -- the link reference definitions
   abbrev pub definitions : Parser E F → RefDefs
   definitions parser = walking.definitions_of parser.spans
@@ -78,67 +101,6 @@ module _ {E F : Type 0} where
   -- nothing is given any more
   abbrev pub IsOver : Parser E F → Type 0
   IsOver parser = parser.is_over ≡ true
-
-  -- these events are left to give: none, or what remains of the walk
-  abbrev pub Left : (is_over : Bool) → Parser E F → List Ranged → Type 0
-  Left true parser events = events ≡ []
-  Left false parser events = walking.Remains parser.spans events
-
-  abbrev pub Remains : Parser E F → List Ranged → Type 0
-  Remains parser events = Left parser.is_over parser events
-
-  -- a call may be made: the walk is over, or some events are left
-  pub record CanGo (parser : Parser E F) : Type 0 where
-    pub goes : GoesOn Remains IsOver parser
-
-  -- one call: the first event of what was left, of the same text, the same definitions, and footnotes of the same labels
-  pub record Gives (old : Parser E F) (given : Option (Result Event AllocError)) (new : Parser E F) : Type 0 where
-    pub next : GivesNext Remains IsOver (Shows (text_of old)) old given new
-    pub text : text_of new ≡ text_of old
-    pub definitions : definitions new ≡ definitions old
-    pub footnotes : SameFootnotes (footnotes old) (footnotes new)
-
-  pub record GivesStep (old : Parser E F) (given : Option (Result Given AllocError)) (new : Parser E F) : Type 0 where
-    pub next : GivesNext Remains IsOver (ShowsStep (text_of old)) old given new
-    pub text : text_of new ≡ text_of old
-    pub definitions : definitions new ≡ definitions old
-    pub footnotes : SameFootnotes (footnotes old) (footnotes new)
-    pub fewer : OnSome given (events_left new < events_left old)
-
-  -- the event that such an answer stands for, with some range, is the first of what was left
-  pub record GivesShort (old : Parser E F) (short : Short) (new : Parser E F) : Type 0 where
-    pub given : Ranged
-    pub is : given.event ≡ shown_short short
-    pub gives : (events : List Ranged) → Remains new events → Remains old (given ∷ events)
-    pub lent : IsShortZeroCopy (text_of old) short given.start given.end
-    pub fewer : events_left new < events_left old
-
-  -- no event was given, and the same are left
-  pub record KeepsLeft (old new : Parser E F) : Type 0 where
-    pub back : (events : List Ranged) → Remains new events → Remains old events
-    pub most : events_left new ≤ events_left old
-
-  -- an event that owns nothing is the first of what was left; where it is of another kind, it was not given yet; or nothing was left
-  abbrev pub Answers : Parser E F → Next → Parser E F → Type 0
-  Answers old (next.Short short) new = GivesShort old short new
-  Answers old next.Long new = KeepsLeft old new
-  Answers old next.Over new = Remains old [] × IsOver new
-
-  pub record GivesAs (old : Parser E F) (next : Next) (new : Parser E F) : Type 0 where
-    pub answers : Answers old next new
-    pub can : CanGo new
-    pub text : text_of new ≡ text_of old
-    pub definitions : definitions new ≡ definitions old
-    pub footnotes : SameFootnotes (footnotes old) (footnotes new)
-
-  -- such an answer is given, or the error item, and nothing any more
-  abbrev pub GivesOrErr : Parser E F → Result Next AllocError → Parser E F → Type 0
-  GivesOrErr old (Ok next) new = GivesAs old next new
-  GivesOrErr old (Err e) new = GivesStep old (Some (Err e)) new
-
-  -- the parser is at the start of a walk over a document that the text derives
-  abbrev pub Reads : List ℕ → Options → Lookup → Parser E F → Type 0
-  Reads text options lookup parser = ReadsFrom Remains text options lookup parser
 
   -- its table answers for each folded label as the first definition of this document with that label (CommonMark 4.7)
   abbrev pub DefinesAs : BlockDocument → Parser E F → Type 0
@@ -170,17 +132,112 @@ module _ {E F : Type 0} where
   abbrev pub ranged_text : OffsetIter E F → List ℕ
   ranged_text iter = text_of iter.parser
 
-  abbrev pub RemainsRanged : OffsetIter E F → List Ranged → Type 0
-  RemainsRanged iter events = Remains iter.parser events
-
   abbrev pub IsRangedOver : OffsetIter E F → Type 0
   IsRangedOver iter = IsOver iter.parser
+
+-- `replacement` says what a look-up answers
+module _ {E F : Type 0} (replacement : E → Lookup) where
+  -- what the entity names stand for
+  abbrev pub lookup_of : Parser E F → Lookup
+  lookup_of parser = replacement parser.spans.entities.now
+
+  -- what the leaves of its text's document are read with
+  abbrev pub reader_for : Parser E F → Reader
+  reader_for parser = reader_by (text_of parser) (options_of parser) (lookup_of parser)
+
+  -- these events are left to give, where these further questions are answered so: none, or what remains of the walk
+  abbrev pub Left : (is_over : Bool) → Parser E F → List Exchange → List Ranged → Type 0
+  Left true parser exchanges events = (exchanges ≡ []) × (events ≡ [])
+  Left false parser exchanges events = walking.Remains replacement (reader_for parser) parser.spans exchanges events
+
+  abbrev pub Remains : Parser E F → List Exchange → List Ranged → Type 0
+  Remains parser exchanges events = Left parser.is_over parser exchanges events
+
+  -- a call may be made: the walk is over, or some events are left
+  pub record CanGo (parser : Parser E F) : Type 0 where
+    pub goes : GoesOn Remains IsOver parser
+
+  -- the parser is at the start of a walk over a document that the text derives
+  abbrev pub Reads : List ℕ → Options → Lookup → Parser E F → Type 0
+  Reads text options lookup parser = ReadsFrom Remains text options lookup parser
+
+  abbrev pub RemainsRanged : OffsetIter E F → List Exchange → List Ranged → Type 0
+  RemainsRanged iter exchanges events = Remains iter.parser exchanges events
 
   abbrev pub CanGoRanged : OffsetIter E F → Type 0
   CanGoRanged iter = CanGo iter.parser
 
+-- `Says` says what a callback answers
+module _ {E F : Type 0} (Says : F → BrokenLink → Option (CowStr × CowStr) → F → Type 0) where
+  -- the callback was asked these questions, one after the other, and answered so; where there is none, each of them is answered by nothing
+  abbrev pub Asks : Parser E F → List Exchange → Parser E F → Type 0
+  Asks old taken new = Answered (AnswersIfAny Says) taken (callback_of old) (callback_of new)
+
+  abbrev pub AsksRanged : OffsetIter E F → List Exchange → OffsetIter E F → Type 0
+  AsksRanged old taken new = Asks old.parser taken new.parser
+
+module _ {E F : Type 0} (Says : F → BrokenLink → Option (CowStr × CowStr) → F → Type 0) (replacement : E → Lookup) where
+  -- one call: the first event of what was left, of the same text, the same definitions, and footnotes of the same labels
+  pub record Gives (old : Parser E F) (given : Option (Result Event AllocError)) (new : Parser E F) : Type 0 where
+    pub next : GivesNext (Remains replacement) IsOver (Asks Says) (Shows (text_of old)) old given new
+    pub text : text_of new ≡ text_of old
+    pub definitions : definitions new ≡ definitions old
+    pub footnotes : SameFootnotes (footnotes old) (footnotes new)
+
+  pub record GivesStep (old : Parser E F) (given : Option (Result Given AllocError)) (new : Parser E F) : Type 0 where
+    pub next : GivesNext (Remains replacement) IsOver (Asks Says) (ShowsStep (text_of old)) old given new
+    pub text : text_of new ≡ text_of old
+    pub definitions : definitions new ≡ definitions old
+    pub footnotes : SameFootnotes (footnotes old) (footnotes new)
+    pub fewer : OnSome given (events_left new < events_left old)
+
+  -- these events are the first of what was left, and these questions were put on the way
+  pub record Passes (front : List Ranged) (old new : Parser E F) : Type 0 where
+    pub taken : List Exchange
+    pub asks : Asks Says old taken new
+    pub back : (rest : List Exchange) (events : List Ranged) → Remains replacement new rest events → Remains replacement old (taken ++ rest) (front ++ events)
+
+  -- the event that such an answer stands for, with some range, is the first of what was left
+  pub record GivesShort (old : Parser E F) (short : Short) (new : Parser E F) : Type 0 where
+    pub given : Ranged
+    pub is : given.event ≡ shown_short short
+    pub range : IsRange (text_of old) given.start given.end
+    pub lent : IsShortZeroCopy (text_of old) short given.start given.end
+    pub passes : Passes (given ∷ []) old new
+    pub fewer : events_left new < events_left old
+
+  -- no event was given, and the same are left
+  pub record KeepsLeft (old new : Parser E F) : Type 0 where
+    pub passes : Passes [] old new
+    pub most : events_left new ≤ events_left old
+
+  -- nothing was left, and nothing is given any more
+  pub record Ends (old new : Parser E F) : Type 0 where
+    pub taken : List Exchange
+    pub asks : Asks Says old taken new
+    pub none : Remains replacement old taken []
+    pub over : IsOver new
+
+  -- an event that owns nothing is the first of what was left; where it is of another kind, it was not given yet; or nothing was left
+  abbrev pub Answers : Parser E F → Next → Parser E F → Type 0
+  Answers old (next.Short short) new = GivesShort old short new
+  Answers old next.Long new = KeepsLeft old new
+  Answers old next.Over new = Ends old new
+
+  pub record GivesAs (old : Parser E F) (next : Next) (new : Parser E F) : Type 0 where
+    pub answers : Answers old next new
+    pub can : CanGo replacement new
+    pub text : text_of new ≡ text_of old
+    pub definitions : definitions new ≡ definitions old
+    pub footnotes : SameFootnotes (footnotes old) (footnotes new)
+
+  -- such an answer is given, or the error item, and nothing any more
+  abbrev pub GivesOrErr : Parser E F → Result Next AllocError → Parser E F → Type 0
+  GivesOrErr old (Ok next) new = GivesAs old next new
+  GivesOrErr old (Err e) new = GivesStep old (Some (Err e)) new
+
   pub record GivesRanged (old : OffsetIter E F) (given : Option (Result (Event × Range ℕ) AllocError)) (new : OffsetIter E F) : Type 0 where
-    pub next : GivesNext RemainsRanged IsRangedOver (ShowsRanged (ranged_text old)) old given new
+    pub next : GivesNext (RemainsRanged replacement) IsRangedOver (AsksRanged Says) (ShowsRanged (ranged_text old)) old given new
     pub text : ranged_text new ≡ ranged_text old
     pub definitions : ranged_definitions new ≡ ranged_definitions old
     pub footnotes : SameFootnotes (ranged_footnotes old) (ranged_footnotes new)

@@ -1,23 +1,26 @@
 -- The HTML of a text.
-use Rattle.std.specs.Prelude.{◌≡◌, ℕ, Bool, true, false, List, ◌++◌, map, None, Some, Ok}
+use Rattle.std.specs.Prelude.{◌≡◌, ℕ, Bool, true, false, List, [], ◌++◌, map, Option, None, Some, Ok}
 use Rattle.cmark_grammar.specs.Answers.{Lookup}
 use Rattle.cmark_grammar.specs.Event.{Event, Ranged}
 use Rattle.cmark_grammar.specs.Html.{Writing, html, moved, piece}
 use Rattle.cmark_grammar.specs.Options.{Options}
+use Rattle.cmark_grammar.specs.SpanDocuments.{IsReading}
+use Rattle.cmark_inline.specs.declared.callback.BrokenLink.{BrokenLink}
 use Rattle.cmark_text.specs.Shown.{shown}
+use Rattle.cmark_text.specs.declared.text.CowStr.{CowStr}
 use Rattle.cmark_walk.specs.declared.reading.Ranged.{Ranged as Given}
 use Rattle.pulldown_cmark.specs.declared.parse.Parser.{Parser}
 use Rattle.pulldown_cmark.specs.Parsing.{GivesStep}
-use Rattle.pulldown_cmark.specs.Walking.{IsReading}
+use Rattle.pulldown_cmark.specs.Walking.{profile}
 
 -- the events without their ranges
 abbrev pub events_of : List Ranged → List Event
 events_of rs = map (λ ranged. ranged.event) rs
 
--- the output is the HTML of a document that the text derives, with the spans of its leaves
+-- the output is the HTML of the reading of the text, without a callback
 pub record IsHtmlOf (text : List ℕ) (options : Options) (lookup : Lookup) (output : List ℕ) : Type 0 where
   pub events : List Ranged
-  pub reading : IsReading text options lookup events
+  pub reading : IsReading text (profile text options lookup false) [] events
   pub output_is : output ≡ html (events_of events)
 
 -- what a writer keeps, and all that was written
@@ -28,15 +31,15 @@ pub record Written : Type 0 where
 abbrev pub written : Writing → List ℕ → Written
 written writing bytes = record { writing = writing; bytes = bytes }
 
-module _ {E F : Type 0} where
+module _ {E F : Type 0} (Says : F → BrokenLink → Option (CowStr × CowStr) → F → Type 0) (replacement : E → Lookup) where
   -- the first event of what was left was given, and its piece was appended
   pub record WritesEvent (old : Parser E F) (before : Written) (new : Parser E F) (after : Written) : Type 0 where
     pub given : Given
-    pub gives : GivesStep old (Some (Ok given)) new
+    pub gives : GivesStep Says replacement old (Some (Ok given)) new
     pub bytes : after.bytes ≡ before.bytes ++ piece before.writing (shown given.event)
     pub writing : after.writing ≡ moved before.writing (shown given.event)
 
   -- so it was, or nothing was left, and nothing was appended
   abbrev pub WritesNext : (is_given : Bool) → Parser E F → Written → Parser E F → Written → Type 0
   WritesNext true old before new after = WritesEvent old before new after
-  WritesNext false old before new after = GivesStep old None new × (after ≡ before)
+  WritesNext false old before new after = GivesStep Says replacement old None new × (after ≡ before)

@@ -1,41 +1,53 @@
 -- What a walk over a document still has to give, and what one call of it gives.
-use Rattle.std.specs.Prelude.{◌≡◌, ◌⊎◌, ℕ, List, [], ◌∷◌, Option, Some, None, Result, Ok, Err}
+use Rattle.std.specs.Prelude.{◌≡◌, ◌⊎◌, ℕ, Bool, true, List, [], ◌∷◌, ◌++◌, length, max, Option, Some, None, Result, Ok, Err}
 use Rattle.std.specs.declared.alloc.AllocError.{AllocError}
 use Rattle.cmark_grammar.specs.Answers.{Lookup}
-use Rattle.cmark_grammar.specs.BlockDocument.{BlockDocument}
-use Rattle.cmark_grammar.specs.Derivation.{Derives}
+use Rattle.cmark_grammar.specs.Derivation.{document}
 use Rattle.cmark_grammar.specs.Event.{Ranged}
-use Rattle.cmark_grammar.specs.LeafSpans.{AreGiven}
 use Rattle.cmark_grammar.specs.Options.{Options}
-use Rattle.cmark_grammar.specs.SpanDocuments.{segments}
+use Rattle.cmark_grammar.specs.Questions.{Exchange, Plan}
+use Rattle.cmark_grammar.specs.Readers.{Reader}
+use Rattle.cmark_grammar.specs.SpanDocuments.{IsReading, Profile, reader_of}
+use Rattle.cmark_inline_model.specs.PlannedAnswers.{AreByPlan}
 
--- a walk in a state: Remains says which events are left to give, which may be several lists, since what a callback will answer is
--- not known yet; IsOver, that nothing will be given any more; Shows, that an item shows an event
-module _ {S : Type 0} (Remains : S → List Ranged → Type 0) (IsOver : S → Type 0) where
-  -- the walk goes on: it is over, or some events are left
-  abbrev pub GoesOn : S → Type 0
-  GoesOn s = IsOver s ⊎ ((events : List Ranged) × Remains s events)
+-- what a text is read with: references take as many bytes of destinations and titles as the text has, or 100,000 where it has fewer
+abbrev pub profile : (text : List ℕ) → Options → Lookup → (has_callback : Bool) → Profile
+profile text options lookup has_callback = record { options = options; lookup = lookup; expansion_limit = max (length text) 100000; has_callback = has_callback }
 
-module _ {S T : Type 0} (Remains : S → List Ranged → Type 0) (IsOver : S → Type 0) (Shows : T → Ranged → Type 0) where
+-- what the leaves of its document are read with, where there is a callback
+abbrev pub reader_by : (text : List ℕ) → Options → Lookup → Reader
+reader_by text options lookup = reader_of text (profile text options lookup true) (document text options lookup)
+
+-- a walk in a state: Remains says which events are left to give where these further questions are answered so, which may be several
+-- lists, since what a callback will answer is not known yet
+module _ {S : Type 0} (Remains : S → List Exchange → List Ranged → Type 0) where
+  -- with a plan's answers some events are left
+  abbrev pub SomeLeft : Plan → S → Type 0
+  SomeLeft plan s = (exchanges : List Exchange) × (events : List Ranged) × AreByPlan plan [] exchanges × Remains s exchanges events
+
+  -- a walk at its start: with each plan's answers some events are left, and whichever are left, they are the reading of the text with
+  -- exactly these questions and answers
+  pub record ReadsFrom (text : List ℕ) (options : Options) (lookup : Lookup) (s : S) : Type 0 where
+    pub some : (plan : Plan) → SomeLeft plan s
+    pub reads : (exchanges : List Exchange) (events : List Ranged) → Remains s exchanges events → IsReading text (profile text options lookup true) exchanges events
+
+  -- IsOver says that nothing will be given any more. The walk goes on: it is over, or some events are left, whatever is answered
+  module _ (IsOver : S → Type 0) where
+    abbrev pub GoesOn : S → Type 0
+    GoesOn s = IsOver s ⊎ ((plan : Plan) → SomeLeft plan s)
+
+-- Asks says that a callback was asked these questions from one state to another, and answered so; Shows, that an item shows an event
+module _ {S T : Type 0} (Remains : S → List Exchange → List Ranged → Type 0) (IsOver : S → Type 0) (Asks : S → List Exchange → S → Type 0) (Shows : T → Ranged → Type 0) where
   -- None only where no event was left; else the first event of what was left, however the walk goes on from there
-  abbrev pub GivesFirst : S → Option (Result T AllocError) → S → Type 0
-  GivesFirst old None new = Remains old [] × IsOver new
-  GivesFirst old (Some (Ok x)) new = (r : Ranged) × Shows x r × ((events : List Ranged) → Remains new events → Remains old (r ∷ events))
-  GivesFirst old (Some (Err e)) new = IsOver new
+  abbrev pub GivesFirst : S → (taken : List Exchange) → Option (Result T AllocError) → S → Type 0
+  GivesFirst old taken None new = Asks old taken new × Remains old taken [] × IsOver new
+  GivesFirst old taken (Some (Ok x)) new =
+      Asks old taken new × ((r : Ranged) × Shows x r × ((rest : List Exchange) (events : List Ranged) → Remains new rest events → Remains old (taken ++ rest) (r ∷ events)))
+  GivesFirst old taken (Some (Err e)) new = IsOver new
 
--- one call
-pub record GivesNext {S T : Type 0} (Remains : S → List Ranged → Type 0) (IsOver : S → Type 0) (Shows : T → Ranged → Type 0) (old : S) (given : Option (Result T AllocError)) (new : S) : Type 0 where
-  pub first : GivesFirst Remains IsOver Shows old given new
-  pub goes_on : GoesOn Remains IsOver new
-  pub over : IsOver old → (given ≡ None) × IsOver new
-
--- these events are what a document that the text derives gives, with the spans of its leaves
-pub record IsReading (text : List ℕ) (options : Options) (lookup : Lookup) (events : List Ranged) : Type 0 where
-  pub document : BlockDocument
-  pub derives : Derives text options lookup document
-  pub given : AreGiven text (segments document) events
-
--- a walk at its start: some events are left, and whichever are left, they are such a reading
-pub record ReadsFrom {S : Type 0} (Remains : S → List Ranged → Type 0) (text : List ℕ) (options : Options) (lookup : Lookup) (s : S) : Type 0 where
-  pub some : (events : List Ranged) × Remains s events
-  pub reads : (events : List Ranged) → Remains s events → IsReading text options lookup events
+  -- one call, in which these questions were put; behind the end nothing is asked or given
+  pub record GivesNext (old : S) (given : Option (Result T AllocError)) (new : S) : Type 0 where
+    pub taken : List Exchange
+    pub first : GivesFirst old taken given new
+    pub goes_on : GoesOn Remains IsOver new
+    pub over : IsOver old → (given ≡ None) × (taken ≡ []) × IsOver new

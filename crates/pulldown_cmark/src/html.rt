@@ -3,9 +3,10 @@
 ghost use Rattle.std.specs.Prelude.{◌≡◌, ◌++◌, List, IfOk, OnOk, string_bytes};
 ghost use Rattle.cmark_grammar.specs.Event.{Ranged};
 ghost use Rattle.cmark_grammar.specs.Html.{html};
+ghost use Rattle.cmark_grammar.specs.Questions.{Exchange};
 ghost use Rattle.cmark_html.specs.Writer.{writing};
 ghost use Rattle.cmark_text.specs.Shown.{shown_options};
-ghost use Rattle.pulldown_cmark.specs.Parsing.{CanGo, Remains};
+ghost use Rattle.pulldown_cmark.specs.Parsing.{Asks, CanGo, Remains};
 ghost use Rattle.pulldown_cmark.specs.Rendering.{IsHtmlOf, WritesNext, events_of, written};
 
 use crate::parse::Parser;
@@ -42,9 +43,9 @@ fn render<'a, E: EntityLookup, F: BrokenLinkCallback<'a> + Drop>(
     out: &mut String,
     parser: &mut Parser<'a, E, F>,
 ) -> Result<(), AllocError>
-    requires { CanGo parser.old }
-    ensures { OnOk result ((events : List Ranged) × Remains parser.old events
-        × (string_bytes out.new ≡ string_bytes out.old ++ html (events_of events))) }
+    requires { CanGo E.replacement parser.old }
+    ensures { OnOk result ((exchanges : List Exchange) × (events : List Ranged) × Remains E.replacement parser.old exchanges events
+        × Asks F.answers parser.old exchanges parser.new × (string_bytes out.new ≡ string_bytes out.old ++ html (events_of events))) }
 {
     let mut writer = Writer::new(*out.allocator());
     loop {
@@ -69,8 +70,8 @@ fn write_next<'a, E: EntityLookup, F: BrokenLinkCallback<'a> + Drop>(
     writer: &mut Writer<'a>,
     parser: &mut Parser<'a, E, F>,
 ) -> Result<bool, AllocError>
-    requires { CanGo parser.old }
-    ensures { IfOk result (λ is_given. WritesNext is_given parser.old (written (writing writer.old) (string_bytes out.old)) parser.new (written (writing writer.new) (string_bytes out.new))) }
+    requires { CanGo E.replacement parser.old }
+    ensures { IfOk result (λ is_given. WritesNext F.answers E.replacement is_given parser.old (written (writing writer.old) (string_bytes out.old)) parser.new (written (writing writer.new) (string_bytes out.new))) }
 {
     match parser.advance() {
         Some(Ok(given)) => {

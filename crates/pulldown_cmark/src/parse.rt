@@ -1,6 +1,6 @@
 //! The parser: iterators over the events of a text's document.
 
-ghost use Rattle.std.specs.Prelude.{◌≡◌, IfOk};
+ghost use Rattle.std.specs.Prelude.{◌≡◌, None, IfOk};
 ghost use Rattle.std.specs.Iterator.{at_most};
 ghost use Rattle.cmark_grammar.specs.Options.{no_options};
 ghost use Rattle.cmark_text.specs.Shown.{shown_options};
@@ -39,7 +39,7 @@ pub struct Parser<'input, E, F = DefaultBrokenLinkCallback> {
 const EVENTS_A_BYTE: u128 = 786_444;
 
 impl<'input, E: EntityLookup> Parser<'input, E> {
-    ghost use Rattle.pulldown_cmark.specs.Parsing.{Reads, Defines, DefinesFootnotes, CanGo, text_of};
+    ghost use Rattle.pulldown_cmark.specs.Parsing.{Reads, Defines, DefinesFootnotes, CanGo, callback_of, text_of};
 
     /// A parser of `text`, with no extension. `entities` says what the entity names stand for. Where memory is refused
     /// there is no parser.
@@ -49,10 +49,11 @@ impl<'input, E: EntityLookup> Parser<'input, E> {
         entities: &'input E,
     ) -> Result<Parser<'input, E>, AllocError>
         ensures text { IfOk result (λ parser. text_of parser ≡ text.entry.now) }
-        ensures reads { IfOk result (Reads text.entry.now no_options (E.replacement entities.entry.now)) }
+        ensures reads { IfOk result (Reads E.replacement text.entry.now no_options (E.replacement entities.entry.now)) }
         ensures definitions { IfOk result (Defines text.entry.now no_options (E.replacement entities.entry.now)) }
         ensures footnotes { IfOk result (DefinesFootnotes text.entry.now no_options (E.replacement entities.entry.now)) }
-        ensures goes { IfOk result CanGo }
+        ensures callback { IfOk result (λ parser. callback_of parser ≡ None) }
+        ensures goes { IfOk result (CanGo E.replacement) }
     {
         let parser = Parser::new_ext(alloc, text, Options::empty(), entities)?;
         Ok(parser)
@@ -67,10 +68,11 @@ impl<'input, E: EntityLookup> Parser<'input, E> {
         entities: &'input E,
     ) -> Result<Parser<'input, E>, AllocError>
         ensures text { IfOk result (λ parser. text_of parser ≡ text.entry.now) }
-        ensures reads { IfOk result (Reads text.entry.now (shown_options options) (E.replacement entities.entry.now)) }
+        ensures reads { IfOk result (Reads E.replacement text.entry.now (shown_options options) (E.replacement entities.entry.now)) }
         ensures definitions { IfOk result (Defines text.entry.now (shown_options options) (E.replacement entities.entry.now)) }
         ensures footnotes { IfOk result (DefinesFootnotes text.entry.now (shown_options options) (E.replacement entities.entry.now)) }
-        ensures goes { IfOk result CanGo }
+        ensures callback { IfOk result (λ parser. callback_of parser ≡ None) }
+        ensures goes { IfOk result (CanGo E.replacement) }
     {
         let parser = Parser::new_with_broken_link_callback(alloc, text, options, entities, None)?;
         Ok(parser)
@@ -78,7 +80,7 @@ impl<'input, E: EntityLookup> Parser<'input, E> {
 }
 
 impl<'input, E: EntityLookup, F: BrokenLinkCallback<'input> + Drop> Parser<'input, E, F> {
-    ghost use Rattle.pulldown_cmark.specs.Parsing.{Reads, Defines, DefinesFootnotes, CanGo, CanGoRanged, GivesOrErr, GivesStep, definitions, text_of, walk_of};
+    ghost use Rattle.pulldown_cmark.specs.Parsing.{Reads, Defines, DefinesFootnotes, CanGo, CanGoRanged, GivesOrErr, GivesStep, callback_of, definitions, text_of, walk_of};
 
     /// A parser of `text` with these options, which asks the callback, if there is one, for each reference without a
     /// definition. The callback is asked while the events are given.
@@ -90,10 +92,11 @@ impl<'input, E: EntityLookup, F: BrokenLinkCallback<'input> + Drop> Parser<'inpu
         callback: Option<F>,
     ) -> Result<Parser<'input, E, F>, AllocError>
         ensures text { IfOk result (λ parser. text_of parser ≡ text.entry.now) }
-        ensures reads { IfOk result (Reads text.entry.now (shown_options options) (E.replacement entities.entry.now)) }
+        ensures reads { IfOk result (Reads E.replacement text.entry.now (shown_options options) (E.replacement entities.entry.now)) }
         ensures definitions { IfOk result (Defines text.entry.now (shown_options options) (E.replacement entities.entry.now)) }
         ensures footnotes { IfOk result (DefinesFootnotes text.entry.now (shown_options options) (E.replacement entities.entry.now)) }
-        ensures goes { IfOk result CanGo }
+        ensures callback { IfOk result (λ parser. callback_of parser ≡ callback) }
+        ensures goes { IfOk result (CanGo E.replacement) }
     {
         let FirstPass {
             tree,
@@ -123,7 +126,7 @@ impl<'input, E: EntityLookup, F: BrokenLinkCallback<'input> + Drop> Parser<'inpu
     /// The same walk, from where it stands, with the range of each event.
     pub fn into_offset_iter(self) -> OffsetIter<'input, E, F>
         ensures walk { walk_of result ≡ self.entry }
-        ensures goes { CanGo self.entry → CanGoRanged result }
+        ensures goes { CanGo E.replacement self.entry → CanGoRanged E.replacement result }
     {
         OffsetIter { parser: self }
     }
@@ -132,8 +135,8 @@ impl<'input, E: EntityLookup, F: BrokenLinkCallback<'input> + Drop> Parser<'inpu
     // memory is refused, nothing is given any more.
     #[inline(always)]
     pub(crate) fn next_short(&mut self) -> Result<Next<'input>, AllocError>
-        requires { CanGo self.old }
-        ensures { GivesOrErr self.old result self.new }
+        requires { CanGo E.replacement self.old }
+        ensures { GivesOrErr F.answers E.replacement self.old result self.new }
     {
         if !self.is_over {
             let given = self.spans.next_short();
@@ -146,8 +149,8 @@ impl<'input, E: EntityLookup, F: BrokenLinkCallback<'input> + Drop> Parser<'inpu
     // The next event with its range. Where memory is refused, this is the last item.
     #[inline(always)]
     pub(crate) fn advance(&mut self) -> Option<Result<Ranged<'input>, AllocError>>
-        requires { CanGo self.old }
-        ensures { GivesStep self.old result self.new }
+        requires { CanGo E.replacement self.old }
+        ensures { GivesStep F.answers E.replacement self.old result self.new }
     {
         if self.is_over {
             return None;
@@ -183,9 +186,9 @@ impl<'input, E: EntityLookup, F: BrokenLinkCallback<'input> + Drop> Iterator
 
     type Item = Result<Event<'input>, AllocError>;
 
-    ghost can_next = { CanGo };
+    ghost can_next = { CanGo E.replacement };
 
-    ghost next_gives = { Gives };
+    ghost next_gives = { Gives F.answers E.replacement };
 
     ghost remaining = { λ parser. at_most (events_left parser) };
 
@@ -226,9 +229,9 @@ impl<'input, E: EntityLookup, F: BrokenLinkCallback<'input> + Drop> Iterator
 
     type Item = Result<(Event<'input>, Range<usize>), AllocError>;
 
-    ghost can_next = { CanGoRanged };
+    ghost can_next = { CanGoRanged E.replacement };
 
-    ghost next_gives = { GivesRanged };
+    ghost next_gives = { GivesRanged F.answers E.replacement };
 
     ghost remaining = { λ iter. at_most (ranged_left iter) };
 

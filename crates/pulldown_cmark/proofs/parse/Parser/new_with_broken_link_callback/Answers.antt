@@ -1,7 +1,7 @@
-use Rattle.std.proofs.Common.{refl, sym, ap, subst, option_map, ◌∙◌}
+use Rattle.std.proofs.Common.{false, refl, sym, ap, subst, option_map, ◌∙◌}
 use Rattle.cmark_text.specs.Shown.{shown_options}
 use Rattle.cmark_block_model.specs.BlockPass.{pass_over}
-use Rattle.cmark_block_model.proofs.Drawings.{drawn-order, drawn-edges}
+use Rattle.cmark_block_model.proofs.Drawings.{derived, drawn-order, drawn-edges}
 use Rattle.cmark_block_model.proofs.LeafDrawings.{drawn-segments}
 use Rattle.cmark_grammar.specs.Derivation.{document}
 use Rattle.cmark_grammar.specs.BlockDocument.{BlockDocument}
@@ -11,27 +11,16 @@ use Rattle.cmark_grammar.specs.SpanDocuments.{segments, footnote_labels, has_lab
 use Rattle.cmark_grammar.proofs.BlockDocumentOne.{document-only}
 use Rattle.cmark_blocks.specs.Footnotes.{unused_if}
 use Rattle.cmark_blocks.specs.Runs.{shown_reference}
+use Rattle.cmark_inline_model.proofs.LeafEndings.{derived-placed}
 use Rattle.cmark_items.specs.Definitions.{definition, shown_definition}
 use Rattle.cmark_items.specs.declared.definitions.RefDefs.{RefDefs}
 use Rattle.cmark_items.specs.declared.footnotes.FootnoteDefs.{FootnoteDefs}
 use Rattle.cmark_items.specs.Footnotes.{footnote}
 use Rattle.cmark_walk.specs.Walking.{Remains}
-use Rattle.pulldown_cmark.proofs.ParseSteps.{begin-few, reads-from, can-begin}
+use Rattle.pulldown_cmark.specs.Walking.{reader_by}
+use Rattle.pulldown_cmark.specs.declared.parse.Parser.{Parser}
+use Rattle.pulldown_cmark.proofs.ParseSteps.{begin-few, begin-placed, begin-reader, begin-same, can-begin, reads-from}
 use Rattle.pulldown_cmark.proofs.parse.Parser.new_with_broken_link_callback.Goals as goal
-
-pub returns-clause-reads : goal.returns-clause-reads
-returns-clause-reads g c =
-    let text = c.args.text.now in
-    let options = shown_options c.args.options in
-    let lookup = g.E.EntityLookup.replacement c.args.entities.now in
-    let left = segments (document text options lookup) in
-    let leaves = c.in_ok-tree.ensures.document in
-    let drawn =
-    c.new-walk.ensures.remains leaves.forest (pass_over text options lookup).drawing.here leaves.tree_is leaves.drawn (drawn-order text options lookup)
-    (drawn-edges text options lookup c.utf8.text) in
-    let remains = subst (Remains c.new-walk.result) (drawn-segments text options lookup) drawn in
-    reads-from _ text options lookup refl (λ events w. c.new.ensures.begins left events remains c.new-walk.ensures.text (begin-few text options lookup) w)
-    (λ events r. c.new.ensures.reads left events remains r)
 
 -- each document that the text derives is the model's
 pub returns-clause-definitions : goal.returns-clause-definitions
@@ -48,5 +37,27 @@ returns-clause-footnotes g c = λ d derives folded.
     ∙ ap (λ (e : BlockDocument). unused_if (has_label folded (footnote_labels e)))
     (sym (document-only c.args.text.now (shown_options c.args.options) (g.E.EntityLookup.replacement c.args.entities.now) d derives))
 
+pub returns-clause-reads : goal.returns-clause-reads
+returns-clause-reads g c =
+    let text = c.args.text.now in
+    let options = shown_options c.args.options in
+    let replacement = g.E.EntityLookup.replacement in
+    let lookup = replacement c.args.entities.now in
+    let d = document text options lookup in
+    let left = segments d in
+    let leaves = c.in_ok-tree.ensures.document in
+    let drawn =
+    c.new-walk.ensures.remains leaves.forest (pass_over text options lookup).drawing.here leaves.tree_is leaves.drawn (drawn-order text options lookup)
+    (drawn-edges text options lookup c.utf8.text) in
+    let remains = subst (Remains c.new-walk.result) (drawn-segments text options lookup) drawn in
+    let n = c.new.ensures in
+    let entities = ap replacement n.entities in
+    let parser : Parser _ _ = record { spans = c.new.result; is_over = false } in
+    let placed = begin-placed replacement parser text options lookup c.utf8.text (derived-placed (reader_by text options lookup) options lookup d (derived text options lookup)) in
+    let same = begin-same replacement parser text options lookup n.source n.options entities (returns-clause-definitions g c d (derived text options lookup)) (returns-clause-footnotes g c d (derived text options lookup)) in
+    let begins = n.begins (reader_by text options lookup) left remains c.new-walk.ensures.text (begin-few text options lookup) placed same in
+    reads-from replacement parser text options lookup refl (begin-reader replacement parser text options lookup n.source n.options entities) n.expansion placed begins.1
+    (λ exchanges events m. n.reads (reader_by text options lookup) left exchanges events remains m)
+
 pub returns-clause-goes : goal.returns-clause-goes
-returns-clause-goes g c = can-begin _ c.args.text.now (shown_options c.args.options) (g.E.EntityLookup.replacement c.args.entities.now) (returns-clause-reads g c)
+returns-clause-goes g c = can-begin g.E.EntityLookup.replacement _ c.args.text.now (shown_options c.args.options) (g.E.EntityLookup.replacement c.args.entities.now) (returns-clause-reads g c)
