@@ -1,5 +1,5 @@
 -- The lines of a walk's events.
-use Rattle.std.proofs.Common.{◌≡◌, ℕ, List, [], ◌∷◌, ◌++◌, map, Result, Ok, sym, ap, ◌∙◌, append_assoc, append-nil}
+use Rattle.std.proofs.Common.{◌≡◌, ℕ, List, [], ◌∷◌, ◌++◌, map, Result, Ok, Option, None, sym, ap, ◌∙◌, append_assoc, append-nil}
 use Rattle.std.proofs.lemmas.List.{map_push}
 use Rattle.std.specs.Iterator.{Drains}
 use Rattle.std.specs.declared.ops.Range.{Range}
@@ -7,12 +7,14 @@ use Rattle.cmark_grammar.specs.Answers.{Lookup}
 use Rattle.cmark_grammar.specs.Event.{Ranged}
 use Rattle.cmark_grammar.specs.Options.{Options}
 use Rattle.cmark_text.specs.declared.event.Event.{Event}
+use Rattle.cmark_text.specs.declared.text.CowStr.{CowStr}
+use Rattle.cmark_inline.specs.declared.callback.BrokenLink.{BrokenLink}
 use Rattle.cmark_json.specs.Lines.{line, lines}
 use Rattle.mdevents_lines.specs.Renders.{AreLinesOf}
 use Rattle.pulldown_cmark.specs.declared.parse.OffsetIter.{OffsetIter}
 use Rattle.pulldown_cmark.specs.declared.parse.Parser.{Parser}
-use Rattle.pulldown_cmark.specs.Parsing.{GivesRanged, Reads, shown_item, walk_of}
-use Rattle.pulldown_cmark.proofs.WalkSteps.{drained_ranges}
+use Rattle.pulldown_cmark.specs.Parsing.{GivesRanged, Reads, callback_of, shown_item, walk_of}
+use Rattle.pulldown_cmark.proofs.WalkSteps.{drained_silent}
 
 lines-more : (rs : List Ranged) (r : Ranged) → lines (rs ++ r ∷ []) ≡ lines rs ++ line r
 lines-more [] r = append-nil (line r)
@@ -29,9 +31,9 @@ pub given_more : {E : Type 0} (all : List (Result (Event × Range ℕ) E)) (one 
     → all ++ one ∷ [] ≡ map Ok (items ++ item ∷ [])
 given_more all one items item p q = ap (λ l. l ++ one ∷ []) p ∙ ap (λ z. map Ok items ++ z ∷ []) q ∙ sym (map_push Ok items item)
 
-module _ {E F : Type 0} where
-  -- the lines of all items of a walk from its start are what its text is rendered as
-  pub rendered : (parser : Parser E F) (iter : OffsetIter E F) (text : List ℕ) (options : Options) (lookup : Lookup) (items : List (Event × Range ℕ)) (output : List ℕ) → walk_of iter ≡ parser → Reads text options lookup parser
-      → Drains GivesRanged iter (map Ok items) → output ≡ lines (map shown_item items) → AreLinesOf text options lookup output
-  rendered parser iter text options lookup items output same reads drains is =
-      record { events = map shown_item items; reading = drained_ranges parser iter text options lookup items same reads drains; output_is = is }
+module _ {E F : Type 0} (Says : F → BrokenLink → Option (CowStr × CowStr) → F → Type 0) (replacement : E → Lookup) where
+  -- the lines of all items of a walk from its start, without a callback, are what its text is rendered as
+  pub rendered : (parser : Parser E F) (iter : OffsetIter E F) (text : List ℕ) (options : Options) (lookup : Lookup) (items : List (Event × Range ℕ)) (output : List ℕ) → walk_of iter ≡ parser → callback_of parser ≡ None
+      → Reads replacement text options lookup parser → Drains (GivesRanged Says replacement) iter (map Ok items) → output ≡ lines (map shown_item items) → AreLinesOf text options lookup output
+  rendered parser iter text options lookup items output same silent reads drains is =
+      record { events = map shown_item items; reading = drained_silent Says replacement parser iter text options lookup items same silent reads drains; output_is = is }

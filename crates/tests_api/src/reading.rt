@@ -1,5 +1,6 @@
 //! Definitions and ranges at each point of a reading.
 
+ghost use Rattle.cmark_grammar.specs.Entities.{basic_entity};
 ghost use Rattle.pulldown_cmark.specs.Parsing.{CanGo, CanGoRanged};
 
 use pulldown_cmark::{BasicEntities, OffsetIter, Parser, RefDefs};
@@ -25,8 +26,8 @@ fn is_defined(
 
 /// Reads on over the first four events.
 fn pass_four_events(parser: &mut Parser<'_, BasicEntities>)
-    requires { CanGo parser.old }
-    ensures { CanGo parser.new }
+    requires { CanGo (λ _. basic_entity) parser.old }
+    ensures { CanGo (λ _. basic_entity) parser.new }
 {
     for _ in 0..4 {
         let _given = parser.next();
@@ -35,7 +36,7 @@ fn pass_four_events(parser: &mut Parser<'_, BasicEntities>)
 
 /// Whether the label `foo` is defined by the first of the two, before the first event and behind the fourth, and `d` never.
 fn keeps_its_definitions(parser: &mut Parser<'_, BasicEntities>) -> Result<bool, AllocError>
-    requires { CanGo parser.old }
+    requires { CanGo (λ _. basic_entity) parser.old }
 {
     let before = is_defined(
         parser.reference_definitions(),
@@ -127,7 +128,7 @@ fn definitions_are_there_at_every_point(rt: HostRuntime) -> Result<(), Fail> {
 
 /// The ranges of the next five events; `None` where there is no further one.
 fn next_ranges(iter: &mut OffsetIter<'_, BasicEntities>) -> [Option<(usize, usize)>; 5]
-    requires { CanGoRanged iter.old }
+    requires { CanGoRanged (λ _. basic_entity) iter.old }
 {
     let mut ranges = [None; 5];
     for range in &mut ranges {

@@ -7,6 +7,6 @@ use Rattle.mdevents_lines.proofs.to_json_lines.Given as goal
 
 abbrev pub invariant-loop-item : goal.invariant-loop-item
 invariant-loop-item g l = record {
-  can : CanGo l.iter.parser;
+  can : CanGo g.E.EntityLookup.replacement l.iter.parser;
   so_far : (items : List (Event × Range ℕ)) × (l.yielded ≡ map Ok items) × (string_bytes l.output ≡ lines (map shown_item items));
 }
