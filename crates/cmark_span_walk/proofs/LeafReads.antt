@@ -10,6 +10,7 @@ use Rattle.cmark_grammar.specs.Tokens.{slice}
 use Rattle.cmark_inline.specs.Decided as decided
 use Rattle.cmark_inline.specs.Linked.{said_by}
 use Rattle.cmark_inline.specs.Reached.{ReadsPlaces}
+use Rattle.cmark_inline.proofs.PlaceEnds.{first-place, last-place}
 use Rattle.cmark_inline_model.specs.PlacedLeaves.{IsPlaced}
 use Rattle.cmark_inline_model.specs.PlacedTokens.{AreLeafPlaces}
 use Rattle.cmark_inline_model.specs.TextPlaces as places
@@ -89,7 +90,13 @@ module _ (reader : Reader) (leaf : Leaf) (placed : IsPlaced reader leaf) where
 
   -- the bytes of the text that was read are those of the grammar's leaf, in its places
   pub read-places : (read : LeafText) → text_of read ≡ places.text_of reader leaf → leaf.is_cell ≡ is_cell_of read → ((k : ℕ) → k < length (text_of read) → place_of read k ≡ place_in reader leaf k) → ReadsPlaces read reader leaf (place_in reader leaf)
-  read-places read text cell bytes = record { places = subst (λ t. AreLeafPlaces reader leaf t (place_in reader leaf)) (sym text) placed.places; cell = cell; bytes = bytes }
+  read-places read text cell bytes = record {
+    places = subst (λ t. AreLeafPlaces reader leaf t (place_in reader leaf)) (sym text) placed.places;
+    cell = cell;
+    bytes = bytes;
+    first = first-place reader leaf placed.turn placed.lines;
+    last = subst (λ (t : List ℕ). 0 < length t → place_in reader leaf (length t) ≡ suc (place_in reader leaf (length t - 1))) (sym text) (last-place reader leaf placed.lines);
+  }
 
 -- the leaf is read with what the grammar reads it with
 pub leaf-same : (options : Options) (lookup : Lookup) (references known : RefDefs) (footnotes : FootnoteDefs) (reader : Reader) (leaf : Leaf) (read : LeafText) → reader.source ≡ source_of read → reader.options ≡ options → reader.lookup ≡ lookup
