@@ -1,5 +1,5 @@
 -- The text of a leaf that was read is that of the grammar's leaf, in the same places.
-use Rattle.std.specs.Prelude.{◌-◌, drop, get_or, if◌then◌else◌, max, nat_lt, option_map, is_some}
+use Rattle.std.specs.Prelude.{◌==◌, ◌-◌, drop, get_or, if◌then◌else◌, max, nat_lt, option_map, is_some}
 use Rattle.std.proofs.Common.{◌≡◌, ℕ, suc, ◌+◌, ◌<◌, ◌≤◌, Bool, true, false, List, [], ◌∷◌, ◌++◌, length, length-drop, refl, sym, ap, ◌∙◌, subst, arith, append-nil}
 use Rattle.std.proofs.lemmas.Bool.{ltb-true, ltb-false}
 use Rattle.cmark_grammar.specs.Answers.{Lookup}
@@ -11,6 +11,7 @@ use Rattle.cmark_inline.specs.Decided as decided
 use Rattle.cmark_inline.specs.Linked.{said_by}
 use Rattle.cmark_inline.specs.Reached.{ReadsPlaces}
 use Rattle.cmark_inline.proofs.PlaceEnds.{first-place, last-place}
+use Rattle.cmark_inline_model.specs.LeafGaps.{HasNoPipesBetween}
 use Rattle.cmark_inline_model.specs.PlacedLeaves.{IsPlaced}
 use Rattle.cmark_inline_model.specs.PlacedTokens.{AreLeafPlaces}
 use Rattle.cmark_inline_model.specs.TextPlaces as places
@@ -89,13 +90,16 @@ module _ (reader : Reader) (leaf : Leaf) (placed : IsPlaced reader leaf) where
       ∙ ap (λ s. place_with s leaf.stretches) (let q : size_of leaf.stretches - k ≡ length (drop k (places.text_of reader leaf)) = omega (arith, d, n) in q)
 
   -- the bytes of the text that was read are those of the grammar's leaf, in its places
-  pub read-places : (read : LeafText) → text_of read ≡ places.text_of reader leaf → leaf.is_cell ≡ is_cell_of read → ((k : ℕ) → k < length (text_of read) → place_of read k ≡ place_in reader leaf k) → ReadsPlaces read reader leaf (place_in reader leaf)
-  read-places read text cell bytes = record {
+  pub read-places : (read : LeafText) → HasNoPipesBetween reader leaf → text_of read ≡ places.text_of reader leaf → leaf.is_cell ≡ is_cell_of read → ((k : ℕ) → k < length (text_of read) → place_of read k ≡ place_in reader leaf k) → ReadsPlaces read reader leaf (place_in reader leaf)
+  read-places read pipes text cell bytes = record {
     places = subst (λ t. AreLeafPlaces reader leaf t (place_in reader leaf)) (sym text) placed.places;
     cell = cell;
     bytes = bytes;
     first = first-place reader leaf placed.turn placed.lines;
     last = subst (λ (t : List ℕ). 0 < length t → place_in reader leaf (length t) ≡ suc (place_in reader leaf (length t - 1))) (sym text) (last-place reader leaf placed.lines);
+    turn = placed.turn;
+    lines = placed.lines;
+    pipes = subst (λ (t : List ℕ). (k x : ℕ) → suc k < length t → place_in reader leaf k < x → x < place_in reader leaf (suc k) → (get_or reader.source x 0 == 124) ≡ false) (sym text) pipes;
   }
 
 -- the leaf is read with what the grammar reads it with

@@ -10,6 +10,7 @@ use Rattle.cmark_grammar.specs.Readers.{Reader}
 use Rattle.cmark_grammar.specs.SpanDocuments as documents
 use Rattle.cmark_grammar.specs.SpanDocuments.{Segment, Left}
 use Rattle.cmark_grammar.specs.Tokens.{slice}
+use Rattle.cmark_inline_model.specs.LeafGaps.{HasNoPipesBetween}
 use Rattle.cmark_inline_model.specs.PlacedLeaves.{IsPlaced}
 use Rattle.cmark_items.specs.Definitions.{definition}
 use Rattle.cmark_items.specs.Footnotes.{footnote}
@@ -56,11 +57,16 @@ pub record IsOnlyLine (source : List ℕ) (lines : List LeafLine) (text : List �
   pub part : IsPart source line.start line.stop
   pub is : text ≡ slice source line.start line.stop
 
--- each event of the blocks has such a range, and each leaf has its places in the text
+-- the bytes of a leaf have their places in the text, and no pipe stands between its lines
+pub record HasPlaces (reader : Reader) (leaf : Leaf) : Type 0 where
+  pub placed : IsPlaced reader leaf
+  pub pipes : HasNoPipesBetween reader leaf
+
+-- each event of the blocks has such a range, and each leaf has its places
 abbrev pub ArePlaced : Reader → List Segment → Type 0
 ArePlaced reader [] = Unit {0}
 ArePlaced reader (documents.Given r ∷ others) = HasRange reader.source r × ArePlaced reader others
-ArePlaced reader (documents.Content leaf ∷ others) = IsPlaced reader leaf × ArePlaced reader others
+ArePlaced reader (documents.Content leaf ∷ others) = HasPlaces reader leaf × ArePlaced reader others
 
 -- ## Where the walk stands
 

@@ -11,11 +11,10 @@ ghost use Rattle.cmark_grammar.specs.SpanDocuments.{Left, Segment};
 ghost use Rattle.cmark_inline.specs.Footnoted.{SameFootnotes};
 ghost use Rattle.cmark_inline.specs.PlainStretches.{IsSetOf, StandUpTo};
 ghost use Rattle.cmark_leaf_text.specs.Stretches.{AreLines};
-ghost use Rattle.cmark_inline_model.specs.PlacedLeaves.{IsPlaced};
 ghost use Rattle.cmark_inline.specs.Opens.{shown_given, GivesZeroCopy as SpanZeroCopy};
 ghost use Rattle.cmark_walk.specs.Walking.{Remains as BlocksRemain, definitions_of as block_definitions, shown_ranged, text_of};
 ghost use Rattle.cmark_text.specs.Shown.{shown_options};
-ghost use Rattle.cmark_span_walk.specs.Walking.{ArePlaced, GivesZeroCopy, IsOnlyLine};
+ghost use Rattle.cmark_span_walk.specs.Walking.{ArePlaced, GivesZeroCopy, HasPlaces, IsOnlyLine};
 
 use cmark_inline::{BrokenLinkCallback, Given, InlineState, Reader, SpecialBytes, special_bytes};
 use cmark_items::{FootnoteDefs, RefDefs};
@@ -254,7 +253,7 @@ impl<'input, 'e, E: EntityLookup, F: BrokenLinkCallback<'input> + Drop> SpanWalk
     fn enter_leaf(&mut self, is_cell: bool) -> Result<(), AllocError>
         requires { (leaf : Leaf) × (others : List Segment) × BeforeLeaf self.old is_cell leaf others }
         ensures enters { OnOk result ((leaf : Leaf) (others : List Segment) → BeforeLeaf self.old is_cell leaf others → EntersLeaf others self.new) }
-        ensures reads { OnOk result ((reader : GrammarReader) (leaf : Leaf) (others : List Segment) → BeforeLeaf self.old is_cell leaf others → IsPlaced reader leaf → ReadsSame E.replacement reader self.old
+        ensures reads { OnOk result ((reader : GrammarReader) (leaf : Leaf) (others : List Segment) → BeforeLeaf self.old is_cell leaf others → HasPlaces reader leaf → ReadsSame E.replacement reader self.old
             → ReadsLeaf F.answers E.replacement reader leaf self.old self.new) }
         ensures source { source_of self.new ≡ source_of self.old }
         ensures budget { self.new.budget ≡ self.old.budget }

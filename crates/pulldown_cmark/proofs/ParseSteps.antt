@@ -24,10 +24,13 @@ use Rattle.cmark_inline.specs.Linked.{Said, said_by, title_or_none}
 use Rattle.cmark_inline.specs.Resolved.{Answered}
 use Rattle.cmark_inline.specs.declared.callback.BrokenLink.{BrokenLink}
 use Rattle.cmark_inline_model.specs.CharacterRanges.{HaveRanges}
+use Rattle.cmark_inline_model.specs.LeafGaps.{HaveNoPipesBetween}
 use Rattle.cmark_inline_model.specs.LeafModel.{AreLeavesInTurn}
 use Rattle.cmark_inline_model.specs.PlacedLeaves.{AreLeavesPlaced}
 use Rattle.cmark_inline_model.specs.Unanswered.{AreUnanswered}
 use Rattle.cmark_inline_model.proofs.BlockRanges.{derived-ranges}
+use Rattle.cmark_inline_model.proofs.LeafEndings.{derived-placed}
+use Rattle.cmark_inline_model.proofs.LeafGaps.{derived-no-pipes}
 use Rattle.cmark_inline_model.proofs.PlannedReadings.{left-planned}
 use Rattle.cmark_items.specs.Definitions.{ShownDefinition, definition, shown_definition}
 use Rattle.cmark_items.specs.Footnotes.{footnote}
@@ -66,15 +69,15 @@ module _ {F : Type 0} (Says : F → BrokenLink → Option (CowStr × CowStr) →
 
 -- ## What is read
 
-placed-both : (reader : Reader) (others : List Segment) → HaveRanges reader.source others → AreLeavesPlaced reader others → ArePlaced reader others
-placed-both reader [] h k = tt
-placed-both reader (GivenOf r ∷ others) h k = (h.0, placed-both reader others h.1 k)
-placed-both reader (Content leaf ∷ others) h k = (k.0, placed-both reader others h k.1)
+placed-all : (reader : Reader) (others : List Segment) → HaveRanges reader.source others → AreLeavesPlaced reader others → HaveNoPipesBetween reader others → ArePlaced reader others
+placed-all reader [] h k p = tt
+placed-all reader (GivenOf r ∷ others) h k p = (h.0, placed-all reader others h.1 k p)
+placed-all reader (Content leaf ∷ others) h k p = (record { placed = k.0; pipes = p.0 }, placed-all reader others h k.1 p.1)
 
 placed-turn : (reader : Reader) (others : List Segment) → ArePlaced reader others → AreLeavesInTurn (length reader.source) others
 placed-turn reader [] h = tt
 placed-turn reader (GivenOf r ∷ others) h = placed-turn reader others h.1
-placed-turn reader (Content leaf ∷ others) h = (h.0.turn, placed-turn reader others h.1)
+placed-turn reader (Content leaf ∷ others) h = (h.0.placed.turn, placed-turn reader others h.1)
 
 -- the definitions and the footnotes of the text
 abbrev from-shown : ShownDefinition → Said
@@ -267,8 +270,11 @@ module _ {E F : Type 0} (replacement : E → Lookup) (parser : Parser E F) (text
   reader = reader_by text options lookup
 
   -- each event of the blocks and each leaf has its place
-  pub begin-placed : IsUtf8 text → AreLeavesPlaced reader left → ArePlaced reader left
-  begin-placed utf8 leaves = placed-both reader left (derived-ranges text options lookup (document text options lookup) utf8 (derived text options lookup)) leaves
+  pub begin-placed : IsUtf8 text → ArePlaced reader left
+  begin-placed utf8 =
+      let d = document text options lookup in
+      let derives = derived text options lookup in
+      placed-all reader left (derived-ranges text options lookup d utf8 derives) (derived-placed reader options lookup d derives) (derived-no-pipes reader options lookup d derives)
 
   -- the reader is that of the parser
   pub begin-same : text_of parser ≡ text → options_of parser ≡ options → lookup_of replacement parser ≡ lookup

@@ -17,9 +17,9 @@ returns-clause-reads g c = λ reader leaf others before placed same.
     let read = c.read.new.self in
     let e = c.in_ok-read.ensures in
     let source = same.source ∙ sym e.source in
-    let text = text-same reader leaf placed read walk.lines.items (sym source) before.lines.are (e.text ∙ ap (leaf_bytes walk.leaf.source.now) c.as_slice.ensures.value ∙ ap (λ s. leaf_bytes s walk.lines.items) (sym e.source)) in
-    let stand = place-same reader leaf placed read c.as_slice.result.now (c.as_slice.ensures.value ∙ before.lines.are) text e.places in
-    let places = read-places reader leaf placed read text (sym before.cell ∙ sym e.cell) stand in
+    let text = text-same reader leaf placed.placed read walk.lines.items (sym source) before.lines.are (e.text ∙ ap (leaf_bytes walk.leaf.source.now) c.as_slice.ensures.value ∙ ap (λ s. leaf_bytes s walk.lines.items) (sym e.source)) in
+    let stand = place-same reader leaf placed.placed read c.as_slice.result.now (c.as_slice.ensures.value ∙ before.lines.are) text e.places in
+    let places = read-places reader leaf placed.placed read placed.pipes text (sym before.cell ∙ sym e.cell) stand in
     record {
       resolves =
           c.in_ok-resolve.ensures.reads before.blocks.special reader leaf (place_in reader leaf)

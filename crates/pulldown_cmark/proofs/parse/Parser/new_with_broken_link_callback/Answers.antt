@@ -11,7 +11,6 @@ use Rattle.cmark_grammar.specs.SpanDocuments.{segments, footnote_labels, has_lab
 use Rattle.cmark_grammar.proofs.BlockDocumentOne.{document-only}
 use Rattle.cmark_blocks.specs.Footnotes.{unused_if}
 use Rattle.cmark_blocks.specs.Runs.{shown_reference}
-use Rattle.cmark_inline_model.proofs.LeafEndings.{derived-placed}
 use Rattle.cmark_items.specs.Definitions.{definition, shown_definition}
 use Rattle.cmark_items.specs.declared.definitions.RefDefs.{RefDefs}
 use Rattle.cmark_items.specs.declared.footnotes.FootnoteDefs.{FootnoteDefs}
@@ -53,7 +52,7 @@ returns-clause-reads g c =
     let n = c.new.ensures in
     let entities = ap replacement n.entities in
     let parser : Parser _ _ = record { spans = c.new.result; is_over = false } in
-    let placed = begin-placed replacement parser text options lookup c.utf8.text (derived-placed (reader_by text options lookup) options lookup d (derived text options lookup)) in
+    let placed = begin-placed replacement parser text options lookup c.utf8.text in
     let same = begin-same replacement parser text options lookup n.source n.options entities (returns-clause-definitions g c d (derived text options lookup)) (returns-clause-footnotes g c d (derived text options lookup)) in
     let begins = n.begins (reader_by text options lookup) left remains c.new-walk.ensures.text (begin-few text options lookup) placed same in
     reads-from replacement parser text options lookup refl (begin-reader replacement parser text options lookup n.source n.options entities) n.expansion placed begins.1
