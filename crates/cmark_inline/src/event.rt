@@ -83,6 +83,7 @@ impl<'a> InlineState<'a> {
         ensures fewer { IfOk result (λ given. OnSome given (events_left self.new < events_left self.old)) }
         ensures most { OnOk result (events_left self.new ≤ events_left self.old) }
         ensures few { OnOk result (length self.new.slots.items < 18446744073709551616) }
+        ensures expansion { self.new.expansion ≡ self.old.expansion }
         ensures events { AreLeft leaf.now self.old → IfOk result (λ given. IsFirst given (events_to_come leaf.now self.old) (events_to_come leaf.now self.new)) }
         ensures left { AreLeft leaf.now self.old → OnOk result (AreLeft leaf.now self.new) }
     {
@@ -104,6 +105,7 @@ impl<'a> InlineState<'a> {
         requires slot { IsSlot (text_of leaf.now) (length (text_of leaf.now)) slot }
         requires opened { AreOpened (source_of leaf.now) self.old.walk.opened.items }
         ensures slots { self.new.slots ≡ self.old.slots }
+        ensures expansion { self.new.expansion ≡ self.old.expansion }
         ensures place { self.new.walk.next ≡ self.old.walk.next }
         ensures opened { AreOpened (source_of leaf.now) self.new.walk.opened.items }
         ensures gives { IfOk result (λ given. Passes (source_of leaf.now) self.old.walk.opened.items given self.new.walk.opened.items) }
@@ -143,6 +145,7 @@ impl<'a> InlineState<'a> {
         requires slot { IsSlot (text_of leaf.now) (length (text_of leaf.now)) slot }
         requires opened { AreOpened (source_of leaf.now) self.old.walk.opened.items }
         ensures slots { self.new.slots ≡ self.old.slots }
+        ensures expansion { self.new.expansion ≡ self.old.expansion }
         ensures place { self.new.walk.next ≡ self.old.walk.next }
         ensures opened { AreOpened (source_of leaf.now) self.new.walk.opened.items }
         ensures gives { IfOk result (λ given. Follows (source_of leaf.now) self.old.walk.opened.items (shown_given given) self.new.walk.opened.items) }
@@ -168,6 +171,7 @@ impl<'a> InlineState<'a> {
     #[inline(always)]
     fn end_last(&mut self) -> Option<Given<'a>>
         ensures slots { self.new.slots ≡ self.old.slots }
+        ensures expansion { self.new.expansion ≡ self.old.expansion }
         ensures place { self.new.walk.next ≡ self.old.walk.next }
         ensures opened { (source : List ℕ) → AreOpened source self.old.walk.opened.items → AreOpened source self.new.walk.opened.items }
         ensures gives { (source : List ℕ) → AreOpened source self.old.walk.opened.items → Gives source self.old.walk.opened.items result self.new.walk.opened.items }
@@ -189,6 +193,7 @@ impl<'a> InlineState<'a> {
         ensures span { IsSpan (shown_tag result) }
         ensures end { end_of (shown_tag result) ≡ element_end element }
         ensures slots { self.new.slots ≡ self.old.slots }
+        ensures expansion { self.new.expansion ≡ self.old.expansion }
         ensures walk { self.new.walk ≡ self.old.walk }
         ensures value { shown_tag result ≡ shown_element self.old.links.items element }
         ensures links { KeepsOthers (link_of element) self.old.links.items self.new.links.items }
@@ -207,6 +212,7 @@ impl<'a> InlineState<'a> {
 
     fn take_link(&mut self, index: usize) -> LinkParts<'a>
         ensures slots { self.new.slots ≡ self.old.slots }
+        ensures expansion { self.new.expansion ≡ self.old.expansion }
         ensures walk { self.new.walk ≡ self.old.walk }
         ensures value { shown_parts result ≡ linked_at self.old.links.items index }
         ensures links { KeepsOthers (Some index) self.old.links.items self.new.links.items }
@@ -220,6 +226,7 @@ impl<'a> InlineState<'a> {
 
     fn take_text(&mut self, index: usize) -> CowStr<'a>
         ensures slots { self.new.slots ≡ self.old.slots }
+        ensures expansion { self.new.expansion ≡ self.old.expansion }
         ensures walk { self.new.walk ≡ self.old.walk }
         ensures value { text_bytes result ≡ text_at self.old.texts.items index }
         ensures texts { KeepsOthers (Some index) self.old.texts.items self.new.texts.items }
@@ -236,6 +243,7 @@ impl<'a> InlineState<'a> {
         requires read { IsRead leaf.now }
         requires slot { IsSlot (text_of leaf.now) (length (text_of leaf.now)) slot }
         ensures slots { self.new.slots ≡ self.old.slots }
+        ensures expansion { self.new.expansion ≡ self.old.expansion }
         ensures walk { self.new.walk ≡ self.old.walk }
         ensures inline { IfOk result (λ event. IsInline (shown event)) }
         ensures lent { IfOk result (λ event. IsZeroCopy (source_of leaf.now) event (place_of leaf.now slot.start) (place_of leaf.now (slot.end - 1) + 1)) }

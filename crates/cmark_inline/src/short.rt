@@ -41,6 +41,7 @@ impl<'a> InlineState<'a> {
         requires slots { AreSlots (text_of leaf.now) (length (text_of leaf.now)) self.old.slots.items }
         requires opened { AreOpened (source_of leaf.now) self.old.walk.opened.items }
         ensures slots { self.new.slots ≡ self.old.slots }
+        ensures expansion { self.new.expansion ≡ self.old.expansion }
         ensures left { AreLeft leaf.now self.old → OnOk result (AreLeft leaf.now self.new) }
         ensures opened { AreOpened (source_of leaf.now) self.new.walk.opened.items }
         ensures stands { IfOk result (λ next. IfShort next (λ short. (d : Slots) → StandsFor leaf.now (get_or self.old.slots.items (self.new.walk.next - 1) d) short)) }
@@ -71,6 +72,7 @@ impl<'a> InlineState<'a> {
         requires slot { IsSlot (text_of leaf.now) (length (text_of leaf.now)) slot }
         requires opened { AreOpened (source_of leaf.now) self.old.walk.opened.items }
         ensures slots { self.new.slots ≡ self.old.slots }
+        ensures expansion { self.new.expansion ≡ self.old.expansion }
         ensures texts { self.new.texts ≡ self.old.texts }
         ensures links { self.new.links ≡ self.old.links }
         ensures place { self.new.walk.next ≡ self.old.walk.next }
@@ -102,6 +104,7 @@ impl<'a> InlineState<'a> {
         requires is { slot.kind ≡ kind.Begin element }
         requires opened { AreOpened (source_of leaf.now) self.old.walk.opened.items }
         ensures slots { self.new.slots ≡ self.old.slots }
+        ensures expansion { self.new.expansion ≡ self.old.expansion }
         ensures texts { self.new.texts ≡ self.old.texts }
         ensures links { self.new.links ≡ self.old.links }
         ensures place { self.new.walk.next ≡ self.old.walk.next }
@@ -128,6 +131,7 @@ impl<'a> InlineState<'a> {
     #[inline(always)]
     fn end_short(&mut self) -> Next<'a>
         ensures slots { self.new.slots ≡ self.old.slots }
+        ensures expansion { self.new.expansion ≡ self.old.expansion }
         ensures texts { self.new.texts ≡ self.old.texts }
         ensures links { self.new.links ≡ self.old.links }
         ensures place { self.new.walk.next ≡ self.old.walk.next }

@@ -7,6 +7,7 @@ pub mod BracketsOne
 pub mod BracketsShifted
 pub mod BracketsSound
 pub mod BracketsStep
+pub mod BlockRanges
 pub mod BreakRests
 pub mod CostLists
 pub mod DecisionLaws
@@ -49,6 +50,7 @@ pub mod PartOrders
 pub mod PlacedTokens
 pub mod PlaceExamples
 pub mod PlainLeaves
+pub mod PlannedReadings
 pub mod PlainTokens
 pub mod QuestionExamples
 pub mod RangeExamples

@@ -15,6 +15,7 @@ pub mod PartRanges
 pub mod PassSteps
 pub mod PlacedLeaves
 pub mod PlacedTokens
+pub mod PlannedAnswers
 pub mod Progress
 pub mod ReadingLinks
 pub mod ReadingQuestions

@@ -30,6 +30,7 @@ ghost use Rattle.cmark_inline_model.specs.FormedParts.{AllFormed, closings};
 ghost use Rattle.cmark_inline_model.specs.LinkRules.{AsksRightly, IsFormedRightly};
 ghost use Rattle.cmark_inline_model.specs.NestedLinks.{HasLinksApart, KeepsLinksApart};
 ghost use Rattle.cmark_inline_model.specs.PartRanges.{KeepsRanges, StandBetween};
+ghost use Rattle.cmark_inline_model.specs.PlannedAnswers.{AreByPlan};
 ghost use Rattle.cmark_inline_model.specs.PassSteps.{Steps};
 ghost use Rattle.cmark_inline_model.specs.ReadingRanges.{Matched};
 ghost use Rattle.cmark_inline_model.specs.Unanswered.{AreUnanswered, without_callback};
@@ -161,9 +162,16 @@ pub fn decisions_keep_the_rules()
     ensures limit { (reader : Reader) (leaf : Leaf) → KeepsLimit (decide reader leaf) }
 {}
 
-/// However the questions are answered, a text has a reading.
+/// However the questions are answered, a text has a reading with these answers.
 pub fn a_text_has_a_reading()
-    ensures { (text : List ℕ) (profile : Profile) (plan : Plan) → (exchanges : List Exchange) × (events : List Ranged) × IsReading text profile exchanges events }
+    ensures { (text : List ℕ) (profile : Profile) (plan : Plan)
+        → (exchanges : List Exchange) × (events : List Ranged) × AreByPlan plan [] exchanges × IsReading text profile exchanges events }
+{}
+
+/// However the questions are answered, what is left of a text can be read with these answers.
+pub fn what_is_left_can_be_read()
+    ensures { (reader : Reader) (segments : List Segment) (expansion : ℕ) (plan : Plan) → AreLeavesInTurn (length reader.source) segments
+        → (exchanges : List Exchange) × (events : List Ranged) × AreByPlan plan [] exchanges × Left reader segments expansion exchanges events }
 {}
 
 /// For each list of answers a text has one reading.

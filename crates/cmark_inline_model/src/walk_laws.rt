@@ -10,7 +10,7 @@ ghost use Rattle.cmark_grammar.specs.Event.{Ranged};
 ghost use Rattle.cmark_grammar.specs.LeafSpans.{AreGiven};
 ghost use Rattle.cmark_grammar.specs.Options.{Options};
 ghost use Rattle.cmark_grammar.specs.SpanDocuments.{segments};
-ghost use Rattle.cmark_inline_model.specs.CharacterRanges.{CutNoCharacter};
+ghost use Rattle.cmark_inline_model.specs.CharacterRanges.{CutNoCharacter, HaveRanges};
 ghost use Rattle.cmark_inline_model.specs.ReadingRanges.{Matched};
 
 /// The events of a walk that ends are balanced: each start has its end behind it, of the same tag and with the same bytes.
@@ -24,4 +24,10 @@ pub fn walks_are_balanced()
 pub fn walks_cut_no_character()
     ensures { (text : List ℕ) (options : Options) (lookup : Lookup) (document : BlockDocument) (events : List Ranged)
         → IsUtf8 text → Derives text options lookup document → AreGiven text (segments document) events → CutNoCharacter text events }
+{}
+
+/// The events of a text's blocks have ranges that lie in the text and cut no character of it.
+pub fn blocks_cut_no_character()
+    ensures { (text : List ℕ) (options : Options) (lookup : Lookup) (document : BlockDocument)
+        → IsUtf8 text → Derives text options lookup document → HaveRanges text (segments document) }
 {}

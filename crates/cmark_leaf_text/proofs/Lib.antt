@@ -1,2 +1,3 @@
 pub mod Gapless
+pub mod PlaceSteps
 pub mod StretchSteps

@@ -56,6 +56,20 @@ abbrev pub place_in : List Stretch → ℕ → ℕ
 place_in [] at = at
 place_in (stretch ∷ stretches) at = if nat_lt at (stretch.at + size_of stretch) then stretch.start + (at - stretch.at) else place_in stretches at
 
+-- where in the source a byte of the text of lines stands
+abbrev pub place_on : List LeafLine → ℕ → ℕ
+place_on [] at = at
+place_on (line ∷ lines) at = if nat_lt at (line_end line lines - line.start) then line.start + at else place_on lines (at - (line_end line lines - line.start))
+
+-- the bytes of these stretches have the places that they have in the lines
+abbrev pub StandAs : (source : List ℕ) → List LeafLine → List Stretch → Type 0
+StandAs source lines stretches = (k : ℕ) → k < length (joined source stretches) → place_in stretches k ≡ place_on lines k
+
+-- so many bytes more stand behind those of the old stretches, from a place of the source on, and those stand where they stood
+pub record PlacesMore (source : List ℕ) (old : List Stretch) (start count : ℕ) (new : List Stretch) : Type 0 where
+  pub same : (k : ℕ) → k < length (joined source old) → place_in new k ≡ place_in old k
+  pub more : (k : ℕ) → k < count → place_in new (length (joined source old) + k) ≡ start + k
+
 -- a stretch that may still be made longer stands behind these
 pub record IsOpen (source : List ℕ) (stretches : List Stretch) (open_one : Stretch) : Type 0 where
   pub all : AreStretches source 0 0 (stretches ++ (open_one ∷ []))

@@ -1,10 +1,10 @@
 //! The text of a leaf.
 
-ghost use Rattle.std.specs.Prelude.{◌≡◌, ◌<◌, ◌≤◌, ◌+◌, ◌-◌, ◌++◌, ◌≢◌, [], length, OnOk, IfOk, IfSome, None, ◌∷◌, string_bytes};
+ghost use Rattle.std.specs.Prelude.{ℕ, ◌≡◌, ◌<◌, ◌≤◌, ◌+◌, ◌-◌, ◌++◌, ◌≢◌, [], length, OnOk, IfOk, IfSome, None, ◌∷◌, string_bytes};
 ghost use Rattle.cmark_grammar.specs.Tokens.{slice};
 ghost use Rattle.cmark_leaf_text.specs.Reads.{IsRead, IsPart, IsFirstFrom, is_cell_of, text_of, source_of, place_of};
 ghost use Rattle.std.specs.Str.{IsCharBoundary};
-ghost use Rattle.cmark_leaf_text.specs.Stretches.{AreLines, AreStretches, IsOpen, IsLine, joined, leaf_bytes, line_end, FindsStretch};
+ghost use Rattle.cmark_leaf_text.specs.Stretches.{AreLines, AreStretches, IsOpen, IsLine, PlacesMore, StandAs, joined, leaf_bytes, line_end, place_on, FindsStretch};
 
 use crate::stretch::{LeafLine, Stretch};
 use std::alloc::{AllocError, Global};
@@ -45,6 +45,7 @@ impl<'a> LeafText<'a> {
         requires { AreLines (source_of self.old) 0 lines.now }
         ensures read { OnOk result (IsRead self.new) }
         ensures text { OnOk result (text_of self.new ≡ leaf_bytes (source_of self.old) lines.now) }
+        ensures places { OnOk result ((k : ℕ) → k < length (text_of self.new) → place_of self.new k ≡ place_on lines.now k) }
         ensures source { source_of self.new ≡ source_of self.old }
         ensures cell { OnOk result (is_cell_of self.new ≡ is_cell) }
     {
@@ -188,6 +189,7 @@ impl<'a> LeafText<'a> {
         requires lines { AreLines (source_of self.old) 0 lines.now }
         ensures stretches { OnOk result (AreStretches (source_of self.old) 0 0 self.new.stretches.items) }
         ensures text { OnOk result (joined (source_of self.old) self.new.stretches.items ≡ leaf_bytes (source_of self.old) lines.now) }
+        ensures places { OnOk result (StandAs (source_of self.old) lines.now self.new.stretches.items) }
         ensures source { source_of self.new ≡ source_of self.old }
     {
         let [first, ..] = lines else {
@@ -219,6 +221,7 @@ impl<'a> LeafText<'a> {
         ensures open { IfOk result (λ next. IsOpen (source_of self.old) self.new.stretches.items next) }
         ensures end { IfOk result (λ next. next.end ≡ end) }
         ensures text { IfOk result (λ next. joined (source_of self.old) (self.new.stretches.items ++ (next ∷ [])) ≡ joined (source_of self.old) (self.old.stretches.items ++ (opened ∷ [])) ++ slice (source_of self.old) start end) }
+        ensures places { IfOk result (λ next. PlacesMore (source_of self.old) (self.old.stretches.items ++ (opened ∷ [])) start (end - start) (self.new.stretches.items ++ (next ∷ []))) }
         ensures source { source_of self.new ≡ source_of self.old }
     {
         if opened.end == start {

@@ -8,7 +8,7 @@ use Rattle.cmark_inline.proofs.SlotViews.{events-behind, events-last, first-befo
 use Rattle.cmark_inline.proofs.state.InlineState.next.Goals as goal
 
 pub loop-self-init : goal.loop-self-init
-loop-self-init c = (refl, refl, omega arith, (λ h. refl), (λ h. h))
+loop-self-init c = (refl, refl, omega arith, (λ h. refl), (λ h. h), refl)
 
 pub loop-self-preserved : goal.loop-self-preserved
 loop-self-preserved c =
@@ -30,6 +30,7 @@ loop-self-preserved c =
           ∙ events-behind c.args.leaf.now old.texts.items new.texts.items old.links.items new.links.items old.slots.items new.slots.items old.walk.opened.items new.walk.opened.items old.walk.next new.walk.next slots place c.index-slot.result.now None lt c.index-slot.ensures (i.4 h)
           (λ behind can. subst (λ given. events_of c.args.leaf.now old.texts.items old.links.items (c.index-slot.result.now ∷ behind) old.walk.opened.items ≡ with_given given (events_of c.args.leaf.now new.texts.items new.links.items behind new.walk.opened.items)) c.in_default.is (e.events behind can))),
       (λ h. left-next c.args.leaf.now old.texts.items new.texts.items old.links.items new.links.items old.slots.items new.slots.items old.walk.opened.items new.walk.opened.items old.walk.next new.walk.next slots place c.index-slot.result.now lt c.index-slot.ensures (i.4 h) e.left),
+      e.expansion ∙ i.5,
     )
 
 pub returns-clause-opened : goal.returns-clause-opened
@@ -77,3 +78,12 @@ returns-in-Some-clause-left c = λ h.
     let n = c.len.ensures in
     let lt : old.walk.next < length old.slots.items = omega (arith, t, n) in
     left-next c.args.leaf.now old.texts.items new.texts.items old.links.items new.links.items old.slots.items new.slots.items old.walk.opened.items new.walk.opened.items old.walk.next new.walk.next (ap (λ v. v.items) e.slots) e.place c.index-slot.result.now lt c.index-slot.ensures (i.4 h) e.left
+
+pub returns-clause-expansion : goal.returns-clause-expansion
+returns-clause-expansion c = c.end_last.ensures.expansion ∙ c.loop-self.invariant.5
+
+pub returns-in-Some-clause-expansion : goal.returns-in-Some-clause-expansion
+returns-in-Some-clause-expansion c = c.in_ok-given.ensures.expansion ∙ c.loop-self.invariant.5
+
+pub returns-in_err-given-clause-expansion : goal.returns-in_err-given-clause-expansion
+returns-in_err-given-clause-expansion c = c.give.ensures.expansion ∙ c.loop-self.invariant.5

@@ -54,3 +54,15 @@ returns-clause-left c = λ left.
     let low = i.2 in
     let place = g.place in
     left-later c.args.leaf.now old new (g.texts ∙ i.3) (g.links ∙ i.4) (g.slots ∙ i.0) (let q : old.walk.next ≤ new.walk.next = omega (arith, low, place) in q) left
+
+pub returns-clause-expansion : goal.returns-clause-expansion
+returns-clause-expansion c = c.end_short.ensures.expansion ∙ c.loop-self.invariant.6
+
+pub returns-in-Short-clause-expansion : goal.returns-in-Short-clause-expansion
+returns-in-Short-clause-expansion c = c.give_short.ensures.expansion ∙ c.loop-self.invariant.6
+
+pub returns-in-Long-clause-expansion : goal.returns-in-Long-clause-expansion
+returns-in-Long-clause-expansion c = c.give_short.ensures.expansion ∙ c.loop-self.invariant.6
+
+pub returns-in_err-short-clause-expansion : goal.returns-in_err-short-clause-expansion
+returns-in_err-short-clause-expansion c = c.give_short.ensures.expansion ∙ c.loop-self.invariant.6

@@ -1,5 +1,4 @@
-use Rattle.std.proofs.Common.{ℕ, List, ◌≡◌, ◌<◌, ◌≤◌, ◌+◌, ◌-◌, ◌/◌, length, sym, subst, arith}
-use Rattle.cmark_leaf_text.specs.Reads.{text_of, place_of}
+use Rattle.std.proofs.Common.{ℕ, List, ◌<◌, ◌≤◌, ◌+◌, ◌-◌, ◌/◌, length, subst, arith}
 use Rattle.cmark_leaf_text.specs.Stretches.{AreStretches, joined, place_in}
 use Rattle.cmark_leaf_text.specs.declared.stretch.Stretch.{Stretch}
 use Rattle.cmark_leaf_text.proofs.StretchSteps.{place-order}

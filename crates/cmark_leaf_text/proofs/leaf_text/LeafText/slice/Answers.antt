@@ -1,6 +1,6 @@
-use Rattle.std.proofs.Common.{◌≡◌, ◌+◌, ◌-◌, ℕ, List, sym, ap, ◌∙◌, arith}
+use Rattle.std.proofs.Common.{◌≡◌, ◌+◌, ◌-◌, ℕ, List, ap, ◌∙◌, arith}
 use Rattle.cmark_grammar.specs.Tokens.{slice}
-use Rattle.cmark_leaf_text.specs.Stretches.{joined, place_in}
+use Rattle.cmark_leaf_text.specs.Stretches.{place_in}
 use Rattle.cmark_leaf_text.specs.declared.stretch.Stretch.{Stretch}
 use Rattle.cmark_leaf_text.proofs.Gapless.{same-bytes}
 use Rattle.cmark_leaf_text.proofs.leaf_text.LeafText.slice.Goals as goal
