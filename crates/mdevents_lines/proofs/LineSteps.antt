@@ -1,7 +1,7 @@
 -- The lines of a walk's events.
-use Rattle.std.proofs.Common.{◌≡◌, subst, ℕ, List, [], ◌∷◌, ◌++◌, map, Result, Ok, Option, None, sym, ap, ◌∙◌, append_assoc, append-nil}
+use Rattle.std.proofs.Common.{◌≡◌, ℕ, List, [], ◌∷◌, ◌++◌, map, Result, Ok, Option, None, sym, ap, ◌∙◌, append_assoc, append-nil}
 use Rattle.std.proofs.lemmas.List.{map_push}
-use Rattle.std.specs.Iterator.{Drains, Yields}
+use Rattle.std.specs.Iterator.{Drains}
 use Rattle.std.specs.declared.ops.Range.{Range}
 use Rattle.cmark_grammar.specs.Answers.{Lookup}
 use Rattle.cmark_grammar.specs.Event.{Ranged}
@@ -35,9 +35,6 @@ given_more all one items item p q = ap (λ l. l ++ one ∷ []) p ∙ ap (λ z. m
 -- what the callback answers that stands for none
 abbrev pub says-nothing : DefaultBrokenLinkCallback → BrokenLink → Option (CowStr × CowStr) → DefaultBrokenLinkCallback → Type 0
 says-nothing before link answer after = answer ≡ None
-
-pub yields-as : {S A : Type 0} → {steps : S → Option A → S → Type 0} → {s t : S} → {first second : List A} → first ≡ second → Yields steps s first t → Yields steps s second t
-yields-as {S} {A} {steps} {s} {t} e h = subst (λ items. Yields steps s items t) e h
 
 module _ {E F : Type 0} (Says : F → BrokenLink → Option (CowStr × CowStr) → F → Type 0) (replacement : E → Lookup) where
   -- the lines of all items of a walk from its start, without a callback, are what its text is rendered as

@@ -3,7 +3,7 @@ use Rattle.std.specs.Iterator.{Yields}
 use Rattle.std.specs.declared.ops.Range.{Range}
 use Rattle.cmark_text.specs.declared.event.Event.{Event}
 use Rattle.pulldown_cmark.specs.Parsing.{GivesRanged}
-use Rattle.mdevents_lines.proofs.LineSteps.{given_more, rendered, says-nothing, written_more, yields-as}
+use Rattle.mdevents_lines.proofs.LineSteps.{given_more, rendered, says-nothing, written_more}
 use Rattle.mdevents_lines.proofs.to_json_lines.Goals as goal
 
 pub loop-item-preserved : goal.loop-item-preserved
@@ -18,6 +18,6 @@ loop-item-preserved g c =
 pub returns : goal.returns
 returns g c =
     let i = c.loop-item.invariant.so_far in
-    let given = yields-as i.1 c.loop-item.yielded_by in
+    let given = subst (λ items. Yields (GivesRanged says-nothing g.E.EntityLookup.replacement) c.into_offset_iter-iter.result items c.loop-item.iter) i.1 c.loop-item.yielded_by in
     rendered says-nothing g.E.EntityLookup.replacement c.in_ok-parser.parser c.into_offset_iter-iter.result c.args.text.now _ _ i.0 _ c.into_offset_iter-iter.ensures.walk c.in_ok-parser.ensures.callback c.in_ok-parser.ensures.reads
     (c.next.new.self, (c.loop-item.iter, given, c.in_default.ensures.steps)) i.2
