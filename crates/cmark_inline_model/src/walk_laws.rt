@@ -1,5 +1,5 @@
-//! Theorems over what a walk over a document gives: the document's own events, and spans in its leaves (`AreGiven`, of `LeafSpans`,
-//! which is what the parser's contracts speak of). Each is the contract of a function that does nothing.
+//! Theorems over a document's own events with any spans that nest in its leaves (`AreGiven`, of `LeafSpans`), as those of its reading do.
+//! Each is the contract of a function that does nothing.
 
 ghost use Rattle.std.specs.Prelude.{ℕ, List, IsUtf8, map};
 ghost use Rattle.cmark_grammar.specs.Answers.{Lookup};
