@@ -16,7 +16,7 @@ class Sources:
             name, parted, below = line.partition(":")
             if parted and not name.startswith("#"):
                 self.direct[name.split()[0]] = [it for it in below.split() if (self.crates / it).is_dir()]
-        # what can be proved is fixed by the toolchain's logic, and its version tells the digest of that
+        # of the toolchain only its logic counts, whose digest its version tells: an edit that is wrong leaves a goal that is false in it
         version = subprocess.run(["rt", "version"], capture_output=True, text=True, check=True).stdout
         self.logic = re.search(r"\blogic (\w+)", version)[1]
 
