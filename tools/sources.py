@@ -8,6 +8,8 @@ IMPORT = re.compile(r"\bRattle\.(\w+)\.(specs|proofs)\.([\w.]+)|\b(\w+)::(specs|
 
 
 class Sources:
+    """The files of a repository's crates, each read once."""
+
     def __init__(self, root):
         self.crates = pathlib.Path(root) / "crates"
         self.texts = {}
@@ -21,11 +23,13 @@ class Sources:
         self.logic = re.search(r"\blogic (\w+)", version)[1]
 
     def text(self, path):
+        """What a file says."""
         if path not in self.texts:
             self.texts[path] = path.read_text(encoding="utf-8")
         return self.texts[path]
 
     def files(self, crate, *folders):
+        """The files in some folders of a crate."""
         return {it for folder in folders for it in (self.crates / crate / folder).rglob("*") if it.is_file()}
 
     def imported(self, path):
@@ -61,6 +65,7 @@ class Sources:
         return found
 
     def number(self, crate):
+        """A digest of all that the verdicts on a crate's edits stand on."""
         sum_of = hashlib.sha256(self.logic.encode())
         for path in sorted(self.below(crate)):
             sum_of.update(f"{path.relative_to(self.crates)}\0{self.text(path)}\0".encode())
