@@ -46,6 +46,7 @@ test: edits gate programs lib wrong outside
 # What needs no proof to find comes first.
 edits:
 	tests/edits
+	tests/documents
 
 gate:
 	mkdir -p bin

@@ -8,6 +8,7 @@ import sys
 
 
 def load_rt():
+    """The command as a module."""
     path = os.path.realpath(shutil.which("rt") or sys.exit("the toolchain's command rt is not on the PATH"))
     loader = importlib.machinery.SourceFileLoader("rt_command", path)
     module = importlib.util.module_from_spec(importlib.util.spec_from_loader("rt_command", loader))
