@@ -1,10 +1,5 @@
-use Rattle.std.proofs.Common.{◌≡◌, ℕ, take, drop, sym, subst, ap, ◌∙◌, false, vec_len, arith}
-use Rattle.cmark_grammar.specs.Rows.{Row}
+use Rattle.std.proofs.Common.{◌≡◌, sym, subst, ◌∙◌, false, vec_len, arith}
 use Rattle.cmark_lines.specs.Rests.{row_of}
-use Rattle.cmark_leaves.specs.Told.{AreTold}
-use Rattle.cmark_leaves.proofs.ToldSteps.{without-told}
-use Rattle.cmark_block_model.specs.BlockPass.{Kept, line_with}
-use Rattle.cmark_block_model.specs.OpenBlocks as model
 use Rattle.cmark_blocks.specs.Ahead.{lines_at}
 use Rattle.cmark_blocks.specs.Runs.{Runs}
 use Rattle.cmark_blocks.proofs.FeedSteps.{is-zero, fed-outside}

@@ -1,4 +1,4 @@
-use Rattle.std.proofs.Common.{◌≡◌, ℕ, take, drop, sym, subst, ap, ◌∙◌, false, vec_len, arith}
+use Rattle.std.proofs.Common.{ℕ, take, drop, sym, subst, ap, false}
 use Rattle.cmark_grammar.specs.Rows.{Row}
 use Rattle.cmark_lines.specs.Rests.{row_of}
 use Rattle.cmark_leaves.specs.Told.{AreTold}

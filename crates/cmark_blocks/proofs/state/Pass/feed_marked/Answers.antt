@@ -1,6 +1,5 @@
 use Rattle.std.proofs.Common.{◌≡◌, ◌≤◌, true, false, ◌||◌, length, map, option_map, sym, ap, subst, ◌∙◌, arith, true≢false}
 use Rattle.cmark_grammar.specs.Openings.{interrupts}
-use Rattle.cmark_grammar.specs.DefinitionLists.{begins_definition}
 use Rattle.cmark_blocks.specs.TablesAhead.{block_interrupts}
 use Rattle.cmark_text.specs.Shown.{level_number}
 use Rattle.cmark_lines.specs.Rests.{row_of}

@@ -1,8 +1,6 @@
-use Rattle.std.proofs.Common.{◌≡◌, ◌≤◌, true, false, ◌||◌, length, map, option_map, sym, ap, subst, ◌∙◌, arith, true≢false}
-use Rattle.cmark_grammar.specs.Openings.{interrupts}
+use Rattle.std.proofs.Common.{true, ◌||◌, map, sym, ap, subst, ◌∙◌}
 use Rattle.cmark_grammar.specs.DefinitionLists.{begins_definition}
 use Rattle.cmark_blocks.specs.TablesAhead.{block_interrupts}
-use Rattle.cmark_text.specs.Shown.{level_number}
 use Rattle.cmark_lines.specs.Rests.{row_of}
 use Rattle.cmark_lines.proofs.PlainRows.{letter-interrupts-not, letter-table-not, letter-underlines-not}
 use Rattle.cmark_blocks.proofs.DefinitionRows.{letter-definition-not}
