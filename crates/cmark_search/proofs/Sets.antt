@@ -4,14 +4,14 @@ use Rattle.std.specs.Int.{bit_at}
 use Rattle.std.specs.List.{position_or_len}
 use Rattle.std.specs.Simd.Lanes.{zip2, mask_l, top, Each1}
 use Rattle.std.proofs.lemmas.Bool.{agree_below_at, and_parts, both_ways, cases_lt, eqb-true, ltb-true, lt-ltb, ne_eqb}
-use Rattle.std.proofs.lemmas.List.{get_or_append_left, length-map}
+use Rattle.std.proofs.lemmas.List.{get_or_append_left, length-map, map-id}
 use Rattle.std.proofs.lemmas.List.Sums.{fails_before_first, passes_at_first, position_or_len_is}
 use Rattle.std.proofs.lemmas.Nat.{and_mask, and_le_r}
 use Rattle.std.proofs.lemmas.Nat.Bits.{and_pow, bit_at-lt}
-use Rattle.std.proofs.lemmas.Simd.{swz_l, SwzOk, SwzOk-from_below, get_or-swz_l_below, zip2_splat, zip2_of_maps, bitmask_splat, bit_mask_l, map-map, run_in_chunk_le, run_in_chunk_fails, run_in_chunk_stops}
+use Rattle.std.proofs.lemmas.Simd.{swz_l, SwzOk, SwzOk-from_below, get_or-swz_l_below, zip2_splat, zip2_of_maps, bitmask_splat, bit_mask_l, mask_l-mod, tops_compared, map-map, run_in_chunk_le, run_in_chunk_fails, run_in_chunk_stops}
 use Rattle.memchr.specs.Find.{IsFirstByte, Passes}
 use Rattle.memchr.proofs.lemmas.FindLemmas.{IsFirst-agree}
-use Rattle.cmark_search.specs.Sets.{column_of, in_rows, row_of}
+use Rattle.cmark_search.specs.Sets.{column_of, in_keys, in_rows, row_of}
 use Rattle.cmark_search.specs.declared.search.TheConstants.{BITS}
 
 -- ---- lanes that are places in a table of sixteen
@@ -115,6 +115,22 @@ module _ (rows : List ℕ) where
   -- a byte of the set is ASCII
   pub ascii-in_rows : (b : ℕ) → in_rows rows b ≡ true → b < 128
   ascii-in_rows b is = omega (arith, ltb-true (b / 16) 8 (and_parts (nat_lt (b / 16) 8) (bit_at (get_or rows (b % 16) 0) (b / 16) == 1) is).0)
+
+-- ---- the marks of a set that is given by its keys
+
+module _ (keys lanes : List ℕ) (long : length lanes ≡ 16) (fits : Each1 (Fits w8) lanes) where
+  abbrev pub sought : (table : List ℕ) → List ℕ
+  sought table = swz_l w8 16 table 0 (zip2 bit_and lanes (replicate 16 15))
+
+  same-lanes : zip2 eqb (sought keys) lanes ≡ map (in_keys keys) lanes
+  same-lanes = zip2_of_maps eqb (λ x. get_or keys (x % 16) 0) (λ x. x) lanes (low_read lanes long fits keys) (sym (map-id lanes))
+
+  -- the keys were read as a vector
+  pub marked-keys : (table : List ℕ) → table ≡ keys → mask_l (map (top 7) (zip2 (λ a b. cond (eqb a b) 255 0) (sought table) lanes)) % 2 ^ 64 ≡ mask_l (map (in_keys keys) lanes)
+  marked-keys table same =
+      ap (λ (t : List ℕ). mask_l (map (top 7) (zip2 (λ a b. cond (eqb a b) 255 0) (sought t) lanes)) % 2 ^ 64) same
+      ∙ ap (λ ms. mask_l ms % 2 ^ 64) (tops_compared w8 eqb (sought keys) lanes ∙ same-lanes)
+      ∙ mask_l-mod (map (in_keys keys) lanes) 64 (omega (arith, length-map lanes (in_keys keys), long))
 
 -- ---- the set of a table
 

@@ -7,6 +7,10 @@ use Rattle.std.specs.Simd.Lanes.{mask_l}
 abbrev pub in_rows : (rows : List ℕ) → ℕ → Bool
 in_rows rows byte = nat_lt (byte / 16) 8 && (bit_at (get_or rows (byte % 16) 0) (byte / 16) == 1)
 
+-- a byte is in the set where the key of its low digit is that byte
+abbrev pub in_keys : (keys : List ℕ) → ℕ → Bool
+in_keys keys byte = get_or keys (byte % 16) 0 == byte
+
 -- whether a table has the bytes with this low digit, by the high one
 abbrev pub column_of : (table : List Bool) → ℕ → List Bool
 column_of table low =

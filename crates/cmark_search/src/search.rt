@@ -1,22 +1,22 @@
 //! Searches for the first byte of a set, sixteen bytes a step. They are made for short ways: a line has some sixty bytes.
 
-ghost use Rattle.std.specs.Prelude.{◌≡◌, ◌+◌, ◌<◌, ◌≤◌, if◌then◌else◌, ℕ, List, false, length, map, drop, take, slice_index, slice_index_or};
+ghost use Rattle.std.specs.Prelude.{◌≡◌, ◌+◌, ◌<◌, ◌≤◌, if◌then◌else◌, ℕ, Bool, List, false, length, map, drop, take, slice_index, slice_index_or};
 ghost use Rattle.std.specs.List.{position_or_len};
 ghost use Rattle.std.specs.Simd.Lanes.{mask_l};
 ghost use Rattle.memchr.specs.Find.{IsFirstByte, is_byte, is_byte2};
-ghost use Rattle.cmark_search.specs.Sets.{in_rows, row_of};
+ghost use Rattle.cmark_search.specs.Sets.{in_rows, in_keys, row_of};
 
 use std::marker::Model;
 use std::simd::prelude::*;
 
-/// The rows of the set of the backtick alone.
-const BACKTICKS: &[u8; 16] = &[64, 0, 0, 0, 0, 0, 0, 0, 0, 0, 0, 0, 0, 0, 0, 0];
+/// The keys of the set of the backtick alone.
+const BACKTICKS: &[u8; 16] = &[96, 0, 0, 0, 0, 0, 0, 0, 0, 0, 0, 0, 0, 0, 0, 0];
 
-/// The rows of the set of the pipe alone.
-const PIPES: &[u8; 16] = &[0, 0, 0, 0, 0, 0, 0, 0, 0, 0, 0, 0, 128, 0, 0, 0];
+/// The keys of the set of the pipe alone. No byte whose low digit is 0 is 1.
+const PIPES: &[u8; 16] = &[1, 0, 0, 0, 0, 0, 0, 0, 0, 0, 0, 0, 124, 0, 0, 0];
 
-/// The rows of the set of line feed and carriage return.
-const LINE_ENDS: &[u8; 16] = &[0, 0, 0, 0, 0, 0, 0, 0, 0, 0, 1, 0, 0, 1, 0, 0];
+/// The keys of the set of line feed and carriage return. No byte whose low digit is 0 is 1.
+const LINE_ENDS: &[u8; 16] = &[1, 0, 0, 0, 0, 0, 0, 0, 0, 0, 10, 0, 0, 13, 0, 0];
 
 /// Bit `n` alone for `n` below 8, and no bit for the others.
 const BITS: &[u8; 16] = &[1, 2, 4, 8, 16, 32, 64, 128, 0, 0, 0, 0, 0, 0, 0, 0];
@@ -90,13 +90,61 @@ fn marks(rows: &[u8; 16], lanes: u8x16) -> u64
     (low & high).simd_ne(u8x16::splat(0)).to_bitmask()
 }
 
+/// The same for the set of these keys, which takes one look-up in place of two.
+#[inline(always)]
+fn marks_of_keys(keys: &[u8; 16], lanes: u8x16) -> u64
+    ensures { result ≡ mask_l (map (in_keys keys.now) lanes) }
+{
+    let sought = u8x16::from_slice(keys).swizzle_dyn(lanes & u8x16::splat(15));
+    sought.simd_eq(lanes).to_bitmask()
+}
+
+/// A set of which sixteen lanes are asked at once.
+trait LaneSet {
+    ghost has: { Self → ℕ → Bool };
+
+    /// Bit `k` of the answer says whether lane `k` is in the set.
+    fn marks(&self, lanes: u8x16) -> u64
+        ensures { result ≡ mask_l (map (has self.now) lanes) };
+}
+
+/// A set that is given by its rows.
+#[derive(Clone, Copy)]
+struct Rows<'r> {
+    rows: &'r [u8; 16],
+}
+
+impl<'r> LaneSet for Rows<'r> {
+    ghost has = { λ set. in_rows set.rows.now };
+
+    #[inline(always)]
+    fn marks(&self, lanes: u8x16) -> u64 {
+        marks(self.rows, lanes)
+    }
+}
+
+/// A set of bytes with different low digits, which is given by its keys.
+#[derive(Clone, Copy)]
+struct Keys<'k> {
+    keys: &'k [u8; 16],
+}
+
+impl<'k> LaneSet for Keys<'k> {
+    ghost has = { λ set. in_keys set.keys.now };
+
+    #[inline(always)]
+    fn marks(&self, lanes: u8x16) -> u64 {
+        marks_of_keys(self.keys, lanes)
+    }
+}
+
 /// How many lanes stand in front of the first that is in the set; 16, where none is.
 #[inline(always)]
-fn lanes_before(rows: &[u8; 16], lanes: u8x16) -> usize
-    ensures value { result ≡ position_or_len (in_rows rows.now) lanes }
+fn lanes_before<S: LaneSet>(set: &S, lanes: u8x16) -> usize
+    ensures value { result ≡ position_or_len (S.has set.now) lanes }
     ensures small { result ≤ 16 }
 {
-    let hits = marks(rows, lanes);
+    let hits = set.marks(lanes);
     if hits == 0 {
         return 16;
     }
@@ -105,34 +153,47 @@ fn lanes_before(rows: &[u8; 16], lanes: u8x16) -> usize
 
 /// How many of the sixteen bytes from `at` on stand in front of the first that is in the set; 16, where none is.
 #[inline(always)]
-fn bytes_before(rows: &[u8; 16], bytes: &[u8], at: usize) -> usize
+fn bytes_before<S: LaneSet>(set: &S, bytes: &[u8], at: usize) -> usize
     requires { at + 16 ≤ length bytes.now }
-    ensures value { result ≡ position_or_len (in_rows rows.now) (take 16 (drop at bytes.now)) }
+    ensures value { result ≡ position_or_len (S.has set.now) (take 16 (drop at bytes.now)) }
     ensures small { result ≤ 16 }
 {
-    lanes_before(rows, u8x16::from_slice(&bytes[at..]))
+    lanes_before(set, u8x16::from_slice(&bytes[at..]))
 }
 
 /// The first place whose byte is in the set; the length, where there is none. The last step looks at the last sixteen bytes
 /// once more.
 #[inline(always)]
-fn find(rows: &[u8; 16], bytes: &[u8]) -> usize
-    ensures value { result ≡ position_or_len (in_rows rows.now) bytes.now }
+fn find<S: LaneSet>(set: &S, bytes: &[u8]) -> usize
+    ensures value { result ≡ position_or_len (S.has set.now) bytes.now }
     ensures within { result ≤ length bytes.now }
 {
     let len = bytes.len();
     if len < 16 {
-        return find_in_few(rows, bytes);
+        return find_in_few(set, bytes);
     }
     let mut at = 0;
     while len - at >= 16 {
-        let passed = bytes_before(rows, bytes, at);
+        let passed = bytes_before(set, bytes, at);
         if passed < 16 {
             return at + passed;
         }
         at += 16;
     }
-    len - 16 + bytes_before(rows, bytes, len - 16)
+    len - 16 + bytes_before(set, bytes, len - 16)
+}
+
+/// The same as `find`, of fewer than sixteen bytes: they are looked at in one step, with zeros behind them.
+#[inline(always)]
+fn find_in_few<S: LaneSet>(set: &S, bytes: &[u8]) -> usize
+    requires { length bytes.now < 16 }
+    ensures value { result ≡ position_or_len (S.has set.now) bytes.now }
+    ensures within { result ≤ length bytes.now }
+{
+    let mut lanes = [0u8; 16];
+    let len = bytes.len();
+    lanes[..len].copy_from_slice(bytes);
+    lanes_before(set, u8x16::from_slice(&lanes)).min(len)
 }
 
 /// The same; and where such a byte stands, it is ASCII.
@@ -142,29 +203,15 @@ fn find_ascii(rows: &[u8; 16], bytes: &[u8]) -> usize
     ensures within { result ≤ length bytes.now }
     ensures ascii { result < length bytes.now → slice_index bytes.now result < 128 }
 {
-    find(rows, bytes)
+    find(&Rows { rows }, bytes)
 }
 
-/// The same as `find`, of fewer than sixteen bytes: they are looked at in one step, with zeros behind them.
+/// Where the first byte stands that is in the set of these keys: a byte is in it where the key of its low digit is that byte.
 #[inline(always)]
-fn find_in_few(rows: &[u8; 16], bytes: &[u8]) -> usize
-    requires { length bytes.now < 16 }
-    ensures value { result ≡ position_or_len (in_rows rows.now) bytes.now }
-    ensures within { result ≤ length bytes.now }
+pub fn find_first(keys: &[u8; 16], bytes: &[u8]) -> Option<usize>
+    ensures { IsFirstByte (in_keys keys.now) bytes.now result }
 {
-    let mut lanes = [0u8; 16];
-    let len = bytes.len();
-    lanes[..len].copy_from_slice(bytes);
-    lanes_before(rows, u8x16::from_slice(&lanes)).min(len)
-}
-
-/// Where the first byte stands that is in the set of these rows: bit `high` of row `low` says whether the byte
-/// `16 * high + low` is in it.
-#[inline(always)]
-pub fn find_first(rows: &[u8; 16], bytes: &[u8]) -> Option<usize>
-    ensures { IsFirstByte (in_rows rows.now) bytes.now result }
-{
-    let at = find(rows, bytes);
+    let at = find(&Keys { keys }, bytes);
     if at < bytes.len() { Some(at) } else { None }
 }
 

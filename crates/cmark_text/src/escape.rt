@@ -25,8 +25,8 @@ pub fn escape_html_body_text(out: &mut String, text: &str) -> Result<(), AllocEr
     out.push_str(rest)
 }
 
-/// The rows of the set of `&`, `<` and `>`.
-const BODY_TEXT_MARKS: &[u8; 16] = &[0, 0, 0, 0, 0, 0, 4, 0, 0, 0, 0, 0, 8, 0, 8, 0];
+/// The keys of the set of `&`, `<` and `>`. No byte whose low digit is 0 is 1.
+const BODY_TEXT_MARKS: &[u8; 16] = &[1, 0, 0, 0, 0, 0, 38, 0, 0, 0, 0, 0, 60, 0, 62, 0];
 
 /// Where the first byte stands that `escape_html_body_text` does not keep.
 #[inline]

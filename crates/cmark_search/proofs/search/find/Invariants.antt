@@ -1,12 +1,11 @@
 use Rattle.std.proofs.Common.{◌≡◌, ◌≤◌, ◌<◌, ◌-◌, ℕ, false, length, slice_index}
-use Rattle.cmark_search.specs.Sets.{in_rows}
 use Rattle.cmark_search.proofs.search.find.Given as goal
 
 abbrev pub invariant-loop-at : goal.invariant-loop-at
-invariant-loop-at l = record {
+invariant-loop-at g l = record {
   within : l.at ≤ length l.bytes;
-  passed : (k : ℕ) → k < l.at → in_rows l.rows (slice_index l.bytes k) ≡ false;
+  passed : (k : ℕ) → k < l.at → g.S.LaneSet.has l.set (slice_index l.bytes k) ≡ false;
 }
 
 abbrev pub decreases-loop-at : goal.decreases-loop-at
-decreases-loop-at l = length l.bytes - l.at
+decreases-loop-at g l = length l.bytes - l.at

@@ -1,12 +1,12 @@
 use Rattle.std.proofs.Common.{refl, arith}
 use Rattle.std.proofs.lemmas.Bool.{agree_below_at}
 use Rattle.memchr.specs.Find.{is_byte2}
-use Rattle.cmark_search.specs.Sets.{in_rows}
+use Rattle.cmark_search.specs.Sets.{in_keys}
 use Rattle.cmark_search.specs.declared.search.TheConstants.{LINE_ENDS}
 use Rattle.cmark_search.proofs.Sets.{first-same}
 use Rattle.cmark_search.proofs.search.find_line_end.Goals as goal
 
--- the rows agree with the test at each byte
+-- the keys agree with the test at each byte
 pub returns : goal.returns
 returns c =
-    first-same (in_rows LINE_ENDS.now) (is_byte2 10 13) c.args.bytes.now c.find_first.result (λ b small. agree_below_at (in_rows LINE_ENDS.now) (is_byte2 10 13) 256 b refl small) (λ k. omega (arith, c.type_inv.bytes k)) c.find_first.ensures
+    first-same (in_keys LINE_ENDS.now) (is_byte2 10 13) c.args.bytes.now c.find_first.result (λ b small. agree_below_at (in_keys LINE_ENDS.now) (is_byte2 10 13) 256 b refl small) (λ k. omega (arith, c.type_inv.bytes k)) c.find_first.ensures

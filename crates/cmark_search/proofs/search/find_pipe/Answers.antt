@@ -1,12 +1,12 @@
 use Rattle.std.proofs.Common.{refl, arith}
 use Rattle.std.proofs.lemmas.Bool.{agree_below_at}
 use Rattle.memchr.specs.Find.{is_byte}
-use Rattle.cmark_search.specs.Sets.{in_rows}
+use Rattle.cmark_search.specs.Sets.{in_keys}
 use Rattle.cmark_search.specs.declared.search.TheConstants.{PIPES}
 use Rattle.cmark_search.proofs.Sets.{first-same}
 use Rattle.cmark_search.proofs.search.find_pipe.Goals as goal
 
--- the rows agree with the test at each byte
+-- the keys agree with the test at each byte
 pub returns : goal.returns
 returns c =
-    first-same (in_rows PIPES.now) (is_byte 124) c.args.bytes.now c.find_first.result (λ b small. agree_below_at (in_rows PIPES.now) (is_byte 124) 256 b refl small) (λ k. omega (arith, c.type_inv.bytes k)) c.find_first.ensures
+    first-same (in_keys PIPES.now) (is_byte 124) c.args.bytes.now c.find_first.result (λ b small. agree_below_at (in_keys PIPES.now) (is_byte 124) 256 b refl small) (λ k. omega (arith, c.type_inv.bytes k)) c.find_first.ensures
