@@ -70,7 +70,7 @@ module _ (reader : Reader) (leaf : Leaf) (placed : IsPlaced reader leaf) where
   whole-text : places.text_of reader leaf ≡ all_bytes reader.source leaf.stretches
   whole-text = bytes-low reader.source 0 0 leaf.stretches (length reader.source) (omega arith) placed.turn
 
-  whole-size : length (places.text_of reader leaf) ≡ size_of leaf.stretches
+  pub whole-size : length (places.text_of reader leaf) ≡ size_of leaf.stretches
   whole-size = ap length whole-text ∙ all-size reader.source 0 leaf.stretches (length reader.source) placed.turn (omega arith)
 
   -- the text that is read from the lines of the leaf

@@ -1,7 +1,9 @@
 use Rattle.std.proofs.Common.{[], ◌∷◌, refl, sym, subst}
 use Rattle.cmark_inline.specs.Opens.{Gives as GivesSlot}
 use Rattle.cmark_inline.specs.SlotViews.{IsFirst, events_to_come}
+use Rattle.cmark_walk.proofs.WalkSteps.{on-err}
 use Rattle.cmark_span_walk.specs.Walking.{HasRange, Passes, opened_of, source_of}
+use Rattle.cmark_span_walk.proofs.EndSteps.{closed-keeps, spans-begin}
 use Rattle.cmark_span_walk.proofs.Readings.{closed-passes, passes-none, spanned}
 use Rattle.cmark_span_walk.proofs.Walks.{closed-at, given-left, spanned-at}
 use Rattle.cmark_span_walk.proofs.span_walk.SpanWalk.next_span.Goals as goal
@@ -39,3 +41,17 @@ returns-in-None-clause-given g c = λ reader r.
     let e = c.in_ok-given.ensures in
     let first = subst (λ o. IsFirst o (events_to_come walk.leaf walk.inline) (events_to_come walk.leaf c.next.new.self)) c.in-None.is (e.events (given-left walk r.left r.stands inside)) in
     closed-passes g.F.BrokenLinkCallback.answers g.E.EntityLookup.replacement reader walk c.next.new.self r inside e.expansion first.0
+
+pub returns-in-None-clause-kept : goal.returns-in-None-clause-kept
+returns-in-None-clause-kept g c = λ reader none.
+    let walk = c.args.self.now in
+    let inside = c.if-not-self.false in
+    let e = c.in_ok-given.ensures in
+    let first = subst (λ o. IsFirst o (events_to_come walk.leaf walk.inline) (events_to_come walk.leaf c.next.new.self)) c.in-None.is (e.events (given-left walk c.requires.0 c.requires.1 inside)) in
+    closed-keeps g.E.EntityLookup.replacement reader walk c.next.new.self inside e.expansion first.0
+
+pub returns-in_err-given-clause-ends : goal.returns-in_err-given-clause-ends
+returns-in_err-given-clause-ends g c = on-err c.from_residual.result _ (λ reader.
+    let walk = c.args.self.now in
+    let inside = c.if-not-self.false in
+    spans-begin g.E.EntityLookup.replacement reader walk inside (c.in_err-given.ensures.ends (given-left walk c.requires.0 c.requires.1 inside)))
