@@ -11,3 +11,8 @@ IsEnd _ = ⊥
 abbrev pub BeginWithEnd : List Ranged → Type 0
 BeginWithEnd [] = ⊥
 BeginWithEnd (first ∷ others) = IsEnd first.event
+
+-- there is a first one, and it is not the end of an element
+abbrev pub BeginWithoutEnd : List Ranged → Type 0
+BeginWithoutEnd [] = ⊥
+BeginWithoutEnd (first ∷ others) = ¬ IsEnd first.event

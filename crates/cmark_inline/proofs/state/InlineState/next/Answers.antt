@@ -5,6 +5,8 @@ use Rattle.cmark_inline.specs.Opens.{Passes}
 use Rattle.cmark_inline.specs.SlotViews.{events_of, events_to_come, with_given}
 use Rattle.cmark_inline.specs.Stands.{AreOpened}
 use Rattle.cmark_inline.proofs.SlotViews.{events-behind, events-last, first-before, left-last, left-next}
+use Rattle.cmark_inline_model.specs.FirstEvents.{BeginWithoutEnd}
+use Rattle.cmark_inline.proofs.NoEnds.{here-no-end, on-err}
 use Rattle.cmark_inline.proofs.state.InlineState.next.Goals as goal
 
 pub loop-self-init : goal.loop-self-init
@@ -87,3 +89,14 @@ returns-in-Some-clause-expansion c = c.in_ok-given.ensures.expansion ∙ c.loop-
 
 pub returns-in_err-given-clause-expansion : goal.returns-in_err-given-clause-expansion
 returns-in_err-given-clause-expansion c = c.give.ensures.expansion ∙ c.loop-self.invariant.5
+
+pub returns-in_err-given-clause-ends : goal.returns-in_err-given-clause-ends
+returns-in_err-given-clause-ends c = λ left.
+    let leaf = c.args.leaf.now in
+    let i = c.loop-self.invariant in
+    let old = c.loop-self.self in
+    let t = c.loop-self-test.true in
+    let n = c.len.ensures in
+    let lt : old.walk.next < length old.slots.items = omega (arith, t, n) in
+    on-err c.from_residual.result _
+    (subst BeginWithoutEnd (sym (i.3 left)) (here-no-end leaf old.texts.items old.links.items old.slots.items old.walk.opened.items old.walk.next c.index-slot.result.now lt c.index-slot.ensures c.in_err-given.ensures.ends))

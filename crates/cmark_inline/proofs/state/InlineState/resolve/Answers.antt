@@ -30,7 +30,7 @@ use Rattle.cmark_inline.proofs.state.InlineState.resolve.Goals as goal
 pub loop-cursor-init : goal.loop-cursor-init
 loop-cursor-init g c =
     let b = IsCharBoundary-start c.as_str-text.result.now c.as_str-text.utf8 in
-    (c.clear.ensures.stands c.as_str-text.result.now, record { pending = b; at = b; ordered = omega arith }, refl, (λ none. (refl, none)), search rules, c.none.ensures c.args.leaf.now 0, search rules, (λ folded. refl), c.clear.ensures.sound, subst (AreEnded c.args.leaf.now) (sym c.clear.ensures.slots) (λ k d lt. absurd (omega (arith, lt))), λ set. begin-comes g.F.BrokenLinkCallback.answers (shown_options c.args.reader.now.options) (g.E.EntityLookup.replacement c.args.reader.now.entities.now) c.args.reader.now.references.now c.args.footnotes.now c.args.leaf.now c.args.callback.now c.clear.new.self c.clear.ensures.cleared)
+    (c.clear.ensures.stands c.as_str-text.result.now, record { pending = b; at = b; ordered = omega arith }, refl, (λ none. (refl, none)), search rules, c.none.ensures c.args.leaf.now 0, search rules, (λ folded. refl), c.clear.ensures.sound, subst (AreEnded c.args.leaf.now) (sym c.clear.ensures.slots) (λ k d lt. absurd (omega (arith, lt))), λ set. begin-comes g.F.BrokenLinkCallback.answers (shown_options c.args.reader.now.options) (g.E.EntityLookup.replacement c.args.reader.now.entities.now) c.args.reader.now.references.now c.args.footnotes.now c.args.leaf.now c.args.callback.now c.clear.new.self c.clear.ensures.cleared, λ none. (refl, c.clear.ensures.cleared.quotes, c.clear.ensures.cleared.runs))
 
 pub returns-clause-slots : goal.returns-clause-slots
 returns-clause-slots g c =
@@ -57,6 +57,7 @@ loop-cursor-preserved g c =
       c.in_ok-cursor.ensures.ends i.9,
       (λ set. comes-further g.F.BrokenLinkCallback.answers (shown_options c.args.reader.now.options) (g.E.EntityLookup.replacement c.args.reader.now.entities.now) c.args.reader.now.references.now c.args.footnotes.now c.loop-cursor.footnotes c.args.leaf.now c.clear.new.self.expansion c.args.callback.now
           c.loop-cursor.cursor c.in_ok-cursor.cursor c.loop-cursor.self c.step.new.self c.loop-cursor.callback c.step.new.callback i.7 (i.10 set) (c.in_ok-cursor.ensures.come set) i.9),
+      (λ none. absurd (let size = ap length none in let more = c.loop-cursor-test.true in let d : ⊥ = omega (arith, size, more) in d)),
     )
 
 pub returns-in_err-cursor-clause-asks : goal.returns-in_err-cursor-clause-asks
@@ -138,3 +139,24 @@ returns-clause-reads g c = λ set reader read place same places.
     (marks ∙ ap (λ l. marked (shown_options c.args.reader.now.options) (places_of runs) (marks_by (length (places_of runs)) (pairs_of (siblings_from 0 runs))) l []) letters
     ∙ ap (λ o. marked o (places_of runs) (marks_by (length (places_of runs)) (pairs_of (siblings_from 0 runs))) (quoted (map (λ (q : PlacedQuote). q.slot) quotes) (characters_of quotes) (shown_slots leaf mid.texts.items mid.links.items one)) []) (sym same.options_are))
     c.clear-2.ensures.next c.clear-2.ensures.opened refl
+
+pub returns-in_err-cursor-clause-succeeds : goal.returns-in_err-cursor-clause-succeeds
+returns-in_err-cursor-clause-succeeds g c = λ none. absurd (let size = ap length (c.as_str-text.ensures ∙ none) in let more = c.loop-cursor-test.true in let d : ⊥ = omega (arith, size, more) in d)
+
+pub returns-in_err-flush-clause-succeeds : goal.returns-in_err-flush-clause-succeeds
+returns-in_err-flush-clause-succeeds g c = λ none.
+    let text : List ℕ = c.as_str-text.result.now in
+    let size : length text ≡ 0 = ap length (c.as_str-text.ensures ∙ none) in
+    c.in_err-flush.ensures.succeeds (omega (arith, size))
+
+pub returns-in_err-resolve-clause-succeeds : goal.returns-in_err-resolve-clause-succeeds
+returns-in_err-resolve-clause-succeeds g c = λ none.
+    let i = c.loop-cursor.invariant.11 (c.as_str-text.ensures ∙ none) in
+    let size : length c.flush.new.self.quotes.placed.items ≡ 0 = ap (λ (s : InlineState). length s.quotes.placed.items) c.in_ok-flush.ensures.others ∙ ap length i.1 in
+    c.in_err-resolve.ensures.succeeds (omega (arith, size))
+
+pub returns-in_err-resolve-2-clause-succeeds : goal.returns-in_err-resolve-2-clause-succeeds
+returns-in_err-resolve-2-clause-succeeds g c = λ none.
+    let i = c.loop-cursor.invariant.11 (c.as_str-text.ensures ∙ none) in
+    let size : length c.flush.new.self.delimiters.placed.items ≡ 0 = ap (λ (s : InlineState). length s.delimiters.placed.items) c.in_ok-flush.ensures.others ∙ ap length i.2 in
+    c.in_err-resolve-2.ensures.succeeds (omega (arith, size))
