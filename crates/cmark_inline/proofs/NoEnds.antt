@@ -1,5 +1,5 @@
 -- Slots whose first event there is, and is not the end of an element.
-use Rattle.std.proofs.Common.{◌≡◌, ℕ, suc, ◌<◌, drop, List, [], ◌∷◌, get_or, length, sym, ap, subst, ◌∙◌, Result, Ok, Err, OnErr}
+use Rattle.std.proofs.Common.{◌≡◌, ℕ, suc, ◌<◌, drop, List, ◌∷◌, get_or, length, sym, ap, subst, ◌∙◌, Result, Ok, Err, OnErr}
 use Rattle.std.proofs.Math.Seq.{drop-cons}
 use Rattle.cmark_grammar.specs.Event.{Ranged}
 use Rattle.cmark_inline_model.specs.FirstEvents.{BeginWithoutEnd}

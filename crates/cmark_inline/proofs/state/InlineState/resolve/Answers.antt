@@ -1,5 +1,5 @@
 use Rattle.std.specs.Prelude.{map}
-use Rattle.std.proofs.Common.{rules, ◌≡◌, ◌≤◌, ℕ, List, [], drop, get_or, length, refl, sym, ap, ◌∙◌, subst, arith}
+use Rattle.std.proofs.Common.{rules, ◌≡◌, ◌≤◌, ℕ, List, [], drop, get_or, length, refl, sym, ap, ◌∙◌, subst, arith, true≢false}
 use Rattle.std.proofs.lemmas.Str.{IsCharBoundary-start}
 use Rattle.cmark_grammar.specs.EmphasisModel.{pairs_of, spans_of}
 use Rattle.cmark_grammar.proofs.EmphasisSound.{sound as emphasis}
@@ -147,16 +147,16 @@ pub returns-in_err-flush-clause-succeeds : goal.returns-in_err-flush-clause-succ
 returns-in_err-flush-clause-succeeds g c = λ none.
     let text : List ℕ = c.as_str-text.result.now in
     let size : length text ≡ 0 = ap length (c.as_str-text.ensures ∙ none) in
-    c.in_err-flush.ensures.succeeds (omega (arith, size))
+    absurd (true≢false (sym (c.in_err-flush.ensures.succeeds (omega (arith, size)))))
 
 pub returns-in_err-resolve-clause-succeeds : goal.returns-in_err-resolve-clause-succeeds
 returns-in_err-resolve-clause-succeeds g c = λ none.
     let i = c.loop-cursor.invariant.11 (c.as_str-text.ensures ∙ none) in
     let size : length c.flush.new.self.quotes.placed.items ≡ 0 = ap (λ (s : InlineState). length s.quotes.placed.items) c.in_ok-flush.ensures.others ∙ ap length i.1 in
-    c.in_err-resolve.ensures.succeeds (omega (arith, size))
+    absurd (true≢false (sym (c.in_err-resolve.ensures.succeeds (omega (arith, size)))))
 
 pub returns-in_err-resolve-2-clause-succeeds : goal.returns-in_err-resolve-2-clause-succeeds
 returns-in_err-resolve-2-clause-succeeds g c = λ none.
     let i = c.loop-cursor.invariant.11 (c.as_str-text.ensures ∙ none) in
     let size : length c.flush.new.self.delimiters.placed.items ≡ 0 = ap (λ (s : InlineState). length s.delimiters.placed.items) c.in_ok-flush.ensures.others ∙ ap length i.2 in
-    c.in_err-resolve-2.ensures.succeeds (omega (arith, size))
+    absurd (true≢false (sym (c.in_err-resolve-2.ensures.succeeds (omega (arith, size)))))
