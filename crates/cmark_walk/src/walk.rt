@@ -606,6 +606,7 @@ impl<'a> Walk<'a> {
 
     // Whether a paragraph among the siblings at hand stands directly in an item or a definition of a tight list (CommonMark 5.3).
     // In a document the parent of these is a list, so this looks at two nodes.
+    #[inline(always)]
     pub(crate) fn is_tight(&self) -> bool
         requires { IsBelow self.now }
         ensures { (z : Zip Item) (above : List Outer) → StandsBelow self.now z above → result ≡ tight_below above }
