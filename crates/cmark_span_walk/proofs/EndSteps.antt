@@ -23,7 +23,7 @@ use Rattle.cmark_walk.specs.Walking.{MayBeginWithEnd}
 use Rattle.cmark_span_walk.specs.declared.span_walk.SpanWalk.{SpanWalk}
 use Rattle.cmark_span_walk.specs.Walking.{ArePlaced, EntersLeaf, IsReadBy, KeepsLeft, NoEndIsNext, ReadsLeaf, Remains, expansion_of, spans_to_come}
 use Rattle.cmark_span_walk.proofs.LeafReads.{whole-size}
-use Rattle.cmark_span_walk.proofs.Readings.{outside-remains, remains-left, remains-outside}
+use Rattle.cmark_span_walk.proofs.Readings.{outside-remains, remains-outside}
 use Rattle.cmark_span_walk.proofs.Walks.{closed, closed-at}
 
 -- ## Events
@@ -33,8 +33,8 @@ is-end (End tag) i = (tag, refl)
 is-end _ i = absurd i
 
 without-end : (events : List Ranged) → events ≢ [] → (BeginWithEnd events → ⊥) → BeginWithoutEnd events
-without-end [] some no = absurd (some refl)
-without-end (r ∷ others) some no = no
+without-end [] some n = absurd (some refl)
+without-end (r ∷ others) some n = n
 
 without-append : (front later : List Ranged) → BeginWithoutEnd front → BeginWithEnd (front ++ later) → ⊥
 without-append [] later w b = w
@@ -63,10 +63,10 @@ leaf-begins reader Says leaf before spans after placed some h =
 
 -- what begins with no end, nor with a leaf without a text, is read as events that do not begin with one
 segments-begin : (reader : Reader) (Says : Saying) (left : List Segment) (before after : Between) (events : List Ranged) → ArePlaced reader left → (MayBeginWithEnd left → ⊥) → ReadsAll reader Says left before events after → BeginWithEnd events → ⊥
-segments-begin reader Says [] before after events placed no h b = subst BeginWithEnd h.0 b
-segments-begin reader Says (Given r ∷ others) before after events placed no h b = no (is-end r.event (subst BeginWithEnd h.2 b))
-segments-begin reader Says (Content leaf ∷ others) before after events placed no h b =
-    without-append h.0 h.1 (leaf-begins reader Says leaf before h.0 h.2 placed.0.placed no h.3) (subst BeginWithEnd h.5 b)
+segments-begin reader Says [] before after events placed n h b = subst BeginWithEnd h.0 b
+segments-begin reader Says (Given r ∷ others) before after events placed n h b = n (is-end r.event (subst BeginWithEnd h.2 b))
+segments-begin reader Says (Content leaf ∷ others) before after events placed n h b =
+    without-append h.0 h.1 (leaf-begins reader Says leaf before h.0 h.2 placed.0.placed n h.3) (subst BeginWithEnd h.5 b)
 
 -- ## The walk
 
@@ -77,10 +77,10 @@ module _ {E F : Type 0} (replacement : E → Lookup) (reader : Reader) where
 
   -- outside of a leaf
   pub blocks-begin : (walk : SpanWalk E F) → walk.in_leaf ≡ false → walking.NoEndIsNext walk.walk → NoEndIsNext replacement reader walk
-  blocks-begin walk out no exchanges events m b =
+  blocks-begin walk out n exchanges events m b =
       let by = m.read_by in
       let left = remains-outside replacement reader walk by out exchanges events m in
-      segments-begin reader (IsNext exchanges) by.left (record { expansion = expansion_of walk; asked = [] }) left.after events by.placed (no by.left by.stands.blocks.remains) left.reads b
+      segments-begin reader (IsNext exchanges) by.left (record { expansion = expansion_of walk; asked = [] }) left.after events by.placed (n by.left by.stands.blocks.remains) left.reads b
 
   -- the leaf has no more events, and what is left behind it is left
   pub closed-keeps : (walk : SpanWalk E F) (inline : InlineState) → walk.in_leaf ≡ true → inline.expansion ≡ walk.inline.expansion → events_to_come walk.leaf walk.inline ≡ [] → KeepsLeft replacement reader walk (closed walk inline)

@@ -80,19 +80,16 @@ module _ {F : Type 0} (Says : F → BrokenLink → Option (CowStr × CowStr) →
   pub asked-same : (old head mid : F) → HasAsked Says old head → mid ≡ head → HasAsked Says old mid
   asked-same old head mid h e = (h.0, subst (λ x. Answered Says h.0 old x) (sym e) h.1)
 
+  asked-once : (old head new : F) → HasAsked Says old head → AsksOnce Says head new → HasAsked Says old new
+  asked-once old head new h (inl e) = asked-same old head new h e
+  asked-once old head new h (inr once) =
+      let x : Exchange = record { question = shown_question once.0; answer = option_map shown_answer once.1 } in
+      (h.0 ++ x ∷ [], answered-on h.0 (x ∷ []) old head new h.1 (new, record { link = once.0; told = once.1; question_is = refl; answer_is = refl; run = once.2 }, refl))
+
   -- so many questions at most are some questions
   pub asked-up-to : (n : ℕ) (before after : F) → AsksUpTo Says n before after → HasAsked Says before after
   asked-up-to zero before after h = ([], h)
-  asked-up-to (suc n) before after h = by h.2
-    where
-      asked : HasAsked Says before h.0
-      asked = asked-up-to n before h.0 h.1
-
-      by : AsksOnce Says h.0 after → HasAsked Says before after
-      by (inl e) = asked-same before h.0 after asked e
-      by (inr once) =
-          let x : Exchange = record { question = shown_question once.0; answer = option_map shown_answer once.1 } in
-          (asked.0 ++ x ∷ [], answered-on asked.0 (x ∷ []) before h.0 after asked.1 (after, record { link = once.0; told = once.1; question_is = refl; answer_is = refl; run = once.2 }, refl))
+  asked-up-to (suc n) before after h = asked-once before h.0 after (asked-up-to n before h.0 h.1) h.2
 
 module _ {E F : Type 0} (replacement : E → Lookup) (reader : Reader) where
   -- what is left behind what the walk stands in

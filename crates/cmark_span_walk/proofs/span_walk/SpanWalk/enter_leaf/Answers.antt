@@ -1,5 +1,5 @@
 use Rattle.std.specs.Prelude.{is_some}
-use Rattle.std.proofs.Common.{[], refl, sym, ap, ◌∙◌}
+use Rattle.std.proofs.Common.{[], true≢false, refl, sym, ap, ◌∙◌}
 use Rattle.cmark_inline_model.specs.TextPlaces.{place_in}
 use Rattle.cmark_leaf_text.specs.Stretches.{leaf_bytes}
 use Rattle.cmark_text.specs.Shown.{shown_options}
@@ -39,11 +39,11 @@ returns-clause-reads g c = λ reader leaf others before placed same.
     }
 
 pub returns-in_err-read-clause-lines : goal.returns-in_err-read-clause-lines
-returns-in_err-read-clause-lines g c = on-err c.from_residual.result _ (λ none. c.in_err-read.ensures.none (c.as_slice.ensures.value ∙ none))
+returns-in_err-read-clause-lines g c = on-err c.from_residual.result _ (λ none. true≢false (sym (c.in_err-read.ensures.none (c.as_slice.ensures.value ∙ none))))
 
 pub returns-in_err-resolve-clause-lines : goal.returns-in_err-resolve-clause-lines
-returns-in_err-resolve-clause-lines g c = on-err c.from_residual.result _ (λ none.
-    c.in_err-resolve.ensures.succeeds (c.in_ok-read.ensures.text ∙ ap (leaf_bytes c.args.self.now.leaf.source.now) (c.as_slice.ensures.value ∙ none)))
+returns-in_err-resolve-clause-lines g c = on-err c.from_residual-in_err-resolve.result _ (λ none.
+    true≢false (sym (c.in_err-resolve.ensures.succeeds (c.in_ok-read.ensures.text ∙ ap (leaf_bytes c.args.self.now.leaf.source.now) (c.as_slice.ensures.value ∙ none)))))
 
 pub returns-in_err-read-clause-asked : goal.returns-in_err-read-clause-asked
 returns-in_err-read-clause-asked g c = ([], refl)

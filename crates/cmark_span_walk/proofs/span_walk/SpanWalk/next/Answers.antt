@@ -129,13 +129,13 @@ pub returns-in_err-given-clause-ends : goal.returns-in_err-given-clause-ends
 returns-in_err-given-clause-ends g c = on-err c.from_residual.result _ (λ reader exchanges events m b. c.in_err-given.ensures.ends reader exchanges events (c.loop-given.invariant.ends reader exchanges events m b) b)
 
 pub returns-in_err-given-2-clause-ends : goal.returns-in_err-given-2-clause-ends
-returns-in_err-given-2-clause-ends g c = on-err c.from_residual.result _ (λ reader exchanges events m b.
+returns-in_err-given-2-clause-ends g c = on-err c.from_residual-in_err-given-2.result _ (λ reader exchanges events m b.
     let out = c.in_ok-given.ensures.outside (ap is_some c.in_default.is) in
     let kept = c.in_ok-given.ensures.kept reader (ap is_some c.in_default.is) exchanges events (c.loop-given.invariant.ends reader exchanges events m b) in
     blocks-begin g.E.EntityLookup.replacement reader c.next_span.new.self out c.in_err-given-2.ensures.ends exchanges events kept b)
 
 pub returns-in_err-enter_leaf-in-Leaf-clause-ends : goal.returns-in_err-enter_leaf-in-Leaf-clause-ends
-returns-in_err-enter_leaf-in-Leaf-clause-ends g c = on-err c.from_residual.result _ (λ reader exchanges events n b.
+returns-in_err-enter_leaf-in-Leaf-clause-ends g c = on-err c.from_residual-in_err-enter_leaf-in-Leaf.result _ (λ reader exchanges events n b.
     let mid = c.next_span.new.self in
     let m = c.in_ok-given-2.ensures in
     let out = c.in_ok-given.ensures.outside (ap is_some c.in_default.is) in
@@ -150,9 +150,9 @@ returns-in_err-given-clause-asked g c =
 
 pub returns-in_err-given-2-clause-asked : goal.returns-in_err-given-2-clause-asked
 returns-in_err-given-2-clause-asked g c =
-    on-err c.from_residual.result _ (asked-same g.F.BrokenLinkCallback.answers c.args.self.now.callback c.loop-given.self.callback c.next_span.new.self.callback c.loop-given.invariant.asked c.in_ok-given.ensures.callback)
+    on-err c.from_residual-in_err-given-2.result _ (asked-same g.F.BrokenLinkCallback.answers c.args.self.now.callback c.loop-given.self.callback c.next_span.new.self.callback c.loop-given.invariant.asked c.in_ok-given.ensures.callback)
 
 pub returns-in_err-enter_leaf-in-Leaf-clause-asked : goal.returns-in_err-enter_leaf-in-Leaf-clause-asked
 returns-in_err-enter_leaf-in-Leaf-clause-asked g c =
-    on-err c.from_residual.result _
+    on-err c.from_residual-in_err-enter_leaf-in-Leaf.result _
     (asked-on g.F.BrokenLinkCallback.answers c.args.self.now.callback c.loop-given.self.callback c.next_span.new.self.callback c.enter_leaf.new.self.callback c.loop-given.invariant.asked c.in_ok-given.ensures.callback c.in_err-enter_leaf-in-Leaf.ensures.asked)

@@ -318,7 +318,7 @@ pub returns-in_err-short-clause-ends : goal.returns-in_err-short-clause-ends
 returns-in_err-short-clause-ends g c = on-err c.from_residual.result _ (λ reader exchanges events m b. c.in_err-short.ensures.ends reader exchanges events (c.loop-short.invariant.ends reader exchanges events m b) b)
 
 pub returns-in_err-short-2-clause-ends : goal.returns-in_err-short-2-clause-ends
-returns-in_err-short-2-clause-ends g c = on-err c.from_residual.result _ (λ reader exchanges events m b.
+returns-in_err-short-2-clause-ends g c = on-err c.from_residual-in_err-short-2.result _ (λ reader exchanges events m b.
     let head = c.loop-short.self in
     let mid = c.next_in_leaf.new.self in
     let e = c.in_ok-short.ensures in
@@ -327,7 +327,7 @@ returns-in_err-short-2-clause-ends g c = on-err c.from_residual.result _ (λ rea
     blocks-begin g.E.EntityLookup.replacement reader mid out c.in_err-short-2.ensures.ends exchanges events (keeps exchanges events (c.loop-short.invariant.ends reader exchanges events m b)) b)
 
 pub returns-in_err-enter_leaf-in-Leaf-clause-ends : goal.returns-in_err-enter_leaf-in-Leaf-clause-ends
-returns-in_err-enter_leaf-in-Leaf-clause-ends g c = on-err c.from_residual.result _ (λ reader exchanges events n b.
+returns-in_err-enter_leaf-in-Leaf-clause-ends g c = on-err c.from_residual-in_err-enter_leaf-in-Leaf.result _ (λ reader exchanges events n b.
     let head = c.loop-short.self in
     let mid = c.next_in_leaf.new.self in
     let e = c.in_ok-short.ensures in
@@ -345,9 +345,9 @@ returns-in_err-short-clause-asked g c =
 
 pub returns-in_err-short-2-clause-asked : goal.returns-in_err-short-2-clause-asked
 returns-in_err-short-2-clause-asked g c =
-    on-err c.from_residual.result _ (asked-same g.F.BrokenLinkCallback.answers c.args.self.now.callback c.loop-short.self.callback c.next_in_leaf.new.self.callback c.loop-short.invariant.asked c.in_ok-short.ensures.callback)
+    on-err c.from_residual-in_err-short-2.result _ (asked-same g.F.BrokenLinkCallback.answers c.args.self.now.callback c.loop-short.self.callback c.next_in_leaf.new.self.callback c.loop-short.invariant.asked c.in_ok-short.ensures.callback)
 
 pub returns-in_err-enter_leaf-in-Leaf-clause-asked : goal.returns-in_err-enter_leaf-in-Leaf-clause-asked
 returns-in_err-enter_leaf-in-Leaf-clause-asked g c =
-    on-err c.from_residual.result _
+    on-err c.from_residual-in_err-enter_leaf-in-Leaf.result _
     (asked-on g.F.BrokenLinkCallback.answers c.args.self.now.callback c.loop-short.self.callback c.next_in_leaf.new.self.callback c.enter_leaf.new.self.callback c.loop-short.invariant.asked c.in_ok-short.ensures.callback c.in_err-enter_leaf-in-Leaf.ensures.asked)
