@@ -1,6 +1,6 @@
 -- Where a call may be refused memory, no end is next.
 use Rattle.std.specs.Prelude.{◌-◌}
-use Rattle.std.proofs.Common.{◌≡◌, ◌≢◌, ℕ, ◌+◌, ◌<◌, Bool, true, false, List, [], ◌∷◌, ◌++◌, length, Option, refl, sym, ap, ◌∙◌, subst, arith}
+use Rattle.std.proofs.Common.{◌≡◌, ◌≢◌, ℕ, ◌+◌, ◌<◌, true, false, List, [], ◌∷◌, ◌++◌, length, Option, refl, sym, ap, ◌∙◌, subst, arith}
 use Rattle.cmark_grammar.specs.Answers.{Lookup}
 use Rattle.cmark_grammar.specs.Event.{Event, End, Ranged}
 use Rattle.cmark_grammar.specs.LeafReading.{Between, ReadsLeaf as ReadsGrammarLeaf}

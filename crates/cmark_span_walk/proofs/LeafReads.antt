@@ -1,9 +1,9 @@
 -- The text of a leaf that was read is that of the grammar's leaf, in the same places.
-use Rattle.std.specs.Prelude.{◌==◌, ◌-◌, drop, get_or, if◌then◌else◌, max, nat_lt, option_map, is_some}
+use Rattle.std.specs.Prelude.{◌==◌, ◌-◌, drop, get_or, if◌then◌else◌, nat_lt, option_map, is_some}
 use Rattle.std.proofs.Common.{◌≡◌, ℕ, suc, ◌+◌, ◌<◌, ◌≤◌, Bool, true, false, List, [], ◌∷◌, ◌++◌, length, length-drop, refl, sym, ap, ◌∙◌, subst, arith, append-nil}
 use Rattle.std.proofs.lemmas.Bool.{ltb-true, ltb-false}
 use Rattle.cmark_grammar.specs.Answers.{Lookup}
-use Rattle.cmark_grammar.specs.LeafText.{InTurn, Leaf, Stretch, bytes_from, place_with, size_of}
+use Rattle.cmark_grammar.specs.LeafText.{InTurn, Leaf, Stretch, place_with, size_of}
 use Rattle.cmark_grammar.specs.Options.{Options}
 use Rattle.cmark_grammar.specs.Readers.{Reader}
 use Rattle.cmark_grammar.specs.Tokens.{slice}

@@ -1,15 +1,12 @@
 -- Steps of a walk with spans: what it reads.
-use Rattle.std.proofs.Common.{◌≡◌, ◌⊎◌, inl, inr, ℕ, zero, suc, ◌<◌, ◌≤◌, ◌-◌, arith, Bool, true, false, List, [], ◌∷◌, ◌++◌, append_assoc, append-nil, drop, get_or, length, Option, None, Some, refl, sym, ap, ◌∙◌, subst}
-use Rattle.std.specs.Prelude.{option_map, is_some}
-use Rattle.std.proofs.Common.{Bor}
+use Rattle.std.proofs.Common.{◌≡◌, inl, inr, ℕ, zero, suc, ◌≤◌, ◌-◌, arith, Bool, true, false, List, [], ◌∷◌, ◌++◌, append_assoc, append-nil, length, Option, refl, sym, ap, ◌∙◌, subst}
+use Rattle.std.specs.Prelude.{option_map}
 use Rattle.std.specs.Global.{Vec}
 use Rattle.cmark_grammar.specs.Answers.{Lookup}
-use Rattle.cmark_grammar.specs.Columns.{is_blank_byte}
 use Rattle.cmark_grammar.specs.Event.{Ranged, Text}
 use Rattle.cmark_grammar.specs.LeafReading.{Between, ReadsLeaf as ReadsGrammarLeaf}
 use Rattle.cmark_grammar.specs.LeafText.{Leaf, Stretch}
 use Rattle.cmark_grammar.specs.LeafSpans.{IsRange}
-use Rattle.cmark_grammar.specs.LineBreaks.{blank_break_in}
 use Rattle.cmark_grammar.specs.Options.{Options}
 use Rattle.cmark_grammar.specs.Questions.{Exchange, IsNext}
 use Rattle.cmark_grammar.specs.Readers.{Reader}
@@ -17,7 +14,6 @@ use Rattle.cmark_grammar.specs.SpanDocuments.{Segment, Given as GivenOf, Content
 use Rattle.cmark_grammar.specs.Tokens.{slice}
 use Rattle.cmark_inline.specs.Asking.{AsksOnce, AsksUpTo}
 use Rattle.cmark_inline.specs.Decided.{shown_answer, shown_question}
-use Rattle.cmark_inline.specs.Footnoted.{SameFootnotes}
 use Rattle.cmark_inline.specs.Linked.{said_by}
 use Rattle.cmark_inline.specs.PlainStretches.{StandUpTo}
 use Rattle.cmark_inline.specs.Resolved.{Answered}
@@ -33,15 +29,12 @@ use Rattle.cmark_inline_model.proofs.PlainLeaves.{plain-leaf}
 use Rattle.cmark_items.specs.Definitions.{definition}
 use Rattle.cmark_items.specs.declared.definitions.RefDefs.{RefDefs}
 use Rattle.cmark_leaf_text.specs.declared.stretch.LeafLine.{LeafLine}
-use Rattle.cmark_text.specs.Short.{IsShortZeroCopy, shown_short}
-use Rattle.cmark_text.specs.declared.short.Short.{Short}
-use Rattle.cmark_text.specs.declared.short.Short.TheVariants as short
 use Rattle.cmark_text.specs.declared.text.CowStr.{CowStr}
 use Rattle.cmark_walk.specs.declared.walk.Walk.{Walk}
 use Rattle.cmark_walk.specs.Walking as walking
 use Rattle.cmark_walk.specs.Walking.{AreLinesOf, lines_of}
 use Rattle.cmark_span_walk.specs.declared.span_walk.SpanWalk.{SpanWalk}
-use Rattle.cmark_span_walk.specs.Walking.{ArePlaced, Ends, EntersLeaf, HasAsked, HasRange, IsOnlyLine, IsReadBy, Passes, ReadsLeaf, ReadsSame, Remains, Stands, StandsAt, callback_of, definitions_of, expansion_of, source_of, spans_to_come}
+use Rattle.cmark_span_walk.specs.Walking.{ArePlaced, Ends, EntersLeaf, HasAsked, HasRange, IsOnlyLine, IsReadBy, Passes, ReadsLeaf, ReadsSame, Remains, StandsAt, callback_of, definitions_of, expansion_of, source_of, spans_to_come}
 use Rattle.cmark_span_walk.proofs.Walks.{Lasts, behind-at, closed, closed-at, met-by, one-left, same-at}
 
 -- texts of which each byte stands for itself

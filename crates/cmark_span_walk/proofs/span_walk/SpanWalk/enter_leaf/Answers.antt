@@ -1,4 +1,3 @@
-use Rattle.std.specs.Prelude.{is_some}
 use Rattle.std.proofs.Common.{[], true≢false, refl, sym, ap, ◌∙◌}
 use Rattle.cmark_inline_model.specs.TextPlaces.{place_in}
 use Rattle.cmark_leaf_text.specs.Stretches.{leaf_bytes}

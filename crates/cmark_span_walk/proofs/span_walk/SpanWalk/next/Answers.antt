@@ -1,11 +1,11 @@
 use Rattle.std.specs.Prelude.{is_some}
-use Rattle.std.proofs.Common.{[], ◌∷◌, refl, sym, ap, ◌∙◌, subst}
+use Rattle.std.proofs.Common.{[], ◌∷◌, refl, ap, ◌∙◌, subst}
 use Rattle.cmark_grammar.specs.SpanDocuments.{Content, Given as GivenOf}
 use Rattle.cmark_items.specs.Footnotes.{footnote}
 use Rattle.cmark_walk.specs.Walking as walking
 use Rattle.cmark_walk.specs.Walking.{MeetsZeroCopy, lines_of, shown_ranged}
 use Rattle.cmark_walk.proofs.WalkSteps.{on-err}
-use Rattle.cmark_span_walk.specs.Walking.{ArePlaced, GivesSpan, GivesZeroCopy, HasRange, Passes, source_of}
+use Rattle.cmark_span_walk.specs.Walking.{ArePlaced, GivesSpan, GivesZeroCopy, HasRange}
 use Rattle.cmark_span_walk.proofs.EndSteps.{blocks-begin, leaf-keeps, text-begins}
 use Rattle.cmark_span_walk.proofs.Readings.{asked-on, asked-same, ends-on, event-passes, leaf-passes, met-same, over-ends, passes-none, passes-on}
 use Rattle.cmark_span_walk.proofs.Walks.{before-leaf, behind-at, lasts-leaf, lasts-none, met-by, over-at}

@@ -1,4 +1,4 @@
-use Rattle.std.proofs.Common.{[], ◌∷◌, refl, sym, subst}
+use Rattle.std.proofs.Common.{[], ◌∷◌, sym, subst}
 use Rattle.cmark_text.specs.declared.short.Next.{Next}
 use Rattle.cmark_inline.specs.Shorts.{IsNextFirst}
 use Rattle.cmark_inline.specs.SlotViews.{events_to_come}
@@ -6,7 +6,7 @@ use Rattle.cmark_walk.proofs.WalkSteps.{on-err}
 use Rattle.cmark_span_walk.specs.Walking.{opened_of, source_of}
 use Rattle.cmark_span_walk.proofs.EndSteps.{closed-keeps, spans-begin}
 use Rattle.cmark_span_walk.proofs.Readings.{closed-passes, passes-none, spanned}
-use Rattle.cmark_span_walk.proofs.Walks.{closed-at, given-left, spanned-at}
+use Rattle.cmark_span_walk.proofs.Walks.{given-left, spanned-at}
 use Rattle.cmark_span_walk.proofs.span_walk.SpanWalk.next_in_leaf.Goals as goal
 
 pub returns-then-not-self-clause-given : goal.returns-then-not-self-clause-given

@@ -1,5 +1,5 @@
 use Rattle.std.specs.Prelude.{is_some}
-use Rattle.std.proofs.Common.{[], ◌∷◌, length, refl, sym, ap, ◌∙◌, subst}
+use Rattle.std.proofs.Common.{[], ◌∷◌, refl, sym, ap, ◌∙◌, subst}
 use Rattle.cmark_grammar.specs.Event.{Text}
 use Rattle.cmark_grammar.specs.SpanDocuments.{Content, Given as GivenOf}
 use Rattle.cmark_grammar.specs.SpecialBytes.{is_special}
@@ -11,7 +11,7 @@ use Rattle.cmark_walk.specs.declared.reading.Brief.{Brief}
 use Rattle.cmark_walk.specs.Walking as walking
 use Rattle.cmark_walk.specs.Walking.{lines_of}
 use Rattle.cmark_walk.proofs.WalkSteps.{on-err}
-use Rattle.cmark_span_walk.specs.Walking.{ArePlaced, GivesInLeaf, HasRange, KeepsBehindLeaf, LeavesFewer, LeavesLeaf, source_of}
+use Rattle.cmark_span_walk.specs.Walking.{ArePlaced, GivesInLeaf, HasRange, KeepsBehindLeaf, LeavesFewer, LeavesLeaf}
 use Rattle.cmark_span_walk.proofs.EndSteps.{blocks-begin, leaf-keeps, text-begins}
 use Rattle.cmark_span_walk.proofs.Readings.{asked-on, asked-same, ends-on, event-passes, leaf-passes, long-passes, met-same, over-ends, passes-none, passes-on, plain-passes, plain-range}
 use Rattle.cmark_span_walk.proofs.Walks.{before-leaf, behind-at, lasts-leaf, lasts-none, less-since, met-by, met-fewer, most-since, over-at, same-at}

@@ -1,4 +1,4 @@
-use Rattle.std.proofs.Common.{[], ◌∷◌, refl, sym, subst}
+use Rattle.std.proofs.Common.{[], ◌∷◌, sym, subst}
 use Rattle.cmark_inline.specs.Opens.{Gives as GivesSlot}
 use Rattle.cmark_inline.specs.SlotViews.{IsFirst, events_to_come}
 use Rattle.cmark_walk.proofs.WalkSteps.{on-err}
