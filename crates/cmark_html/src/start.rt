@@ -1,11 +1,12 @@
 //! The pieces of starts.
 
 ghost use Rattle.std.specs.Prelude.{◌≡◌, ◌++◌, ◌∷◌, [], OnOk, OnErr, codes, option_map, string_bytes, take_while};
-ghost use Rattle.cmark_grammar.specs.Html.{digit, start_piece, line_start_after_start, block_quote_start, code_block_start, fresh_line, is_within_word, language_start, list_start, link_start, scheme};
+ghost use Rattle.cmark_grammar.specs.Html.{Writing, digit, start_piece, line_start_after_start, block_quote_start, code_block_start, fresh_line, is_within_word, language_start, list_start, link_start, scheme, title_attribute};
 ghost use Rattle.cmark_text.specs.Appended.{AppendsFront};
 ghost use Rattle.cmark_text.specs.Short.{shown_plain};
 ghost use Rattle.cmark_text.specs.Shown.{level_number, shown_tag, shown_block_quote_kind, shown_code_block_kind, shown_link_type};
 ghost use Rattle.cmark_html.specs.Parts.{linked};
+ghost use Rattle.cmark_html.specs.Starts.{started};
 ghost use Rattle.cmark_html.specs.Writer.{writing};
 
 use crate::footnote::append_numbered_start;
@@ -13,6 +14,7 @@ use crate::heading::append_heading;
 use crate::image::append_image_start;
 use crate::parts::{Part, append, append_on_line, append_parts, new_line};
 use crate::state::Writer;
+use cmark_text::escape::{escape_href, escape_html};
 use cmark_text::{BlockQuoteKind, CodeBlockKind, HeadingLevel, LinkType, PlainTag, Tag};
 use itoa::Buffer;
 use memchr::memchr;
@@ -71,6 +73,45 @@ pub fn append_start<'a>(
     }
 }
 
+/// What the start of an element that has no text of its own is written as.
+enum Start {
+    /// A text on a line of its own.
+    OnLine(&'static str),
+    /// A text where the writer is.
+    Here(&'static str),
+    /// A list, with its first number if it is ordered.
+    Listing(Option<u64>),
+    /// A cell of a table.
+    Cell,
+}
+
+/// What such a start is written as.
+#[inline(always)]
+fn start_of(tag: PlainTag) -> Start
+    ensures { (w : Writing) → started w result ≡ start_piece w (shown_plain tag) }
+{
+    match tag {
+        PlainTag::Paragraph => Start::OnLine("<p>"),
+        PlainTag::Heading(level) => Start::OnLine(heading_start_text(level)),
+        PlainTag::BlockQuote(kind) => Start::OnLine(block_quote_text(kind)),
+        PlainTag::IndentedCode => Start::OnLine("<pre><code>"),
+        PlainTag::List(first) => Start::Listing(first),
+        PlainTag::Item => Start::OnLine("<li>"),
+        PlainTag::DefinitionList => Start::OnLine("<dl>\n"),
+        PlainTag::DefinitionListTitle => Start::OnLine("<dt>"),
+        PlainTag::DefinitionListDefinition => Start::OnLine("<dd>"),
+        PlainTag::TableHead => Start::Here("<thead><tr>"),
+        PlainTag::TableRow => Start::Here("<tr>"),
+        PlainTag::TableCell => Start::Cell,
+        PlainTag::Emphasis => Start::Here("<em>"),
+        PlainTag::Strong => Start::Here("<strong>"),
+        PlainTag::Strikethrough => Start::Here("<del>"),
+        PlainTag::Superscript => Start::Here("<sup>"),
+        PlainTag::Subscript => Start::Here("<sub>"),
+        PlainTag::HtmlBlock | PlainTag::MetadataBlock(_) => Start::Here(""),
+    }
+}
+
 /// Appends the start of an element that has no text of its own.
 #[inline(always)]
 pub fn append_plain_start(
@@ -82,25 +123,11 @@ pub fn append_plain_start(
     ensures err { OnErr result (AppendsFront (string_bytes out.old) (string_bytes out.new) (start_piece (writing writer.now) (shown_plain tag))) }
 {
     let line_start = writer.line_start;
-    match tag {
-        PlainTag::Paragraph => append_on_line(out, line_start, "<p>"),
-        PlainTag::Heading(level) => append_on_line(out, line_start, heading_start_text(level)),
-        PlainTag::BlockQuote(kind) => append_on_line(out, line_start, block_quote_text(kind)),
-        PlainTag::IndentedCode => append_on_line(out, line_start, "<pre><code>"),
-        PlainTag::List(first) => append_list(out, line_start, first),
-        PlainTag::Item => append_on_line(out, line_start, "<li>"),
-        PlainTag::DefinitionList => append_on_line(out, line_start, "<dl>\n"),
-        PlainTag::DefinitionListTitle => append_on_line(out, line_start, "<dt>"),
-        PlainTag::DefinitionListDefinition => append_on_line(out, line_start, "<dd>"),
-        PlainTag::TableHead => append(out, "<thead><tr>"),
-        PlainTag::TableRow => append(out, "<tr>"),
-        PlainTag::TableCell => writer.table.append_cell_start(out),
-        PlainTag::Emphasis => append(out, "<em>"),
-        PlainTag::Strong => append(out, "<strong>"),
-        PlainTag::Strikethrough => append(out, "<del>"),
-        PlainTag::Superscript => append(out, "<sup>"),
-        PlainTag::Subscript => append(out, "<sub>"),
-        PlainTag::HtmlBlock | PlainTag::MetadataBlock(_) => Ok(()),
+    match start_of(tag) {
+        Start::OnLine(text) if !line_start => append_on_line(out, line_start, text),
+        Start::OnLine(text) | Start::Here(text) => append(out, text),
+        Start::Listing(first) => append_list(out, line_start, first),
+        Start::Cell => writer.table.append_cell_start(out),
     }
 }
 
@@ -264,47 +291,39 @@ fn append_numbered(out: &mut String, line_start: bool, digits: &str) -> Result<(
 
 /// Appends the start of a link.
 #[inline(never)]
-fn append_link<'x>(
+pub fn append_link(
     out: &mut String,
     link_type: LinkType,
-    dest_url: &'x str,
-    title: &'x str,
+    dest_url: &str,
+    title: &str,
 ) -> Result<(), AllocError>
     ensures ok { OnOk result (string_bytes out.new ≡ string_bytes out.old ++ link_start (linked (shown_link_type link_type) dest_url.now title.now)) }
     ensures err { OnErr result (AppendsFront (string_bytes out.old) (string_bytes out.new) (link_start (linked (shown_link_type link_type) dest_url.now title.now))) }
 {
-    if title.is_empty() {
-        return append_parts(
-            out,
-            &[
-                Part::Raw("<a href=\""),
-                Part::Raw(scheme(link_type)),
-                Part::Href(dest_url),
-                Part::Raw("\""),
-                Part::Raw(">"),
-            ],
-        );
-    }
-    append_parts(
-        out,
-        &[
-            Part::Raw("<a href=\""),
-            Part::Raw(scheme(link_type)),
-            Part::Href(dest_url),
-            Part::Raw("\""),
-            Part::Raw(" title=\""),
-            Part::Value(title),
-            Part::Raw("\">"),
-        ],
-    )
+    append(out, link_front(link_type))?;
+    escape_href(out, dest_url)?;
+    append_link_title(out, title)
 }
 
-/// What stands before the destination of a link of this type.
-fn scheme(link_type: LinkType) -> &'static str
-    ensures { result.now ≡ scheme (shown_link_type link_type) }
+/// Appends the start of a link from behind its destination on.
+fn append_link_title(out: &mut String, title: &str) -> Result<(), AllocError>
+    ensures ok { OnOk result (string_bytes out.new ≡ string_bytes out.old ++ (codes "\"" ++ (title_attribute title.now ++ codes ">"))) }
+    ensures err { OnErr result (AppendsFront (string_bytes out.old) (string_bytes out.new) (codes "\"" ++ (title_attribute title.now ++ codes ">"))) }
+{
+    if title.is_empty() {
+        return append(out, "\">");
+    }
+    append(out, "\" title=\"")?;
+    escape_html(out, title)?;
+    append(out, "\">")
+}
+
+/// The start of a link of this type up to its destination.
+fn link_front(link_type: LinkType) -> &'static str
+    ensures { result.now ≡ codes "<a href=\"" ++ scheme (shown_link_type link_type) }
 {
     match link_type {
-        LinkType::Email => "mailto:",
-        _ => "",
+        LinkType::Email => "<a href=\"mailto:",
+        _ => "<a href=\"",
     }
 }

@@ -8,13 +8,13 @@ ghost use Rattle.cmark_grammar.specs.Tag.{Paragraph};
 ghost use Rattle.cmark_grammar.specs.TagEnd.{Paragraph as ParagraphEnd};
 ghost use Rattle.cmark_text.specs.Appended.{AppendsFront};
 ghost use Rattle.cmark_text.specs.Shown.{shown, shown_tag};
-ghost use Rattle.cmark_html.specs.Writer.{shown_image, shown_names, shown_table, writing};
+ghost use Rattle.cmark_html.specs.Writer.{shown_image, shown_names, shown_table, with_names, writing};
 
 use crate::end::{append_end, line_start_after_end};
 use crate::footnote::{FootnoteNames, append_numbered_reference};
 use crate::image::{append_image_end, write_inside};
 use crate::parts::{Part, append, append_around, append_on_line};
-use crate::start::{append_start, line_start_after_start};
+use crate::start::{append_link, append_start, line_start_after_start};
 use crate::state::{OpenImage, Writer};
 use crate::table::TableState;
 use cmark_text::escape::escape_html_body_text;
@@ -51,6 +51,19 @@ fn write_outside<'a>(
     ensures state { OnOk result (writing writer.new ≡ moved_outside (writing writer.old) (shown event.entry)) }
     ensures err { OnErr result (AppendsFront (string_bytes out.old) (string_bytes out.new) (piece_outside (writing writer.old) (shown event.entry))) }
 {
+    if let Event::Start(
+        Tag::Link {
+            link_type,
+            dest_url,
+            title,
+            id: _,
+        },
+    ) = &event
+    {
+        append_link(out, *link_type, dest_url.as_str(), title.as_str())?;
+        writer.line_start = false;
+        return Ok(());
+    }
     append_piece(out, writer, &event)?;
     writer.line_start = line_start_after(writer, &event);
     writer.in_metadata = metadata_after(writer.in_metadata, &event);
@@ -71,12 +84,28 @@ pub fn write_in_image<'a>(
     ensures state { OnOk result (writing writer.new ≡ moved (writing writer.old) (shown event.entry)) }
     ensures err { OnErr result (AppendsFront (string_bytes out.old) (string_bytes out.new) (piece (writing writer.old) (shown event.entry))) }
 {
+    append_inside(out, writer, &event)?;
+    keep_inside(&mut writer.names, event)
+}
+
+/// Appends this piece, and keeps what the event says but of footnotes.
+fn append_inside<'a>(
+    out: &mut String,
+    writer: &mut Writer<'a>,
+    event: &Event<'a>,
+) -> Result<(), AllocError>
+    requires { is_some writer.old.image ≡ true }
+    ensures ok { OnOk result (string_bytes out.new ≡ string_bytes out.old ++ piece (writing writer.old) (shown event.now)) }
+    ensures state { OnOk result (writing writer.new ≡ with_names (writing writer.old).names (moved (writing writer.old) (shown event.now))) }
+    ensures names { writer.new.names ≡ writer.old.names }
+    ensures err { OnErr result (AppendsFront (string_bytes out.old) (string_bytes out.new) (piece (writing writer.old) (shown event.now))) }
+{
     let Some(image) = writer.image.take() else {
         return Ok(());
     };
-    writer.image = write_inside(out, image, &writer.names, &event)?;
+    writer.image = write_inside(out, image, &writer.names, event)?;
     writer.line_start = false;
-    keep_inside(&mut writer.names, event)
+    Ok(())
 }
 
 /// Keeps what an event inside of an image says.

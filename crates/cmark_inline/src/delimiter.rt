@@ -96,6 +96,7 @@ impl Delimiters {
     }
 
     /// Resolves the runs from this one on, which are those of one list of siblings, and forgets them.
+    #[inline(always)]
     pub fn resolve(
         &mut self,
         first: usize,

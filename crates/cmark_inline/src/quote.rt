@@ -80,6 +80,7 @@ impl Quotes {
     }
 
     /// Gives the quotes from this one on, which are those of one list of siblings, their characters, and forgets them.
+    #[inline(always)]
     pub fn resolve(&mut self, first: usize, slots: &mut Vec<Slot>) -> Result<(), AllocError>
         ensures value { OnOk result (slots.new.items ≡ with_characters (drop first self.old.placed.items) (characters_of (drop first self.old.placed.items)) slots.old.items) }
         ensures slots { OnOk result ((text : List ℕ) (place : ℕ) → AreSlots text place slots.old.items → AreSlots text place slots.new.items) }
