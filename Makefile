@@ -3,7 +3,7 @@
 # make install puts all of these below PREFIX, with the manual pages and the list of entities; it builds what is not built yet.
 # make web makes the module of the page in web/ anew, and tries the page in a browser; it is no part of make test.
 # make test passes everything; its last line is the gate's count. docs/GATE.md says what each part does and how long it takes.
-.PHONY: all mdhtml mdevents lib install web test edits gate programs wrong outside
+.PHONY: all mdhtml mdevents lib install web test edits gate programs wrong outside installed beside
 .NOTPARALLEL:
 
 PREFIX = /usr/local
@@ -40,12 +40,13 @@ web: bin/mdhtml bin/mdevents lib
 	tools/web
 	tests/web
 
-test: edits gate programs lib wrong outside
+test: edits gate programs beside
 	@tail -n 1 bin/gate.log
 
 # What needs no proof to find comes first.
 edits:
 	tests/edits
+	tests/documents
 
 gate:
 	mkdir -p bin
@@ -62,16 +63,26 @@ programs:
 wrong:
 	tests/wrong
 
+# What stands on the gate's libraries and programs, in two rows side by side: one keeps one processor busy, the other all that there are.
+beside:
+	$(MAKE) lib installed > bin/lib.log 2>&1 & lib=$$!; \
+	$(MAKE) outside wrong; outside=$$?; \
+	wait $$lib; lib=$$?; cat bin/lib.log; \
+	exit $$((lib + outside))
+
 # The built programs on what stands outside of the proofs.
 outside:
 	tests/entities
 	tests/examples
 	tests/refusals
 	tests/rows
-	tests/program
 	tests/walks 2000 1
 	tests/inline_definitions 2000 1
 	tests/block_definitions 1000 1
 	tests/block_definitions 500 2 gfm tables footnotes tasklists definition-list heading-attributes yaml-metadata plus-metadata
 	tests/vectors
+
+# What make install leaves: the programs and their pages, and the library on calls from C and from Python.
+installed:
+	tests/program
 	tests/bindings

@@ -3,6 +3,7 @@ import concurrent.futures
 import json
 
 import pulldown_cmark
+from programs import BITS, NONE
 from pulldown_cmark import Event, Options, Tag, events, html
 
 
@@ -66,7 +67,7 @@ def faults(texts, wanted):
         judge(f"{call.__name__} with options by place", raised(call, "a", 2), TypeError)
         judge(f"{call.__name__} with no option's bit", raised(call, "a", options=1), ValueError)
         judge(f"{call.__name__} with a text for options", raised(call, "a", options="2"), TypeError)
-    judge("the bits of the options", [int(it) for it in Options.__members__.values()], [0, 2, 4, 8, 16, 32, 64, 128, 256, 516, 1024, 2048, 4096, 8192, 16384, 32768])
+    judge("the bits of the options", [int(it) for it in Options.__members__.values()], [NONE, *BITS])
     for text in texts:
         string = text.decode()
         for a, b in zip(events(text), events(string)):

@@ -8,15 +8,19 @@ BLOCKS = set("article header aside hgroup blockquote hr iframe body li map butto
 
 
 class Normal(html.parser.HTMLParser):
+    """Writes HTML in the normal form, into `out`: `last` says of which kind the last piece was."""
+
     def __init__(self):
         super().__init__(convert_charrefs=False)
         self.out, self.is_verbatim, self.last = [], False, "start"
 
     def put(self, text, kind):
+        """Adds a piece."""
         self.out.append(text)
         self.last = kind
 
     def strip_end(self):
+        """Takes off the white space at the end."""
         while self.out and not self.out[-1].strip():
             self.out.pop()
         if self.out:

@@ -1,37 +1,76 @@
-"""What the verdicts on a crate's wrong edits stand on, as one number: its files, what they import, and the contracts that it calls."""
+"""What the verdict on a wrong edit stands on, as one number for each edit.
+
+A function is proved by itself. Its goals come from its own text and contract, the contracts of what it calls, the declarations that all
+these name, and the definitions and lemmas that they and its proof import. The number of an edit covers that, found by names and rather
+too much than too little; it covers no comment, no body of another function, and of the toolchain the logic alone.
+"""
+import collections
+import functools
 import hashlib
 import pathlib
 import re
 import subprocess
 
+import items
+
 IMPORT = re.compile(r"\bRattle\.(\w+)\.(specs|proofs)\.([\w.]+)|\b(\w+)::(specs|proofs)::([\w:]+)")
+COMMENT_LINE = re.compile(r"^\s*--.*\n", re.M)
+RENAMING = re.compile(r"([^\W\d]\w*)\s+as\s+([^\W\d]\w*)")
+
+
+class Scope:
+    """The items that functions of a crate can name, by their names; impl blocks by their types."""
+
+    def __init__(self, all_items):
+        self.named, self.methods, self.blocks = (collections.defaultdict(list) for _ in range(3))
+        for item in all_items:
+            if item.kind == "impl":
+                self.blocks[item.owner].append(item.block)
+            elif item.kind == "fn" and item.owner is not None:
+                self.methods[item.owner].append(item)
+                self.named[item.name].append(item)
+            elif item.kind not in ("use", "ghost use", "mod"):
+                self.named[item.name].append(item)
 
 
 class Sources:
     def __init__(self, root):
-        self.crates = pathlib.Path(root) / "crates"
-        self.texts = {}
-        self.direct = {}
-        for line in (pathlib.Path(root) / "crates.txt").read_text(encoding="utf-8").splitlines():
+        root = pathlib.Path(root)
+        self.crates = root / "crates"
+        self.below = {}
+        for line in (root / "crates.txt").read_text(encoding="utf-8").splitlines():
             name, parted, below = line.partition(":")
             if parted and not name.startswith("#"):
-                self.direct[name.split()[0]] = [it for it in below.split() if (self.crates / it).is_dir()]
+                self.below[name.split()[0]] = [it for it in below.split() if (self.crates / it).is_dir()]
         # of the toolchain only its logic counts, whose digest its version tells: an edit that is wrong leaves a goal that is false in it
         version = subprocess.run(["rt", "version"], capture_output=True, text=True, check=True).stdout
         self.logic = re.search(r"\blogic (\w+)", version)[1]
 
+    @functools.cache
     def text(self, path):
-        if path not in self.texts:
-            self.texts[path] = path.read_text(encoding="utf-8")
-        return self.texts[path]
+        return path.read_text(encoding="utf-8")
 
-    def files(self, crate, *folders):
-        return {it for folder in folders for it in (self.crates / crate / folder).rglob("*") if it.is_file()}
+    @functools.cache
+    def items_of(self, crate):
+        """A dict from each source file of a crate to its items."""
+        return items.read(sorted((self.crates / crate / "src").rglob("*.rt")))
 
-    def imported(self, path):
-        """The files of this repository that a file imports. What is declared in a source file stands under its name in `declared`."""
-        own = path.relative_to(self.crates).parts[0]
-        for found in IMPORT.findall(self.text(path)):
+    def items_in(self, file):
+        return self.items_of(file.relative_to(self.crates).parts[0])[file]
+
+    @functools.cache
+    def scope(self, crate):
+        found, left = set(), [crate]
+        while left:
+            name = left.pop()
+            if name not in found:
+                found.add(name)
+                left += self.below.get(name, [])
+        return Scope(item for name in sorted(found) for listed in self.items_of(name).values() for item in listed)
+
+    def resolved(self, own, text):
+        """The files that a text of this crate imports: of definitions, of lemmas, or a source file, with the name that it declares."""
+        for found in IMPORT.findall(text):
             crate, folder, module = found[:3] if found[0] else found[3:]
             crate = own if crate == "crate" else crate
             parts = re.split(r"\.|::", module.strip(".:"))
@@ -41,27 +80,158 @@ class Sources:
             for count in range(len(parts), 0, -1):
                 file = at.joinpath(*parts[:count]).with_suffix(ending)
                 if file.is_file():
-                    yield file
+                    yield file, parts[count] if count < len(parts) else None
                     break
 
-    def below(self, crate):
-        """All files that the verdicts on a crate's edits stand on."""
-        left = self.files(crate, "src", "specs", "proofs", "wrong")
-        code = "".join(self.text(it) for it in self.files(crate, "src"))
-        for called in self.direct[crate]:
-            # a crate of which definitions alone are named is not called
-            if re.search(rf"\b{called}::(?!specs::|proofs::)", code):
-                left |= self.files(called, "src")
-        found = set()
+    @functools.cache
+    def named_in(self, crate, text):
+        """The files of definitions and lemmas that a text of a crate imports, and the items of source files."""
+        files, found = set(), set()
+        for file, name in self.resolved(crate, text):
+            if file.suffix == ".antt":
+                files.add(file)
+            else:
+                found.update(it for it in self.items_in(file) if it.kind not in ("fn", "use", "ghost use") and name in (None, it.name))
+        return files, found
+
+    @functools.cache
+    def imports(self, file):
+        """The files of definitions and lemmas that one stands on, itself among them, and the items of source files that they import."""
+        files, declared, left = set(), set(), [file]
         while left:
             path = left.pop()
-            if path not in found:
-                found.add(path)
-                left.update(self.imported(path))
-        return found
+            if path not in files:
+                files.add(path)
+                more, found = self.named_in(path.relative_to(self.crates).parts[0], self.text(path))
+                left += more - files
+                declared |= found
+        return files, declared
 
-    def number(self, crate):
-        sum_of = hashlib.sha256(self.logic.encode())
-        for path in sorted(self.below(crate)):
-            sum_of.update(f"{path.relative_to(self.crates)}\0{self.text(path)}\0".encode())
-        return sum_of.hexdigest()
+    @functools.cache
+    def digest(self, path):
+        return hashlib.sha256(f"{path.relative_to(self.crates)}\0{COMMENT_LINE.sub('', self.text(path))}".encode()).digest()
+
+    def text_of(self, item):
+        return self.text(item.file).encode()[item.start : item.end].decode()
+
+    @functools.cache
+    def imported_by(self, item):
+        """What an item names by its path: files of definitions and lemmas with all that they stand on, and items."""
+        named, found = self.named_in(item.file.relative_to(self.crates).parts[0], self.text_of(item))
+        files = set()
+        for file in named:
+            more, declared = self.imports(file)
+            files, found = files | more, found | declared
+        return files, found
+
+    @functools.cache
+    def used_by(self, ghost_use):
+        """The same of an import of definitions; and its words, or None where one is an operator."""
+        is_operator = "◌" in self.text_of(ghost_use)
+        return *self.imported_by(ghost_use), None if is_operator else ghost_use.whole.words
+
+    @functools.cache
+    def renamings(self, file):
+        """What a file imports under other names, as pairs of the name and the other one."""
+        return [found for it in self.items_in(file) if it.kind == "use" for found in RENAMING.findall(self.text_of(it))]
+
+    @functools.cache
+    def named_by(self, item, piece):
+        """What a piece of an item names: files of definitions, further items, and words."""
+        files, found = self.imported_by(item)
+        held, block = [it for it in self.items_in(item.file) if it.kind == "ghost use" and it.block is None], item.block
+        while block is not None:
+            held += [it for it in block.items if it.kind == "ghost use"]
+            found = found | {it for it in block.items if it.kind not in ("fn", "use", "ghost use")}
+            block = block.outer
+        for files_of, items_of, words in map(self.used_by, held):
+            if words is None or words & piece.words:
+                files, found = files | files_of, found | items_of
+        return files, found, piece.words | {name for name, other in self.renamings(item.file) if other in piece.words}
+
+    def stands(self, crate, changes, function):
+        """What the verdict on an edit with these changes stands on, which this function of the crate, or file of computed samples, has to refuse."""
+        stands = Stands(self, crate)
+        for change in changes:
+            stands.add_place(self.crates / crate / change.file, change)
+        if function.startswith("proofs/"):
+            stands.add_file(self.crates / crate / function)
+        else:
+            stands.add_function(function.split("::"))
+        return stands.close()
+
+
+class Stands:
+    """What the verdict on an edit stands on."""
+
+    def __init__(self, sources, crate):
+        self.sources, self.crate, self.scope = sources, crate, sources.scope(crate)
+        self.files, self.pieces, self.words = set(), set(), set()
+        # Pieces of which it was not seen yet what they name.
+        self.left = []
+        for item in sources.items_of(crate).get(sources.crates / crate / "src" / "lib.rt", []):
+            self.add(item, item.shown)
+
+    def add(self, item, piece):
+        """A piece of an item, and where the item stands in an impl block, its front."""
+        if (item, piece) not in self.pieces:
+            self.pieces.add((item, piece))
+            self.left.append((item, piece))
+
+    def add_file(self, path):
+        files, declared = self.sources.imports(path)
+        self.files |= files
+        for item in declared:
+            self.add(item, item.whole)
+
+    def add_place(self, file, change):
+        """The items of a file that an edit changes."""
+        if file.suffix == ".antt":
+            self.add_file(file)
+            return
+        text = self.sources.text(file)
+        start, end = (len(text[:it].encode()) for it in (change.start, change.end))
+        for item in self.sources.items_in(file):
+            if item.start < end and start < item.end:
+                self.add(item, item.whole)
+
+    def add_function(self, path):
+        """All functions of the crate of this name, and of this type where the path has one, with their proofs."""
+        own = [it for listed in self.sources.items_of(self.crate).values() for it in listed if it.kind == "fn" and it.name == path[-1]]
+        for item in [it for it in own if it.owner and len(path) > 1 and path[-2].startswith(it.owner)] or own:
+            self.add(item, item.whole)
+        proofs = self.sources.crates / self.crate / "proofs"
+        for place in [*proofs.rglob(path[-1]), *proofs.rglob(f"{path[-1]}.antt")]:
+            around = (it for up in place.parents if proofs in up.parents for it in up.glob("*.antt"))
+            for file in [*place.rglob("*.antt"), *around] if place.is_dir() else [place, *around]:
+                self.add_file(file)
+
+    def add_named(self, words):
+        """What these new words name: a method where its type is named too, and all that a trait's impl block says of a type."""
+        self.words |= words
+        for word in words:
+            for item in self.scope.named[word]:
+                if item.kind != "fn" or item.owner is None or item.owner in self.words:
+                    self.add(item, item.shown)
+            for item in self.scope.methods[word]:
+                if item.name in self.words:
+                    self.add(item, item.shown)
+            for block in self.scope.blocks[word]:
+                for item in block.items if block.is_of_trait else ():
+                    if item.kind != "ghost use":
+                        self.add(item, item.shown)
+
+    def close(self):
+        while self.left:
+            files, found, words = self.sources.named_by(*self.left.pop())
+            self.files |= files
+            for item in found:
+                self.add(item, item.whole)
+            self.add_named(words - self.words)
+        return self
+
+    def number(self, edit):
+        sum_of = hashlib.sha256(f"{self.sources.logic}\0{edit}".encode())
+        for digest in sorted({piece.digest for _, piece in self.pieces} | {self.sources.digest(it) for it in self.files}):
+            sum_of.update(digest)
+        return sum_of.hexdigest()[:16]

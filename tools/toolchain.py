@@ -1,4 +1,5 @@
 """The toolchain's command rt as a module: it knows the crates, how each is checked, and how many checks the machine holds."""
+import contextlib
 import hashlib
 import importlib.machinery
 import importlib.util
@@ -8,6 +9,7 @@ import sys
 
 
 def load_rt():
+    """The command as a module."""
     path = os.path.realpath(shutil.which("rt") or sys.exit("the toolchain's command rt is not on the PATH"))
     loader = importlib.machinery.SourceFileLoader("rt_command", path)
     module = importlib.util.module_from_spec(importlib.util.spec_from_loader("rt_command", loader))
@@ -23,6 +25,17 @@ def is_current(rt, crate):
         return False
     made = os.path.getmtime(crate.rlib)
     return all(os.path.getmtime(it) < made for lib in [crate, *crate.below()] for it in rt.rtlib.files_of(lib.folder))
+
+
+@contextlib.contextmanager
+def alone_in(rt, crate):
+    """Holds the lock of a crate's folder, for which every other command that works there waits."""
+    held = rt.rtlib.lock([crate])
+    try:
+        yield
+    finally:
+        for it in held:
+            os.close(it)
 
 
 def sources(rt, crate):

@@ -1,6 +1,7 @@
 """The calls of the shared library."""
 import ctypes
 import enum
+import functools
 import operator
 import os
 import pathlib
@@ -10,8 +11,6 @@ Text = Union[str, bytes, bytearray, memoryview]
 
 # What a call answers, as pulldown_cmark.h has it.
 _DONE, _TOO_LONG, _NOT_UTF8, _NO_MEMORY = range(4)
-# The bits of all options.
-_ALL = 65534
 
 
 class Options(enum.IntFlag):
@@ -33,6 +32,10 @@ class Options(enum.IntFlag):
     SUPERSCRIPT = 8192
     SUBSCRIPT = 16384
     WIKILINKS = 32768
+
+
+# The bits of all options.
+_ALL = functools.reduce(operator.or_, map(int, Options.__members__.values()))
 
 
 def _loaded() -> ctypes.CDLL:

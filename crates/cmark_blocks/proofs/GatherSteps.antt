@@ -1,8 +1,8 @@
 -- The text of a paragraph, gathered line by line.
-use Rattle.std.proofs.Common.{◌≡◌, ℕ, zero, suc, ◌+◌, ◌-◌, ◌<◌, List, [], ◌∷◌, ◌++◌, take, arith, refl, sym, ap, ◌∙◌, subst, append_assoc, append-nil, length-append, String, Global}
+use Rattle.std.proofs.Common.{◌≡◌, ℕ, zero, suc, ◌+◌, ◌-◌, ◌<◌, List, [], ◌∷◌, ◌++◌, take, arith, refl, sym, ap, ◌∙◌, append_assoc, append-nil, length-append, String, Global}
 use Rattle.std.specs.Prelude.{string_bytes}
 use Rattle.cmark_grammar.specs.Answers.{Lookup}
-use Rattle.cmark_grammar.specs.Columns.{expand, bytes_of, indent, without_indent}
+use Rattle.cmark_grammar.specs.Columns.{bytes_of, indent, without_indent}
 use Rattle.cmark_grammar.specs.LinkDefinitions.{line_end_of, further_bytes, bytes_over}
 use Rattle.cmark_grammar.specs.Derivation.{stop_of}
 use Rattle.cmark_grammar.specs.Options.{Options}

@@ -6,7 +6,7 @@ use Rattle.cmark_grammar.specs.Answers.{Lookup}
 use Rattle.cmark_grammar.specs.Options.{Options}
 use Rattle.cmark_grammar.proofs.RowPlaces.{behind_prefix, kept-behind}
 use Rattle.cmark_grammar.specs.Columns.{Column}
-use Rattle.cmark_grammar.specs.Rows.{Row, without}
+use Rattle.cmark_grammar.specs.Rows.{Row}
 use Rattle.cmark_grammar.specs.Containers.{keeps}
 use Rattle.cmark_grammar.specs.Containers as grammar
 use Rattle.cmark_lines.specs.Rests.{row_of}

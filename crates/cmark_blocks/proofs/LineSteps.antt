@@ -1,5 +1,5 @@
 -- What a line begins, one container after the other.
-use Rattle.std.specs.Prelude.{if◌then◌else◌, is_some, option_map, IfSome}
+use Rattle.std.specs.Prelude.{if◌then◌else◌, nat_le, ◌||◌, is_some, option_map, IfSome}
 use Rattle.std.proofs.Common.{◌≡◌, ℕ, zero, suc, ◌<◌, ◌≤◌, Bool, true, false, List, [], ◌∷◌, length, Option, Some, None, refl, sym, ap, subst, ◌∙◌, arith}
 use Rattle.cmark_grammar.specs.Options.{Options}
 use Rattle.cmark_grammar.specs.Answers.{Lookup}
@@ -7,15 +7,15 @@ use Rattle.cmark_grammar.specs.Alerts.{alert_in}
 use Rattle.cmark_grammar.specs.BlockQuoteKind.{BlockQuoteKind}
 use Rattle.cmark_grammar.specs.Blocks.{place_in}
 use Rattle.cmark_grammar.specs.Containers.{Quote, is_alert, marker_width, enter}
-use Rattle.cmark_grammar.specs.Leaves.{run}
+use Rattle.cmark_grammar.specs.Leaves.{run, underline_of, underlines}
 use Rattle.cmark_grammar.specs.Metadata.{metadata_kind}
-use Rattle.cmark_grammar.specs.Openings.{Leaf, Blank, Takes, Plain, or_else, metadata_begun, whole_opens, opens}
+use Rattle.cmark_grammar.specs.Openings.{Leaf, Blank, Takes, Plain, or_else, interrupts, metadata_begun, whole_opens, opens}
 use Rattle.cmark_grammar.specs.Options.{Options, no_options}
 use Rattle.cmark_grammar.specs.DefinitionLists.{definition_at}
 use Rattle.cmark_grammar.specs.Places.{Place, Apart}
 use Rattle.cmark_blocks.proofs.DefinitionRows.{opens-anywhere, inside-place, blank-defines-not}
 use Rattle.cmark_grammar.specs.Columns.{Column, bytes_of, without_indent}
-use Rattle.cmark_grammar.specs.Rows.{Row, without, is_bare, is_blank_line, words_of}
+use Rattle.cmark_grammar.specs.Rows.{Row, without, is_bare, is_blank_line, indent_of, words_of}
 use Rattle.cmark_grammar.proofs.BlockLaws.{no_metadata}
 use Rattle.cmark_lines.proofs.OpeningRows.{opens-blank, none_ahead}
 use Rattle.cmark_lines.specs.Opened.{opened, HasInside, IsMarked, InsideIsIn}
@@ -194,3 +194,23 @@ pub begins-blank : (text : List ℕ) (options : Options) (lookup : Lookup) (r : 
 begins-blank text options lookup r next m whole blank =
     ap (λ o. begin_as text options lookup o (λ k. inside_begun (is_alert k) (container_begun k r m) (begin_in text options lookup (length r.columns) (place_in k) (enter k r) next (is_item k) (container_begun k r m))) r (ahead_in text options lookup m.outer next) false m)
     (opens-anywhere options m.inner r (ahead_in text options lookup m.outer next) (blank-defines-not options (place_of m.inner) r (blank-words r blank)) ∙ opens-blank options r (ahead_in text options lookup m.outer next) whole blank ∙ ap (λ kind. or_else (metadata_begun kind (ahead_in text options lookup m.outer next)) Blank) (no_metadata options r blank))
+
+-- nor does it underline a paragraph: it interrupts one
+pub blank-underlines-not : (r : Row) → is_blank_line r ≡ true → underlines r ≡ None
+unfolding underlines
+blank-underlines-not r blank =
+    let deep : Bool = r.lazy || nat_le 4 (indent_of r) in
+    ap (λ ws. if deep then None else underline_of ws) (blank-words r blank) ∙ go deep
+  where
+    none : Option ℕ
+    none = None
+
+    go : (z : Bool) → (if z then none else none) ≡ none
+    go true = refl
+    go false = refl
+
+pub blank-interrupts : (options : Options) (r : Row) (ahead : List Row) → is_blank_line r ≡ true → interrupts options true r ahead ≡ true
+blank-interrupts options r ahead blank = or-true (is_blank_line r) _ blank
+  where
+    or-true : (a b : Bool) → a ≡ true → (a || b) ≡ true
+    or-true a b e = ap (λ z. z || b) e

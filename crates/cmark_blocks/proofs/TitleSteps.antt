@@ -1,6 +1,6 @@
 -- What is drawn where a paragraph may be a title.
-use Rattle.std.proofs.Common.{◌≡◌, ℕ, Bool, true, false, Option, Some, None, option_map, refl}
-use Rattle.cmark_block_model.specs.BlockPass.{ended, ended_but, released_from, title_released, title_made}
+use Rattle.std.proofs.Common.{◌≡◌, ℕ, Bool, true, false, Option, Some, None, option_map, ◌||◌, refl, ap, ◌∙◌}
+use Rattle.cmark_block_model.specs.BlockPass.{definitions_in, list_closed, ended, ended_but, released_from, title_released, title_made}
 use Rattle.std.specs.Prelude.{is_some}
 use Rattle.cmark_grammar.specs.BlockDocument.{DefinitionList, DefinitionListTitle}
 use Rattle.cmark_block_model.specs.Drawing.{Drawing, retitled, enclosed}
@@ -32,3 +32,22 @@ but-some None s d e = absurd (let q : false ≡ true = e in cc)
 pub but-none : (o : Option OpenList) (s : Siblings) (d : Drawing) → is_some o ≡ false → ended_but o s d ≡ ended s d
 but-none None s d e = refl
 but-none (Some l) s d e = absurd (let q : true ≡ false = e in cc)
+
+-- where none is open, and the last paragraph stands in none, nothing is closed
+pub no-list : {A : Type 0} (o : Option A) (other : Bool) → (is_some o || other) ≡ false → o ≡ None
+no-list None other e = refl
+no-list (Some x) other e = absurd (let q : true ≡ false = e in cc)
+
+no-other : {A : Type 0} (o : Option A) (other : Bool) → (is_some o || other) ≡ false → other ≡ false
+no-other None other e = e
+no-other (Some x) other e = absurd (let q : true ≡ false = e in cc)
+
+around-none : (t : Option Title) (d : Drawing) → is_some (list_around t) ≡ false → title_released t d ≡ d
+around-none None d e = refl
+around-none (Some t) d e = ap (λ o. released_from o d) (no-list t.list false (ap (λ z. z || false) e))
+
+pub but-alone : (s : Siblings) (d : Drawing) → (is_some s.list || is_some (list_around s.title)) ≡ false → ended_but (definitions_in s.list) s d ≡ d
+but-alone s d e =
+    let none = no-list s.list (is_some (list_around s.title)) e in
+    ap (λ o. ended_but (definitions_in o) s d) none ∙ ap (λ o. list_closed o (title_released s.title d)) none
+    ∙ around-none s.title d (no-other s.list (is_some (list_around s.title)) e)

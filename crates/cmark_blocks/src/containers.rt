@@ -101,7 +101,27 @@ impl<'a, E: EntityLookup> Pass<'a, E> {
     }
 
     /// A paragraph begins, which may be a title of the definition list that is open.
+    #[inline(always)]
     pub(crate) fn begin_text_block(&mut self)
+        requires { IsGood self.old }
+        ensures good { IsGood self.new }
+        ensures runs { Steps E.replacement self.old self.new text_block_begun }
+        ensures tables { self.new.builder.allocations ≡ self.old.builder.allocations }
+        ensures text { self.new.text ≡ self.old.text }
+        ensures blank_lines { self.new.blank_lines ≡ self.old.blank_lines }
+        ensures leaf { self.new.leaf ≡ self.old.leaf }
+        ensures bare { self.new.bare ≡ self.old.bare }
+    {
+        if self.inner.has_list() {
+            self.begin_text_behind_list();
+            return;
+        }
+        self.inner.add_paragraph();
+    }
+
+    /// The same, whether or not a list is open.
+    #[inline(never)]
+    fn begin_text_behind_list(&mut self)
         requires { IsGood self.old }
         ensures good { IsGood self.new }
         ensures runs { Steps E.replacement self.old self.new text_block_begun }

@@ -63,6 +63,32 @@ impl<'a, E: EntityLookup> Pass<'a, E> {
             self.add_to_paragraph(from, last, rest)?;
             return Ok(());
         }
+        if rest.is_blank() {
+            self.close_leaf()?;
+            self.pass_blank_line(false);
+            return Ok(());
+        }
+        self.feed_marked(from, last, rest)?;
+        Ok(())
+    }
+
+    /// The same, where the line is not blank. It stands in a function of its own, as what most lines do not come to: the locals of a function
+    /// are cleared with each call.
+    #[inline(never)]
+    fn feed_marked(
+        &mut self,
+        from: usize,
+        last: LineRest<'a>,
+        rest: LineRest<'a>,
+    ) -> Result<(), AllocError>
+        requires good { IsGood self.old }
+        requires line { IsRead self.old.text.now rest }
+        requires is { self.old.leaf ≡ leaf.Paragraph from last }
+        requires bare { self.old.bare ≡ false }
+        ensures good { IsGood self.new }
+        ensures runs { OnOk result (FeedsLeaf E.replacement rest.entry self.old self.new) }
+        ensures text { self.new.text ≡ self.old.text }
+    {
         if let Some(level) = underlines(rest) {
             self.underline(from, last, level, rest)?;
             return Ok(());
@@ -116,6 +142,23 @@ impl<'a, E: EntityLookup> Pass<'a, E> {
     /// A line that lacks no prefix, behind the open leaf.
     #[inline(always)]
     fn feed_leaf(&mut self, rest: LineRest<'a>) -> Result<(), AllocError>
+        requires good { IsGood self.old }
+        requires line { IsRead self.old.text.now rest }
+        requires bare { self.old.bare ≡ false }
+        ensures good { IsGood self.new }
+        ensures runs { OnOk result (FeedsLeaf E.replacement rest.entry self.old self.new) }
+        ensures text { self.new.text ≡ self.old.text }
+    {
+        match self.leaf {
+            OpenLeaf::Closed => self.begin(rest),
+            OpenLeaf::Paragraph(from, last) => self.feed_paragraph(from, last, rest),
+            _ => self.feed_any_leaf(rest),
+        }
+    }
+
+    /// The same, for each kind of leaf.
+    #[inline(never)]
+    fn feed_any_leaf(&mut self, rest: LineRest<'a>) -> Result<(), AllocError>
         requires good { IsGood self.old }
         requires line { IsRead self.old.text.now rest }
         requires bare { self.old.bare ≡ false }
@@ -213,6 +256,20 @@ impl<'a, E: EntityLookup> Pass<'a, E> {
             self.past = line.past();
             return Ok(());
         }
+        self.feed_inside(line)?;
+        Ok(())
+    }
+
+    /// The same, inside of containers.
+    #[inline(never)]
+    fn feed_inside(&mut self, line: LineRest<'a>) -> Result<(), AllocError>
+        requires good { IsGood self.old }
+        requires line { IsRead self.old.text.now line }
+        ensures good { IsGood self.new }
+        ensures runs { OnOk result (Feeds E.replacement line.entry self.old self.new) }
+        ensures text { self.new.text ≡ self.old.text }
+        ensures past { OnOk result (self.new.past ≡ (row_of line.entry).past) }
+    {
         let (kept, rest) = self.kept_by(line);
         self.bare = false;
         self.feed_rest(kept, rest)?;

@@ -123,6 +123,9 @@ impl<'a, E: EntityLookup> Pass<'a, E> {
         ensures decides { IfOk result (Decides E.replacement self.now) }
     {
         let mut gathered = self.gather_first(rest, room)?;
+        if !self.gather_line(&mut gathered)? {
+            return Ok(gathered);
+        }
         while !is_settled(gathered.text.as_str()) {
             let size = gathered.text.len().saturating_mul(2);
             if !self.gather_lines(&mut gathered, size)? {

@@ -123,7 +123,7 @@ impl<'a, E: EntityLookup> Pass<'a, E> {
     }
 
     /// A blank line begins nothing. `bare` says that it is what stands behind the marker of an item.
-    fn pass_blank_line(&mut self, bare: bool)
+    pub(crate) fn pass_blank_line(&mut self, bare: bool)
         requires { IsGood self.old }
         ensures good { IsGood self.new }
         ensures runs { Steps E.replacement self.old self.new (λ p. record p { inner = record p.inner { blank = p.inner.has_block }; bare = bare }) }

@@ -1,6 +1,6 @@
 //! The blocks of a container so far, and the list that the last one is an item of (CommonMark 5.3).
 
-ghost use Rattle.std.specs.Prelude.{◌≡◌, option_map};
+ghost use Rattle.std.specs.Prelude.{◌≡◌, ◌||◌, None, is_some, option_map};
 ghost use Rattle.cmark_block_model.specs.BlockPass.{siblings_with_block, siblings_with_paragraph, siblings_with_item, siblings_behind_item, definitions_in, place_of};
 ghost use Rattle.cmark_grammar.specs.Places.{is_behind_title};
 ghost use Rattle.cmark_block_model.specs.OpenBlocks.{no_siblings};
@@ -85,6 +85,27 @@ impl Siblings {
             }),
             ..self.with_block()
         }
+    }
+
+    /// One more, a paragraph, where no list is open.
+    #[inline(always)]
+    pub(crate) fn add_paragraph(&mut self)
+        requires { (shown_siblings self.old).list ≡ None }
+        ensures { shown_siblings self.new ≡ siblings_with_paragraph (shown_siblings self.old) }
+    {
+        let parted = self.parted;
+        self.title = Some(Title { list: None, parted });
+        self.parted = parted || self.blank;
+        self.has_block = true;
+        self.blank = false;
+    }
+
+    /// Whether a list is open, or a paragraph is drawn in a definition list.
+    #[inline(always)]
+    pub(crate) fn has_list(&self) -> bool
+        ensures { result ≡ (is_some (shown_siblings self.now).list || is_some (list_around (shown_siblings self.now).title)) }
+    {
+        self.list.is_some() || self.list_around().is_some()
     }
 
     /// The definition list that is open, if one is.

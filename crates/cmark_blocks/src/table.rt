@@ -186,8 +186,27 @@ impl<'a, E: EntityLookup> Pass<'a, E> {
     }
 
     /// A line begins a table, or else a paragraph, with no leaf open.
-    #[inline]
+    #[inline(always)]
     pub(crate) fn begin_text(&mut self, rest: LineRest<'a>) -> Result<(), AllocError>
+        requires good { IsGood self.old }
+        requires line { IsRead self.old.text.now rest }
+        requires closed { self.old.leaf ≡ leaf.Closed }
+        requires bare { self.old.bare ≡ false }
+        ensures good { IsGood self.new }
+        ensures runs { OnOk result (BeginsText E.replacement rest.entry self.old self.new) }
+        ensures text { self.new.text ≡ self.old.text }
+    {
+        if !reads_tables(self.options) {
+            self.begin_paragraph(rest)?;
+            return Ok(());
+        }
+        self.begin_table_or_text(rest)?;
+        Ok(())
+    }
+
+    /// The same, whether or not tables are read.
+    #[inline(never)]
+    fn begin_table_or_text(&mut self, rest: LineRest<'a>) -> Result<(), AllocError>
         requires good { IsGood self.old }
         requires line { IsRead self.old.text.now rest }
         requires closed { self.old.leaf ≡ leaf.Closed }

@@ -6,6 +6,7 @@ pub mod Quotes
 pub mod SlotViews
 pub mod QuotedSlots
 pub mod Naming
+pub mod NoEnds
 pub mod Placing
 pub mod Settling
 pub mod Soundness

@@ -1,6 +1,6 @@
 //! Delimiter runs and the elements that they become (CommonMark 6.2).
 
-ghost use Rattle.std.specs.Prelude.{◌≡◌, ◌+◌, ◌<◌, ◌≤◌, ◌++◌, ◌∷◌, ℕ, false, List, [], None, Some, drop, get_or, length, map, max, reverse, set, take, OnOk, IfOk, IfSome};
+ghost use Rattle.std.specs.Prelude.{◌≡◌, ◌+◌, ◌<◌, ◌≤◌, ◌++◌, ◌∷◌, ℕ, false, List, [], None, Some, drop, get_or, length, map, max, reverse, set, take, IsOk, OnOk, IfOk, IfSome};
 ghost use Rattle.cmark_emphasis.specs.Shown.{shown_kind, shown_run};
 ghost use Rattle.cmark_emphasis.specs.Slots.{AreRuns};
 ghost use Rattle.cmark_emphasis.specs.declared.slot.Slot.{Slot as Marks};
@@ -123,8 +123,9 @@ impl Delimiters {
         ensures names { OnOk result (NamesNoMore slots.old.items slots.new.items) }
         ensures whole { OnOk result (AreWhole slots.new.items) }
         ensures placed { OnOk result (self.new.placed.items ≡ take first self.old.placed.items) }
+        ensures succeeds { length self.old.placed.items ≤ first → IsOk result }
     {
-        if self.placed.len() == first {
+        if self.placed.len() <= first {
             return Ok(());
         }
         let bound = slots.len();

@@ -1,6 +1,6 @@
 //! The events of a leaf's slots, one after the other.
 
-ghost use Rattle.std.specs.Prelude.{◌≡◌, ◌⊎◌, ◌<◌, ◌≤◌, ◌+◌, ◌-◌, ◌∷◌, ℕ, false, List, [], None, Some, IfOk, IfSome, OnOk, OnSome, length};
+ghost use Rattle.std.specs.Prelude.{◌≡◌, ◌⊎◌, ◌<◌, ◌≤◌, ◌+◌, ◌-◌, ◌∷◌, ℕ, false, List, [], None, Some, IfOk, IfSome, OnErr, OnOk, OnSome, length};
 ghost use Rattle.std.specs.Str.{IsCharBoundary};
 ghost use Rattle.cmark_grammar.specs.CodeSpans.{code_text};
 ghost use Rattle.cmark_grammar.specs.Event.{InlineHtml, Start, End, Text};
@@ -9,6 +9,7 @@ ghost use Rattle.cmark_grammar.specs.InlineTokens.{as_in, without_pipe_escapes};
 ghost use Rattle.cmark_grammar.specs.InlineReading.{over};
 ghost use Rattle.cmark_grammar.specs.LeafSpans.{IsInline, IsRange, IsSpan};
 ghost use Rattle.cmark_grammar.specs.Tokens.{slice};
+ghost use Rattle.cmark_inline_model.specs.FirstEvents.{BeginWithoutEnd};
 ghost use Rattle.cmark_leaf_text.specs.Reads.{IsRead, IsPart, is_cell_of, place_of, text_of, source_of};
 ghost use Rattle.cmark_scan_parts.specs.Shown.{IsBorrowed};
 ghost use Rattle.cmark_grammar.specs.Tag as grammar_tag;
@@ -70,7 +71,8 @@ pub struct Given<'a> {
 }
 
 impl<'a> InlineState<'a> {
-    /// The next event of the leaf that was resolved, with its range in the source; `None` behind the last.
+    /// The next event of the leaf that was resolved, with its range in the source; `None` behind the last. The end of an element takes no
+    /// memory.
     #[inline(always)]
     pub fn next(&mut self, leaf: &LeafText<'a>) -> Result<Option<Given<'a>>, AllocError>
         requires read { IsRead leaf.now }
@@ -87,6 +89,7 @@ impl<'a> InlineState<'a> {
         ensures expansion { self.new.expansion ≡ self.old.expansion }
         ensures events { IfOk result (λ given. IsFirst given (events_to_come leaf.now self.old) (events_to_come leaf.now self.new)) }
         ensures left { OnOk result (AreLeft leaf.now self.new) }
+        ensures ends { OnErr result (BeginWithoutEnd (events_to_come leaf.now self.old)) }
     {
         while self.walk.next < self.slots.len() {
             let slot = self.slots[self.walk.next];
@@ -118,6 +121,7 @@ impl<'a> InlineState<'a> {
             ≡ with_given given (events_of leaf.now self.new.texts.items self.new.links.items behind self.new.walk.opened.items)) }
         ensures left { (behind : List Slots) → CanBeGiven leaf.now self.old.texts.items self.old.links.items (slot ∷ behind)
             → OnOk result (CanBeGiven leaf.now self.new.texts.items self.new.links.items behind) }
+        ensures ends { OnErr result ((behind : List Slots) → BeginWithoutEnd (events_of leaf.now self.old.texts.items self.old.links.items (slot ∷ behind) self.old.walk.opened.items)) }
     {
         match slot.kind {
             SlotKind::Begin(element) => {

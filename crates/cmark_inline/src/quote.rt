@@ -1,6 +1,6 @@
 //! Quotes, and the characters that they become (this profile's own).
 
-ghost use Rattle.std.specs.Prelude.{◌≡◌, ◌<◌, ◌≤◌, ◌++◌, ◌∷◌, ℕ, List, [], drop, take, get_or, length, map, OnOk};
+ghost use Rattle.std.specs.Prelude.{◌≡◌, ◌<◌, ◌≤◌, ◌++◌, ◌∷◌, ℕ, List, [], drop, take, get_or, length, map, IsOk, OnOk};
 ghost use Rattle.cmark_inline_model.specs.SlotRows.{quoted};
 ghost use Rattle.cmark_leaf_text.specs.declared.leaf_text.LeafText.{LeafText};
 ghost use Rattle.cmark_text.specs.declared.text.CowStr.{CowStr};
@@ -93,8 +93,9 @@ impl Quotes {
         ensures quotes { OnOk result ((leaf : LeafText) (texts : List CowStr) (links : List LinkParts)
             → shown_slots leaf texts links slots.new.items ≡ quoted (map (λ (p : PlacedQuote). p.slot) (drop first self.old.placed.items)) (characters_of (drop first self.old.placed.items)) (shown_slots leaf texts links slots.old.items)) }
         ensures placed { OnOk result (self.new.placed.items ≡ take first self.old.placed.items) }
+        ensures succeeds { length self.old.placed.items ≤ first → IsOk result }
     {
-        if self.placed.len() == first {
+        if self.placed.len() <= first {
             return Ok(());
         }
         gather(&mut self.quotes, quotes_from(self.placed.as_slice(), first))?;

@@ -1,12 +1,13 @@
 //! The events of a leaf's slots that own nothing, of which no event of any kind is made.
 
-ghost use Rattle.std.specs.Prelude.{◌≡◌, ◌<◌, ◌≤◌, ◌+◌, ◌-◌, ◌∷◌, ℕ, List, IfOk, IfSome, OnOk, get_or, length, option_map};
+ghost use Rattle.std.specs.Prelude.{◌≡◌, ◌<◌, ◌≤◌, ◌+◌, ◌-◌, ◌∷◌, ℕ, List, IfOk, IfSome, OnErr, OnOk, get_or, length, option_map};
 ghost use Rattle.std.specs.Str.{IsCharBoundary};
 ghost use Rattle.cmark_grammar.specs.CodeSpans.{code_text};
 ghost use Rattle.cmark_grammar.specs.InlineTokens.{as_in};
 ghost use Rattle.cmark_grammar.specs.LeafSpans.{IsInline, IsSpan};
 ghost use Rattle.cmark_grammar.specs.TagEnd.{end_of};
 ghost use Rattle.cmark_grammar.specs.Tokens.{slice};
+ghost use Rattle.cmark_inline_model.specs.FirstEvents.{BeginWithoutEnd};
 ghost use Rattle.cmark_leaf_text.specs.Reads.{IsRead, is_cell_of, place_of, source_of, text_of};
 ghost use Rattle.cmark_text.specs.Short.{IsShortZeroCopy, shown_plain, shown_short};
 ghost use Rattle.cmark_text.specs.Shown.{shown_end};
@@ -34,7 +35,8 @@ use cmark_text::{Next, PlainTag, Short, TagEnd};
 use std::alloc::AllocError;
 
 impl<'a> InlineState<'a> {
-    /// What `next` would give, where no event is made: one that owns nothing counts as given then, and one of another kind does not.
+    /// What `next` would give, where no event is made: one that owns nothing counts as given then, and one of another kind does not. The
+    /// end of an element takes no memory.
     #[inline(always)]
     pub fn next_short(&mut self, leaf: &LeafText<'a>) -> Result<Next<'a>, AllocError>
         requires read { IsRead leaf.now }
@@ -50,6 +52,7 @@ impl<'a> InlineState<'a> {
         ensures most { OnOk result (events_left self.new ≤ events_left self.old) }
         ensures few { OnOk result (length self.new.slots.items < 18446744073709551616) }
         ensures events { IfOk result (λ next. IsNextFirst (source_of leaf.now) self.old.walk.opened.items next self.new.walk.opened.items (events_to_come leaf.now self.old) (events_to_come leaf.now self.new)) }
+        ensures ends { OnErr result (BeginWithoutEnd (events_to_come leaf.now self.old)) }
     {
         while self.walk.next < self.slots.len() {
             let slot = self.slots[self.walk.next];
@@ -82,6 +85,7 @@ impl<'a> InlineState<'a> {
         ensures first { IfOk result (λ next. (texts : List Texts) (links : List Links) (behind : List Slots)
             → PassesFirst (source_of leaf.now) self.old.walk.opened.items next self.new.walk.opened.items
             (events_of leaf.now texts links (slot ∷ behind) self.old.walk.opened.items) (events_of leaf.now texts links behind self.new.walk.opened.items)) }
+        ensures ends { OnErr result ((texts : List Texts) (links : List Links) (behind : List Slots) → BeginWithoutEnd (events_of leaf.now texts links (slot ∷ behind) self.old.walk.opened.items)) }
     {
         match slot.kind {
             SlotKind::Begin(element) => self.begin_short(leaf, slot, element),
@@ -114,6 +118,7 @@ impl<'a> InlineState<'a> {
         ensures first { IfOk result (λ next. (texts : List Texts) (links : List Links) (behind : List Slots)
             → PassesFirst (source_of leaf.now) self.old.walk.opened.items next self.new.walk.opened.items
             (events_of leaf.now texts links (slot ∷ behind) self.old.walk.opened.items) (events_of leaf.now texts links behind self.new.walk.opened.items)) }
+        ensures ends { OnErr result ((texts : List Texts) (links : List Links) (behind : List Slots) → BeginWithoutEnd (events_of leaf.now texts links (slot ∷ behind) self.old.walk.opened.items)) }
     {
         let Some((tag, end)) = plain_element(element) else {
             return Ok(Next::Long);

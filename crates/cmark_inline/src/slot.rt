@@ -1,6 +1,6 @@
 //! Slots: what stands in a leaf's text, one behind the other.
 
-ghost use Rattle.std.specs.Prelude.{◌≡◌, ◌<◌, ◌≤◌, ◌+◌, ◌++◌, ◌∷◌, ◌&&◌, nat_lt, true, false, [], ℕ, List, get_or, length, set, OnOk};
+ghost use Rattle.std.specs.Prelude.{◌≡◌, ◌<◌, ◌≤◌, ◌+◌, ◌++◌, ◌∷◌, ◌&&◌, nat_lt, true, false, [], ℕ, List, get_or, length, set, IsOk, OnOk};
 ghost use Rattle.std.specs.Str.{IsCharBoundary};
 ghost use Rattle.cmark_grammar.specs.InlineHtml.{takes_lines};
 ghost use Rattle.cmark_grammar.specs.Tokens.{slice};
@@ -95,7 +95,8 @@ pub fn push_slot(
 
 /// Appends a text, unless it is empty.
 pub fn push_text(slots: &mut Vec<Slot>, start: usize, end: usize) -> Result<(), AllocError>
-    ensures { OnOk result (PushesText start end slots.old.items slots.new.items) }
+    ensures pushes { OnOk result (PushesText start end slots.old.items slots.new.items) }
+    ensures succeeds { end ≤ start → IsOk result }
 {
     if start < end {
         push_slot(slots, SlotKind::Text, start, end)?;

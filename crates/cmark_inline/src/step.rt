@@ -1,6 +1,6 @@
 //! One pass over a leaf's text, from special byte to special byte.
 
-ghost use Rattle.std.specs.Prelude.{◌≡◌, ◌==◌, ◌⊎◌, true, false, ◌<◌, ◌≤◌, ◌+◌, ◌-◌, ◌++◌, ◌∷◌, ℕ, List, [], drop, length, slice_index, IfOk, OnOk, IfSome};
+ghost use Rattle.std.specs.Prelude.{◌≡◌, ◌==◌, ◌⊎◌, true, false, ◌<◌, ◌≤◌, ◌+◌, ◌-◌, ◌++◌, ◌∷◌, ℕ, List, [], drop, length, slice_index, IfOk, IsOk, OnOk, IfSome};
 ghost use Rattle.std.specs.Str.{IsCharBoundary};
 ghost use Rattle.cmark_finds.specs.Backticks.{AreRunsOf};
 ghost use Rattle.cmark_finds.specs.Dollars.{AreDollarsOf};
@@ -53,6 +53,7 @@ pub struct Sought {
 
 impl<'a> InlineState<'a> {
     /// Reads the text of a leaf: its events are then given by `next`. A use is counted of each footnote of `footnotes` that it refers to.
+    /// A leaf without a byte, as an empty cell, takes no memory.
     pub fn resolve<E: EntityLookup, F: BrokenLinkCallback<'a>>(
         &mut self,
         leaf: &LeafText<'a>,
@@ -70,6 +71,7 @@ impl<'a> InlineState<'a> {
         ensures whole { OnOk result (AreWhole self.new.slots.items × EndWithin self.new.slots.items) }
         ensures first { OnOk result (self.new.walk.next ≡ 0) }
         ensures footnotes { SameFootnotes footnotes.old footnotes.new }
+        ensures succeeds { text_of leaf.now ≡ [] → IsOk result }
         ensures reads { IsSetOf (shown_options reader.now.options) reader.now.special.now → OnOk result (Resolves F.answers (shown_options reader.now.options) (E.replacement reader.now.entities.now) reader.now.references.now footnotes.old leaf.now self.old.expansion self.new callback.old callback.new) }
     {
         self.clear();
@@ -217,6 +219,7 @@ impl<'a> InlineState<'a> {
         ensures expansion { self.new.expansion ≡ self.old.expansion }
         ensures stands { OnOk result (Stands text.now stop self.new) }
         ensures slots { OnOk result (PushesText here.pending stop self.old.slots.items self.new.slots.items) }
+        ensures succeeds { stop ≤ here.pending → IsOk result }
         ensures others { self.new ≡ record self.old { slots = self.new.slots } }
     {
         push_text(&mut self.slots, here.pending, stop)?;

@@ -21,6 +21,7 @@ pub mod DocumentExamples2
 pub mod DocumentLaws
 pub mod DocumentLeaves
 pub mod FindRests
+pub mod FirstEvents
 pub mod ForwardLaws
 pub mod KindViews
 pub mod LeafCuts
@@ -92,6 +93,7 @@ pub mod TokenLaws
 pub mod TokenOptions
 pub mod TokenPlaces
 pub mod TokenSizes
+pub mod TokenSome
 pub mod WalkLaws
 pub mod WikiGaps
 pub mod WordBytes

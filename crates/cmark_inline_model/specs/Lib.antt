@@ -3,6 +3,7 @@ pub mod CharacterRanges
 pub mod CutRanges
 pub mod Displays
 pub mod Expansion
+pub mod FirstEvents
 pub mod FormedParts
 pub mod LeafGaps
 pub mod LeafModel

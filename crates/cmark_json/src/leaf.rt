@@ -83,8 +83,10 @@ fn attribute_value(
 ) -> Result<Value, AllocError>
     ensures { IfOk result (λ v. view v ≡ attribute_data (shown_attribute attribute.now)) }
 {
-    let value = text_or_null(alloc, &attribute.1)?;
-    json!(in alloc; [attribute.0.as_str(), value])
+    let mut parts = Vec::new(alloc);
+    parts.push(Value::try_from_str(alloc, attribute.0.as_str())?)?;
+    parts.push(text_or_null(alloc, &attribute.1)?)?;
+    Ok(Value::Array(parts))
 }
 
 /// The alignments of a table's columns in an array.

@@ -80,10 +80,14 @@ fn heading_value(
 ) -> Result<Value, AllocError>
     ensures { IfOk result (λ v. view v ≡ named (codes "Heading") (heading (level_number level) (shown_attributes id.now classes.now attrs.now))) }
 {
-    let id = leaf::text_or_null(alloc, id)?;
-    let classes = leaf::texts(alloc, classes)?;
-    let attrs = leaf::attributes(alloc, attrs)?;
-    json!(in alloc; ["Heading", level_value(level), id, classes, attrs])
+    // Each part is pushed as soon as it is made, so that there is one value alone to drop where memory is refused.
+    let mut parts = Vec::new(alloc);
+    parts.push(Value::try_from_str(alloc, "Heading")?)?;
+    parts.push(Value::from(level_value(level)))?;
+    parts.push(leaf::text_or_null(alloc, id)?)?;
+    parts.push(leaf::texts(alloc, classes)?)?;
+    parts.push(leaf::attributes(alloc, attrs)?)?;
+    Ok(Value::Array(parts))
 }
 
 /// The number of a level.

@@ -1,6 +1,6 @@
 //! The text of a leaf.
 
-ghost use Rattle.std.specs.Prelude.{ℕ, ◌≡◌, ◌<◌, ◌≤◌, ◌+◌, ◌-◌, ◌++◌, ◌≢◌, [], length, OnOk, IfOk, IfSome, None, ◌∷◌, string_bytes};
+ghost use Rattle.std.specs.Prelude.{ℕ, ◌≡◌, ◌<◌, ◌≤◌, ◌+◌, ◌-◌, ◌++◌, ◌≢◌, [], length, IsOk, OnOk, IfOk, IfSome, None, ◌∷◌, string_bytes};
 ghost use Rattle.cmark_grammar.specs.Tokens.{slice};
 ghost use Rattle.cmark_leaf_text.specs.Reads.{IsRead, IsPart, IsFirstFrom, is_cell_of, text_of, source_of, place_of};
 ghost use Rattle.std.specs.Str.{IsCharBoundary};
@@ -40,7 +40,7 @@ impl<'a> LeafText<'a> {
     }
 
     /// Takes these lines of the source, in its order, for its text, which may be that of a cell of a table (GFM 4.10). Where memory is
-    /// refused, there is no text until the next call succeeds.
+    /// refused, there is no text until the next call succeeds. No lines, as those of an empty cell, take none.
     pub fn read(&mut self, lines: &[LeafLine], is_cell: bool) -> Result<(), AllocError>
         requires { AreLines (source_of self.old) 0 lines.now }
         ensures read { OnOk result (IsRead self.new) }
@@ -48,6 +48,7 @@ impl<'a> LeafText<'a> {
         ensures places { OnOk result ((k : ℕ) → k < length (text_of self.new) → place_of self.new k ≡ place_on lines.now k) }
         ensures source { source_of self.new ≡ source_of self.old }
         ensures cell { OnOk result (is_cell_of self.new ≡ is_cell) }
+        ensures none { lines.now ≡ [] → IsOk result }
     {
         self.stretches.clear();
         self.push_lines(lines)?;
@@ -191,6 +192,8 @@ impl<'a> LeafText<'a> {
         ensures text { OnOk result (joined (source_of self.old) self.new.stretches.items ≡ leaf_bytes (source_of self.old) lines.now) }
         ensures places { OnOk result (StandAs (source_of self.old) lines.now self.new.stretches.items) }
         ensures source { source_of self.new ≡ source_of self.old }
+        ensures succeeds { lines.now ≡ [] → IsOk result }
+        ensures same { lines.now ≡ [] → self.new ≡ self.old }
     {
         let [first, ..] = lines else {
             return Ok(());

@@ -1,12 +1,12 @@
 -- The definition that a line begins, as the calls on the front of the line find it.
-use Rattle.std.proofs.Common.{◌≡◌, ℕ, suc, ◌+◌, ◌≤◌, min, Bool, true, false, ◌==◌, ◌&&◌, not, List, Option, Some, None, refl, sym, ap, ◌∙◌, arith, eq-eqb, eqb-true}
-use Rattle.std.specs.Prelude.{if◌then◌else◌, nat_le, option_map, unwrap_or, ◌^◌}
+use Rattle.std.proofs.Common.{◌≡◌, ℕ, ◌+◌, ◌≤◌, min, Bool, true, false, ◌&&◌, not, List, Option, Some, None, refl, sym, ap, ◌∙◌, arith, eq-eqb}
+use Rattle.std.specs.Prelude.{if◌then◌else◌, nat_le, option_map, unwrap_or}
 use Rattle.std.proofs.lemmas.Bool.{leb-true, leb-false}
 use Rattle.std.proofs.lemmas.List.{drop-drop}
 use Rattle.std.proofs.lemmas.Option.{same_Some}
 use Rattle.std.specs.Prelude.{IfSome}
 use Rattle.std.specs.Str.{IsCharBoundary}
-use Rattle.cmark_grammar.specs.Containers.{begins_with, behind_marker, padding, width_with, enter}
+use Rattle.cmark_grammar.specs.Containers.{begins_with, behind_marker, width_with, enter}
 use Rattle.cmark_grammar.specs.Options.{Options}
 use Rattle.cmark_grammar.proofs.RowEdges.{definition-good}
 use Rattle.cmark_lines.specs.Rests.{row_of, IsIn}

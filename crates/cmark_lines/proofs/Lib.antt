@@ -1,6 +1,7 @@
 pub mod BoxRows
 pub mod ContainerRows
 pub mod DefinitionRows
+pub mod FirstBytes
 pub mod FootnoteStarts
 pub mod InfoEdges
 pub mod LazyRows

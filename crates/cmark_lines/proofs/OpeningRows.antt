@@ -11,7 +11,7 @@ use Rattle.cmark_grammar.specs.HtmlBlocks.{html_kind}
 use Rattle.cmark_grammar.specs.LinkDefinitions.{label_in, with_label, definition_in, further_bytes, bytes_over}
 use Rattle.cmark_grammar.specs.BlockQuoteKind.{BlockQuoteKind}
 use Rattle.cmark_grammar.specs.Alerts.{alert_in}
-use Rattle.cmark_grammar.specs.Containers.{Container, Quote, Item, begins_with, is_quote, quote_width, item_of, container_with, container_of, enter, with_task, marker_width}
+use Rattle.cmark_grammar.specs.Containers.{Container, Quote, Item, begins_with, is_quote, quote_width, item_of, container_with, container_of, with_task, marker_width}
 use Rattle.cmark_grammar.specs.Openings.{Opening, Blank, Nests, Takes, Plain, AtxHeading, IndentedCode, or_else, nests_if, is_one, item_interrupts, fenced_if, html_if, break_if, heading_if, defined_if, metadata_begun, begins_no_link, text_lines, definition_of, table_if, text_of, leaf_of, whole_opens, opens}
 use Rattle.cmark_grammar.specs.Metadata.{metadata_kind}
 use Rattle.cmark_grammar.specs.TableRows.{table_head}

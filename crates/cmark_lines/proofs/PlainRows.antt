@@ -20,7 +20,7 @@ use Rattle.cmark_lines.specs.Starts.{begun_marked, begins_marker, is_letter_or_p
 use Rattle.cmark_lines.proofs.OpeningRows.{leaf-plain, no-bracket}
 
 -- a letter or a pipe is no other byte
-apart : (b k : ℕ) → is_letter_or_pipe b ≡ true → is_letter_or_pipe k ≡ false → (b == k) ≡ false
+pub apart : (b k : ℕ) → is_letter_or_pipe b ≡ true → is_letter_or_pipe k ≡ false → (b == k) ≡ false
 apart b k l n = go (b == k) refl
   where
     same : (b k : ℕ) → (b == k) ≡ true → b ≡ k
@@ -41,7 +41,7 @@ no-pipe b l = go (b == 124) refl
     go true e = absurd (true≢false (sym l ∙ ap is_letter (same b e)))
     go false e = refl
 
-letter-or : (b : ℕ) → is_letter b ≡ true → is_letter_or_pipe b ≡ true
+pub letter-or : (b : ℕ) → is_letter b ≡ true → is_letter_or_pipe b ≡ true
 letter-or b l = ap (λ z. z || (b == 124)) l
 
 first-or : (bs : List ℕ) → first_is is_letter bs ≡ true → first_is is_letter_or_pipe bs ≡ true
@@ -52,7 +52,7 @@ and-false : (z : Bool) → (z && false) ≡ false
 and-false true = refl
 and-false false = refl
 
-digit-none : (b : ℕ) → is_letter_or_pipe b ≡ true → is_digit b ≡ false
+pub digit-none : (b : ℕ) → is_letter_or_pipe b ≡ true → is_digit b ≡ false
 digit-none b l = go (is_digit b) refl
   where
     no-letter : (b : ℕ) → is_digit b ≡ true → is_letter b ≡ false
@@ -123,7 +123,7 @@ module _ (b : ℕ) (bs : List ℕ) (letter : is_letter_or_pipe b ≡ true) where
   no-html : html_kind (b ∷ bs) ≡ None
   no-html = ap (λ z. if z then kind_behind bs else None) (apart b 60 letter refl)
 
-  no-bullet : is_bullet b ≡ false
+  pub no-bullet : is_bullet b ≡ false
   no-bullet = ap (λ z. z || ((b == 43) || (b == 42))) (apart b 45 letter refl) ∙ ap (λ z. z || (b == 42)) (apart b 43 letter refl) ∙ apart b 42 letter refl
 
   no-marker : marker_of (b ∷ bs) ≡ None

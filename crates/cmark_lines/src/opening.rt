@@ -1,13 +1,17 @@
 //! What a line begins (CommonMark 3 to 5).
 
-ghost use Rattle.std.specs.Prelude.{◌≡◌, ◌&&◌, not, ℕ, List};
+ghost use Rattle.std.specs.Prelude.{◌≡◌, ◌&&◌, not, ℕ, List, IfSome, option_map};
 ghost use Rattle.cmark_grammar.specs.Footnotes.{footnotes_in, is_footnote_label};
 ghost use Rattle.cmark_grammar.specs.Rows.{Row, words_of, indent_of};
 ghost use Rattle.cmark_grammar.specs.Containers.{begins_with};
 ghost use Rattle.cmark_grammar.specs.Metadata.{metadata_kind};
 ghost use Rattle.cmark_grammar.specs.Openings.{opens, or_else, metadata_begun, leaf_of, begins_no_link};
 ghost use Rattle.cmark_lines.specs.Rests.{row_of, CutsNoCharacter, IsIn};
-ghost use Rattle.cmark_text.specs.Shown.{shown_options};
+ghost use Rattle.cmark_text.specs.Shown.{shown_options, level_number};
+ghost use Rattle.cmark_grammar.specs.HtmlBlocks.{html_kind};
+ghost use Rattle.cmark_grammar.specs.Leaves.{is_thematic_break, fence_of};
+ghost use Rattle.cmark_scan.specs.HtmlLines.{kind_number};
+ghost use Rattle.cmark_scan.specs.LeafLines.{atx_level, shown_fence, HasPlace};
 ghost use Rattle.cmark_lines.specs.Opened.{opened, HasInside, IsMarked, InsideIsShorter, HasInfo, HasBracket, InsideIsIn, InfoIsIn};
 
 use crate::container::{ContainerStart, container_start};
@@ -66,10 +70,14 @@ pub fn what_opens<'a>(rest: LineRest<'a>, options: Options) -> Opening<'a>
     if indent == 4 {
         return Opening::IndentedCode;
     }
+    let words = rest.words();
+    if begins_with_letter(words) {
+        return Opening::Plain;
+    }
     if let Some(start) = container_start(rest, options) {
         return Opening::Nests(start);
     }
-    leaf_opening(rest.words(), indent, options)
+    leaf_opening(words, indent, options)
 }
 
 /// What the words of a line begin, indented by so many columns, where they begin no container.
@@ -83,25 +91,66 @@ fn leaf_opening<'a>(words: &[u8], indent: usize, options: Options) -> Opening<'a
     ensures placed { (text : List ℕ) → InsideIsIn text result }
     ensures info_placed { (text : List ℕ) (r : Row) → words_of r ≡ words.now → CutsNoCharacter text r → InfoIsIn text result r }
 {
-    if begins_with_letter(words) {
-        return Opening::Plain;
+    if may_begin_link(words, options) {
+        return Opening::Bracket;
     }
-    if let Some(kind) = html_kind(words) {
+    if let Some(kind) = html_in(words) {
         return Opening::Html(kind);
     }
-    if scan_hrule(words) {
+    if is_break(words) {
         return Opening::ThematicBreak;
     }
-    if let Some(level) = scan_atx_heading(words) {
+    if let Some(level) = heading_in(words) {
         return Opening::AtxHeading(level);
     }
-    if let Some(fence) = scan_code_fence(words) {
+    if let Some(fence) = fence_in(words) {
         return Opening::FencedCode { indent, fence };
     }
-    if may_begin_link(words, options) {
-        Opening::Bracket
-    } else {
-        Opening::Plain
+    Opening::Plain
+}
+
+/// The kind of the HTML block that the words of a line begin, if they begin one.
+#[inline(always)]
+fn html_in(words: &[u8]) -> Option<HtmlKind>
+    ensures { option_map kind_number result ≡ html_kind words.now }
+{
+    match words {
+        [b'<', ..] => html_kind(words),
+        _ => None,
+    }
+}
+
+/// Whether the words of a line are a thematic break.
+#[inline(always)]
+fn is_break(words: &[u8]) -> bool
+    ensures { result ≡ is_thematic_break words.now }
+{
+    match words {
+        [b'*' | b'-' | b'_' | b' ' | b'\t', ..] => scan_hrule(words),
+        _ => false,
+    }
+}
+
+/// The level of the ATX heading that the words of a line are, if they are one.
+#[inline(always)]
+fn heading_in(words: &[u8]) -> Option<HeadingLevel>
+    ensures { option_map level_number result ≡ atx_level words.now }
+{
+    match words {
+        [b'#', ..] => scan_atx_heading(words),
+        _ => None,
+    }
+}
+
+/// The code fence that the words of a line are, if they open a code block.
+#[inline(always)]
+fn fence_in(words: &[u8]) -> Option<CodeFence>
+    ensures fence { (indent : ℕ) → option_map (shown_fence indent words.now) result ≡ fence_of indent words.now }
+    ensures place { IfSome result (HasPlace words.now) }
+{
+    match words {
+        [b'`' | b'~', ..] => scan_code_fence(words),
+        _ => None,
     }
 }
 

@@ -7,46 +7,39 @@ use Rattle.cmark_grammar.specs.Footnotes.{footnotes_in}
 use Rattle.cmark_grammar.specs.Openings.{begins_no_link}
 use Rattle.cmark_text.specs.Shown.{level_number, shown_options}
 use Rattle.cmark_scan.specs.LeafLines.{atx_level}
+use Rattle.cmark_lines.proofs.FirstBytes.{bracket-leaf}
 use Rattle.cmark_lines.proofs.InfoEdges.{info-stands}
-use Rattle.cmark_grammar.specs.Letters.{is_letter, first_is}
-use Rattle.cmark_lines.proofs.OpeningRows.{leaf-heading, leaf-text, leaf-plain, no-link, link-read}
-use Rattle.cmark_lines.proofs.PlainRows.{letter-leaf}
+use Rattle.cmark_lines.proofs.OpeningRows.{leaf-heading, leaf-plain, no-link, link-read}
 use Rattle.cmark_lines.proofs.opening.leaf_opening.Goals as goal
 
-pub returns-then-begins_with_letter-clause-opens : goal.returns-then-begins_with_letter-clause-opens
-returns-then-begins_with_letter-clause-opens c r ahead words indent =
-    letter-leaf (shown_options c.args.options) r ahead (ap (first_is is_letter) words ∙ sym c.begins_with_letter.ensures ∙ c.if-begins_with_letter.true)
-
-pub returns-in-Some-scan_atx_heading-clause-opens : goal.returns-in-Some-scan_atx_heading-clause-opens
-returns-in-Some-scan_atx_heading-clause-opens c r ahead words indent =
-    leaf-heading (shown_options c.args.options) r ahead (level_number c.in-Some-scan_atx_heading.level) (ap html_kind words ∙ sym c.in_default.ensures)
-    (ap is_thematic_break words ∙ sym c.if-scan_hrule.ensures) (c.in-Some-scan_atx_heading.ensures ∙ sym (ap atx_level words))
+both : (x y : Bool) → (x && y) ≡ true → x ≡ true
+both true y e = refl
+both false y e = e
 
 pub returns-then-may_begin_link-clause-opens : goal.returns-then-may_begin_link-clause-opens
 returns-then-may_begin_link-clause-opens c r ahead words indent =
     let options = shown_options c.args.options in
-    leaf-text options r ahead (ap html_kind words ∙ sym c.in_default.ensures) (ap is_thematic_break words ∙ sym c.if-scan_hrule.ensures)
-    (c.in_default-scan_atx_heading.ensures ∙ sym (ap atx_level words))
-    (c.in_default-scan_code_fence.ensures.fence c.args.indent ∙ ap (fence_of c.args.indent) (sym words) ∙ ap (λ n. fence_of n (words_of r)) (sym indent))
-    ∙ link-read options r ahead (ap (λ ws. begins_with 91 ws && not (begins_no_link (footnotes_in options) ws)) words ∙ sym c.if-may_begin_link.ensures)
+    let read = ap (λ ws. begins_with 91 ws && not (begins_no_link (footnotes_in options) ws)) words ∙ sym c.may_begin_link.ensures ∙ c.if-may_begin_link.true in
+    bracket-leaf options r ahead (both (begins_with 91 (words_of r)) _ read) ∙ link-read options r ahead read
 
 pub returns-then-may_begin_link-clause-bracket : goal.returns-then-may_begin_link-clause-bracket
 returns-then-may_begin_link-clause-bracket c r words =
-    both (begins_with 91 (words_of r)) _ (ap (λ ws. begins_with 91 ws && not (begins_no_link (footnotes_in (shown_options c.args.options)) ws)) words ∙ sym c.if-may_begin_link.ensures)
-  where
-    both : (x y : Bool) → (x && y) ≡ true → x ≡ true
-    both true y e = refl
-    both false y e = e
+    both (begins_with 91 (words_of r)) _ (ap (λ ws. begins_with 91 ws && not (begins_no_link (footnotes_in (shown_options c.args.options)) ws)) words ∙ sym c.may_begin_link.ensures ∙ c.if-may_begin_link.true)
 
-pub returns-else-may_begin_link-clause-opens : goal.returns-else-may_begin_link-clause-opens
-returns-else-may_begin_link-clause-opens c r ahead words indent =
+pub returns-in-Some-heading_in-clause-opens : goal.returns-in-Some-heading_in-clause-opens
+returns-in-Some-heading_in-clause-opens c r ahead words indent =
+    leaf-heading (shown_options c.args.options) r ahead (level_number c.in-Some-heading_in.level) (ap html_kind words ∙ sym c.in_default.ensures)
+    (ap is_thematic_break words ∙ sym c.if-is_break.ensures) (c.in-Some-heading_in.ensures ∙ sym (ap atx_level words))
+
+pub returns-clause-opens : goal.returns-clause-opens
+returns-clause-opens c r ahead words indent =
     let options = shown_options c.args.options in
-    leaf-plain options r ahead (ap html_kind words ∙ sym c.in_default.ensures) (ap is_thematic_break words ∙ sym c.if-scan_hrule.ensures)
-    (c.in_default-scan_atx_heading.ensures ∙ sym (ap atx_level words))
-    (c.in_default-scan_code_fence.ensures.fence c.args.indent ∙ ap (fence_of c.args.indent) (sym words) ∙ ap (λ n. fence_of n (words_of r)) (sym indent))
+    leaf-plain options r ahead (ap html_kind words ∙ sym c.in_default.ensures) (ap is_thematic_break words ∙ sym c.if-is_break.ensures)
+    (c.in_default-heading_in.ensures ∙ sym (ap atx_level words))
+    (c.in_default-fence_in.ensures.fence c.args.indent ∙ ap (fence_of c.args.indent) (sym words) ∙ ap (λ n. fence_of n (words_of r)) (sym indent))
     (no-link options r ahead (ap (λ ws. begins_with 91 ws && not (begins_no_link (footnotes_in options) ws)) words ∙ sym c.if-may_begin_link.ensures))
 
-pub returns-in-Some-scan_code_fence-clause-info_placed : goal.returns-in-Some-scan_code_fence-clause-info_placed
-returns-in-Some-scan_code_fence-clause-info_placed c text r words good =
-    let found = c.in-Some-scan_code_fence in
+pub returns-in-Some-fence_in-clause-info_placed : goal.returns-in-Some-fence_in-clause-info_placed
+returns-in-Some-fence_in-clause-info_placed c text r words good =
+    let found = c.in-Some-fence_in in
     info-stands text 0 c.args.words.now r found.fence words (found.ensures.fence 0) found.ensures.place good

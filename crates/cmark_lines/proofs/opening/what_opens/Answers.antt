@@ -6,6 +6,9 @@ use Rattle.cmark_grammar.specs.Metadata.{metadata_kind}
 use Rattle.cmark_lines.specs.Rests.{row_of}
 use Rattle.cmark_lines.specs.Starts.{shown_start, inside_of}
 use Rattle.cmark_lines.proofs.RestSteps.{whole}
+use Rattle.cmark_grammar.specs.Letters.{is_letter, first_is}
+use Rattle.cmark_lines.proofs.FirstBytes.{letter-container}
+use Rattle.cmark_lines.proofs.PlainRows.{letter-leaf}
 use Rattle.cmark_lines.proofs.OpeningRows.{opens-blank, opens-code, opens-shallow, none_ahead, begun-in, begun-shorter}
 use Rattle.cmark_lines.proofs.opening.what_opens.Goals as goal
 
@@ -17,6 +20,17 @@ returns-then-indent-eq4-clause-opens c ahead =
     let count = c.indent_upto-indent.ensures in
     let four = c.if-indent-eq4.true in
     opens-code (shown_options c.args.options) (row_of c.args.rest) ahead (whole c.args.rest) (sym c.if-is_blank.ensures) (omega (arith, count, four))
+
+pub returns-then-begins_with_letter-clause-opens : goal.returns-then-begins_with_letter-clause-opens
+returns-then-begins_with_letter-clause-opens c ahead =
+    let count = c.indent_upto-indent.ensures in
+    let other = c.if-indent-eq4.false in
+    let options = shown_options c.args.options in
+    let row = row_of c.args.rest in
+    let letter = ap (first_is is_letter) (sym c.words-words.ensures) ∙ sym c.begins_with_letter.ensures ∙ c.if-begins_with_letter.true in
+    opens-shallow options row ahead (whole c.args.rest) (sym c.if-is_blank.ensures) (omega (arith, count, other))
+    ∙ ap (λ o. or_else (metadata_begun (metadata_kind options row) ahead) (or_else (nests_if o) (leaf_of options row ahead))) (letter-container options row letter)
+    ∙ ap (or_else (metadata_begun (metadata_kind options row) ahead)) (letter-leaf options row ahead letter)
 
 pub returns-in-Some-clause-opens : goal.returns-in-Some-clause-opens
 returns-in-Some-clause-opens c ahead =
@@ -49,7 +63,7 @@ returns-clause-opens c ahead =
     let le : indent_of row ≤ 3 = omega (arith, count, other) in
     opens-shallow (shown_options c.args.options) row ahead (whole c.args.rest) (sym c.if-is_blank.ensures) le
     ∙ ap (λ o. or_else (metadata_begun (metadata_kind (shown_options c.args.options) row) ahead) (or_else (nests_if o) (leaf_of (shown_options c.args.options) row ahead))) (sym (c.in_default.ensures.container))
-    ∙ ap (or_else (metadata_begun (metadata_kind (shown_options c.args.options) row) ahead)) (c.leaf_opening.ensures.opens row ahead (sym c.words.ensures) (omega (arith, count, le)))
+    ∙ ap (or_else (metadata_begun (metadata_kind (shown_options c.args.options) row) ahead)) (c.leaf_opening.ensures.opens row ahead (sym c.words-words.ensures) (omega (arith, count, le)))
 
 pub returns-clause-placed : goal.returns-clause-placed
 returns-clause-placed c text placed = c.leaf_opening.ensures.placed text

@@ -1,19 +1,16 @@
-use Rattle.std.proofs.Common.{◌≡◌, ◌≤◌, true, false, ◌||◌, length, map, option_map, sym, ap, subst, ◌∙◌, arith, true≢false}
-use Rattle.cmark_grammar.specs.Openings.{interrupts}
+use Rattle.std.proofs.Common.{true, ◌||◌, map, sym, ap, subst, ◌∙◌}
 use Rattle.cmark_grammar.specs.DefinitionLists.{begins_definition}
 use Rattle.cmark_blocks.specs.TablesAhead.{block_interrupts}
-use Rattle.cmark_text.specs.Shown.{level_number}
 use Rattle.cmark_lines.specs.Rests.{row_of}
 use Rattle.cmark_lines.proofs.PlainRows.{letter-interrupts-not, letter-table-not, letter-underlines-not}
 use Rattle.cmark_blocks.proofs.DefinitionRows.{letter-definition-not}
 use Rattle.cmark_lines.proofs.RestSteps.{whole}
-use Rattle.cmark_block_model.specs.BlockPass.{ahead_in}
+use Rattle.cmark_block_model.specs.BlockPass.{ahead_in, leaf_closed}
 use Rattle.cmark_blocks.specs.Ahead.{lines_at}
 use Rattle.cmark_blocks.specs.Runs.{Runs}
-use Rattle.cmark_blocks.proofs.FeedSteps.{in_paragraph, feeds-underline, feeds-interrupted, feeds-text, or-first, or-second}
-use Rattle.cmark_blocks.proofs.InsideSteps.{told-inside}
+use Rattle.cmark_blocks.proofs.FeedSteps.{in_paragraph, feeds-interrupted, feeds-text}
+use Rattle.cmark_blocks.proofs.LineSteps.{begins-blank, blank-underlines-not, blank-interrupts}
 use Rattle.cmark_blocks.proofs.state.Pass.feed_paragraph.Goals as goal
-use Rattle.cmark_blocks.proofs.state.Pass.feed_paragraph.Goals.{then-interrupts, else-interrupts}
 
 pub returns-then-begins_with_letter-clause-runs : goal.returns-then-begins_with_letter-clause-runs
 returns-then-begins_with_letter-clause-runs g c text options lookup m runs =
@@ -26,48 +23,16 @@ returns-then-begins_with_letter-clause-runs g c text options lookup m runs =
     ∙ ap (λ z. z || begins_definition options row) (letter-table-not options row (ahead_in text options lookup m.outer (lines_at text row.past)) letter) ∙ letter-definition-not options row letter)) (in_paragraph replacement text options lookup m c.args.self.now runs c.args.from c.args.last c.requires.is)))
     (c.in_ok-add_to_paragraph.ensures.runs text options lookup m runs)
 
-pub returns-in-Some-clause-runs : goal.returns-in-Some-clause-runs
-returns-in-Some-clause-runs g c text options lookup m runs =
-    let replacement = g.E.EntityLookup.replacement in
-    let row = row_of c.args.rest in
-    subst (λ p. Runs replacement text options lookup p c.underline.new.self)
-    (sym (feeds-underline text options lookup row (lines_at text row.past) m (map row_of c.args.self.now.blank_lines.items) c.args.from (row_of c.args.last) (level_number c.in-Some.level) (ap (option_map level_number) (sym c.in-Some.is) ∙ c.underlines.ensures) (in_paragraph replacement text options lookup m c.args.self.now runs c.args.from c.args.last c.requires.is)))
-    (c.in_ok-underline.ensures.runs text options lookup m runs)
-
-pub returns-in_ok-begin_anew-clause-runs : goal.returns-in_ok-begin_anew-clause-runs
-returns-in_ok-begin_anew-clause-runs g c text options lookup m runs =
+pub returns-then-is_blank-clause-runs : goal.returns-then-is_blank-clause-runs
+returns-then-is_blank-clause-runs g c text options lookup m runs =
     let replacement = g.E.EntityLookup.replacement in
     let row = row_of c.args.rest in
     let next = lines_at text row.past in
-    let ahead = ahead_in text options lookup m.outer next in
-    let cs = c.args.self.now.outer.items in
-    let ends : true ≡ (interrupts options true row ahead || block_interrupts options true row ahead) = elim c.if-interrupts.branch [
-      | then-interrupts w ↦ or-first (interrupts options true row ahead) (block_interrupts options true row ahead) (sym (c.interrupts.ensures ahead ∙ ap (λ o. interrupts o true row ahead) runs.options_is) ∙ w.if-interrupts.true)
-      | else-interrupts w ↦
-          (let all : length cs ≤ w.len.result = omega (arith, w.len.ensures, c.args.self.now.outer.ok.0) in
-          or-second (interrupts options true row ahead) (block_interrupts options true row ahead) true (sym (c.interrupts.ensures ahead ∙ ap (λ o. interrupts o true row ahead) runs.options_is) ∙ w.if-interrupts.false)
-          (sym c.if-block_interrupts.true ∙ w.value-is ∙ told-inside text options lookup cs m.outer w.len.result row next w.block_interrupts.result runs.outer all (w.block_interrupts.ensures text options lookup m runs)))
-    ] in
-    subst (λ p. Runs replacement text options lookup p c.begin_anew.new.self)
-    (sym (feeds-interrupted text options lookup row next m (map row_of c.args.self.now.blank_lines.items) c.args.from (row_of c.args.last) (ap (option_map level_number) (sym c.in_default.is) ∙ c.underlines.ensures) (whole c.args.rest)
-    ends (in_paragraph replacement text options lookup m c.args.self.now runs c.args.from c.args.last c.requires.is)))
-    (c.in_ok-begin_anew.ensures.runs text options lookup m runs)
-
-pub returns-in_ok-add_to_paragraph-2-clause-runs : goal.returns-in_ok-add_to_paragraph-2-clause-runs
-returns-in_ok-add_to_paragraph-2-clause-runs g c text options lookup m runs =
-    let replacement = g.E.EntityLookup.replacement in
-    let row = row_of c.args.rest in
-    let next = lines_at text row.past in
-    let ahead = ahead_in text options lookup m.outer next in
-    let cs = c.args.self.now.outer.items in
-    let goes_on : false ≡ (interrupts options true row ahead || block_interrupts options true row ahead) = elim c.if-interrupts.branch [
-      | then-interrupts w ↦ absurd (true≢false (sym w.if-interrupts.true ∙ sym w.value-is ∙ c.if-block_interrupts.false))
-      | else-interrupts w ↦
-          (let all : length cs ≤ w.len.result = omega (arith, w.len.ensures, c.args.self.now.outer.ok.0) in
-          or-second (interrupts options true row ahead) (block_interrupts options true row ahead) false (sym (c.interrupts.ensures ahead ∙ ap (λ o. interrupts o true row ahead) runs.options_is) ∙ w.if-interrupts.false)
-          (sym c.if-block_interrupts.false ∙ w.value-is ∙ told-inside text options lookup cs m.outer w.len.result row next w.block_interrupts.result runs.outer all (w.block_interrupts.ensures text options lookup m runs)))
-    ] in
-    subst (λ p. Runs replacement text options lookup p c.add_to_paragraph-else-block_interrupts.new.self)
-    (sym (feeds-text text options lookup row next m (map row_of c.args.self.now.blank_lines.items) c.args.from (row_of c.args.last) (ap (option_map level_number) (sym c.in_default.is) ∙ c.underlines.ensures) (whole c.args.rest)
-    goes_on (in_paragraph replacement text options lookup m c.args.self.now runs c.args.from c.args.last c.requires.is)))
-    (c.in_ok-add_to_paragraph-2.ensures.runs text options lookup m runs)
+    let blank = sym c.is_blank.ensures ∙ c.if-is_blank.true in
+    let closed = c.in_ok-close_leaf.ensures.runs text options lookup m runs in
+    subst (λ p. Runs replacement text options lookup p c.pass_blank_line.new.self)
+    (sym (feeds-interrupted text options lookup row next m (map row_of c.args.self.now.blank_lines.items) c.args.from (row_of c.args.last) (sym (blank-underlines-not row blank)) (whole c.args.rest)
+    (sym (ap (λ z. z || block_interrupts options true row (ahead_in text options lookup m.outer next)) (blank-interrupts options row (ahead_in text options lookup m.outer next) blank)))
+    (in_paragraph replacement text options lookup m c.args.self.now runs c.args.from c.args.last c.requires.is)
+    ∙ begins-blank text options lookup row next (leaf_closed text options lookup m) (whole c.args.rest) blank))
+    (c.pass_blank_line.ensures.runs text options lookup (leaf_closed text options lookup m) closed)

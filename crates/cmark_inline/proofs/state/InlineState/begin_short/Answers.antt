@@ -4,6 +4,7 @@ use Rattle.cmark_text.specs.declared.short.Short.TheVariants as short
 use Rattle.cmark_inline.specs.Shorts.{GivesShort}
 use Rattle.cmark_inline.proofs.ShortFirst.{begin-short-now, begin-some}
 use Rattle.cmark_inline.proofs.ShortSteps.{begin-gives}
+use Rattle.cmark_inline.proofs.NoEnds.{begin-no-end, on-err}
 use Rattle.cmark_inline.proofs.state.InlineState.begin_short.Goals as goal
 
 pub returns-clause-gives : goal.returns-clause-gives
@@ -22,3 +23,7 @@ returns-clause-first c = λ texts links behind.
     let opened = c.args.self.now.walk.opened.items in
     begin-short-now leaf texts links c.args.slot behind opened c.push.new.self.items c.in-Some.tag c.in-Some.end c.args.element c.range-range.result.start c.range-range.result.end c.requires.read c.requires.slot.part c.requires.is
     c.in-Some.ensures.value c.in-Some.ensures.span c.in-Some.ensures.end c.range-range.ensures.start c.range-range.ensures.end c.in_ok-push.ensures.items
+
+pub returns-in_err-push-clause-ends : goal.returns-in_err-push-clause-ends
+returns-in_err-push-clause-ends c =
+    on-err c.from_residual.result _ (λ texts links behind. begin-no-end c.args.leaf.now texts links c.args.slot behind c.args.self.now.walk.opened.items c.args.element c.requires.is)

@@ -3,6 +3,8 @@ use Rattle.cmark_leaf_text.specs.Reads.{source_of}
 use Rattle.cmark_inline.specs.SlotViews.{IsThere, KeepsOthers, link_named, text_named}
 use Rattle.cmark_inline.specs.declared.slot.SlotKind.{SlotKind}
 use Rattle.cmark_inline.proofs.SlotViews.{begin-first, keeps-all, keeps-same, left-behind, passes-ended, single-first}
+use Rattle.cmark_inline.proofs.NoEnds.{begin-no-end, on-err, single-no-end}
+use Rattle.cmark_inline.proofs.ShortFirst.{alone}
 use Rattle.cmark_inline.proofs.state.InlineState.give.Goals as goal
 
 pub returns-in_ok-given-in-Begin-clause-events : goal.returns-in_ok-given-in-Begin-clause-events
@@ -70,3 +72,14 @@ returns-in_ok-event-in_default-clause-left c = λ behind h.
 
 pub begin-requires-clause-link : goal.begin-requires-clause-link
 begin-requires-clause-link c = subst (λ (k : SlotKind). IsThere (length c.args.self.now.links.items) (link_named k)) c.in-Begin.is c.requires.link
+
+pub returns-in_err-given-in-Begin-clause-ends : goal.returns-in_err-given-in-Begin-clause-ends
+returns-in_err-given-in-Begin-clause-ends c =
+    let s = c.args.self.now in
+    on-err c.from_residual.result _ (λ behind. begin-no-end c.args.leaf.now s.texts.items s.links.items c.args.slot behind s.walk.opened.items c.in-Begin.element c.in-Begin.is)
+
+pub returns-in_err-event-in_default-clause-ends : goal.returns-in_err-event-in_default-clause-ends
+returns-in_err-event-in_default-clause-ends c =
+    let s = c.args.self.now in
+    on-err c.from_residual-in_err-event-in_default.result _
+    (λ behind. single-no-end c.args.leaf.now s.texts.items s.links.items c.args.slot behind s.walk.opened.items (alone c.args.slot.kind c.in_default.not-Begin c.in_default.not-End c.in_default.not-Nothing))

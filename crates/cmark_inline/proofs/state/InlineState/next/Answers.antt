@@ -5,6 +5,8 @@ use Rattle.cmark_inline.specs.Opens.{Passes}
 use Rattle.cmark_inline.specs.SlotViews.{events_of, events_to_come, with_given}
 use Rattle.cmark_inline.specs.Stands.{AreOpened}
 use Rattle.cmark_inline.proofs.SlotViews.{events-behind, events-last, first-before, left-last, left-next, named-there}
+use Rattle.cmark_inline_model.specs.FirstEvents.{BeginWithoutEnd}
+use Rattle.cmark_inline.proofs.NoEnds.{here-no-end, on-err}
 use Rattle.cmark_inline.proofs.state.InlineState.next.Goals as goal
 
 pub loop-self-init : goal.loop-self-init
@@ -103,3 +105,14 @@ give-requires-clause-link c =
     let n = c.len.ensures in
     let lt : old.walk.next < length old.slots.items = omega (arith, t, n) in
     (named-there c.args.leaf.now old.texts.items old.links.items old.slots.items old.walk.next c.index-slot.result.now lt c.index-slot.ensures c.loop-self.invariant.4).1
+
+pub returns-in_err-given-clause-ends : goal.returns-in_err-given-clause-ends
+returns-in_err-given-clause-ends c =
+    let leaf = c.args.leaf.now in
+    let i = c.loop-self.invariant in
+    let old = c.loop-self.self in
+    let t = c.loop-self-test.true in
+    let n = c.len.ensures in
+    let lt : old.walk.next < length old.slots.items = omega (arith, t, n) in
+    on-err c.from_residual.result _
+    (subst BeginWithoutEnd (sym i.3) (here-no-end leaf old.texts.items old.links.items old.slots.items old.walk.opened.items old.walk.next c.index-slot.result.now lt c.index-slot.ensures c.in_err-given.ensures.ends))

@@ -6,6 +6,8 @@ use Rattle.cmark_inline.specs.Stands.{AreOpened}
 use Rattle.cmark_inline.specs.Shorts.{IfShort, StandsFor}
 use Rattle.cmark_inline.proofs.ShortFirst.{stands-at}
 use Rattle.cmark_inline.proofs.ShortSteps.{any-slot}
+use Rattle.cmark_inline_model.specs.FirstEvents.{BeginWithoutEnd}
+use Rattle.cmark_inline.proofs.NoEnds.{here-no-end, on-err}
 use Rattle.cmark_inline.proofs.state.InlineState.next_short.Goals as goal
 
 pub returns-clause-opened : goal.returns-clause-opened
@@ -66,3 +68,15 @@ returns-in-Long-clause-expansion c = c.give_short.ensures.expansion ∙ c.loop-s
 
 pub returns-in_err-short-clause-expansion : goal.returns-in_err-short-clause-expansion
 returns-in_err-short-clause-expansion c = c.give_short.ensures.expansion ∙ c.loop-self.invariant.6
+
+pub returns-in_err-short-clause-ends : goal.returns-in_err-short-clause-ends
+returns-in_err-short-clause-ends c =
+    let i = c.loop-self.invariant in
+    let old = c.loop-self.self in
+    let t = c.loop-self-test.true in
+    let n = c.len.ensures in
+    let lt : old.walk.next < length old.slots.items = omega (arith, t, n) in
+    on-err c.from_residual.result _
+    (subst BeginWithoutEnd (sym i.5)
+    (here-no-end c.args.leaf.now old.texts.items old.links.items old.slots.items old.walk.opened.items old.walk.next c.index-slot.result.now lt c.index-slot.ensures
+    (c.in_err-short.ensures.ends old.texts.items old.links.items)))

@@ -1,5 +1,5 @@
 use Rattle.std.specs.Prelude.{map}
-use Rattle.std.proofs.Common.{rules, ◌≡◌, ◌≤◌, ℕ, List, [], drop, get_or, length, refl, sym, ap, ◌∙◌, subst, arith}
+use Rattle.std.proofs.Common.{rules, ◌≡◌, ◌≤◌, ℕ, List, [], drop, get_or, length, refl, sym, ap, ◌∙◌, subst, arith, true≢false}
 use Rattle.std.proofs.lemmas.Str.{IsCharBoundary-start}
 use Rattle.cmark_grammar.specs.EmphasisModel.{pairs_of, spans_of}
 use Rattle.cmark_grammar.proofs.EmphasisSound.{sound as emphasis}
@@ -30,7 +30,7 @@ use Rattle.cmark_inline.proofs.state.InlineState.resolve.Goals as goal
 pub loop-cursor-init : goal.loop-cursor-init
 loop-cursor-init g c =
     let b = IsCharBoundary-start c.as_str-text.result.now c.as_str-text.utf8 in
-    (c.clear.ensures.stands c.as_str-text.result.now, record { pending = b; at = b; ordered = omega arith }, refl, (λ none. (refl, none)), search rules, c.none.ensures c.args.leaf.now 0, search rules, (λ folded. refl), c.clear.ensures.sound, subst (AreEnded c.args.leaf.now) (sym c.clear.ensures.slots) (λ k d lt. absurd (omega (arith, lt))), λ set. begin-comes g.F.BrokenLinkCallback.answers (shown_options c.args.reader.now.options) (g.E.EntityLookup.replacement c.args.reader.now.entities.now) c.args.reader.now.references.now c.args.footnotes.now c.args.leaf.now c.args.callback.now c.clear.new.self c.clear.ensures.cleared)
+    (c.clear.ensures.stands c.as_str-text.result.now, record { pending = b; at = b; ordered = omega arith }, refl, (λ none. (refl, none)), search rules, c.none.ensures c.args.leaf.now 0, search rules, (λ folded. refl), c.clear.ensures.sound, subst (AreEnded c.args.leaf.now) (sym c.clear.ensures.slots) (λ k d lt. absurd (omega (arith, lt))), λ set. begin-comes g.F.BrokenLinkCallback.answers (shown_options c.args.reader.now.options) (g.E.EntityLookup.replacement c.args.reader.now.entities.now) c.args.reader.now.references.now c.args.footnotes.now c.args.leaf.now c.args.callback.now c.clear.new.self c.clear.ensures.cleared, λ none. (refl, c.clear.ensures.cleared.quotes, c.clear.ensures.cleared.runs))
 
 pub returns-clause-slots : goal.returns-clause-slots
 returns-clause-slots g c =
@@ -57,6 +57,7 @@ loop-cursor-preserved g c =
       c.in_ok-cursor.ensures.ends i.9,
       (λ set. comes-further g.F.BrokenLinkCallback.answers (shown_options c.args.reader.now.options) (g.E.EntityLookup.replacement c.args.reader.now.entities.now) c.args.reader.now.references.now c.args.footnotes.now c.loop-cursor.footnotes c.args.leaf.now c.clear.new.self.expansion c.args.callback.now
           c.loop-cursor.cursor c.in_ok-cursor.cursor c.loop-cursor.self c.step.new.self c.loop-cursor.callback c.step.new.callback i.7 (i.10 set) (c.in_ok-cursor.ensures.come set) i.9),
+      (λ none. absurd (let size = ap length none in let more = c.loop-cursor-test.true in let d : ⊥ = omega (arith, size, more) in d)),
     )
 
 pub returns-in_err-cursor-clause-asks : goal.returns-in_err-cursor-clause-asks
@@ -161,3 +162,24 @@ resolve-requires-2-clause-whole g c =
     let sound : IsSound mid = (keeps-pending c.loop-cursor.self mid c.in_ok-flush.ensures.others c.loop-cursor.cursor.pending _ c.in_ok-flush.ensures.slots).sound c.loop-cursor.invariant.8 in
     let can = sound-settles-all (length mid.texts.items) (length mid.links.items) mid.slots.items mid.delimiters.placed.items mid.quotes.placed.items mid.brackets.standing.items mid.doubled.standing.items sound in
     subst AreWhole (sym c.in_ok-resolve.ensures.value) (letters-settle 0 mid.slots.items runs quotes can (characters_of quotes)).0
+
+pub returns-in_err-cursor-clause-succeeds : goal.returns-in_err-cursor-clause-succeeds
+returns-in_err-cursor-clause-succeeds g c = λ none. absurd (let size = ap length (c.as_str-text.ensures ∙ none) in let more = c.loop-cursor-test.true in let d : ⊥ = omega (arith, size, more) in d)
+
+pub returns-in_err-flush-clause-succeeds : goal.returns-in_err-flush-clause-succeeds
+returns-in_err-flush-clause-succeeds g c = λ none.
+    let text : List ℕ = c.as_str-text.result.now in
+    let size : length text ≡ 0 = ap length (c.as_str-text.ensures ∙ none) in
+    absurd (true≢false (sym (c.in_err-flush.ensures.succeeds (omega (arith, size)))))
+
+pub returns-in_err-resolve-clause-succeeds : goal.returns-in_err-resolve-clause-succeeds
+returns-in_err-resolve-clause-succeeds g c = λ none.
+    let i = c.loop-cursor.invariant.11 (c.as_str-text.ensures ∙ none) in
+    let size : length c.flush.new.self.quotes.placed.items ≡ 0 = ap (λ (s : InlineState). length s.quotes.placed.items) c.in_ok-flush.ensures.others ∙ ap length i.1 in
+    absurd (true≢false (sym (c.in_err-resolve.ensures.succeeds (omega (arith, size)))))
+
+pub returns-in_err-resolve-2-clause-succeeds : goal.returns-in_err-resolve-2-clause-succeeds
+returns-in_err-resolve-2-clause-succeeds g c = λ none.
+    let i = c.loop-cursor.invariant.11 (c.as_str-text.ensures ∙ none) in
+    let size : length c.flush.new.self.delimiters.placed.items ≡ 0 = ap (λ (s : InlineState). length s.delimiters.placed.items) c.in_ok-flush.ensures.others ∙ ap length i.2 in
+    absurd (true≢false (sym (c.in_err-resolve-2.ensures.succeeds (omega (arith, size)))))

@@ -1,4 +1,4 @@
-use Rattle.std.proofs.Common.{◌≡◌, ◌-◌, length, take}
+use Rattle.std.proofs.Common.{◌≡◌, ◌-◌, [], length, take}
 use Rattle.cmark_finds.specs.Backticks.{AreRunsOf}
 use Rattle.cmark_finds.specs.Dollars.{AreDollarsOf}
 use Rattle.cmark_inline.specs.Asking.{AsksUpTo, closing_brackets}
@@ -25,6 +25,7 @@ invariant-loop-cursor g l =
     × AreEnded l.leaf l.self.slots.items
     × (IsSetOf (shown_options l.reader.options) l.reader.special.now
     → ComesTo g.F.BrokenLinkCallback.answers (shown_options l.reader.options) (g.E.EntityLookup.replacement l.reader.entities.now) l.reader.references.now l.initial.footnotes l.leaf l.initial.self.expansion l.initial.callback l.cursor l.self l.callback)
+    × (l.text ≡ [] → (l.cursor.pending ≡ 0) × (l.self.quotes.placed.items ≡ []) × (l.self.delimiters.placed.items ≡ []))
 
 abbrev pub decreases-loop-cursor : goal.decreases-loop-cursor
 decreases-loop-cursor g l = length l.text - l.cursor.at

@@ -1,6 +1,6 @@
-use Rattle.std.proofs.Common.{ap, ◌∙◌, sym, Some, None}
+use Rattle.std.proofs.Common.{ap, ◌∙◌, Some, None}
 use Rattle.std.specs.Prelude.{option_map}
-use Rattle.cmark_grammar.specs.Containers.{Item, enter}
+use Rattle.cmark_grammar.specs.Containers.{Item}
 use Rattle.cmark_scan.specs.LineMarkers.{item_in, entered}
 use Rattle.cmark_scan.specs.LineStart.{row_from}
 use Rattle.cmark_lines.specs.Rests.{row_of}

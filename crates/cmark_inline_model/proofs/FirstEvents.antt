@@ -1,0 +1,249 @@
+-- A leaf with a byte is read as some event, and one without a byte as none; the events of a leaf never begin with the end of an element.
+use Rattle.std.specs.Prelude.{zero, suc, ◌-◌, ◌==◌, ◌&&◌, ◌||◌, max, get_or}
+use Rattle.std.proofs.Common.{◌≡◌, ◌≢◌, ℕ, ◌+◌, ◌<◌, ◌≤◌, Bool, true, false, List, [], ◌∷◌, ◌++◌, length, Option, Some, None, refl, sym, ap, subst, ◌∙◌, arith, true≢false}
+use Rattle.cmark_grammar.specs.BracketDecisions.{decide}
+use Rattle.cmark_grammar.specs.BracketReading.{Reads}
+use Rattle.cmark_grammar.specs.BracketStates.{State}
+use Rattle.cmark_grammar.specs.Emphasis.{places_taken}
+use Rattle.cmark_grammar.specs.EmphasisModel.{spans_of}
+use Rattle.cmark_grammar.specs.Event.{Ranged}
+use Rattle.cmark_grammar.specs.Flanking.{is_delimiter_run}
+use Rattle.cmark_grammar.specs.InlineReading.{event_of, inline_events}
+use Rattle.cmark_grammar.specs.InlineTokens.{from, token}
+use Rattle.cmark_grammar.specs.Items.{ItemKind, Plain, Own, Written, Quoted, Delimiters, Code, InlineMath, DisplayMath, Autolink, Html, OwnedHtml, FootnoteReference, SoftBreak, HardBreak, Item, Ends}
+use Rattle.cmark_grammar.specs.LeafReading.{Between, ReadsLeaf, entering}
+use Rattle.cmark_grammar.specs.LeafText.{Leaf, Stretch, InTurn, begin_of, bytes_from}
+use Rattle.cmark_grammar.specs.Options.{Options}
+use Rattle.cmark_grammar.specs.Parts.{Parts, Nil as NoParts, Single as SinglePart, Form, Closing, Opening, Linking, Footnote, Wiki}
+use Rattle.cmark_grammar.specs.Questions.{Saying}
+use Rattle.cmark_grammar.specs.Quotes.{quote_characters}
+use Rattle.cmark_grammar.specs.Readers.{Reader}
+use Rattle.cmark_grammar.specs.Siblings.{Inline, Nil, Single, Around, append, quotes_of, quote_as, with_characters, with_quotes, run_then, runs_from, run_bytes, put_gap, gap_then, gaps_of, no_item, element, dressed, dressed_all, IsDressed, item_then, footnote_then, AreSiblings, AreSpans}
+use Rattle.cmark_grammar.specs.Spans as spans
+use Rattle.cmark_grammar.specs.Spans.{span_tag, span_width, Spans, TakePlaces}
+use Rattle.cmark_grammar.specs.Tag.{Tag}
+use Rattle.cmark_grammar.specs.Tokens.{slice}
+use Rattle.cmark_grammar.proofs.EmphasisOne.{one}
+use Rattle.cmark_grammar.proofs.SpanPlaces.{places}
+use Rattle.cmark_inline_model.specs.FirstEvents.{IsEnd, BeginWithEnd}
+use Rattle.cmark_inline_model.specs.OptionRules.{IsRead, AllItems}
+use Rattle.cmark_inline_model.specs.TextPlaces.{text_of}
+use Rattle.cmark_inline_model.proofs.KindViews.{KindView, AQuote, ARun, AnAutolink, AText, kind-view}
+use Rattle.cmark_inline_model.proofs.SpanCosts.{runs-stand}
+use Rattle.cmark_inline_model.proofs.SpanElements.{quoted_then, other_then}
+use Rattle.cmark_inline_model.proofs.TokenOptions.{leaf-items}
+use Rattle.cmark_inline_model.proofs.TokenSome.{ends-behind-bytes, no-end-at-a-byte}
+
+-- ## A delimiter run has a byte
+
+abbrev HasSize : ItemKind → Type 0
+HasSize (Delimiters run) = 0 < run.size
+HasSize _ = Unit {0}
+
+and_none : (a b : Bool) → b ≡ false → (a && b) ≡ false
+and_none true b e = e
+and_none false b e = refl
+
+or_none : (a b c : Bool) → a ≡ false → b ≡ false → c ≡ false → (a || (b || c)) ≡ false
+or_none a b c e f g = ap (λ x. x || (b || c)) e ∙ ap (λ x. x || c) f ∙ g
+
+run_size : (options : Options) (mark size : ℕ) → is_delimiter_run options mark size ≡ true → 0 < size
+run_size options mark (suc size) e = omega arith
+run_size options mark zero e = absurd (true≢false (sym e ∙ none))
+  where
+    none : is_delimiter_run options mark 0 ≡ false
+    none =
+        or_none _ _ _ (and_none ((mark == 42) || (mark == 95)) false refl) (and_none (mark == 126) _ (and_none (options.strikethrough || options.subscript) false refl))
+        (and_none (mark == 94) _ (and_none options.superscript false refl))
+
+read_size : (options : Options) (kind : ItemKind) → IsRead options kind → HasSize kind
+read_size options (Delimiters run) h = run_size options run.mark run.size h
+read_size options _ h = tt
+
+-- ## Some parts become some siblings
+
+-- there is a sibling, and the first has a byte if it is a delimiter run
+abbrev AreSome : Inline → Type 0
+AreSome Nil = ⊥
+AreSome (Single x after) = HasSize x.kind
+AreSome (Around tag start end inside after) = Unit {0}
+
+item_some : (x : Item) (after : Inline) → HasSize x.kind → AreSome (item_then x.kind x after)
+item_some x after h = go x.kind (kind-view x.kind)
+  where
+    go : (kind : ItemKind) → KindView kind → AreSome (item_then kind x after)
+    go _ (AQuote quote) = h
+    go _ (ARun run) = h
+    go _ (AnAutolink uri) = tt
+    go _ (AText kind t) = subst AreSome (sym (t.item x after)) h
+
+footnote_some : (is_image : Bool) (start : ℕ) (label : List ℕ) (end : ℕ) (others : Inline) → AreSome (footnote_then is_image start label end others)
+footnote_some true start label end others = tt
+footnote_some false start label end others = tt
+
+siblings_some : (options : Options) (parts : Parts) (siblings : Inline) → parts ≢ NoParts → AllItems (IsRead options) parts → AreSiblings options parts siblings → AreSome siblings
+siblings_some options NoParts siblings some read h = absurd (some refl)
+siblings_some options (SinglePart x after) siblings some read h = subst AreSome (sym h.2) (item_some x h.0 (read_size options x.kind read.0))
+siblings_some options (Form opener inside closer (Linking target) after) siblings some read h = subst AreSome (sym h.6) tt
+siblings_some options (Form opener inside closer (Footnote label end) after) siblings some read h = subst AreSome (sym h.2) (footnote_some opener.is_image opener.start label end h.0)
+siblings_some options (Form opener inside closer (Wiki name None end) after) siblings some read h = subst AreSome (sym h.2) tt
+siblings_some options (Form opener inside closer (Wiki name (Some place) end) after) siblings some read h = subst AreSome (sym h.6) tt
+siblings_some options (Closing closer after) siblings some read h = subst AreSome (sym h.2) tt
+siblings_some options (Opening opener after) siblings some read h = subst AreSome (sym h.2) tt
+
+quoted_some : (siblings : Inline) (cs : List ℕ) → AreSome siblings → AreSome (with_characters siblings cs)
+quoted_some Nil cs h = h
+quoted_some (Around tag start end inside after) cs h = tt
+quoted_some (Single x after) cs h = go x.kind (kind-view x.kind)
+  where
+    go : (kind : ItemKind) → KindView kind → AreSome (quote_as (quoted_then x after) (other_then x after) kind cs)
+    go _ (AQuote quote) = tt
+    go _ (ARun run) = h
+    go _ (AnAutolink uri) = h
+    go _ (AText kind t) = subst AreSome (sym (t.quote (quoted_then x after) (other_then x after) cs)) h
+
+-- ## Some siblings become some spans
+
+abbrev IsSpan : Inline → Type 0
+IsSpan Nil = ⊥
+IsSpan (Single x after) = Unit {0}
+IsSpan (Around tag start end inside after) = Unit {0}
+
+span_left : (a b : Inline) → IsSpan a → IsSpan (append a b)
+span_left Nil b h = absurd h
+span_left (Single x after) b h = tt
+span_left (Around tag start end inside after) b h = tt
+
+span_right : (a b : Inline) → IsSpan b → IsSpan (append a b)
+span_right Nil b h = h
+span_right (Single x after) b h = tt
+span_right (Around tag start end inside after) b h = tt
+
+put_span : (put : Inline → Inline) (gaps : List Inline) → ((gap : Inline) → IsSpan (put gap)) → IsSpan (get_or (put_gap put gaps) 0 Nil)
+put_span put [] h = h Nil
+put_span put (gap ∷ gaps) h = h gap
+
+element_span : (tag : Option Tag) (start end : ℕ) (inside after : Inline) → IsSpan (element tag start end inside after)
+element_span (Some tag) start end inside after = tt
+element_span None start end inside after = tt
+
+-- where no byte of a run is left over, the first sibling stands before them
+first_span : (siblings : Inline) → AreSome siblings → 0 ≡ places_taken (runs_from siblings 0) → IsSpan (get_or (gaps_of siblings) 0 Nil)
+first_span Nil h e = absurd h
+first_span (Around tag start end inside after) h e = put_span (Around tag start end inside) (gaps_of after) (λ gap. tt)
+first_span (Single x after) h e = go x.kind (kind-view x.kind) h e
+  where
+    put : IsSpan (get_or (put_gap (Single x) (gaps_of after)) 0 Nil)
+    put = put_span (Single x) (gaps_of after) (λ gap. tt)
+
+    go : (kind : ItemKind) → KindView kind → HasSize kind → 0 ≡ places_taken (run_then 0 kind (runs_from after)) → IsSpan (get_or (gap_then kind x (gaps_of after)) 0 Nil)
+    go _ (AQuote quote) s f = put
+    go _ (ARun run) s f = absurd (let d : ⊥ = omega (arith, s, f) in d)
+    go _ (AnAutolink uri) s f = put
+    go _ (AText kind t) s f = subst (λ l. IsSpan (get_or l 0 Nil)) (sym (t.gap x (gaps_of after))) put
+
+dressed_span : (options : Options) (siblings : Inline) (f : Spans) → AreSome siblings → TakePlaces 0 f (places_taken (runs_from siblings 0)) → IsSpan (dressed_all options siblings f)
+dressed_span options siblings spans.Nil h t = span_left (get_or (gaps_of siblings) 0 Nil) Nil (first_span siblings h t)
+dressed_span options siblings (spans.Single at after) h t =
+    let gaps = gaps_of siblings in
+    let bytes = run_bytes siblings in
+    span_right (get_or gaps 0 Nil) (Single (get_or bytes at no_item) (append (get_or gaps (suc at) Nil) (dressed options gaps bytes after))) tt
+dressed_span options siblings (spans.Around span inside after) h t =
+    let gaps = gaps_of siblings in
+    let bytes = run_bytes siblings in
+    span_right (get_or gaps 0 Nil) (dressed options gaps bytes (spans.Around span inside after))
+    (element_span (span_tag options span.kind) (get_or bytes span.start no_item).start (get_or bytes (span.end - 1) no_item).end
+    (append (get_or gaps (span.start + span_width span.kind) Nil) (dressed options gaps bytes inside)) (append (get_or gaps span.end Nil) (dressed options gaps bytes after)))
+
+dress_span : (options : Options) (siblings result : Inline) → AreSome siblings → IsDressed options siblings result → IsSpan result
+dress_span options siblings result h d =
+    let quoted = with_quotes siblings in
+    let runs = runs_from quoted 0 in
+    let take : TakePlaces 0 d.spans_are (places_taken runs) = subst (λ f. TakePlaces 0 f (places_taken runs)) (sym (one runs d.pairs d.spans_are d.emphasis).1) (places runs (runs-stand quoted 0)) in
+    subst IsSpan (sym d.result_is) (dressed_span options quoted d.spans_are (quoted_some siblings (quote_characters [] (quotes_of siblings)) h) take)
+
+-- ## Events
+
+event_some : (source : List ℕ) (f : Inline) → IsSpan f → inline_events source f ≢ []
+event_some source Nil h e = h
+event_some source (Single x after) h e = cc
+event_some source (Around tag start end inside after) h e = cc
+
+item_no_end : (source : List ℕ) (x : Item) (kind : ItemKind) → IsEnd (event_of source x kind) → ⊥
+item_no_end source x Plain h = h
+item_no_end source x Own h = h
+item_no_end source x (Written text) h = h
+item_no_end source x (Quoted quote) h = h
+item_no_end source x (Delimiters run) h = h
+item_no_end source x (Code text) h = h
+item_no_end source x (InlineMath text) h = h
+item_no_end source x (DisplayMath text) h = h
+item_no_end source x (Autolink uri) h = h
+item_no_end source x Html h = h
+item_no_end source x (OwnedHtml text) h = h
+item_no_end source x (FootnoteReference label) h = h
+item_no_end source x SoftBreak h = h
+item_no_end source x HardBreak h = h
+
+first_no_end : (source : List ℕ) (f : Inline) → BeginWithEnd (inline_events source f) → ⊥
+first_no_end source Nil h = h
+first_no_end source (Single x after) h = item_no_end source x x.kind h
+first_no_end source (Around tag start end inside after) h = h
+
+-- ## Leaves
+
+-- the text is the same from each place up to its begin
+same_bytes : (source : List ℕ) (from : ℕ) (st : List Stretch) (size a b : ℕ) → InTurn from st size → a ≤ from → b ≤ from → bytes_from source st a ≡ bytes_from source st b
+same_bytes source from [] size a b h j k = refl
+same_bytes source from (s ∷ more) size a b h j k =
+    let low = h.0 in
+    let up = h.1 in
+    let x : max a s.start ≡ max b s.start = omega (arith, low, j, k) in
+    ap (λ n. slice source n s.end ++ bytes_from source more a) x
+    ∙ ap (λ l. slice source (max b s.start) s.end ++ l) (same_bytes source s.end more size a b h.2 (omega (arith, low, up, j)) (omega (arith, low, up, k)))
+
+begin_bytes : (source : List ℕ) (st : List Stretch) (size : ℕ) → InTurn 0 st size → bytes_from source st (begin_of st) ≡ bytes_from source st 0
+begin_bytes source [] size h = refl
+begin_bytes source (s ∷ more) size h = same_bytes source s.start (s ∷ more) size s.start 0 (omega arith, h.1, h.2) (omega arith) (omega arith)
+
+module _ (reader : Reader) (Says : Saying) (leaf : Leaf) (before : Between) (events : List Ranged) (after : Between) where
+  abbrev first : State
+  first = entering leaf before
+
+  -- a text without a byte has no part
+  no_part : token reader leaf first.at ≡ Ends → (parts : Parts) (t : State) → Reads (token reader leaf) (decide reader leaf) Says first parts t → parts ≡ NoParts
+  no_part e NoParts t h = refl
+  no_part e (SinglePart x more) t h = absurd (let f = sym e ∙ h.1 in let d : ⊥ = cc in d)
+  no_part e (Form opener inside closer formed more) t h = absurd (let f = sym e ∙ h.opens in let d : ⊥ = cc in d)
+  no_part e (Closing closer more) t h = absurd (let f = sym e ∙ h.closes in let d : ⊥ = cc in d)
+  no_part e (Opening opener more) t h = absurd (let f = sym e ∙ h.0 in let d : ⊥ = cc in d)
+
+  no_span : (parts : Parts) (f : Inline) → parts ≡ NoParts → AreSpans reader.options parts f → f ≡ Nil
+  no_span parts f e h = h.dressed_so.result_is ∙ ap (λ (l : Inline). dressed_all reader.options (with_quotes l) h.dressed_so.spans_are) none ∙ ap (λ s. dressed_all reader.options Nil s) spans_none
+    where
+      none : h.siblings ≡ Nil
+      none = subst (λ p. AreSiblings reader.options p h.siblings) e h.are
+
+      spans_none : h.dressed_so.spans_are ≡ spans.Nil
+      spans_none = (one (runs_from (with_quotes h.siblings) 0) h.dressed_so.pairs h.dressed_so.spans_are h.dressed_so.emphasis).1 ∙ ap (λ (l : Inline). spans_of (runs_from (with_quotes l) 0)) none
+
+  pub leaf-none : InTurn 0 leaf.stretches (length reader.source) → text_of reader leaf ≡ [] → ReadsLeaf reader Says leaf before events after → events ≡ []
+  leaf-none turn empty h =
+      let begin : from reader leaf first.at ≡ [] = begin_bytes reader.source leaf.stretches (length reader.source) turn ∙ empty in
+      h.events_are ∙ ap (inline_events reader.source) (no_span h.parts h.spans (no_part (ends-behind-bytes reader leaf first.at begin) h.parts h.last h.reads.reads) h.are)
+
+  -- a text with a byte has a part
+  some_part : from reader leaf first.at ≢ [] → (parts : Parts) (t : State) → Reads (token reader leaf) (decide reader leaf) Says first parts t → token reader leaf t.at ≡ Ends → parts ≢ NoParts
+  some_part some parts t h ends e =
+      let same : t ≡ first = subst (λ p. Reads (token reader leaf) (decide reader leaf) Says first p t) e h in
+      no-end-at-a-byte reader leaf first.at some (ap (λ (s : State). token reader leaf s.at) (sym same) ∙ ends)
+
+  pub leaf-some : InTurn 0 leaf.stretches (length reader.source) → text_of reader leaf ≢ [] → ReadsLeaf reader Says leaf before events after → events ≢ []
+  leaf-some turn some h e =
+      let begin : from reader leaf first.at ≢ [] = λ none. some (sym (begin_bytes reader.source leaf.stretches (length reader.source) turn) ∙ none) in
+      let part = some_part begin h.parts h.last h.reads.reads h.reads.ends in
+      let siblings = siblings_some reader.options h.parts h.are.siblings part (leaf-items reader leaf Says first h.parts h.last h.reads.reads) h.are.are in
+      event_some reader.source h.spans (dress_span reader.options h.are.siblings h.spans siblings h.are.dressed_so) (sym h.events_are ∙ e)
+
+  pub leaf-first : ReadsLeaf reader Says leaf before events after → BeginWithEnd events → ⊥
+  leaf-first h b = first_no_end reader.source h.spans (subst BeginWithEnd h.events_are b)

@@ -1,0 +1,151 @@
+-- At each byte of a leaf some token begins that is not the end of the text.
+use Rattle.std.specs.Prelude.{suc, ◌==◌, ◌&&◌, ◌||◌, not, nat_lt, if◌then◌else◌, drop, codes}
+use Rattle.std.specs.List.{prefix_len}
+use Rattle.std.proofs.Common.{◌≡◌, ◌≢◌, ◌+◌, ℕ, Bool, true, false, List, [], ◌∷◌, length, Option, Some, None, refl, subst}
+use Rattle.cmark_grammar.specs.Autolinks.{autolink_in}
+use Rattle.cmark_grammar.specs.CodeSpans.{is_backtick, backticks, code_in}
+use Rattle.cmark_grammar.specs.Columns.{is_blank_byte}
+use Rattle.cmark_grammar.specs.Dashes.{dashes_of, dash_text}
+use Rattle.cmark_grammar.specs.Flanking.{Flanking, flanking}
+use Rattle.cmark_grammar.specs.Formulas.{is_dollar, Braces, no_braces, braces_behind, inline_in, display_in}
+use Rattle.cmark_grammar.specs.InlineHtml.{behind_markup}
+use Rattle.cmark_grammar.specs.InlineTokens.{item_at, bracket, is_plain, from, before, character_before, character_at, break_or, code_or, escaped_backtick, escape_at, entity_or, autolink_or, tag_or_text, source_from, markup_or, less_than, run_or, run_at, formula_or, dollar, dots, hyphens, quote_at, smart_or, begins, plain_end, longest, token}
+use Rattle.cmark_grammar.specs.Items.{ItemKind, Plain, Written, InlineMath, DisplayMath, Delimiters, Token, Stands, Opens, Closes, Ends}
+use Rattle.cmark_grammar.specs.LabelsOverLines.{piped}
+use Rattle.cmark_grammar.specs.LeafText.{Leaf}
+use Rattle.cmark_grammar.specs.Letters.{first_is, starts}
+use Rattle.cmark_grammar.specs.LineBreaks.{LineBreak, backslash_break_in, blank_break_in}
+use Rattle.cmark_grammar.specs.Lines.{is_content}
+use Rattle.cmark_grammar.specs.LinkDefinitions.{Found}
+use Rattle.cmark_grammar.specs.Readers.{Reader}
+use Rattle.cmark_grammar.specs.Tags.{behind_tag, no_prefix}
+use Rattle.cmark_grammar.specs.Tokens.{Entity, entity_in, is_punctuation}
+
+-- an item or a bracket
+abbrev IsSome : Token → Type 0
+IsSome (Stands item past) = Unit {0}
+IsSome (Opens opener) = Unit {0}
+IsSome (Closes closer) = Unit {0}
+IsSome Ends = ⊥
+
+-- one of two
+when : (b : Bool) (x y : Token) → IsSome x → IsSome y → IsSome (if b then x else y)
+when true x y h k = h
+when false x y h k = k
+
+module _ (reader : Reader) (leaf : Leaf) where
+  break_some : (at : ℕ) (found : Option LineBreak) (other : Token) → IsSome other → IsSome (break_or reader leaf at found other)
+  break_some at None other h = h
+  break_some at (Some found) other h = tt
+
+  code_some : (at size : ℕ) (found : Option Found) → IsSome (code_or reader leaf at size found)
+  code_some at size None = tt
+  code_some at size (Some found) = tt
+
+  escaped_some : (at size : ℕ) (found : Option Found) → IsSome (escaped_backtick reader leaf at size found)
+  escaped_some at size None = tt
+  escaped_some at size (Some found) = tt
+
+  entity_some : (at : ℕ) (found : Option Entity) → IsSome (entity_or reader leaf at found)
+  entity_some at None = tt
+  entity_some at (Some found) = tt
+
+  autolink_some : (at : ℕ) (found : Option Found) (other : Token) → IsSome other → IsSome (autolink_or reader leaf at found other)
+  autolink_some at None other h = h
+  autolink_some at (Some found) other h = tt
+
+  markup_some : (at : ℕ) (found : Option (List ℕ)) (other : Token) → IsSome other → IsSome (markup_or reader leaf at found other)
+  markup_some at None other h = h
+  markup_some at (Some rest) other h = tt
+
+  tag_some : (at : ℕ) (found : Option (List ℕ)) → IsSome (tag_or_text reader leaf at found)
+  tag_some at None = tt
+  tag_some at (Some rest) = tt
+
+  formula_some : (kind : List ℕ → ItemKind) (at : ℕ) (found : Option Found) → IsSome (formula_or reader leaf kind at found)
+  formula_some kind at None = tt
+  formula_some kind at (Some found) = tt
+
+  escape_some : (at : ℕ) (bs : List ℕ) → IsSome (escape_at reader leaf at bs)
+  escape_some at bs =
+      let plain = if first_is is_punctuation bs then item_at Plain (suc at) (at + 2) else item_at Plain at (suc at) in
+      let piped_or = if leaf.is_cell && starts piped bs then item_at Plain (at + 2) (at + 3) else plain in
+      when (first_is is_backtick bs) (escaped_backtick reader leaf (suc at) (backticks bs) (code_in (drop 1 bs))) piped_or (escaped_some (suc at) (backticks bs) (code_in (drop 1 bs)))
+      (when (leaf.is_cell && starts piped bs) (item_at Plain (at + 2) (at + 3)) plain tt (when (first_is is_punctuation bs) (item_at Plain (suc at) (at + 2)) (item_at Plain at (suc at)) tt tt))
+
+  less_than_some : (at : ℕ) (bs : List ℕ) → IsSome (less_than reader leaf at bs)
+  less_than_some at bs =
+      let tag = tag_or_text reader leaf at (behind_tag no_prefix (from reader leaf at)) in
+      let others = markup_or reader leaf at (behind_markup (source_from reader leaf at)) tag in
+      when (first_is (λ c. c == 92) bs) (item_at Plain at (suc at)) (autolink_or reader leaf at (autolink_in bs) others) tt
+      (autolink_some at (autolink_in bs) others (markup_some at (behind_markup (source_from reader leaf at)) tag (tag_some at (behind_tag no_prefix (from reader leaf at)))))
+
+  run_some : (at mark size : ℕ) (beside : Flanking) → IsSome (run_or reader leaf at mark size beside)
+  run_some at mark size beside =
+      when (beside.opens || beside.closes) (item_at (Delimiters (record { mark = mark; size = size; at = 0; left = size; opens = beside.opens; closes = beside.closes })) at (at + size)) (item_at Plain at (at + size)) tt tt
+
+  dollar_some : (at : ℕ) (bs : List ℕ) (braces : Braces) → IsSome (dollar reader leaf at bs braces)
+  dollar_some at bs braces =
+      when (first_is is_dollar bs) (formula_or reader leaf DisplayMath at (display_in braces (drop 1 bs))) (formula_or reader leaf InlineMath at (inline_in braces bs))
+      (formula_some DisplayMath at (display_in braces (drop 1 bs))) (formula_some InlineMath at (inline_in braces bs))
+
+  smart_some : (at b : ℕ) → IsSome (smart_or reader leaf at b)
+  smart_some at b =
+      let n = prefix_len (λ c. c == 45) (from reader leaf at) in
+      let plain = item_at Plain at (suc at) in
+      let quoted = if (b == 34) || (b == 39) then quote_at reader leaf at b else plain in
+      when (b == 46) (dots reader leaf at) (if b == 45 then hyphens reader leaf at n else quoted)
+      (when (starts (codes "...") (from reader leaf at)) (item_at (Written (226 ∷ 128 ∷ 166 ∷ [])) at (at + 3)) plain tt tt)
+      (when (b == 45) (hyphens reader leaf at n) quoted (when (nat_lt n 2) (item_at Plain at (at + n)) (item_at (Written (dash_text (dashes_of n))) at (at + n)) tt tt)
+      (when ((b == 34) || (b == 39)) (quote_at reader leaf at b) plain tt tt))
+
+  begins_some : (at b : ℕ) (bs : List ℕ) → IsSome (begins reader leaf at (b ∷ bs))
+  begins_some at b bs =
+      let plain = item_at Plain at (suc at) in
+      let c9 = if reader.options.smart_punctuation then smart_or reader leaf at b else plain in
+      let c8 = if reader.options.math && is_dollar b then dollar reader leaf at bs (braces_behind false (before reader leaf at) no_braces) else c9 in
+      let n = prefix_len (λ c. c == b) (b ∷ bs) in
+      let c7 = if (b == 42) || ((b == 95) || ((b == 126) || (b == 94))) then run_at reader leaf at b n else c8 in
+      let c6 = if b == 93 then Closes (bracket false at (suc at)) else c7 in
+      let c5 = if b == 91 then Opens (bracket false at (suc at)) else c6 in
+      let bang = if first_is (λ c. c == 91) bs then Opens (bracket true at (at + 2)) else plain in
+      let c4 = if b == 33 then bang else c5 in
+      let c3 = if b == 60 then less_than reader leaf at bs else c4 in
+      let c2 = if b == 96 then code_or reader leaf at (backticks (b ∷ bs)) (code_in (b ∷ bs)) else c3 in
+      let c1 = if b == 38 then entity_or reader leaf at (entity_in reader.lookup bs) else c2 in
+      let c0 = if b == 92 then break_or reader leaf at (backslash_break_in (b ∷ bs)) (escape_at reader leaf at bs) else c1 in
+      when (is_blank_byte b || not (is_content b)) (break_or reader leaf at (blank_break_in (b ∷ bs)) plain) c0 (break_some at (blank_break_in (b ∷ bs)) plain tt)
+      (when (b == 92) (break_or reader leaf at (backslash_break_in (b ∷ bs)) (escape_at reader leaf at bs)) c1 (break_some at (backslash_break_in (b ∷ bs)) (escape_at reader leaf at bs) (escape_some at bs))
+      (when (b == 38) (entity_or reader leaf at (entity_in reader.lookup bs)) c2 (entity_some at (entity_in reader.lookup bs))
+      (when (b == 96) (code_or reader leaf at (backticks (b ∷ bs)) (code_in (b ∷ bs))) c3 (code_some at (backticks (b ∷ bs)) (code_in (b ∷ bs)))
+      (when (b == 60) (less_than reader leaf at bs) c4 (less_than_some at bs)
+      (when (b == 33) bang c5 (when (first_is (λ c. c == 91) bs) (Opens (bracket true at (at + 2))) plain tt tt)
+      (when (b == 91) (Opens (bracket false at (suc at))) c6 tt
+      (when (b == 93) (Closes (bracket false at (suc at))) c7 tt
+      (when ((b == 42) || ((b == 95) || ((b == 126) || (b == 94)))) (run_at reader leaf at b n) c8
+      (run_some at b n (flanking reader.options b n (character_before reader leaf at) (character_at reader leaf (at + n))))
+      (when (reader.options.math && is_dollar b) (dollar reader leaf at bs (braces_behind false (before reader leaf at) no_braces)) c9 (dollar_some at bs (braces_behind false (before reader leaf at) no_braces))
+      (when reader.options.smart_punctuation (smart_or reader leaf at b) plain (smart_some at b) tt))))))))))
+
+  longest_some : (t : Token) → IsSome t → IsSome (longest reader leaf t)
+  longest_some (Stands item past) h = when (is_plain item.kind) (item_at Plain item.start (plain_end reader leaf (length (from reader leaf past)) past)) (Stands item past) tt tt
+  longest_some (Opens opener) h = tt
+  longest_some (Closes closer) h = tt
+  longest_some Ends h = h
+
+  -- the text ends where no byte is left, and nowhere else
+  pub ends-behind-bytes : (at : ℕ) → from reader leaf at ≡ [] → token reader leaf at ≡ Ends
+  unfolding token
+  ends-behind-bytes at e = go (from reader leaf at) e
+    where
+      go : (l : List ℕ) → l ≡ [] → longest reader leaf (begins reader leaf at l) ≡ Ends
+      go [] e = refl
+      go (b ∷ bs) e = cc
+
+  pub no-end-at-a-byte : (at : ℕ) → from reader leaf at ≢ [] → token reader leaf at ≢ Ends
+  unfolding token
+  no-end-at-a-byte at some e = go (from reader leaf at) some e
+    where
+      go : (l : List ℕ) → l ≢ [] → longest reader leaf (begins reader leaf at l) ≡ Ends → ⊥
+      go [] some e = some refl
+      go (b ∷ bs) some e = subst IsSome e (longest_some (begins reader leaf at (b ∷ bs)) (begins_some at b bs))

@@ -1,0 +1,59 @@
+"""Whether the number of an edit covers all that the check of its function read, as the modules tell that the check keeps."""
+import collections
+import re
+
+IMPORT = re.compile(rb"^--@ import Rattle-(\w+)[-.](specs|proofs)\.(\S+)", re.M)
+# The head of a module lists its imports; no head is longer than this.
+HEAD = 1 << 18
+
+
+def modules(kept, crate):
+    """A dict from the name of each module that was kept of a crate's proofs, as `tree.Tree.pop.Met`, to what it imports."""
+    found = collections.defaultdict(set)
+    for path in kept.rglob(f"Rattle-{crate}[-.]proofs.*.oantt"):
+        name = re.sub(rf"^Rattle-{crate}[-.]proofs\.", "", path.name)
+        with path.open("rb") as module:
+            found[name] |= {tuple(it.decode() for it in words) for words in IMPORT.findall(module.read(HEAD))}
+    return found
+
+
+def imports_of(found, function):
+    """What the modules of a function import; of the function the path is given, or its name alone."""
+    path = function.split("::")
+    is_its = re.compile((re.escape(".".join(path[1:])) if len(path) > 1 else rf"(?:.*\.)?{path[0]}") + r"\.")
+    return {it for name, imports in found.items() if is_its.match(name) for it in imports}
+
+
+def is_covered(stands, crate, kind, parts):
+    """Whether what a module imports of a crate of this repository is among what an edit's number stands on."""
+    folder = stands.sources.crates / crate
+    for count in range(len(parts), 0, -1):
+        file = (folder / kind).joinpath(*parts[:count]).with_suffix(".antt")
+        if file.is_file():
+            return file in stands.files
+    at = folder / "src"
+    while len(parts) > 1 and ((at / parts[0]).with_suffix(".rt").is_file() or (at / parts[0]).is_dir()):
+        at, parts = at / parts[0], parts[1:]
+    # what the toolchain makes of a file or of types, as what drops them, is no item
+    if "+" in parts[0] or parts[0].startswith("The"):
+        return True
+    names = {(item.name, item.owner) for item, _ in stands.pieces if item.file.is_relative_to(folder)}
+    if not parts[0][0].isupper():
+        return any(name == parts[0] for name, _ in names)
+    types = {owner or name for name, owner in names if parts[0].startswith(owner or name)}
+    if len(parts) == 1 or parts[1][0].isupper() or (parts[0], None) in names:
+        return bool(types)
+    # a method that no item declares is derived for its type
+    declared = {it.owner for it in stands.scope.named[parts[1]] if it.kind == "fn"}
+    return any((parts[1], it) in names or it not in declared for it in types)
+
+
+def left_out(stands, found, function):
+    """What the check of a function read and the edit's number does not cover, as a sorted list."""
+    own, left = function.split("::")[1:], set()
+    for crate, kind, name in imports_of(found, function):
+        parts = name.split(".")
+        parts = parts[1:] if parts[0] in ("contracts", "declared") else parts
+        if (stands.sources.crates / crate).is_dir() and parts[: len(own)] != own and not is_covered(stands, crate, kind, parts):
+            left.add(f"{crate}.{kind}.{name}")
+    return sorted(left)

@@ -1,0 +1,129 @@
+"""The items of source files, read by the toolchain's own tokens, so without comments: functions, types, constants, traits, impl blocks, imports."""
+import collections
+import hashlib
+import json
+import re
+import subprocess
+
+ROW = re.compile(r'^\d+ (\d+) (\d+) (\w+) (".*")$', re.M)
+WORD = re.compile(r"[^\W\d]\w*")
+KEYWORDS = {"fn", "struct", "enum", "union", "impl", "trait", "mod", "use", "const", "static", "type", "ghost", "extern"}
+# An item of these kinds ends with a semicolon, whatever braces it has.
+PLAIN = {"use", "const", "static", "type", "ghost"}
+OPENING, CLOSING = set("([{"), set(")]}")
+
+Token = collections.namedtuple("Token", "start end kind text")
+
+
+class Piece:
+    """A part of a source file: a digest of its tokens, and the words in them."""
+
+    def __init__(self, tokens):
+        self.digest = hashlib.sha256(" ".join(it.text for it in tokens).encode()).digest()
+        self.words = frozenset(word for it in tokens if it.kind != "Literal" for word in WORD.findall(it.text))
+
+
+class Item:
+    """An item with its place in the file, in bytes. `whole` is all of it; `shown` is what callers see: of a function its signature and its clauses."""
+
+    def __init__(self, file, kind, name, block, tokens, shown):
+        self.file, self.kind, self.name, self.block = file, kind, name, block
+        self.start, self.end = tokens[0].start, tokens[-1].end
+        self.whole = Piece(tokens)
+        # what a function for constants gives is computed, so its body counts as well
+        self.shown = self.whole if kind != "fn" or any(it.text == "const" for it in shown) else Piece(shown)
+
+    @property
+    def owner(self):
+        """The type whose method a function is."""
+        return self.block.owner if self.block else None
+
+
+class Block:
+    """The inside of an impl block or of a module, its front among its items; `owner` is the type that an impl block is of."""
+
+    def __init__(self, owner, is_of_trait, outer):
+        self.owner, self.is_of_trait, self.outer, self.items = owner, is_of_trait, outer, []
+
+
+def is_mark(token, marks):
+    return token.kind in ("Code", "Head", "End") and token.text in marks
+
+
+def keyword_at(tokens, at):
+    """The place of an item's keyword, behind its attributes and what says who sees it."""
+    depth = 0
+    for place in range(at, len(tokens)):
+        token = tokens[place]
+        if is_mark(token, OPENING | CLOSING):
+            depth += 1 if token.text in OPENING else -1
+        elif depth == 0 and token.kind in ("Code", "Head") and token.text in KEYWORDS:
+            return place + (token.text == "const" and tokens[place + 1].text == "fn")
+    return None
+
+
+def past_item(tokens, at, kind):
+    """Where an item ends whose keyword stands at a place, and where the braces of its body begin, if it has one."""
+    depth, body = 0, None
+    for place in range(at, len(tokens)):
+        token = tokens[place]
+        if is_mark(token, OPENING | CLOSING):
+            depth += 1 if token.text in OPENING else -1
+            if token.kind == "Code" and token.text == "{" and depth == 1 and body is None and kind not in PLAIN:
+                body = place
+            elif token.kind == "Code" and token.text == "}" and depth == 0 and body is not None:
+                return place + 1, body
+        elif token.text == ";" and depth == 0:
+            return place + 1, None
+    return len(tokens), body
+
+
+def implemented(front):
+    """The type that an impl block is of, and whether it is one of a trait."""
+    words, depth, before = [], 0, ""
+    for token in front[1:]:
+        if token.text == "<":
+            depth += 1
+        elif token.text == ">" and before != "-":
+            depth -= 1
+        elif depth == 0:
+            words.append(token.text)
+        before = token.text
+    words = words[: words.index("where")] if "where" in words else words
+    is_of_trait = "for" in words
+    words = words[words.index("for") + 1 :] if is_of_trait else words
+    names = [it for it in words if WORD.fullmatch(it) and it not in ("mut", "dyn")]
+    return names[-1] if names else "", is_of_trait
+
+
+def split(file, tokens, outer=None):
+    """The items of a file, or of the inside of an impl block or a module, those within them included."""
+    at, items = 0, []
+    while (key := keyword_at(tokens, at)) is not None:
+        kind = tokens[key].text
+        past, body = past_item(tokens, key, kind)
+        own, inside = tokens[at:past], outer
+        shown = own if body is None else tokens[at:body]
+        if kind in ("impl", "mod") and body is not None:
+            owner, is_of_trait = implemented(tokens[key:body]) if kind == "impl" else (None, False)
+            inside = Block(owner, is_of_trait, outer)
+            items.append(Item(file, kind, owner, inside, shown, shown))
+            inside.items = [items[-1], *split(file, tokens[body + 1 : past - 1], inside)]
+            items += inside.items[1:]
+        else:
+            kind = "ghost use" if kind == "ghost" and tokens[key + 1].text == "use" else kind
+            name = next((it.text for it in tokens[key + 1 : past] if WORD.fullmatch(it.text)), "")
+            items.append(Item(file, kind, name, outer, own, shown))
+        at = past
+    return items
+
+
+def read(files):
+    """A dict from each of these source files to its items."""
+    if not files:
+        return {}
+    ran = subprocess.run(["rattle", "fmt", "--tokens", *map(str, files)], capture_output=True, text=True, check=True)
+    found = {}
+    for file, rows in zip(files, re.split(r"^file \d+\n", ran.stdout, flags=re.M)[1:], strict=True):
+        found[file] = split(file, [Token(int(a), int(b), kind, json.loads(text)) for a, b, kind, text in ROW.findall(rows)])
+    return found
