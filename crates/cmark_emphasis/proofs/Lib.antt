@@ -11,3 +11,4 @@ pub mod NotShut
 pub mod Agreeing
 pub mod Shuts
 pub mod Noted
+pub mod FewRuns

@@ -77,6 +77,7 @@ fn is_punctuation(c: char) -> bool
 }
 
 /// What a character, or none, is beside a run.
+#[inline(always)]
 pub fn side_of(neighbor: Option<char>) -> Side
     ensures { result ≡ record { white_space = is_white_space_there neighbor; punctuation = is_punctuation_there neighbor } }
 {

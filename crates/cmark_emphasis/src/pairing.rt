@@ -1,13 +1,13 @@
 //! Pairs the delimiter runs of a list of siblings (CommonMark 6.2).
 
-ghost use Rattle.std.specs.Prelude.{◌≡◌, ◌++◌, List, OnOk, IfOk, MatchOption, All, map};
+ghost use Rattle.std.specs.Prelude.{◌≡◌, ◌&&◌, ◌++◌, ◌∷◌, [], nat_lt, List, OnOk, IfOk, MatchOption, All, map};
 ghost use Rattle.cmark_grammar.specs.Emphasis.{Sibling, agrees, pair_of, runs_of};
 ghost use Rattle.cmark_grammar.specs.EmphasisModel.{pairs_of};
 ghost use Rattle.cmark_grammar.specs.Emphasis as grammar;
 ghost use Rattle.cmark_emphasis.specs.Shown.{shown_run, shown_pair, open_runs, IsPlaced};
 ghost use Rattle.cmark_emphasis.specs.Bottoms.{AreBottoms, not_shut};
 ghost use Rattle.cmark_emphasis.specs.Nearest.{IsNearest, with_opener, with_rest};
-ghost use Rattle.cmark_emphasis.specs.Stack.{Chased, NoneAgree, course_from};
+ghost use Rattle.cmark_emphasis.specs.Stack.{Chased, NoneAgree, course_from, run_pairs};
 
 use crate::bottom::OpenersBottom;
 use crate::run::{Pair, Run};
@@ -156,6 +156,25 @@ fn close(
     Ok(closer)
 }
 
+/// Whether two runs that are all of a list make a pair.
+fn makes_a_pair(first: Run, second: Run) -> bool
+    ensures { result ≡ (first.opens && (nat_lt 0 first.left && agrees (shown_run first) (shown_run second))) }
+{
+    first.opens && first.left > 0 && can_close(first, second)
+}
+
+/// Adds the pair of two runs that are all of a list, if they make one.
+fn pair_two(first: Run, second: Run, pairs: &mut Vec<Pair>) -> Result<(), AllocError>
+    requires { IsPlaced first }
+    ensures { OnOk result (map shown_pair pairs.new.items ≡ map shown_pair pairs.old.items ++ run_pairs (shown_run first ∷ (shown_run second ∷ []))) }
+{
+    if !makes_a_pair(first, second) {
+        return Ok(());
+    }
+    pairs.push(pair_up(first, second))?;
+    Ok(())
+}
+
 /// Adds the pairs that these runs make, in the order in which they close (CommonMark 6.2, GFM 6.5): those of the runs of one
 /// list of siblings, in their order. `stack` is room for the call, whatever it holds. Where memory is refused, `pairs` may
 /// have some of them.
@@ -171,6 +190,13 @@ pub fn pair_runs(
     ensures { OnOk result ((siblings : List Sibling) → runs_of siblings ≡ map shown_run runs.now
         → map shown_pair pairs.new.items ≡ map shown_pair pairs.old.items ++ pairs_of siblings) }
 {
+    // Most lists have one run or two, which need no stack.
+    if runs.len() == 1 {
+        return Ok(());
+    }
+    if runs.len() == 2 {
+        return pair_two(runs[0], runs[1], pairs);
+    }
     stack.clear();
     let mut bottoms = OpenersBottom::new();
     for run in runs.iter() {

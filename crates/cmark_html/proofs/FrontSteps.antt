@@ -1,5 +1,5 @@
 -- Appends that may be cut short, one behind the other.
-use Rattle.std.proofs.Common.{◌≡◌, Bool, false, true≢false, ◌==◌, codes, ℕ, ◌+◌, ◌<◌, ◌≤◌, List, [], ◌∷◌, ◌++◌, flat_map, map, length, take, drop, get_or, refl, sym, ap, ◌∙◌, subst, append_assoc, append-nil, Result, Ok, Err, OnErr, Option}
+use Rattle.std.proofs.Common.{◌≡◌, arith, eqb-true, Bool, true, false, true≢false, ◌==◌, codes, ℕ, ◌+◌, ◌<◌, ◌≤◌, List, [], ◌∷◌, ◌++◌, flat_map, map, length, take, drop, get_or, refl, sym, ap, ◌∙◌, subst, append_assoc, append-nil, Result, Ok, Err, OnErr, Option}
 use Rattle.std.proofs.lemmas.List.{take_more, take_all, take-append-drop}
 use Rattle.std.proofs.lemmas.Grind.{flat_map-append}
 use Rattle.cmark_grammar.specs.Escapes.{escaped_html, escaped_href}
@@ -83,6 +83,16 @@ title_piece : (title : List ℕ) → (length title == 0) ≡ false → codes " t
 title_piece [] e = absurd (true≢false e)
 title_piece (b ∷ bs) e = ap (λ l. codes " title=\"" ++ l) (sym (append_assoc (escaped_html (b ∷ bs)) (codes "\"") (codes ">")))
 
-pub link_piece : (before url title : List ℕ) → (length title == 0) ≡ false
-    → codes "<a href=\"" ++ (before ++ (escaped_href url ++ (codes "\"" ++ (codes " title=\"" ++ (escaped_html title ++ codes "\">"))))) ≡ codes "<a href=\"" ++ (before ++ (escaped_href url ++ (codes "\"" ++ (title_attribute title ++ codes ">"))))
-link_piece before url title e = ap (λ l. codes "<a href=\"" ++ (before ++ (escaped_href url ++ (codes "\"" ++ l)))) (title_piece title e)
+pub no_title_piece : (title : List ℕ) → (length title == 0) ≡ true → codes "\">" ≡ codes "\"" ++ (title_attribute title ++ codes ">")
+no_title_piece [] e = refl
+no_title_piece (b ∷ bs) e = absurd (let none : length (b ∷ bs) ≡ 0 = eqb-true (length (b ∷ bs)) 0 e in omega arith)
+
+pub titled_piece : (title : List ℕ) → (length title == 0) ≡ false → codes "\" title=\"" ++ (escaped_html title ++ codes "\">") ≡ codes "\"" ++ (title_attribute title ++ codes ">")
+titled_piece title e = ap (λ l. codes "\"" ++ l) (title_piece title e)
+
+-- a link whose start up to its destination is this
+pub link_piece : (before url title front : List ℕ) → front ≡ codes "<a href=\"" ++ before
+    → front ++ (escaped_href url ++ (codes "\"" ++ (title_attribute title ++ codes ">"))) ≡ codes "<a href=\"" ++ (before ++ (escaped_href url ++ (codes "\"" ++ (title_attribute title ++ codes ">"))))
+link_piece before url title front is =
+    ap (λ l. l ++ (escaped_href url ++ (codes "\"" ++ (title_attribute title ++ codes ">")))) is
+    ∙ append_assoc (codes "<a href=\"") before (escaped_href url ++ (codes "\"" ++ (title_attribute title ++ codes ">")))

@@ -2,3 +2,4 @@ pub mod FootnoteSteps
 pub mod FrontSteps
 pub mod HtmlSteps
 pub mod WordSteps
+mod ImageTexts

@@ -13,7 +13,7 @@ use crate::parts::{append, append_on_line};
 use crate::start::{append_plain_start, line_start_after_plain};
 use crate::state::Writer;
 use crate::writer::{ends_in_line_feed, line_start_after_html, write_in_image};
-use cmark_text::escape::escape_html_body_text;
+use cmark_text::escape::{escape_html, escape_html_body_text};
 use cmark_text::{PlainTag, Short, TagEnd};
 use std::alloc::AllocError;
 
@@ -47,8 +47,27 @@ fn write_short_in_image<'a>(
     ensures state { OnOk result (writing writer.new ≡ moved (writing writer.old) (shown_short short.entry)) }
     ensures err { OnErr result (AppendsFront (string_bytes out.old) (string_bytes out.new) (piece (writing writer.old) (shown_short short.entry))) }
 {
+    if let Short::Text(text) = short {
+        return write_text_in_image(out, writer, text);
+    }
     let event = short.event(*out.allocator());
     write_in_image(out, writer, event)
+}
+
+/// Appends the piece of a text inside of an image, of which the image keeps nothing.
+fn write_text_in_image(
+    out: &mut String,
+    writer: &mut Writer<'_>,
+    text: &str,
+) -> Result<(), AllocError>
+    requires { is_some writer.old.image ≡ true }
+    ensures ok { OnOk result (string_bytes out.new ≡ string_bytes out.old ++ piece (writing writer.old) (Text text.now)) }
+    ensures state { OnOk result (writing writer.new ≡ moved (writing writer.old) (Text text.now)) }
+    ensures err { OnErr result (AppendsFront (string_bytes out.old) (string_bytes out.new) (piece (writing writer.old) (Text text.now))) }
+{
+    escape_html(out, text)?;
+    writer.line_start = false;
+    Ok(())
 }
 
 /// Appends the piece of such an event outside of images.

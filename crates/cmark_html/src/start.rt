@@ -1,7 +1,7 @@
 //! The pieces of starts.
 
 ghost use Rattle.std.specs.Prelude.{◌≡◌, ◌++◌, ◌∷◌, [], OnOk, OnErr, codes, option_map, string_bytes, take_while};
-ghost use Rattle.cmark_grammar.specs.Html.{digit, start_piece, line_start_after_start, block_quote_start, code_block_start, fresh_line, is_within_word, language_start, list_start, link_start, scheme};
+ghost use Rattle.cmark_grammar.specs.Html.{digit, start_piece, line_start_after_start, block_quote_start, code_block_start, fresh_line, is_within_word, language_start, list_start, link_start, scheme, title_attribute};
 ghost use Rattle.cmark_text.specs.Appended.{AppendsFront};
 ghost use Rattle.cmark_text.specs.Short.{shown_plain};
 ghost use Rattle.cmark_text.specs.Shown.{level_number, shown_tag, shown_block_quote_kind, shown_code_block_kind, shown_link_type};
@@ -13,6 +13,7 @@ use crate::heading::append_heading;
 use crate::image::append_image_start;
 use crate::parts::{Part, append, append_on_line, append_parts, new_line};
 use crate::state::Writer;
+use cmark_text::escape::{escape_href, escape_html};
 use cmark_text::{BlockQuoteKind, CodeBlockKind, HeadingLevel, LinkType, PlainTag, Tag};
 use itoa::Buffer;
 use memchr::memchr;
@@ -264,47 +265,39 @@ fn append_numbered(out: &mut String, line_start: bool, digits: &str) -> Result<(
 
 /// Appends the start of a link.
 #[inline(never)]
-fn append_link<'x>(
+pub fn append_link(
     out: &mut String,
     link_type: LinkType,
-    dest_url: &'x str,
-    title: &'x str,
+    dest_url: &str,
+    title: &str,
 ) -> Result<(), AllocError>
     ensures ok { OnOk result (string_bytes out.new ≡ string_bytes out.old ++ link_start (linked (shown_link_type link_type) dest_url.now title.now)) }
     ensures err { OnErr result (AppendsFront (string_bytes out.old) (string_bytes out.new) (link_start (linked (shown_link_type link_type) dest_url.now title.now))) }
 {
-    if title.is_empty() {
-        return append_parts(
-            out,
-            &[
-                Part::Raw("<a href=\""),
-                Part::Raw(scheme(link_type)),
-                Part::Href(dest_url),
-                Part::Raw("\""),
-                Part::Raw(">"),
-            ],
-        );
-    }
-    append_parts(
-        out,
-        &[
-            Part::Raw("<a href=\""),
-            Part::Raw(scheme(link_type)),
-            Part::Href(dest_url),
-            Part::Raw("\""),
-            Part::Raw(" title=\""),
-            Part::Value(title),
-            Part::Raw("\">"),
-        ],
-    )
+    append(out, link_front(link_type))?;
+    escape_href(out, dest_url)?;
+    append_link_title(out, title)
 }
 
-/// What stands before the destination of a link of this type.
-fn scheme(link_type: LinkType) -> &'static str
-    ensures { result.now ≡ scheme (shown_link_type link_type) }
+/// Appends the start of a link from behind its destination on.
+fn append_link_title(out: &mut String, title: &str) -> Result<(), AllocError>
+    ensures ok { OnOk result (string_bytes out.new ≡ string_bytes out.old ++ (codes "\"" ++ (title_attribute title.now ++ codes ">"))) }
+    ensures err { OnErr result (AppendsFront (string_bytes out.old) (string_bytes out.new) (codes "\"" ++ (title_attribute title.now ++ codes ">"))) }
+{
+    if title.is_empty() {
+        return append(out, "\">");
+    }
+    append(out, "\" title=\"")?;
+    escape_html(out, title)?;
+    append(out, "\">")
+}
+
+/// The start of a link of this type up to its destination.
+fn link_front(link_type: LinkType) -> &'static str
+    ensures { result.now ≡ codes "<a href=\"" ++ scheme (shown_link_type link_type) }
 {
     match link_type {
-        LinkType::Email => "mailto:",
-        _ => "",
+        LinkType::Email => "<a href=\"mailto:",
+        _ => "<a href=\"",
     }
 }

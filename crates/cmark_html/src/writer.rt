@@ -14,7 +14,7 @@ use crate::end::{append_end, line_start_after_end};
 use crate::footnote::{FootnoteNames, append_numbered_reference};
 use crate::image::{append_image_end, write_inside};
 use crate::parts::{Part, append, append_around, append_on_line};
-use crate::start::{append_start, line_start_after_start};
+use crate::start::{append_link, append_start, line_start_after_start};
 use crate::state::{OpenImage, Writer};
 use crate::table::TableState;
 use cmark_text::escape::escape_html_body_text;
@@ -51,6 +51,19 @@ fn write_outside<'a>(
     ensures state { OnOk result (writing writer.new ≡ moved_outside (writing writer.old) (shown event.entry)) }
     ensures err { OnErr result (AppendsFront (string_bytes out.old) (string_bytes out.new) (piece_outside (writing writer.old) (shown event.entry))) }
 {
+    if let Event::Start(
+        Tag::Link {
+            link_type,
+            dest_url,
+            title,
+            id: _,
+        },
+    ) = &event
+    {
+        append_link(out, *link_type, dest_url.as_str(), title.as_str())?;
+        writer.line_start = false;
+        return Ok(());
+    }
     append_piece(out, writer, &event)?;
     writer.line_start = line_start_after(writer, &event);
     writer.in_metadata = metadata_after(writer.in_metadata, &event);

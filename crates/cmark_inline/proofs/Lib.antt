@@ -85,3 +85,4 @@ pub mod ComeEnds
 pub mod PlaceEnds
 pub mod ComeLoops
 pub mod ComeCalls
+pub mod NoTails

@@ -1,9 +1,10 @@
 //! Links and images: what stands behind their closing bracket (CommonMark 6.3 and 6.4).
 
-ghost use Rattle.std.specs.Prelude.{◌≡◌, ◌<◌, ◌≤◌, ◌+◌, List, None, ℕ, drop, IfOk, IfSome, length, option_copied, option_map};
+ghost use Rattle.std.specs.Prelude.{◌≡◌, ◌==◌, ◌<◌, ◌≤◌, ◌+◌, List, None, ℕ, drop, IfOk, IfSome, length, option_copied, option_map};
 ghost use Rattle.std.specs.Str.{IsCharBoundary};
 ghost use Rattle.cmark_leaf_text.specs.Reads.{IsRead, IsPart, is_cell_of, text_of};
-ghost use Rattle.cmark_grammar.specs.Labels.{fold};
+ghost use Rattle.cmark_text.specs.Labelled.{link_key};
+ghost use Rattle.cmark_grammar.specs.Letters.{first_is};
 ghost use Rattle.cmark_grammar.specs.LinkTails.{link_tail_in};
 ghost use Rattle.cmark_grammar.specs.Tokens.{slice};
 ghost use Rattle.cmark_text.specs.Shown.{shown_options, text_bytes};
@@ -19,7 +20,7 @@ use cmark_finds::{collapsed_end, is_bracketed_label, link_tail, title_text};
 use cmark_items::RefDefs;
 use cmark_leaf_text::LeafText;
 use cmark_scan_parts::{unescape, with_literal_pipes};
-use cmark_text::{CowStr, EntityLookup, LinkType, Options};
+use cmark_text::{CowStr, EntityLookup, LinkLabel, LinkType, Options};
 use std::alloc::{AllocError, Global};
 
 /// What a link or an image is.
@@ -127,8 +128,43 @@ fn own_target(alloc: Global, target: Target<'_>) -> Result<Target<'static>, Allo
     })
 }
 
+/// Whether an opening parenthesis stands at a place, as it does where an inline link follows.
+#[inline(always)]
+fn opens_tail(text: &str, at: usize) -> bool
+    ensures { result ≡ first_is (λ b. b == 40) (drop at text.now) }
+{
+    let bytes = text.as_bytes();
+    if at >= bytes.len() {
+        return false;
+    }
+    bytes[at] == b'('
+}
+
 /// The inline link behind a closing bracket. Its texts are borrowed where the leaf's text is a part of the source.
+#[inline(always)]
 pub fn inline_target<'a, E: EntityLookup>(
+    alloc: Global,
+    leaf: &LeafText<'a>,
+    text: &str,
+    at: usize,
+    entities: &E,
+) -> Result<Option<Target<'a>>, AllocError>
+    requires read { IsRead leaf.now }
+    requires same { text.now ≡ text_of leaf.now }
+    requires place { IsCharBoundary text.now at }
+    ensures value { IfOk result (λ found. option_map (shown_target text.now) found ≡ option_map (inline_link (E.replacement entities.now) (is_cell_of leaf.now)) (link_tail_in (drop at text.now))) }
+    ensures target { IfOk result (λ found. IfSome found (IsTarget text.now at)) }
+    ensures past { IfOk result (λ found. IfSome found (λ target. target.past ≡ target.end)) }
+{
+    if !opens_tail(text, at) {
+        return Ok(None);
+    }
+    tail_target(alloc, leaf, text, at, entities)
+}
+
+// The same where a parenthesis stands. It is apart, so that no other bracket waits for the room that a link takes.
+#[inline(never)]
+fn tail_target<'a, E: EntityLookup>(
     alloc: Global,
     leaf: &LeafText<'a>,
     text: &str,
@@ -251,11 +287,11 @@ pub struct Destination<'a> {
 pub fn defined<'a>(
     alloc: Global,
     references: &RefDefs<'a>,
-    label: &str,
+    label: &LinkLabel,
 ) -> Result<Option<Destination<'a>>, AllocError>
-    ensures { IfOk result (λ found. option_map shown_destination found ≡ option_map said_by (definition references.now (fold label.now))) }
+    ensures { IfOk result (λ found. option_map shown_destination found ≡ option_map said_by (definition references.now (link_key label.now))) }
 {
-    let Some(definition) = references.get(label)? else {
+    let Some(definition) = references.get_label(label) else {
         return Ok(None);
     };
     let title = match &definition.title {

@@ -296,7 +296,7 @@ impl<'a> InlineState<'a> {
     {
         let written = label_text(self.alloc, leaf.is_cell(), asked.label)?;
         let label = LinkLabel::new(self.alloc, written.as_str())?;
-        if let Some(found) = defined(self.alloc, reader.references, written.as_str())? {
+        if let Some(found) = defined(self.alloc, reader.references, &label)? {
             let id = CowStr::Borrowed(label.as_str()).into_static(self.alloc)?;
             return Ok(Some(self.resolved(found, asked.link_type, id, asked)));
         }

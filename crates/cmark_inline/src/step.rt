@@ -54,6 +54,7 @@ pub struct Sought {
 impl<'a> InlineState<'a> {
     /// Reads the text of a leaf: its events are then given by `next`. A use is counted of each footnote of `footnotes` that it refers to.
     /// A leaf without a byte, as an empty cell, takes no memory.
+    #[inline(always)]
     pub fn resolve<E: EntityLookup, F: BrokenLinkCallback<'a>>(
         &mut self,
         leaf: &LeafText<'a>,
@@ -93,7 +94,8 @@ impl<'a> InlineState<'a> {
     }
 
     // Reads on to behind the next special byte, and what begins there; where none is left, to the end, and the bytes up to there stay
-    // pending.
+    // pending. It stands in the one loop that calls it.
+    #[inline(always)]
     fn step<E: EntityLookup, F: BrokenLinkCallback<'a>>(
         &mut self,
         leaf: &LeafText<'a>,

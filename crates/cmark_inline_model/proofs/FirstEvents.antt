@@ -11,7 +11,7 @@ use Rattle.cmark_grammar.specs.Flanking.{is_delimiter_run}
 use Rattle.cmark_grammar.specs.InlineReading.{event_of, inline_events}
 use Rattle.cmark_grammar.specs.InlineTokens.{from, token}
 use Rattle.cmark_grammar.specs.Items.{ItemKind, Plain, Own, Written, Quoted, Delimiters, Code, InlineMath, DisplayMath, Autolink, Html, OwnedHtml, FootnoteReference, SoftBreak, HardBreak, Item, Ends}
-use Rattle.cmark_grammar.specs.LeafReading.{Between, ReadsLeaf, entering}
+use Rattle.cmark_grammar.specs.LeafReading.{Between, ReadsLeaf, entering, leaving}
 use Rattle.cmark_grammar.specs.LeafText.{Leaf, Stretch, InTurn, begin_of, bytes_from}
 use Rattle.cmark_grammar.specs.Options.{Options}
 use Rattle.cmark_grammar.specs.Parts.{Parts, Nil as NoParts, Single as SinglePart, Form, Closing, Opening, Linking, Footnote, Wiki}
@@ -231,6 +231,13 @@ module _ (reader : Reader) (Says : Saying) (leaf : Leaf) (before : Between) (eve
   leaf-none turn empty h =
       let begin : from reader leaf first.at ≡ [] = begin_bytes reader.source leaf.stretches (length reader.source) turn ∙ empty in
       h.events_are ∙ ap (inline_events reader.source) (no_span h.parts h.spans (no_part (ends-behind-bytes reader leaf first.at begin) h.parts h.last h.reads.reads) h.are)
+
+  -- nothing is asked there
+  pub leaf-same : InTurn 0 leaf.stretches (length reader.source) → text_of reader leaf ≡ [] → ReadsLeaf reader Says leaf before events after → after ≡ before
+  leaf-same turn empty h =
+      let begin : from reader leaf first.at ≡ [] = begin_bytes reader.source leaf.stretches (length reader.source) turn ∙ empty in
+      let none = no_part (ends-behind-bytes reader leaf first.at begin) h.parts h.last h.reads.reads in
+      h.after_is ∙ ap leaving (subst (λ p. Reads (token reader leaf) (decide reader leaf) Says first p h.last) none h.reads.reads)
 
   -- a text with a byte has a part
   some_part : from reader leaf first.at ≢ [] → (parts : Parts) (t : State) → Reads (token reader leaf) (decide reader leaf) Says first parts t → token reader leaf t.at ≡ Ends → parts ≢ NoParts

@@ -49,6 +49,13 @@ impl<'a> RefDefs<'a> {
         Ok(self.defs.get(&label))
     }
 
+    /// The definition of this label.
+    pub fn get_label(&self, label: &LinkLabel) -> Option<&LinkDef<'a>>
+        ensures { option_copied result ≡ definition self.now (link_key label.now) }
+    {
+        self.defs.get(label)
+    }
+
     /// Keeps a definition, unless there is one of its label.
     pub fn insert(&mut self, label: LinkLabel, def: LinkDef<'a>) -> Result<(), AllocError>
         ensures first_stays { OnOk result ((folded : List ℕ) → definition self.new folded

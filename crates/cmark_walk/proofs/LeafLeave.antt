@@ -37,7 +37,7 @@ meets-leaf walk item ix cell lines at is in-cell now holds left r = (
     z = r.z;
     here = r.here;
     above = r.above;
-    stands = record { below = record { holds = r.stands.below.holds; draws_above = r.stands.below.draws_above }; draws = r.stands.draws };
+    stands = record { below = record { holds = r.stands.below.holds; draws_above = r.stands.below.draws_above; elements = r.stands.below.elements }; draws = r.stands.draws };
     staged = subst (λ k. IsStaged k r.here) now r.staged;
     are = refl;
   },
@@ -60,7 +60,7 @@ module _ (walk : Walk) (item : Item) (ix : TreeIndex) (at : IsFocusAt walk ix) (
     after-leaf left r f =
         let p = passed walk item ix t r.z r.here r.above r.stands f next in
         remains-before out (left_from stage.Before f.after r.above) (beyond walk item ix t r.z r.here f) f.after r.above refl
-        (record { below = record { holds = p.below.holds; draws_above = p.below.draws_above }; draws = p.draws })
+        (record { below = record { holds = p.below.holds; draws_above = p.below.draws_above; elements = p.below.elements }; draws = p.draws })
         refl
 
     left-leaf : (left : List Segment) (r : Remains walk left) (f : Focus walk item ix r.z r.here) → left ≡ leaving (read_as (kind_within (tight_below r.above) f.node.kind)) f.node ++ left_from stage.Before f.after r.above

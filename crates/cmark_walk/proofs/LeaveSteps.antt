@@ -27,7 +27,7 @@ use Rattle.cmark_walk.specs.declared.reading.Stage.{Stage}
 use Rattle.cmark_walk.specs.declared.reading.Stage.TheVariants as stage
 use Rattle.cmark_walk.specs.declared.reading.Step.{Step}
 use Rattle.cmark_walk.specs.Reads.{end_in}
-use Rattle.cmark_walk.specs.Walking.{Drawn, Draws, DrawsAbove, Outer, StandsBelow, StandsAt, IsStaged, Remains, Goes, GivesStep, GivesRanged, left_from, leaving, tight_below, texts_of}
+use Rattle.cmark_walk.specs.Walking.{Drawn, Draws, DrawsAbove, Outer, AreElements, IsElement, StandsBelow, StandsAt, IsStaged, Remains, Goes, GivesStep, GivesRanged, left_from, leaving, tight_below, texts_of}
 use Rattle.cmark_walk.proofs.WalkSteps.{moved, over-range, gives-step, left-staged, remains-before, IsItem}
 
 -- behind the last of the siblings, with a parent
@@ -43,16 +43,19 @@ pub record Behind (walk : Walk) (ix : TreeIndex) (z : Zip Item) (here : BlockDoc
   pub drawn : Drawn walk.text.now (texts_of walk) level.place.item parent.node
   pub draws : Draws walk.text.now (texts_of walk) level.right parent.after
   pub draws_above : DrawsAbove walk.text.now (texts_of walk) up outer
+  pub element : IsElement (read_as (kind_within (tight_below outer) parent.node.kind))
+  pub elements : AreElements outer
 
 here-none : (text : List ℕ) (texts : _) (right : Forest (Placed Item)) (here : BlockDocument) → Draws text texts right here → focus_of right ≡ None → here ≡ document.Nil
 here-none text texts Nil document.Nil d e = refl
 here-none text texts Nil (document.Node node inside after) d e = absurd d
 here-none text texts (Node p f g) here d e = absurd (let q : Some (record { ix = p.ix }) ≡ None = e in cc)
 
-behind-split : (walk : Walk) (ix : TreeIndex) (z : Zip Item) (here : BlockDocument) (ups : List (Level Item)) (above : List Outer) → z.up ≡ ups → here ≡ document.Nil → DrawsAbove walk.text.now (texts_of walk) ups above → Some ix ≡ parent_of ups → Behind walk ix z here above
-behind-split walk ix z here [] above u h d p = absurd (let q : Some ix ≡ None = p in cc)
-behind-split walk ix z here (v ∷ up) [] u h d p = absurd d
-behind-split walk ix z here (v ∷ up) (o ∷ outer) u h d p = record {
+behind-split : (walk : Walk) (ix : TreeIndex) (z : Zip Item) (here : BlockDocument) (ups : List (Level Item)) (above : List Outer) → z.up ≡ ups → here ≡ document.Nil → DrawsAbove walk.text.now (texts_of walk) ups above
+    → AreElements above → Some ix ≡ parent_of ups → Behind walk ix z here above
+behind-split walk ix z here [] above u h d e p = absurd (let q : Some ix ≡ None = p in cc)
+behind-split walk ix z here (v ∷ up) [] u h d e p = absurd d
+behind-split walk ix z here (v ∷ up) (o ∷ outer) u h d e p = record {
   level = v;
   up = up;
   parent = o;
@@ -64,6 +67,8 @@ behind-split walk ix z here (v ∷ up) (o ∷ outer) u h d p = record {
   drawn = d.0;
   draws = d.1;
   draws_above = d.2;
+  element = e.0;
+  elements = e.1;
 }
 
 abbrev pub IsNone-at : Walk → Type 0
@@ -74,7 +79,7 @@ IsParent-at walk ix = (z : Zip Item) → Holds walk.tree z → Some ix ≡ paren
 
 pub behind : (walk : Walk) (ix : TreeIndex) (z : Zip Item) (here : BlockDocument) (above : List Outer) → StandsAt walk z here above → IsNone-at walk → IsParent-at walk ix → Behind walk ix z here above
 behind walk ix z here above s n p =
-    behind-split walk ix z here z.up above refl (here-none walk.text.now (texts_of walk) z.right here s.draws (n z s.below.holds)) s.below.draws_above (p z s.below.holds)
+    behind-split walk ix z here z.up above refl (here-none walk.text.now (texts_of walk) z.right here s.draws (n z s.below.holds)) s.below.draws_above s.below.elements (p z s.below.holds)
 
 -- behind the last of the siblings the walk is in no leaf
 stage-none : (now : Stage) (here : BlockDocument) → here ≡ document.Nil → IsStaged now here → now ≡ stage.Before
@@ -99,6 +104,14 @@ leaving-none (reads.Alone ev) node e = refl
 leaving-none (reads.First ev) node e = refl
 leaving-none reads.Silent node e = refl
 
+-- an element has an end
+element-ends : (R : Reads) → IsElement R → None ≡ end_in R → ⊥
+element-ends (reads.Around tag) i e = let q : None ≡ Some (end_of tag) = e in cc
+element-ends reads.Inside i e = i
+element-ends (reads.Alone ev) i e = i
+element-ends (reads.First ev) i e = i
+element-ends reads.Silent i e = i
+
 abbrev pub EndsAs : Walk → Item → Option TagEnd → Type 0
 EndsAs walk item end = (z : Zip Item) (above : List Outer) (node : BlockNode) → StandsBelow walk z above → Drawn walk.text.now (texts_of walk) item node → end ≡ end_in (read_as (kind_within (tight_below above) node.kind))
 
@@ -107,7 +120,7 @@ module _ (walk : Walk) (ix : TreeIndex) (t : Tree Item) (none : IsNone-at walk) 
   over-parent z here above b = record { left = b.level.left; right = Node b.level.place (siblings z) b.level.right; up = b.up }
 
   pub at-parent : (z : Zip Item) (here : BlockDocument) (above : List Outer) → StandsAt walk z here above → (b : Behind walk ix z here above) → StandsBelow (moved walk t) (over-parent z here above b) b.outer
-  at-parent z here above s b = record { holds = subst (λ u. Holds t (pop_to z u)) b.up_is (pop z s.below.holds); draws_above = b.draws_above }
+  at-parent z here above s b = record { holds = subst (λ u. Holds t (pop_to z u)) b.up_is (pop z s.below.holds); draws_above = b.draws_above; elements = b.elements }
 
   parent-read : (z : Zip Item) (here : BlockDocument) (above : List Outer) → StandsAt walk z here above → (b : Behind walk ix z here above) → entry_at t ix.ix ≡ Some (record { item = b.level.place.item; child = first (siblings z); next = first b.level.right })
   parent-read z here above s b =
@@ -145,7 +158,7 @@ module _ (walk : Walk) (ix : TreeIndex) (t : Tree Item) (none : IsNone-at walk) 
     after-parent z here above s b e =
         remains-before (moved walk t2) (left_from stage.Before b.parent.after b.outer) (past (over-parent z here above b) ix.ix (parent-sibling z here above b)) b.parent.after b.outer e
         (record {
-          below = record { holds = next (over-parent z here above b) (parent-sibling z here above b) (at-parent z here above s b).holds; draws_above = b.draws_above };
+          below = record { holds = next (over-parent z here above b) (parent-sibling z here above b) (at-parent z here above s b).holds; draws_above = b.draws_above; elements = b.elements };
           draws = b.draws;
         })
         refl
@@ -167,16 +180,13 @@ module _ (walk : Walk) (ix : TreeIndex) (t : Tree Item) (none : IsNone-at walk) 
         ∙ ap (λ x. Given x ∷ left_from stage.Before b.parent.after b.outer) (over-range walk.text.now (texts_of walk) item b.parent.node (event.End (shown_end end)) d))
         (after-parent r.z r.here r.above r.stands b now)
 
-    pub leaves-none : EndsAs (moved walk t) item None → (left : List Segment) → Remains walk left → Remains (moved walk t2) left
-    leaves-none ends left r =
+    -- the parent is an element, so its end is given
+    pub never-none : EndsAs (moved walk t) item None → Goes walk → ⊥
+    never-none ends g =
+        let r = g.1 in
         let b = behind walk ix r.z r.here r.above r.stands none parent in
         let d = drawn-item r.z r.here r.above r.stands b in
-        let now = before left r b in
-        let e = ends (over-parent r.z r.here r.above b) b.outer b.parent.node (at-parent r.z r.here r.above r.stands b) d in
-        subst (Remains (moved walk t2))
-        (sym (left-staged walk stage.Before left now r ∙ left-parent r.here r.above r.z b
-        ∙ ap (λ l. l ++ left_from stage.Before b.parent.after b.outer) (leaving-none (read_as (kind_within (tight_below b.outer) b.parent.node.kind)) b.parent.node e)))
-        (after-parent r.z r.here r.above r.stands b now)
+        element-ends (read_as (kind_within (tight_below b.outer) b.parent.node.kind)) b.element (ends (over-parent r.z r.here r.above b) b.outer b.parent.node (at-parent r.z r.here r.above r.stands b) d)
 
 -- behind the last of the first siblings nothing is left
 no-parent : (up : List (Level Item)) → None ≡ parent_of up → up ≡ []
@@ -201,7 +211,7 @@ leaves-over walk t none parent pop left r =
         z = r.z;
         here = r.here;
         above = r.above;
-        stands = record { below = record { holds = subst (λ u. Holds t (pop_to r.z u)) up (pop r.z r.stands.below.holds); draws_above = r.stands.below.draws_above }; draws = r.stands.draws };
+        stands = record { below = record { holds = subst (λ u. Holds t (pop_to r.z u)) up (pop r.z r.stands.below.holds); draws_above = r.stands.below.draws_above; elements = r.stands.below.elements }; draws = r.stands.draws };
         staged = r.staged;
         are = sym over ∙ r.are;
       },

@@ -1,3 +1,4 @@
+pub mod EndSteps
 pub mod InsideItems
 pub mod LeafKinds
 pub mod LeafLeave

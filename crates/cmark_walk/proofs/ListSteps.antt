@@ -26,11 +26,11 @@ use Rattle.cmark_leaf_text.specs.declared.stretch.LeafLine.{LeafLine}
 use Rattle.cmark_walk.specs.declared.walk.Walk.{Walk}
 use Rattle.cmark_walk.specs.declared.reading.Stage.TheVariants as stage
 use Rattle.cmark_walk.specs.declared.reading.Step.{Step}
-use Rattle.cmark_walk.specs.Walking.{Drawn, Outer, StandsAt, Remains, Goes, GivesStep, GivesRanged, IsStaged, IsTitleIn, TitleIn, content_of, left_above, left_from, leaving, texts_of, tight_below}
+use Rattle.cmark_walk.specs.Walking.{Drawn, Outer, StandsAt, Remains, Goes, GivesStep, GivesRanged, IsElement, IsStaged, IsTitleIn, BeginsWithList, TitleIn, content_of, left_above, left_from, leaving, texts_of, tight_below}
 use Rattle.cmark_walk.proofs.InsideItems.{not-definition}
 use Rattle.cmark_walk.proofs.LeafKinds.{settled-leaf}
 use Rattle.cmark_walk.proofs.Links.{IsChild, Begins, leads-inside, leads-node, leads-nowhere, leads-to}
-use Rattle.cmark_walk.proofs.ListKinds.{no-title, title-kind, title-leaf}
+use Rattle.cmark_walk.proofs.ListKinds.{list-kind, no-title, title-kind, title-leaf}
 use Rattle.cmark_walk.proofs.WalkSteps.{as_kind, Focus, IsFocusAt, IsItem, at-item, at_range, down, gives-step, has-focus, into, left-staged, moved, over-range, remains-before, staged}
 
 -- ## What is inside the focus
@@ -97,8 +97,15 @@ module _ (walk : Walk) (ix : TreeIndex) (at : IsFocusAt walk ix) where
     left-listed : (left : List Segment) (r : Remains walk left) (h : Here r.z r.here) → left ≡ left_from (stage.Listed is_checked start end) (document.Node h.focus.node h.focus.inside h.focus.after) r.above
     left-listed left r h = left-staged walk (stage.Listed is_checked start end) left now r ∙ ap (λ d. left_from (stage.Listed is_checked start end) d r.above) h.focus.here_is
 
+    -- a definition list is an element
+    list-element : (left : List Segment) (r : Remains walk left) (h : Here r.z r.here) → IsElement (read_as (kind_within (tight_below r.above) h.focus.node.kind))
+    list-element left r h =
+        let listed : BeginsWithList (document.Node h.focus.node h.focus.inside h.focus.after) = subst BeginsWithList h.focus.here_is (subst (λ k. IsStaged k r.here) now r.staged) in
+        let k = list-kind h.focus.node.kind listed in
+        subst (λ b. IsElement (read_as (kind_within (tight_below r.above) b))) (sym k.1) tt
+
     inside-of : (left : List Segment) (r : Remains walk left) (h : Here r.z r.here) → StandsAt (moved walk t) (down walk h.item ix t r.z r.here h.focus) h.focus.inside (below h.focus.node h.focus.after r.above)
-    inside-of left r h = into walk h.item ix t r.z r.here r.above r.stands h.is h.focus push
+    inside-of left r h = into walk h.item ix t r.z r.here r.above r.stands h.is h.focus (list-element left r h) push
 
     -- with no title the marker stands before all that is inside
     untitled-left : (node : BlockNode) (inside after : BlockDocument) (above : List Outer) → begins_title (settled (tight_within (tight_below above) node.kind) inside) ≡ false
@@ -124,7 +131,7 @@ module _ (walk : Walk) (ix : TreeIndex) (at : IsFocusAt walk ix) where
           others,
           left-listed left r h ∙ untitled-left f.node f.inside f.after r.above untitled,
           remains-before in_list others (down walk h.item ix t r.z r.here f) f.inside (below f.node f.after r.above) refl
-              (record { below = record { holds = s.below.holds; draws_above = s.below.draws_above }; draws = s.draws })
+              (record { below = record { holds = s.below.holds; draws_above = s.below.draws_above; elements = s.below.elements }; draws = s.draws })
               refl,
         )
 
@@ -173,7 +180,7 @@ module _ (walk : Walk) (ix : TreeIndex) (at : IsFocusAt walk ix) where
           z = down walk h.item ix t r.z r.here f;
           here = f.inside;
           above = below f.node f.after r.above;
-          stands = record { below = record { holds = p.below.holds; draws_above = p.below.draws_above }; draws = p.draws };
+          stands = record { below = record { holds = p.below.holds; draws_above = p.below.draws_above; elements = p.below.elements }; draws = p.draws };
           staged = staged-title title f.inside b;
           are = refl;
         })

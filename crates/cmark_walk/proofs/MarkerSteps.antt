@@ -46,7 +46,7 @@ meets-marker walk is_checked start end now left r = (
     z = r.z;
     here = r.here;
     above = r.above;
-    stands = record { below = record { holds = r.stands.below.holds; draws_above = r.stands.below.draws_above }; draws = r.stands.draws };
+    stands = record { below = record { holds = r.stands.below.holds; draws_above = r.stands.below.draws_above; elements = r.stands.below.elements }; draws = r.stands.draws };
     staged = subst (λ k. IsStaged k r.here) now r.staged;
     are = refl;
   },
@@ -186,7 +186,7 @@ module _ (walk : Walk) (item : Item) (ix : TreeIndex) (t : Tree Item) (at : IsFo
         z = beyond walk item ix t r.z r.here f;
         here = f.after;
         above = r.above;
-        stands = record { below = record { holds = p.below.holds; draws_above = p.below.draws_above }; draws = p.draws };
+        stands = record { below = record { holds = p.below.holds; draws_above = p.below.draws_above; elements = p.below.elements }; draws = p.draws };
         staged = staged-leaf r.above tag leaf f.after b;
         are = refl;
       })
@@ -235,7 +235,7 @@ module _ (walk : Walk) (item : Item) (ix : TreeIndex) (t : Tree Item) (at : IsFo
         z = beyond walk item ix t r.z r.here f;
         here = f.after;
         above = r.above;
-        stands = record { below = record { holds = p.below.holds; draws_above = p.below.draws_above }; draws = p.draws };
+        stands = record { below = record { holds = p.below.holds; draws_above = p.below.draws_above; elements = p.below.elements }; draws = p.draws };
         staged = staged-list list f.after b;
         are = refl;
       })

@@ -60,7 +60,7 @@ begins-walk tree walk before first forest d is e o a =
     let items : items_of (whole is.z) ≡ forest = ap items_of all ∙ is.here_is in
     remains-before walk (segments (settled false d)) (at_first is.z) d [] before
     (record {
-      below = record { holds = first is.z is.holds; draws_above = tt };
+      below = record { holds = first is.z is.holds; draws_above = tt; elements = tt };
       draws = draws walk.text.now (texts_of walk) (whole is.z) d 0 (length walk.text.now) (ap (shown_forest walk.text.now (texts_of walk)) items ∙ e) o (omega arith) a;
     })
     (sym (append-nil (segments (settled false d))))

@@ -1,5 +1,5 @@
 -- Steps of a walk of which no event is made.
-use Rattle.std.proofs.Common.{◌≡◌, List, [], ◌∷◌, Bool, true, false, Option, Some, None, Result, Ok, Err, IfOk, OnErr, refl, sym, ap, ◌∙◌, subst}
+use Rattle.std.proofs.Common.{◌≡◌, List, [], true, false, refl, ◌∙◌, subst}
 use Rattle.cmark_tree.specs.declared.tree.Tree.{Tree}
 use Rattle.cmark_tree.specs.declared.tree_index.TreeIndex.{TreeIndex}
 use Rattle.cmark_tree.specs.Zip.{Zip, pushed, past, Sibling, HasFocus}
@@ -22,7 +22,7 @@ use Rattle.cmark_walk.specs.declared.reading.Ranged.{Ranged}
 use Rattle.cmark_walk.specs.declared.reading.Stage.TheVariants as stage
 use Rattle.cmark_walk.specs.declared.reading.Step.TheVariants as step
 use Rattle.cmark_walk.specs.declared.walk.Walk.{Walk}
-use Rattle.cmark_walk.specs.Walking.{GivesBrief, GivesShort, GivesShortStep, GivesStep, Goes, Remains, definitions_of, text_of}
+use Rattle.cmark_walk.specs.Walking.{GivesBrief, GivesShort, GivesStep, Goes, Remains, definitions_of, text_of}
 use Rattle.cmark_walk.proofs.WalkSteps.{IsFocusAt, IsItem, Lasts, Leaf-at, Reads-at, at_range, enters-around-as, enters-leaf-as, moved, passes-alone-as, staged}
 
 -- an event with the range of an item

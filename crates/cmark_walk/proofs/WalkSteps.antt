@@ -34,7 +34,7 @@ use Rattle.cmark_walk.specs.declared.reading.Stage.TheVariants as stage
 use Rattle.cmark_walk.specs.declared.reading.Step.{Step}
 use Rattle.cmark_walk.specs.declared.reading.Step.TheVariants as step
 use Rattle.cmark_walk.specs.Reads.{tag_in}
-use Rattle.cmark_walk.specs.Walking.{Drawn, Draws, Outer, StandsBelow, StandsAt, Remains, Goes, GivesStep, GivesRanged, IsFirst, IsAt, IsStaged, left_from, left_above, leaving, tight_below, text_of, texts_of, definitions_of}
+use Rattle.cmark_walk.specs.Walking.{Drawn, Draws, Outer, StandsBelow, StandsAt, Remains, Goes, GivesStep, GivesRanged, IsFirst, IsAt, IsElement, IsStaged, left_from, left_above, leaving, tight_below, text_of, texts_of, definitions_of}
 use Rattle.cmark_walk.proofs.LeafKinds.{leaf-within, inside-leaf, inside-block, settled-leaf, only-leaves-inside}
 
 -- the walk with its tree in another place
@@ -128,16 +128,22 @@ left-alone ev R z k node I A L e = subst (λ r. read_with r z (as_kind k node) I
 pub left-first : (ev : event.Event) (R : Reads) (z : ℕ) (k : BlockKind) (node : BlockNode) (I A L : List Segment) → reads.First ev ≡ R → read_with R z (as_kind k node) I A ++ L ≡ first_of_segments z (Given (over node ev)) A ++ L
 left-first ev R z k node I A L e = subst (λ r. read_with r z (as_kind k node) I A ++ L ≡ first_of_segments z (Given (over node ev)) A ++ L) e refl
 
+-- what is read as its start, what is inside it and its end is an element
+pub around-element : (tag : tag.Tag) (R : Reads) → reads.Around tag ≡ R → IsElement R
+around-element tag R e = subst IsElement e tt
+
 module _ (walk : Walk) (item : Item) (ix : TreeIndex) (t : Tree Item) where
   abbrev pub down : (z : Zip Item) (here : BlockDocument) → Focus walk item ix z here → Zip Item
   down z here f = record { left = Nil; right = f.inner; up = record { left = z.left; place = f.place; right = f.later } ∷ z.up }
 
   -- into the node
-  pub into : (z : Zip Item) (here : BlockDocument) (above : List Outer) → StandsAt walk z here above → IsItem walk.tree ix item → (f : Focus walk item ix z here) → ((z : Zip Item) → Holds walk.tree z → HasFocus z → Holds t (pushed z)) → StandsAt (moved walk t) (down z here f) f.inside (record { node = f.node; after = f.after } ∷ above)
-  into z here above s i f push = record {
+  pub into : (z : Zip Item) (here : BlockDocument) (above : List Outer) → StandsAt walk z here above → IsItem walk.tree ix item → (f : Focus walk item ix z here) → IsElement (read_as (kind_within (tight_below above) f.node.kind))
+      → ((z : Zip Item) → Holds walk.tree z → HasFocus z → Holds t (pushed z)) → StandsAt (moved walk t) (down z here f) f.inside (record { node = f.node; after = f.after } ∷ above)
+  into z here above s i f element push = record {
     below = record {
       holds = subst (λ r. Holds t (push_to z.left r z.up)) f.right_is (push z s.below.holds (subst IsFocus (sym f.right_is) tt));
       draws_above = (f.drawn_place, f.draws_after, s.below.draws_above);
+      elements = (element, s.below.elements);
     };
     draws = f.draws_inside;
   }
@@ -151,6 +157,7 @@ module _ (walk : Walk) (item : Item) (ix : TreeIndex) (t : Tree Item) where
     below = record {
       holds = next z (record { left = z.left; place = f.place; inside = f.inner; after = f.later; split = ap (join z.left) f.right_is; at = f.at }) s.below.holds;
       draws_above = s.below.draws_above;
+      elements = s.below.elements;
     };
     draws = f.draws_after;
   }
@@ -240,7 +247,7 @@ module _ (walk : Walk) (item : Item) (ix : TreeIndex) (t : Tree Item) (at : IsFo
             ∙ left-around tag (read_as (kind_at r.above f.node)) (element_at r.above f.after) (kind_at r.above f.node) f.node (inside_at r.above f.node f.inside) (after_at r.above f.after) (left_above r.above) at-node
             ∙ ap (λ I. Given (over f.node (event.Start tag)) ∷ (I ++ rest)) (no-leaf-inside r.above f.node f.inside (sym (leaf walk.text.now (texts_of walk) f.node f.drawn)))
             ∙ ap (λ x. Given x ∷ left_from stage.Before f.inside below) (over-range walk.text.now (texts_of walk) item f.node (event.Start tag) f.drawn),
-        remains-before (moved walk t) (left_from stage.Before f.inside below) (down walk item ix t r.z r.here f) f.inside below before (into walk item ix t r.z r.here r.above r.stands is f push) refl,
+        remains-before (moved walk t) (left_from stage.Before f.inside below) (down walk item ix t r.z r.here f) f.inside below before (into walk item ix t r.z r.here r.above r.stands is f (around-element tag (read_as (kind_at r.above f.node)) at-node) push) refl,
       )
 
   pub enters-around : (tag : TextTag) (s : Step) → Reads-at walk item (reads.Around (shown_tag tag)) → Leaf-at walk item false → ((z : Zip Item) → Holds walk.tree z → HasFocus z → Holds t (pushed z))
@@ -254,7 +261,7 @@ module _ (walk : Walk) (item : Item) (ix : TreeIndex) (t : Tree Item) (at : IsFo
     z = r.z;
     here = r.here;
     above = r.above;
-    stands = record { below = record { holds = r.stands.below.holds; draws_above = r.stands.below.draws_above }; draws = r.stands.draws };
+    stands = record { below = record { holds = r.stands.below.holds; draws_above = r.stands.below.draws_above; elements = r.stands.below.elements }; draws = r.stands.draws };
     staged = subst (λ h. IsStaged stage.Lines h) (sym f.here_is) e;
     are = refl;
   }
@@ -341,7 +348,7 @@ unchanged-remains walk t u left r = record {
   z = r.z;
   here = r.here;
   above = r.above;
-  stands = record { below = record { holds = Holds-unchanged walk.tree t r.z u r.stands.below.holds; draws_above = r.stands.below.draws_above }; draws = r.stands.draws };
+  stands = record { below = record { holds = Holds-unchanged walk.tree t r.z u r.stands.below.holds; draws_above = r.stands.below.draws_above; elements = r.stands.below.elements }; draws = r.stands.draws };
   staged = r.staged;
   are = r.are;
 }

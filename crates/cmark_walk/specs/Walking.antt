@@ -1,5 +1,5 @@
 -- Where a walk stands in its document, and what it still has to give.
-use Rattle.std.specs.Prelude.{◌≡◌, ◌⊎◌, if◌then◌else◌, ℕ, ◌≤◌, Bool, true, false, List, [], ◌∷◌, ◌++◌, length, Option, Some, None}
+use Rattle.std.specs.Prelude.{◌≡◌, ◌⊎◌, if◌then◌else◌, ℕ, ◌<◌, ◌≤◌, Bool, true, false, List, [], ◌∷◌, ◌++◌, length, Option, Some, None}
 use Rattle.std.specs.Str.{IsCharBoundary}
 use Rattle.cmark_text.specs.declared.text.CowStr.{CowStr}
 use Rattle.cmark_text.specs.declared.event.Event.{Event as TextEvent}
@@ -13,7 +13,7 @@ use Rattle.cmark_tree.specs.Arena.{Entry, Placed}
 use Rattle.cmark_tree.specs.Zip.{Level, Zip}
 use Rattle.cmark_tree.specs.declared.tree_index.TreeIndex.{TreeIndex}
 use Rattle.cmark_tree.specs.Tree.{Holds, focus_of, entry_at}
-use Rattle.cmark_grammar.specs.TagEnd.{end_of}
+use Rattle.cmark_grammar.specs.TagEnd.{TagEnd, end_of}
 use Rattle.cmark_grammar.specs.Event as event
 use Rattle.cmark_grammar.specs.Event.{Event}
 use Rattle.cmark_grammar.specs.BlockDocument as document
@@ -81,6 +81,18 @@ module _ (text : List ℕ) (texts : List CowStr) where
 abbrev pub tight_below : List Outer → Bool
 tight_below [] = false
 tight_below (o ∷ above) = tight_within (tight_below above) o.node.kind
+
+abbrev pub IsElement : Reads → Type 0
+IsElement (reads.Around tag) = Unit {0}
+IsElement reads.Inside = ⊥
+IsElement (reads.Alone event) = ⊥
+IsElement (reads.First event) = ⊥
+IsElement reads.Silent = ⊥
+
+-- each of these nodes is an element: it is read as its start, what is inside it and its end
+abbrev pub AreElements : List Outer → Type 0
+AreElements [] = Unit {0}
+AreElements (o ∷ above) = IsElement (read_as (kind_within (tight_below above) o.node.kind)) × AreElements above
 
 -- the end of an element, after what is inside it
 abbrev pub leaving : Reads → BlockNode → List Segment
@@ -169,10 +181,11 @@ definitions_of walk = (tables walk.allocations).references
 abbrev pub IsDrawn : Walk → Item → Type 0
 IsDrawn walk item = (node : BlockNode) × Drawn walk.text.now (texts_of walk) item node
 
--- the walk stands below these nodes
+-- the walk stands below these nodes, which are elements
 pub record StandsBelow (walk : Walk) (z : Zip Item) (above : List Outer) : Type 0 where
   pub holds : Holds walk.tree z
   pub draws_above : DrawsAbove walk.text.now (texts_of walk) z.up above
+  pub elements : AreElements above
 
 abbrev pub IsBelow : Walk → Type 0
 IsBelow walk = (z : Zip Item) × (above : List Outer) × StandsBelow walk z above
@@ -203,6 +216,24 @@ IsAt walk ix = Goes walk × ((z : Zip Item) → Holds walk.tree z → focus_of z
 abbrev pub IsPast : Walk → Type 0
 IsPast walk = Goes walk × ((z : Zip Item) → Holds walk.tree z → focus_of z.right ≡ None)
 
+-- the end of an element is the first of these, or a leaf without a text, behind which an end may be next
+abbrev pub MayBeginWithEnd : List Segment → Type 0
+MayBeginWithEnd [] = ⊥
+MayBeginWithEnd (Given given ∷ others) = (end : TagEnd) × (given.event ≡ event.End end)
+MayBeginWithEnd (Content leaf ∷ others) = leaf.stretches ≡ []
+
+-- the next event is no end
+abbrev pub NoEndIsNext : Walk → Type 0
+NoEndIsNext walk = (left : List Segment) → Remains walk left → MayBeginWithEnd left → ⊥
+
+-- the most steps that give nothing before one that gives something: out of a paragraph of a tight list, and into the next one
+abbrev pub silent_steps : Stage → ℕ
+silent_steps stage.Before = 1
+silent_steps (stage.Marked is_checked start end) = 0
+silent_steps (stage.Listed is_checked start end) = 0
+silent_steps stage.Lines = 0
+silent_steps stage.Behind = 2
+
 abbrev pub shown_ranged : Ranged → event.Ranged
 shown_ranged r = record { event = shown r.event; start = r.range.start; end = r.range.end }
 
@@ -227,6 +258,13 @@ GivesStep left (step.Event given) lines walk = Gives left (met.Event given) line
 GivesStep left (step.Leaf is_cell) lines walk = Gives left (met.Leaf is_cell) lines walk
 GivesStep left step.Silent lines walk = Remains walk left
 GivesStep left step.Over lines walk = Gives left met.Over lines walk
+
+-- a step gives something, or leaves fewer steps that give nothing
+abbrev pub ComesNearer : Walk → Step → Walk → Type 0
+ComesNearer old (step.Event given) new = Unit {0}
+ComesNearer old (step.Leaf is_cell) new = Unit {0}
+ComesNearer old step.Silent new = silent_steps new.stage < silent_steps old.stage
+ComesNearer old step.Over new = Unit {0}
 
 -- the zero-copy law of what is met
 abbrev pub MeetsZeroCopy : List ℕ → Met → Type 0
@@ -257,6 +295,10 @@ abbrev pub GivesShortStep : Walk → Option Brief → List LeafLine → Walk →
 GivesShortStep old None lines new = (left : List Segment) → Remains old left → Remains new left
 GivesShortStep old (Some brief) lines new = GivesBrief old brief lines new
 
+abbrev pub ComesNearerShort : Walk → Option Brief → Walk → Type 0
+ComesNearerShort old None new = silent_steps new.stage < silent_steps old.stage
+ComesNearerShort old (Some brief) new = Unit {0}
+
 -- an item is read so, or has a text of its own
 abbrev pub ReadsAs : Glance → Reads → Type 0
 ReadsAs (glance.Around tag) R = reads.Around (shown_plain tag) ≡ R
@@ -272,6 +314,10 @@ GlancesZeroCopy text item _ = Unit {0}
 abbrev pub HoldsLines : Walk → List LeafLine → Type 0
 HoldsLines walk lines = (z : Zip Item) (here : BlockDocument) (above : List Outer) → StandsAt walk z here above → AreLinesOf walk.text.now (leaf_at here) lines
 
+-- the leaf at the focus has a text
+abbrev pub HasText : Walk → Type 0
+HasText walk = (z : Zip Item) (here : BlockDocument) (above : List Outer) → StandsAt walk z here above → (leaf_at here).stretches ≡ [] → ⊥
+
 -- an element with a text of its own: a heading with attributes, fenced code, a table or a footnote's definition
 abbrev pub has_texts : ItemBody → Bool
 has_texts (body.Heading level (Some index)) = true
@@ -285,6 +331,10 @@ abbrev pub is_synthesized : ItemBody → Bool
 is_synthesized (body.SynthesizeText index) = true
 is_synthesized (body.SynthesizeChar c) = true
 is_synthesized _ = false
+
+-- an item has a text that is kept apart from the source, or an element has a text of its own
+abbrev pub OwnsText : ItemBody → Type 0
+OwnsText body = (is_synthesized body ≡ true) ⊎ (has_texts body ≡ true)
 
 -- whether the box of a task marker is checked, if an item is one
 abbrev pub task_body : ItemBody → Option Bool

@@ -9,7 +9,7 @@ ghost use Rattle.cmark_grammar.specs.SpanDocuments.{Segment};
 ghost use Rattle.cmark_grammar.specs.Tokens.{slice};
 ghost use Rattle.cmark_leaf_text.specs.declared.stretch.LeafLine.{LeafLine as LeafLines};
 ghost use Rattle.cmark_walk.specs.declared.reading.Stage.TheVariants as stage;
-ghost use Rattle.cmark_walk.specs.Walking.{Drawn, GivesBrief, GivesShortStep, GlancesZeroCopy, Goes, IsAt, IsBelow, IsDrawn, IsPast, Outer, ReadsAs, Remains, StandsBelow, definitions_of, text_of, texts_of, tight_below};
+ghost use Rattle.cmark_walk.specs.Walking.{ComesNearerShort, Drawn, GivesBrief, GivesShortStep, GlancesZeroCopy, Goes, IsAt, IsBelow, IsDrawn, IsPast, NoEndIsNext, Outer, ReadsAs, Remains, StandsBelow, definitions_of, text_of, texts_of, tight_below};
 
 use crate::reading::{Brief, Glance, Stage};
 use crate::walk::{Walk, first_number, is_leaf};
@@ -27,18 +27,17 @@ impl<'a> Walk<'a> {
         requires { Goes self.old }
         ensures given { IfOk result (λ brief. GivesBrief self.old brief lines.new.items self.new) }
         ensures refused { OnErr result ((left : List Segment) → Remains self.old left → Remains self.new left) }
+        ensures ends { OnErr result (NoEndIsNext self.old) }
         ensures goes { Goes self.new }
         ensures definitions { definitions_of self.new ≡ definitions_of self.old }
         ensures text { text_of self.new ≡ text_of self.old }
     {
-        // Only paragraphs of tight lists give nothing, each at its begin and at its end: no memory holds so many nodes that the
-        // count is reached.
-        for _ in 0..u64::MAX {
+        // Only paragraphs of tight lists give nothing, each at its begin and at its end.
+        loop {
             if let Some(brief) = self.short_step(lines)? {
                 return Ok(brief);
             }
         }
-        Err(AllocError)
     }
 
     // Into the focus or past it, or up from behind the last sibling; nothing where a paragraph of a tight list begins or ends.
@@ -47,12 +46,14 @@ impl<'a> Walk<'a> {
         requires { Goes self.old }
         ensures given { IfOk result (λ brief. GivesShortStep self.old brief lines.new.items self.new) }
         ensures refused { OnErr result ((left : List Segment) → Remains self.old left → Remains self.new left) }
+        ensures ends { OnErr result (NoEndIsNext self.old) }
+        ensures nearer { IfOk result (λ brief. ComesNearerShort self.old brief self.new) }
         ensures goes { Goes self.new }
         ensures definitions { definitions_of self.new ≡ definitions_of self.old }
         ensures text { text_of self.new ≡ text_of self.old }
     {
         let Some(ix) = self.tree.cur() else {
-            return Ok(self.leave_short());
+            return Ok(Some(self.leave_short()));
         };
         match self.stage {
             Stage::Before => self.enter_short(ix),
@@ -72,6 +73,8 @@ impl<'a> Walk<'a> {
         requires before { self.old.stage ≡ stage.Before }
         ensures given { IfOk result (λ brief. (lines : List LeafLines) → GivesShortStep self.old brief lines self.new) }
         ensures refused { OnErr result ((left : List Segment) → Remains self.old left → Remains self.new left) }
+        ensures ends { OnErr result (NoEndIsNext self.old) }
+        ensures nearer { IfOk result (λ brief. ComesNearerShort self.old brief self.new) }
         ensures goes { Goes self.new }
         ensures definitions { definitions_of self.new ≡ definitions_of self.old }
         ensures text { text_of self.new ≡ text_of self.old }
@@ -104,6 +107,7 @@ impl<'a> Walk<'a> {
         requires at { IsAt self.old ix }
         requires behind { self.old.stage ≡ stage.Behind }
         ensures given { (lines : List LeafLines) → GivesShortStep self.old result lines self.new }
+        ensures nearer { ComesNearerShort self.old result self.new }
         ensures goes { Goes self.new }
         ensures definitions { definitions_of self.new ≡ definitions_of self.old }
         ensures text { text_of self.new ≡ text_of self.old }
@@ -120,22 +124,22 @@ impl<'a> Walk<'a> {
 
     // Up from behind the last sibling, and past the parent.
     #[inline(always)]
-    fn leave_short(&mut self) -> Option<Brief<'a>>
+    fn leave_short(&mut self) -> Brief<'a>
         requires { IsPast self.old }
-        ensures given { (lines : List LeafLines) → GivesShortStep self.old result lines self.new }
+        ensures given { (lines : List LeafLines) → GivesBrief self.old result lines self.new }
         ensures goes { Goes self.new }
         ensures definitions { definitions_of self.new ≡ definitions_of self.old }
         ensures text { text_of self.new ≡ text_of self.old }
     {
         let Some(ix) = self.tree.pop() else {
-            return Some(Brief::Over);
+            return Brief::Over;
         };
         let item = *self.tree.item(ix);
         let end = self.end(item);
         self.tree.next_sibling(ix);
         match end {
-            Some(end) => Some(Brief::Short(Short::End(end))),
-            None => None,
+            Some(end) => Brief::Short(Short::End(end)),
+            None => unreachable!(),
         }
     }
 

@@ -24,7 +24,7 @@ ghost use Rattle.cmark_leaf_text.specs.declared.stretch.LeafLine.{LeafLine};
 ghost use Rattle.cmark_text.specs.declared.text.CowStr.{CowStr};
 ghost use Rattle.cmark_walk.specs.declared.reading.Met.TheVariants as met;
 ghost use Rattle.cmark_walk.specs.declared.reading.Stage.TheVariants as stage;
-ghost use Rattle.cmark_walk.specs.Walking.{Drawn, IsDrawn, Outer, StandsBelow, IsBelow, tight_below, Remains, Goes, Gives, GivesStep, HoldsLines, definitions_of, text_of, IsAt, IsPast, GivesRanged, texts_of, ReadsZeroCopy, StepsZeroCopy, MeetsZeroCopy, IsTaskAt, IsLeafBehind, IsListBehind, IsTitleIn, is_list, has_texts, is_synthesized, task_body};
+ghost use Rattle.cmark_walk.specs.Walking.{Drawn, IsDrawn, Outer, StandsBelow, IsBelow, tight_below, Remains, Goes, Gives, GivesStep, HoldsLines, definitions_of, text_of, IsAt, IsPast, GivesRanged, NoEndIsNext, ComesNearer, HasText, OwnsText, texts_of, ReadsZeroCopy, StepsZeroCopy, MeetsZeroCopy, IsTaskAt, IsLeafBehind, IsListBehind, IsTitleIn, is_list, has_texts, is_synthesized, task_body};
 
 use crate::reading::{Met, Ranged, Reading, Stage, Step};
 use bitflags::Flags;
@@ -94,13 +94,13 @@ impl<'a> Walk<'a> {
         ensures given { IfOk result (λ met. (left : List Segment) → Remains self.old left → Gives left met lines.new.items self.new) }
         ensures lent { IfOk result (MeetsZeroCopy (text_of self.old)) }
         ensures refused { OnErr result ((left : List Segment) → Remains self.old left → Remains self.new left) }
+        ensures ends { OnErr result (NoEndIsNext self.old) }
         ensures goes { Goes self.new }
         ensures definitions { definitions_of self.new ≡ definitions_of self.old }
         ensures text { text_of self.new ≡ text_of self.old }
     {
-        // Only paragraphs of tight lists give nothing, each at its begin and at its end: no memory holds so many nodes that the
-        // count is reached.
-        for _ in 0..u64::MAX {
+        // Only paragraphs of tight lists give nothing, each at its begin and at its end.
+        loop {
             match self.step(lines)? {
                 Step::Event(given) => return Ok(Met::Event(given)),
                 Step::Leaf { is_cell } => return Ok(Met::Leaf { is_cell }),
@@ -108,7 +108,6 @@ impl<'a> Walk<'a> {
                 Step::Over => return Ok(Met::Over),
             }
         }
-        Err(AllocError)
     }
 
     // Into the focus or past it, or up from behind the last sibling.
@@ -118,6 +117,8 @@ impl<'a> Walk<'a> {
         ensures given { IfOk result (λ step. (left : List Segment) → Remains self.old left → GivesStep left step lines.new.items self.new) }
         ensures lent { IfOk result (StepsZeroCopy (text_of self.old)) }
         ensures refused { OnErr result ((left : List Segment) → Remains self.old left → Remains self.new left) }
+        ensures ends { OnErr result (NoEndIsNext self.old) }
+        ensures nearer { IfOk result (λ step. ComesNearer self.old step self.new) }
         ensures goes { Goes self.new }
         ensures definitions { definitions_of self.new ≡ definitions_of self.old }
         ensures text { text_of self.new ≡ text_of self.old }
@@ -156,6 +157,8 @@ impl<'a> Walk<'a> {
         ensures given { IfOk result (λ step. (left : List Segment) (lines : List LeafLine) → Remains self.old left → GivesStep left step lines self.new) }
         ensures lent { IfOk result (StepsZeroCopy (text_of self.old)) }
         ensures refused { OnErr result ((left : List Segment) → Remains self.old left → Remains self.new left) }
+        ensures ends { OnErr result (NoEndIsNext self.old) }
+        ensures nearer { IfOk result (λ step. ComesNearer self.old step self.new) }
         ensures goes { Goes self.new }
         ensures definitions { definitions_of self.new ≡ definitions_of self.old }
         ensures text { text_of self.new ≡ text_of self.old }
@@ -194,6 +197,8 @@ impl<'a> Walk<'a> {
         ensures given { IfOk result (λ step. (left : List Segment) (lines : List LeafLine) → Remains self.old left → GivesStep left step lines self.new) }
         ensures lent { IfOk result (StepsZeroCopy (text_of self.old)) }
         ensures refused { OnErr result ((left : List Segment) → Remains self.old left → Remains self.new left) }
+        ensures ends { OnErr result (NoEndIsNext self.old) }
+        ensures nearer { IfOk result (λ step. ComesNearer self.old step self.new) }
         ensures goes { Goes self.new }
         ensures definitions { definitions_of self.new ≡ definitions_of self.old }
         ensures text { text_of self.new ≡ text_of self.old }
@@ -238,6 +243,8 @@ impl<'a> Walk<'a> {
         ensures given { IfOk result (λ step. (left : List Segment) (lines : List LeafLine) → Remains self.old left → GivesStep left step lines self.new) }
         ensures lent { IfOk result (StepsZeroCopy (text_of self.old)) }
         ensures refused { OnErr result ((left : List Segment) → Remains self.old left → Remains self.new left) }
+        ensures ends { OnErr result (NoEndIsNext self.old) }
+        ensures nearer { IfOk result (λ step. ComesNearer self.old step self.new) }
         ensures goes { Goes self.new }
         ensures definitions { definitions_of self.new ≡ definitions_of self.old }
         ensures text { text_of self.new ≡ text_of self.old }
@@ -308,6 +315,7 @@ impl<'a> Walk<'a> {
         requires goes { Goes self.old }
         requires marked { self.old.stage ≡ stage.Marked is_checked start end }
         ensures given { (left : List Segment) (lines : List LeafLine) → Remains self.old left → GivesStep left result lines self.new }
+        ensures nearer { ComesNearer self.old result self.new }
         ensures lent { StepsZeroCopy (text_of self.old) result }
         ensures goes { Goes self.new }
         ensures definitions { definitions_of self.new ≡ definitions_of self.old }
@@ -331,6 +339,7 @@ impl<'a> Walk<'a> {
         requires before { self.old.stage ≡ stage.Lines }
         ensures given { IfOk result (λ is_cell. (left : List Segment) → Remains self.old left → Gives left (met.Leaf is_cell) lines.new.items self.new) }
         ensures refused { OnErr result ((left : List Segment) → Remains self.old left → Remains self.new left) }
+        ensures ends { OnErr result (NoEndIsNext self.old) }
         ensures goes { Goes self.new }
         ensures definitions { definitions_of self.new ≡ definitions_of self.old }
         ensures text { text_of self.new ≡ text_of self.old }
@@ -344,10 +353,14 @@ impl<'a> Walk<'a> {
     // The lines of the leaf in the focus.
     fn gather(&self, ix: TreeIndex, lines: &mut Vec<LeafLine>) -> Result<(), AllocError>
         requires { IsAt self.now ix }
-        ensures { OnOk result (HoldsLines self.now lines.new.items) }
+        ensures lines { OnOk result (HoldsLines self.now lines.new.items) }
+        ensures text { OnErr result (HasText self.now) }
     {
         lines.clear();
-        let mut next = self.tree.child(ix);
+        let Some(first) = self.tree.child(ix) else {
+            return Ok(());
+        };
+        let mut next = Some(first);
         // No memory holds so many nodes that the count is reached.
         for _ in 0..u64::MAX {
             let Some(line) = next else {
@@ -370,6 +383,7 @@ impl<'a> Walk<'a> {
         requires at { IsAt self.old ix }
         requires behind { self.old.stage ≡ stage.Behind }
         ensures given { (left : List Segment) (lines : List LeafLine) → Remains self.old left → GivesStep left result lines self.new }
+        ensures nearer { ComesNearer self.old result self.new }
         ensures lent { StepsZeroCopy (text_of self.old) result }
         ensures goes { Goes self.new }
         ensures definitions { definitions_of self.new ≡ definitions_of self.old }
@@ -390,6 +404,7 @@ impl<'a> Walk<'a> {
     fn leave(&mut self) -> Step<'a>
         requires { IsPast self.old }
         ensures given { (left : List Segment) (lines : List LeafLine) → Remains self.old left → GivesStep left result lines self.new }
+        ensures nearer { ComesNearer self.old result self.new }
         ensures lent { StepsZeroCopy (text_of self.old) result }
         ensures goes { Goes self.new }
         ensures definitions { definitions_of self.new ≡ definitions_of self.old }
@@ -403,7 +418,7 @@ impl<'a> Walk<'a> {
         self.tree.next_sibling(ix);
         match end {
             Some(end) => given(Event::End(end), item),
-            None => Step::Silent,
+            None => unreachable!(),
         }
     }
 
@@ -416,6 +431,7 @@ impl<'a> Walk<'a> {
         ensures value { IfOk result (λ reading. (z : Zip Item) (above : List Outer) (node : BlockNode) → StandsBelow self.now z above → Drawn self.now.text.now (texts_of self.now) item node
             → shown_reading reading ≡ read_as (kind_within (tight_below above) node.kind)) }
         ensures lent { IfOk result (ReadsZeroCopy (text_of self.now) item) }
+        ensures refused { OnErr result (OwnsText item.body) }
     {
         if let Some(event) = self.event(item)? {
             return Ok(Reading::Alone(event));
@@ -433,6 +449,7 @@ impl<'a> Walk<'a> {
         ensures value { IfOk result (λ event. (node : BlockNode) → Drawn self.now.text.now (texts_of self.now) item node
             → option_map shown event ≡ event_in (read_as node.kind)) }
         ensures lent { IfOk result (λ event. IfSome event (λ e. IsZeroCopy (text_of self.now) e item.start item.end)) }
+        ensures refused { OnErr result (OwnsText item.body) }
     {
         match item.body {
             ItemBody::Text { .. } => Ok(Some(Event::Text(self.slice(item)))),
@@ -480,8 +497,9 @@ impl<'a> Walk<'a> {
     fn tag(&self, item: Item) -> Result<Option<Tag<'a>>, AllocError>
         requires below { IsBelow self.now }
         requires drawn { IsDrawn self.now item }
-        ensures { IfOk result (λ tag. (z : Zip Item) (above : List Outer) (node : BlockNode) → StandsBelow self.now z above → Drawn self.now.text.now (texts_of self.now) item node
+        ensures value { IfOk result (λ tag. (z : Zip Item) (above : List Outer) (node : BlockNode) → StandsBelow self.now z above → Drawn self.now.text.now (texts_of self.now) item node
             → option_map shown_tag tag ≡ tag_in (read_as (kind_within (tight_below above) node.kind))) }
+        ensures refused { OnErr result (OwnsText item.body) }
     {
         match item.body {
             ItemBody::Paragraph => Ok(if self.is_tight() {
@@ -588,6 +606,7 @@ impl<'a> Walk<'a> {
 
     // Whether a paragraph among the siblings at hand stands directly in an item or a definition of a tight list (CommonMark 5.3).
     // In a document the parent of these is a list, so this looks at two nodes.
+    #[inline(always)]
     pub(crate) fn is_tight(&self) -> bool
         requires { IsBelow self.now }
         ensures { (z : Zip Item) (above : List Outer) → StandsBelow self.now z above → result ≡ tight_below above }

@@ -1,11 +1,11 @@
 -- What is known of the command whatever the words are.
-use Rattle.std.proofs.Common.{◌≡◌, ◌∙◌, ◌⊎◌, true, true≢false, List, inl, inr, refl, sym, ap}
-use Rattle.clap.specs.Words.{App, HasMatchesOf, IsAmong, Kinds, Text, found_of, is_simple, is_simple_and_free, matches_of, rows_of}
+use Rattle.std.proofs.Common.{◌≡◌, ◌∙◌, ◌⊎◌, ◌≤◌, ◌<◌, ◌∷◌, [], arith, length, map, true, true≢false, List, None, inl, inr, refl, sym, ap}
+use Rattle.clap.specs.Words.{App, HasMatchesOf, IsAmong, Kinds, Text, fault_of, found_of, is_simple, is_simple_and_free, matches_of, rows_of}
 use Rattle.clap.specs.declared.error.kind.ErrorKind.{ErrorKind}
 use Rattle.clap.specs.declared.error.kind.ErrorKind.TheVariants.{OutOfMemory}
 use Rattle.clap.specs.declared.parser.matches.ArgMatches.{ArgMatches}
 use Rattle.clap.proofs.OnLiterals.{clap_on_literals}
-use Rattle.mdhtml_settings.specs.Line.{HasLineFault, MayFail, asks_for_text, line_command}
+use Rattle.mdhtml_settings.specs.Line.{HasLineFault, MayFail, asks_for_text, bits_given, file_given, flags, line_command}
 use Rattle.mdhtml_settings.specs.declared.line.LineFault.{LineFault}
 use Rattle.mdhtml_settings.specs.declared.line.LineFault.TheVariants.{Help, Bad, Memory}
 
@@ -34,3 +34,22 @@ pub is_memory : (kind : ErrorKind) (fault : LineFault) → kind ≡ OutOfMemory 
 is_memory kind (Help text) out asks = absurd (true≢false (sym asks ∙ ap asks_for_text out))
 is_memory kind Bad out has = absurd (has.1 out)
 is_memory kind Memory out has = refl
+
+-- the program's own name alone asks for nothing, and is taken
+pub no_bits : (name word : Text) → bits_given flags (matches_of (line_command name) (word ∷ [])) ≡ 0
+unfolding clap_on_literals
+no_bits name word = refl
+
+pub no_file : (name word : Text) → file_given (matches_of (line_command name) (word ∷ [])) ≡ None
+unfolding clap_on_literals
+no_file name word = refl
+
+pub no_fault : (name word : Text) → fault_of (line_command name) (word ∷ []) ≡ []
+unfolding clap_on_literals
+no_fault name word = refl
+
+-- a list of one word, as it is shown
+pub only_word : {A : Type 0} (f : A → Text) (words : List A) → 1 ≤ length words → length words < 2 → (word : Text) × (map f words ≡ word ∷ [])
+only_word f [] low high = absurd (omega arith)
+only_word f (w ∷ []) low high = (f w, refl)
+only_word f (w ∷ v ∷ ws) low high = absurd (omega arith)

@@ -1,11 +1,12 @@
 //! The words of a command line.
 
-ghost use Rattle.std.specs.Prelude.{◌≡◌, true, map, string_bytes, option_map, IfOk, IfErr, MatchResult};
+ghost use Rattle.std.specs.Prelude.{◌≡◌, true, map, string_bytes, option_map, None, IfOk, IfErr, MatchResult};
 ghost use Rattle.clap.specs.Words.{app_of, fault_of, found_of, kind_of, matches_of, rows_of, takes};
 ghost use Rattle.mdhtml_settings.specs.Line.{bits_given, file_given, flags, line_command, option_bits, AnswersBy, HasLineFault};
 ghost use Rattle.mdhtml_settings.specs.declared.line.LineFault.TheVariants.{Memory};
 
 use crate::flags::{FLAGS, options_given, text_given, with_flags};
+use bitflags::Flags;
 use clap::error::ErrorKind;
 use clap::{Arg, ArgAction, ArgMatches, Command, Error};
 use cmark_text::Options;
@@ -22,6 +23,19 @@ pub struct Settings {
     pub options: Options,
     /// The file after `--entities`, if it was given.
     pub entities: Option<String>,
+}
+
+impl Settings {
+    /// Those that no word asks for.
+    fn none() -> Settings
+        ensures options { option_bits result.options ≡ 0 }
+        ensures file { result.entities ≡ None }
+    {
+        Settings {
+            options: Options::empty(),
+            entities: None,
+        }
+    }
 }
 
 /// Why the words of a command line give no settings.
@@ -109,6 +123,10 @@ pub fn parse_line<'a, S: AsStr>(
     ensures faults { AnswersBy (fault_of (line_command name.entry.now) (map S.text words.entry.now)) result }
     ensures passes { takes (line_command name.entry.now) (map S.text words.entry.now) ≡ true → IfErr result (λ f. f ≡ Memory) }
 {
+    // The program's own name alone asks for nothing, as most runs do: no command is made to read it.
+    if let [_] = words {
+        return Ok(Settings::none());
+    }
     let command = line_reader(alloc, name, about)?;
     match command.try_get_matches_from(words) {
         Ok(matches) => {

@@ -1,7 +1,7 @@
-use Rattle.std.proofs.Common.{◌∙◌, map, sym, ap, subst}
-use Rattle.clap.specs.Words.{App, HasKind, fault_of, is_simple_and_free, kind_of, takes}
+use Rattle.std.proofs.Common.{◌∙◌, map, option_map, string_bytes, sym, ap, subst}
+use Rattle.clap.specs.Words.{App, HasKind, fault_of, is_simple_and_free, kind_of, matches_of, takes}
 use Rattle.mdhtml_settings.specs.Line.{bits_given, file_given, flags, line_command}
-use Rattle.mdhtml_settings.proofs.LineSteps.{is_memory, may_fail, rows_are, simple_and_free}
+use Rattle.mdhtml_settings.proofs.LineSteps.{is_memory, may_fail, no_bits, no_fault, no_file, only_word, rows_are, simple_and_free}
 use Rattle.mdhtml_settings.proofs.line.parse_line.Goals as goal
 
 pub returns-in_ok-settings-in-Ok-clause-options : goal.returns-in_ok-settings-in-Ok-clause-options
@@ -27,3 +27,18 @@ pub returns-in-Err-clause-passes : goal.returns-in-Err-clause-passes
 returns-in-Err-clause-passes g c taken =
     is_memory (kind_of c.in-Err.error) c.line_fault.result
     (c.in-Err.ensures.passes (ap (λ (a : App). takes a (map g.S.AsStr.text c.args.words.now)) c.in_ok-command.ensures ∙ taken)) c.line_fault.ensures
+
+pub returns-in-len1-clause-options : goal.returns-in-len1-clause-options
+returns-in-len1-clause-options g c =
+    let only = only_word g.S.AsStr.text c.args.words.now c.in-len1.len_at_least c.in-len1.len_below in
+    c.none.ensures.options ∙ sym (ap (λ words. bits_given flags (matches_of (line_command c.args.name.now) words)) only.1 ∙ no_bits c.args.name.now only.0)
+
+pub returns-in-len1-clause-file : goal.returns-in-len1-clause-file
+returns-in-len1-clause-file g c =
+    let only = only_word g.S.AsStr.text c.args.words.now c.in-len1.len_at_least c.in-len1.len_below in
+    ap (option_map string_bytes) c.none.ensures.file ∙ sym (ap (λ words. file_given (matches_of (line_command c.args.name.now) words)) only.1 ∙ no_file c.args.name.now only.0)
+
+pub returns-in-len1-clause-faults : goal.returns-in-len1-clause-faults
+returns-in-len1-clause-faults g c =
+    let only = only_word g.S.AsStr.text c.args.words.now c.in-len1.len_at_least c.in-len1.len_below in
+    ap (fault_of (line_command c.args.name.now)) only.1 ∙ no_fault c.args.name.now only.0

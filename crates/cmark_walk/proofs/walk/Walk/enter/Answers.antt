@@ -1,5 +1,6 @@
 use Rattle.std.proofs.Common.{[], sym, ap, ◌∙◌}
 use Rattle.cmark_walk.specs.Reads.{shown_reading}
+use Rattle.cmark_walk.proofs.EndSteps.{around-otherwise, before-otherwise, owns-otherwise}
 use Rattle.cmark_walk.proofs.WalkSteps.{focus-node, is-drawn, has-focus, enters-around, enters-inside, enters-leaf, passes-alone, goes-after, on-err, unchanged-remains}
 use Rattle.cmark_walk.proofs.walk.Walk.enter.Goals as goal
 
@@ -60,3 +61,14 @@ returns-in-Inside-clause-goes c = (
   enters-inside c.args.self.now c.item-item.result.now c.args.ix c.args.self.now.tree c.requires.at.1 c.item-item.ensures c.requires.before
       (λ z above node b d. ap shown_reading (sym c.in-Inside.is) ∙ c.in_ok-tag.ensures.value z above node b d) c.requires.at.0.0 c.requires.at.0.1,
 )
+
+pub returns-in_err-tag-clause-ends : goal.returns-in_err-tag-clause-ends
+returns-in_err-tag-clause-ends c =
+    on-err c.from_residual.result _
+    (before-otherwise c.args.self.now c.item-item.result.now c.args.ix c.args.self.now.tree c.requires.at.1 c.item-item.ensures c.requires.before (owns-otherwise c.args.self.now c.item-item.result.now c.in_err-tag.ensures.refused))
+
+pub returns-in_err-push-in-Around-clause-ends : goal.returns-in_err-push-in-Around-clause-ends
+returns-in_err-push-in-Around-clause-ends c =
+    on-err c.from_residual-in_err-push-in-Around.result _
+    (before-otherwise c.args.self.now c.item-item.result.now c.args.ix c.args.self.now.tree c.requires.at.1 c.item-item.ensures c.requires.before
+    (around-otherwise c.args.self.now c.item-item.result.now _ (λ z above node b d. ap shown_reading (sym c.in-Around.is) ∙ c.in_ok-tag.ensures.value z above node b d)))

@@ -1,5 +1,6 @@
 use Rattle.std.proofs.Common.{[], subst}
 use Rattle.cmark_walk.specs.Walking.{IsTitleIn}
+use Rattle.cmark_walk.proofs.EndSteps.{listed-otherwise}
 use Rattle.cmark_walk.proofs.ListSteps.{enters-titled, enters-untitled, here-focus}
 use Rattle.cmark_walk.proofs.WalkSteps.{goes-after, on-err, unchanged-remains}
 use Rattle.cmark_walk.proofs.walk.Walk.enter_list.Goals as goal
@@ -30,3 +31,6 @@ pub returns-in-None-clause-goes : goal.returns-in-None-clause-goes
 returns-in-None-clause-goes c =
     let g = enters-untitled c.args.self.now c.args.ix c.requires.at.1 c.push.new.self c.in_ok-push.ensures.ok c.args.is_checked c.args.start c.args.end c.requires.listed
     (subst (IsTitleIn c.args.self.now c.args.ix) c.in-None.is c.title_in-title.ensures) c.requires.at.0.0 c.requires.at.0.1 in (g.0, g.2)
+
+pub returns-in_err-push-clause-ends : goal.returns-in_err-push-clause-ends
+returns-in_err-push-clause-ends c = on-err c.from_residual.result _ (listed-otherwise c.args.self.now c.args.is_checked c.args.start c.args.end c.requires.listed)

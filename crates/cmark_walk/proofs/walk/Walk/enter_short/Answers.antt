@@ -1,4 +1,5 @@
 use Rattle.std.proofs.Common.{sym, ◌∙◌}
+use Rattle.cmark_walk.proofs.EndSteps.{around-otherwise, before-otherwise}
 use Rattle.cmark_walk.proofs.ShortSteps.{enters-around-short, enters-leaf-short, goes-short, passes-short}
 use Rattle.cmark_walk.proofs.WalkSteps.{focus-node, is-drawn, has-focus, enters-inside, on-err, unchanged-remains}
 use Rattle.cmark_walk.proofs.walk.Walk.enter_short.Goals as goal
@@ -51,3 +52,9 @@ returns-in-Inside-clause-given c = λ lines left r. enters-inside c.args.self.no
 
 pub returns-in-Inside-clause-goes : goal.returns-in-Inside-clause-goes
 returns-in-Inside-clause-goes c = (c.requires.at.0.0, enters-inside c.args.self.now c.item-item.result.now c.args.ix c.args.self.now.tree c.requires.at.1 c.item-item.ensures c.requires.before c.in-Inside.ensures.value c.requires.at.0.0 c.requires.at.0.1)
+
+pub returns-in_err-push-in-Around-clause-ends : goal.returns-in_err-push-in-Around-clause-ends
+returns-in_err-push-in-Around-clause-ends c =
+    on-err c.from_residual.result _
+    (before-otherwise c.args.self.now c.item-item.result.now c.args.ix c.args.self.now.tree c.requires.at.1 c.item-item.ensures c.requires.before
+    (around-otherwise c.args.self.now c.item-item.result.now _ c.in-Around.ensures.value))

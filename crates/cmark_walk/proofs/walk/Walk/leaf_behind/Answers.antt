@@ -27,9 +27,9 @@ pub returns-in-Some-2 : goal.returns-in-Some-2
 returns-in-Some-2 c =
     leaf-behind c.args.self.now c.args.ix c.in-Some.next c.item-item.result.now c.item-item.ensures c.next.result c.requires.1 c.next.ensures c.in-Some.is c.in-Some-2.tag
     (λ text texts node d. sym c.if-not-is_leaf.false ∙ c.is_leaf.ensures text texts node d)
-    (λ z above node b d. tag-around (shown_tag c.in-Some-2.tag) _ (ap (option_map shown_tag) (sym c.in-Some-2.is) ∙ c.in_ok-tag.ensures z above node b d))
+    (λ z above node b d. tag-around (shown_tag c.in-Some-2.tag) _ (ap (option_map shown_tag) (sym c.in-Some-2.is) ∙ c.in_ok-tag.ensures.value z above node b d))
 
 pub returns-in-None : goal.returns-in-None
 returns-in-None c =
     other-behind c.args.self.now c.args.ix c.in-Some.next c.item-item.result.now c.item-item.ensures c.next.result c.requires.1 c.next.ensures c.in-Some.is
-    (λ z above node b d. inr (ap (option_map shown_tag) (sym c.in-None.is) ∙ c.in_ok-tag.ensures z above node b d))
+    (λ z above node b d. inr (ap (option_map shown_tag) (sym c.in-None.is) ∙ c.in_ok-tag.ensures.value z above node b d))

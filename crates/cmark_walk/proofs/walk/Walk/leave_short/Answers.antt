@@ -2,36 +2,32 @@ use Rattle.std.proofs.Common.{refl, sym, ap, ◌∙◌, option_map}
 use Rattle.cmark_text.specs.Shown.{shown_end}
 use Rattle.cmark_walk.specs.declared.reading.Step.TheVariants as step
 use Rattle.cmark_walk.proofs.ShortSteps.{ends-short, goes-short, ranged_end}
-use Rattle.cmark_walk.proofs.LeaveSteps.{parent-number, leaves-over, leaves-some, leaves-none}
+use Rattle.cmark_walk.proofs.LeaveSteps.{parent-below, parent-number, leaves-over, leaves-some, never-none}
 use Rattle.cmark_walk.proofs.walk.Walk.leave_short.Goals as goal
 
 pub item-item-requires : goal.item-item-requires
 item-item-requires c = parent-number c.args.self.now c.in-Some.ix c.pop.new.self c.requires.1 c.in-Some.ensures.result c.in-Some.ensures.popped c.requires.0
 
-pub returns-in-Some-end-clause-given : goal.returns-in-Some-end-clause-given
-returns-in-Some-end-clause-given c = λ lines.
+pub end-end-requires : goal.end-end-requires
+end-end-requires c = record { below = parent-below c.args.self.now c.in-Some.ix c.pop.new.self c.requires.1 c.in-Some.ensures.result c.in-Some.ensures.popped c.requires.0 }
+
+pub returns-clause-given : goal.returns-clause-given
+returns-clause-given c = λ lines.
     (ends-short c.args.self.now _ c.in-Some-end.end c.item-item.result.now
     (leaves-some c.args.self.now c.in-Some.ix c.pop.new.self c.requires.1 c.in-Some.ensures.result c.in-Some.ensures.popped c.item-item.result.now c.next_sibling.new.self c.item-item.ensures c.next_sibling.ensures.past
     c.in-Some-end.end (step.Event (ranged_end c.in-Some-end.end c.item-item.result.now)) (λ z above node b d. ap (option_map shown_end) (sym c.in-Some-end.is) ∙ c.end-end.ensures z above node b d) refl))
 
-pub returns-in-Some-end-clause-goes : goal.returns-in-Some-end-clause-goes
-returns-in-Some-end-clause-goes c = goes-short c.args.self.now _ _
+pub returns-clause-goes : goal.returns-clause-goes
+returns-clause-goes c = goes-short c.args.self.now _ _
     (ends-short c.args.self.now _ c.in-Some-end.end c.item-item.result.now
     (leaves-some c.args.self.now c.in-Some.ix c.pop.new.self c.requires.1 c.in-Some.ensures.result c.in-Some.ensures.popped c.item-item.result.now c.next_sibling.new.self c.item-item.ensures c.next_sibling.ensures.past
     c.in-Some-end.end (step.Event (ranged_end c.in-Some-end.end c.item-item.result.now)) (λ z above node b d. ap (option_map shown_end) (sym c.in-Some-end.is) ∙ c.end-end.ensures z above node b d) refl))
     c.requires.0
 
-pub returns-in-None-clause-given : goal.returns-in-None-clause-given
-returns-in-None-clause-given c = λ lines left r.
-    leaves-none c.args.self.now c.in-Some.ix c.pop.new.self c.requires.1 c.in-Some.ensures.result c.in-Some.ensures.popped c.item-item.result.now c.next_sibling.new.self c.item-item.ensures c.next_sibling.ensures.past
-    (λ z above node b d. ap (option_map shown_end) (sym c.in-None.is) ∙ c.end-end.ensures z above node b d) left r
-
-pub returns-in-None-clause-goes : goal.returns-in-None-clause-goes
-returns-in-None-clause-goes c = (
-  c.requires.0.0,
-  leaves-none c.args.self.now c.in-Some.ix c.pop.new.self c.requires.1 c.in-Some.ensures.result c.in-Some.ensures.popped c.item-item.result.now c.next_sibling.new.self c.item-item.ensures c.next_sibling.ensures.past
-      (λ z above node b d. ap (option_map shown_end) (sym c.in-None.is) ∙ c.end-end.ensures z above node b d) c.requires.0.0 c.requires.0.1,
-)
+pub unreachable-requires : goal.unreachable-requires
+unreachable-requires c =
+    never-none c.args.self.now c.in-Some.ix c.pop.new.self c.requires.1 c.in-Some.ensures.result c.in-Some.ensures.popped c.item-item.result.now c.next_sibling.new.self c.item-item.ensures c.next_sibling.ensures.past
+    (λ z above node b d. ap (option_map shown_end) (sym c.in-None.is) ∙ c.end-end.ensures z above node b d) c.requires.0
 
 pub returns-in_default-clause-given : goal.returns-in_default-clause-given
 returns-in_default-clause-given c = λ lines left r. leaves-over c.args.self.now c.pop.new.self c.requires.1 c.in_default.ensures.result c.in_default.ensures.popped left r

@@ -6,8 +6,8 @@ pub item-requires : goal.item-requires
 item-requires c = focus-node c.args.self.now c.args.ix c.requires.at
 
 pub returns-clause-given : goal.returns-clause-given
-returns-clause-given c = meets-leaf c.args.self.now c.item.result.now c.args.ix c.is_cell-is_cell.result c.gather.new.lines.items c.requires.at.1 c.item.ensures c.is_cell-is_cell.ensures c.requires.before c.in_ok-gather.ensures
+returns-clause-given c = meets-leaf c.args.self.now c.item.result.now c.args.ix c.is_cell-is_cell.result c.gather.new.lines.items c.requires.at.1 c.item.ensures c.is_cell-is_cell.ensures c.requires.before c.in_ok-gather.ensures.lines
 
 pub returns-clause-goes : goal.returns-clause-goes
 returns-clause-goes c =
-    let g = meets-leaf c.args.self.now c.item.result.now c.args.ix c.is_cell-is_cell.result c.gather.new.lines.items c.requires.at.1 c.item.ensures c.is_cell-is_cell.ensures c.requires.before c.in_ok-gather.ensures c.requires.at.0.0 c.requires.at.0.1 in (g.1, g.4)
+    let g = meets-leaf c.args.self.now c.item.result.now c.args.ix c.is_cell-is_cell.result c.gather.new.lines.items c.requires.at.1 c.item.ensures c.is_cell-is_cell.ensures c.requires.before c.in_ok-gather.ensures.lines c.requires.at.0.0 c.requires.at.0.1 in (g.1, g.4)

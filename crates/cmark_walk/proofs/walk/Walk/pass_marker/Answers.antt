@@ -1,7 +1,8 @@
 use Rattle.std.proofs.Common.{[], subst}
 use Rattle.cmark_walk.specs.Walking.{IsLeafBehind, IsListBehind}
+use Rattle.cmark_walk.proofs.EndSteps.{before-otherwise, task-otherwise}
 use Rattle.cmark_walk.proofs.MarkerSteps.{item-task, passes-marker, enters-listed, enters-marked}
-use Rattle.cmark_walk.proofs.WalkSteps.{focus-node, goes-after}
+use Rattle.cmark_walk.proofs.WalkSteps.{focus-node, goes-after, on-err}
 use Rattle.cmark_walk.proofs.walk.Walk.pass_marker.Goals as goal
 
 pub item-item-requires : goal.item-item-requires
@@ -45,3 +46,9 @@ returns-in-None-clause-goes c =
     (passes-marker c.args.self.now c.item-item.result.now c.args.ix c.next_sibling-2.new.self c.requires.at.1 c.item-item.ensures c.requires.before c.args.is_checked
     (item-task c.args.self.now c.item-item.result.now c.args.ix c.args.is_checked c.requires.at c.item-item.ensures c.requires.task) c.next_sibling-2.ensures.past
     (subst (IsLeafBehind c.args.self.now c.args.ix) c.in-None.is c.in_ok-behind.ensures) (subst (IsListBehind c.args.self.now c.args.ix) c.in_default.is c.definitions_behind.ensures) c.given-in-None.result c.given-in-None.ensures.value c.requires.at.0.0 [] c.requires.at.0.1)
+
+pub returns-in_err-behind-clause-ends : goal.returns-in_err-behind-clause-ends
+returns-in_err-behind-clause-ends c =
+    on-err c.from_residual.result _
+    (before-otherwise c.args.self.now c.item-item.result.now c.args.ix c.args.self.now.tree c.requires.at.1 c.item-item.ensures c.requires.before
+    (task-otherwise c.args.self.now c.item-item.result.now c.args.is_checked (item-task c.args.self.now c.item-item.result.now c.args.ix c.args.is_checked c.requires.at c.item-item.ensures c.requires.task)))

@@ -1,0 +1,51 @@
+-- The pairs of one run, and of two, that are all of a list.
+use Rattle.std.proofs.Common.{◌≡◌, Bool, true, false, ◌&&◌, arith, get_or, length, nat_lt, if◌then◌else◌, List, [], ◌∷◌, ◌++◌, refl, sym, ap, ◌∙◌, append-nil}
+use Rattle.std.specs.Prelude.{map, filter}
+use Rattle.cmark_emphasis.specs.Shown.{shown_run}
+use Rattle.cmark_emphasis.specs.declared.run.Run as code_run
+use Rattle.cmark_grammar.specs.Emphasis.{Run, Pair, Sibling, agrees, pair_of, shuts, runs_of}
+use Rattle.cmark_grammar.specs.EmphasisModel.{pairs_of}
+use Rattle.cmark_emphasis.specs.Stack.{chased, pair_all, rest_on, run_pairs, stays_open}
+use Rattle.cmark_emphasis.proofs.Bridge.{run_pairs-are}
+
+none_shut : (b : Bool) → (if b then filter stays_open [] else []) ≡ []
+none_shut true = refl
+none_shut false = refl
+
+-- a run alone pairs with none
+pub one_run : (run : Run) → run_pairs (run ∷ []) ≡ []
+unfolding chased
+one_run run = refl
+
+abbrev pub lone_pair : Bool → Pair → List Pair
+lone_pair pairs pair = if pairs then pair ∷ [] else []
+
+-- the second closes the first, if that is open and agrees
+pub two_runs : (first second : Run) → run_pairs (first ∷ (second ∷ [])) ≡ lone_pair (first.opens && (nat_lt 0 first.left && agrees first second)) (pair_of first second)
+unfolding chased
+two_runs first second = ap (λ opens. (chased second (rest_on first opens)).pairs ++ []) (none_shut (shuts first)) ∙ opened first.opens (nat_lt 0 first.left)
+  where
+    chosen : (a : Bool) → agrees first second ≡ a → (chased second (first ∷ [])).pairs ++ [] ≡ lone_pair a (pair_of first second)
+    chosen true e = rw e refl
+    chosen false e = rw e refl
+
+    opened : (b l : Bool) → (chased second (if b then (if l then first ∷ [] else []) else [])).pairs ++ [] ≡ lone_pair (b && (l && agrees first second)) (pair_of first second)
+    opened true true = chosen (agrees first second) refl
+    opened true false = refl
+    opened false l = refl
+
+-- the pairs of siblings whose runs are these
+pub few_pairs : (siblings : List Sibling) (runs : List Run) (before pairs : List Pair) → runs_of siblings ≡ runs → pairs ≡ before ++ run_pairs runs → pairs ≡ before ++ pairs_of siblings
+few_pairs siblings runs before pairs are is = is ∙ ap (λ l. before ++ l) (ap run_pairs (sym are) ∙ run_pairs-are siblings)
+
+-- runs of which there is one, and of which there are two
+pub one_is : (runs : List code_run.Run) → length runs ≡ 1 → run_pairs (map shown_run runs) ≡ []
+one_is [] e = absurd (omega arith)
+one_is (run ∷ []) e = one_run (shown_run run)
+one_is (run ∷ other ∷ runs) e = absurd (omega arith)
+
+pub two_are : (runs : List code_run.Run) (d e : code_run.Run) → length runs ≡ 2 → map shown_run runs ≡ shown_run (get_or runs 0 d) ∷ (shown_run (get_or runs 1 e) ∷ [])
+two_are [] d e is = absurd (omega arith)
+two_are (run ∷ []) d e is = absurd (omega arith)
+two_are (run ∷ other ∷ []) d e is = refl
+two_are (run ∷ other ∷ third ∷ runs) d e is = absurd (omega arith)
