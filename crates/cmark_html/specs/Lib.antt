@@ -1,3 +1,4 @@
 pub mod Parts
 pub mod Pushed
 pub mod Writer
+pub mod Starts

@@ -1,11 +1,12 @@
 //! The pieces of starts.
 
 ghost use Rattle.std.specs.Prelude.{◌≡◌, ◌++◌, ◌∷◌, [], OnOk, OnErr, codes, option_map, string_bytes, take_while};
-ghost use Rattle.cmark_grammar.specs.Html.{digit, start_piece, line_start_after_start, block_quote_start, code_block_start, fresh_line, is_within_word, language_start, list_start, link_start, scheme, title_attribute};
+ghost use Rattle.cmark_grammar.specs.Html.{Writing, digit, start_piece, line_start_after_start, block_quote_start, code_block_start, fresh_line, is_within_word, language_start, list_start, link_start, scheme, title_attribute};
 ghost use Rattle.cmark_text.specs.Appended.{AppendsFront};
 ghost use Rattle.cmark_text.specs.Short.{shown_plain};
 ghost use Rattle.cmark_text.specs.Shown.{level_number, shown_tag, shown_block_quote_kind, shown_code_block_kind, shown_link_type};
 ghost use Rattle.cmark_html.specs.Parts.{linked};
+ghost use Rattle.cmark_html.specs.Starts.{started};
 ghost use Rattle.cmark_html.specs.Writer.{writing};
 
 use crate::footnote::append_numbered_start;
@@ -72,6 +73,45 @@ pub fn append_start<'a>(
     }
 }
 
+/// What the start of an element that has no text of its own is written as.
+enum Start {
+    /// A text on a line of its own.
+    OnLine(&'static str),
+    /// A text where the writer is.
+    Here(&'static str),
+    /// A list, with its first number if it is ordered.
+    Listing(Option<u64>),
+    /// A cell of a table.
+    Cell,
+}
+
+/// What such a start is written as.
+#[inline(always)]
+fn start_of(tag: PlainTag) -> Start
+    ensures { (w : Writing) → started w result ≡ start_piece w (shown_plain tag) }
+{
+    match tag {
+        PlainTag::Paragraph => Start::OnLine("<p>"),
+        PlainTag::Heading(level) => Start::OnLine(heading_start_text(level)),
+        PlainTag::BlockQuote(kind) => Start::OnLine(block_quote_text(kind)),
+        PlainTag::IndentedCode => Start::OnLine("<pre><code>"),
+        PlainTag::List(first) => Start::Listing(first),
+        PlainTag::Item => Start::OnLine("<li>"),
+        PlainTag::DefinitionList => Start::OnLine("<dl>\n"),
+        PlainTag::DefinitionListTitle => Start::OnLine("<dt>"),
+        PlainTag::DefinitionListDefinition => Start::OnLine("<dd>"),
+        PlainTag::TableHead => Start::Here("<thead><tr>"),
+        PlainTag::TableRow => Start::Here("<tr>"),
+        PlainTag::TableCell => Start::Cell,
+        PlainTag::Emphasis => Start::Here("<em>"),
+        PlainTag::Strong => Start::Here("<strong>"),
+        PlainTag::Strikethrough => Start::Here("<del>"),
+        PlainTag::Superscript => Start::Here("<sup>"),
+        PlainTag::Subscript => Start::Here("<sub>"),
+        PlainTag::HtmlBlock | PlainTag::MetadataBlock(_) => Start::Here(""),
+    }
+}
+
 /// Appends the start of an element that has no text of its own.
 #[inline(always)]
 pub fn append_plain_start(
@@ -83,25 +123,11 @@ pub fn append_plain_start(
     ensures err { OnErr result (AppendsFront (string_bytes out.old) (string_bytes out.new) (start_piece (writing writer.now) (shown_plain tag))) }
 {
     let line_start = writer.line_start;
-    match tag {
-        PlainTag::Paragraph => append_on_line(out, line_start, "<p>"),
-        PlainTag::Heading(level) => append_on_line(out, line_start, heading_start_text(level)),
-        PlainTag::BlockQuote(kind) => append_on_line(out, line_start, block_quote_text(kind)),
-        PlainTag::IndentedCode => append_on_line(out, line_start, "<pre><code>"),
-        PlainTag::List(first) => append_list(out, line_start, first),
-        PlainTag::Item => append_on_line(out, line_start, "<li>"),
-        PlainTag::DefinitionList => append_on_line(out, line_start, "<dl>\n"),
-        PlainTag::DefinitionListTitle => append_on_line(out, line_start, "<dt>"),
-        PlainTag::DefinitionListDefinition => append_on_line(out, line_start, "<dd>"),
-        PlainTag::TableHead => append(out, "<thead><tr>"),
-        PlainTag::TableRow => append(out, "<tr>"),
-        PlainTag::TableCell => writer.table.append_cell_start(out),
-        PlainTag::Emphasis => append(out, "<em>"),
-        PlainTag::Strong => append(out, "<strong>"),
-        PlainTag::Strikethrough => append(out, "<del>"),
-        PlainTag::Superscript => append(out, "<sup>"),
-        PlainTag::Subscript => append(out, "<sub>"),
-        PlainTag::HtmlBlock | PlainTag::MetadataBlock(_) => Ok(()),
+    match start_of(tag) {
+        Start::OnLine(text) if !line_start => append_on_line(out, line_start, text),
+        Start::OnLine(text) | Start::Here(text) => append(out, text),
+        Start::Listing(first) => append_list(out, line_start, first),
+        Start::Cell => writer.table.append_cell_start(out),
     }
 }
 
