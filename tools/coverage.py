@@ -44,7 +44,7 @@ def is_covered(stands, crate, kind, parts):
     if len(parts) == 1 or parts[1][0].isupper() or (parts[0], None) in names:
         return bool(types)
     # a method that no item declares is derived for its type
-    declared = {it.owner for it in stands.scope.named[parts[1]] if it.kind == "fn"}
+    declared = {it.owner for it in stands.scope.methods[parts[1]]}
     return any((parts[1], it) in names or it not in declared for it in types)
 
 

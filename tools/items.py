@@ -16,11 +16,18 @@ Token = collections.namedtuple("Token", "start end kind text")
 
 
 class Piece:
-    """A part of a source file: a digest of its tokens, and the words in them."""
+    """A part of a source file: a digest of its tokens, the words in them, and those of them that may name a function or a method."""
 
     def __init__(self, tokens):
-        self.digest = hashlib.sha256(" ".join(it.text for it in tokens).encode()).digest()
+        texts = [it.text for it in tokens]
+        self.digest = hashlib.sha256(" ".join(texts).encode()).digest()
         self.words = frozenset(word for it in tokens if it.kind != "Literal" for word in WORD.findall(it.text))
+        # what stands before each token, but for the dots of a range, and behind it
+        befores = ["", *("" if pair == (".", ".") else pair[1] for pair in zip(["", *texts], texts))]
+        code = [(before, text, behind) for it, before, text, behind in zip(tokens, befores, texts, [*texts[1:], ""]) if it.kind == "Code"]
+        self.functions = frozenset(text for before, text, _ in code if before != ".")
+        # behind the name of a field stand no parenthesis and no colon, as behind that of `parse::<u8>`
+        self.methods = frozenset(text for before, text, behind in code if before == ":" or before == "." and behind in ("(", ":"))
 
 
 class Item:
@@ -99,6 +106,10 @@ def implemented(front):
 def split(file, tokens, outer=None):
     """The items of a file, or of the inside of an impl block or a module, those within them included."""
     at, items = 0, []
+    while [it.text for it in tokens[at : at + 3]] == ["#", "!", "["]:
+        past = at + 1 + next(place for place, token in enumerate(tokens[at:]) if token.text == "]")
+        items.append(Item(file, "attribute", "", outer, tokens[at:past], tokens[at:past]))
+        at = past
     while (key := keyword_at(tokens, at)) is not None:
         kind = tokens[key].text
         past, body = past_item(tokens, key, kind)

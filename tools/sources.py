@@ -19,17 +19,19 @@ RENAMING = re.compile(r"([^\W\d]\w*)\s+as\s+([^\W\d]\w*)")
 
 
 class Scope:
-    """The items that functions of a crate can name, by their names; impl blocks by their types."""
+    """The items that functions of a crate can name, by their names; methods also by their types, and impl blocks."""
 
     def __init__(self, all_items):
-        self.named, self.methods, self.blocks = (collections.defaultdict(list) for _ in range(3))
+        self.named, self.functions, self.methods, self.methods_of, self.blocks = (collections.defaultdict(list) for _ in range(5))
         for item in all_items:
             if item.kind == "impl":
                 self.blocks[item.owner].append(item.block)
-            elif item.kind == "fn" and item.owner is not None:
-                self.methods[item.owner].append(item)
-                self.named[item.name].append(item)
-            elif item.kind not in ("use", "ghost use", "mod"):
+            elif item.kind == "fn" and item.owner is None:
+                self.functions[item.name].append(item)
+            elif item.kind == "fn":
+                self.methods[item.name].append(item)
+                self.methods_of[item.owner].append(item)
+            elif item.kind not in ("use", "ghost use", "mod", "attribute"):
                 self.named[item.name].append(item)
 
 
@@ -137,7 +139,7 @@ class Sources:
 
     @functools.cache
     def named_by(self, item, piece):
-        """What a piece of an item names: files of definitions, further items, and words."""
+        """What a piece of an item names: files of definitions and further items, and the names of what it has under other ones."""
         files, found = self.imported_by(item)
         held, block = [it for it in self.items_in(item.file) if it.kind == "ghost use" and it.block is None], item.block
         while block is not None:
@@ -147,7 +149,7 @@ class Sources:
         for files_of, items_of, words in map(self.used_by, held):
             if words is None or words & piece.words:
                 files, found = files | files_of, found | items_of
-        return files, found, piece.words | {name for name, other in self.renamings(item.file) if other in piece.words}
+        return files, found, {name for name, other in self.renamings(item.file) if other in piece.words}
 
     def stands(self, crate, changes, function):
         """What the verdict on an edit with these changes stands on, which this function of the crate, or file of computed samples, has to refuse."""
@@ -166,11 +168,13 @@ class Stands:
 
     def __init__(self, sources, crate):
         self.sources, self.crate, self.scope = sources, crate, sources.scope(crate)
-        self.files, self.pieces, self.words = set(), set(), set()
+        self.files, self.pieces, self.words, self.functions, self.called = set(), set(), set(), set(), set()
         # Pieces of which it was not seen yet what they name.
         self.left = []
-        for item in sources.items_of(crate).get(sources.crates / crate / "src" / "lib.rt", []):
-            self.add(item, item.shown)
+        for file in ("lib.rt", "main.rt"):
+            for item in sources.items_of(crate).get(sources.crates / crate / "src" / file, []):
+                if item.kind == "attribute":
+                    self.add(item, item.shown)
 
     def add(self, item, piece):
         """A piece of an item, and where the item stands in an impl block, its front."""
@@ -206,28 +210,29 @@ class Stands:
             for file in [*place.rglob("*.antt"), *around] if place.is_dir() else [place, *around]:
                 self.add_file(file)
 
-    def add_named(self, words):
-        """What these new words name: a method where its type is named too, and all that a trait's impl block says of a type."""
+    def add_named(self, words, functions, methods):
+        """What these words name: a method where its type is named too, and all that a trait's impl block says of a type."""
+        words, functions, methods = words - self.words, functions - self.functions, methods - self.called
         self.words |= words
-        for word in words:
-            for item in self.scope.named[word]:
-                if item.kind != "fn" or item.owner is None or item.owner in self.words:
-                    self.add(item, item.shown)
-            for item in self.scope.methods[word]:
-                if item.name in self.words:
-                    self.add(item, item.shown)
-            for block in self.scope.blocks[word]:
-                for item in block.items if block.is_of_trait else ():
-                    if item.kind != "ghost use":
-                        self.add(item, item.shown)
+        self.functions |= functions
+        self.called |= methods
+        found = [item for word in words for item in self.scope.named[word]]
+        found += [item for word in functions for item in self.scope.functions[word]]
+        found += [item for word in methods for item in self.scope.methods[word] if item.owner in self.words]
+        found += [item for word in words for item in self.scope.methods_of[word] if item.name in self.called]
+        blocks = [block for word in words for block in self.scope.blocks[word] if block.is_of_trait]
+        found += [item for block in blocks for item in block.items if item.kind != "ghost use"]
+        for item in found:
+            self.add(item, item.shown)
 
     def close(self):
         while self.left:
-            files, found, words = self.sources.named_by(*self.left.pop())
+            item, piece = self.left.pop()
+            files, found, other_names = self.sources.named_by(item, piece)
             self.files |= files
-            for item in found:
-                self.add(item, item.whole)
-            self.add_named(words - self.words)
+            for named in found:
+                self.add(named, named.whole)
+            self.add_named(piece.words | other_names, piece.functions | other_names, piece.methods | other_names)
         return self
 
     def number(self, edit):

@@ -28,3 +28,7 @@ writing writer = record {
 -- the same at a line start, or not
 abbrev pub at_start : Bool → html.Writing → html.Writing
 at_start line_start w = record { line_start = line_start; image = w.image; in_metadata = w.in_metadata; table = w.table; names = w.names }
+
+-- the same with these names of footnotes
+abbrev pub with_names : List (List ℕ) → html.Writing → html.Writing
+with_names names w = record { line_start = w.line_start; image = w.image; in_metadata = w.in_metadata; table = w.table; names = names }

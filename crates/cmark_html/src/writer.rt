@@ -8,7 +8,7 @@ ghost use Rattle.cmark_grammar.specs.Tag.{Paragraph};
 ghost use Rattle.cmark_grammar.specs.TagEnd.{Paragraph as ParagraphEnd};
 ghost use Rattle.cmark_text.specs.Appended.{AppendsFront};
 ghost use Rattle.cmark_text.specs.Shown.{shown, shown_tag};
-ghost use Rattle.cmark_html.specs.Writer.{shown_image, shown_names, shown_table, writing};
+ghost use Rattle.cmark_html.specs.Writer.{shown_image, shown_names, shown_table, with_names, writing};
 
 use crate::end::{append_end, line_start_after_end};
 use crate::footnote::{FootnoteNames, append_numbered_reference};
@@ -84,12 +84,28 @@ pub fn write_in_image<'a>(
     ensures state { OnOk result (writing writer.new ≡ moved (writing writer.old) (shown event.entry)) }
     ensures err { OnErr result (AppendsFront (string_bytes out.old) (string_bytes out.new) (piece (writing writer.old) (shown event.entry))) }
 {
+    append_inside(out, writer, &event)?;
+    keep_inside(&mut writer.names, event)
+}
+
+/// Appends this piece, and keeps what the event says but of footnotes.
+fn append_inside<'a>(
+    out: &mut String,
+    writer: &mut Writer<'a>,
+    event: &Event<'a>,
+) -> Result<(), AllocError>
+    requires { is_some writer.old.image ≡ true }
+    ensures ok { OnOk result (string_bytes out.new ≡ string_bytes out.old ++ piece (writing writer.old) (shown event.now)) }
+    ensures state { OnOk result (writing writer.new ≡ with_names (writing writer.old).names (moved (writing writer.old) (shown event.now))) }
+    ensures names { writer.new.names ≡ writer.old.names }
+    ensures err { OnErr result (AppendsFront (string_bytes out.old) (string_bytes out.new) (piece (writing writer.old) (shown event.now))) }
+{
     let Some(image) = writer.image.take() else {
         return Ok(());
     };
-    writer.image = write_inside(out, image, &writer.names, &event)?;
+    writer.image = write_inside(out, image, &writer.names, event)?;
     writer.line_start = false;
-    keep_inside(&mut writer.names, event)
+    Ok(())
 }
 
 /// Keeps what an event inside of an image says.

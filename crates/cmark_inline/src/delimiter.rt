@@ -100,6 +100,7 @@ impl Delimiters {
 
     /// Resolves the runs from this one on, which are those of one list of siblings, and forgets them. Each of their bytes is a text in a
     /// slot of its own.
+    #[inline(always)]
     pub fn resolve(
         &mut self,
         first: usize,

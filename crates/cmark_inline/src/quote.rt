@@ -83,6 +83,7 @@ impl Quotes {
 
     /// Gives the quotes from this one on, which are those of one list of siblings, their characters, and forgets them. Each of them is a
     /// text in a slot.
+    #[inline(always)]
     pub fn resolve(&mut self, first: usize, slots: &mut Vec<Slot>) -> Result<(), AllocError>
         requires first { first ≤ length self.old.placed.items }
         requires texts { HaveTexts slots.old.items (drop first self.old.placed.items) }

@@ -73,6 +73,7 @@ impl<'a> InlineState<'a> {
     }
 
     // A bracket that may open a link or an image.
+    #[inline(always)]
     pub(crate) fn open_bracket(
         &mut self,
         options: Options,
