@@ -164,11 +164,11 @@ module _ (leaf : LeafText) (reader : Reader) (read : Leaf) (place : ℕ → ℕ)
     place_is : display_place close wikilink.display ≡ t
     place_is = ap (display_place close) shows_at
 
-    from_is : shows.from ≡ n
-    from_is = shows.behind there ∙ (let q : b.slot + 1 ≡ suc b.slot = omega arith in q)
+    from_is : b.slot + 1 ≡ n
+    from_is = omega arith
 
     first : IsFirstBehind slots n t at
-    first = subst (λ f. IsFirstBehind slots f t at) from_is (subst (λ p. IsFirstBehind slots shows.from p at) place_is shows.first)
+    first = subst (λ f. IsFirstBehind slots f t at) from_is (subst (λ p. IsFirstBehind slots (b.slot + 1) p at) place_is shows.first)
 
     front-count : length front ≡ n
     front-count = length-take-le n slots (omega (arith, there))
@@ -191,7 +191,7 @@ module _ (leaf : LeafText) (reader : Reader) (read : Leaf) (place : ℕ → ℕ)
         let to : at ≡ length front + length mid = (let a = at_is in omega (arith, a, f)) in
         hides-part front mid rest shows.between
         (subst (λ l. Hides (length front) (length front + length mid) l shows.between) parts
-        (subst (λ m. Hides m (length front + length mid) slots shows.between) (from_is ∙ sym f) (subst (λ m. Hides shows.from m slots shows.between) to shows.hides)))
+        (subst (λ m. Hides m (length front + length mid) slots shows.between) (from_is ∙ sym f) (subst (λ m. Hides (b.slot + 1) m slots shows.between) to shows.hides)))
 
     name : List Slot
     name = shown_name (record b { inside = inner + 1 }) close wikilink.source_end (Some t)

@@ -1,6 +1,6 @@
 -- What links, images and footnote references leave of the slots, the runs, the quotes and the brackets.
 use Rattle.std.proofs.Common.{◌≡◌, ◌⊎◌, inl, inr, ℕ, zero, suc, ◌+◌, ◌-◌, ◌<◌, ◌≤◌, List, [], ◌∷◌, ◌++◌, length, take, drop, get_or, set, Some, None, refl, sym, ap, subst, ◌∙◌, arith}
-use Rattle.std.specs.Prelude.{All, Bool, true, false, if◌then◌else◌, min, nat_lt}
+use Rattle.std.specs.Prelude.{All, Bool, true, false, if◌then◌else◌, nat_lt}
 use Rattle.std.proofs.lemmas.Bool.{cases_eq, cases_lt, ltb-true, ltb-false}
 use Rattle.std.proofs.lemmas.List.{length_push, length-set, length-take, get_or-take, get_or_append_left, get_or_push, get_or-set_same, get_or-set_other, take_all}
 use Rattle.cmark_leaf_text.specs.declared.leaf_text.LeafText.{LeafText}
@@ -202,7 +202,7 @@ puts-there at s slots le new e = go (nat_lt at (length slots)) refl
 -- the slots from the bracket's on became nothing, but for the `!` before a reference and the reference
 module _ (old new : List Slot) (bracket : Bracket) (reference : Slot) (puts : PutsReference bracket reference old new) (there : bracket.slot < length old) where
   abbrev place : ℕ
-  place = reference_slot bracket (length old)
+  place = reference_slot bracket
 
   abbrev Put : (k : ℕ) → Slot → Type 0
   Put k d = ((k ≡ place) × (get_or new k d ≡ reference)) ⊎ (((k < bracket.slot) × (get_or new k d ≡ get_or old k d)) ⊎ ((bracket.slot ≤ k) × (((get_or new k d).kind ≡ kind.Text) ⊎ ((get_or new k d).kind ≡ kind.Nothing))))
@@ -214,8 +214,7 @@ module _ (old new : List Slot) (bracket : Bracket) (reference : Slot) (puts : Pu
   mark = record { kind = kind.Text; start = bracket.start; end = bracket.start + 1 }
 
   place-is : (z : Bool) → bracket.is_image ≡ z → place ≡ (if z then bracket.slot + 1 else bracket.slot)
-  place-is true e = ap (λ z. min (if z then bracket.slot + 1 else bracket.slot) (length old)) e ∙ (let q : min (bracket.slot + 1) (length old) ≡ bracket.slot + 1 = omega (arith, there) in q)
-  place-is false e = ap (λ z. min (if z then bracket.slot + 1 else bracket.slot) (length old)) e ∙ (let q : min bracket.slot (length old) ≡ bracket.slot = omega (arith, there) in q)
+  place-is z e = ap (λ y. if y then bracket.slot + 1 else bracket.slot) e
 
   marks-are : (z : Bool) → bracket.is_image ≡ z → marked-slots ≡ (if z then set puts.between bracket.slot mark else puts.between)
   marks-are z e = ap (λ z. if z then set puts.between bracket.slot mark else puts.between) e
@@ -332,9 +331,9 @@ module _ (texts links : ℕ) (old new : List Slot) (bracket : Bracket) (referenc
       let loose = put-alone old new bracket reference puts there alone in
       sound-back texts links old runs quotes [] left fewer bracket taken.placed (λ k d lt. absurd (omega (arith, lt))) (left-before doubled left bracket h.doubled_end text at are taken.doubled_before drops) (texts + 1) links new
       (let w = a.0 in let n = length-marked old new bracket reference puts there in let q : length old ≤ length new = omega (arith, w, n) in q) same
-      (named-text (reference_slot bracket (length old)) reference old new (put-adds old new bracket reference puts there) texts links h.named (ap text_named is) (ap link_named is))
+      (named-text (reference_slot bracket) reference old new (put-adds old new bracket reference puts there) texts links h.named (ap text_named is) (ap link_named is))
       (whole-cut old new bracket.slot there taken.placed.text same loose further h.whole)
       (within-cut old new bracket.slot there taken.placed.text same loose further h.whole)
 
   pub reference-ended : bracket.slot < length old → source_end reference.kind ≡ None → (leaf : LeafText) → AreEnded leaf old → AreEnded leaf new
-  reference-ended there none leaf e = one-ended (reference_slot bracket (length old)) reference old new (put-adds old new bracket reference puts there) leaf e (subst (λ o. EndsIn leaf reference.end o) (sym none) tt)
+  reference-ended there none leaf e = one-ended (reference_slot bracket) reference old new (put-adds old new bracket reference puts there) leaf e (subst (λ o. EndsIn leaf reference.end o) (sym none) tt)

@@ -1,6 +1,6 @@
 -- The slots behind an opening bracket that become nothing, and those that are put in their place.
 use Rattle.std.proofs.Common.{◌≡◌, ℕ, suc, ◌+◌, ◌-◌, ◌<◌, Bool, true, false, List, [], ◌∷◌, ◌++◌, length, drop, take, get_or, set, refl, sym, ap, subst, ◌∙◌, arith, append_assoc, append-nil, length-append}
-use Rattle.std.specs.Prelude.{if◌then◌else◌, map, min, nat_lt}
+use Rattle.std.specs.Prelude.{if◌then◌else◌, map, nat_lt}
 use Rattle.std.proofs.Math.Seq.{drop-cons, set-append_seam}
 use Rattle.std.proofs.lemmas.Bool.{ltb-true, ltb-false}
 use Rattle.std.proofs.lemmas.List.{length-take-le, map-append, take-append-drop, take-map}
@@ -81,7 +81,7 @@ module _ (old new : List Slot) (bracket : Bracket) (reference : Slot) (puts : Pu
   mark = mark_slot bracket
 
   abbrev place : ℕ
-  place = reference_slot bracket (length old)
+  place = reference_slot bracket
 
   size : length front ≡ bracket.slot
   size = length-take-le bracket.slot old (omega (arith, there))
@@ -97,7 +97,7 @@ module _ (old new : List Slot) (bracket : Bracket) (reference : Slot) (puts : Pu
 
   put-plain : bracket.is_image ≡ false → Put false
   put-plain e =
-      let at : place ≡ length front = ap (λ z. min (if z then bracket.slot + 1 else bracket.slot) (length old)) e ∙ (let q : min bracket.slot (length old) ≡ bracket.slot = omega (arith, there) in q) ∙ sym size in
+      let at : place ≡ length front = ap (λ z. if z then bracket.slot + 1 else bracket.slot) e ∙ sym size in
       let between : puts.between ≡ front ++ (hidden here ∷ map hidden rest) =
       hides-behind front (here ∷ rest) puts.between
       (subst (λ l. Hides (length front) (length l) l puts.between) (sym parts) (subst (λ n. Hides n (length old) old puts.between) at puts.hides)) in
@@ -127,7 +127,7 @@ module _ (old new : List Slot) (bracket : Bracket) (reference : Slot) (puts : Pu
   put-image e =
       let one : List Slot = here ∷ [] in
       let long = length-append front one in
-      let at : place ≡ length (front ++ one) = ap (λ z. min (if z then bracket.slot + 1 else bracket.slot) (length old)) e ∙ (let s = size in let q : min (bracket.slot + 1) (length old) ≡ length (front ++ one) = omega (arith, there, long, s) in q) in
+      let at : place ≡ length (front ++ one) = ap (λ z. if z then bracket.slot + 1 else bracket.slot) e ∙ (let s = size in let q : bracket.slot + 1 ≡ length (front ++ one) = omega (arith, long, s) in q) in
       let all : (front ++ one) ++ rest ≡ old = append_assoc front one rest ∙ parts in
       let between : puts.between ≡ (front ++ one) ++ map hidden rest =
       hides-behind (front ++ one) rest puts.between

@@ -27,7 +27,7 @@ use Rattle.cmark_inline.specs.declared.slot.SlotKind.TheVariants as kind
 abbrev pub no-slot : Slot
 no-slot = record { kind = kind.Text; start = 0; end = 0 }
 
-not-text : kind.Nothing ≢ kind.Text
+pub not-text : kind.Nothing ≢ kind.Text
 not-text e = cc
 
 -- ## Whole texts
@@ -219,13 +219,13 @@ module _ (slots : List Slot) (begun : List ℕ) (at : ℕ) (places : List ℕ) (
       begin-behind [] b = b
       begin-behind (x ∷ kinds) b = b
 
-  pub ready-blank : (new : List Slot) → Ready mark.Blank → ((d : Slot) → at < length slots → new ≡ set slots at (hidden (get_or slots at d))) → AreReady new begun places others
+  pub ready-blank : (new : List Slot) → Ready mark.Blank → ((d : Slot) → new ≡ set slots at (hidden (get_or slots at d))) → AreReady new begun places others
   ready-blank new r is =
       let f = r.ahead.1 in
       let e = r.ahead.5 in
       let s : Slot = hidden (get_or slots at no-slot) in
       let same = same-set at s slots in
-      subst (λ (l : List Slot). AreReady l begun places others) (sym (is no-slot r.ahead.2)) (record {
+      subst (λ (l : List Slot). AreReady l begun places others) (sym (is no-slot)) (record {
         from = suc at;
         end = r.ahead.0;
         behind = begun-further (set slots at s) at (suc at) r.ahead.0 r.ahead.0 begun (begun-around at (suc at) at r.ahead.0 slots (set slots at s) begun same (omega arith) (begun-further slots r.from at r.end r.ahead.0 begun r.behind f e)) (omega arith) (omega arith);
@@ -430,12 +430,11 @@ module _ (slots new : List Slot) (begun begun1 : List ℕ) (at : ℕ) (places : 
 
 -- the first slot of an element, behind the end of it
 pub begun-behind : (old mid new : List Slot) (first last at end : ℕ) (e : Element) (d : Slot) → last ≡ first → mid ≡ set old at (ended (get_or old at d)) → end ≡ (get_or old at d).end
-    → ((d1 : Slot) → last < length mid → new ≡ set mid last (begun_as e end (get_or mid last d1))) → first < at → at < length old
+    → ((d1 : Slot) → new ≡ set mid last (begun_as e end (get_or mid last d1))) → first < at
     → new ≡ set (set old at (ended (get_or old at d))) first (begun_as e (get_or old at d).end (get_or old first d))
-begun-behind old mid new first last at end e d same m n is lt within =
+begun-behind old mid new first last at end e d same m n is lt =
     let a : Slot = ended (get_or old at d) in
-    let size = ap length m ∙ length-set old at a in
-    is d (let q : last < length mid = omega (arith, same, size, lt, within) in q)
+    is d
     ∙ ap (λ (l : List Slot). set l last (begun_as e end (get_or l last d))) m
     ∙ ap (λ j. set (set old at a) j (begun_as e end (get_or (set old at a) j d))) same
     ∙ ap (λ j. set (set old at a) first (begun_as e j (get_or (set old at a) first d))) n

@@ -1,20 +1,22 @@
 -- The bytes of placed runs, and the marks that are written into their slots.
-use Rattle.std.proofs.Common.{◌≡◌, ◌⊎◌, inl, inr, ⊎_elim, min, ℕ, zero, suc, ◌+◌, ◌<◌, ◌≤◌, List, [], ◌∷◌, ◌++◌, length, drop, take, get_or, refl, sym, ap, subst, append_assoc, ◌∙◌, arith}
+use Rattle.std.proofs.Common.{◌≡◌, ⊎_elim, ℕ, zero, suc, ◌+◌, ◌-◌, ◌<◌, ◌≤◌, List, [], ◌∷◌, ◌++◌, length, drop, take, get_or, set, refl, sym, ap, subst, append_assoc, ◌∙◌, arith}
 use Rattle.std.specs.Prelude.{map, reverse}
 use Rattle.std.proofs.Math.Seq.{drop-cons}
 use Rattle.std.proofs.lemmas.Bool.{cases_lt}
-use Rattle.std.proofs.lemmas.List.{drop_all, get_or_default, reverse-append, map-append}
+use Rattle.std.proofs.lemmas.List.{drop_all, get_or_default, length-drop, length-map, length-set, reverse-append, map-append, take_all}
 use Rattle.cmark_emphasis.specs.Shown.{shown_run}
 use Rattle.cmark_emphasis.specs.Slots.{AreBalanced, slots_of}
 use Rattle.cmark_emphasis.specs.Slots as code_sides
 use Rattle.cmark_emphasis.specs.declared.run.Run as code_run
 use Rattle.cmark_emphasis.specs.declared.slot.Slot as code_mark
 use Rattle.cmark_emphasis.specs.declared.slot.Slot.TheVariants as mark
-use Rattle.cmark_grammar.specs.Emphasis.{Pair, IsEmphasis, StandFrom, places_taken, runs_of}
-use Rattle.cmark_grammar.specs.EmphasisModel.{spans_of}
+use Rattle.cmark_grammar.specs.Emphasis.{Pair, IsEmphasis, StandFrom, kinds_of, places_taken, runs_of}
+use Rattle.cmark_grammar.specs.EmphasisModel.{pairs_of, spans_of}
+use Rattle.cmark_grammar.specs.SpanEntries as entries
 use Rattle.cmark_grammar.specs.Options.{Options}
 use Rattle.cmark_grammar.specs.Spans.{SpanKind, Emphasis, Strong, SingleTilde, DoubleTilde, Caret, Spans, span_width}
 use Rattle.cmark_grammar.proofs.EmphasisOne.{one}
+use Rattle.cmark_grammar.proofs.EmphasisSound.{sound as emphasis}
 use Rattle.cmark_grammar.proofs.SpanEntries.{pairs-marked}
 use Rattle.cmark_inline_model.specs.SlotRows as row
 use Rattle.cmark_inline_model.specs.SlotRows.{Mark, marked, Stays, opening, closing, marks_by, marks_of, run_places}
@@ -32,7 +34,7 @@ pub stand-so : (at : ℕ) (placed : List PlacedRun) → StandFrom at (siblings_f
 stand-so at [] = tt
 stand-so at (p ∷ placed) = (refl, refl, stand-so (at + p.run.size) placed)
 
-length-run : (at size : ℕ) (behind : List ℕ) → length (run_places at size behind) ≡ size + length behind
+pub length-run : (at size : ℕ) (behind : List ℕ) → length (run_places at size behind) ≡ size + length behind
 length-run at zero behind = let e : length behind ≡ 0 + length behind = omega arith in e
 length-run at (suc size) behind = let h = length-run (suc at) size behind in let e : suc (length (run_places (suc at) size behind)) ≡ suc size + length behind = omega (arith, h) in e
 
@@ -89,6 +91,37 @@ marks-are placed marks pairs spans e is =
     ∙ ap (λ ps. marks_by (places_taken sib) ps) (sym (one sib pairs spans e).0)
     ∙ ap (λ n. marks_by n pairs) (sym (length-places 0 placed))
 
+-- pairs write into a row of entries, and leave as many of them
+module _ (Entry : Type 0) (single : Entry) (open_side close_side : SpanKind → List Entry) where
+  length-write : (at : ℕ) (xs all : List Entry) → length (entries.write at xs all) ≡ length all
+  length-write at [] all = refl
+  length-write at (x ∷ xs) all = length-write (suc at) xs (set all at x) ∙ length-set all at x
+
+  length-spans : (kinds : List SpanKind) (from to : ℕ) (all : List Entry) → length (entries.mark_spans Entry single open_side close_side kinds from to all) ≡ length all
+  length-spans [] from to all = refl
+  length-spans (k ∷ kinds) from to all =
+      let first = entries.write (from - span_width k) (open_side k) all in
+      length-spans kinds (from - span_width k) (to + span_width k) (entries.write to (close_side k) first) ∙ length-write to (close_side k) first ∙ length-write (from - span_width k) (open_side k) all
+
+  length-pairs : (pairs : List Pair) (all : List Entry) → length (entries.mark_pairs Entry single open_side close_side pairs all) ≡ length all
+  length-pairs [] all = refl
+  length-pairs (pair ∷ pairs) all =
+      length-pairs pairs (entries.mark_pair Entry single open_side close_side pair all) ∙ length-spans (kinds_of pair.mark pair.count) pair.from pair.to all
+
+  length-stays : (count : ℕ) → length (entries.stays Entry single open_side close_side count) ≡ count
+  length-stays zero = refl
+  length-stays (suc count) = ap suc (length-stays count)
+
+-- each byte has a mark
+pub as-many : (placed : List PlacedRun) (marks : List code_mark.Slot) → marks ≡ slots_of (spans_of (siblings_from 0 placed)) → length marks ≡ length (places_of placed)
+as-many placed marks is =
+    let sib = siblings_from 0 placed in
+    let count = length (places_of placed) in
+    sym (length-map marks shown_mark)
+    ∙ ap length (marks-are placed marks (pairs_of sib) (spans_of sib) (emphasis sib) is)
+    ∙ length-pairs Mark Stays opening closing (pairs_of sib) (entries.stays Mark Stays opening closing count)
+    ∙ length-stays Mark Stays opening closing count
+
 -- ## Their slots
 
 ahead-earlier : (slots : List Slot) (from from1 end end1 : ℕ) (places : List ℕ) → from1 ≤ from → end1 ≤ end → AreAhead slots from end places → AreAhead slots from1 end1 places
@@ -128,6 +161,11 @@ pub all-ahead : (slots : List Slot) (from place : ℕ) (placed : List PlacedRun)
 all-ahead slots from place [] h = tt
 all-ahead slots from place (p ∷ placed) h = bytes-ahead p.run.size p.slot h.0 from place slots (places_of placed) h.1 h.2 h.3 (all-ahead slots (p.slot + p.run.size) (h.0 + p.run.size) placed h.4)
 
+-- runs that stand so from one slot and one place on do so from the first ones on
+pub have-all : (slots : List Slot) (from place : ℕ) (placed : List PlacedRun) → HaveBytes slots from place placed → HaveBytes slots 0 0 placed
+have-all slots from place [] h = tt
+have-all slots from place (p ∷ placed) h = (h.0, (let q : 0 ≤ p.slot = omega arith in q), (let q : 0 ≤ h.0 = omega arith in q), h.3, h.4)
+
 -- before the first mark
 pub ready-first : (slots : List Slot) (from place : ℕ) (placed : List PlacedRun) (marks : List code_mark.Slot) → HaveBytes slots from place placed → AreWhole slots → AreBalanced [] marks → AreReady slots [] (places_of placed) marks
 ready-first slots from place placed marks h whole balanced = record {
@@ -140,17 +178,6 @@ ready-first slots from place placed marks h whole balanced = record {
   balanced = balanced;
   as_many = refl;
 }
-
--- bytes whose marks are left out
-skipped : (slots : List Slot) (from end at size : ℕ) (behind : List ℕ) → AreAhead slots from end (run_places at size behind) → (from1 : ℕ) × (end1 : ℕ) × (from ≤ from1) × (end ≤ end1) × AreAhead slots from1 end1 behind
-skipped slots from end at zero behind h = (from, end, omega arith, omega arith, h)
-skipped slots from end at (suc size) behind h =
-    let r = skipped slots (suc at) h.0 (suc at) size behind h.6 in
-    let f = h.1 in
-    let e = h.5 in
-    let a = r.2 in
-    let b = r.3 in
-    (r.0, r.1, omega (arith, f, a), omega (arith, e, b), r.4)
 
 -- ## Spans that began
 
@@ -165,45 +192,29 @@ pushed old new last e = ap reverse e ∙ reverse-append old (last ∷ [])
 
 -- ## The bytes of one run
 
-pub ready-skip : (slots : List Slot) (begun : List ℕ) (at size : ℕ) (behind : List ℕ) (marks : List code_mark.Slot) → AreReady slots begun (run_places at size behind) marks → AreReady slots begun behind marks
-ready-skip slots begun at size behind marks r =
-    let s = skipped slots r.from r.end at size behind r.ahead in
-    record {
-      from = s.0;
-      end = s.1;
-      behind = begun-further slots r.from s.0 r.end s.1 begun r.behind s.2 s.3;
-      ahead = s.4;
-      whole = r.whole;
-      kinds = r.kinds;
-      balanced = r.balanced;
-      as_many = r.as_many;
-    }
-
 -- the first byte of what is left of one
-pub run-next : (at next left less : ℕ) (behind : List ℕ) → left ≡ suc less → next ≡ suc at → run_places at left behind ≡ at ∷ run_places next less behind
+run-next : (at next left less : ℕ) (behind : List ℕ) → left ≡ suc less → next ≡ suc at → run_places at left behind ≡ at ∷ run_places next less behind
 run-next at next left less behind l n = ap (λ k. run_places at k behind) l ∙ ap (λ k. at ∷ run_places k less behind) (sym n)
 
--- the place of a byte is one of the machine's, and so is the one behind it
-pub place-behind : (slots : List Slot) (begun : List ℕ) (at next left less : ℕ) (behind : List ℕ) (marks : List code_mark.Slot) → left ≡ suc less → length slots < 18446744073709551616 → next ≡ min (at + 1) 18446744073709551615
-    → AreReady slots begun (run_places at left behind) marks → next ≡ suc at
-place-behind slots begun at next left less behind marks l few n r =
-    let h = subst (λ ps. AreAhead slots r.from r.end ps) (ap (λ k. run_places at k behind) l) r.ahead in
-    let w = h.2 in
-    let q : next ≡ suc at = omega (arith, n, few, w) in q
+pub places-next : (slot size byte : ℕ) (behind : List ℕ) → byte < size → run_places (slot + byte) (size - byte) behind ≡ (slot + byte) ∷ run_places (slot + (byte + 1)) (size - (byte + 1)) behind
+places-next slot size byte behind lt = run-next (slot + byte) (slot + (byte + 1)) (size - byte) (size - (byte + 1)) behind (omega (arith, lt)) (omega arith)
 
--- where no byte of a run is left, or no mark
-no-marks : (options : Options) (places : List ℕ) (rows : List row.Slot) (begun : List ℕ) → marked options places [] rows begun ≡ rows
-no-marks options [] rows begun = refl
-no-marks options (at ∷ places) rows begun = refl
+pub mark-next : (marks : List code_mark.Slot) (byte : ℕ) (d : code_mark.Slot) → byte < length marks → drop byte marks ≡ get_or marks byte d ∷ drop (byte + 1) marks
+mark-next marks byte d lt = drop-cons marks byte d lt ∙ ap (λ n. get_or marks byte d ∷ drop n marks) (let q : suc byte ≡ byte + 1 = omega arith in q)
 
-pub marks-over : (options : Options) (at left : ℕ) (behind begun : List ℕ) (marks : List code_mark.Slot) (rows : List row.Slot) → (left ≡ 0) ⊎ (marks ≡ [])
-    → marked options (run_places at left behind) (map shown_mark marks) rows begun ≡ marked options behind (map shown_mark marks) rows begun
-marks-over options at left behind begun marks rows (inl e) = ap (λ k. marked options (run_places at k behind) (map shown_mark marks) rows begun) e
-marks-over options at left behind begun marks rows (inr e) =
-    ap (λ ms. marked options (run_places at left behind) (map shown_mark ms) rows begun) e
-    ∙ no-marks options (run_places at left behind) rows begun
-    ∙ sym (no-marks options behind rows begun)
-    ∙ sym (ap (λ ms. marked options behind (map shown_mark ms) rows begun) e)
+pub ready-next : (slots : List Slot) (begun : List ℕ) (slot size byte : ℕ) (behind : List ℕ) (marks : List code_mark.Slot) (d : code_mark.Slot) → byte < size → size ≤ length marks
+    → AreReady slots begun (run_places (slot + byte) (size - byte) behind) (drop byte marks) → AreReady slots begun ((slot + byte) ∷ run_places (slot + (byte + 1)) (size - (byte + 1)) behind) (get_or marks byte d ∷ drop (byte + 1) marks)
+ready-next slots begun slot size byte behind marks d lt many r =
+    subst (λ ms. AreReady slots begun ((slot + byte) ∷ run_places (slot + (byte + 1)) (size - (byte + 1)) behind) ms) (mark-next marks byte d (omega (arith, lt, many)))
+    (subst (λ ps. AreReady slots begun ps (drop byte marks)) (places-next slot size byte behind lt) r)
+
+-- the marks behind those of a run
+pub behind-all : (marks : List code_mark.Slot) (size : ℕ) → take (length marks - size) (drop size marks) ≡ drop size marks
+behind-all marks size = take_all (length marks - size) (drop size marks) (let n = length-drop size marks in let q : length (drop size marks) ≤ length marks - size = omega (arith, n) in q)
+
+-- no byte of a run is left
+pub run-over : (at left : ℕ) (behind : List ℕ) → left ≡ 0 → run_places at left behind ≡ behind
+run-over at left behind e = ap (λ n. run_places at n behind) e
 
 pub none-left : {X : Type 0} (xs : List X) → length xs ≡ 0 → xs ≡ []
 none-left [] e = refl

@@ -202,6 +202,15 @@ passes-ended source old new (Some given) h = h
 
 -- ## The next event
 
+-- what the next slot names is there
+pub named-there : (leaf : LeafText) (texts : List CowStr) (links : List LinkParts) (slots : List Slot) (next : ℕ) (slot : Slot) → next < length slots → slot ≡ get_or slots next slot → CanBeGiven leaf texts links (drop next slots)
+    → IsThere (length texts) (text_named slot.kind) × IsThere (length links) (link_named slot.kind)
+named-there leaf texts links slots next slot lt is h =
+    let s : drop next slots ≡ slot ∷ drop (suc next) slots = drop-cons slots next slot lt ∙ ap (λ x. x ∷ drop (suc next) slots) (sym is) in
+    let here = subst (CanBeGiven leaf texts links) s h in
+    let first : 0 < length (slot ∷ drop (suc next) slots) = omega arith in
+    (here.texts_there 0 slot first, here.links_there 0 slot first)
+
 module _ (leaf : LeafText) (texts texts1 : List CowStr) (links links1 : List LinkParts) (slots slots1 : List Slot) (opened opened1 : List Opened) (next next1 : ℕ) (same : slots1 ≡ slots) (place : next1 ≡ next) where
   split : (slot : Slot) → next < length slots → slot ≡ get_or slots next slot → drop next slots ≡ slot ∷ drop (next1 + 1) slots1
   split slot lt is =

@@ -142,9 +142,9 @@ module _ (text : List ℕ) (doubled : Bracket) (close : ℕ) (wikilink : Wikilin
       let one : List Slot = here ∷ [] in
       let long = length-append front one in
       let all : (front ++ one) ++ rest ≡ old = append_assoc front one rest ∙ cut-at-slot old doubled.slot there in
-      let from : h.from ≡ length (front ++ one) = h.behind there ∙ (let q : doubled.slot + 1 ≡ length (front ++ one) = omega (arith, size, long) in q) in
+      let from : doubled.slot + 1 ≡ length (front ++ one) = omega (arith, size, long) in
       let between : h.between ≡ (front ++ one) ++ map hidden rest =
-      hides-behind (front ++ one) rest h.between (subst (λ l. Hides (length (front ++ one)) (length l) l h.between) (sym all) (subst (λ n. Hides n (length old) old h.between) from (subst (λ n. Hides h.from n old h.between) all-hidden h.hides))) in
+      hides-behind (front ++ one) rest h.between (subst (λ l. Hides (length (front ++ one)) (length l) l h.between) (sym all) (subst (λ n. Hides n (length old) old h.between) from (subst (λ n. Hides (doubled.slot + 1) n old h.between) all-hidden h.hides))) in
       let m = h.hides.size in
       let e = all-hidden in
       let name = shown_name doubled close wikilink.source_end wikilink.display in

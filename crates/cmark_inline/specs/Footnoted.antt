@@ -1,5 +1,5 @@
 -- Which closing brackets form footnote references, and what becomes of the slots and the footnotes (this profile's own).
-use Rattle.std.specs.Prelude.{◌≡◌, ℕ, ◌+◌, min, nat_lt, Bool, false, not, ◌&&◌, ◌||◌, if◌then◌else◌, List, [], ◌∷◌, ◌++◌, length, drop, set, Option, None, Some, is_some, option_map}
+use Rattle.std.specs.Prelude.{◌≡◌, ℕ, ◌+◌, nat_lt, Bool, false, not, ◌&&◌, ◌||◌, if◌then◌else◌, List, [], ◌∷◌, ◌++◌, length, drop, set, Option, None, Some, is_some, option_map}
 use Rattle.cmark_grammar.specs.BracketDecisions as decisions
 use Rattle.cmark_grammar.specs.Labels.{fold, normal_form}
 use Rattle.cmark_grammar.specs.LeafText.{Leaf}
@@ -88,8 +88,8 @@ SameFootnotes old new = (folded : List ℕ) → is_some (footnote new folded) �
 abbrev pub reference_start : Bracket → ℕ
 reference_start bracket = if bracket.is_image then bracket.start + 1 else bracket.start
 
-abbrev pub reference_slot : Bracket → (count : ℕ) → ℕ
-reference_slot bracket count = min (if bracket.is_image then bracket.slot + 1 else bracket.slot) count
+abbrev pub reference_slot : Bracket → ℕ
+reference_slot bracket = if bracket.is_image then bracket.slot + 1 else bracket.slot
 
 abbrev pub with_mark : Bracket → List Slot → List Slot
 with_mark bracket slots =
@@ -101,8 +101,8 @@ put_at at slot slots = if nat_lt at (length slots) then set slots at slot else s
 -- the slots from that of the bracket on became nothing, and the first of them this one; behind a `!` it is the second
 pub record PutsReference (bracket : Bracket) (reference : Slot) (old new : List Slot) : Type 0 where
   pub between : List Slot
-  pub hides : Hides (reference_slot bracket (length old)) (length old) old between
-  pub slots_are : new ≡ put_at (reference_slot bracket (length old)) reference (with_mark bracket between)
+  pub hides : Hides (reference_slot bracket) (length old) old between
+  pub slots_are : new ≡ put_at (reference_slot bracket) reference (with_mark bracket between)
 
 abbrev pub reference_as : Bracket → (index end : ℕ) → Slot
 reference_as bracket index end = record { kind = kind.FootnoteReference index; start = reference_start bracket; end = end }

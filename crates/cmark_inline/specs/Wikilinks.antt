@@ -119,9 +119,7 @@ display_place close (Some place) = place
 
 -- of the slots behind a doubled bracket those stay that a wikilink shows
 pub record Shows (text : List ℕ) (doubled : Bracket) (close : ℕ) (wikilink : Wikilink) (old new : List Slot) (at : ℕ) : Type 0 where
-  pub from : ℕ
-  pub behind : doubled.slot < length old → from ≡ doubled.slot + 1
-  pub first : IsFirstBehind old from (display_place close wikilink.display) at
+  pub first : IsFirstBehind old (doubled.slot + 1) (display_place close wikilink.display) at
   pub between : List Slot
-  pub hides : Hides from at old between
+  pub hides : Hides (doubled.slot + 1) at old between
   pub slots_are : new ≡ cut_at text (display_place close wikilink.display) at between ++ shown_name doubled close wikilink.source_end wikilink.display

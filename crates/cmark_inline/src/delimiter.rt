@@ -18,6 +18,7 @@ ghost use Rattle.cmark_inline.specs.Stands.{AreSlots, NoNewLink, bytes_of, is_li
 ghost use Rattle.cmark_inline.specs.declared.delimiter.PlacedRun.{PlacedRun as Placed};
 ghost use Rattle.cmark_inline.specs.declared.link.LinkParts.{LinkParts};
 ghost use Rattle.cmark_inline.specs.declared.slot.Slot.{Slot as Slots};
+ghost use Rattle.cmark_inline.specs.declared.slot.SlotKind.TheVariants as kind;
 
 use crate::slot::{Element, Slot, begin, merge, use_up};
 use bitflags::Flags;
@@ -76,7 +77,9 @@ impl Delimiters {
 
     /// The first run from one on whose slot is this one or a later one; how many there are, where there is none.
     pub fn first_from(&self, first: usize, slot: usize) -> usize
+        requires { first ≤ length self.now.placed.items }
         ensures order { first ≤ result }
+        ensures within { result ≤ length self.now.placed.items }
         ensures before { (k : ℕ) (d : Placed) → first ≤ k → k < result → (get_or self.now.placed.items k d).slot < slot }
         ensures behind { (d : Placed) → result < length self.now.placed.items → slot ≤ (get_or self.now.placed.items result d).slot }
     {
@@ -95,7 +98,8 @@ impl Delimiters {
         self.placed.truncate(first);
     }
 
-    /// Resolves the runs from this one on, which are those of one list of siblings, and forgets them.
+    /// Resolves the runs from this one on, which are those of one list of siblings, and forgets them. Each of their bytes is a text in a
+    /// slot of its own.
     #[inline(always)]
     pub fn resolve(
         &mut self,
@@ -103,19 +107,22 @@ impl Delimiters {
         options: Options,
         slots: &mut Vec<Slot>,
     ) -> Result<(), AllocError>
-        requires { bytes_of self.old.placed.items ≤ length slots.old.items }
+        requires first { first ≤ length self.old.placed.items }
+        requires few { bytes_of self.old.placed.items ≤ length slots.old.items }
+        requires bytes { HaveBytes slots.old.items 0 0 (drop first self.old.placed.items) }
+        requires whole { AreWhole slots.old.items }
         ensures slots { OnOk result ((text : List ℕ) (place : ℕ) → AreSlots text place slots.old.items → AreSlots text place slots.new.items) }
         ensures length { OnOk result (length slots.new.items ≡ length slots.old.items) }
         ensures links { OnOk result (NoNewLink slots.old.items slots.new.items) }
         ensures runs { OnOk result (bytes_of self.new.placed.items ≤ bytes_of self.old.placed.items) }
-        ensures marks { OnOk result ((leaf : LeafText) (texts : List CowStr) (links : List LinkParts) (from place : ℕ) (pairs : List Pair) (spans : Spans)
-            → HaveBytes slots.old.items from place (drop first self.old.placed.items) → AreWhole slots.old.items → IsEmphasis (siblings_from 0 (drop first self.old.placed.items)) pairs spans
+        ensures marks { OnOk result ((leaf : LeafText) (texts : List CowStr) (links : List LinkParts) (pairs : List Pair) (spans : Spans)
+            → IsEmphasis (siblings_from 0 (drop first self.old.placed.items)) pairs spans
             → shown_slots leaf texts links slots.new.items
             ≡ marked (shown_options options) (places_of (drop first self.old.placed.items)) (marks_by (length (places_of (drop first self.old.placed.items))) pairs) (shown_slots leaf texts links slots.old.items) []) }
-        ensures within { OnOk result ((from place : ℕ) → HaveBytes slots.old.items from place (drop first self.old.placed.items) → AreWhole slots.old.items → EndWithin slots.old.items → EndWithin slots.new.items) }
-        ensures before { OnOk result ((from place : ℕ) → HaveBytes slots.old.items from place (drop first self.old.placed.items) → AreWhole slots.old.items → SameBefore from slots.old.items slots.new.items) }
-        ensures names { OnOk result ((from place : ℕ) → HaveBytes slots.old.items from place (drop first self.old.placed.items) → AreWhole slots.old.items → NamesNoMore slots.old.items slots.new.items) }
-        ensures whole { OnOk result ((from place : ℕ) → HaveBytes slots.old.items from place (drop first self.old.placed.items) → AreWhole slots.old.items → AreWhole slots.new.items) }
+        ensures within { OnOk result (EndWithin slots.old.items → EndWithin slots.new.items) }
+        ensures before { OnOk result ((from place : ℕ) → HaveBytes slots.old.items from place (drop first self.old.placed.items) → SameBefore from slots.old.items slots.new.items) }
+        ensures names { OnOk result (NamesNoMore slots.old.items slots.new.items) }
+        ensures whole { OnOk result (AreWhole slots.new.items) }
         ensures placed { OnOk result (self.new.placed.items ≡ take first self.old.placed.items) }
         ensures succeeds { length self.old.placed.items ≤ first → IsOk result }
     {
@@ -145,7 +152,8 @@ fn gather(
     first: usize,
     bound: usize,
 ) -> Result<usize, AllocError>
-    requires { bytes_of placed.now ≤ bound }
+    requires first { first ≤ length placed.now }
+    requires bytes { bytes_of placed.now ≤ bound }
     ensures runs { IfOk result (λ count. AreRuns count (map shown_run runs.new.items)) }
     ensures value { IfOk result (λ count. (count ≡ places_taken (siblings_from 0 (drop first placed.now))) × (map shown_run runs.new.items ≡ runs_of (siblings_from 0 (drop first placed.now)))) }
 {
@@ -167,12 +175,10 @@ fn gather(
 
 /// The runs from this one on.
 fn runs_from(placed: &[PlacedRun], first: usize) -> &[PlacedRun]
+    requires { first ≤ length placed.now }
     ensures bytes { bytes_of result.now ≤ bytes_of placed.entry.now }
     ensures value { result.now ≡ drop first placed.entry.now }
 {
-    if first >= placed.len() {
-        return &[];
-    }
     &placed[first..]
 }
 
@@ -184,33 +190,26 @@ fn write_run<'m>(
     slots: &mut Vec<Slot>,
     begun: &mut Vec<usize>,
 ) -> Result<&'m [Mark], AllocError>
+    requires ready { (behind : List ℕ) × AreReady slots.old.items (reverse begun.old.items) (run_places placed.slot placed.run.size behind) marks.now }
+    requires marks { placed.run.size ≤ length marks.now }
+    ensures rest { IfOk result (λ rest. rest.now ≡ drop placed.run.size marks.entry.now) }
     ensures slots { IfOk result (λ rest. (text : List ℕ) (place : ℕ) → AreSlots text place slots.old.items → AreSlots text place slots.new.items) }
     ensures length { IfOk result (λ rest. length slots.new.items ≡ length slots.old.items) }
     ensures links { IfOk result (λ rest. NoNewLink slots.old.items slots.new.items) }
     ensures ready { IfOk result (λ rest. (behind : List ℕ) → AreReady slots.old.items (reverse begun.old.items) (run_places placed.slot placed.run.size behind) marks.entry.now
         → AreReady slots.new.items (reverse begun.new.items) behind rest.now) }
-    ensures within { IfOk result (λ rest. (behind : List ℕ) → AreReady slots.old.items (reverse begun.old.items) (run_places placed.slot placed.run.size behind) marks.entry.now
-        → EndWithin slots.old.items → EndWithin slots.new.items) }
-    ensures names { IfOk result (λ rest. (behind : List ℕ) → AreReady slots.old.items (reverse begun.old.items) (run_places placed.slot placed.run.size behind) marks.entry.now
-        → NamesNoMore slots.old.items slots.new.items) }
-    ensures before { IfOk result (λ rest. (low : ℕ) (behind : List ℕ) → AreReady slots.old.items (reverse begun.old.items) (run_places placed.slot placed.run.size behind) marks.entry.now
-        → BeganFrom low (reverse begun.old.items) → low ≤ placed.slot → SameBefore low slots.old.items slots.new.items × BeganFrom low (reverse begun.new.items)) }
+    ensures within { IfOk result (λ rest. EndWithin slots.old.items → EndWithin slots.new.items) }
+    ensures names { IfOk result (λ rest. NamesNoMore slots.old.items slots.new.items) }
+    ensures before { IfOk result (λ rest. (low : ℕ) → BeganFrom low (reverse begun.old.items) → low ≤ placed.slot → SameBefore low slots.old.items slots.new.items × BeganFrom low (reverse begun.new.items)) }
     ensures marks { IfOk result (λ rest. (leaf : LeafText) (texts : List CowStr) (links : List LinkParts) (behind : List ℕ)
         → AreReady slots.old.items (reverse begun.old.items) (run_places placed.slot placed.run.size behind) marks.entry.now
         → marked (shown_options options) (run_places placed.slot placed.run.size behind) (map shown_mark marks.entry.now) (shown_slots leaf texts links slots.old.items) (reverse begun.old.items)
         ≡ marked (shown_options options) behind (map shown_mark rest.now) (shown_slots leaf texts links slots.new.items) (reverse begun.new.items)) }
 {
-    let mut rest = marks;
-    let mut slot = placed.slot;
-    for _ in 0..placed.run.size {
-        let Some((mark, others)) = rest.split_first() else {
-            break;
-        };
-        write_mark(*mark, slot, options, slots, begun)?;
-        slot = slot.saturating_add(1);
-        rest = others;
+    for byte in 0..placed.run.size {
+        write_mark(marks[byte], placed.slot + byte, options, slots, begun)?;
     }
-    Ok(rest)
+    Ok(&marks[placed.run.size..])
 }
 
 /// Writes what a mark says into a slot: elements begin and end, and the bytes between are nothing.
@@ -221,17 +220,15 @@ fn write_mark(
     slots: &mut Vec<Slot>,
     begun: &mut Vec<usize>,
 ) -> Result<(), AllocError>
+    requires { (behind : List ℕ) × (others : List Marks) × AreReady slots.old.items (reverse begun.old.items) (slot ∷ behind) (mark ∷ others) }
     ensures slots { OnOk result ((text : List ℕ) (place : ℕ) → AreSlots text place slots.old.items → AreSlots text place slots.new.items) }
     ensures length { OnOk result (length slots.new.items ≡ length slots.old.items) }
     ensures links { OnOk result (NoNewLink slots.old.items slots.new.items) }
     ensures ready { OnOk result ((behind : List ℕ) (others : List Marks) → AreReady slots.old.items (reverse begun.old.items) (slot ∷ behind) (mark ∷ others)
         → AreReady slots.new.items (reverse begun.new.items) behind others) }
-    ensures within { OnOk result ((behind : List ℕ) (others : List Marks) → AreReady slots.old.items (reverse begun.old.items) (slot ∷ behind) (mark ∷ others)
-        → EndWithin slots.old.items → EndWithin slots.new.items) }
-    ensures names { OnOk result ((behind : List ℕ) (others : List Marks) → AreReady slots.old.items (reverse begun.old.items) (slot ∷ behind) (mark ∷ others)
-        → NamesNoMore slots.old.items slots.new.items) }
-    ensures before { OnOk result ((low : ℕ) (behind : List ℕ) (others : List Marks) → AreReady slots.old.items (reverse begun.old.items) (slot ∷ behind) (mark ∷ others)
-        → BeganFrom low (reverse begun.old.items) → low ≤ slot → SameBefore low slots.old.items slots.new.items × BeganFrom low (reverse begun.new.items)) }
+    ensures within { OnOk result (EndWithin slots.old.items → EndWithin slots.new.items) }
+    ensures names { OnOk result (NamesNoMore slots.old.items slots.new.items) }
+    ensures before { OnOk result ((low : ℕ) → BeganFrom low (reverse begun.old.items) → low ≤ slot → SameBefore low slots.old.items slots.new.items × BeganFrom low (reverse begun.new.items)) }
     ensures marks { OnOk result ((leaf : LeafText) (texts : List CowStr) (links : List LinkParts) (behind : List ℕ) (others : List Marks)
         → AreReady slots.old.items (reverse begun.old.items) (slot ∷ behind) (mark ∷ others)
         → marked (shown_options options) (slot ∷ behind) (shown_mark mark ∷ map shown_mark others) (shown_slots leaf texts links slots.old.items) (reverse begun.old.items)
@@ -251,35 +248,40 @@ fn write_mark(
 
 /// Makes one text of the element that began last and ends at a slot.
 fn merge_last(slots: &mut Vec<Slot>, slot: usize, begun: &mut Vec<usize>)
+    requires begun { (first : ℕ) × (others : List ℕ) × (reverse begun.old.items ≡ first ∷ others) × (first < slot) }
+    requires there { slot < length slots.old.items }
+    requires text { (d : Slots) → (get_or slots.old.items slot d).kind ≡ kind.Text }
+    requires whole { AreWhole slots.old.items }
     ensures slots { (text : List ℕ) (place : ℕ) → AreSlots text place slots.old.items → AreSlots text place slots.new.items }
     ensures length { length slots.new.items ≡ length slots.old.items }
     ensures links { NoNewLink slots.old.items slots.new.items }
     ensures begun { (first : ℕ) (others : List ℕ) → reverse begun.old.items ≡ first ∷ others → reverse begun.new.items ≡ others }
-    ensures value { (first : ℕ) (others : List ℕ) → reverse begun.old.items ≡ first ∷ others → AreWhole slots.old.items → first < slot → slot < length slots.old.items
-        → Merges first slot slots.old.items slots.new.items }
+    ensures value { (first : ℕ) (others : List ℕ) → reverse begun.old.items ≡ first ∷ others → Merges first slot slots.old.items slots.new.items }
 {
-    if let Some(first) = begun.pop() {
-        merge(slots, first, slot);
-    }
+    let Some(first) = begun.pop() else {
+        unreachable!()
+    };
+    merge(slots, first, slot);
 }
 
 /// Ends the element that began last, at a slot.
 fn end_last(slots: &mut Vec<Slot>, slot: usize, element: Element, begun: &mut Vec<usize>)
-    requires { is_link element ≡ false }
+    requires link { is_link element ≡ false }
+    requires begun { (first : ℕ) × (others : List ℕ) × (reverse begun.old.items ≡ first ∷ others) × (first < slot) }
+    requires there { slot < length slots.old.items }
     ensures slots { (text : List ℕ) (place : ℕ) → AreSlots text place slots.old.items → AreSlots text place slots.new.items }
     ensures length { length slots.new.items ≡ length slots.old.items }
     ensures links { NoNewLink slots.old.items slots.new.items }
-    ensures begun { (first : ℕ) (others : List ℕ) → reverse begun.old.items ≡ first ∷ others → slot < length slots.old.items → reverse begun.new.items ≡ others }
-    ensures value { (first : ℕ) (others : List ℕ) (d : Slots) → reverse begun.old.items ≡ first ∷ others → first < slot → slot < length slots.old.items
+    ensures begun { (first : ℕ) (others : List ℕ) → reverse begun.old.items ≡ first ∷ others → reverse begun.new.items ≡ others }
+    ensures value { (first : ℕ) (others : List ℕ) (d : Slots) → reverse begun.old.items ≡ first ∷ others
         → slots.new.items ≡ set (set slots.old.items slot (ended (get_or slots.old.items slot d))) first (begun_as element (get_or slots.old.items slot d).end (get_or slots.old.items first d)) }
 {
-    if slot < slots.len() {
-        let end = slots[slot].end;
-        use_up(slots, slot, true);
-        if let Some(first) = begun.pop() {
-            begin(slots, first, element, end);
-        }
-    }
+    let Some(first) = begun.pop() else {
+        unreachable!()
+    };
+    let end = slots[slot].end;
+    use_up(slots, slot, true);
+    begin(slots, first, element, end);
 }
 
 /// What stands around a span, by the options. Double tildes without strikethrough make one text of all (this profile's own).

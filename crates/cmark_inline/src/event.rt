@@ -17,7 +17,7 @@ ghost use Rattle.cmark_grammar.specs.TagEnd.{end_of, Image, Link};
 ghost use Rattle.cmark_text.specs.Shown.{shown, shown_end, shown_tag, text_bytes, IsBoxed, IsInlined};
 ghost use Rattle.cmark_text.specs.ZeroCopy.{IsLentBy, IsPartIfBorrowed, IsZeroCopy};
 ghost use Rattle.cmark_inline.specs.Opens.{element_end, Follows, Gives, GivesZeroCopy, Passes, events_left, shown_given};
-ghost use Rattle.cmark_inline.specs.SlotViews.{AreLeft, CanBeGiven, IsFirst, KeepsOthers, event_in, events_of, events_to_come, link_of, linked_at, shown_element, shown_opened, shown_parts, text_at, text_named, with_given};
+ghost use Rattle.cmark_inline.specs.SlotViews.{AreLeft, CanBeGiven, IsFirst, IsThere, KeepsOthers, event_in, events_of, events_to_come, link_named, link_of, linked_at, shown_element, shown_opened, shown_parts, text_at, text_named, with_given};
 ghost use Rattle.cmark_inline.specs.Stands.{AreOpened, AreSlots, IsSlot};
 ghost use Rattle.cmark_inline.specs.declared.slot.Slot.{Slot as Slots};
 
@@ -78,6 +78,7 @@ impl<'a> InlineState<'a> {
         requires read { IsRead leaf.now }
         requires slots { AreSlots (text_of leaf.now) (length (text_of leaf.now)) self.old.slots.items }
         requires opened { AreOpened (source_of leaf.now) self.old.walk.opened.items }
+        requires left { AreLeft leaf.now self.old }
         ensures slots { self.new.slots ≡ self.old.slots }
         ensures opened { AreOpened (source_of leaf.now) self.new.walk.opened.items }
         ensures gives { IfOk result (λ given. Gives (source_of leaf.now) self.old.walk.opened.items given self.new.walk.opened.items) }
@@ -86,9 +87,9 @@ impl<'a> InlineState<'a> {
         ensures most { OnOk result (events_left self.new ≤ events_left self.old) }
         ensures few { OnOk result (length self.new.slots.items < 18446744073709551616) }
         ensures expansion { self.new.expansion ≡ self.old.expansion }
-        ensures events { AreLeft leaf.now self.old → IfOk result (λ given. IsFirst given (events_to_come leaf.now self.old) (events_to_come leaf.now self.new)) }
-        ensures left { AreLeft leaf.now self.old → OnOk result (AreLeft leaf.now self.new) }
-        ensures ends { AreLeft leaf.now self.old → OnErr result (BeginWithoutEnd (events_to_come leaf.now self.old)) }
+        ensures events { IfOk result (λ given. IsFirst given (events_to_come leaf.now self.old) (events_to_come leaf.now self.new)) }
+        ensures left { OnOk result (AreLeft leaf.now self.new) }
+        ensures ends { OnErr result (BeginWithoutEnd (events_to_come leaf.now self.old)) }
     {
         while self.walk.next < self.slots.len() {
             let slot = self.slots[self.walk.next];
@@ -107,6 +108,8 @@ impl<'a> InlineState<'a> {
         requires read { IsRead leaf.now }
         requires slot { IsSlot (text_of leaf.now) (length (text_of leaf.now)) slot }
         requires opened { AreOpened (source_of leaf.now) self.old.walk.opened.items }
+        requires text { IsThere (length self.old.texts.items) (text_named slot.kind) }
+        requires link { IsThere (length self.old.links.items) (link_named slot.kind) }
         ensures slots { self.new.slots ≡ self.old.slots }
         ensures expansion { self.new.expansion ≡ self.old.expansion }
         ensures place { self.new.walk.next ≡ self.old.walk.next }
@@ -148,6 +151,7 @@ impl<'a> InlineState<'a> {
         requires read { IsRead leaf.now }
         requires slot { IsSlot (text_of leaf.now) (length (text_of leaf.now)) slot }
         requires opened { AreOpened (source_of leaf.now) self.old.walk.opened.items }
+        requires link { IsThere (length self.old.links.items) (link_of element) }
         ensures slots { self.new.slots ≡ self.old.slots }
         ensures expansion { self.new.expansion ≡ self.old.expansion }
         ensures place { self.new.walk.next ≡ self.old.walk.next }
@@ -194,6 +198,7 @@ impl<'a> InlineState<'a> {
     }
 
     fn tag(&mut self, element: Element) -> Tag<'a>
+        requires { IsThere (length self.old.links.items) (link_of element) }
         ensures span { IsSpan (shown_tag result) }
         ensures end { end_of (shown_tag result) ≡ element_end element }
         ensures slots { self.new.slots ≡ self.old.slots }
@@ -215,6 +220,7 @@ impl<'a> InlineState<'a> {
     }
 
     fn take_link(&mut self, index: usize) -> LinkParts<'a>
+        requires { index < length self.old.links.items }
         ensures slots { self.new.slots ≡ self.old.slots }
         ensures expansion { self.new.expansion ≡ self.old.expansion }
         ensures walk { self.new.walk ≡ self.old.walk }
@@ -222,13 +228,11 @@ impl<'a> InlineState<'a> {
         ensures links { KeepsOthers (Some index) self.old.links.items self.new.links.items }
         ensures texts { self.new.texts ≡ self.old.texts }
     {
-        match self.links.get_mut(index) {
-            Some(link) => std::mem::replace(link, LinkParts::none()),
-            None => LinkParts::none(),
-        }
+        std::mem::replace(&mut self.links[index], LinkParts::none())
     }
 
     fn take_text(&mut self, index: usize) -> CowStr<'a>
+        requires { index < length self.old.texts.items }
         ensures slots { self.new.slots ≡ self.old.slots }
         ensures expansion { self.new.expansion ≡ self.old.expansion }
         ensures walk { self.new.walk ≡ self.old.walk }
@@ -236,16 +240,14 @@ impl<'a> InlineState<'a> {
         ensures texts { KeepsOthers (Some index) self.old.texts.items self.new.texts.items }
         ensures links { self.new.links ≡ self.old.links }
     {
-        match self.texts.get_mut(index) {
-            Some(text) => std::mem::replace(text, CowStr::Borrowed("")),
-            None => CowStr::Borrowed(""),
-        }
+        std::mem::replace(&mut self.texts[index], CowStr::Borrowed(""))
     }
 
     #[inline(always)]
     fn single(&mut self, leaf: &LeafText<'a>, slot: Slot) -> Result<Event<'a>, AllocError>
         requires read { IsRead leaf.now }
         requires slot { IsSlot (text_of leaf.now) (length (text_of leaf.now)) slot }
+        requires text { IsThere (length self.old.texts.items) (text_named slot.kind) }
         ensures slots { self.new.slots ≡ self.old.slots }
         ensures expansion { self.new.expansion ≡ self.old.expansion }
         ensures walk { self.new.walk ≡ self.old.walk }

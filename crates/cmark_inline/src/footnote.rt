@@ -114,15 +114,15 @@ fn name_of<'a>(alloc: Global, label: &str) -> Result<CowStr<'a>, AllocError>
     CowStr::Borrowed(label.as_str()).into_static(alloc)
 }
 
-/// The index of the slot of the reference that a bracket opens, of so many slots: that of the bracket's, or of an image's the one behind
-/// it.
-fn reference_slot(bracket: Bracket, count: usize) -> usize
-    ensures { result ≡ reference_slot bracket count }
+/// The index of the slot of the reference that a bracket opens: that of the bracket's slot, or of an image's the one behind it.
+fn reference_slot(bracket: Bracket) -> usize
+    requires { bracket.slot < 18446744073709551615 }
+    ensures { result ≡ reference_slot bracket }
 {
     if bracket.is_image {
-        bracket.slot.saturating_add(1).min(count)
+        bracket.slot + 1
     } else {
-        bracket.slot.min(count)
+        bracket.slot
     }
 }
 
@@ -140,7 +140,8 @@ fn reference_start(bracket: Bracket) -> usize
 
 /// Makes the slot of an image's bracket that of its `!` alone.
 fn put_mark(slots: &mut Vec<Slot>, bracket: Bracket)
-    requires { bracket.start < bracket.inside }
+    requires there { bracket.slot < length slots.old.items }
+    requires start { bracket.start < bracket.inside }
     ensures value { slots.new.items ≡ with_mark bracket slots.old.items }
     ensures slots { (text : List ℕ) (place : ℕ) → AreSlots text place slots.old.items → IsBracket text place bracket → AreSlots text place slots.new.items }
     ensures length { length slots.new.items ≡ length slots.old.items }
@@ -265,6 +266,7 @@ impl<'a> InlineState<'a> {
 
     // Puts the slot of a footnote reference into the place of all slots from that of the bracket on. The `!` before it is a text.
     fn put_reference(&mut self, bracket: Bracket, reference: Slot) -> Result<(), AllocError>
+        requires there { bracket.slot < length self.old.slots.items }
         requires start { bracket.start < bracket.inside }
         requires kind { begins_link reference.kind ≡ false }
         ensures slots { OnOk result ((text : List ℕ) (place : ℕ) → AreSlots text place self.old.slots.items → IsBracket text place bracket → IsSlot text place reference → AreSlots text place self.new.slots.items) }
@@ -275,7 +277,7 @@ impl<'a> InlineState<'a> {
         ensures others { self.new ≡ record self.old { slots = self.new.slots } }
     {
         let count = self.slots.len();
-        let at = reference_slot(bracket, count);
+        let at = reference_slot(bracket);
         hide(&mut self.slots, at, count);
         put_mark(&mut self.slots, bracket);
         put_slot(&mut self.slots, at, reference)?;

@@ -61,7 +61,9 @@ impl Quotes {
 
     /// The first quote from one on whose slot is this one or a later one; how many there are, where there is none.
     pub fn first_from(&self, first: usize, slot: usize) -> usize
+        requires { first ≤ length self.now.placed.items }
         ensures order { first ≤ result }
+        ensures within { result ≤ length self.now.placed.items }
         ensures before { (k : ℕ) (d : PlacedQuote) → first ≤ k → k < result → (get_or self.now.placed.items k d).slot < slot }
         ensures behind { (d : PlacedQuote) → result < length self.now.placed.items → slot ≤ (get_or self.now.placed.items result d).slot }
     {
@@ -79,14 +81,17 @@ impl Quotes {
         self.placed.truncate(first);
     }
 
-    /// Gives the quotes from this one on, which are those of one list of siblings, their characters, and forgets them.
+    /// Gives the quotes from this one on, which are those of one list of siblings, their characters, and forgets them. Each of them is a
+    /// text in a slot.
     #[inline(always)]
     pub fn resolve(&mut self, first: usize, slots: &mut Vec<Slot>) -> Result<(), AllocError>
+        requires first { first ≤ length self.old.placed.items }
+        requires texts { HaveTexts slots.old.items (drop first self.old.placed.items) }
         ensures value { OnOk result (slots.new.items ≡ with_characters (drop first self.old.placed.items) (characters_of (drop first self.old.placed.items)) slots.old.items) }
         ensures slots { OnOk result ((text : List ℕ) (place : ℕ) → AreSlots text place slots.old.items → AreSlots text place slots.new.items) }
         ensures length { OnOk result (length slots.new.items ≡ length slots.old.items) }
         ensures links { OnOk result (NoNewLink slots.old.items slots.new.items) }
-        ensures quotes { OnOk result ((leaf : LeafText) (texts : List CowStr) (links : List LinkParts) → HaveTexts slots.old.items (drop first self.old.placed.items)
+        ensures quotes { OnOk result ((leaf : LeafText) (texts : List CowStr) (links : List LinkParts)
             → shown_slots leaf texts links slots.new.items ≡ quoted (map (λ (p : PlacedQuote). p.slot) (drop first self.old.placed.items)) (characters_of (drop first self.old.placed.items)) (shown_slots leaf texts links slots.old.items)) }
         ensures placed { OnOk result (self.new.placed.items ≡ take first self.old.placed.items) }
         ensures succeeds { length self.old.placed.items ≤ first → IsOk result }
@@ -108,11 +113,9 @@ impl Quotes {
 
 /// The quotes from this one on.
 fn quotes_from(placed: &[PlacedQuote], first: usize) -> &[PlacedQuote]
+    requires { first ≤ length placed.now }
     ensures { result.now ≡ drop first placed.entry.now }
 {
-    if first >= placed.len() {
-        return &[];
-    }
     &placed[first..]
 }
 
@@ -131,19 +134,14 @@ fn gather(quotes: &mut Vec<Quote>, placed: &[PlacedQuote]) -> Result<(), AllocEr
 
 /// Writes each character into the slot of its quote.
 fn write(slots: &mut Vec<Slot>, placed: &[PlacedQuote], characters: &[char])
+    requires texts { HaveTexts slots.old.items placed.now }
+    requires characters { length characters.now ≡ length placed.now }
     ensures value { slots.new.items ≡ with_characters placed.now characters.now slots.old.items }
     ensures slots { (text : List ℕ) (place : ℕ) → AreSlots text place slots.old.items → AreSlots text place slots.new.items }
     ensures length { length slots.new.items ≡ length slots.old.items }
     ensures links { NoNewLink slots.old.items slots.new.items }
 {
-    let mut rest = placed;
-    let mut left = characters;
-    while let Some((next, others)) = rest.split_first() {
-        let Some((character, behind)) = left.split_first() else {
-            return;
-        };
-        become_character(slots, next.slot, *character);
-        rest = others;
-        left = behind;
+    for at in 0..placed.len() {
+        become_character(slots, placed[at].slot, characters[at]);
     }
 }

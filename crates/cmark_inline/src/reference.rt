@@ -393,6 +393,8 @@ impl<'a> InlineState<'a> {
     ) -> Result<(), AllocError>
         requires runs { bytes_of self.old.delimiters.placed.items ≤ length self.old.slots.items }
         requires there { bracket.slot < length self.old.slots.items }
+        requires runs_there { bracket.runs ≤ length self.old.delimiters.placed.items }
+        requires quotes_there { bracket.quotes ≤ length self.old.quotes.placed.items }
         requires settles { CanSettle (bracket.slot + 1) self.old.slots.items (drop bracket.runs self.old.delimiters.placed.items) (drop bracket.quotes self.old.quotes.placed.items) }
         ensures table { self.new.links ≡ self.old.links }
         ensures texts { self.new.texts ≡ self.old.texts }

@@ -11,6 +11,7 @@ ghost use Rattle.cmark_leaf_text.specs.Reads.{IsPart};
 ghost use Rattle.cmark_inline.specs.Stands.{AreSlots, HoldNoLink, IsContent, IsSlot, NoNewLink, PushesText, begins_link, is_link};
 ghost use Rattle.cmark_inline.specs.Wikilinks.{Hides, IsFirstBehind, cut_at, cut_kind, cut_slot, ends_by, hidden};
 ghost use Rattle.cmark_inline.specs.declared.slot.Slot.{Slot as Slots};
+ghost use Rattle.cmark_inline.specs.declared.slot.SlotKind.TheVariants as kind;
 
 use cmark_finds::has_line_ending;
 use std::alloc::AllocError;
@@ -105,38 +106,37 @@ pub fn push_text(slots: &mut Vec<Slot>, start: usize, end: usize) -> Result<(), 
 
 /// Makes a slot the begin of an element that reaches at least up to a place.
 pub fn begin(slots: &mut Vec<Slot>, at: usize, element: Element, end: usize)
+    requires there { at < length slots.old.items }
     ensures slots { (text : List ℕ) (place : ℕ) → AreSlots text place slots.old.items → IsCharBoundary text end → end ≤ place → AreSlots text place slots.new.items }
     ensures length { length slots.new.items ≡ length slots.old.items }
     ensures links { is_link element ≡ false → NoNewLink slots.old.items slots.new.items }
     ensures behind { HoldNoLink slots.old.items at → HoldNoLink slots.new.items (at + 1) }
-    ensures value { (d : Slots) → at < length slots.old.items → slots.new.items ≡ set slots.old.items at (begun_as element end (get_or slots.old.items at d)) }
+    ensures value { (d : Slots) → slots.new.items ≡ set slots.old.items at (begun_as element end (get_or slots.old.items at d)) }
 {
-    if at < slots.len() {
-        let slot = slots[at];
-        slots[at] = Slot {
-            kind: SlotKind::Begin(element),
-            start: slot.start,
-            end: slot.end.max(end),
-        };
-    }
+    let slot = slots[at];
+    slots[at] = Slot {
+        kind: SlotKind::Begin(element),
+        start: slot.start,
+        end: slot.end.max(end),
+    };
 }
 
 /// Makes a slot another one.
 pub fn replace_slot(slots: &mut Vec<Slot>, at: usize, slot: Slot)
-    requires { begins_link slot.kind ≡ false }
+    requires there { at < length slots.old.items }
+    requires kind { begins_link slot.kind ≡ false }
     ensures value { slots.new.items ≡ set slots.old.items at slot }
     ensures slots { (text : List ℕ) (place : ℕ) → AreSlots text place slots.old.items → IsSlot text place slot → AreSlots text place slots.new.items }
     ensures length { length slots.new.items ≡ length slots.old.items }
     ensures links { NoNewLink slots.old.items slots.new.items }
 {
-    if at < slots.len() {
-        slots[at] = slot;
-    }
+    slots[at] = slot;
 }
 
 /// Puts a slot at this index, in the place of the one there or behind the last.
 pub fn put_slot(slots: &mut Vec<Slot>, at: usize, slot: Slot) -> Result<(), AllocError>
-    requires { begins_link slot.kind ≡ false }
+    requires within { at ≤ length slots.old.items }
+    requires kind { begins_link slot.kind ≡ false }
     ensures value { OnOk result (slots.new.items ≡ put_at at slot slots.old.items) }
     ensures slots { OnOk result ((text : List ℕ) (place : ℕ) → AreSlots text place slots.old.items → IsSlot text place slot → AreSlots text place slots.new.items) }
     ensures length { OnOk result (length slots.new.items ≤ length slots.old.items + 1) }
@@ -153,99 +153,88 @@ pub fn put_slot(slots: &mut Vec<Slot>, at: usize, slot: Slot) -> Result<(), Allo
 
 /// Makes a slot that of a delimiter: the end of an element, or nothing any more.
 pub fn use_up(slots: &mut Vec<Slot>, at: usize, ends: bool)
+    requires there { at < length slots.old.items }
     ensures slots { (text : List ℕ) (place : ℕ) → AreSlots text place slots.old.items → AreSlots text place slots.new.items }
     ensures length { length slots.new.items ≡ length slots.old.items }
     ensures links { NoNewLink slots.old.items slots.new.items }
-    ensures hides { (d : Slots) → ends ≡ false → at < length slots.old.items → slots.new.items ≡ set slots.old.items at (hidden (get_or slots.old.items at d)) }
-    ensures ends { (d : Slots) → ends ≡ true → at < length slots.old.items → slots.new.items ≡ set slots.old.items at (ended (get_or slots.old.items at d)) }
+    ensures hides { (d : Slots) → ends ≡ false → slots.new.items ≡ set slots.old.items at (hidden (get_or slots.old.items at d)) }
+    ensures ends { (d : Slots) → ends ≡ true → slots.new.items ≡ set slots.old.items at (ended (get_or slots.old.items at d)) }
 {
-    if at < slots.len() {
-        let slot = slots[at];
-        let kind = if ends {
-            SlotKind::End
-        } else {
-            SlotKind::Nothing
-        };
-        slots[at] = Slot { kind, ..slot };
-    }
+    let slot = slots[at];
+    let kind = if ends {
+        SlotKind::End
+    } else {
+        SlotKind::Nothing
+    };
+    slots[at] = Slot { kind, ..slot };
 }
 
 /// Makes a slot that of a character.
 pub fn become_character(slots: &mut Vec<Slot>, at: usize, character: char)
+    requires there { at < length slots.old.items }
     ensures value { slots.new.items ≡ with_character at character slots.old.items }
     ensures slots { (text : List ℕ) (place : ℕ) → AreSlots text place slots.old.items → AreSlots text place slots.new.items }
     ensures length { length slots.new.items ≡ length slots.old.items }
     ensures links { NoNewLink slots.old.items slots.new.items }
 {
-    if at < slots.len() {
-        let slot = slots[at];
-        slots[at] = Slot {
-            kind: SlotKind::Character(character),
-            ..slot
-        };
-    }
+    let slot = slots[at];
+    slots[at] = Slot {
+        kind: SlotKind::Character(character),
+        ..slot
+    };
 }
 
-/// Makes one text of the slots from one to another: the bytes of the source from the begin of the first to the end of the last.
+/// Makes one text of the slots from one to another, which is a text: the bytes of the source from the begin of the first to the end of
+/// the last.
 pub fn merge(slots: &mut Vec<Slot>, first: usize, last: usize)
+    requires ordered { first < last }
+    requires within { last < length slots.old.items }
+    requires text { (d : Slots) → (get_or slots.old.items last d).kind ≡ kind.Text }
+    requires whole { AreWhole slots.old.items }
     ensures slots { (text : List ℕ) (place : ℕ) → AreSlots text place slots.old.items → AreSlots text place slots.new.items }
     ensures length { length slots.new.items ≡ length slots.old.items }
     ensures links { NoNewLink slots.old.items slots.new.items }
-    ensures value { AreWhole slots.old.items → first < last → last < length slots.old.items → Merges first last slots.old.items slots.new.items }
+    ensures value { Merges first last slots.old.items slots.new.items }
 {
-    if first < last && last < slots.len() {
-        let end = slots[last].end;
-        use_up_between(slots, first, last);
-        become_whole(slots, first, last, end);
-    }
+    let end = slots[last].end;
+    use_up_between(slots, first, last);
+    become_whole(slots, first, last, end);
 }
 
 // Makes a slot the text of all slots up to another, which reaches at least up to a place.
 fn become_whole(slots: &mut Vec<Slot>, at: usize, last: usize, end: usize)
+    requires there { at < length slots.old.items }
     ensures slots { (text : List ℕ) (place : ℕ) → AreSlots text place slots.old.items → IsCharBoundary text end → end ≤ place → AreSlots text place slots.new.items }
     ensures length { length slots.new.items ≡ length slots.old.items }
     ensures links { NoNewLink slots.old.items slots.new.items }
-    ensures value { (d : Slots) → at < length slots.old.items → slots.new.items ≡ set slots.old.items at (whole_to last end (get_or slots.old.items at d)) }
+    ensures value { (d : Slots) → slots.new.items ≡ set slots.old.items at (whole_to last end (get_or slots.old.items at d)) }
 {
-    if at < slots.len() {
-        let slot = slots[at];
-        slots[at] = Slot {
-            kind: SlotKind::Whole(last),
-            start: slot.start,
-            end: slot.end.max(end),
-        };
-    }
+    let slot = slots[at];
+    slots[at] = Slot {
+        kind: SlotKind::Whole(last),
+        start: slot.start,
+        end: slot.end.max(end),
+    };
 }
 
-// Makes the slots behind one up to another nothing any more. Those that are nothing already, behind a whole text, are passed
-// over.
+// Makes the slots behind one up to another, which is a text, nothing any more. Those that are nothing already, behind a whole text, are
+// passed over.
 fn use_up_between(slots: &mut Vec<Slot>, first: usize, last: usize)
     requires ordered { first < last }
     requires within { last < length slots.old.items }
+    requires text { (d : Slots) → (get_or slots.old.items last d).kind ≡ kind.Text }
+    requires whole { AreWhole slots.old.items }
     ensures slots { (text : List ℕ) (place : ℕ) → AreSlots text place slots.old.items → AreSlots text place slots.new.items }
     ensures length { length slots.new.items ≡ length slots.old.items }
     ensures links { NoNewLink slots.old.items slots.new.items }
-    ensures hides { AreWhole slots.old.items → Hides (first + 1) (last + 1) slots.old.items slots.new.items }
+    ensures hides { Hides (first + 1) (last + 1) slots.old.items slots.new.items }
 {
     let mut at = first;
     while at < last {
         at += 1;
         let end = last_of(slots[at].kind, at);
         use_up(slots, at, false);
-        at = end.min(last);
-    }
-}
-
-/// The index behind that of a slot.
-pub fn behind_slot(slots: &[Slot], at: usize) -> usize
-    ensures there { at < length slots.now → result ≡ at + 1 }
-    ensures past { length slots.now ≤ at → result ≡ length slots.now }
-    ensures within { result ≤ length slots.now }
-{
-    if at < slots.len() {
-        at + 1
-    } else {
-        slots.len()
+        at = end;
     }
 }
 
@@ -290,9 +279,10 @@ pub fn hide(slots: &mut Vec<Slot>, from: usize, to: usize)
     }
 }
 
-/// Makes a slot begin at a place, if that is inside it. What it holds stays whole, but for a text and for HTML on one line, which
-/// are what stands there.
+/// Makes the first slot that ends behind a place begin there, if that is inside it; there is none where its index is the number of
+/// slots. What it holds stays whole, but for a text and for HTML on one line, which are what stands there.
 pub fn cut(slots: &mut Vec<Slot>, at: usize, text: &str, place: usize)
+    requires within { at ≤ length slots.old.items }
     requires slots { (end : ℕ) × AreSlots text.now end slots.old.items }
     requires place { IsCharBoundary text.now place }
     ensures value { slots.new.items ≡ cut_at text.now place at slots.old.items }

@@ -23,7 +23,7 @@ ghost use Rattle.cmark_inline.specs.declared.wikilink.Wikilink.{Wikilink as Foun
 use crate::bracket::Bracket;
 use crate::link::LinkParts;
 use crate::place::is_followed_by;
-use crate::slot::{Element, SlotKind, begin, behind_slot, cut, first_behind, hide, push_slot};
+use crate::slot::{Element, SlotKind, begin, cut, first_behind, hide, push_slot};
 use crate::state::InlineState;
 use crate::step::Cursor;
 use bitflags::Flags;
@@ -227,7 +227,9 @@ impl<'a> InlineState<'a> {
         requires taken { IsPairFrom self.old doubled }
         ensures settles { IfOk result (λ inside. CanSettle (doubled.slot + 1) self.new.slots.items (drop inside.runs self.old.delimiters.placed.items) (drop inside.quotes self.old.quotes.placed.items)) }
         ensures runs { IfOk result (λ inside. doubled.runs ≤ inside.runs) }
+        ensures runs_there { IfOk result (λ inside. inside.runs ≤ length self.old.delimiters.placed.items) }
         ensures quotes { IfOk result (λ inside. doubled.quotes ≤ inside.quotes) }
+        ensures quotes_there { IfOk result (λ inside. inside.quotes ≤ length self.old.quotes.placed.items) }
         ensures names { OnOk result ((texts links : ℕ) → AreNamed texts links self.old.slots.items → AreNamed texts links self.new.slots.items) }
         ensures ends { OnOk result ((leaf : LeafTexts) → AreEnded leaf self.old.slots.items → EndsIn leaf close (Some wikilink.entry.source_end) → AreEnded leaf self.new.slots.items) }
         ensures before { OnOk result (SameBefore (doubled.slot + 1) self.old.slots.items self.new.slots.items) }
@@ -240,7 +242,7 @@ impl<'a> InlineState<'a> {
         ensures others { self.new ≡ record self.old { slots = self.new.slots } }
     {
         let place = wikilink.display.unwrap_or(close);
-        let from = behind_slot(&self.slots, doubled.slot);
+        let from = doubled.slot + 1;
         let shown = first_behind(&self.slots, from, place);
         hide(&mut self.slots, from, shown);
         cut(&mut self.slots, shown, text, place);

@@ -1,9 +1,9 @@
 -- The text of a leaf that was read is that of the grammar's leaf, in the same places.
-use Rattle.std.specs.Prelude.{◌==◌, ◌-◌, drop, get_or, if◌then◌else◌, max, nat_lt, option_map, is_some}
+use Rattle.std.specs.Prelude.{◌==◌, ◌-◌, drop, get_or, if◌then◌else◌, nat_lt, option_map, is_some}
 use Rattle.std.proofs.Common.{◌≡◌, ℕ, suc, ◌+◌, ◌<◌, ◌≤◌, Bool, true, false, List, [], ◌∷◌, ◌++◌, length, length-drop, refl, sym, ap, ◌∙◌, subst, arith, append-nil}
 use Rattle.std.proofs.lemmas.Bool.{ltb-true, ltb-false}
 use Rattle.cmark_grammar.specs.Answers.{Lookup}
-use Rattle.cmark_grammar.specs.LeafText.{InTurn, Leaf, Stretch, bytes_from, place_with, size_of}
+use Rattle.cmark_grammar.specs.LeafText.{InTurn, Leaf, Stretch, place_with, size_of}
 use Rattle.cmark_grammar.specs.Options.{Options}
 use Rattle.cmark_grammar.specs.Readers.{Reader}
 use Rattle.cmark_grammar.specs.Tokens.{slice}
@@ -70,7 +70,7 @@ module _ (reader : Reader) (leaf : Leaf) (placed : IsPlaced reader leaf) where
   whole-text : places.text_of reader leaf ≡ all_bytes reader.source leaf.stretches
   whole-text = bytes-low reader.source 0 0 leaf.stretches (length reader.source) (omega arith) placed.turn
 
-  whole-size : length (places.text_of reader leaf) ≡ size_of leaf.stretches
+  pub whole-size : length (places.text_of reader leaf) ≡ size_of leaf.stretches
   whole-size = ap length whole-text ∙ all-size reader.source 0 leaf.stretches (length reader.source) placed.turn (omega arith)
 
   -- the text that is read from the lines of the leaf

@@ -1,3 +1,4 @@
+pub mod EndSteps
 pub mod LeafReads
 pub mod Readings
 pub mod Walks

@@ -1,27 +1,26 @@
 -- Steps of a walk with spans: what it reads.
-use Rattle.std.proofs.Common.{◌≡◌, ℕ, ◌<◌, ◌≤◌, ◌-◌, arith, Bool, true, false, List, [], ◌∷◌, ◌++◌, append_assoc, append-nil, drop, get_or, length, Option, None, Some, refl, sym, ap, ◌∙◌, subst}
-use Rattle.std.specs.Prelude.{option_map, is_some}
-use Rattle.std.proofs.Common.{Bor}
+use Rattle.std.proofs.Common.{◌≡◌, inl, inr, ℕ, zero, suc, ◌≤◌, ◌-◌, arith, Bool, true, false, List, [], ◌∷◌, ◌++◌, append_assoc, append-nil, length, Option, refl, sym, ap, ◌∙◌, subst}
+use Rattle.std.specs.Prelude.{option_map}
 use Rattle.std.specs.Global.{Vec}
 use Rattle.cmark_grammar.specs.Answers.{Lookup}
-use Rattle.cmark_grammar.specs.Columns.{is_blank_byte}
 use Rattle.cmark_grammar.specs.Event.{Ranged, Text}
 use Rattle.cmark_grammar.specs.LeafReading.{Between, ReadsLeaf as ReadsGrammarLeaf}
 use Rattle.cmark_grammar.specs.LeafText.{Leaf, Stretch}
 use Rattle.cmark_grammar.specs.LeafSpans.{IsRange}
-use Rattle.cmark_grammar.specs.LineBreaks.{blank_break_in}
 use Rattle.cmark_grammar.specs.Options.{Options}
 use Rattle.cmark_grammar.specs.Questions.{Exchange, IsNext}
 use Rattle.cmark_grammar.specs.Readers.{Reader}
 use Rattle.cmark_grammar.specs.SpanDocuments.{Segment, Given as GivenOf, Content, Left}
 use Rattle.cmark_grammar.specs.Tokens.{slice}
-use Rattle.cmark_inline.specs.Footnoted.{SameFootnotes}
+use Rattle.cmark_inline.specs.Asking.{AsksOnce, AsksUpTo}
+use Rattle.cmark_inline.specs.Decided.{shown_answer, shown_question}
 use Rattle.cmark_inline.specs.Linked.{said_by}
 use Rattle.cmark_inline.specs.PlainStretches.{StandUpTo}
 use Rattle.cmark_inline.specs.Resolved.{Answered}
 use Rattle.cmark_inline.specs.SlotViews.{events_to_come}
 use Rattle.cmark_inline.specs.declared.callback.BrokenLink.{BrokenLink}
 use Rattle.cmark_inline.specs.declared.state.InlineState.{InlineState}
+use Rattle.cmark_inline_model.specs.FirstEvents.{BeginWithEnd}
 use Rattle.cmark_inline_model.specs.PlacedLeaves.{StandWhole}
 use Rattle.cmark_inline_model.proofs.Backwards.{left-given, left-leaf}
 use Rattle.cmark_inline_model.proofs.DecisionLaws.{decide-recorded}
@@ -30,15 +29,12 @@ use Rattle.cmark_inline_model.proofs.PlainLeaves.{plain-leaf}
 use Rattle.cmark_items.specs.Definitions.{definition}
 use Rattle.cmark_items.specs.declared.definitions.RefDefs.{RefDefs}
 use Rattle.cmark_leaf_text.specs.declared.stretch.LeafLine.{LeafLine}
-use Rattle.cmark_text.specs.Short.{IsShortZeroCopy, shown_short}
-use Rattle.cmark_text.specs.declared.short.Short.{Short}
-use Rattle.cmark_text.specs.declared.short.Short.TheVariants as short
 use Rattle.cmark_text.specs.declared.text.CowStr.{CowStr}
 use Rattle.cmark_walk.specs.declared.walk.Walk.{Walk}
 use Rattle.cmark_walk.specs.Walking as walking
 use Rattle.cmark_walk.specs.Walking.{AreLinesOf, lines_of}
 use Rattle.cmark_span_walk.specs.declared.span_walk.SpanWalk.{SpanWalk}
-use Rattle.cmark_span_walk.specs.Walking.{ArePlaced, Ends, EntersLeaf, HasRange, IsOnlyLine, IsReadBy, Passes, ReadsLeaf, ReadsSame, Remains, Stands, StandsAt, callback_of, definitions_of, expansion_of, source_of, spans_to_come}
+use Rattle.cmark_span_walk.specs.Walking.{ArePlaced, Ends, EntersLeaf, HasAsked, HasRange, IsOnlyLine, IsReadBy, Passes, ReadsLeaf, ReadsSame, Remains, StandsAt, callback_of, definitions_of, expansion_of, source_of, spans_to_come}
 use Rattle.cmark_span_walk.proofs.Walks.{Lasts, behind-at, closed, closed-at, met-by, one-left, same-at}
 
 -- texts of which each byte stands for itself
@@ -71,6 +67,23 @@ module _ {F : Type 0} (Says : F → BrokenLink → Option (CowStr × CowStr) →
   answered-on [] ys a b c h k = subst (λ x. Answered Says ys x c) h k
   answered-on (x ∷ xs) ys a b c h k = (h.0, h.1, answered-on xs ys h.0 b c h.2 k)
 
+  pub asked-on : (old head mid new : F) → HasAsked Says old head → mid ≡ head → HasAsked Says mid new → HasAsked Says old new
+  asked-on old head mid new h e k = (h.0 ++ k.0, answered-on h.0 k.0 old head new h.1 (subst (λ x. Answered Says k.0 x new) e k.1))
+
+  pub asked-same : (old head mid : F) → HasAsked Says old head → mid ≡ head → HasAsked Says old mid
+  asked-same old head mid h e = (h.0, subst (λ x. Answered Says h.0 old x) (sym e) h.1)
+
+  asked-once : (old head new : F) → HasAsked Says old head → AsksOnce Says head new → HasAsked Says old new
+  asked-once old head new h (inl e) = asked-same old head new h e
+  asked-once old head new h (inr once) =
+      let x : Exchange = record { question = shown_question once.0; answer = option_map shown_answer once.1 } in
+      (h.0 ++ x ∷ [], answered-on h.0 (x ∷ []) old head new h.1 (new, record { link = once.0; told = once.1; question_is = refl; answer_is = refl; run = once.2 }, refl))
+
+  -- so many questions at most are some questions
+  pub asked-up-to : (n : ℕ) (before after : F) → AsksUpTo Says n before after → HasAsked Says before after
+  asked-up-to zero before after h = ([], h)
+  asked-up-to (suc n) before after h = asked-once before h.0 after (asked-up-to n before h.0 h.1) h.2
+
 module _ {E F : Type 0} (replacement : E → Lookup) (reader : Reader) where
   -- what is left behind what the walk stands in
   remains-left : (walk : SpanWalk E F) (r : IsReadBy replacement reader walk) (rest : List Exchange) (events : List Ranged) (m : Remains replacement reader walk rest events) → Left reader r.left (expansion_of walk) rest m.later
@@ -88,9 +101,15 @@ module _ {E F : Type 0} (Says : F → BrokenLink → Option (CowStr × CowStr) �
   abbrev pub ReadsOn : (old new : SpanWalk E F) → Type 0
   ReadsOn old new = (reader : Reader) → IsReadBy replacement reader old → Passes Says replacement reader [] old new
 
+  -- where an end is next, what was left is left, for each reader
+  abbrev pub KeepsEnd : (old new : SpanWalk E F) → Type 0
+  KeepsEnd old new = (reader : Reader) (exchanges : List Exchange) (events : List Ranged) → Remains replacement reader old exchanges events → BeginWithEnd events → Remains replacement reader new exchanges events
+
   pub record Turns (old walk : SpanWalk E F) : Type 0 where
     pub lasts : Lasts old walk
     pub reads : ReadsOn old walk
+    pub ends : KeepsEnd old walk
+    pub asked : HasAsked Says (callback_of old) (callback_of walk)
 
   module _ (reader : Reader) where
     -- nothing was given yet

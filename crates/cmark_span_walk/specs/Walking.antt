@@ -10,6 +10,7 @@ use Rattle.cmark_grammar.specs.Readers.{Reader}
 use Rattle.cmark_grammar.specs.SpanDocuments as documents
 use Rattle.cmark_grammar.specs.SpanDocuments.{Segment, Left}
 use Rattle.cmark_grammar.specs.Tokens.{slice}
+use Rattle.cmark_inline_model.specs.FirstEvents.{BeginWithEnd}
 use Rattle.cmark_inline_model.specs.LeafGaps.{HasNoPipesBetween}
 use Rattle.cmark_inline_model.specs.PlacedLeaves.{IsPlaced}
 use Rattle.cmark_items.specs.Definitions.{definition}
@@ -188,7 +189,25 @@ module _ {E F : Type 0} (replacement : E → Lookup) (reader : Reader) where
     pub reads : Left reader read_by.left (expansion_of walk) exchanges later
     pub are : events ≡ spans_to_come walk.in_leaf walk ++ later
 
+  -- whatever is answered, the next event is not the end of an element
+  abbrev pub NoEndIsNext : SpanWalk E F → Type 0
+  NoEndIsNext walk = (exchanges : List Exchange) (events : List Ranged) → Remains walk exchanges events → BeginWithEnd events → ⊥
+
+  -- what was left is left
+  abbrev pub KeepsLeft : (old new : SpanWalk E F) → Type 0
+  KeepsLeft old new = (exchanges : List Exchange) (events : List Ranged) → Remains old exchanges events → Remains new exchanges events
+
+  -- so it is where a leaf has no more events
+  abbrev pub KeepsBehindLeaf : SpanWalk E F → Next → SpanWalk E F → Type 0
+  KeepsBehindLeaf old (next.Short short) new = Unit {0}
+  KeepsBehindLeaf old next.Long new = Unit {0}
+  KeepsBehindLeaf old next.Over new = KeepsLeft old new
+
 -- ## What a call gives
+
+-- a callback was asked some questions, one after the other
+abbrev pub HasAsked : {F : Type 0} → (F → BrokenLink → Option (CowStr × CowStr) → F → Type 0) → (before after : F) → Type 0
+HasAsked R before after = (taken : List Exchange) × Answered R taken before after
 
 -- `Says` says what a callback answers
 module _ {E F : Type 0} (Says : F → BrokenLink → Option (CowStr × CowStr) → F → Type 0) (replacement : E → Lookup) (reader : Reader) where

@@ -1,6 +1,6 @@
 //! The walk over a document's events with the spans of its leaves.
 
-ghost use Rattle.std.specs.Prelude.{◌≡◌, ◌<◌, ◌≤◌, ℕ, Bool, true, false, List, [], None, is_some, length, max, IfOk, IfSome, OnOk, OnSome};
+ghost use Rattle.std.specs.Prelude.{◌≡◌, ◌≢◌, ◌<◌, ◌≤◌, ℕ, Bool, true, false, List, [], None, is_some, length, max, IfOk, IfSome, OnErr, OnOk, OnSome};
 ghost use Rattle.cmark_grammar.specs.Answers.{Lookup};
 ghost use Rattle.cmark_grammar.specs.Event.{Ranged as Shown};
 ghost use Rattle.cmark_grammar.specs.Questions.{Exchange};
@@ -14,7 +14,7 @@ ghost use Rattle.cmark_leaf_text.specs.Stretches.{AreLines};
 ghost use Rattle.cmark_inline.specs.Opens.{shown_given, GivesZeroCopy as SpanZeroCopy};
 ghost use Rattle.cmark_walk.specs.Walking.{Remains as BlocksRemain, definitions_of as block_definitions, shown_ranged, text_of};
 ghost use Rattle.cmark_text.specs.Shown.{shown_options};
-ghost use Rattle.cmark_span_walk.specs.Walking.{ArePlaced, GivesZeroCopy, HasPlaces, IsOnlyLine};
+ghost use Rattle.cmark_span_walk.specs.Walking.{ArePlaced, GivesZeroCopy, HasAsked, HasPlaces, IsOnlyLine};
 
 use cmark_inline::{BrokenLinkCallback, Given, InlineState, Reader, SpecialBytes, special_bytes};
 use cmark_items::{FootnoteDefs, RefDefs};
@@ -46,7 +46,7 @@ pub struct SpanWalk<'input, 'e, E, F> {
 }
 
 impl<'input, 'e, E: EntityLookup, F: BrokenLinkCallback<'input> + Drop> SpanWalk<'input, 'e, E, F> {
-    ghost use Rattle.cmark_span_walk.specs.Walking.{BeforeLeaf, EntersLeaf, Gives, GivesInLeaf, GivesNext, GivesSpan, IsReadBy, LeavesFewer, LeavesLeaf, ReadsLeaf, ReadsSame, Remains, Stands, callback_of, definitions_of, events_left, expansion_of, footnotes_of, options_of, source_of};
+    ghost use Rattle.cmark_span_walk.specs.Walking.{BeforeLeaf, EntersLeaf, Gives, GivesInLeaf, GivesNext, GivesSpan, IsReadBy, KeepsBehindLeaf, KeepsLeft, LeavesFewer, LeavesLeaf, NoEndIsNext, ReadsLeaf, ReadsSame, Remains, Stands, callback_of, definitions_of, events_left, expansion_of, footnotes_of, options_of, source_of};
 
     /// A walk over what this walk over the text meets, which are fewer events and leaves than `budget`. `entities` says what the
     /// entity names stand for; `footnotes` are those that the text defines, of which each counts its references; `callback` is asked
@@ -112,6 +112,8 @@ impl<'input, 'e, E: EntityLookup, F: BrokenLinkCallback<'input> + Drop> SpanWalk
         ensures given { (reader : GrammarReader) → IsReadBy E.replacement reader self.old → IfOk result (λ given. Gives F.answers E.replacement reader self.old given self.new) }
         ensures lent { IfOk result (λ given. IfSome given (GivesZeroCopy (source_of self.old))) }
         ensures fewer { IfOk result (λ given. OnSome given (events_left self.new < events_left self.old)) }
+        ensures ends { OnErr result ((reader : GrammarReader) → NoEndIsNext E.replacement reader self.old) }
+        ensures asked { OnErr result (HasAsked F.answers (callback_of self.old) (callback_of self.new)) }
         ensures definitions { definitions_of self.new ≡ definitions_of self.old }
         ensures footnotes { SameFootnotes (footnotes_of self.old) (footnotes_of self.new) }
         ensures source { source_of self.new ≡ source_of self.old }
@@ -141,6 +143,8 @@ impl<'input, 'e, E: EntityLookup, F: BrokenLinkCallback<'input> + Drop> SpanWalk
         ensures stands { OnOk result (Stands self.new) }
         ensures given { (reader : GrammarReader) → IsReadBy E.replacement reader self.old → IfOk result (λ next. GivesNext F.answers E.replacement reader self.old next self.new) }
         ensures fewer { IfOk result (λ next. LeavesFewer self.old next self.new) }
+        ensures ends { OnErr result ((reader : GrammarReader) → NoEndIsNext E.replacement reader self.old) }
+        ensures asked { OnErr result (HasAsked F.answers (callback_of self.old) (callback_of self.new)) }
         ensures definitions { definitions_of self.new ≡ definitions_of self.old }
         ensures footnotes { SameFootnotes (footnotes_of self.old) (footnotes_of self.new) }
         ensures source { source_of self.new ≡ source_of self.old }
@@ -176,6 +180,9 @@ impl<'input, 'e, E: EntityLookup, F: BrokenLinkCallback<'input> + Drop> SpanWalk
         ensures stands { OnOk result (Stands self.new) }
         ensures outside { IfOk result (λ next. LeavesLeaf next self.new) }
         ensures given { (reader : GrammarReader) → IsReadBy E.replacement reader self.old → IfOk result (λ next. GivesInLeaf F.answers E.replacement reader self.old next self.new) }
+        ensures kept { (reader : GrammarReader) → IfOk result (λ next. KeepsBehindLeaf E.replacement reader self.old next self.new) }
+        ensures ends { OnErr result ((reader : GrammarReader) → NoEndIsNext E.replacement reader self.old) }
+        ensures callback { callback_of self.new ≡ callback_of self.old }
         ensures fewer { IfOk result (λ next. LeavesFewer self.old next self.new) }
         ensures most { OnOk result (events_left self.new ≤ events_left self.old) }
         ensures few { OnOk result (self.old.in_leaf ≡ true → length self.new.inline.slots.items < 18446744073709551616) }
@@ -205,6 +212,9 @@ impl<'input, 'e, E: EntityLookup, F: BrokenLinkCallback<'input> + Drop> SpanWalk
         ensures stands { OnOk result (Stands self.new) }
         ensures outside { IfOk result (λ given. is_some given ≡ false → self.new.in_leaf ≡ false) }
         ensures given { (reader : GrammarReader) → IsReadBy E.replacement reader self.old → IfOk result (λ given. GivesSpan F.answers E.replacement reader self.old given self.new) }
+        ensures kept { (reader : GrammarReader) → IfOk result (λ given. is_some given ≡ false → KeepsLeft E.replacement reader self.old self.new) }
+        ensures ends { OnErr result ((reader : GrammarReader) → NoEndIsNext E.replacement reader self.old) }
+        ensures callback { callback_of self.new ≡ callback_of self.old }
         ensures lent { IfOk result (λ given. IfSome given (GivesZeroCopy (source_of self.old))) }
         ensures fewer { IfOk result (λ given. OnSome given (events_left self.new < events_left self.old)) }
         ensures most { OnOk result (events_left self.new ≤ events_left self.old) }
@@ -255,6 +265,8 @@ impl<'input, 'e, E: EntityLookup, F: BrokenLinkCallback<'input> + Drop> SpanWalk
         ensures enters { OnOk result ((leaf : Leaf) (others : List Segment) → BeforeLeaf self.old is_cell leaf others → EntersLeaf others self.new) }
         ensures reads { OnOk result ((reader : GrammarReader) (leaf : Leaf) (others : List Segment) → BeforeLeaf self.old is_cell leaf others → HasPlaces reader leaf → ReadsSame E.replacement reader self.old
             → ReadsLeaf F.answers E.replacement reader leaf self.old self.new) }
+        ensures lines { OnErr result (self.old.lines.items ≢ []) }
+        ensures asked { HasAsked F.answers (callback_of self.old) (callback_of self.new) }
         ensures source { source_of self.new ≡ source_of self.old }
         ensures budget { self.new.budget ≡ self.old.budget }
         ensures definitions { definitions_of self.new ≡ definitions_of self.old }

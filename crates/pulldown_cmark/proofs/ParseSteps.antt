@@ -1,5 +1,5 @@
 -- Steps of a walk.
-use Rattle.std.specs.Prelude.{IfOk, Option, Result, Err, IsUtf8, is_some, max, option_map}
+use Rattle.std.specs.Prelude.{IfOk, OnErr, Option, Result, Err, IsUtf8, is_some, max, option_map}
 use Rattle.std.specs.declared.alloc.AllocError.{AllocError}
 use Rattle.std.proofs.Common.{◌≡◌, ◌+◌, ◌*◌, ◌<◌, ℕ, suc, Bool, true, false, if◌then◌else◌, List, [], ◌∷◌, ◌++◌, length, None, Some, Ok, inl, inr, refl, sym, ap, ◌∙◌, subst, arith}
 use Rattle.cmark_block_model.proofs.Drawings.{derived}
@@ -203,9 +203,10 @@ module _ {E F : Type 0} (Says : F → BrokenLink → Option (CowStr × CowStr) �
     footnotes = λ folded. refl;
   }
 
-  pub gives-error : (old new : Parser E F) (error : AllocError) → old.is_over ≡ false → new.is_over ≡ true → text_of new ≡ text_of old → definitions new ≡ definitions old → SameFootnotes (footnotes old) (footnotes new) → GivesStep Says replacement old (Some (Err error)) new
-  gives-error old new error e n text same known = record {
-    next = record { taken = []; first = n; goes_on = inl n; over = λ over. absurd (let q : true ≡ false = sym over ∙ e in cc) };
+  pub gives-error : (old new : Parser E F) (error : AllocError) → old.is_over ≡ false → new.is_over ≡ true → ((reader : Reader) → walking.NoEndIsNext replacement reader old.spans)
+      → walking.HasAsked (SaysIfAny Says) old.spans.callback new.spans.callback → text_of new ≡ text_of old → definitions new ≡ definitions old → SameFootnotes (footnotes old) (footnotes new) → GivesStep Says replacement old (Some (Err error)) new
+  gives-error old new error e n ends asked text same known = record {
+    next = record { taken = asked.0; first = (asked-of Says asked.0 old.spans.callback new.spans.callback asked.1, λ exchanges events m. ends (reader_for replacement old) exchanges events (subst (λ b. Left replacement b old exchanges events) e m), n); goes_on = inl n; over = λ over. absurd (let q : true ≡ false = sym over ∙ e in cc) };
     text = text;
     definitions = same;
     footnotes = known;
@@ -256,9 +257,9 @@ module _ {E F : Type 0} (Says : F → BrokenLink → Option (CowStr × CowStr) �
     }
 
     pub gives-or-err : (o : Result Next AllocError) → new.is_over ≡ is_last o → IfOk o (λ next. walking.GivesNext (SaysIfAny Says) replacement (reader_for replacement old) old.spans next new.spans) → IfOk o (λ next. walking.LeavesFewer old.spans next new.spans)
-        → GivesOrErr Says replacement old o new
-    gives-or-err (Ok next) n h less = gives-next next n h less
-    gives-or-err (Err error) n h less = gives-error old new error e n text same known
+        → OnErr o ((reader : Reader) → walking.NoEndIsNext replacement reader old.spans) → OnErr o (walking.HasAsked (SaysIfAny Says) old.spans.callback new.spans.callback) → GivesOrErr Says replacement old o new
+    gives-or-err (Ok next) n h less ends asked = gives-next next n h less
+    gives-or-err (Err error) n h less ends asked = gives-error old new error e n ends asked text same known
 
 -- ## A parser at the start
 

@@ -8,6 +8,7 @@ use Rattle.cmark_grammar.specs.Options.{Options}
 use Rattle.cmark_grammar.specs.Questions.{Exchange, Plan}
 use Rattle.cmark_grammar.specs.Readers.{Reader}
 use Rattle.cmark_grammar.specs.SpanDocuments.{IsReading, Profile, reader_of}
+use Rattle.cmark_inline_model.specs.FirstEvents.{BeginWithEnd}
 use Rattle.cmark_inline_model.specs.PlannedAnswers.{AreByPlan}
 
 -- what a text is read with: references take as many bytes of destinations and titles as the text has, or 100,000 where it has fewer
@@ -25,6 +26,10 @@ module _ {S : Type 0} (Remains : S → List Exchange → List Ranged → Type 0)
   abbrev pub SomeLeft : Plan → S → Type 0
   SomeLeft plan s = (exchanges : List Exchange) × (events : List Ranged) × AreByPlan plan [] exchanges × Remains s exchanges events
 
+  -- whatever is answered, the next event is not the end of an element
+  abbrev pub NoEndIsNext : S → Type 0
+  NoEndIsNext s = (exchanges : List Exchange) (events : List Ranged) → Remains s exchanges events → BeginWithEnd events → ⊥
+
   -- a walk at its start: with each plan's answers some events are left, and whichever are left, they are the reading of the text with
   -- exactly these questions and answers
   pub record ReadsFrom (text : List ℕ) (options : Options) (lookup : Lookup) (s : S) : Type 0 where
@@ -38,12 +43,13 @@ module _ {S : Type 0} (Remains : S → List Exchange → List Ranged → Type 0)
 
 -- Asks says that a callback was asked these questions from one state to another, and answered so; Shows, that an item shows an event
 module _ {S T : Type 0} (Remains : S → List Exchange → List Ranged → Type 0) (IsOver : S → Type 0) (Asks : S → List Exchange → S → Type 0) (Shows : T → Ranged → Type 0) where
-  -- None only where no event was left; else the first event of what was left, however the walk goes on from there
+  -- None only where no event was left; the error item only where the next event is no end, and behind it nothing is given; else the first
+  -- event of what was left, however the walk goes on from there
   abbrev pub GivesFirst : S → (taken : List Exchange) → Option (Result T AllocError) → S → Type 0
   GivesFirst old taken None new = Asks old taken new × Remains old taken [] × IsOver new
   GivesFirst old taken (Some (Ok x)) new =
       Asks old taken new × ((r : Ranged) × Shows x r × ((rest : List Exchange) (events : List Ranged) → Remains new rest events → Remains old (taken ++ rest) (r ∷ events)))
-  GivesFirst old taken (Some (Err e)) new = IsOver new
+  GivesFirst old taken (Some (Err e)) new = Asks old taken new × NoEndIsNext Remains old × IsOver new
 
   -- one call, in which these questions were put; behind the end nothing is asked or given
   pub record GivesNext (old : S) (given : Option (Result T AllocError)) (new : S) : Type 0 where

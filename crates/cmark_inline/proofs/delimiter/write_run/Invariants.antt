@@ -1,4 +1,4 @@
-use Rattle.std.proofs.Common.{◌≡◌, ◌≤◌, ◌-◌, ℕ, List, length}
+use Rattle.std.proofs.Common.{◌≡◌, ◌≤◌, ◌+◌, ◌-◌, ℕ, List, drop, length}
 use Rattle.std.specs.Prelude.{map, reverse}
 use Rattle.cmark_inline_model.specs.SlotRows.{marked, run_places}
 use Rattle.cmark_leaf_text.specs.declared.leaf_text.LeafText.{LeafText}
@@ -11,20 +11,17 @@ use Rattle.cmark_inline.specs.Stands.{AreSlots, NoNewLink}
 use Rattle.cmark_inline.specs.declared.link.LinkParts.{LinkParts}
 use Rattle.cmark_inline.proofs.delimiter.write_run.Given as goal
 
-abbrev pub invariant-loop : goal.invariant-loop
-invariant-loop l =
+abbrev pub invariant-loop-byte : goal.invariant-loop-byte
+invariant-loop-byte l =
     ((text : List ℕ) (place : ℕ) → AreSlots text place l.initial.slots.items → AreSlots text place l.slots.items)
     × (length l.slots.items ≡ length l.initial.slots.items)
     × NoNewLink l.initial.slots.items l.slots.items
-    × ((behind : List ℕ) → AreReady l.initial.slots.items (reverse l.initial.begun.items) (run_places l.fn.placed.slot l.fn.placed.run.size behind) l.marks
-    → AreReady l.slots.items (reverse l.begun.items) (run_places l.slot (l.end - l.counter) behind) l.rest)
+    × ((behind : List ℕ) → AreReady l.initial.slots.items (reverse l.initial.begun.items) (run_places l.placed.slot l.placed.run.size behind) l.marks
+    → AreReady l.slots.items (reverse l.begun.items) (run_places (l.placed.slot + l.byte) (l.placed.run.size - l.byte) behind) (drop l.byte l.marks))
     × ((leaf : LeafText) (texts : List CowStr) (links : List LinkParts) (behind : List ℕ)
-    → AreReady l.initial.slots.items (reverse l.initial.begun.items) (run_places l.fn.placed.slot l.fn.placed.run.size behind) l.marks
-    → marked (shown_options l.options) (run_places l.fn.placed.slot l.fn.placed.run.size behind) (map shown_mark l.marks) (shown_slots leaf texts links l.initial.slots.items) (reverse l.initial.begun.items)
-    ≡ marked (shown_options l.options) (run_places l.slot (l.end - l.counter) behind) (map shown_mark l.rest) (shown_slots leaf texts links l.slots.items) (reverse l.begun.items))
-    × ((low : ℕ) (behind : List ℕ) → AreReady l.initial.slots.items (reverse l.initial.begun.items) (run_places l.fn.placed.slot l.fn.placed.run.size behind) l.marks
-    → BeganFrom low (reverse l.initial.begun.items) → low ≤ l.fn.placed.slot → SameBefore low l.initial.slots.items l.slots.items × BeganFrom low (reverse l.begun.items) × (low ≤ l.slot))
-    × ((behind : List ℕ) → AreReady l.initial.slots.items (reverse l.initial.begun.items) (run_places l.fn.placed.slot l.fn.placed.run.size behind) l.marks
-    → EndWithin l.initial.slots.items → EndWithin l.slots.items)
-    × ((behind : List ℕ) → AreReady l.initial.slots.items (reverse l.initial.begun.items) (run_places l.fn.placed.slot l.fn.placed.run.size behind) l.marks
-    → NamesNoMore l.initial.slots.items l.slots.items)
+    → AreReady l.initial.slots.items (reverse l.initial.begun.items) (run_places l.placed.slot l.placed.run.size behind) l.marks
+    → marked (shown_options l.options) (run_places l.placed.slot l.placed.run.size behind) (map shown_mark l.marks) (shown_slots leaf texts links l.initial.slots.items) (reverse l.initial.begun.items)
+    ≡ marked (shown_options l.options) (run_places (l.placed.slot + l.byte) (l.placed.run.size - l.byte) behind) (map shown_mark (drop l.byte l.marks)) (shown_slots leaf texts links l.slots.items) (reverse l.begun.items))
+    × ((low : ℕ) → BeganFrom low (reverse l.initial.begun.items) → low ≤ l.placed.slot → SameBefore low l.initial.slots.items l.slots.items × BeganFrom low (reverse l.begun.items))
+    × (EndWithin l.initial.slots.items → EndWithin l.slots.items)
+    × NamesNoMore l.initial.slots.items l.slots.items

@@ -1,18 +1,30 @@
-use Rattle.std.proofs.Common.{rules, ◌≡◌, ◌∷◌, ℕ, List, ap, sym, ◌∙◌}
+use Rattle.std.proofs.Common.{◌≡◌, ◌<◌, ◌+◌, List, length, drop, sym, ap, ◌∙◌, arith}
 use Rattle.cmark_inline.specs.Quoted.{with_characters}
 use Rattle.cmark_inline.specs.declared.quote.PlacedQuote.{PlacedQuote}
 use Rattle.cmark_inline.specs.declared.slot.Slot.{Slot}
+use Rattle.cmark_inline.proofs.Quotes.{all-written, one-more}
+use Rattle.cmark_inline.proofs.Placing.{no-quote}
 use Rattle.cmark_inline.proofs.quote.write.Goals as goal
 
-pub loop-next-preserved : goal.loop-next-preserved
-loop-next-preserved c =
-    let i = c.loop-next.invariant in
-    let e : c.loop-next.rest.now ≡ c.in-Some.next.now ∷ c.in-Some.others.now = search rules in
-    let f : c.loop-next.left.now ≡ c.in-Some-split_first.character.now ∷ c.in-Some-split_first.behind.now = search rules in (
+pub become_character-requires : goal.become_character-requires
+become_character-requires c =
+    let n = c.loop-at.invariant.1 in
+    let m = (c.requires.texts c.loop-at.at no-quote c.loop-at-test.true).0 in
+    record { there = omega (arith, n, m) }
+
+pub loop-at-preserved : goal.loop-at-preserved
+loop-at-preserved c =
+    let i = c.loop-at.invariant in (
       (λ text place h. c.become_character.ensures.slots text place (i.0 text place h)),
       c.become_character.ensures.length ∙ i.1,
       (λ from h. c.become_character.ensures.links from (i.2 from h)),
-      ap (λ (l : List Slot). with_characters c.in-Some.others.now c.in-Some-split_first.behind.now l) c.become_character.ensures.value
-          ∙ sym (ap (λ (ps : List PlacedQuote). with_characters ps c.loop-next.left.now c.loop-next.slots.items) e ∙ ap (λ (cs : List ℕ). with_characters (c.in-Some.next.now ∷ c.in-Some.others.now) cs c.loop-next.slots.items) f)
+      ap (λ (l : List Slot). with_characters (drop (c.loop-at.at + 1) c.args.placed.now) (drop (c.loop-at.at + 1) c.args.characters.now) l) c.become_character.ensures.value
+          ∙ one-more c.args.placed.now c.args.characters.now c.loop-at.slots.items c.loop-at.at no-quote c.index-characters-at.result c.loop-at-test.true c.requires.characters c.index-characters-at.is
           ∙ i.3,
     )
+
+pub returns-clause-value : goal.returns-clause-value
+returns-clause-value c =
+    let over = c.loop-at-test.false in
+    let most = c.loop-at.auto.at-end in
+    sym (all-written c.args.placed.now c.args.characters.now c.loop-at.slots.items c.loop-at.at (omega (arith, over, most))) ∙ c.loop-at.invariant.3

@@ -20,7 +20,7 @@ loop-at-preserved c =
     record {
       order = omega (arith, low);
       before = omega (arith, lt);
-      hides = hides-more c.args.from c.loop-at.at c.args.slots.now.items c.loop-at.slots.items c.use_up.new.slots.items d i.hides low there (c.use_up.ensures.hides d refl there);
+      hides = hides-more c.args.from c.loop-at.at c.args.slots.now.items c.loop-at.slots.items c.use_up.new.slots.items d i.hides low there (c.use_up.ensures.hides d refl);
       slots = λ text place h. c.use_up.ensures.slots text place (i.slots text place h);
       links = λ from h. c.use_up.ensures.links from (i.links from h);
     }

@@ -1,5 +1,4 @@
 use Rattle.std.proofs.Common.{◌≡◌, ◌≤◌, ◌+◌, ◌-◌, ℕ, List, length}
-use Rattle.cmark_inline.specs.Marked.{AreWhole}
 use Rattle.cmark_inline.specs.Stands.{AreSlots, NoNewLink}
 use Rattle.cmark_inline.specs.Wikilinks.{Hides}
 use Rattle.cmark_inline.proofs.slot.use_up_between.Given as goal
@@ -11,7 +10,7 @@ invariant-loop-at l =
     × NoNewLink l.initial.slots.items l.slots.items
     × (l.at ≤ l.last)
     × (l.first ≤ l.at)
-    × (AreWhole l.initial.slots.items → Hides (l.first + 1) (l.at + 1) l.initial.slots.items l.slots.items)
+    × Hides (l.first + 1) (l.at + 1) l.initial.slots.items l.slots.items
 
 abbrev pub decreases-loop-at : goal.decreases-loop-at
 decreases-loop-at l = l.last - l.at

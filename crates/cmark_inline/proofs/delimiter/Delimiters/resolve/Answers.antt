@@ -1,4 +1,4 @@
-use Rattle.std.proofs.Common.{rules, ◌≡◌, ◌∷◌, List, [], length, drop, refl, sym, ap, subst, ◌∙◌, arith}
+use Rattle.std.proofs.Common.{rules, ◌≡◌, ◌∷◌, ◌≤◌, ℕ, List, [], length, drop, refl, sym, ap, subst, ◌∙◌, arith}
 use Rattle.std.specs.Prelude.{map, reverse}
 use Rattle.cmark_emphasis.specs.Shown.{shown_run}
 use Rattle.cmark_emphasis.specs.Slots.{AreBalanced}
@@ -9,57 +9,74 @@ use Rattle.cmark_inline.specs.Marked.{AreReady, BeganFrom, places_of, shown_mark
 use Rattle.cmark_inline.specs.SlotViews.{shown_slots}
 use Rattle.cmark_inline.specs.declared.delimiter.PlacedRun.{PlacedRun}
 use Rattle.cmark_inline.proofs.Naming.{no-more-on, no-more-same}
-use Rattle.cmark_inline.proofs.RunPlaces.{RunsFrom, runs-from, same-on, marks-are, none-left, ready-first, stand-so}
+use Rattle.std.proofs.lemmas.List.{length-drop}
+use Rattle.cmark_inline.proofs.RunPlaces.{RunsFrom, as-many, length-run, runs-from, same-on, marks-are, none-left, ready-first, stand-so}
 use Rattle.cmark_inline.proofs.delimiter.Delimiters.resolve.Goals as goal
 
 pub loop-placed-init : goal.loop-placed-init
 loop-placed-init c =
+    let slots = c.args.slots.now.items in
+    let marks = c.as_slice-marks.result.now in
+    let mine : List PlacedRun = drop c.args.first c.args.self.now.placed.items in
     let v = c.runs_from-rest.ensures.value ∙ ap (drop c.args.first) c.as_slice-2.ensures.value in
-    let same : AreBalanced [] c.as_slice-marks.result.now = subst (AreBalanced []) (sym c.as_slice-marks.ensures.value) c.in_ok-slots_of_runs.ensures.balanced in (
+    let same : AreBalanced [] marks = subst (AreBalanced []) (sym c.as_slice-marks.ensures.value) c.in_ok-slots_of_runs.ensures.balanced in
+    let count : c.in_ok-count.count ≡ places_taken (siblings_from 0 mine) = c.in_ok-count.ensures.value.0 ∙ ap (λ ps. places_taken (siblings_from 0 (drop c.args.first ps))) c.as_slice.ensures.value in
+    let runs : map shown_run c.gather.new.runs.items ≡ runs_of (siblings_from 0 mine) = c.in_ok-count.ensures.value.1 ∙ ap (λ ps. runs_of (siblings_from 0 (drop c.args.first ps))) c.as_slice.ensures.value in (
       (λ text place h. h),
       refl,
       (λ from h. h),
-      (λ from place h whole.
-          subst (λ b. AreReady c.args.slots.now.items (reverse b) (places_of c.runs_from-rest.result.now) c.as_slice-marks.result.now) (sym c.clear.ensures.items)
-          (subst (λ ps. AreReady c.args.slots.now.items [] (places_of ps) c.as_slice-marks.result.now) (sym v)
-          (ready-first c.args.slots.now.items from place (drop c.args.first c.args.self.now.placed.items) c.as_slice-marks.result.now h whole same))),
-      (λ leaf texts links from place h whole.
-          ap (λ ps. marked (shown_options c.args.options) (places_of ps) (map shown_mark c.as_slice-marks.result.now) (shown_slots leaf texts links c.args.slots.now.items) []) (sym v)
-          ∙ ap (λ b. marked (shown_options c.args.options) (places_of c.runs_from-rest.result.now) (map shown_mark c.as_slice-marks.result.now) (shown_slots leaf texts links c.args.slots.now.items) (reverse b)) (sym c.clear.ensures.items)),
-      (λ from place h whole.
-          ((λ k d lt. refl), subst (λ b. BeganFrom from (reverse b)) (sym c.clear.ensures.items) tt, subst (RunsFrom from) (sym v) (runs-from from c.args.slots.now.items from place (drop c.args.first c.args.self.now.placed.items) (omega arith) h))),
-      (λ from place h whole within. within),
-      (λ from place h whole. no-more-same c.args.slots.now.items),
+      subst (λ b. AreReady slots (reverse b) (places_of c.runs_from-rest.result.now) marks) (sym c.clear.ensures.items)
+          (subst (λ ps. AreReady slots [] (places_of ps) marks) (sym v) (ready-first slots 0 0 mine marks c.requires.bytes c.requires.whole same)),
+      (λ leaf texts links.
+          ap (λ ps. marked (shown_options c.args.options) (places_of ps) (map shown_mark marks) (shown_slots leaf texts links slots) []) (sym v)
+          ∙ ap (λ b. marked (shown_options c.args.options) (places_of c.runs_from-rest.result.now) (map shown_mark marks) (shown_slots leaf texts links slots) (reverse b)) (sym c.clear.ensures.items)),
+      (λ from place h.
+          ((λ k d lt. refl), subst (λ b. BeganFrom from (reverse b)) (sym c.clear.ensures.items) tt, subst (RunsFrom from) (sym v) (runs-from from slots from place mine (omega arith) h))),
+      (λ within. within),
+      no-more-same slots,
+      as-many mine marks (c.as_slice-marks.ensures.value ∙ c.in_ok-slots_of_runs.ensures.spans (siblings_from 0 mine) (stand-so 0 mine) (sym count) (sym (ap (map shown_run) c.deref.ensures.value ∙ runs))) ∙ ap (λ ps. length (places_of ps)) (sym v),
     )
+
+pub write_run-requires : goal.write_run-requires
+write_run-requires c =
+    let begun = reverse c.loop-placed.self.1.1.1.1.1.0.items in
+    let i = c.loop-placed.invariant in
+    let e : c.loop-placed.rest.now ≡ c.in-Some.placed.now ∷ c.in-Some.others.now = search rules in
+    let all = i.8 ∙ ap (λ ps. length (places_of ps)) e ∙ length-run c.in-Some.placed.now.slot c.in-Some.placed.now.run.size (places_of c.in-Some.others.now) in
+    record {
+      ready = (places_of c.in-Some.others.now, subst (λ ps. AreReady c.loop-placed.slots.items begun (places_of ps) c.loop-placed.marks.now) e i.3);
+      marks = (let q : c.in-Some.placed.now.run.size ≤ length c.loop-placed.marks.now = omega (arith, all) in q);
+    }
 
 pub loop-placed-preserved : goal.loop-placed-preserved
 loop-placed-preserved c =
     let i = c.loop-placed.invariant in
     let begun = reverse c.loop-placed.self.1.1.1.1.1.0.items in
-    let e : c.loop-placed.rest.now ≡ c.in-Some.placed.now ∷ c.in-Some.others.now = search rules in (
+    let e : c.loop-placed.rest.now ≡ c.in-Some.placed.now ∷ c.in-Some.others.now = search rules in
+    let ready : AreReady c.loop-placed.slots.items begun (places_of (c.in-Some.placed.now ∷ c.in-Some.others.now)) c.loop-placed.marks.now = subst (λ ps. AreReady c.loop-placed.slots.items begun (places_of ps) c.loop-placed.marks.now) e i.3 in
+    let size : ℕ = c.in-Some.placed.now.run.size in
+    let all = i.8 ∙ ap (λ ps. length (places_of ps)) e ∙ length-run c.in-Some.placed.now.slot size (places_of c.in-Some.others.now) in
+    let less = ap length c.in_ok-marks.ensures.rest ∙ length-drop size c.loop-placed.marks.now in (
       (λ text place h. c.in_ok-marks.ensures.slots text place (i.0 text place h)),
       c.in_ok-marks.ensures.length ∙ i.1,
       (λ from h. c.in_ok-marks.ensures.links from (i.2 from h)),
-      (λ from place h whole.
-          c.in_ok-marks.ensures.ready (places_of c.in-Some.others.now) (subst (λ ps. AreReady c.loop-placed.slots.items begun (places_of ps) c.loop-placed.marks.now) e (i.3 from place h whole))),
-      (λ leaf texts links from place h whole.
-          i.4 leaf texts links from place h whole
+      c.in_ok-marks.ensures.ready (places_of c.in-Some.others.now) ready,
+      (λ leaf texts links.
+          i.4 leaf texts links
           ∙ ap (λ ps. marked (shown_options c.args.options) (places_of ps) (map shown_mark c.loop-placed.marks.now) (shown_slots leaf texts links c.loop-placed.slots.items) begun) e
-          ∙ c.in_ok-marks.ensures.marks leaf texts links (places_of c.in-Some.others.now) (subst (λ ps. AreReady c.loop-placed.slots.items begun (places_of ps) c.loop-placed.marks.now) e (i.3 from place h whole))),
-      (λ from place h whole.
-          let b = i.5 from place h whole in
+          ∙ c.in_ok-marks.ensures.marks leaf texts links (places_of c.in-Some.others.now) ready),
+      (λ from place h.
+          let b = i.5 from place h in
           let runs = subst (RunsFrom from) e b.2 in
-          let n = c.in_ok-marks.ensures.before from (places_of c.in-Some.others.now) (subst (λ ps. AreReady c.loop-placed.slots.items begun (places_of ps) c.loop-placed.marks.now) e (i.3 from place h whole)) b.1 runs.0 in
+          let n = c.in_ok-marks.ensures.before from b.1 runs.0 in
           (same-on from c.args.slots.now.items c.loop-placed.slots.items c.write_run.new.slots.items b.0 n.0, n.1, runs.1)),
-      (λ from place h whole within.
-          c.in_ok-marks.ensures.within (places_of c.in-Some.others.now) (subst (λ ps. AreReady c.loop-placed.slots.items begun (places_of ps) c.loop-placed.marks.now) e (i.3 from place h whole)) (i.6 from place h whole within)),
-      (λ from place h whole.
-          no-more-on c.args.slots.now.items c.loop-placed.slots.items c.write_run.new.slots.items (i.7 from place h whole)
-          (c.in_ok-marks.ensures.names (places_of c.in-Some.others.now) (subst (λ ps. AreReady c.loop-placed.slots.items begun (places_of ps) c.loop-placed.marks.now) e (i.3 from place h whole)))),
+      (λ within. c.in_ok-marks.ensures.within (i.6 within)),
+      no-more-on c.args.slots.now.items c.loop-placed.slots.items c.write_run.new.slots.items i.7 c.in_ok-marks.ensures.names,
+      (let q : length c.in_ok-marks.marks.now ≡ length (places_of c.in-Some.others.now) = omega (arith, all, less) in q),
     )
 
 pub returns-clause-marks : goal.returns-clause-marks
-returns-clause-marks c = λ leaf texts links from place pairs spans h whole e.
+returns-clause-marks c = λ leaf texts links pairs spans e.
     let mine : List PlacedRun = drop c.args.first c.args.self.now.placed.items in
     let count : c.in_ok-count.count ≡ places_taken (siblings_from 0 mine) = c.in_ok-count.ensures.value.0 ∙ ap (λ ps. places_taken (siblings_from 0 (drop c.args.first ps))) c.as_slice.ensures.value in
     let runs : map shown_run c.gather.new.runs.items ≡ runs_of (siblings_from 0 mine) = c.in_ok-count.ensures.value.1 ∙ ap (λ ps. runs_of (siblings_from 0 (drop c.args.first ps))) c.as_slice.ensures.value in
@@ -68,14 +85,14 @@ returns-clause-marks c = λ leaf texts links from place pairs spans h whole e.
     ∙ marks-are mine c.slots_of_runs.new.slots.items pairs spans e (c.in_ok-slots_of_runs.ensures.spans (siblings_from 0 mine) (stand-so 0 mine) (sym count) (sym (ap (map shown_run) c.deref.ensures.value ∙ runs))) in
     let over : c.loop-placed.rest.now ≡ [] = none-left c.loop-placed.rest.now c.in_default.ensures.cases in
     sym (ap (λ ms. marked (shown_options c.args.options) (places_of mine) ms (shown_slots leaf texts links c.args.slots.now.items) []) (sym marks)
-    ∙ c.loop-placed.invariant.4 leaf texts links from place h whole
+    ∙ c.loop-placed.invariant.4 leaf texts links
     ∙ ap (λ ps. marked (shown_options c.args.options) (places_of ps) (map shown_mark c.loop-placed.marks.now) (shown_slots leaf texts links c.loop-placed.slots.items) (reverse c.loop-placed.self.1.1.1.1.1.0.items)) over)
 
 pub returns-clause-before : goal.returns-clause-before
-returns-clause-before c = λ from place h whole. (c.loop-placed.invariant.5 from place h whole).0
+returns-clause-before c = λ from place h. (c.loop-placed.invariant.5 from place h).0
 
 pub returns-clause-within : goal.returns-clause-within
-returns-clause-within c = λ from place h whole within. c.loop-placed.invariant.6 from place h whole within
+returns-clause-within c = c.loop-placed.invariant.6
 
 pub returns-clause-names : goal.returns-clause-names
-returns-clause-names c = λ from place h whole. c.loop-placed.invariant.7 from place h whole
+returns-clause-names c = c.loop-placed.invariant.7

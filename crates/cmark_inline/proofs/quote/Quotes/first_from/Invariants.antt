@@ -5,6 +5,7 @@ use Rattle.cmark_inline.proofs.quote.Quotes.first_from.Given as goal
 abbrev pub invariant-loop-at : goal.invariant-loop-at
 invariant-loop-at l = record {
   order : l.first ≤ l.at;
+  within : l.at ≤ length l.self.placed.items;
   before : (k : ℕ) (d : PlacedQuote) → l.first ≤ k → k < l.at → (get_or l.self.placed.items k d).slot < l.slot;
 }
 

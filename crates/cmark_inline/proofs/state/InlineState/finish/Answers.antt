@@ -2,7 +2,7 @@ use Rattle.std.proofs.Common.{◌≡◌, ◌≤◌, ◌+◌, ◌++◌, ◌∷◌
 use Rattle.std.proofs.lemmas.List.{length_push}
 use Rattle.cmark_inline_model.specs.SlotRows.{marked, marks_by}
 use Rattle.cmark_text.specs.Shown.{shown_options}
-use Rattle.cmark_inline.specs.Marked.{AreWhole, EndWithin, HaveBytes, SameBefore, places_of}
+use Rattle.cmark_inline.specs.Marked.{AreWhole, EndWithin, HaveBytes, HaveTexts, SameBefore, places_of}
 use Rattle.cmark_inline.specs.Quoted.{characters_of, with_characters}
 use Rattle.cmark_inline.specs.SlotViews.{shown_slots}
 use Rattle.cmark_inline.specs.Sound.{CanSettle, NamesNoMore}
@@ -12,7 +12,7 @@ use Rattle.cmark_inline.specs.declared.quote.PlacedQuote.{PlacedQuote}
 use Rattle.cmark_inline.specs.declared.slot.Slot.{Slot}
 use Rattle.cmark_inline.specs.declared.slot.SlotKind.TheVariants as kind
 use Rattle.cmark_inline.proofs.Naming.{no-more-on, no-more-push}
-use Rattle.cmark_inline.proofs.RunPlaces.{same-on}
+use Rattle.cmark_inline.proofs.RunPlaces.{have-all, same-on}
 use Rattle.cmark_inline.proofs.Settling.{before-push, can-push, letters-before, letters-name, letters-settle}
 use Rattle.cmark_inline.proofs.Steps.{no-new, slots-push}
 use Rattle.cmark_inline.proofs.state.InlineState.finish.Goals as goal
@@ -58,10 +58,10 @@ returns-clause-settled c =
     let bytes : HaveBytes two low 0 runs = subst (λ l. HaveBytes l low 0 runs) (sym v) t.2 in
     let marks = c.in_ok-resolve-2.ensures in
     record {
-      names = no-more-on old one new (subst (NamesNoMore old) (sym e) (no-more-push old slot (refl, refl, refl))) (no-more-on one two new (subst (NamesNoMore one) (sym v) (letters-name low one runs quotes can letters)) (marks.names low 0 bytes whole));
-      whole = marks.whole low 0 bytes whole;
-      within = marks.within low 0 bytes whole within;
-      before = same-on low old one new (subst (SameBefore low old) (sym e) (before-push low old slot (let q : low ≤ length old = omega (arith, there) in q))) (same-on low one two new (subst (SameBefore low one) (sym v) (letters-before low one runs quotes can letters)) (marks.before low 0 bytes whole));
+      names = no-more-on old one new (subst (NamesNoMore old) (sym e) (no-more-push old slot (refl, refl, refl))) (no-more-on one two new (subst (NamesNoMore one) (sym v) (letters-name low one runs quotes can letters)) marks.names);
+      whole = marks.whole;
+      within = marks.within within;
+      before = same-on low old one new (subst (SameBefore low old) (sym e) (before-push low old slot (let q : low ≤ length old = omega (arith, there) in q))) (same-on low one two new (subst (SameBefore low one) (sym v) (letters-before low one runs quotes can letters)) (marks.before low 0 bytes));
     }
 
 pub returns-clause-dressed : goal.returns-clause-dressed
@@ -80,8 +80,39 @@ returns-clause-dressed c = λ leaf texts links pairs spans emphasis.
     let t = letters-settle low one runs quotes can letters in
     let whole : AreWhole two = subst AreWhole (sym v) t.0 in
     let bytes : HaveBytes two low 0 runs = subst (λ l. HaveBytes l low 0 runs) (sym v) t.2 in
-    let marks = c.in_ok-resolve-2.ensures.marks leaf texts links low 0 pairs spans bytes whole emphasis in
-    let quoted = c.in_ok-resolve.ensures.quotes leaf texts links can.quotes_are in
+    let marks = c.in_ok-resolve-2.ensures.marks leaf texts links pairs spans emphasis in
+    let quoted = c.in_ok-resolve.ensures.quotes leaf texts links in
     marks
     ∙ ap (λ l. marked (shown_options c.args.options) (places_of runs) (marks_by (length (places_of runs)) pairs) l []) quoted
     ∙ ap (λ l. dressed_behind (shown_options c.args.options) c.args.bracket pairs c.args.self.now.delimiters.placed.items c.args.self.now.quotes.placed.items (shown_slots leaf texts links l)) e
+
+pub resolve-requires-clause-texts : goal.resolve-requires-clause-texts
+resolve-requires-clause-texts c =
+    let slot : Slot = record { kind = kind.End; start = c.args.close; end = c.args.end } in
+    let old : List Slot = c.args.self.now.slots.items in
+    let runs : List PlacedRun = drop c.args.bracket.runs c.args.self.now.delimiters.placed.items in
+    let quotes : List PlacedQuote = drop c.args.bracket.quotes c.args.self.now.quotes.placed.items in
+    subst (λ l. HaveTexts l quotes) (sym c.in_ok-push_slot.ensures) (can-push (c.args.bracket.slot + 1) old runs quotes c.requires.settles slot (λ i. refl)).quotes_are
+
+pub resolve-requires-2-clause-bytes : goal.resolve-requires-2-clause-bytes
+resolve-requires-2-clause-bytes c =
+    let slot : Slot = record { kind = kind.End; start = c.args.close; end = c.args.end } in
+    let low : ℕ = c.args.bracket.slot + 1 in
+    let old : List Slot = c.args.self.now.slots.items in
+    let one : List Slot = c.push_slot.new.slots.items in
+    let two : List Slot = c.resolve.new.slots.items in
+    let runs : List PlacedRun = drop c.args.bracket.runs c.args.self.now.delimiters.placed.items in
+    let quotes : List PlacedQuote = drop c.args.bracket.quotes c.args.self.now.quotes.placed.items in
+    let can : CanSettle low one runs quotes = subst (λ l. CanSettle low l runs quotes) (sym c.in_ok-push_slot.ensures) (can-push low old runs quotes c.requires.settles slot (λ i. refl)) in
+    subst (λ l. HaveBytes l 0 0 runs) (sym c.in_ok-resolve.ensures.value) (have-all (with_characters quotes (characters_of quotes) one) low 0 runs (letters-settle low one runs quotes can (characters_of quotes)).2)
+
+pub resolve-requires-2-clause-whole : goal.resolve-requires-2-clause-whole
+resolve-requires-2-clause-whole c =
+    let slot : Slot = record { kind = kind.End; start = c.args.close; end = c.args.end } in
+    let low : ℕ = c.args.bracket.slot + 1 in
+    let old : List Slot = c.args.self.now.slots.items in
+    let one : List Slot = c.push_slot.new.slots.items in
+    let runs : List PlacedRun = drop c.args.bracket.runs c.args.self.now.delimiters.placed.items in
+    let quotes : List PlacedQuote = drop c.args.bracket.quotes c.args.self.now.quotes.placed.items in
+    let can : CanSettle low one runs quotes = subst (λ l. CanSettle low l runs quotes) (sym c.in_ok-push_slot.ensures) (can-push low old runs quotes c.requires.settles slot (λ i. refl)) in
+    subst AreWhole (sym c.in_ok-resolve.ensures.value) (letters-settle low one runs quotes can (characters_of quotes)).0

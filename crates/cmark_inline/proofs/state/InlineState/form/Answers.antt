@@ -107,7 +107,7 @@ finish-requires-clause-settles c =
     let p = c.requires.taken.placed in
     let b = c.args.bracket in
     let s : Slot = begun_as (element.Image c.len-index.result) c.args.target.end (get_or old.slots.items b.slot no-slot) in
-    subst (λ l. CanSettle (b.slot + 1) l (drop b.runs old.delimiters.placed.items) (drop b.quotes old.quotes.placed.items)) (sym (c.begin.ensures.value no-slot p.there))
+    subst (λ l. CanSettle (b.slot + 1) l (drop b.runs old.delimiters.placed.items) (drop b.quotes old.quotes.placed.items)) (sym (c.begin.ensures.value no-slot))
     (settle-set (b.slot + 1) old.slots.items (drop b.runs old.delimiters.placed.items) (drop b.quotes old.quotes.placed.items)
     (sound-settles (length old.texts.items) (length old.links.items) old.slots.items old.delimiters.placed.items old.quotes.placed.items old.brackets.standing.items old.doubled.standing.items h b p) b.slot s (omega arith) p.there p.text (λ i. refl))
 
@@ -119,7 +119,7 @@ returns-then-bracket-clause-sound c =
     let b = c.args.bracket in
     let f = c.in_ok-finish.ensures in
     let s : Slot = begun_as (element.Image c.len-index.result) c.args.target.end (get_or old.slots.items b.slot no-slot) in
-    let settled : IsSettled (b.slot + 1) (set old.slots.items b.slot s) new.slots.items = subst (λ l. IsSettled (b.slot + 1) l new.slots.items) (c.begin.ensures.value no-slot p.there) f.settled in
+    let settled : IsSettled (b.slot + 1) (set old.slots.items b.slot s) new.slots.items = subst (λ l. IsSettled (b.slot + 1) l new.slots.items) (c.begin.ensures.value no-slot) f.settled in
     let m = f.length in
     let n = c.begin.ensures.length in
     let more = ap (λ v. length v.items) c.finish.ensures.table ∙ ap length c.in_ok-push.ensures.items ∙ length_push old.links.items c.args.target.parts in
@@ -135,7 +135,7 @@ returns-then-bracket-clause-ends c =
     let p = c.requires.taken.placed in
     let b = c.args.bracket in
     let s : Slot = begun_as (element.Image c.len-index.result) c.args.target.end (get_or old.slots.items b.slot no-slot) in
-    settled-ended old.slots.items b.slot (b.slot + 1) s new.slots.items refl (subst (λ l. IsSettled (b.slot + 1) l new.slots.items) (c.begin.ensures.value no-slot p.there) c.in_ok-finish.ensures.settled)
+    settled-ended old.slots.items b.slot (b.slot + 1) s new.slots.items refl (subst (λ l. IsSettled (b.slot + 1) l new.slots.items) (c.begin.ensures.value no-slot) c.in_ok-finish.ensures.settled)
 
 pub finish-requires-2-clause-there : goal.finish-requires-2-clause-there
 finish-requires-2-clause-there c =
@@ -150,7 +150,7 @@ finish-requires-2-clause-settles c =
     let p = c.requires.taken.placed in
     let b = c.args.bracket in
     let s : Slot = begun_as (element.Link c.len-index.result) c.args.target.end (get_or old.slots.items b.slot no-slot) in
-    subst (λ l. CanSettle (b.slot + 1) l (drop b.runs old.delimiters.placed.items) (drop b.quotes old.quotes.placed.items)) (sym (c.begin-2.ensures.value no-slot p.there))
+    subst (λ l. CanSettle (b.slot + 1) l (drop b.runs old.delimiters.placed.items) (drop b.quotes old.quotes.placed.items)) (sym (c.begin-2.ensures.value no-slot))
     (settle-set (b.slot + 1) old.slots.items (drop b.runs old.delimiters.placed.items) (drop b.quotes old.quotes.placed.items)
     (sound-settles (length old.texts.items) (length old.links.items) old.slots.items old.delimiters.placed.items old.quotes.placed.items old.brackets.standing.items old.doubled.standing.items h b p) b.slot s (omega arith) p.there p.text (λ i. refl))
 
@@ -162,7 +162,7 @@ returns-clause-sound c =
     let b = c.args.bracket in
     let f = c.in_ok-finish-2.ensures in
     let s : Slot = begun_as (element.Link c.len-index.result) c.args.target.end (get_or old.slots.items b.slot no-slot) in
-    let settled : IsSettled (b.slot + 1) (set old.slots.items b.slot s) new.slots.items = subst (λ l. IsSettled (b.slot + 1) l new.slots.items) (c.begin-2.ensures.value no-slot p.there) f.settled in
+    let settled : IsSettled (b.slot + 1) (set old.slots.items b.slot s) new.slots.items = subst (λ l. IsSettled (b.slot + 1) l new.slots.items) (c.begin-2.ensures.value no-slot) f.settled in
     let m = f.length in
     let n = c.begin-2.ensures.length in
     let more = ap (λ v. length v.items) c.finish-2.ensures.table ∙ ap length c.in_ok-push.ensures.items ∙ length_push old.links.items c.args.target.parts in
@@ -178,7 +178,7 @@ returns-clause-ends c =
     let p = c.requires.taken.placed in
     let b = c.args.bracket in
     let s : Slot = begun_as (element.Link c.len-index.result) c.args.target.end (get_or old.slots.items b.slot no-slot) in
-    settled-ended old.slots.items b.slot (b.slot + 1) s new.slots.items refl (subst (λ l. IsSettled (b.slot + 1) l new.slots.items) (c.begin-2.ensures.value no-slot p.there) c.in_ok-finish-2.ensures.settled)
+    settled-ended old.slots.items b.slot (b.slot + 1) s new.slots.items refl (subst (λ l. IsSettled (b.slot + 1) l new.slots.items) (c.begin-2.ensures.value no-slot) c.in_ok-finish-2.ensures.settled)
 
 pub returns-then-bracket-clause-writes : goal.returns-then-bracket-clause-writes
 returns-then-bracket-clause-writes c =
@@ -188,7 +188,7 @@ returns-then-bracket-clause-writes c =
     let p = c.requires.taken.placed in
     let f = c.in_ok-finish.ensures in
     let t = c.requires.target in
-    let begins = c.begin.ensures.value no-slot p.there in
+    let begins = c.begin.ensures.value no-slot in
     let index : c.len-index.result ≡ length old.links.items = search rules in
     let texts = ap (λ v. v.items) c.finish.ensures.texts in
     let links = ap (λ v. v.items) c.finish.ensures.table ∙ c.in_ok-push.ensures.items in
@@ -206,7 +206,7 @@ returns-clause-writes c =
     let p = c.requires.taken.placed in
     let f = c.in_ok-finish-2.ensures in
     let t = c.requires.target in
-    let begins = c.begin-2.ensures.value no-slot p.there in
+    let begins = c.begin-2.ensures.value no-slot in
     let index : c.len-index.result ≡ length old.links.items = search rules in
     let texts = ap (λ v. v.items) c.finish-2.ensures.texts in
     let links = ap (λ v. v.items) c.finish-2.ensures.table ∙ c.in_ok-push.ensures.items in

@@ -1,6 +1,6 @@
-use Rattle.std.proofs.Common.{sym, ap, subst}
+use Rattle.std.proofs.Common.{length, sym, ap, subst}
 use Rattle.cmark_leaf_text.specs.Reads.{source_of}
-use Rattle.cmark_inline.specs.SlotViews.{KeepsOthers, link_named, text_named}
+use Rattle.cmark_inline.specs.SlotViews.{IsThere, KeepsOthers, link_named, text_named}
 use Rattle.cmark_inline.specs.declared.slot.SlotKind.{SlotKind}
 use Rattle.cmark_inline.proofs.SlotViews.{begin-first, keeps-all, keeps-same, left-behind, passes-ended, single-first}
 use Rattle.cmark_inline.proofs.NoEnds.{begin-no-end, on-err, single-no-end}
@@ -69,6 +69,9 @@ returns-in_ok-event-in_default-clause-left c = λ behind h.
     let n = c.single.new.self in
     left-behind c.args.leaf.now s.texts.items n.texts.items s.links.items n.links.items c.args.slot behind h c.in_ok-event-in_default.ensures.texts
     (keeps-same (link_named c.args.slot.kind) s.links.items n.links.items (ap (λ v. v.items) c.in_ok-event-in_default.ensures.links))
+
+pub begin-requires-clause-link : goal.begin-requires-clause-link
+begin-requires-clause-link c = subst (λ (k : SlotKind). IsThere (length c.args.self.now.links.items) (link_named k)) c.in-Begin.is c.requires.link
 
 pub returns-in_err-given-in-Begin-clause-ends : goal.returns-in_err-given-in-Begin-clause-ends
 returns-in_err-given-in-Begin-clause-ends c =

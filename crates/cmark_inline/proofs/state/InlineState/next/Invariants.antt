@@ -7,8 +7,8 @@ invariant-loop-self l =
     (l.self.slots ≡ l.initial.self.slots)
     × (l.self.walk.opened.items ≡ l.initial.self.walk.opened.items)
     × (l.initial.self.walk.next ≤ l.self.walk.next)
-    × (AreLeft l.leaf l.initial.self → events_to_come l.leaf l.initial.self ≡ events_to_come l.leaf l.self)
-    × (AreLeft l.leaf l.initial.self → AreLeft l.leaf l.self)
+    × (events_to_come l.leaf l.initial.self ≡ events_to_come l.leaf l.self)
+    × AreLeft l.leaf l.self
     × (l.self.expansion ≡ l.initial.self.expansion)
 
 abbrev pub decreases-loop-self : goal.decreases-loop-self

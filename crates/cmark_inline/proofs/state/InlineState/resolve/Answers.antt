@@ -85,7 +85,7 @@ returns-clause-whole g c =
     let within : EndWithin two = subst EndWithin (sym v) t.1 in
     let bytes : HaveBytes two 0 0 runs = subst (λ l. HaveBytes l 0 0 runs) (sym v) t.2 in
     let marks = c.in_ok-resolve-2.ensures in
-    (marks.whole 0 0 bytes whole, marks.within 0 0 bytes whole within)
+    (marks.whole, marks.within within)
 
 pub returns-clause-left : goal.returns-clause-left
 returns-clause-left g c =
@@ -103,7 +103,7 @@ returns-clause-left g c =
     let within : EndWithin two = subst EndWithin (sym v) t.1 in
     let bytes : HaveBytes two 0 0 runs = subst (λ l. HaveBytes l 0 0 runs) (sym v) t.2 in
     let marks = c.in_ok-resolve-2.ensures in
-    let names : NamesNoMore one new = (no-more-on one two new (subst (NamesNoMore one) (sym v) (letters-name 0 one runs quotes can (characters_of quotes))) (marks.names 0 0 bytes whole)) in
+    let names : NamesNoMore one new = (no-more-on one two new (subst (NamesNoMore one) (sym v) (letters-name 0 one runs quotes can (characters_of quotes))) marks.names) in
     let named = named-on one new names (length mid.texts.items) (length mid.links.items) sound.named in
     let leaf = c.args.leaf.now in
     let ended = ended-on one new names leaf ((keeps-pending c.loop-cursor.self mid c.in_ok-flush.ensures.others c.loop-cursor.cursor.pending _ c.in_ok-flush.ensures.slots).ends leaf c.loop-cursor.invariant.9) in
@@ -126,8 +126,8 @@ returns-clause-reads g c = λ set reader read place same places.
     let whole : AreWhole two = subst AreWhole (sym v) t.0 in
     let bytes : HaveBytes two 0 0 runs = subst (λ l. HaveBytes l 0 0 runs) (sym v) t.2 in
     let leaf = c.args.leaf.now in
-    let marks = c.in_ok-resolve-2.ensures.marks leaf mid.texts.items mid.links.items 0 0 (pairs_of (siblings_from 0 runs)) (spans_of (siblings_from 0 runs)) bytes whole (emphasis (siblings_from 0 runs)) in
-    let letters = c.in_ok-resolve.ensures.quotes leaf mid.texts.items mid.links.items sound.quotes_are in
+    let marks = c.in_ok-resolve-2.ensures.marks leaf mid.texts.items mid.links.items (pairs_of (siblings_from 0 runs)) (spans_of (siblings_from 0 runs)) (emphasis (siblings_from 0 runs)) in
+    let letters = c.in_ok-resolve.ensures.quotes leaf mid.texts.items mid.links.items in
     let cursor = c.loop-cursor.cursor in
     let le = c.loop-cursor.invariant.1.at.0 in
     let over = c.loop-cursor-test.false in
@@ -139,6 +139,29 @@ returns-clause-reads g c = λ set reader read place same places.
     (marks ∙ ap (λ l. marked (shown_options c.args.reader.now.options) (places_of runs) (marks_by (length (places_of runs)) (pairs_of (siblings_from 0 runs))) l []) letters
     ∙ ap (λ o. marked o (places_of runs) (marks_by (length (places_of runs)) (pairs_of (siblings_from 0 runs))) (quoted (map (λ (q : PlacedQuote). q.slot) quotes) (characters_of quotes) (shown_slots leaf mid.texts.items mid.links.items one)) []) (sym same.options_are))
     c.clear-2.ensures.next c.clear-2.ensures.opened refl
+
+pub resolve-requires-clause-texts : goal.resolve-requires-clause-texts
+resolve-requires-clause-texts g c =
+    let mid : InlineState = c.flush.new.self in
+    ((keeps-pending c.loop-cursor.self mid c.in_ok-flush.ensures.others c.loop-cursor.cursor.pending _ c.in_ok-flush.ensures.slots).sound c.loop-cursor.invariant.8).quotes_are
+
+pub resolve-requires-2-clause-bytes : goal.resolve-requires-2-clause-bytes
+resolve-requires-2-clause-bytes g c =
+    let mid : InlineState = c.flush.new.self in
+    let runs : List PlacedRun = drop 0 mid.delimiters.placed.items in
+    let quotes : List PlacedQuote = drop 0 mid.quotes.placed.items in
+    let sound : IsSound mid = (keeps-pending c.loop-cursor.self mid c.in_ok-flush.ensures.others c.loop-cursor.cursor.pending _ c.in_ok-flush.ensures.slots).sound c.loop-cursor.invariant.8 in
+    let can = sound-settles-all (length mid.texts.items) (length mid.links.items) mid.slots.items mid.delimiters.placed.items mid.quotes.placed.items mid.brackets.standing.items mid.doubled.standing.items sound in
+    subst (λ l. HaveBytes l 0 0 runs) (sym c.in_ok-resolve.ensures.value) (letters-settle 0 mid.slots.items runs quotes can (characters_of quotes)).2
+
+pub resolve-requires-2-clause-whole : goal.resolve-requires-2-clause-whole
+resolve-requires-2-clause-whole g c =
+    let mid : InlineState = c.flush.new.self in
+    let runs : List PlacedRun = drop 0 mid.delimiters.placed.items in
+    let quotes : List PlacedQuote = drop 0 mid.quotes.placed.items in
+    let sound : IsSound mid = (keeps-pending c.loop-cursor.self mid c.in_ok-flush.ensures.others c.loop-cursor.cursor.pending _ c.in_ok-flush.ensures.slots).sound c.loop-cursor.invariant.8 in
+    let can = sound-settles-all (length mid.texts.items) (length mid.links.items) mid.slots.items mid.delimiters.placed.items mid.quotes.placed.items mid.brackets.standing.items mid.doubled.standing.items sound in
+    subst AreWhole (sym c.in_ok-resolve.ensures.value) (letters-settle 0 mid.slots.items runs quotes can (characters_of quotes)).0
 
 pub returns-in_err-cursor-clause-succeeds : goal.returns-in_err-cursor-clause-succeeds
 returns-in_err-cursor-clause-succeeds g c = λ none. absurd (let size = ap length (c.as_str-text.ensures ∙ none) in let more = c.loop-cursor-test.true in let d : ⊥ = omega (arith, size, more) in d)

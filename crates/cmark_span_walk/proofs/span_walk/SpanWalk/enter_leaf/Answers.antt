@@ -1,9 +1,10 @@
-use Rattle.std.specs.Prelude.{is_some}
-use Rattle.std.proofs.Common.{sym, ap, ◌∙◌}
+use Rattle.std.proofs.Common.{[], true≢false, refl, sym, ap, ◌∙◌}
 use Rattle.cmark_inline_model.specs.TextPlaces.{place_in}
 use Rattle.cmark_leaf_text.specs.Stretches.{leaf_bytes}
 use Rattle.cmark_text.specs.Shown.{shown_options}
+use Rattle.cmark_walk.proofs.WalkSteps.{on-err}
 use Rattle.cmark_span_walk.proofs.LeafReads.{leaf-same, place-same, read-places, text-same}
+use Rattle.cmark_span_walk.proofs.Readings.{asked-up-to}
 use Rattle.cmark_span_walk.proofs.Walks.{enters}
 use Rattle.cmark_span_walk.proofs.span_walk.SpanWalk.enter_leaf.Goals as goal
 
@@ -35,3 +36,19 @@ returns-clause-reads g c = λ reader leaf others before placed same.
         callback = same.callback;
       };
     }
+
+pub returns-in_err-read-clause-lines : goal.returns-in_err-read-clause-lines
+returns-in_err-read-clause-lines g c = on-err c.from_residual.result _ (λ none. true≢false (sym (c.in_err-read.ensures.none (c.as_slice.ensures.value ∙ none))))
+
+pub returns-in_err-resolve-clause-lines : goal.returns-in_err-resolve-clause-lines
+returns-in_err-resolve-clause-lines g c = on-err c.from_residual-in_err-resolve.result _ (λ none.
+    true≢false (sym (c.in_err-resolve.ensures.succeeds (c.in_ok-read.ensures.text ∙ ap (leaf_bytes c.args.self.now.leaf.source.now) (c.as_slice.ensures.value ∙ none)))))
+
+pub returns-in_err-read-clause-asked : goal.returns-in_err-read-clause-asked
+returns-in_err-read-clause-asked g c = ([], refl)
+
+pub returns-in_err-resolve-clause-asked : goal.returns-in_err-resolve-clause-asked
+returns-in_err-resolve-clause-asked g c = asked-up-to g.F.BrokenLinkCallback.answers _ c.args.self.now.callback c.resolve.new.callback c.in_err-resolve.ensures.asks
+
+pub returns-clause-asked : goal.returns-clause-asked
+returns-clause-asked g c = asked-up-to g.F.BrokenLinkCallback.answers _ c.args.self.now.callback c.resolve.new.callback c.in_ok-resolve.ensures.asks

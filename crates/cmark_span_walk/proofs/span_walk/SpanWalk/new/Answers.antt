@@ -1,4 +1,4 @@
-use Rattle.std.proofs.Common.{refl, sym, subst}
+use Rattle.std.proofs.Common.{refl, subst}
 use Rattle.cmark_grammar.specs.SpanDocuments.{Left}
 use Rattle.cmark_span_walk.specs.Walking.{IsReadBy}
 use Rattle.cmark_walk.proofs.OneRemainder.{one-remainder}

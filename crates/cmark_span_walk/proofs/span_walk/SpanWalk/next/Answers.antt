@@ -1,18 +1,22 @@
 use Rattle.std.specs.Prelude.{is_some}
-use Rattle.std.proofs.Common.{[], ◌∷◌, refl, sym, ap, ◌∙◌, subst}
+use Rattle.std.proofs.Common.{[], ◌∷◌, refl, ap, ◌∙◌, subst}
 use Rattle.cmark_grammar.specs.SpanDocuments.{Content, Given as GivenOf}
 use Rattle.cmark_items.specs.Footnotes.{footnote}
 use Rattle.cmark_walk.specs.Walking as walking
-use Rattle.cmark_walk.specs.Walking.{MeetsZeroCopy, shown_ranged}
-use Rattle.cmark_span_walk.specs.Walking.{ArePlaced, GivesSpan, GivesZeroCopy, HasRange, Passes, source_of}
-use Rattle.cmark_span_walk.proofs.Readings.{ends-on, event-passes, leaf-passes, met-same, over-ends, passes-none, passes-on}
-use Rattle.cmark_span_walk.proofs.Walks.{before-leaf, behind-at, lasts-leaf, lasts-none, over-at}
+use Rattle.cmark_walk.specs.Walking.{MeetsZeroCopy, lines_of, shown_ranged}
+use Rattle.cmark_walk.proofs.WalkSteps.{on-err}
+use Rattle.cmark_span_walk.specs.Walking.{ArePlaced, GivesSpan, GivesZeroCopy, HasRange}
+use Rattle.cmark_span_walk.proofs.EndSteps.{blocks-begin, leaf-keeps, text-begins}
+use Rattle.cmark_span_walk.proofs.Readings.{asked-on, asked-same, ends-on, event-passes, leaf-passes, met-same, over-ends, passes-none, passes-on}
+use Rattle.cmark_span_walk.proofs.Walks.{before-leaf, behind-at, lasts-leaf, lasts-none, met-by, over-at}
 use Rattle.cmark_span_walk.proofs.span_walk.SpanWalk.next.Goals as goal
 
 pub loop-given-init : goal.loop-given-init
 loop-given-init g c = record {
   lasts = lasts-none c.args.self.now c.requires;
   reads = λ reader r. passes-none g.F.BrokenLinkCallback.answers g.E.EntityLookup.replacement reader c.args.self.now r;
+  ends = λ reader exchanges events m b. m;
+  asked = ([], refl);
 }
 
 pub returns-in-Some-clause-given : goal.returns-in-Some-clause-given
@@ -81,6 +85,15 @@ loop-given-preserved g c =
           passes-on g.F.BrokenLinkCallback.answers g.E.EntityLookup.replacement reader c.args.self.now mid new [] q
           (leaf-passes g.F.BrokenLinkCallback.answers g.E.EntityLookup.replacement reader mid c.next.new.self c.next.new.lines out m.text m.definitions _ met.0 met.1 new by met.2 (e.enters met.0 met.1 here)
           (e.reads reader met.0 met.1 here placed.0 (met-same g.F.BrokenLinkCallback.answers g.E.EntityLookup.replacement reader mid c.next.new.self c.next.new.lines out m.text m.definitions _ by.same)));
+      ends = λ reader exchanges events n b.
+          let kept = c.in_ok-given.ensures.kept reader (ap is_some c.in_default.is) exchanges events (c.loop-given.invariant.ends reader exchanges events n b) in
+          let by = kept.read_by in
+          let met = subst (λ m. walking.Gives by.left m c.next.new.lines.items c.next.new.self) c.in-Leaf.is (m.given by.left by.stands.blocks.remains) in
+          let here = before-leaf mid c.next.new.self c.next.new.lines out m.text c.in-Leaf.is_cell _ by.left met.0 met.1 by.stands met.2 met.3 met.4 met.5 refl in
+          let placed : ArePlaced reader (Content met.0 ∷ met.1) = subst (ArePlaced reader) met.2 by.placed in
+          leaf-keeps g.E.EntityLookup.replacement reader mid out by met.0 met.1 met.2 g.F.BrokenLinkCallback.answers (met-by mid c.next.new.self c.next.new.lines out m.text _) new refl (e.enters met.0 met.1 here)
+          (e.reads reader met.0 met.1 here placed.0 (met-same g.F.BrokenLinkCallback.answers g.E.EntityLookup.replacement reader mid c.next.new.self c.next.new.lines out m.text m.definitions _ by.same)) exchanges events kept b;
+      asked = asked-on g.F.BrokenLinkCallback.answers c.args.self.now.callback head.callback mid.callback new.callback c.loop-given.invariant.asked c.in_ok-given.ensures.callback e.asked;
     }
 
 pub returns-in-Over-clause-stands : goal.returns-in-Over-clause-stands
@@ -111,3 +124,35 @@ returns-in-Event-clause-lent g c =
     let s = c.in_ok-given.ensures.stands in
     let meets = subst (MeetsZeroCopy (walking.text_of mid.walk)) c.in-Event.is c.in_ok-given-2.ensures.lent in
     subst (λ t. GivesZeroCopy t c.in-Event.given) (s.1.blocks.same_text ∙ c.in_ok-given.ensures.source ∙ c.loop-given.invariant.lasts.source) meets
+
+pub returns-in_err-given-clause-ends : goal.returns-in_err-given-clause-ends
+returns-in_err-given-clause-ends g c = on-err c.from_residual.result _ (λ reader exchanges events m b. c.in_err-given.ensures.ends reader exchanges events (c.loop-given.invariant.ends reader exchanges events m b) b)
+
+pub returns-in_err-given-2-clause-ends : goal.returns-in_err-given-2-clause-ends
+returns-in_err-given-2-clause-ends g c = on-err c.from_residual-in_err-given-2.result _ (λ reader exchanges events m b.
+    let out = c.in_ok-given.ensures.outside (ap is_some c.in_default.is) in
+    let kept = c.in_ok-given.ensures.kept reader (ap is_some c.in_default.is) exchanges events (c.loop-given.invariant.ends reader exchanges events m b) in
+    blocks-begin g.E.EntityLookup.replacement reader c.next_span.new.self out c.in_err-given-2.ensures.ends exchanges events kept b)
+
+pub returns-in_err-enter_leaf-in-Leaf-clause-ends : goal.returns-in_err-enter_leaf-in-Leaf-clause-ends
+returns-in_err-enter_leaf-in-Leaf-clause-ends g c = on-err c.from_residual-in_err-enter_leaf-in-Leaf.result _ (λ reader exchanges events n b.
+    let mid = c.next_span.new.self in
+    let m = c.in_ok-given-2.ensures in
+    let out = c.in_ok-given.ensures.outside (ap is_some c.in_default.is) in
+    let kept = c.in_ok-given.ensures.kept reader (ap is_some c.in_default.is) exchanges events (c.loop-given.invariant.ends reader exchanges events n b) in
+    let by = kept.read_by in
+    let met = subst (λ m. walking.Gives by.left m c.next.new.lines.items c.next.new.self) c.in-Leaf.is (m.given by.left by.stands.blocks.remains) in
+    text-begins g.E.EntityLookup.replacement reader mid out by met.0 met.1 met.2 (λ empty. c.in_err-enter_leaf-in-Leaf.ensures.lines (met.3.are ∙ ap lines_of empty)) exchanges events kept b)
+
+pub returns-in_err-given-clause-asked : goal.returns-in_err-given-clause-asked
+returns-in_err-given-clause-asked g c =
+    on-err c.from_residual.result _ (asked-same g.F.BrokenLinkCallback.answers c.args.self.now.callback c.loop-given.self.callback c.next_span.new.self.callback c.loop-given.invariant.asked c.in_err-given.ensures.callback)
+
+pub returns-in_err-given-2-clause-asked : goal.returns-in_err-given-2-clause-asked
+returns-in_err-given-2-clause-asked g c =
+    on-err c.from_residual-in_err-given-2.result _ (asked-same g.F.BrokenLinkCallback.answers c.args.self.now.callback c.loop-given.self.callback c.next_span.new.self.callback c.loop-given.invariant.asked c.in_ok-given.ensures.callback)
+
+pub returns-in_err-enter_leaf-in-Leaf-clause-asked : goal.returns-in_err-enter_leaf-in-Leaf-clause-asked
+returns-in_err-enter_leaf-in-Leaf-clause-asked g c =
+    on-err c.from_residual-in_err-enter_leaf-in-Leaf.result _
+    (asked-on g.F.BrokenLinkCallback.answers c.args.self.now.callback c.loop-given.self.callback c.next_span.new.self.callback c.enter_leaf.new.self.callback c.loop-given.invariant.asked c.in_ok-given.ensures.callback c.in_err-enter_leaf-in-Leaf.ensures.asked)

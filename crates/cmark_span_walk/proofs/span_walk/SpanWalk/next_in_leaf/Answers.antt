@@ -1,10 +1,12 @@
-use Rattle.std.proofs.Common.{[], ◌∷◌, refl, sym, subst}
+use Rattle.std.proofs.Common.{[], ◌∷◌, sym, subst}
 use Rattle.cmark_text.specs.declared.short.Next.{Next}
 use Rattle.cmark_inline.specs.Shorts.{IsNextFirst}
 use Rattle.cmark_inline.specs.SlotViews.{events_to_come}
+use Rattle.cmark_walk.proofs.WalkSteps.{on-err}
 use Rattle.cmark_span_walk.specs.Walking.{opened_of, source_of}
+use Rattle.cmark_span_walk.proofs.EndSteps.{closed-keeps, spans-begin}
 use Rattle.cmark_span_walk.proofs.Readings.{closed-passes, passes-none, spanned}
-use Rattle.cmark_span_walk.proofs.Walks.{closed-at, given-left, spanned-at}
+use Rattle.cmark_span_walk.proofs.Walks.{given-left, spanned-at}
 use Rattle.cmark_span_walk.proofs.span_walk.SpanWalk.next_in_leaf.Goals as goal
 
 pub returns-then-not-self-clause-given : goal.returns-then-not-self-clause-given
@@ -49,3 +51,14 @@ returns-in-Over-clause-given g c = λ reader r.
     let e = c.in_ok-short.ensures in
     let h = subst (λ (n : Next). IsNextFirst (source_of walk) (opened_of walk) n c.next_short.new.self.walk.opened.items (events_to_come walk.leaf walk.inline) (events_to_come walk.leaf c.next_short.new.self)) c.in-Over.is e.events in
     closed-passes g.F.BrokenLinkCallback.answers g.E.EntityLookup.replacement reader walk c.next_short.new.self r inside e.expansion h.0
+
+pub returns-in-Over-clause-kept : goal.returns-in-Over-clause-kept
+returns-in-Over-clause-kept g c = λ reader.
+    let walk = c.args.self.now in
+    let inside = c.if-not-self.false in
+    let e = c.in_ok-short.ensures in
+    let h = subst (λ (n : Next). IsNextFirst (source_of walk) (opened_of walk) n c.next_short.new.self.walk.opened.items (events_to_come walk.leaf walk.inline) (events_to_come walk.leaf c.next_short.new.self)) c.in-Over.is e.events in
+    closed-keeps g.E.EntityLookup.replacement reader walk c.next_short.new.self inside e.expansion h.0
+
+pub returns-in_err-short-clause-ends : goal.returns-in_err-short-clause-ends
+returns-in_err-short-clause-ends g c = on-err c.from_residual.result _ (λ reader. spans-begin g.E.EntityLookup.replacement reader c.args.self.now c.if-not-self.false c.in_err-short.ensures.ends)

@@ -1,5 +1,5 @@
 use Rattle.std.specs.Prelude.{is_some}
-use Rattle.std.proofs.Common.{[], ◌∷◌, length, refl, sym, ap, ◌∙◌, subst}
+use Rattle.std.proofs.Common.{[], ◌∷◌, refl, sym, ap, ◌∙◌, subst}
 use Rattle.cmark_grammar.specs.Event.{Text}
 use Rattle.cmark_grammar.specs.SpanDocuments.{Content, Given as GivenOf}
 use Rattle.cmark_grammar.specs.SpecialBytes.{is_special}
@@ -9,14 +9,17 @@ use Rattle.cmark_text.specs.Short.{IsShortZeroCopy}
 use Rattle.cmark_text.specs.declared.short.Short.TheVariants as short
 use Rattle.cmark_walk.specs.declared.reading.Brief.{Brief}
 use Rattle.cmark_walk.specs.Walking as walking
-use Rattle.cmark_span_walk.specs.Walking.{ArePlaced, GivesInLeaf, HasRange, LeavesFewer, LeavesLeaf, source_of}
-use Rattle.cmark_span_walk.proofs.Readings.{ends-on, event-passes, leaf-passes, long-passes, met-same, over-ends, passes-none, passes-on, plain-passes, plain-range}
+use Rattle.cmark_walk.specs.Walking.{lines_of}
+use Rattle.cmark_walk.proofs.WalkSteps.{on-err}
+use Rattle.cmark_span_walk.specs.Walking.{ArePlaced, GivesInLeaf, HasRange, KeepsBehindLeaf, LeavesFewer, LeavesLeaf}
+use Rattle.cmark_span_walk.proofs.EndSteps.{blocks-begin, leaf-keeps, text-begins}
+use Rattle.cmark_span_walk.proofs.Readings.{asked-on, asked-same, ends-on, event-passes, leaf-passes, long-passes, met-same, over-ends, passes-none, passes-on, plain-passes, plain-range}
 use Rattle.cmark_span_walk.proofs.Walks.{before-leaf, behind-at, lasts-leaf, lasts-none, less-since, met-by, met-fewer, most-since, over-at, same-at}
 use Rattle.cmark_span_walk.proofs.span_walk.SpanWalk.next_short.Goals as goal
 
 pub loop-short-init : goal.loop-short-init
 loop-short-init g c =
-    record { lasts = lasts-none c.args.self.now c.requires; reads = λ reader r. passes-none g.F.BrokenLinkCallback.answers g.E.EntityLookup.replacement reader c.args.self.now r }
+    record { lasts = lasts-none c.args.self.now c.requires; reads = λ reader r. passes-none g.F.BrokenLinkCallback.answers g.E.EntityLookup.replacement reader c.args.self.now r; ends = λ reader exchanges events m b. m; asked = ([], refl) }
 
 pub returns-in-Short-clause-given : goal.returns-in-Short-clause-given
 returns-in-Short-clause-given g c = λ reader r.
@@ -235,6 +238,16 @@ loop-short-preserved g c =
           passes-on g.F.BrokenLinkCallback.answers g.E.EntityLookup.replacement reader old mid new [] q
           (leaf-passes g.F.BrokenLinkCallback.answers g.E.EntityLookup.replacement reader mid walk lines out m.text m.definitions _ met.0 met.1 new by met.2 (entered.enters met.0 met.1 here)
           (entered.reads reader met.0 met.1 here placed.0 (met-same g.F.BrokenLinkCallback.answers g.E.EntityLookup.replacement reader mid walk lines out m.text m.definitions _ by.same)));
+      ends = λ reader exchanges events n b.
+          let keeps = subst (λ (x : Next). KeepsBehindLeaf g.E.EntityLookup.replacement reader head x mid) c.in-Over.is (e.kept reader) in
+          let kept = keeps exchanges events (c.loop-short.invariant.ends reader exchanges events n b) in
+          let by = kept.read_by in
+          let met = given by.left by.stands.blocks.remains in
+          let here = before-leaf mid walk lines out m.text c.in-Leaf.is_cell _ by.left met.0 met.1 by.stands met.2 met.3 met.4 met.5 refl in
+          let placed : ArePlaced reader (Content met.0 ∷ met.1) = subst (ArePlaced reader) met.2 by.placed in
+          leaf-keeps g.E.EntityLookup.replacement reader mid out by met.0 met.1 met.2 g.F.BrokenLinkCallback.answers (met-by mid walk lines out m.text _) new refl (entered.enters met.0 met.1 here)
+          (entered.reads reader met.0 met.1 here placed.0 (met-same g.F.BrokenLinkCallback.answers g.E.EntityLookup.replacement reader mid walk lines out m.text m.definitions _ by.same)) exchanges events kept b;
+      asked = asked-on g.F.BrokenLinkCallback.answers old.callback head.callback mid.callback new.callback c.loop-short.invariant.asked e.callback entered.asked;
     }
 
 pub returns-in-Long-2-clause-stands : goal.returns-in-Long-2-clause-stands
@@ -300,3 +313,41 @@ returns-in-Over-2-clause-given g c = λ reader r.
     let by = q.read_by in
     let gives = given by.left by.stands.blocks.remains in
     ends-on g.F.BrokenLinkCallback.answers g.E.EntityLookup.replacement reader old mid _ q (over-ends g.F.BrokenLinkCallback.answers g.E.EntityLookup.replacement reader mid walk lines out m.text m.definitions by gives.0)
+
+pub returns-in_err-short-clause-ends : goal.returns-in_err-short-clause-ends
+returns-in_err-short-clause-ends g c = on-err c.from_residual.result _ (λ reader exchanges events m b. c.in_err-short.ensures.ends reader exchanges events (c.loop-short.invariant.ends reader exchanges events m b) b)
+
+pub returns-in_err-short-2-clause-ends : goal.returns-in_err-short-2-clause-ends
+returns-in_err-short-2-clause-ends g c = on-err c.from_residual-in_err-short-2.result _ (λ reader exchanges events m b.
+    let head = c.loop-short.self in
+    let mid = c.next_in_leaf.new.self in
+    let e = c.in_ok-short.ensures in
+    let out = subst (λ (n : Next). LeavesLeaf n mid) c.in-Over.is e.outside in
+    let keeps = subst (λ (x : Next). KeepsBehindLeaf g.E.EntityLookup.replacement reader head x mid) c.in-Over.is (e.kept reader) in
+    blocks-begin g.E.EntityLookup.replacement reader mid out c.in_err-short-2.ensures.ends exchanges events (keeps exchanges events (c.loop-short.invariant.ends reader exchanges events m b)) b)
+
+pub returns-in_err-enter_leaf-in-Leaf-clause-ends : goal.returns-in_err-enter_leaf-in-Leaf-clause-ends
+returns-in_err-enter_leaf-in-Leaf-clause-ends g c = on-err c.from_residual-in_err-enter_leaf-in-Leaf.result _ (λ reader exchanges events n b.
+    let head = c.loop-short.self in
+    let mid = c.next_in_leaf.new.self in
+    let e = c.in_ok-short.ensures in
+    let out = subst (λ (n : Next). LeavesLeaf n mid) c.in-Over.is e.outside in
+    let keeps = subst (λ (x : Next). KeepsBehindLeaf g.E.EntityLookup.replacement reader head x mid) c.in-Over.is (e.kept reader) in
+    let kept = keeps exchanges events (c.loop-short.invariant.ends reader exchanges events n b) in
+    let by = kept.read_by in
+    let given = subst (λ (b : Brief). walking.GivesBrief mid.walk b c.next_short.new.lines.items c.next_short.new.self) c.in-Leaf.is c.in_ok-short-2.ensures.given in
+    let met = given by.left by.stands.blocks.remains in
+    text-begins g.E.EntityLookup.replacement reader mid out by met.0 met.1 met.2 (λ empty. c.in_err-enter_leaf-in-Leaf.ensures.lines (met.3.are ∙ ap lines_of empty)) exchanges events kept b)
+
+pub returns-in_err-short-clause-asked : goal.returns-in_err-short-clause-asked
+returns-in_err-short-clause-asked g c =
+    on-err c.from_residual.result _ (asked-same g.F.BrokenLinkCallback.answers c.args.self.now.callback c.loop-short.self.callback c.next_in_leaf.new.self.callback c.loop-short.invariant.asked c.in_err-short.ensures.callback)
+
+pub returns-in_err-short-2-clause-asked : goal.returns-in_err-short-2-clause-asked
+returns-in_err-short-2-clause-asked g c =
+    on-err c.from_residual-in_err-short-2.result _ (asked-same g.F.BrokenLinkCallback.answers c.args.self.now.callback c.loop-short.self.callback c.next_in_leaf.new.self.callback c.loop-short.invariant.asked c.in_ok-short.ensures.callback)
+
+pub returns-in_err-enter_leaf-in-Leaf-clause-asked : goal.returns-in_err-enter_leaf-in-Leaf-clause-asked
+returns-in_err-enter_leaf-in-Leaf-clause-asked g c =
+    on-err c.from_residual-in_err-enter_leaf-in-Leaf.result _
+    (asked-on g.F.BrokenLinkCallback.answers c.args.self.now.callback c.loop-short.self.callback c.next_in_leaf.new.self.callback c.enter_leaf.new.self.callback c.loop-short.invariant.asked c.in_ok-short.ensures.callback c.in_err-enter_leaf-in-Leaf.ensures.asked)

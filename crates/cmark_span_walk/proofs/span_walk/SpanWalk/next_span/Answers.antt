@@ -1,7 +1,9 @@
-use Rattle.std.proofs.Common.{[], ◌∷◌, refl, sym, subst}
+use Rattle.std.proofs.Common.{[], ◌∷◌, sym, subst}
 use Rattle.cmark_inline.specs.Opens.{Gives as GivesSlot}
 use Rattle.cmark_inline.specs.SlotViews.{IsFirst, events_to_come}
+use Rattle.cmark_walk.proofs.WalkSteps.{on-err}
 use Rattle.cmark_span_walk.specs.Walking.{HasRange, Passes, opened_of, source_of}
+use Rattle.cmark_span_walk.proofs.EndSteps.{closed-keeps, spans-begin}
 use Rattle.cmark_span_walk.proofs.Readings.{closed-passes, passes-none, spanned}
 use Rattle.cmark_span_walk.proofs.Walks.{closed-at, given-left, spanned-at}
 use Rattle.cmark_span_walk.proofs.span_walk.SpanWalk.next_span.Goals as goal
@@ -15,19 +17,18 @@ returns-in-Some-clause-stands g c =
     let s = c.requires in
     let inside = c.if-not-self.false in
     let e = c.in_ok-given.ensures in
-    (s.0, spanned-at walk c.next.new.self s.0 s.1 inside e.slots e.opened (e.left (given-left walk s.0 s.1 inside)))
+    (s.0, spanned-at walk c.next.new.self s.0 s.1 inside e.slots e.opened e.left)
 
 pub returns-in-Some-clause-given : goal.returns-in-Some-clause-given
 returns-in-Some-clause-given g c = λ reader r.
     let walk = c.args.self.now in
     let inside = c.if-not-self.false in
     let e = c.in_ok-given.ensures in
-    let given = given-left walk r.left r.stands inside in
     let new = record walk { inline = c.next.new.self } in
     let follows = subst (λ o. GivesSlot (source_of walk) (opened_of walk) o c.next.new.self.walk.opened.items) c.in-Some.is e.gives in
-    let first = subst (λ o. IsFirst o (events_to_come walk.leaf walk.inline) (events_to_come walk.leaf c.next.new.self)) c.in-Some.is (e.events given) in
+    let first = subst (λ o. IsFirst o (events_to_come walk.leaf walk.inline) (events_to_come walk.leaf c.next.new.self)) c.in-Some.is e.events in
     subst (λ x. HasRange (source_of walk) x × Passes g.F.BrokenLinkCallback.answers g.E.EntityLookup.replacement reader (x ∷ []) walk new) (sym c.ranged.ensures.value)
-    (follows.range, spanned g.F.BrokenLinkCallback.answers g.E.EntityLookup.replacement reader walk c.next.new.self _ r inside (spanned-at walk c.next.new.self r.left r.stands inside e.slots e.opened (e.left given)) e.expansion first)
+    (follows.range, spanned g.F.BrokenLinkCallback.answers g.E.EntityLookup.replacement reader walk c.next.new.self _ r inside (spanned-at walk c.next.new.self r.left r.stands inside e.slots e.opened e.left) e.expansion first)
 
 pub returns-in-None-clause-stands : goal.returns-in-None-clause-stands
 returns-in-None-clause-stands g c = let s = c.requires in (s.0, closed-at c.args.self.now c.next.new.self s.0 s.1)
@@ -37,5 +38,22 @@ returns-in-None-clause-given g c = λ reader r.
     let walk = c.args.self.now in
     let inside = c.if-not-self.false in
     let e = c.in_ok-given.ensures in
-    let first = subst (λ o. IsFirst o (events_to_come walk.leaf walk.inline) (events_to_come walk.leaf c.next.new.self)) c.in-None.is (e.events (given-left walk r.left r.stands inside)) in
+    let first = subst (λ o. IsFirst o (events_to_come walk.leaf walk.inline) (events_to_come walk.leaf c.next.new.self)) c.in-None.is e.events in
     closed-passes g.F.BrokenLinkCallback.answers g.E.EntityLookup.replacement reader walk c.next.new.self r inside e.expansion first.0
+
+pub returns-in-None-clause-kept : goal.returns-in-None-clause-kept
+returns-in-None-clause-kept g c = λ reader none.
+    let walk = c.args.self.now in
+    let inside = c.if-not-self.false in
+    let e = c.in_ok-given.ensures in
+    let first = subst (λ o. IsFirst o (events_to_come walk.leaf walk.inline) (events_to_come walk.leaf c.next.new.self)) c.in-None.is e.events in
+    closed-keeps g.E.EntityLookup.replacement reader walk c.next.new.self inside e.expansion first.0
+
+pub returns-in_err-given-clause-ends : goal.returns-in_err-given-clause-ends
+returns-in_err-given-clause-ends g c = on-err c.from_residual.result _ (λ reader.
+    let walk = c.args.self.now in
+    let inside = c.if-not-self.false in
+    spans-begin g.E.EntityLookup.replacement reader walk inside c.in_err-given.ensures.ends)
+
+pub next-requires-clause-left : goal.next-requires-clause-left
+next-requires-clause-left g c = given-left c.args.self.now c.requires.0 c.requires.1 c.if-not-self.false

@@ -2,7 +2,7 @@ use Rattle.std.proofs.Common.{◌<◌, OnSome, refl, subst}
 use Rattle.std.specs.Prelude.{IfSome}
 use Rattle.cmark_span_walk.specs.Walking.{Gives, GivesZeroCopy, events_left, source_of}
 use Rattle.pulldown_cmark.specs.Parsing.{reader_for}
-use Rattle.pulldown_cmark.proofs.ParseSteps.{SaysIfAny, gives-none, gives-nothing, gives-some, going, read-by}
+use Rattle.pulldown_cmark.proofs.ParseSteps.{SaysIfAny, gives-error, gives-none, gives-nothing, gives-some, going, read-by}
 use Rattle.pulldown_cmark.proofs.parse.Parser.advance.Goals as goal
 
 pub next-requires : goal.next-requires
@@ -32,3 +32,8 @@ returns-in-Ok-None g c =
     let e = c.in-Ok-None.ensures in
     gives-none Says replacement old _ c.if-self.false refl (subst (λ o. Gives (SaysIfAny Says) replacement reader old.spans o c.next.new.self) c.in-Ok-None.field-0-is (e.given reader (read-by replacement old c.if-self.false c.requires))) e.source e.definitions
     e.footnotes
+
+pub returns-in-Err : goal.returns-in-Err
+returns-in-Err g c =
+    let e = c.in-Err.ensures in
+    gives-error g.F.BrokenLinkCallback.answers g.E.EntityLookup.replacement c.args.self.now _ c.in-Err.error c.if-self.false refl e.ends e.asked e.source e.definitions e.footnotes

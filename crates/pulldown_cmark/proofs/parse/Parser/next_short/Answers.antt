@@ -12,7 +12,7 @@ returns-then-not-self g c =
     let old = c.args.self.now in
     let e = c.next_short-given.ensures in
     gives-or-err g.F.BrokenLinkCallback.answers replacement old _ c.if-not-self.true e.source e.definitions e.footnotes c.next_short-given.result c.is_last-self.ensures
-    (e.given (reader_for replacement old) (read-by replacement old c.if-not-self.true c.requires)) e.fewer
+    (e.given (reader_for replacement old) (read-by replacement old c.if-not-self.true c.requires)) e.fewer e.ends e.asked
 
 pub returns : goal.returns
 returns g c = gives-over g.F.BrokenLinkCallback.answers g.E.EntityLookup.replacement c.args.self.now c.if-not-self.false
