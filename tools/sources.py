@@ -156,6 +156,9 @@ class Sources:
         stands = Stands(self, crate)
         for change in changes:
             stands.add_place(self.crates / crate / change.file, change)
+            # what the new text names and the old one did not counts too
+            words = set(items.WORD.findall(change.new))
+            stands.add_named(words, words, words)
         if function.startswith("proofs/"):
             stands.add_file(self.crates / crate / function)
         else:
