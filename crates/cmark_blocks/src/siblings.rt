@@ -8,7 +8,7 @@ ghost use Rattle.cmark_blocks.specs.Titles.{list_around, with_title};
 ghost use Rattle.cmark_blocks.specs.Shown.{shown_list, shown_siblings, list_of};
 
 /// A list to which further items may come, or titles and definitions.
-#[derive(Clone, Copy, Debug, PartialEq, Eq)]
+#[derive(Clone, Copy)]
 pub(crate) struct OpenList {
     /// The bullet, or what stands behind the number; the marker of definitions, `:`, where they stand in it.
     pub mark: u8,
@@ -21,7 +21,7 @@ pub(crate) struct OpenList {
 }
 
 /// What was known before a paragraph that a definition may make a title (this profile's own).
-#[derive(Clone, Copy, Debug, PartialEq, Eq)]
+#[derive(Clone, Copy)]
 pub(crate) struct Title {
     /// The definition list that was open: the paragraph is drawn in it, and it is open still.
     pub list: Option<OpenList>,
@@ -30,7 +30,7 @@ pub(crate) struct Title {
 }
 
 /// The blocks of a container so far.
-#[derive(Clone, Copy, Debug, PartialEq, Eq)]
+#[derive(Clone, Copy)]
 pub(crate) struct Siblings {
     /// There is one.
     pub has_block: bool,

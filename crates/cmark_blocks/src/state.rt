@@ -11,7 +11,7 @@ use cmark_text::{EntityLookup, MetadataBlockKind, Options};
 use std::alloc::{AllocError, Global};
 
 /// The leaf that is open, if one is.
-#[derive(Clone, Copy, Debug)]
+#[derive(Clone, Copy)]
 pub(crate) enum OpenLeaf<'a> {
     /// None.
     Closed,
@@ -35,7 +35,7 @@ pub(crate) enum OpenLeaf<'a> {
 }
 
 /// An open container, with the siblings that it stands behind.
-#[derive(Clone, Copy, Debug)]
+#[derive(Clone, Copy)]
 pub(crate) struct OpenContainer {
     pub container: Container,
     pub around: Siblings,

@@ -11,7 +11,7 @@ use crate::label::label_in;
 use crate::part::{Part, destination_in, title_in};
 
 /// A link reference definition as it is written (CommonMark 4.7).
-#[derive(Clone, Copy, Debug, PartialEq, Eq)]
+#[derive(Clone, Copy)]
 pub struct Definition<'a> {
     /// What stands between the brackets.
     pub label: &'a str,

@@ -11,7 +11,7 @@ ghost use Rattle.cmark_definitions.specs.Steps.{read_closed, OnCloses};
 use cmark_scan_parts::scan_link_dest;
 
 /// A part of a text, and the text behind it and its closer.
-#[derive(Clone, Copy, Debug)]
+#[derive(Clone, Copy)]
 pub struct Part<'t> {
     /// The part, without what encloses it.
     pub part: &'t str,
@@ -20,7 +20,7 @@ pub struct Part<'t> {
 }
 
 /// What a byte does to the part that is read.
-#[derive(Clone, Copy, Debug)]
+#[derive(Clone, Copy)]
 enum Step {
     /// It closes the part.
     Closes,

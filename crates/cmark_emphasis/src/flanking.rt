@@ -16,7 +16,7 @@ use cmark_text::Options;
 use ucd_category::{GeneralCategory, GeneralCategoryGroup};
 
 /// Whether a delimiter run can open, and whether it can close.
-#[derive(Clone, Copy, PartialEq, Eq, Debug)]
+#[derive(Clone, Copy)]
 pub struct Flanking {
     /// It can open.
     pub opens: bool,

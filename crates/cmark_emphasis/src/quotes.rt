@@ -9,7 +9,7 @@ use crate::flanking::side_of;
 use std::alloc::AllocError;
 
 /// A quote.
-#[derive(Clone, Copy, PartialEq, Eq, Debug)]
+#[derive(Clone, Copy)]
 pub struct Quote {
     /// It is a `"`, and else a `'`.
     pub double: bool,

@@ -13,7 +13,7 @@ use crate::slot::Slot;
 use std::alloc::{AllocError, Global};
 
 /// Room for the pairing of runs, which one list of siblings leaves to the next.
-#[derive(Debug, Drop)]
+#[derive(Drop)]
 pub struct PairingRoom {
     stack: Vec<Run>,
     pairs: Vec<Pair>,

@@ -2,7 +2,7 @@
 
 /// What is left of a delimiter run (CommonMark 6.2). Places count the siblings of a list from 0, and each byte of a run is
 /// one of them.
-#[derive(Clone, Copy, PartialEq, Eq, Debug)]
+#[derive(Clone, Copy)]
 pub struct Run {
     /// The byte that it consists of: `*`, `_`, `~` or `^`.
     pub mark: u8,
@@ -19,7 +19,7 @@ pub struct Run {
 }
 
 /// So many bytes that open, directly in front of a place, and as many that close, from a place on.
-#[derive(Clone, Copy, PartialEq, Eq, Debug)]
+#[derive(Clone, Copy)]
 pub struct Pair {
     /// The byte that all of them are: `*`, `_`, `~` or `^`.
     pub mark: u8,

@@ -5,7 +5,7 @@ ghost use Rattle.cmark_grammar.specs.Spans.{span_width};
 ghost use Rattle.cmark_emphasis.specs.Shown.{shown_kind};
 
 /// What stands around a span (CommonMark 6.2, GFM 6.5).
-#[derive(Clone, Copy, PartialEq, Eq, Debug)]
+#[derive(Clone, Copy)]
 pub enum SpanKind {
     /// One `*` or `_` on each side.
     Emphasis,
@@ -34,7 +34,7 @@ impl SpanKind {
 }
 
 /// What becomes of a sibling.
-#[derive(Clone, Copy, PartialEq, Eq, Debug)]
+#[derive(Clone, Copy)]
 pub enum Slot {
     /// It stays as it is: no byte of a run, or one that opens and closes nothing.
     Single,

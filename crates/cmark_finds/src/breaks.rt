@@ -12,7 +12,7 @@ use crate::place::place_of;
 use cmark_definitions::{behind_blanks, behind_byte, behind_ending};
 
 /// A break between two lines. The next line begins at its end.
-#[derive(Clone, Copy, Debug, PartialEq, Eq)]
+#[derive(Clone, Copy)]
 pub struct LineBreak {
     /// Whether it is hard.
     pub is_hard: bool,

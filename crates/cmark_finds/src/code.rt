@@ -15,7 +15,7 @@ use cmark_text::CowStr;
 use std::alloc::{AllocError, Global};
 
 /// Where a code span lies in its text.
-#[derive(Clone, Copy, Debug, PartialEq, Eq)]
+#[derive(Clone, Copy)]
 pub struct CodeSpan {
     /// The place behind the opening run of backticks.
     pub content_start: usize,

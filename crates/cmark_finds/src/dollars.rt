@@ -13,7 +13,7 @@ use crate::braces::Braces;
 use std::alloc::{AllocError, Global};
 
 /// Where a formula lies in its text.
-#[derive(Clone, Copy, Debug, PartialEq, Eq)]
+#[derive(Clone, Copy)]
 pub struct Formula {
     /// The place behind the dollar signs that open it.
     pub content_start: usize,
@@ -26,7 +26,7 @@ pub struct Formula {
 }
 
 /// A dollar sign of a text.
-#[derive(Clone, Copy, Debug)]
+#[derive(Clone, Copy)]
 struct Dollar {
     place: usize,
     /// The number of the context of braces in which it stands.

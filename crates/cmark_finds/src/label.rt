@@ -10,7 +10,7 @@ use crate::place::place_of;
 use cmark_definitions::{behind_byte, is_label, label_in};
 
 /// The label of a full reference.
-#[derive(Clone, Copy, Debug, PartialEq, Eq)]
+#[derive(Clone, Copy)]
 pub struct Label<'t> {
     /// What is written between its brackets.
     pub label: &'t str,

@@ -21,7 +21,7 @@ use cmark_text::{CowStr, EntityLookup};
 use std::alloc::{AllocError, Global};
 
 /// What stands in the parentheses of an inline link, as it is written.
-#[derive(Clone, Copy, Debug, PartialEq, Eq)]
+#[derive(Clone, Copy)]
 pub struct LinkTail<'t> {
     /// The destination, without pointed brackets; it may be empty.
     pub destination: &'t str,

@@ -12,7 +12,7 @@ use bitflags::Flags;
 use cmark_text::Options;
 
 /// What a callback answers about a special byte.
-#[derive(Debug, Drop, PartialEq, Eq)]
+#[derive(Drop)]
 pub enum LoopInstruction<T> {
     /// Go on behind the byte and so many bytes more.
     ContinueAndSkip(usize),

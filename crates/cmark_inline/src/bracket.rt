@@ -11,7 +11,7 @@ use cmark_text::Options;
 use std::alloc::{AllocError, Global};
 
 /// An opening bracket that no closing one has used up.
-#[derive(Clone, Copy, Debug)]
+#[derive(Clone, Copy)]
 pub struct Bracket {
     /// The place of its slot.
     pub slot: usize,

@@ -27,7 +27,7 @@ use cmark_text::Options;
 use std::alloc::{AllocError, Global};
 
 /// A delimiter run and the place of its first slot, which those of its other bytes follow.
-#[derive(Clone, Copy, Debug)]
+#[derive(Clone, Copy)]
 pub struct PlacedRun {
     pub slot: usize,
     pub run: Run,

@@ -32,7 +32,7 @@ use std::alloc::{AllocError, Global};
 use std::ops::Range;
 
 /// An element that began and has not ended.
-#[derive(Clone, Copy, Debug)]
+#[derive(Clone, Copy)]
 pub struct Opened {
     pub tag: TagEnd,
     pub start: usize,
@@ -64,7 +64,7 @@ impl Walk {
 }
 
 /// An event, and the bytes of the source that it comes from.
-#[derive(Debug, Drop)]
+#[derive(Drop)]
 pub struct Given<'a> {
     pub event: Event<'a>,
     pub range: Range<usize>,

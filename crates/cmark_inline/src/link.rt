@@ -24,7 +24,7 @@ use cmark_text::{CowStr, EntityLookup, LinkLabel, LinkType, Options};
 use std::alloc::{AllocError, Global};
 
 /// What a link or an image is.
-#[derive(Debug, Drop)]
+#[derive(Drop)]
 pub struct LinkParts<'a> {
     pub link_type: LinkType,
     pub dest_url: CowStr<'a>,
@@ -190,7 +190,7 @@ fn tail_target<'a, E: EntityLookup>(
 }
 
 /// A reference as it is written.
-#[derive(Clone, Copy, Debug)]
+#[derive(Clone, Copy)]
 pub struct Asked<'t> {
     pub label: &'t str,
     pub link_type: LinkType,
@@ -277,7 +277,7 @@ pub fn label_text<'t>(
 }
 
 /// Where a reference leads, and its title.
-#[derive(Debug, Drop)]
+#[derive(Drop)]
 pub struct Destination<'a> {
     pub dest_url: CowStr<'a>,
     pub title: CowStr<'a>,

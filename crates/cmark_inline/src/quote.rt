@@ -16,7 +16,7 @@ use cmark_emphasis::{Quote, quote_characters};
 use std::alloc::{AllocError, Global};
 
 /// A quote and the place of its slot.
-#[derive(Clone, Copy, Debug)]
+#[derive(Clone, Copy)]
 pub struct PlacedQuote {
     pub slot: usize,
     pub quote: Quote,

@@ -17,7 +17,7 @@ use cmark_finds::has_line_ending;
 use std::alloc::AllocError;
 
 /// An element around other slots.
-#[derive(Clone, Copy, PartialEq, Eq, Debug)]
+#[derive(Clone, Copy)]
 pub enum Element {
     Emphasis,
     Strong,
@@ -33,7 +33,7 @@ pub enum Element {
 }
 
 /// What a slot stands for.
-#[derive(Clone, Copy, PartialEq, Eq, Debug)]
+#[derive(Clone, Copy)]
 pub enum SlotKind {
     /// The bytes of its range.
     Text,
@@ -72,7 +72,7 @@ pub enum SlotKind {
 }
 
 /// What stands at some bytes of a leaf's text.
-#[derive(Clone, Copy, PartialEq, Eq, Debug)]
+#[derive(Clone, Copy)]
 pub struct Slot {
     pub kind: SlotKind,
     /// Byte offsets of the leaf's text.

@@ -35,7 +35,7 @@ use cmark_text::EntityLookup;
 use std::alloc::AllocError;
 
 /// How far a text was read.
-#[derive(Clone, Copy, Debug)]
+#[derive(Clone, Copy)]
 pub struct Cursor {
     /// Where the text begins that stands in no slot yet.
     pub pending: usize,

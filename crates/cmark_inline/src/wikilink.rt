@@ -33,7 +33,7 @@ use cmark_text::{CowStr, LinkType, Options};
 use std::alloc::AllocError;
 
 /// A wikilink as it is written between its brackets.
-#[derive(Clone, Copy, Debug)]
+#[derive(Clone, Copy)]
 pub struct Wikilink<'a> {
     /// What stands in the source before the first pipe.
     pub name: &'a str,

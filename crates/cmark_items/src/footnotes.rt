@@ -12,7 +12,7 @@ use std::alloc::{AllocError, Global};
 use std::collections::BTreeMap;
 
 /// What is known of a footnote that is defined.
-#[derive(Clone, Copy, Debug, PartialEq, Eq)]
+#[derive(Clone, Copy)]
 pub struct FootnoteDef {
     /// How many references to it were read; 0 before the text is read for spans.
     pub use_count: usize,

@@ -10,7 +10,7 @@ use cmark_text::CowStr;
 use std::alloc::{AllocError, Global};
 
 /// The attributes of a heading, as its line has them in braces.
-#[derive(Debug, Drop)]
+#[derive(Drop)]
 pub struct HeadingAttributes<'a> {
     /// What stands behind the last `#`.
     pub id: Option<CowStr<'a>>,

@@ -2,13 +2,13 @@
 
 ghost use Rattle.cmark_items.specs.Spans.{spans};
 
-use crate::allocations::{CowIndex, HeadingIndex, LinkIndex};
+use crate::allocations::{CowIndex, HeadingIndex};
 use crate::list_flags::ListFlags;
 use cmark_text::{BlockQuoteKind, HeadingLevel, MetadataBlockKind};
 use cmark_tree::TreeSpan;
 
 /// A node of the tree: what it is, and its bytes in the text, from `start` to before `end`.
-#[derive(Clone, Copy, Debug, PartialEq, Eq)]
+#[derive(Clone, Copy)]
 pub struct Item {
     /// Where it begins: a byte offset of the text.
     pub start: usize,
@@ -42,58 +42,13 @@ impl TreeSpan for Item {
     }
 }
 
-/// What an item is. The bodies that begin with `Maybe` are tokens: whether they come to anything is seen when the leaf
-/// around them is read.
-#[derive(Clone, Copy, Debug, Default, PartialEq, Eq)]
+/// What an item is. The spans of a leaf are no items: they are read off its lines when the events are asked for.
+#[derive(Clone, Copy)]
 pub enum ItemBody {
-    /// A byte of a run of `*`, `_`, `~` or `^`: the run's length from here on, and whether it can open and close
-    /// (CommonMark 6.2).
-    MaybeEmphasis(usize, bool, bool),
-    /// A `$`: whether it can open and close, and the braces that it stands in (this profile's own).
-    MaybeMath(bool, bool, u8),
-    /// A quotation mark, and whether it can open and close (this profile's own).
-    MaybeSmartQuote(u8, bool, bool),
-    /// A run of so many backticks, and whether a backslash stands before it (CommonMark 6.1).
-    MaybeCode(usize, bool),
-    /// A `<` (CommonMark 6.5, 6.6).
-    MaybeHtml,
-    /// A `[` (CommonMark 6.3).
-    MaybeLinkOpen,
-    /// A `]`, and whether it may still close a reference.
-    MaybeLinkClose(bool),
-    /// A `![` (CommonMark 6.4).
-    MaybeImage,
-
-    /// Emphasis (CommonMark 6.2).
-    Emphasis,
-    /// Strong emphasis (CommonMark 6.2).
-    Strong,
-    /// Struck out text (GFM 6.5).
-    Strikethrough,
-    /// Raised text (this profile's own).
-    Superscript,
-    /// Lowered text (this profile's own).
-    Subscript,
-    /// A formula, and whether it is displayed (this profile's own).
-    Math(CowIndex, bool),
-    /// A code span (CommonMark 6.1).
-    Code(CowIndex),
-    /// A footnote's reference (this profile's own).
-    FootnoteReference(CowIndex),
-    /// A tag over lines (CommonMark 6.6).
-    OwnedInlineHtml(CowIndex),
     /// A text that the source spells otherwise.
     SynthesizeText(CowIndex),
-    /// A link (CommonMark 6.3).
-    Link(LinkIndex),
-    /// An image (CommonMark 6.4).
-    Image(LinkIndex),
     /// The mark of a task list item, and whether it is checked (GFM 5.3).
     TaskListMarker(bool),
-    /// HTML that stands as it is (CommonMark 6.6).
-    InlineHtml,
-    /// A character that the source spells otherwise.
-    SynthesizeChar(char),
     /// A line of an HTML block (CommonMark 4.6).
     Html,
     /// A text that stands as it is.
@@ -101,14 +56,7 @@ pub enum ItemBody {
         /// A backslash before its first byte escapes it.
         backslash_escaped: bool,
     },
-    /// A line ending (CommonMark 6.8).
-    SoftBreak,
-    /// A hard line break (CommonMark 6.7), and whether a backslash makes it.
-    HardBreak(bool),
 
-    /// Nothing of the document.
-    #[default]
-    Root,
     /// A paragraph (CommonMark 4.8).
     Paragraph,
     /// A paragraph that stands directly in an item of a tight list (CommonMark 5.3).
@@ -135,8 +83,6 @@ pub enum ItemBody {
     MetadataBlock(MetadataBlockKind),
     /// A definition list (this profile's own).
     DefinitionList(ListFlags),
-    /// A paragraph that is a title if a definition follows.
-    MaybeDefinitionListTitle,
     /// A title of definitions.
     DefinitionListTitle,
     /// A definition, and the width of its prefix in columns.

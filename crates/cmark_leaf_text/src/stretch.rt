@@ -3,7 +3,7 @@
 ghost use Rattle.std.specs.Prelude.{◌≡◌, ◌<◌, ◌≤◌, ◌+◌, ◌-◌};
 
 /// A line of a leaf (CommonMark 2.1), or lines that touch, without the prefixes of its containers: byte offsets of the source.
-#[derive(Clone, Copy, PartialEq, Eq, Debug)]
+#[derive(Clone, Copy)]
 pub struct LeafLine {
     /// The first byte of what stands in it.
     pub start: usize,
@@ -14,7 +14,7 @@ pub struct LeafLine {
 }
 
 /// A stretch of the source that stands in a leaf's text without a gap.
-#[derive(Clone, Copy, PartialEq, Eq, Debug)]
+#[derive(Clone, Copy)]
 pub(crate) struct Stretch {
     /// Its first byte in the leaf's text.
     pub at: usize,

@@ -17,7 +17,7 @@ use cmark_text::CowStr;
 use std::alloc::AllocError;
 
 /// A stretch of the text, from one byte offset to before another.
-#[derive(Clone, Copy, Debug, PartialEq, Eq)]
+#[derive(Clone, Copy)]
 pub struct Stretch {
     /// Where it begins.
     pub start: usize,

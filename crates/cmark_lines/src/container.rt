@@ -14,7 +14,7 @@ use crate::line_rest::LineRest;
 use cmark_text::Options;
 
 /// A container block, as far as it decides which later lines it keeps.
-#[derive(Clone, Copy, Debug, PartialEq, Eq)]
+#[derive(Clone, Copy)]
 pub enum Container {
     /// A block quote (CommonMark 5.1).
     Quote,
@@ -36,7 +36,7 @@ pub enum Container {
 }
 
 /// A list item, as its first line shows it (CommonMark 5.2).
-#[derive(Clone, Copy, Debug, PartialEq, Eq)]
+#[derive(Clone, Copy)]
 pub struct ItemStart {
     /// The bullet, or what stands behind the number: `.` or `)`.
     pub mark: u8,
@@ -47,7 +47,7 @@ pub struct ItemStart {
 }
 
 /// A footnote definition, as its first line shows it (this profile's own).
-#[derive(Clone, Copy, Debug, PartialEq, Eq)]
+#[derive(Clone, Copy)]
 pub struct FootnoteStart {
     /// How many bytes the label has. It stands behind the first two bytes of the line's words, and a bracket behind it.
     pub label_size: usize,
@@ -56,7 +56,7 @@ pub struct FootnoteStart {
 }
 
 /// A container that a line begins, and the line behind the container's marker.
-#[derive(Clone, Copy, Debug)]
+#[derive(Clone, Copy)]
 pub enum ContainerStart<'a> {
     /// A block quote; [`LineRest::alert_kind`] tells whether it is an alert.
     Quote(LineRest<'a>),

@@ -12,7 +12,7 @@ use cmark_scan::LineStart;
 
 /// What is left of a line behind the prefixes of the containers around it. Places are byte offsets of the text; columns are
 /// those of the whole line, in which a tab reaches to the next tab stop, four columns apart.
-#[derive(Clone, Copy, Debug)]
+#[derive(Clone, Copy)]
 pub struct LineRest<'a> {
     /// Where the whole line begins.
     start: usize,

@@ -22,7 +22,7 @@ use cmark_scan::{CodeFence, HtmlKind, html_kind, scan_atx_heading, scan_code_fen
 use cmark_text::{HeadingLevel, Options};
 
 /// What a line begins that lacks no prefix of the containers around it, metadata aside.
-#[derive(Clone, Copy, Debug)]
+#[derive(Clone, Copy)]
 pub enum Opening<'a> {
     /// Nothing: the line is blank.
     Blank,

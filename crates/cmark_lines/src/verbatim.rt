@@ -13,7 +13,7 @@ use crate::line_rest::LineRest;
 use cmark_scan::{HtmlKind, holds_end, scan_closing_code_fence};
 
 /// An open leaf block whose lines are taken as they are.
-#[derive(Clone, Copy, Debug, PartialEq, Eq)]
+#[derive(Clone, Copy)]
 pub enum Verbatim {
     /// An indented code block (CommonMark 4.4).
     Indented,
@@ -31,7 +31,7 @@ pub enum Verbatim {
 }
 
 /// What one more line does to an open code or HTML block.
-#[derive(Clone, Copy, Debug, PartialEq, Eq)]
+#[derive(Clone, Copy)]
 pub enum Further {
     /// It belongs to the block, which goes on.
     GoesOn,

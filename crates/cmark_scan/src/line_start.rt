@@ -12,7 +12,7 @@ use cmark_search::find_line_end;
 
 /// A line, of which some columns in front were taken. A tab stands for the columns up to the next tab stop, four columns
 /// apart; it is never written out, and a part of it may be taken.
-#[derive(Clone, Copy, Debug)]
+#[derive(Clone, Copy)]
 pub struct LineStart<'a> {
     /// The line without its ending.
     bytes: &'a [u8],

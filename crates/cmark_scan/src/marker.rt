@@ -14,7 +14,7 @@ use crate::bytes::{are_blank, is_blank, is_parted, starts_lower};
 use cmark_text::BlockQuoteKind;
 
 /// The marker of a list item.
-#[derive(Clone, Copy, Debug, PartialEq, Eq)]
+#[derive(Clone, Copy)]
 pub(crate) struct ListMarker {
     /// The bullet, or what stands behind the number: `.` or `)`.
     pub mark: u8,

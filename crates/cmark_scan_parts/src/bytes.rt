@@ -7,7 +7,7 @@ ghost use Rattle.cmark_grammar.specs.Letters.{is_letter, behind_all};
 ghost use Rattle.cmark_grammar.specs.Tags.{is_attribute_start, is_space_byte, ends_value, behind_ending, behind_line_feed};
 
 /// A class of bytes, all of them ASCII but for `BareValue` and `Uri`.
-#[derive(Clone, Copy, Debug)]
+#[derive(Clone, Copy)]
 pub enum Class {
     /// Spaces and tabs.
     Blank,

@@ -11,7 +11,7 @@ use crate::find::begins_with;
 use crate::link::Cut;
 
 /// What a byte does to the part that is read.
-#[derive(Clone, Copy, Debug)]
+#[derive(Clone, Copy)]
 pub enum Step {
     /// The part ends there.
     Ends,

@@ -1,7 +1,6 @@
 -- No item of a tree is a link reference definition, so an item that is neither an event nor an element is a paragraph of a tight list.
 use Rattle.std.proofs.Common.{◌≡◌, ◌⊎◌, inl, inr, ℕ, Bool, true, false, true≢false, List, Some, None, option_map, refl, sym, ap, Option}
 use Rattle.std.proofs.lemmas.Option.{same_Some}
-use Rattle.std.specs.Char.{encode_utf8}
 use Rattle.cmark_text.specs.declared.text.CowStr.{CowStr}
 use Rattle.cmark_text.specs.Shown.{level_number, shown_block_quote_kind, shown_metadata_block_kind}
 use Rattle.cmark_grammar.specs.Attributes.{no_attributes, attributes_of}
@@ -22,34 +21,10 @@ use Rattle.cmark_walk.proofs.Paths.{within-kind, spelt-kind}
 use Rattle.cmark_walk.specs.Walking.{Drawn, is_list, task_body}
 
 kind-drawn : (text : List ℕ) (texts : List CowStr) (start end : ℕ) (b : ItemBody) (kind : BlockKind) → kind_over text texts start end (shape b) ≡ Some kind → is_definition kind ≡ false
-kind-drawn text texts start end (body.MaybeEmphasis x0 x1 x2) kind e = absurd (let q : None ≡ Some kind = e in cc)
-kind-drawn text texts start end (body.MaybeMath x0 x1 x2) kind e = absurd (let q : None ≡ Some kind = e in cc)
-kind-drawn text texts start end (body.MaybeSmartQuote x0 x1 x2) kind e = absurd (let q : None ≡ Some kind = e in cc)
-kind-drawn text texts start end (body.MaybeCode x0 x1) kind e = absurd (let q : None ≡ Some kind = e in cc)
-kind-drawn text texts start end body.MaybeHtml kind e = absurd (let q : None ≡ Some kind = e in cc)
-kind-drawn text texts start end body.MaybeLinkOpen kind e = absurd (let q : None ≡ Some kind = e in cc)
-kind-drawn text texts start end (body.MaybeLinkClose x0) kind e = absurd (let q : None ≡ Some kind = e in cc)
-kind-drawn text texts start end body.MaybeImage kind e = absurd (let q : None ≡ Some kind = e in cc)
-kind-drawn text texts start end body.Emphasis kind e = absurd (let q : None ≡ Some kind = e in cc)
-kind-drawn text texts start end body.Strong kind e = absurd (let q : None ≡ Some kind = e in cc)
-kind-drawn text texts start end body.Strikethrough kind e = absurd (let q : None ≡ Some kind = e in cc)
-kind-drawn text texts start end body.Superscript kind e = absurd (let q : None ≡ Some kind = e in cc)
-kind-drawn text texts start end body.Subscript kind e = absurd (let q : None ≡ Some kind = e in cc)
-kind-drawn text texts start end (body.Math x0 x1) kind e = absurd (let q : None ≡ Some kind = e in cc)
-kind-drawn text texts start end (body.Code x0) kind e = absurd (let q : None ≡ Some kind = e in cc)
-kind-drawn text texts start end (body.FootnoteReference x0) kind e = absurd (let q : None ≡ Some kind = e in cc)
-kind-drawn text texts start end (body.OwnedInlineHtml x0) kind e = absurd (let q : None ≡ Some kind = e in cc)
 kind-drawn text texts start end (body.SynthesizeText x0) kind e = ap is_definition (sym (spelt-kind document.OwnedText (text_at texts x0.0) kind e).1)
-kind-drawn text texts start end (body.Link x0) kind e = absurd (let q : None ≡ Some kind = e in cc)
-kind-drawn text texts start end (body.Image x0) kind e = absurd (let q : None ≡ Some kind = e in cc)
 kind-drawn text texts start end (body.TaskListMarker x0) kind e = ap is_definition (sym (same_Some (document.TaskMarker x0) kind e))
-kind-drawn text texts start end body.InlineHtml kind e = absurd (let q : None ≡ Some kind = e in cc)
-kind-drawn text texts start end (body.SynthesizeChar x0) kind e = ap is_definition (sym (same_Some (document.OwnedText (encode_utf8 x0)) kind e))
 kind-drawn text texts start end body.Html kind e = ap is_definition (sym (same_Some (document.Html (slice text start end)) kind e))
 kind-drawn text texts start end (body.Text x0) kind e = ap is_definition (sym (same_Some (document.Text (slice text start end)) kind e))
-kind-drawn text texts start end body.SoftBreak kind e = absurd (let q : None ≡ Some kind = e in cc)
-kind-drawn text texts start end (body.HardBreak x0) kind e = absurd (let q : None ≡ Some kind = e in cc)
-kind-drawn text texts start end body.Root kind e = absurd (let q : None ≡ Some kind = e in cc)
 kind-drawn text texts start end body.Paragraph kind e = ap is_definition (sym (same_Some document.Paragraph kind e))
 kind-drawn text texts start end body.TightParagraph kind e = ap is_definition (sym (same_Some document.TightParagraph kind e))
 kind-drawn text texts start end body.Rule kind e = ap is_definition (sym (same_Some document.ThematicBreak kind e))
@@ -64,7 +39,6 @@ kind-drawn text texts start end (body.ListItem x0) kind e = ap is_definition (sy
 kind-drawn text texts start end (body.FootnoteDefinition x0) kind e = ap is_definition (sym (spelt-kind document.FootnoteDefinition (text_at texts x0.0) kind e).1)
 kind-drawn text texts start end (body.MetadataBlock x0) kind e = ap is_definition (sym (same_Some (document.MetadataBlock (shown_metadata_block_kind x0)) kind e))
 kind-drawn text texts start end (body.DefinitionList x0) kind e = ap is_definition (sym (same_Some (document.DefinitionList (is_tight x0)) kind e))
-kind-drawn text texts start end body.MaybeDefinitionListTitle kind e = absurd (let q : None ≡ Some kind = e in cc)
 kind-drawn text texts start end body.DefinitionListTitle kind e = ap is_definition (sym (same_Some document.DefinitionListTitle kind e))
 kind-drawn text texts start end (body.DefinitionListDefinition x0) kind e = ap is_definition (sym (same_Some document.DefinitionListDefinition kind e))
 kind-drawn text texts start end (body.Table x0) kind e = ap is_definition (sym (spelt-kind (λ row. document.Table (columns_of (delimiter_row row))) (text_at texts x0.0) kind e).1)
@@ -82,34 +56,10 @@ task_kind (TaskMarker is_checked) = Some is_checked
 task_kind _ = None
 
 kind-task : (text : List ℕ) (texts : List CowStr) (start end : ℕ) (b : ItemBody) (kind : BlockKind) → kind_over text texts start end (shape b) ≡ Some kind → task_kind kind ≡ task_body b
-kind-task text texts start end (body.MaybeEmphasis x0 x1 x2) kind e = absurd (let q : None ≡ Some kind = e in cc)
-kind-task text texts start end (body.MaybeMath x0 x1 x2) kind e = absurd (let q : None ≡ Some kind = e in cc)
-kind-task text texts start end (body.MaybeSmartQuote x0 x1 x2) kind e = absurd (let q : None ≡ Some kind = e in cc)
-kind-task text texts start end (body.MaybeCode x0 x1) kind e = absurd (let q : None ≡ Some kind = e in cc)
-kind-task text texts start end body.MaybeHtml kind e = absurd (let q : None ≡ Some kind = e in cc)
-kind-task text texts start end body.MaybeLinkOpen kind e = absurd (let q : None ≡ Some kind = e in cc)
-kind-task text texts start end (body.MaybeLinkClose x0) kind e = absurd (let q : None ≡ Some kind = e in cc)
-kind-task text texts start end body.MaybeImage kind e = absurd (let q : None ≡ Some kind = e in cc)
-kind-task text texts start end body.Emphasis kind e = absurd (let q : None ≡ Some kind = e in cc)
-kind-task text texts start end body.Strong kind e = absurd (let q : None ≡ Some kind = e in cc)
-kind-task text texts start end body.Strikethrough kind e = absurd (let q : None ≡ Some kind = e in cc)
-kind-task text texts start end body.Superscript kind e = absurd (let q : None ≡ Some kind = e in cc)
-kind-task text texts start end body.Subscript kind e = absurd (let q : None ≡ Some kind = e in cc)
-kind-task text texts start end (body.Math x0 x1) kind e = absurd (let q : None ≡ Some kind = e in cc)
-kind-task text texts start end (body.Code x0) kind e = absurd (let q : None ≡ Some kind = e in cc)
-kind-task text texts start end (body.FootnoteReference x0) kind e = absurd (let q : None ≡ Some kind = e in cc)
-kind-task text texts start end (body.OwnedInlineHtml x0) kind e = absurd (let q : None ≡ Some kind = e in cc)
 kind-task text texts start end (body.SynthesizeText x0) kind e = ap task_kind (sym (spelt-kind document.OwnedText (text_at texts x0.0) kind e).1)
-kind-task text texts start end (body.Link x0) kind e = absurd (let q : None ≡ Some kind = e in cc)
-kind-task text texts start end (body.Image x0) kind e = absurd (let q : None ≡ Some kind = e in cc)
 kind-task text texts start end (body.TaskListMarker x0) kind e = ap task_kind (sym (same_Some (document.TaskMarker x0) kind e))
-kind-task text texts start end body.InlineHtml kind e = absurd (let q : None ≡ Some kind = e in cc)
-kind-task text texts start end (body.SynthesizeChar x0) kind e = ap task_kind (sym (same_Some (document.OwnedText (encode_utf8 x0)) kind e))
 kind-task text texts start end body.Html kind e = ap task_kind (sym (same_Some (document.Html (slice text start end)) kind e))
 kind-task text texts start end (body.Text x0) kind e = ap task_kind (sym (same_Some (document.Text (slice text start end)) kind e))
-kind-task text texts start end body.SoftBreak kind e = absurd (let q : None ≡ Some kind = e in cc)
-kind-task text texts start end (body.HardBreak x0) kind e = absurd (let q : None ≡ Some kind = e in cc)
-kind-task text texts start end body.Root kind e = absurd (let q : None ≡ Some kind = e in cc)
 kind-task text texts start end body.Paragraph kind e = ap task_kind (sym (same_Some document.Paragraph kind e))
 kind-task text texts start end body.TightParagraph kind e = ap task_kind (sym (same_Some document.TightParagraph kind e))
 kind-task text texts start end body.Rule kind e = ap task_kind (sym (same_Some document.ThematicBreak kind e))
@@ -124,7 +74,6 @@ kind-task text texts start end (body.ListItem x0) kind e = ap task_kind (sym (sa
 kind-task text texts start end (body.FootnoteDefinition x0) kind e = ap task_kind (sym (spelt-kind document.FootnoteDefinition (text_at texts x0.0) kind e).1)
 kind-task text texts start end (body.MetadataBlock x0) kind e = ap task_kind (sym (same_Some (document.MetadataBlock (shown_metadata_block_kind x0)) kind e))
 kind-task text texts start end (body.DefinitionList x0) kind e = ap task_kind (sym (same_Some (document.DefinitionList (is_tight x0)) kind e))
-kind-task text texts start end body.MaybeDefinitionListTitle kind e = absurd (let q : None ≡ Some kind = e in cc)
 kind-task text texts start end body.DefinitionListTitle kind e = ap task_kind (sym (same_Some document.DefinitionListTitle kind e))
 kind-task text texts start end (body.DefinitionListDefinition x0) kind e = ap task_kind (sym (same_Some document.DefinitionListDefinition kind e))
 kind-task text texts start end (body.Table x0) kind e = ap task_kind (sym (spelt-kind (λ row. document.Table (columns_of (delimiter_row row))) (text_at texts x0.0) kind e).1)

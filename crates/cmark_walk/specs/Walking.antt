@@ -329,7 +329,6 @@ has_texts _ = false
 -- a text that is written nowhere in the source
 abbrev pub is_synthesized : ItemBody → Bool
 is_synthesized (body.SynthesizeText index) = true
-is_synthesized (body.SynthesizeChar c) = true
 is_synthesized _ = false
 
 -- an item has a text that is kept apart from the source, or an element has a text of its own

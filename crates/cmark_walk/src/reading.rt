@@ -4,7 +4,7 @@ use cmark_text::{Event, PlainTag, Short, Tag};
 use std::ops::Range;
 
 /// An event, and the bytes of the text that it comes from. A start and its end have the range of the whole element.
-#[derive(Debug, Drop)]
+#[derive(Drop)]
 pub struct Ranged<'a> {
     /// The event.
     pub event: Event<'a>,
@@ -13,7 +13,7 @@ pub struct Ranged<'a> {
 }
 
 /// What a walk meets next.
-#[derive(Debug, Drop)]
+#[derive(Drop)]
 pub enum Met<'a> {
     /// An event of the blocks.
     Event(Ranged<'a>),
@@ -27,7 +27,7 @@ pub enum Met<'a> {
 }
 
 /// What a walk meets next, of which no event is made.
-#[derive(Clone, Copy, Debug)]
+#[derive(Clone, Copy)]
 pub enum Brief<'a> {
     /// An event that owns nothing.
     Short(Short<'a>),
@@ -44,7 +44,7 @@ pub enum Brief<'a> {
 
 /// How far a walk is at the node in its focus. A leaf's lines are met all at once, so the walk goes past them without going down to
 /// them.
-#[derive(Clone, Copy, Debug, PartialEq, Eq)]
+#[derive(Clone, Copy)]
 pub(crate) enum Stage {
     /// Before it.
     Before,

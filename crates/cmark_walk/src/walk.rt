@@ -454,7 +454,7 @@ impl<'a> Walk<'a> {
         match item.body {
             ItemBody::Text { .. } => Ok(Some(Event::Text(self.slice(item)))),
             ItemBody::Html => Ok(Some(Event::Html(self.slice(item)))),
-            ItemBody::SynthesizeText(_) | ItemBody::SynthesizeChar(_) => {
+            ItemBody::SynthesizeText(_) => {
                 let event = self.synthesized(item)?;
                 Ok(Some(event))
             }
@@ -484,7 +484,6 @@ impl<'a> Walk<'a> {
     {
         let text = match item.body {
             ItemBody::SynthesizeText(index) => self.allocations[index].clone(self.alloc)?,
-            ItemBody::SynthesizeChar(c) => CowStr::from(c),
             // The caller asks for no other item.
             _ => CowStr::Borrowed(""),
         };

@@ -13,7 +13,7 @@ use std::io::{ErrorKind, Read, Write};
 pub const PATIENCE: u64 = 1_048_576;
 
 /// What became of the calls of a [`Watched`] since its last reset.
-#[derive(Clone, Copy, Debug, PartialEq, Eq)]
+#[derive(Clone, Copy)]
 pub struct Notes {
     /// Whether a call failed. A write of no byte and an interrupted flush failed, an interrupted read or write did not.
     pub failed: bool,

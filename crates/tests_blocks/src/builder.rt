@@ -21,7 +21,7 @@ fn nodes_are_closed_at_their_ends(rt: HostRuntime) -> Result<(), Fail> {
     if let Some(ix) = tree.cur() {
         let quote = *tree.item(ix);
         assert_eq!(rt; (quote.start, quote.end), (0, 14));
-        assert_eq!(rt; quote.body, ItemBody::BlockQuote(None));
+        assert!(rt; matches!(quote.body, ItemBody::BlockQuote(None)));
         assert!(rt; tree.child(ix).is_some());
     }
     Ok(())

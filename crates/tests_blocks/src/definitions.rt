@@ -4,66 +4,51 @@ use cmark_definitions::{Definition, is_settled, link_definition, scan_definition
 use cmark_text::{BasicEntities, CowStr};
 use std::test::Fail;
 
+/// A definition's label, destination and title, and where it ends.
+fn parts<'a>(found: Definition<'a>) -> (&'a str, &'a str, Option<&'a str>, usize) {
+    (found.label, found.destination, found.title, found.end)
+}
+
 #[test]
 fn a_definition_with_a_title(rt: HostRuntime) -> Result<(), Fail> {
     let found = scan_definition("[foo]: /url \"title\"\nbar");
-    let definition = Definition {
-        label: "foo",
-        destination: "/url",
-        title: Some("title"),
-        end: 19,
-    };
-    assert_eq!(rt; found, Some(definition));
+    let wanted = ("foo", "/url", Some("title"), 19);
+    assert_eq!(rt; found.map(parts), Some(wanted));
     Ok(())
 }
 
 #[test]
 fn a_definition_over_lines(rt: HostRuntime) -> Result<(), Fail> {
     let found = scan_definition("[Foo*bar\\]]:\r\n<my_(url)>\r\n'title (with parens)'\r\n");
-    let definition = Definition {
-        label: "Foo*bar\\]",
-        destination: "my_(url)",
-        title: Some("title (with parens)"),
-        end: 47,
-    };
-    assert_eq!(rt; found, Some(definition));
+    let wanted = ("Foo*bar\\]", "my_(url)", Some("title (with parens)"), 47);
+    assert_eq!(rt; found.map(parts), Some(wanted));
     Ok(())
 }
 
 #[test]
 fn a_definition_without_a_title(rt: HostRuntime) -> Result<(), Fail> {
     let found = scan_definition("[foo]: /url\n\"title\" ok");
-    let definition = Definition {
-        label: "foo",
-        destination: "/url",
-        title: None,
-        end: 11,
-    };
-    assert_eq!(rt; found, Some(definition));
+    let wanted = ("foo", "/url", None, 11);
+    assert_eq!(rt; found.map(parts), Some(wanted));
     Ok(())
 }
 
 #[test]
 fn an_empty_destination_in_brackets(rt: HostRuntime) -> Result<(), Fail> {
     let found = scan_definition("[\u{e9}]: <>");
-    let definition = Definition {
-        label: "\u{e9}",
-        destination: "",
-        title: None,
-        end: 8,
-    };
-    assert_eq!(rt; found, Some(definition));
+    let wanted = ("\u{e9}", "", None, 8);
+    assert_eq!(rt; found.map(parts), Some(wanted));
     Ok(())
 }
 
 #[test]
 fn no_definitions(rt: HostRuntime) -> Result<(), Fail> {
-    assert_eq!(rt; scan_definition("[foo]:\n"), None);
-    assert_eq!(rt; scan_definition("[foo]: <bar>(baz)"), None);
-    assert_eq!(rt; scan_definition("[foo]: /url \"title\" ok"), None);
-    assert_eq!(rt; scan_definition("[\n ]: /uri"), None);
-    assert_eq!(rt; scan_definition("[foo"), None);
-    assert_eq!(rt; scan_definition("foo]: /url"), None);
+    assert!(rt; scan_definition("[foo]:\n").is_none());
+    assert!(rt; scan_definition("[foo]: <bar>(baz)").is_none());
+    assert!(rt; scan_definition("[foo]: /url \"title\" ok").is_none());
+    assert!(rt; scan_definition("[\n ]: /uri").is_none());
+    assert!(rt; scan_definition("[foo").is_none());
+    assert!(rt; scan_definition("foo]: /url").is_none());
     Ok(())
 }
 

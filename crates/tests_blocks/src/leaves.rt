@@ -26,19 +26,27 @@ fn last_item(builder: Builder<'_>) -> Option<Item>
     Some(*tree.item(ix))
 }
 
-fn item(start: usize, end: usize, body: ItemBody) -> Option<Item> {
-    Some(Item { start, end, body })
+/// Whether a node is there, and is a text over these bytes whose first byte is not escaped.
+fn is_text(found: Option<Item>, start: usize, end: usize) -> bool {
+    match found {
+        Some(item) => {
+            let is_plain = matches!(
+                item.body,
+                ItemBody::Text {
+                    backslash_escaped: false
+                }
+            );
+            is_plain && item.start == start && item.end == end
+        }
+        None => false,
+    }
 }
-
-const TEXT: ItemBody = ItemBody::Text {
-    backslash_escaped: false,
-};
 
 #[test]
 fn the_last_line_stands_as_it_is_without_the_blanks_behind_it(rt: HostRuntime) -> Result<(), Fail> {
     let mut builder = Builder::new(rt.alloc())?;
     draw_last_lines(&mut builder, 1, first_line(" a\\* &amp; b \n"))?;
-    assert_eq!(rt; last_item(builder), item(1, 12, TEXT));
+    assert!(rt; is_text(last_item(builder), 1, 12));
     Ok(())
 }
 
@@ -46,7 +54,7 @@ fn the_last_line_stands_as_it_is_without_the_blanks_behind_it(rt: HostRuntime) -
 fn a_line_stands_as_it_is_with_its_line_ending(rt: HostRuntime) -> Result<(), Fail> {
     let mut builder = Builder::new(rt.alloc())?;
     draw_lines(&mut builder, 0, first_line("foo  \nbaz"))?;
-    assert_eq!(rt; last_item(builder), item(0, 6, TEXT));
+    assert!(rt; is_text(last_item(builder), 0, 6));
     Ok(())
 }
 
@@ -54,7 +62,7 @@ fn a_line_stands_as_it_is_with_its_line_ending(rt: HostRuntime) -> Result<(), Fa
 fn a_closing_sequence_is_no_text(rt: HostRuntime) -> Result<(), Fail> {
     let mut builder = Builder::new(rt.alloc())?;
     draw_heading(&mut builder, first_line("## foo \\# ##  \n"), false)?;
-    assert_eq!(rt; last_item(builder), item(3, 9, TEXT));
+    assert!(rt; is_text(last_item(builder), 3, 9));
     Ok(())
 }
 
@@ -62,9 +70,9 @@ fn a_closing_sequence_is_no_text(rt: HostRuntime) -> Result<(), Fail> {
 fn a_line_of_code_waits(rt: HostRuntime) -> Result<(), Fail> {
     let mut builder = Builder::new(rt.alloc())?;
     let waits = draw_code_line(&mut builder, first_line("\tfoo\r\n"), 2, None)?;
-    assert_eq!(rt; waits, Some(Stretch { start: 5, end: 6 }));
+    assert!(rt; matches!(waits, Some(Stretch { start: 5, end: 6 })));
     draw_stretch(&mut builder, waits)?;
-    assert_eq!(rt; last_item(builder), item(5, 6, TEXT));
+    assert!(rt; is_text(last_item(builder), 5, 6));
     Ok(())
 }
 
@@ -72,6 +80,15 @@ fn a_line_of_code_waits(rt: HostRuntime) -> Result<(), Fail> {
 fn a_line_of_html_is_a_node(rt: HostRuntime) -> Result<(), Fail> {
     let mut builder = Builder::new(rt.alloc())?;
     draw_html_line(&mut builder, first_line("<table>\n"))?;
-    assert_eq!(rt; last_item(builder), item(0, 8, ItemBody::Html));
+    assert!(rt;
+        matches!(
+            last_item(builder),
+            Some(Item {
+                start: 0,
+                end: 8,
+                body: ItemBody::Html,
+            })
+        )
+    );
     Ok(())
 }

@@ -2,8 +2,8 @@
 
 use bitflags::Flags;
 use cmark_lines::{
-    Container, ContainerStart, FootnoteStart, Further, HtmlKind, ItemStart, LineRest, Opening,
-    Verbatim, ends_at_once, interrupts, underlines, what_opens,
+    Container, ContainerStart, FootnoteStart, Further, HtmlKind, LineRest, Opening, Verbatim,
+    ends_at_once, interrupts, underlines, what_opens,
 };
 use cmark_text::{BlockQuoteKind, HeadingLevel, Options};
 use std::test::Fail;
@@ -17,10 +17,10 @@ fn inside<'a>(rest: LineRest<'a>) -> LineRest<'a> {
     }
 }
 
-/// The list item that the line begins, if it begins one.
-fn item(rest: LineRest<'_>) -> Option<ItemStart> {
+/// The character, the number and the width of the list item that the line begins, if it begins one.
+fn item(rest: LineRest<'_>) -> Option<(u8, Option<u64>, usize)> {
     match what_opens(rest, Options::empty()) {
-        Opening::Nests(ContainerStart::Item(item, _)) => Some(item),
+        Opening::Nests(ContainerStart::Item(item, _)) => Some((item.mark, item.number, item.width)),
         _ => None,
     }
 }
@@ -94,14 +94,7 @@ fn a_tab_behind_a_marker(rt: HostRuntime) -> Result<(), Fail> {
     let quote = inside(LineRest::new(b">\t\tfoo", 0));
     assert_eq!(rt; (begins_code(quote), quote.indent_upto(9)), (true, 6));
     let line = LineRest::new(b"-\t\tfoo", 0);
-    assert_eq!(rt;
-        item(line),
-        Some(ItemStart {
-            mark: b'-',
-            number: None,
-            width: 2
-        })
-    );
+    assert_eq!(rt; item(line), Some((b'-', None, 2)));
     assert_eq!(rt;
         (begins_code(inside(line)), inside(line).indent_upto(9)),
         (true, 6)
@@ -113,14 +106,7 @@ fn a_tab_behind_a_marker(rt: HostRuntime) -> Result<(), Fail> {
 fn a_numbered_item_in_a_quote(rt: HostRuntime) -> Result<(), Fail> {
     // CommonMark 0.31.2, example 259
     let line = inside(inside(LineRest::new(b"   > > 1.  one", 0)));
-    assert_eq!(rt;
-        item(line),
-        Some(ItemStart {
-            mark: b'.',
-            number: Some(1),
-            width: 4
-        })
-    );
+    assert_eq!(rt; item(line), Some((b'.', Some(1), 4)));
     assert_eq!(rt; inside(line).begin(), 11);
     Ok(())
 }
@@ -321,22 +307,26 @@ fn setext_underlines(rt: HostRuntime) -> Result<(), Fail> {
 #[test]
 fn further_lines_of_code(rt: HostRuntime) -> Result<(), Fail> {
     let code = Verbatim::Indented;
-    assert_eq!(rt; code.further(LineRest::new(b"    a", 0)), Further::GoesOn);
-    assert_eq!(rt; code.further(LineRest::new(b"      ", 0)), Further::Waits);
-    assert_eq!(rt; code.further(LineRest::new(b"  a", 0)), Further::Stops);
+    assert!(rt; matches!(code.further(LineRest::new(b"    a", 0)), Further::GoesOn));
+    assert!(rt; matches!(code.further(LineRest::new(b"      ", 0)), Further::Waits));
+    assert!(rt; matches!(code.further(LineRest::new(b"  a", 0)), Further::Stops));
     let fenced = Verbatim::Fenced {
         mark: b'`',
         size: 4,
         indent: 0,
     };
-    assert_eq!(rt; fenced.further(LineRest::new(b"```", 0)), Further::GoesOn);
-    assert_eq!(rt;
-        fenced.further(LineRest::new(b"  ````` ", 0)),
-        Further::Closes
+    assert!(rt; matches!(fenced.further(LineRest::new(b"```", 0)), Further::GoesOn));
+    assert!(rt;
+        matches!(
+            fenced.further(LineRest::new(b"  ````` ", 0)),
+            Further::Closes
+        )
     );
-    assert_eq!(rt;
-        fenced.further(LineRest::new(b"    ````", 0)),
-        Further::GoesOn
+    assert!(rt;
+        matches!(
+            fenced.further(LineRest::new(b"    ````", 0)),
+            Further::GoesOn
+        )
     );
     Ok(())
 }
@@ -344,13 +334,15 @@ fn further_lines_of_code(rt: HostRuntime) -> Result<(), Fail> {
 #[test]
 fn further_lines_of_html(rt: HostRuntime) -> Result<(), Fail> {
     let block = Verbatim::Html(HtmlKind::Block);
-    assert_eq!(rt; block.further(LineRest::new(b"</div>", 0)), Further::GoesOn);
-    assert_eq!(rt; block.further(LineRest::new(b" ", 0)), Further::Stops);
+    assert!(rt; matches!(block.further(LineRest::new(b"</div>", 0)), Further::GoesOn));
+    assert!(rt; matches!(block.further(LineRest::new(b" ", 0)), Further::Stops));
     let comment = Verbatim::Html(HtmlKind::Comment);
-    assert_eq!(rt; comment.further(LineRest::new(b"", 0)), Further::GoesOn);
-    assert_eq!(rt;
-        comment.further(LineRest::new(b"a --> b", 0)),
-        Further::Closes
+    assert!(rt; matches!(comment.further(LineRest::new(b"", 0)), Further::GoesOn));
+    assert!(rt;
+        matches!(
+            comment.further(LineRest::new(b"a --> b", 0)),
+            Further::Closes
+        )
     );
     assert_eq!(rt;
         ends_at_once(HtmlKind::Comment, LineRest::new(b"<!-- a -->", 0)),
@@ -368,11 +360,10 @@ fn a_footnote_definition_takes_the_blanks_behind_its_marker(rt: HostRuntime) -> 
     let line = LineRest::new(b" [^a b]: \tc", 0);
     assert_eq!(rt; footnote(line, Options::empty()).is_some(), false);
     let found = footnote(line, Options::ENABLE_FOOTNOTES);
-    let start = FootnoteStart {
-        label_size: 3,
-        old: false,
-    };
-    assert_eq!(rt; found.map(|it| it.0), Some(start));
+    assert_eq!(rt;
+        found.map(|it| (it.0.label_size, it.0.old)),
+        Some((3, false))
+    );
     assert_eq!(rt; found.map(|it| it.1.begin()), Some(10));
     let old = footnote(line, Options::ENABLE_OLD_FOOTNOTES);
     assert_eq!(rt; old.map(|it| it.0.old), Some(true));

@@ -69,14 +69,8 @@ fn a_tight_paragraph_is_met_as_its_lines(rt: HostRuntime) -> Result<(), Fail> {
     assert!(rt; gives(&mut walk, &mut lines, Event::Start(Tag::Item))?);
     assert!(rt; matches!(walk.next(&mut lines)?, Met::Leaf { is_cell: false }));
     assert_eq!(rt; lines.len(), 1);
-    assert_eq!(rt;
-        lines[0],
-        LeafLine {
-            start: 0,
-            stop: 1,
-            past: 1
-        }
-    );
+    let line = lines[0];
+    assert_eq!(rt; (line.start, line.stop, line.past), (0, 1, 1));
     assert!(rt; gives(&mut walk, &mut lines, Event::End(TagEnd::Item))?);
     assert!(rt; gives(&mut walk, &mut lines, Event::End(TagEnd::List(false)))?);
     assert!(rt; matches!(walk.next(&mut lines)?, Met::Over));

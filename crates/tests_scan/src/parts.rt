@@ -4,7 +4,7 @@ ghost use Rattle.cmark_grammar.specs.InlineHtml.{owned_tag_in};
 ghost use Rattle.cmark_scan_parts.specs.Shown.{shown_tag};
 
 use cmark_scan_parts::{
-    HtmlFind, HtmlTag, scan_autolink, scan_entity, scan_footnote_marker, scan_html_block_inner,
+    HtmlTag, scan_autolink, scan_entity, scan_footnote_marker, scan_html_block_inner,
     scan_inline_html_comment, scan_inline_html_processing, scan_link_dest, scan_link_label_rest,
     scan_rev_while, scan_tag, scan_while, scan_wikilink_pipe, unescape,
 };
@@ -46,65 +46,35 @@ fn scans_tag_over_lines(rt: HostRuntime) -> Result<(), Fail> {
 #[test]
 fn finds_comment(rt: HostRuntime) -> Result<(), Fail> {
     let find = scan_inline_html_comment(b"<!-- a -->b", 2);
-    assert_eq!(rt;
-        find,
-        HtmlFind {
-            end: Some(10),
-            passed: 8
-        }
-    );
+    assert_eq!(rt; (find.end, find.passed), (Some(10), 8));
     Ok(())
 }
 
 #[test]
 fn finds_comment_closed_at_once(rt: HostRuntime) -> Result<(), Fail> {
     let find = scan_inline_html_comment(b"<!-->", 2);
-    assert_eq!(rt;
-        find,
-        HtmlFind {
-            end: Some(5),
-            passed: 3
-        }
-    );
+    assert_eq!(rt; (find.end, find.passed), (Some(5), 3));
     Ok(())
 }
 
 #[test]
 fn finds_no_end_of_comment(rt: HostRuntime) -> Result<(), Fail> {
     let find = scan_inline_html_comment(b"<!-- a", 2);
-    assert_eq!(rt;
-        find,
-        HtmlFind {
-            end: None,
-            passed: 4
-        }
-    );
+    assert_eq!(rt; (find.end, find.passed), (None, 4));
     Ok(())
 }
 
 #[test]
 fn finds_first_end_of_cdata(rt: HostRuntime) -> Result<(), Fail> {
     let find = scan_inline_html_comment(b"<![CDATA[a]]>b]]>", 2);
-    assert_eq!(rt;
-        find,
-        HtmlFind {
-            end: Some(13),
-            passed: 11
-        }
-    );
+    assert_eq!(rt; (find.end, find.passed), (Some(13), 11));
     Ok(())
 }
 
 #[test]
 fn finds_processing_instruction(rt: HostRuntime) -> Result<(), Fail> {
     let find = scan_inline_html_processing(b"<?a>?>b", 2);
-    assert_eq!(rt;
-        find,
-        HtmlFind {
-            end: Some(6),
-            passed: 4
-        }
-    );
+    assert_eq!(rt; (find.end, find.passed), (Some(6), 4));
     Ok(())
 }
 

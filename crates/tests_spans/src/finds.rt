@@ -2,36 +2,36 @@
 
 use bitflags::Flags;
 use cmark_finds::{
-    CodeSpan, Label, LineBreak, LinkTail, LoopInstruction, code_span, code_text, collapsed_end,
+    CodeSpan, LineBreak, LinkTail, LoopInstruction, code_span, code_text, collapsed_end,
     inline_html, is_bracketed_label, iterate_special_bytes, line_break, link_tail, next_special,
     reference_label, special_bytes, title_text,
 };
 use cmark_text::{BasicEntities, CowStr, Options};
 use std::test::Fail;
 
-fn code(content_start: usize, content_end: usize, end: usize) -> Option<CodeSpan> {
-    Some(CodeSpan {
-        content_start,
-        content_end,
-        end,
-    })
+/// Where the content of a code span begins and ends, and where the span ends.
+fn places(span: CodeSpan) -> (usize, usize, usize) {
+    (span.content_start, span.content_end, span.end)
 }
 
 #[test]
 fn code_spans(rt: HostRuntime) -> Result<(), Fail> {
-    assert_eq!(rt; code_span("`foo`", 0), code(1, 4, 5));
-    assert_eq!(rt; code_span("`` foo ` bar ``", 0), code(2, 13, 15));
-    assert_eq!(rt; code_span("`foo``bar``", 4), code(6, 9, 11));
-    assert_eq!(rt; code_span("`foo\\`bar`", 0), code(1, 5, 6));
+    assert_eq!(rt; code_span("`foo`", 0).map(places), Some((1, 4, 5)));
+    assert_eq!(rt;
+        code_span("`` foo ` bar ``", 0).map(places),
+        Some((2, 13, 15))
+    );
+    assert_eq!(rt; code_span("`foo``bar``", 4).map(places), Some((6, 9, 11)));
+    assert_eq!(rt; code_span("`foo\\`bar`", 0).map(places), Some((1, 5, 6)));
     Ok(())
 }
 
 #[test]
 fn no_code_spans(rt: HostRuntime) -> Result<(), Fail> {
-    assert_eq!(rt; code_span("```foo``", 0), None);
-    assert_eq!(rt; code_span("`foo", 0), None);
-    assert_eq!(rt; code_span("`foo``bar``", 0), None);
-    assert_eq!(rt; code_span("foo`bar`", 0), None);
+    assert!(rt; code_span("```foo``", 0).is_none());
+    assert!(rt; code_span("`foo", 0).is_none());
+    assert!(rt; code_span("`foo``bar``", 0).is_none());
+    assert!(rt; code_span("foo`bar`", 0).is_none());
     Ok(())
 }
 
@@ -85,25 +85,25 @@ fn other_html(rt: HostRuntime) -> Result<(), Fail> {
     Ok(())
 }
 
-fn tail<'t>(destination: &'t str, title: Option<&'t str>, end: usize) -> Option<LinkTail<'t>> {
-    Some(LinkTail {
-        destination,
-        title,
-        end,
-    })
+/// The destination and the title of a link's tail, and where it ends.
+fn parts<'t>(tail: LinkTail<'t>) -> (&'t str, Option<&'t str>, usize) {
+    (tail.destination, tail.title, tail.end)
 }
 
 #[test]
 fn link_tails(rt: HostRuntime) -> Result<(), Fail> {
     assert_eq!(rt;
-        link_tail("[link](/uri \"title\")", 6),
-        tail("/uri", Some("title"), 20)
+        link_tail("[link](/uri \"title\")", 6).map(parts),
+        Some(("/uri", Some("title"), 20))
     );
-    assert_eq!(rt; link_tail("[link]()x", 6), tail("", None, 8));
-    assert_eq!(rt; link_tail("[a](<b)c>)", 3), tail("b)c", None, 10));
+    assert_eq!(rt; link_tail("[link]()x", 6).map(parts), Some(("", None, 8)));
     assert_eq!(rt;
-        link_tail("[link](foo(and(bar)))", 6),
-        tail("foo(and(bar))", None, 21)
+        link_tail("[a](<b)c>)", 3).map(parts),
+        Some(("b)c", None, 10))
+    );
+    assert_eq!(rt;
+        link_tail("[link](foo(and(bar)))", 6).map(parts),
+        Some(("foo(and(bar))", None, 21))
     );
     Ok(())
 }
@@ -111,29 +111,32 @@ fn link_tails(rt: HostRuntime) -> Result<(), Fail> {
 #[test]
 fn link_tails_over_lines(rt: HostRuntime) -> Result<(), Fail> {
     assert_eq!(rt;
-        link_tail("[link](   /uri\n\"title\"  )", 6),
-        tail("/uri", Some("title"), 25)
+        link_tail("[link](   /uri\n\"title\"  )", 6).map(parts),
+        Some(("/uri", Some("title"), 25))
     );
     assert_eq!(rt;
-        link_tail("[a](\r\nb\r'c\rd' )", 3),
-        tail("b", Some("c\rd"), 15)
+        link_tail("[a](\r\nb\r'c\rd' )", 3).map(parts),
+        Some(("b", Some("c\rd"), 15))
     );
-    assert_eq!(rt; link_tail("[a](<b>\"c\")", 3), tail("b", Some("c"), 11));
     assert_eq!(rt;
-        link_tail("[link](\"title\")", 6),
-        tail("\"title\"", None, 15)
+        link_tail("[a](<b>\"c\")", 3).map(parts),
+        Some(("b", Some("c"), 11))
+    );
+    assert_eq!(rt;
+        link_tail("[link](\"title\")", 6).map(parts),
+        Some(("\"title\"", None, 15))
     );
     Ok(())
 }
 
 #[test]
 fn no_link_tails(rt: HostRuntime) -> Result<(), Fail> {
-    assert_eq!(rt; link_tail("[link](/my uri)", 6), None);
-    assert_eq!(rt; link_tail("[link](foo\nbar)", 6), None);
-    assert_eq!(rt; link_tail("[link](foo(and(bar))", 6), None);
-    assert_eq!(rt; link_tail("[link](/url \"title \"and\" title\")", 6), None);
-    assert_eq!(rt; link_tail("[link] (/uri)", 6), None);
-    assert_eq!(rt; link_tail("[a](<b\nc>)", 3), None);
+    assert!(rt; link_tail("[link](/my uri)", 6).is_none());
+    assert!(rt; link_tail("[link](foo\nbar)", 6).is_none());
+    assert!(rt; link_tail("[link](foo(and(bar))", 6).is_none());
+    assert!(rt; link_tail("[link](/url \"title \"and\" title\")", 6).is_none());
+    assert!(rt; link_tail("[link] (/uri)", 6).is_none());
+    assert!(rt; link_tail("[a](<b\nc>)", 3).is_none());
     Ok(())
 }
 
@@ -150,13 +153,10 @@ fn titles(rt: HostRuntime) -> Result<(), Fail> {
 
 #[test]
 fn labels(rt: HostRuntime) -> Result<(), Fail> {
-    let label = Label {
-        label: "bar\\]",
-        end: 12,
-    };
-    assert_eq!(rt; reference_label("[foo][bar\\]]", 5), Some(label));
-    assert_eq!(rt; reference_label("[foo][ref[]", 5), None);
-    assert_eq!(rt; reference_label("[foo][]", 5), None);
+    let label = reference_label("[foo][bar\\]]", 5);
+    assert_eq!(rt; label.map(|it| (it.label, it.end)), Some(("bar\\]", 12)));
+    assert!(rt; reference_label("[foo][ref[]", 5).is_none());
+    assert!(rt; reference_label("[foo][]", 5).is_none());
     assert_eq!(rt; collapsed_end("[foo][]", 5), Some(7));
     assert_eq!(rt; collapsed_end("[foo] []", 5), None);
     Ok(())
@@ -172,31 +172,34 @@ fn bracketed_labels(rt: HostRuntime) -> Result<(), Fail> {
     Ok(())
 }
 
-fn line(is_hard: bool, start: usize, end: usize) -> Option<LineBreak> {
-    Some(LineBreak {
-        is_hard,
-        start,
-        end,
-    })
+/// Whether a line break is hard, and where it begins and ends.
+fn around(found: LineBreak) -> (bool, usize, usize) {
+    (found.is_hard, found.start, found.end)
 }
 
 #[test]
 fn line_breaks(rt: HostRuntime) -> Result<(), Fail> {
-    assert_eq!(rt; line_break("foo  \nbaz", 3), line(true, 3, 6));
-    assert_eq!(rt; line_break("foo\t  \r\nbaz", 3), line(true, 3, 8));
-    assert_eq!(rt; line_break("foo\\\nbaz", 3), line(true, 3, 5));
-    assert_eq!(rt; line_break("foo\nbaz", 3), line(false, 3, 4));
-    assert_eq!(rt; line_break("foo \rbaz", 3), line(false, 4, 5));
-    assert_eq!(rt; line_break("foo  \t\nbaz", 3), line(false, 6, 7));
+    assert_eq!(rt; line_break("foo  \nbaz", 3).map(around), Some((true, 3, 6)));
+    assert_eq!(rt;
+        line_break("foo\t  \r\nbaz", 3).map(around),
+        Some((true, 3, 8))
+    );
+    assert_eq!(rt; line_break("foo\\\nbaz", 3).map(around), Some((true, 3, 5)));
+    assert_eq!(rt; line_break("foo\nbaz", 3).map(around), Some((false, 3, 4)));
+    assert_eq!(rt; line_break("foo \rbaz", 3).map(around), Some((false, 4, 5)));
+    assert_eq!(rt;
+        line_break("foo  \t\nbaz", 3).map(around),
+        Some((false, 6, 7))
+    );
     Ok(())
 }
 
 #[test]
 fn no_line_breaks(rt: HostRuntime) -> Result<(), Fail> {
-    assert_eq!(rt; line_break("foo  ", 3), None);
-    assert_eq!(rt; line_break("foo\\", 3), None);
-    assert_eq!(rt; line_break("foo\\ \nbar", 3), None);
-    assert_eq!(rt; line_break("foo  b", 3), None);
+    assert!(rt; line_break("foo  ", 3).is_none());
+    assert!(rt; line_break("foo\\", 3).is_none());
+    assert!(rt; line_break("foo\\ \nbar", 3).is_none());
+    assert!(rt; line_break("foo  b", 3).is_none());
     Ok(())
 }
 
