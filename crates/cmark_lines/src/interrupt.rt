@@ -126,7 +126,8 @@ fn html_interrupts(words: &[u8]) -> bool
     ensures { result ≡ html_interrupts (html_kind words.now) }
 {
     match html_kind(words) {
-        Some(kind) => kind != HtmlKind::Tag,
+        Some(HtmlKind::Tag) => false,
+        Some(_) => true,
         None => false,
     }
 }
