@@ -1,4 +1,4 @@
-use Rattle.std.proofs.Common.{◌≡◌, ◌-◌, List, ℕ, Some, length, drop, sym, ap, subst, ◌∙◌, arith, length-drop}
+use Rattle.std.proofs.Common.{◌≡◌, ◌-◌, Some, length, drop, sym, ap, subst, ◌∙◌, arith}
 use Rattle.std.specs.Str.{IsCharBoundary}
 use Rattle.cmark_grammar.specs.Tags.{behind_ending}
 use Rattle.cmark_definitions.proofs.RestSteps.{EndsAt, ending_at, ending_place, dropped}
