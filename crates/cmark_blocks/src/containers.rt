@@ -86,7 +86,27 @@ impl<'a, E: EntityLookup> Pass<'a, E> {
     }
 
     /// A block begins that is no item.
+    #[inline(always)]
     pub(crate) fn begin_block(&mut self)
+        requires { IsGood self.old }
+        ensures good { IsGood self.new }
+        ensures runs { Steps E.replacement self.old self.new block_begun }
+        ensures tables { self.new.builder.allocations ≡ self.old.builder.allocations }
+        ensures text { self.new.text ≡ self.old.text }
+        ensures blank_lines { self.new.blank_lines ≡ self.old.blank_lines }
+        ensures leaf { self.new.leaf ≡ self.old.leaf }
+        ensures bare { self.new.bare ≡ self.old.bare }
+    {
+        if self.inner.has_list() {
+            self.begin_block_behind_list();
+            return;
+        }
+        self.inner.add_block();
+    }
+
+    /// The same, whether or not a list is open.
+    #[inline(never)]
+    fn begin_block_behind_list(&mut self)
         requires { IsGood self.old }
         ensures good { IsGood self.new }
         ensures runs { Steps E.replacement self.old self.new block_begun }

@@ -64,7 +64,7 @@ impl<'a, E: EntityLookup> Pass<'a, E> {
             return Ok(());
         }
         if rest.is_blank() {
-            self.close_leaf()?;
+            self.close_paragraph(from, last)?;
             self.pass_blank_line(false);
             return Ok(());
         }
@@ -104,6 +104,7 @@ impl<'a, E: EntityLookup> Pass<'a, E> {
     }
 
     /// One more line behind the first one of a link reference definition, to which so many further lines belong.
+    #[inline(always)]
     fn feed_definition(&mut self, left: usize, rest: LineRest<'a>) -> Result<(), AllocError>
         requires good { IsGood self.old }
         requires line { IsRead self.old.text.now rest }
@@ -152,6 +153,7 @@ impl<'a, E: EntityLookup> Pass<'a, E> {
         match self.leaf {
             OpenLeaf::Closed => self.begin(rest),
             OpenLeaf::Paragraph(from, last) => self.feed_paragraph(from, last, rest),
+            OpenLeaf::Definition(left) => self.feed_definition(left, rest),
             _ => self.feed_any_leaf(rest),
         }
     }

@@ -27,7 +27,8 @@ impl<'a, E: EntityLookup> Pass<'a, E> {
     ghost use Rattle.cmark_blocks.specs.Steps.{ClosesLeaf};
 
     /// Closes a paragraph, whose last line this is; the lines that touch it begin at this byte offset.
-    fn close_paragraph(&mut self, from: usize, last: LineRest<'a>) -> Result<(), AllocError>
+    #[inline(always)]
+    pub(crate) fn close_paragraph(&mut self, from: usize, last: LineRest<'a>) -> Result<(), AllocError>
         requires good { IsGood self.old }
         requires is { self.old.leaf ≡ leaf.Paragraph from last }
         ensures good { IsGood self.new }

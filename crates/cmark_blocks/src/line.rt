@@ -13,7 +13,8 @@ use crate::state::{OpenLeaf, Pass};
 use bitflags::Flags;
 use cmark_items::ItemBody;
 use cmark_lines::{
-    ContainerStart, LineRest, Opening, definition_start, reads_definition_lists, what_opens,
+    ContainerStart, LineRest, Opening, begins_with_label, begins_with_text, definition_start,
+    reads_definition_lists, what_opens,
 };
 use cmark_text::{EntityLookup, Options};
 use std::alloc::AllocError;
@@ -217,6 +218,14 @@ impl<'a, E: EntityLookup> Pass<'a, E> {
     {
         if line.is_blank() {
             self.pass_blank_line(false);
+            return Ok(());
+        }
+        if begins_with_text(line) {
+            self.begin_text(line)?;
+            return Ok(());
+        }
+        if begins_with_label(line, self.options) {
+            self.begin_bracket(line)?;
             return Ok(());
         }
         self.begin_blocks(line)?;
