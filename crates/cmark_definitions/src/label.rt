@@ -28,25 +28,18 @@ fn characters(bytes: &[u8]) -> usize
     bytes.iter().filter(|byte| begins_character(**byte)).count()
 }
 
-/// Whether these bytes have as few characters as a label may have. Where there are no more bytes, they are not counted.
-fn has_few_characters(bytes: &[u8]) -> bool
-    ensures { result ≡ nat_le (characters bytes.now) 999 }
-{
-    bytes.len() <= 999 || characters(bytes) <= 999
-}
-
 /// Whether some byte is no white space.
 fn has_words(bytes: &[u8]) -> bool
     ensures { result ≡ nat_lt 0 (count_by (λ b. not (is_white b)) bytes.now) }
 {
-    bytes.iter().any(|byte| !is_white(*byte))
+    0 < bytes.iter().filter(|byte| !is_white(**byte)).count()
 }
 
 /// Whether these bytes are a label: 1 to 999 characters, at least one of them no white space.
 pub fn is_label(bytes: &[u8]) -> bool
     ensures { result ≡ is_label bytes.now }
 {
-    has_few_characters(bytes) && has_words(bytes)
+    characters(bytes) <= 999 && has_words(bytes)
 }
 
 /// The label behind its opening bracket, up to the next bracket, which no backslash escapes and which closes it.
