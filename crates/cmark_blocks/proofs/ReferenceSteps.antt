@@ -1,6 +1,7 @@
 -- The table of link reference definitions, with one more.
 use Rattle.std.proofs.Common.{◌≡◌, ℕ, Bool, true, false, List, [], ◌∷◌, ◌++◌, Option, Some, None, option_map, All, cond, filter, refl, sym, ap, subst, ◌∙◌, true≢false, arith}
-use Rattle.std.specs.Prelude.{bytes_eq, if◌then◌else◌}
+use Rattle.std.specs.Borrow.{Bor}
+use Rattle.std.specs.Prelude.{bytes_eq, if◌then◌else◌, is_some, option_copied}
 use Rattle.std.specs.Char.{is_ascii_whitespace}
 use Rattle.std.specs.List.{slice_split, join_with_byte, onto_first}
 use Rattle.std.proofs.lemmas.List.Elements.{All-cons}
@@ -88,6 +89,10 @@ with-known folded (s ∷ rs) r known e = go (bytes_eq (fold s.label) folded) ref
     go true at q same f = refl
     go false at false same f = with-known folded rs r known f
     go false at true same f = not-found folded rs r (subst (λ bs. bytes_eq bs folded ≡ false) ((bytes_eq-Decides (fold s.label) (fold r.label)).0 same) at)
+
+pub known-some : (known : Option (Bor LinkDef)) (found : Option LinkDef) → is_some known ≡ true → option_copied known ≡ found → (def : LinkDef) × (found ≡ Some def)
+known-some None found e is = absurd (true≢false (sym e))
+known-some (Some def) found e is = (def.now, sym is)
 
 -- where the table has a definition, there is a reference
 pub known-reference : (found : Option LinkDef) (def : LinkDef) (o : Option Reference) → found ≡ Some def → option_map shown_definition found ≡ option_map shown_reference o → (known : Reference) × (o ≡ Some known)

@@ -95,13 +95,8 @@ impl<'a, E: EntityLookup> Pass<'a, E> {
         ensures text { self.new.text ≡ self.old.text }
         ensures blank_lines { self.new.blank_lines ≡ self.old.blank_lines }
     {
-        if self
-            .builder
-            .allocations
-            .refdefs
-            .get(definition.label)?
-            .is_some()
-        {
+        let known = self.builder.allocations.refdefs.get(definition.label)?;
+        if known.is_some() {
             return Ok(());
         }
         let (label, kept) = link_definition(self.alloc, definition, span, self.entities)?;
