@@ -174,7 +174,6 @@ impl<'a, E: EntityLookup> Pass<'a, E> {
     }
 
     /// One more line behind the first one of a link reference definition, to which so many further lines belong.
-    #[inline(always)]
     pub(crate) fn feed_definition(
         &mut self,
         left: usize,

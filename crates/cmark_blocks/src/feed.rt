@@ -55,7 +55,6 @@ impl<'a, E: EntityLookup> Pass<'a, E> {
         match self.leaf {
             OpenLeaf::Closed => self.begin(rest),
             OpenLeaf::Paragraph(from, last) => self.feed_paragraph(from, last, rest),
-            OpenLeaf::Definition(left) => self.feed_definition(left, rest),
             _ => self.feed_any_leaf(rest),
         }
     }

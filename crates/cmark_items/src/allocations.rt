@@ -24,9 +24,9 @@ pub struct LinkIndex(usize);
 #[derive(Clone, Copy, Debug, PartialEq, Eq)]
 pub struct AlignmentIndex(usize);
 
-/// Where the words between the braces of a heading's attributes stand in the table of texts. It has four bytes, so that an item is no larger for it.
+/// Where the words between the braces of a heading's attributes stand in the table of texts.
 #[derive(Clone, Copy, Debug, PartialEq, Eq)]
-pub struct HeadingIndex(u32);
+pub struct HeadingIndex(usize);
 
 /// What a link or an image says of itself (CommonMark 6.3, 6.4).
 #[derive(Debug, Drop)]
@@ -131,9 +131,7 @@ impl<'a> Allocations<'a> {
         ensures kept { OnOk result (tables self.new ≡ with_text words.entry (tables self.old)) }
         ensures refused { OnErr result (tables self.new ≡ tables self.old) }
     {
-        let Ok(index) = u32::try_from(self.texts.len()) else {
-            return Err(AllocError);
-        };
+        let index = self.texts.len();
         self.texts.push(words)?;
         Ok(HeadingIndex(index))
     }
@@ -195,7 +193,7 @@ impl<'a> Index<HeadingIndex> for Allocations<'a> {
     ghost index_gives = { λ a index words. slice_get (tables a).texts index.0 ≡ Some words };
 
     fn index(&self, heading: HeadingIndex) -> &CowStr<'a> {
-        &self.texts[heading.0 as usize]
+        &self.texts[heading.0]
     }
 }
 

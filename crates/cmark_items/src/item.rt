@@ -45,17 +45,16 @@ impl TreeSpan for Item {
 /// What an item is. The bodies that begin with `Maybe` are tokens: whether they come to anything is seen when the leaf
 /// around them is read.
 #[derive(Clone, Copy, Debug, Default, PartialEq, Eq)]
-// The fields of a variant lie in this order, so that none has more than 16 bytes with its tag.
 pub enum ItemBody {
-    /// A byte of a run of `*`, `_`, `~` or `^`: whether it can open and close, and the run's length from here on
+    /// A byte of a run of `*`, `_`, `~` or `^`: the run's length from here on, and whether it can open and close
     /// (CommonMark 6.2).
-    MaybeEmphasis(bool, bool, usize),
+    MaybeEmphasis(usize, bool, bool),
     /// A `$`: whether it can open and close, and the braces that it stands in (this profile's own).
     MaybeMath(bool, bool, u8),
     /// A quotation mark, and whether it can open and close (this profile's own).
     MaybeSmartQuote(u8, bool, bool),
-    /// A run of backticks: whether a backslash stands before it, and how many there are (CommonMark 6.1).
-    MaybeCode(bool, usize),
+    /// A run of so many backticks, and whether a backslash stands before it (CommonMark 6.1).
+    MaybeCode(usize, bool),
     /// A `<` (CommonMark 6.5, 6.6).
     MaybeHtml,
     /// A `[` (CommonMark 6.3).
@@ -75,8 +74,8 @@ pub enum ItemBody {
     Superscript,
     /// Lowered text (this profile's own).
     Subscript,
-    /// A formula: whether it is displayed, and its text (this profile's own).
-    Math(bool, CowIndex),
+    /// A formula, and whether it is displayed (this profile's own).
+    Math(CowIndex, bool),
     /// A code span (CommonMark 6.1).
     Code(CowIndex),
     /// A footnote's reference (this profile's own).

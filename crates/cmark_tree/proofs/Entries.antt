@@ -1,14 +1,13 @@
 -- The nodes after a write to where they are stored. No other file of lemmas knows how they are stored.
 use Rattle.std.proofs.Common.{◌≡◌, ◌≢◌, Option, ◌⊎◌, inl, inr, ℕ, zero, suc, ◌-◌, ◌<◌, ◌≤◌, List, [], ◌∷◌, ◌++◌, length, slice_set, get_or, Some, None, Result, Ok, Err, OnErr, refl, sym, ap, ◌∙◌, subst, arith, length-append, length-set}
 use Rattle.std.specs.Prelude.{slice_get}
-use Rattle.std.proofs.Math.Bridge.{le_prop}
 use Rattle.std.specs.List.{swap}
 use Rattle.std.proofs.lemmas.List.Edits.{swap_is}
 use Rattle.std.proofs.lemmas.Option.{slice_get-get_or, slice_get_past, same_Some}
 use Rattle.cmark_tree.specs.declared.nodes.Node.{Node}
 use Rattle.cmark_tree.specs.declared.nodes.Nodes.{Nodes}
 use Rattle.cmark_tree.specs.Arena.{Entry}
-use Rattle.cmark_tree.specs.Nodes.{entry_of, entry_in, node_at, node_count, HasNumber, IsLink, IsGrown, IsChanged, IsMoved, SameNodes, with_other_item}
+use Rattle.cmark_tree.specs.Nodes.{entry_of, entry_in, node_at, node_count, HasNumber, IsGrown, IsChanged, IsMoved, SameNodes, with_other_item}
 use Rattle.cmark_tree.specs.Lending.{with_stored_item, with_node_item}
 
 slice_get-set_same : {A : Type 0} → (xs : List A) (i : ℕ) (v : A) → i < length xs → slice_get (slice_set xs i v) i ≡ Some v
@@ -174,15 +173,6 @@ module _ {T : Type 0} where
       others zero not_a not_b = refl
       others (suc i) not_a not_b =
           ap (λ l. entry_of (slice_get l i)) is ∙ ap entry_of (slice_get-set_other (slice_set xs a at_b) b i at_a (λ q. not_b (ap suc (sym q)))) ∙ ap entry_of (slice_get-set_other xs a i at_b (λ q. not_a (ap suc (sym q))))
-
-  -- a number of a node fits into a link
-  pub number_small : (v : Nodes T) (ix : ℕ) → ix ≤ node_count v → IsLink ix
-  unfolding node_count
-  number_small v ix le = omega (arith, le, v.few)
-
-  -- nodes are known by their list
-  pub same_list : (v w : Nodes T) → v.list ≡ w.list → v ≡ w
-  same_list v w e = subst (λ l. (few : length l.items < 4294967296) → v ≡ record { list = l; few = few }) e (λ few. ap (λ f. record { list = v.list; few = f }) (le_prop v.few few)) w.few
 
   -- a failed push
   pub same_nodes : (v w : Nodes T) → w.list.items ≡ v.list.items → SameNodes v w

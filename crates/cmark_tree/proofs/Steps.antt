@@ -4,14 +4,14 @@ use Rattle.cmark_tree.specs.declared.nodes.Nodes.{Nodes}
 use Rattle.cmark_tree.specs.declared.tree_index.TreeIndex.{TreeIndex}
 use Rattle.cmark_tree.specs.Forest.{Forest, Nil, Node, join, one}
 use Rattle.cmark_tree.specs.Arena.{Entry, Placed, first, Stands, hit, pick, times, In, IsOnce, IsForest}
-use Rattle.cmark_tree.specs.Nodes.{node_at, HasNumber, IsLink, IsGrown, IsChanged, with_next, with_child}
+use Rattle.cmark_tree.specs.Nodes.{node_at, HasNumber, IsGrown, IsChanged, with_next, with_child}
 use Rattle.cmark_tree.specs.Zip.{Level, Zip, plug, whole, siblings, IsLast, IsFocus, push_to, Sibling, past, next_relinked, child_relinked}
 use Rattle.cmark_tree.specs.Tree.{spine_of, parent_of, focus_of, index_at}
 use Rattle.cmark_tree.proofs.Times.{hit-le, hit-same, hit-other, times-join, outside, times-plug, join_assoc}
 use Rattle.cmark_tree.proofs.StandsLemmas.{Stands-same, Stands-in, Stands-absent, Stands-right, Stands-inner}
 use Rattle.cmark_tree.proofs.Relinks.{pick-same, same_or_not, IsRewritten, relinked_next, relinked_child, relink_next-absent, relink_child-absent}
 use Rattle.std.proofs.lemmas.Option.{same_Some}
-use Rattle.cmark_tree.proofs.Entries.{node_at-past, node_at-within, number_small}
+use Rattle.cmark_tree.proofs.Entries.{node_at-past, node_at-within}
 
 pub index_at-some : (i : ℕ) → 0 < i → index_at i ≡ Some (record { ix = i })
 index_at-some zero lt = absurd (omega (arith, lt))
@@ -164,11 +164,6 @@ module _ {T : Type 0} where
   pub first_number : (nodes : Nodes T) (f : Forest (Placed T)) → Stands (node_at nodes) f → 0 < first f → HasNumber nodes (first f)
   first_number nodes Nil h lt = absurd (omega (arith, lt))
   first_number nodes (Node p inside after) h lt = node_at-within nodes p.ix (record { item = p.item; child = first inside; next = first after }) h.0
-
-  -- the first of some nodes fits into a link
-  pub link_small : (nodes : Nodes T) (f : Forest (Placed T)) → Stands (node_at nodes) f → IsLink (first f)
-  link_small nodes Nil h = omega arith
-  link_small nodes (Node p inside after) h = number_small nodes p.ix (node_at-within nodes p.ix (record { item = p.item; child = first inside; next = first after }) h.0).1
 
   pub focus_above : (nodes : Nodes T) (f : Forest (Placed T)) → Stands (node_at nodes) f → IsFocus f → 0 < first f
   focus_above nodes Nil h focus = absurd focus

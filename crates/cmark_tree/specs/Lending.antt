@@ -1,6 +1,5 @@
 -- What a tree ends as, where a `&mut` to the item of one of its nodes is returned.
-use Rattle.std.specs.Prelude.{◌≡◌, ◌<◌, ℕ, ◌-◌, length, slice_index_or}
-use Rattle.std.proofs.Common.{sym, subst, length-set}
+use Rattle.std.specs.Prelude.{ℕ, ◌-◌, slice_index_or}
 use Rattle.std.specs.Vec.{with_item}
 use Rattle.std.specs.Borrow.{Lends, Fml, MutBor, RattleType}
 use Rattle.cmark_tree.specs.declared.nodes.Node.{Node}
@@ -14,12 +13,9 @@ module _ {T : Type 0} where
   abbrev pub with_node_item : Node T → T → Node T
   with_node_item n w = record n { item = w }
 
-  -- with this node at this place of the list, there are as many
-  abbrev pub with_node : Nodes T → ℕ → Node T → Nodes T
-  with_node nodes i n = record { list = with_item nodes.list i n; few = subst (λ k. k < 4294967296) (sym (length-set nodes.list.items i n)) nodes.few }
-
   abbrev pub with_stored_item : Nodes T → ℕ → T → Nodes T
-  with_stored_item nodes ix w = with_node nodes (ix - 1) (with_node_item (slice_index_or nodes.list.items (ix - 1) (record { item = w; child = 0; next = 0 })) w)
+  with_stored_item nodes ix w =
+      record nodes { list = with_item nodes.list (ix - 1) (with_node_item (slice_index_or nodes.list.items (ix - 1) (record { item = w; child = 0; next = 0 })) w) }
 
   -- the tree with another item at this node
   abbrev pub with_item_at : Tree T → ℕ → T → Tree T

@@ -4,10 +4,6 @@ use Rattle.cmark_tree.specs.declared.nodes.Node.{Node}
 use Rattle.cmark_tree.specs.declared.nodes.Nodes.{Nodes}
 use Rattle.cmark_tree.specs.Arena.{Entry}
 
--- a number that four bytes hold, as the link to a node does
-abbrev pub IsLink : ℕ → Type 0
-IsLink ix = ix < 4294967296
-
 module _ {T : Type 0} where
   abbrev pub entry_of : Option (Node T) → Option (Entry T)
   entry_of None = None

@@ -1,6 +1,10 @@
 // The nodes of a tree by their numbers. This file alone knows how they are stored.
 
-ghost use Rattle.std.specs.Prelude.{◌<◌, length};
+ghost use Rattle.std.specs.Prelude.{◌≡◌, ◌<◌, Some, IfOk, OnErr};
+ghost use Rattle.std.specs.Borrow.{sem};
+ghost use Rattle.cmark_tree.specs.Lending.{LendsItem, LendsStoredItem};
+ghost use Rattle.cmark_tree.specs.Arena.{Entry};
+ghost use Rattle.cmark_tree.specs.Nodes.{node_at, node_count, HasNumber, IsGrown, IsChanged, IsMoved, SameNodes, with_next, with_child};
 
 use std::alloc::{AllocError, Global};
 
@@ -8,25 +12,17 @@ use std::alloc::{AllocError, Global};
 #[derive(Drop)]
 struct Node<T> {
     item: T,
-    child: u32,
-    next: u32,
+    child: usize,
+    next: usize,
 }
 
-// Number i stands at place i - 1. There are so few that a link has four bytes.
+// Number i stands at place i - 1.
 #[derive(Drop)]
 pub struct Nodes<T> {
     list: Vec<Node<T>>,
-    ghost few: { length list.items < 4294967296 },
 }
 
-// How many nodes there are at most.
-const MOST_NODES: usize = 4_294_967_295;
-
 impl<T: Drop> Node<T> {
-    ghost use Rattle.std.specs.Prelude.{◌≡◌};
-    ghost use Rattle.std.specs.Borrow.{sem};
-    ghost use Rattle.cmark_tree.specs.Lending.{LendsItem};
-
     fn item_mut(&mut self) -> &mut T
         ensures* lends { sem 𝓛 (LendsItem T.row self.entry result) }
         ensures value { result.now ≡ self.old.item }
@@ -36,12 +32,6 @@ impl<T: Drop> Node<T> {
 }
 
 impl<T: Drop> Nodes<T> {
-    ghost use Rattle.std.specs.Prelude.{◌≡◌, Some, IfOk, OnErr};
-    ghost use Rattle.std.specs.Borrow.{sem};
-    ghost use Rattle.cmark_tree.specs.Lending.{LendsStoredItem};
-    ghost use Rattle.cmark_tree.specs.Arena.{Entry};
-    ghost use Rattle.cmark_tree.specs.Nodes.{node_at, node_count, HasNumber, IsLink, IsGrown, IsChanged, IsMoved, SameNodes, with_next, with_child};
-
     pub fn with_capacity(alloc: Global, capacity: usize) -> Result<Nodes<T>, AllocError>
         ensures { IfOk result (λ nodes. node_count nodes ≡ 0) }
     {
@@ -55,15 +45,11 @@ impl<T: Drop> Nodes<T> {
         self.list.len()
     }
 
-    // A node with no links behind the others: its number. There is no memory for more nodes than a link can tell apart.
+    // A node with no links behind the others: its number.
     pub fn push(&mut self, item: T) -> Result<usize, AllocError>
         ensures ok { IfOk result (λ ix. IsGrown self.old self.new ix item) }
-        ensures small { IfOk result IsLink }
         ensures err { OnErr result (SameNodes self.old self.new) }
     {
-        if self.list.len() >= MOST_NODES {
-            return Err(AllocError);
-        }
         self.list.push(Node {
             item,
             child: 0,
@@ -76,7 +62,6 @@ impl<T: Drop> Nodes<T> {
     pub fn move_to_new(&mut self, ix: usize, item: T) -> Result<usize, AllocError>
         requires { HasNumber self.old ix }
         ensures ok { IfOk result (λ new. IsMoved self.old self.new ix new item) }
-        ensures small { IfOk result IsLink }
         ensures err { OnErr result (SameNodes self.old self.new) }
     {
         let new = self.push(item)?;
@@ -103,32 +88,30 @@ impl<T: Drop> Nodes<T> {
         requires { HasNumber self.now ix }
         ensures { (e : Entry T) → node_at self.now ix ≡ Some e → result ≡ e.next }
     {
-        self.list[ix - 1].next as usize
+        self.list[ix - 1].next
     }
 
     pub fn child(&self, ix: usize) -> usize
         requires { HasNumber self.now ix }
         ensures { (e : Entry T) → node_at self.now ix ≡ Some e → result ≡ e.child }
     {
-        self.list[ix - 1].child as usize
+        self.list[ix - 1].child
     }
 
     pub fn set_next(&mut self, ix: usize, to: usize)
-        requires number { HasNumber self.old ix }
-        requires small { IsLink to }
+        requires { HasNumber self.old ix }
         ensures { IsChanged self.old self.new ix (with_next to) }
     {
         let node = &mut self.list[ix - 1];
-        node.next = to as u32;
+        node.next = to;
     }
 
     pub fn set_child(&mut self, ix: usize, to: usize)
-        requires number { HasNumber self.old ix }
-        requires small { IsLink to }
+        requires { HasNumber self.old ix }
         ensures { IsChanged self.old self.new ix (with_child to) }
     {
         let node = &mut self.list[ix - 1];
-        node.child = to as u32;
+        node.child = to;
     }
 
     // The children of a node end with this one, or, where it is 0, there are none.

@@ -31,8 +31,7 @@ use std::slice::Iter;
 /// tree.add(item)?;         //   item      the focus
 /// tree.close();            // list is the focus again
 /// ```
-// A link is the number of a node, where 0 stands for none, and has four bytes; a node's item of 32 bytes so takes 40 bytes with its links. There is no memory
-// for 2^32 nodes or more.
+// A link is the number of a node, where 0 stands for none; a node's item of 32 bytes so takes 48 bytes with its links.
 #[derive(Drop)]
 pub struct Tree<T> {
     pub(crate) nodes: Nodes<T>,

@@ -6,8 +6,8 @@ use Rattle.cmark_tree.proofs.Steps.{in_right, grown_forest, append_after, append
 use Rattle.cmark_tree.proofs.tree.Tree.append.Goals as goal
 use Rattle.cmark_tree.proofs.tree.Tree.append.Goals.{then-self-ne0, else-self-ne0+in-Some, else-self-ne0+in_default}
 
-pub set_next-requires-clause-number : goal.set_next-requires-clause-number
-set_next-requires-clause-number g c =
+pub set_next-requires : goal.set_next-requires
+set_next-requires g c =
     let z = c.requires.0 in
     let h = c.requires.1 in
     let st = in_right c.args.self.now.nodes c.args.self.now.first z h.forest in
@@ -16,14 +16,8 @@ set_next-requires-clause-number g c =
     let grown = c.in_ok-ix.ensures.ok in
     (n.0, omega (arith, n.1, grown.count))
 
-pub set_next-requires-clause-small : goal.set_next-requires-clause-small
-set_next-requires-clause-small g c = c.in_ok-ix.ensures.small
-
-pub set_child-requires-clause-small : goal.set_child-requires-clause-small
-set_child-requires-clause-small g c = c.in_ok-ix.ensures.small
-
-pub set_child-requires-clause-number : goal.set_child-requires-clause-number
-set_child-requires-clause-number g c =
+pub set_child-requires : goal.set_child-requires
+set_child-requires g c =
     let z = c.requires.0 in
     let h = c.requires.1 in
     let grown = c.in_ok-ix.ensures.ok in

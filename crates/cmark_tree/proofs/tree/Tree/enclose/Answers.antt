@@ -13,11 +13,8 @@ move_to_new-requires g c =
     let l = last_some c.args.self.now c.requires.0 c.requires.1 c.requires.2 (above_zero c.args.self.now.cur c.if-self-eq0.false) in
     last_number c.args.self.now l.0 l.1 l.2 c.requires.1 l.3
 
-pub set_child-requires-clause-small : goal.set_child-requires-clause-small
-set_child-requires-clause-small g c = c.in_ok-inner.ensures.small
-
-pub set_child-requires-clause-number : goal.set_child-requires-clause-number
-set_child-requires-clause-number g c =
+pub set_child-requires : goal.set_child-requires
+set_child-requires g c =
     let l = last_some c.args.self.now c.requires.0 c.requires.1 c.requires.2 (above_zero c.args.self.now.cur c.if-self-eq0.false) in
     let n = last_number c.args.self.now l.0 l.1 l.2 c.requires.1 l.3 in
     (n.0, omega (arith, n.1, c.in_ok-inner.ensures.ok.count))

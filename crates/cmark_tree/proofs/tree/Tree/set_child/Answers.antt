@@ -1,17 +1,12 @@
-use Rattle.std.proofs.Common.{sym, subst, ◌∙◌}
+use Rattle.std.proofs.Common.{sym, ◌∙◌}
 use Rattle.cmark_tree.specs.Tree.{entry_at}
-use Rattle.cmark_tree.specs.Nodes.{IsLink, with_child}
+use Rattle.cmark_tree.specs.Nodes.{with_child}
 use Rattle.cmark_tree.proofs.Relinks.{relinked_child, first-relink_child}
-use Rattle.cmark_tree.proofs.Steps.{rewritten, has_number, in_right, link_small}
+use Rattle.cmark_tree.proofs.Steps.{rewritten, has_number, in_right}
 use Rattle.cmark_tree.proofs.tree.Tree.set_child.Goals as goal
 
-pub set_child-requires-clause-small : goal.set_child-requires-clause-small
-set_child-requires-clause-small g c =
-    let h = c.requires.2 in
-    subst IsLink (h.leads ∙ sym c.link_of.ensures) (link_small c.args.self.now.nodes c.requires.1 h.stands)
-
-pub set_child-requires-clause-number : goal.set_child-requires-clause-number
-set_child-requires-clause-number g c =
+pub set_child-requires : goal.set_child-requires
+set_child-requires g c =
     let h = c.requires.2 in
     has_number c.args.self.now.nodes c.requires.0.right c.args.ix.ix (in_right c.args.self.now.nodes c.args.self.now.first c.requires.0 h.holds.forest) h.below
 
