@@ -82,13 +82,14 @@ not-found folded (s ∷ rs) r other = ap (found_or (bytes_eq (fold s.label) fold
 -- one more reference of a label that is known changes nothing
 pub with-known : (folded : List ℕ) (rs : List Reference) (r known : Reference) → first_with fold (fold r.label) rs ≡ Some known → first_with fold folded (rs ++ r ∷ []) ≡ first_with fold folded rs
 with-known folded [] r known e = absurd (let q : None ≡ Some known = e in cc)
-with-known folded (s ∷ rs) r known e = go (bytes_eq (fold s.label) folded) refl (bytes_eq (fold s.label) (fold r.label)) refl e
+with-known folded (s ∷ rs) r known e = go (bytes_eq (fold s.label) folded) refl (bytes_eq (fold s.label) (fold r.label)) refl e (λ f. with-known folded rs r known f)
   where
     go : (p : Bool) → bytes_eq (fold s.label) folded ≡ p → (q : Bool) → bytes_eq (fold s.label) (fold r.label) ≡ q → found_or q s (first_with fold (fold r.label) rs) ≡ Some known →
+        (first_with fold (fold r.label) rs ≡ Some known → first_with fold folded (rs ++ r ∷ []) ≡ first_with fold folded rs) →
         found_or p s (first_with fold folded (rs ++ r ∷ [])) ≡ found_or p s (first_with fold folded rs)
-    go true at q same f = refl
-    go false at false same f = with-known folded rs r known f
-    go false at true same f = not-found folded rs r (subst (λ bs. bytes_eq bs folded ≡ false) ((bytes_eq-Decides (fold s.label) (fold r.label)).0 same) at)
+    go true at q same f later = refl
+    go false at false same f later = later f
+    go false at true same f later = not-found folded rs r (subst (λ bs. bytes_eq bs folded ≡ false) ((bytes_eq-Decides (fold s.label) (fold r.label)).0 same) at)
 
 pub known-some : (known : Option (Bor LinkDef)) (found : Option LinkDef) → is_some known ≡ true → option_copied known ≡ found → (def : LinkDef) × (found ≡ Some def)
 known-some None found e is = absurd (true≢false (sym e))

@@ -35,7 +35,7 @@ returns-then-begins_with_label-clause-runs g c text options lookup m runs =
     let next = lines_at text row.past in
     let columns = length row.columns in
     let here : BeginsOnly (shown_options c.args.self.now.options) opening.Bracket row =
-        bracket-begins (shown_options c.args.self.now.options) row (whole c.args.line) (sym c.is_blank.ensures ∙ c.if-is_blank.false) (sym c.begins_with_label.ensures ∙ c.if-begins_with_label.true) in
+    bracket-begins (shown_options c.args.self.now.options) row (whole c.args.line) (sym c.is_blank.ensures ∙ c.if-is_blank.false) (sym c.begins_with_label.ensures ∙ c.if-begins_with_label.true) in
     let only : BeginsOnly options opening.Bracket row = subst (λ o. BeginsOnly o opening.Bracket row) runs.options_is here in
     subst (λ p. Runs g.E.EntityLookup.replacement text options lookup p c.begin_bracket.new.self)
     (leaf-begins text options lookup row next columns false m opening.Bracket only.opens_as (only.defines_not (place_of m.inner)) (only.metadata_not (ahead_in text options lookup m.outer next)))
