@@ -46,7 +46,7 @@ impl<'a> LineStart<'a> {
     ghost use Rattle.cmark_scan.specs.LineStart.{columns_taken, columns_from, row_from, line_of, cut_columns, knows_stop};
 
     /// The line that the bytes begin with, of which nothing was taken: the bytes up to the first LF or CR, or all.
-    #[inline]
+    #[inline(always)]
     pub fn new(bytes: &'a [u8]) -> LineStart<'a>
         ensures { (at past : ℕ) → row_from at past result ≡ line_of at past bytes.entry.now }
     {
