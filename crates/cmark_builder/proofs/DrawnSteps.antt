@@ -10,7 +10,7 @@ use Rattle.cmark_tree.specs.Building.{Opened, Is, IsPlaced, closed}
 use Rattle.cmark_grammar.specs.BlockDocument.{BlockKind, BlockNode, BlockDocument, Nil, Node, node, join}
 use Rattle.cmark_items.specs.declared.item.Item.{Item}
 use Rattle.cmark_items.specs.declared.item.ItemBody.{ItemBody}
-use Rattle.cmark_items.specs.ItemNodes.{Shape, Element, Spelt, TextSlice, HtmlSlice, shape, kind_of, kind_over, ranged, text_at, shown_element, shown_item, shown_forest, nodes_of}
+use Rattle.cmark_items.specs.ItemNodes.{Shape, Element, Spelt, TextSlice, HtmlSlice, NoNode, shape, kind_of, kind_over, ranged, text_at, shown_element, shown_item, shown_forest, nodes_of}
 use Rattle.cmark_items.specs.Tables.{tables}
 use Rattle.cmark_block_model.specs.Drawing.{OpenNode, Drawing, nothing_drawn, drawn, opened, close_as, closed_as, close_at, closed_at, last_or, last_of, before_last, as_kind, start_in, retitled, enclosed, release_as, released}
 use Rattle.cmark_tree.proofs.Items.{one_inj, none_last}
@@ -36,6 +36,7 @@ element-item text t item n e = go (shape item.body) e
     go (Spelt kind index) e = e
     go TextSlice e = absurd (let q : None ≡ Some n = e in cc)
     go HtmlSlice e = absurd (let q : None ≡ Some n = e in cc)
+    go NoNode e = absurd (let q : None ≡ Some n = e in cc)
 
 -- its end does not matter to what it is
 pub element-ended : (t : List CowStr) (item : Item) (n : BlockNode) (end : ℕ) → shown_element t item ≡ Some n → shown_element t (item_at item.start end item.body) ≡ Some (node n.kind n.start end)
@@ -389,6 +390,7 @@ module _ (text : List ℕ) (t : List CowStr) (more : CowStr) where
       go (Spelt kind index) e = spelt-more kind index item.start item.end n e
       go TextSlice e = e
       go HtmlSlice e = e
+      go NoNode e = e
 
   element-more : (item : Item) (n : BlockNode) → shown_element t item ≡ Some n → shown_element (t ++ more ∷ []) item ≡ Some n
   element-more item n e = go (shape item.body) e
@@ -398,6 +400,7 @@ module _ (text : List ℕ) (t : List CowStr) (more : CowStr) where
       go (Spelt kind index) e = spelt-more kind index item.start item.end n e
       go TextSlice e = e
       go HtmlSlice e = e
+      go NoNode e = e
 
   forest-more : (f : Forest Item) (document : BlockDocument) → shown_forest text t f ≡ nodes_of document → shown_forest text (t ++ more ∷ []) f ≡ nodes_of document
   forest-more forest.Nil Nil e = refl

@@ -5,7 +5,7 @@ ghost use Rattle.cmark_grammar.specs.Spans.{span_width};
 ghost use Rattle.cmark_emphasis.specs.Shown.{shown_kind};
 
 /// What stands around a span (CommonMark 6.2, GFM 6.5).
-#[derive(Clone, Copy)]
+#[derive(Clone, Copy, PartialEq, Eq)]
 pub enum SpanKind {
     /// One `*` or `_` on each side.
     Emphasis,

@@ -1,4 +1,5 @@
 -- The items of a document's blocks as nodes of the grammar's documents.
+use Rattle.std.specs.Char.{encode_utf8}
 use Rattle.std.specs.Prelude.{ℕ, ◌%◌, Bool, ◌==◌, if◌then◌else◌, List, [], Option, Some, None, option_map, slice_get}
 use Rattle.cmark_text.specs.Shown.{text_bytes, level_number, shown_block_quote_kind, shown_metadata_block_kind}
 use Rattle.cmark_tree.specs.Forest as forest
@@ -28,12 +29,14 @@ is_tight flags = (flags.0 % 2) == 1
 abbrev pub list_number : (mark number : ℕ) → Option ℕ
 list_number mark number = if is_delimiter mark then Some number else None
 
--- how an item of the block pass is a node: as an element, as what is spelt by the text at an index, or as a slice of the text
+-- how an item of the block pass is a node: as an element, as what is spelt by the text at an index, or as a slice of the text;
+-- other items are none
 pub data Shape : Type 0 where
   Element : (kind : BlockKind) → Shape
   Spelt : (kind : List ℕ → BlockKind) → (index : ℕ) → Shape
   TextSlice : Shape
   HtmlSlice : Shape
+  NoNode : Shape
 
 -- the columns that a delimiter row tells of
 abbrev pub columns_of : Option (List Alignment) → List Alignment
@@ -43,8 +46,8 @@ columns_of (Some alignments) = alignments
 abbrev pub shape : ItemBody → Shape
 shape body.Paragraph = Element document.Paragraph
 shape body.TightParagraph = Element document.TightParagraph
-shape (body.Heading level None) = Element (document.Heading (level_number level) no_attributes)
-shape (body.Heading level (Some index)) = Spelt (λ words. document.Heading (level_number level) (attributes_of words)) index.0
+shape (body.Heading level) = Element (document.Heading (level_number level) no_attributes)
+shape (body.AttributedHeading level index) = Spelt (λ words. document.Heading (level_number level) (attributes_of words)) index.0
 shape body.Rule = Element document.ThematicBreak
 shape body.IndentCodeBlock = Element document.IndentedCode
 shape (body.FencedCodeBlock index) = Spelt document.FencedCode index.0
@@ -64,7 +67,9 @@ shape (body.DefinitionListDefinition width) = Element document.DefinitionListDef
 shape (body.FootnoteDefinition index) = Spelt document.FootnoteDefinition index.0
 shape (body.Text backslash_escaped) = TextSlice
 shape (body.SynthesizeText index) = Spelt document.OwnedText index.0
+shape (body.SynthesizeChar char) = Element (document.OwnedText (encode_utf8 char))
 shape body.Html = HtmlSlice
+shape _ = NoNode
 
 -- what it is whatever its range
 abbrev pub kind_of : List CowStr → Shape → Option BlockKind
@@ -72,6 +77,7 @@ kind_of texts (Element kind) = Some kind
 kind_of texts (Spelt kind index) = option_map kind (text_at texts index)
 kind_of texts TextSlice = None
 kind_of texts HtmlSlice = None
+kind_of texts NoNode = None
 
 -- what it is over its range
 abbrev pub kind_over : List ℕ → List CowStr → (start end : ℕ) → Shape → Option BlockKind
@@ -79,6 +85,7 @@ kind_over text texts start end (Element kind) = Some kind
 kind_over text texts start end (Spelt kind index) = option_map kind (text_at texts index)
 kind_over text texts start end TextSlice = Some (document.Text (slice text start end))
 kind_over text texts start end HtmlSlice = Some (document.Html (slice text start end))
+kind_over text texts start end NoNode = None
 
 abbrev pub ranged : (start end : ℕ) → BlockKind → BlockNode
 ranged start end kind = node kind start end

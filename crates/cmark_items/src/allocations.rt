@@ -13,19 +13,19 @@ use std::mem;
 use std::ops::Index;
 
 /// Where a text stands in its table.
-#[derive(Clone, Copy)]
+#[derive(Clone, Copy, PartialEq, Eq)]
 pub struct CowIndex(usize);
 
 /// Where a link or an image stands in its table.
-#[derive(Clone, Copy)]
+#[derive(Clone, Copy, PartialEq, Eq)]
 pub struct LinkIndex(usize);
 
 /// Where a table's alignments stand in theirs.
-#[derive(Clone, Copy)]
+#[derive(Clone, Copy, PartialEq, Eq)]
 pub struct AlignmentIndex(usize);
 
 /// Where the words between the braces of a heading's attributes stand in the table of texts.
-#[derive(Clone, Copy)]
+#[derive(Clone, Copy, PartialEq, Eq)]
 pub struct HeadingIndex(usize);
 
 /// What a link or an image says of itself (CommonMark 6.3, 6.4).

@@ -5,7 +5,7 @@ ghost use Rattle.std.specs.Prelude.{⊤, [], ◌∷◌, codes};
 use bitflags::{Flag, Flags};
 
 /// What is known of a list. The calls of `bitflags::Flags`, as `union` and `contains`, make and read it.
-#[derive(Clone, Copy)]
+#[derive(Clone, Copy, PartialEq, Eq)]
 pub struct ListFlags(u8);
 
 impl ListFlags {

@@ -126,8 +126,7 @@ fn html_interrupts(words: &[u8]) -> bool
     ensures { result ≡ html_interrupts (html_kind words.now) }
 {
     match html_kind(words) {
-        Some(HtmlKind::Tag) => false,
-        Some(_) => true,
+        Some(kind) => kind != HtmlKind::Tag,
         None => false,
     }
 }

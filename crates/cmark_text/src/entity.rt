@@ -15,7 +15,7 @@ pub trait EntityLookup {
 }
 
 /// Eleven names: `amp`, `lt`, `gt`, `quot`, `apos`, `nbsp`, `copy`, `reg`, `hellip`, `mdash` and `ndash`.
-#[derive(Clone, Copy)]
+#[derive(Clone, Copy, Debug, PartialEq, Eq)]
 pub struct BasicEntities;
 
 impl EntityLookup for BasicEntities {

@@ -10,7 +10,7 @@ use crate::text::CowStr;
 use std::alloc::Global;
 
 /// The tag of an element that has no text of its own.
-#[derive(Clone, Copy)]
+#[derive(Clone, Copy, Debug, PartialEq, Eq)]
 pub enum PlainTag {
     /// A paragraph (CommonMark 4.8).
     Paragraph,
@@ -124,7 +124,7 @@ impl<'a> Tag<'a> {
 }
 
 /// An event that owns nothing. A value has 32 bytes, where one of any kind has 136.
-#[derive(Clone, Copy)]
+#[derive(Clone, Copy, Debug)]
 pub enum Short<'a> {
     /// An element starts that has no text of its own.
     Start(PlainTag),
@@ -166,7 +166,7 @@ impl<'a> Short<'a> {
 }
 
 /// What comes next of a text, of which no event is made.
-#[derive(Clone, Copy)]
+#[derive(Clone, Copy, Debug)]
 pub enum Next<'a> {
     /// An event that owns nothing.
     Short(Short<'a>),

@@ -5,7 +5,7 @@ ghost use Rattle.std.specs.Prelude.{◌≡◌, ◌+◌, ◌-◌, ◌^◌, ◌<�
 /// The number of a node in a `Tree`, from 1 on.
 ///
 /// Only a tree makes one; `checked_add` and `checked_sub` give those of nodes that were made after or before it.
-#[derive(Clone, Copy)]
+#[derive(Clone, Copy, PartialEq, Eq, PartialOrd, Ord)]
 pub struct TreeIndex {
     pub(crate) ix: usize,
 }

@@ -1,5 +1,6 @@
 -- Where a walk may be refused memory, no end is next.
 use Rattle.std.proofs.Common.{◌≡◌, inl, inr, if◌then◌else◌, ℕ, zero, suc, Bool, true, false, true≢false, List, [], ◌∷◌, ◌++◌, Option, Some, None, refl, sym, ap, ◌∙◌, subst}
+use Rattle.std.specs.Char.{encode_utf8}
 use Rattle.cmark_tree.specs.declared.tree.Tree.{Tree}
 use Rattle.cmark_tree.specs.declared.tree_index.TreeIndex.{TreeIndex}
 use Rattle.cmark_tree.specs.Forest.{Forest, Nil, Node}
@@ -124,7 +125,11 @@ owns-kind : (text : List ℕ) (texts : List CowStr) (start end : ℕ) (tight : B
 owns-kind text texts start end tight (body.SynthesizeText x) kind e o i =
     let k = (spelt-kind document.OwnedText (text_at texts x.0) kind e).1 in
     let q : reads.Inside ≡ reads.Alone _ = i ∙ ap (λ b. read_as (kind_within tight b)) (sym k) in cc
-owns-kind text texts start end tight (body.Heading level (Some x)) kind e o i =
+owns-kind text texts start end tight (body.SynthesizeChar x) kind e o i =
+    let q : Some (document.OwnedText (encode_utf8 x)) ≡ Some kind = e in
+    let k : document.OwnedText (encode_utf8 x) ≡ kind = cc in
+    let q : reads.Inside ≡ reads.Alone _ = i ∙ ap (λ b. read_as (kind_within tight b)) (sym k) in cc
+owns-kind text texts start end tight (body.AttributedHeading level x) kind e o i =
     let k = (spelt-kind (λ words. document.Heading (level_number level) (attributes_of words)) (text_at texts x.0) kind e).1 in
     let q : reads.Inside ≡ reads.Around _ = i ∙ ap (λ b. read_as (kind_within tight b)) (sym k) in cc
 owns-kind text texts start end tight (body.FencedCodeBlock x) kind e o i =

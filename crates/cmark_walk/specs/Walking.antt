@@ -325,7 +325,7 @@ HasText walk = (z : Zip Item) (here : BlockDocument) (above : List Outer) → St
 
 -- an element with a text of its own: a heading with attributes, fenced code, a table or a footnote's definition
 abbrev pub has_texts : ItemBody → Bool
-has_texts (body.Heading level (Some index)) = true
+has_texts (body.AttributedHeading level index) = true
 has_texts (body.FencedCodeBlock index) = true
 has_texts (body.Table index) = true
 has_texts (body.FootnoteDefinition index) = true
@@ -334,6 +334,7 @@ has_texts _ = false
 -- a text that is written nowhere in the source
 abbrev pub is_synthesized : ItemBody → Bool
 is_synthesized (body.SynthesizeText index) = true
+is_synthesized (body.SynthesizeChar c) = true
 is_synthesized _ = false
 
 -- an item has a text that is kept apart from the source, or an element has a text of its own

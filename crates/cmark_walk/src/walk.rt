@@ -454,7 +454,7 @@ impl<'a> Walk<'a> {
         match item.body {
             ItemBody::Text { .. } => Ok(Some(Event::Text(self.slice(item)))),
             ItemBody::Html => Ok(Some(Event::Html(self.slice(item)))),
-            ItemBody::SynthesizeText(_) => {
+            ItemBody::SynthesizeText(_) | ItemBody::SynthesizeChar(_) => {
                 let event = self.synthesized(item)?;
                 Ok(Some(event))
             }
@@ -484,6 +484,7 @@ impl<'a> Walk<'a> {
     {
         let text = match item.body {
             ItemBody::SynthesizeText(index) => self.allocations[index].clone(self.alloc)?,
+            ItemBody::SynthesizeChar(c) => CowStr::from(c),
             // The caller asks for no other item.
             _ => CowStr::Borrowed(""),
         };
@@ -506,7 +507,7 @@ impl<'a> Walk<'a> {
             } else {
                 Some(Tag::Paragraph)
             }),
-            ItemBody::Heading(level, None) => Ok(Some(Tag::Heading {
+            ItemBody::Heading(level) => Ok(Some(Tag::Heading {
                 level,
                 id: None,
                 classes: Vec::new(self.alloc),
@@ -524,7 +525,7 @@ impl<'a> Walk<'a> {
             ItemBody::DefinitionList(_) => Ok(Some(Tag::DefinitionList)),
             ItemBody::DefinitionListTitle => Ok(Some(Tag::DefinitionListTitle)),
             ItemBody::DefinitionListDefinition(_) => Ok(Some(Tag::DefinitionListDefinition)),
-            ItemBody::Heading(_, Some(_))
+            ItemBody::AttributedHeading(_, _)
             | ItemBody::FencedCodeBlock(_)
             | ItemBody::Table(_)
             | ItemBody::FootnoteDefinition(_) => {
@@ -545,7 +546,7 @@ impl<'a> Walk<'a> {
             → Some (shown_tag tag) ≡ tag_in (read_as (kind_within (tight_below above) node.kind))) }
     {
         match item.body {
-            ItemBody::Heading(level, Some(index)) => {
+            ItemBody::AttributedHeading(level, index) => {
                 let words = self.allocations[index].as_str();
                 heading(self.alloc, level, words)
             }
@@ -581,7 +582,9 @@ impl<'a> Walk<'a> {
                     Some(TagEnd::Paragraph)
                 }
             }
-            ItemBody::Heading(level, _) => Some(TagEnd::Heading(level)),
+            ItemBody::Heading(level) | ItemBody::AttributedHeading(level, _) => {
+                Some(TagEnd::Heading(level))
+            }
             ItemBody::IndentCodeBlock => Some(TagEnd::CodeBlock),
             ItemBody::FencedCodeBlock(_) => Some(TagEnd::CodeBlock),
             ItemBody::HtmlBlock => Some(TagEnd::HtmlBlock),
@@ -642,7 +645,8 @@ pub(crate) fn is_leaf(item: Item) -> bool
     match item.body {
         ItemBody::Paragraph => true,
         ItemBody::TightParagraph => true,
-        ItemBody::Heading(_, _) => true,
+        ItemBody::Heading(_) => true,
+        ItemBody::AttributedHeading(_, _) => true,
         ItemBody::DefinitionListTitle => true,
         ItemBody::TableCell => true,
         _ => false,
