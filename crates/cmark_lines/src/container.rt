@@ -37,7 +37,7 @@ pub enum Container {
 }
 
 /// A list item, as its first line shows it (CommonMark 5.2).
-#[derive(Clone, Copy, Debug, PartialEq, Eq)]
+#[derive(Clone, Copy)]
 pub struct ItemStart {
     /// The bullet, or what stands behind the number: `.` or `)`.
     pub mark: u8,
@@ -48,7 +48,7 @@ pub struct ItemStart {
 }
 
 /// A footnote definition, as its first line shows it (this profile's own).
-#[derive(Clone, Copy, Debug, PartialEq, Eq)]
+#[derive(Clone, Copy)]
 pub struct FootnoteStart {
     /// How many bytes the label has. It stands behind the first two bytes of the line's words, and a bracket behind it.
     pub label_size: usize,

@@ -31,7 +31,7 @@ pub enum Verbatim {
 }
 
 /// What one more line does to an open code or HTML block.
-#[derive(Clone, Copy, Debug, PartialEq, Eq)]
+#[derive(Clone, Copy, PartialEq, Eq)]
 pub enum Further {
     /// It belongs to the block, which goes on.
     GoesOn,

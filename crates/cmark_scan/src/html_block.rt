@@ -12,7 +12,7 @@ use cmark_scan_parts::scan_tag;
 use memchr::{memchr, memmem};
 
 /// The kind of an HTML block, by what it begins with.
-#[derive(Clone, Copy, Debug, PartialEq, Eq)]
+#[derive(Clone, Copy, PartialEq, Eq)]
 pub enum HtmlKind {
     /// Kind 1: `<pre`, `<script`, `<style` or `<textarea`.
     Verbatim,

@@ -13,7 +13,7 @@ use cmark_text::HeadingLevel;
 use memchr::memchr;
 
 /// A code fence that opens a block (CommonMark 4.5).
-#[derive(Clone, Copy, Debug, PartialEq, Eq)]
+#[derive(Clone, Copy)]
 pub struct CodeFence {
     /// The fence's character, a backtick or a tilde.
     pub mark: u8,

@@ -9,7 +9,7 @@ use crate::bytes::is_letter;
 use crate::find::{behind_first, behind_start};
 
 /// What a search for the end of a piece of inline HTML came to.
-#[derive(Clone, Copy, Debug, PartialEq, Eq)]
+#[derive(Clone, Copy)]
 pub struct HtmlFind {
     /// The place behind the first closer; `None` where there is none, and where nothing opens.
     pub end: Option<usize>,
