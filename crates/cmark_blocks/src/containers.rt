@@ -1,7 +1,6 @@
-//! Containers and lists that begin and end (CommonMark 5).
+//! Containers and lists: what begins and keeps them, and their end (CommonMark 5).
 
-ghost use Rattle.std.specs.Prelude.{◌≡◌, Bool, List, Option, ℕ, OnOk, not, unwrap_or, option_map, length, ◌-◌};
-ghost use Rattle.cmark_grammar.specs.Answers.{Lookup};
+ghost use Rattle.std.specs.Prelude.{◌≡◌, Bool, List, Option, ℕ, OnOk, not, unwrap_or, option_map, length, ◌-◌, ◌<◌, ◌&&◌, ◌==◌, suc, ◌≤◌};
 ghost use Rattle.cmark_grammar.specs.Containers as grammar;
 ghost use Rattle.cmark_items.specs.ItemNodes.{is_tight, list_number, shape, Element};
 ghost use Rattle.cmark_grammar.specs.Derivation.{list_kind};
@@ -11,12 +10,13 @@ ghost use Rattle.cmark_blocks.specs.Shown.{shown_list, shown_siblings, ShowsCont
 ghost use Rattle.cmark_block_model.specs.BlockPass.{ended, title_released, title_made, definition_behind, block_begun, list_begun, item_begun, inside_of, quote_begun, item_begun_in, definition_begun_in, behind_container};
 ghost use Rattle.cmark_blocks.specs.Titles.{text_block_begun};
 ghost use Rattle.cmark_block_model.specs.OpenBlocks as model;
+ghost use Rattle.cmark_lines.specs.Rests.{IsIn};
 
 use crate::siblings::{DEFINITION_MARK, OpenList, Siblings, Title};
 use crate::state::{OpenContainer, Pass};
 use bitflags::Flags;
 use cmark_items::{ItemBody, ListFlags};
-use cmark_lines::{Container, ItemStart};
+use cmark_lines::{Container, ItemStart, LineRest};
 use cmark_text::{BlockQuoteKind, EntityLookup};
 use std::alloc::AllocError;
 
@@ -46,8 +46,9 @@ impl OpenList {
 }
 
 impl<'a, E: EntityLookup> Pass<'a, E> {
-    ghost use Rattle.cmark_blocks.specs.Runs.{Runs, IsGood};
+    ghost use Rattle.cmark_blocks.specs.Runs.{IsGood};
     ghost use Rattle.cmark_blocks.specs.Steps.{Steps, ClosesLast, ClosesAll};
+    ghost use Rattle.cmark_blocks.specs.Kept.{IsBehind, KeepsOf};
 
     /// A paragraph that was drawn in a definition list, and is no title, is put behind that list, which is closed.
     pub(crate) fn release_title(&mut self)
@@ -310,6 +311,35 @@ impl<'a, E: EntityLookup> Pass<'a, E> {
         self.builder.open(start, body)?;
         self.enter(Container::Definition { width })?;
         Ok(())
+    }
+
+    /// Whether this container is an item whose first line was blank, and came last.
+    fn is_bare(&self, index: usize) -> bool
+        requires { index < length self.now.outer.items }
+        ensures { result ≡ (self.now.bare && (suc index == length self.now.outer.items)) }
+    {
+        self.bare && index + 1 == self.outer.len()
+    }
+
+    /// How many containers keep the line, from the outermost on, and what is left of it behind their prefixes.
+    #[inline(always)]
+    pub(crate) fn kept_by(&self, line: LineRest<'a>) -> (usize, LineRest<'a>)
+        ensures kept { KeepsOf E.replacement self.now line.entry result.0 result.1 }
+        ensures few { result.0 ≤ length self.now.outer.items }
+        ensures placed { (text : List ℕ) → IsIn text line.entry → IsIn text result.1 }
+        ensures behind { IsBehind line.entry result.1 }
+    {
+        let mut kept = 0;
+        let mut rest = line;
+        while kept < self.outer.len() {
+            let bare = self.is_bare(kept);
+            let Some(inside) = self.outer[kept].container.keeps(bare, rest) else {
+                return (kept, rest);
+            };
+            rest = inside;
+            kept += 1;
+        }
+        (kept, rest)
     }
 
     /// Closes the innermost container, where the last line ended.

@@ -1,6 +1,6 @@
 //! Link reference definitions (CommonMark 4.7).
 
-ghost use Rattle.std.specs.Prelude.{◌≡◌, ◌≤◌, ℕ, List, false, drop, length, OnOk};
+ghost use Rattle.std.specs.Prelude.{◌≡◌, ◌≤◌, false, drop, length, OnOk};
 ghost use Rattle.cmark_grammar.specs.LinkDefinitions.{line_ends};
 ghost use Rattle.cmark_blocks.specs.Brackets.{lacks_colon, begins_none};
 ghost use Rattle.cmark_definitions.specs.Shown.{written};
@@ -61,7 +61,7 @@ impl<'a, E: EntityLookup> Pass<'a, E> {
     ghost use Rattle.cmark_blocks.specs.declared.state.OpenLeaf.TheVariants as leaf;
     ghost use Rattle.cmark_blocks.specs.Runs.{IsGood};
     ghost use Rattle.cmark_leaves.specs.Told.{IsRead};
-    ghost use Rattle.cmark_blocks.specs.Steps.{StepsOver, BeginsBracket};
+    ghost use Rattle.cmark_blocks.specs.Steps.{StepsOver, BeginsBracket, FeedsLeaf};
     ghost use Rattle.cmark_blocks.specs.Gathered.{IsGathered, Gathers, Decides};
     ghost use Rattle.cmark_blocks.specs.Found.{definition_kept, definition_begun, StopsAt};
 
@@ -166,6 +166,28 @@ impl<'a, E: EntityLookup> Pass<'a, E> {
         let gathered = self.gather(rest, room)?;
         self.begin_gathered(rest, &gathered)?;
         self.room = gathered.text;
+        Ok(())
+    }
+
+    /// One more line behind the first one of a link reference definition, to which so many further lines belong.
+    pub(crate) fn feed_definition(
+        &mut self,
+        left: usize,
+        rest: LineRest<'a>,
+    ) -> Result<(), AllocError>
+        requires good { IsGood self.old }
+        requires line { IsRead self.old.text.now rest }
+        requires is { self.old.leaf ≡ leaf.Definition left }
+        requires bare { self.old.bare ≡ false }
+        ensures good { IsGood self.new }
+        ensures runs { OnOk result (FeedsLeaf E.replacement rest.entry self.old self.new) }
+        ensures text { self.new.text ≡ self.old.text }
+    {
+        if left == 0 {
+            self.begin_anew(rest)?;
+            return Ok(());
+        }
+        self.leaf = OpenLeaf::Definition(left - 1);
         Ok(())
     }
 }

@@ -1,6 +1,6 @@
 //! One more line of the block pass.
 
-ghost use Rattle.std.specs.Prelude.{◌≡◌, ◌≤◌, ◌<◌, List, ℕ, OnOk, false, length};
+ghost use Rattle.std.specs.Prelude.{◌≡◌, ◌≤◌, ◌<◌, OnOk, false, length};
 ghost use Rattle.cmark_lines.specs.Rests.{row_of};
 ghost use Rattle.cmark_grammar.specs.Containers as grammar;
 ghost use Rattle.cmark_grammar.specs.DefinitionLists.{is_definition};
@@ -8,7 +8,7 @@ ghost use Rattle.cmark_lines.specs.Starts.{Shows};
 ghost use Rattle.cmark_blocks.specs.Fed.{TakesLazy};
 
 use crate::state::{OpenLeaf, Pass};
-use cmark_lines::{Container, LineRest, interrupts, underlines};
+use cmark_lines::{Container, LineRest, interrupts};
 use cmark_text::EntityLookup;
 use std::alloc::AllocError;
 
@@ -41,103 +41,6 @@ impl<'a, E: EntityLookup> Pass<'a, E> {
     ghost use Rattle.cmark_leaves.specs.Told.{IsRead};
     ghost use Rattle.cmark_blocks.specs.Steps.{FeedsLeaf, FeedsLazily};
     ghost use Rattle.cmark_blocks.specs.Fed.{IsLazy, FeedsRest, Feeds};
-
-    /// One more line behind a paragraph with this last line, which the lines from this byte offset on touch: an underline, one more
-    /// line of its text, or what ends it.
-    #[inline(always)]
-    fn feed_paragraph(
-        &mut self,
-        from: usize,
-        last: LineRest<'a>,
-        rest: LineRest<'a>,
-    ) -> Result<(), AllocError>
-        requires good { IsGood self.old }
-        requires line { IsRead self.old.text.now rest }
-        requires is { self.old.leaf ≡ leaf.Paragraph from last }
-        requires bare { self.old.bare ≡ false }
-        ensures good { IsGood self.new }
-        ensures runs { OnOk result (FeedsLeaf E.replacement rest.entry self.old self.new) }
-        ensures text { self.new.text ≡ self.old.text }
-    {
-        if rest.begins_with_letter() {
-            self.add_to_paragraph(from, last, rest)?;
-            return Ok(());
-        }
-        if rest.is_blank() {
-            self.close_leaf()?;
-            self.pass_blank_line(false);
-            return Ok(());
-        }
-        self.feed_marked(from, last, rest)?;
-        Ok(())
-    }
-
-    /// The same, where the line is not blank. It stands in a function of its own, as what most lines do not come to: the locals of a function
-    /// are cleared with each call.
-    #[inline(never)]
-    fn feed_marked(
-        &mut self,
-        from: usize,
-        last: LineRest<'a>,
-        rest: LineRest<'a>,
-    ) -> Result<(), AllocError>
-        requires good { IsGood self.old }
-        requires line { IsRead self.old.text.now rest }
-        requires is { self.old.leaf ≡ leaf.Paragraph from last }
-        requires bare { self.old.bare ≡ false }
-        ensures good { IsGood self.new }
-        ensures runs { OnOk result (FeedsLeaf E.replacement rest.entry self.old self.new) }
-        ensures text { self.new.text ≡ self.old.text }
-    {
-        if let Some(level) = underlines(rest) {
-            self.underline(from, last, level, rest)?;
-            return Ok(());
-        }
-        if interrupts(rest, true, self.options)
-            || self.block_interrupts(self.outer.len(), rest, true)
-        {
-            self.begin_anew(rest)?;
-        } else {
-            self.add_to_paragraph(from, last, rest)?;
-        }
-        Ok(())
-    }
-
-    /// One more line behind the first one of a link reference definition, to which so many further lines belong.
-    fn feed_definition(&mut self, left: usize, rest: LineRest<'a>) -> Result<(), AllocError>
-        requires good { IsGood self.old }
-        requires line { IsRead self.old.text.now rest }
-        requires is { self.old.leaf ≡ leaf.Definition left }
-        requires bare { self.old.bare ≡ false }
-        ensures good { IsGood self.new }
-        ensures runs { OnOk result (FeedsLeaf E.replacement rest.entry self.old self.new) }
-        ensures text { self.new.text ≡ self.old.text }
-    {
-        if left == 0 {
-            self.begin_anew(rest)?;
-            return Ok(());
-        }
-        self.leaf = OpenLeaf::Definition(left - 1);
-        Ok(())
-    }
-
-    /// One more line behind the head of a table, to which so many further lines belong.
-    fn feed_table(&mut self, left: usize, rest: LineRest<'a>) -> Result<(), AllocError>
-        requires good { IsGood self.old }
-        requires line { IsRead self.old.text.now rest }
-        requires is { self.old.leaf ≡ leaf.Table left }
-        requires bare { self.old.bare ≡ false }
-        ensures good { IsGood self.new }
-        ensures runs { OnOk result (FeedsLeaf E.replacement rest.entry self.old self.new) }
-        ensures text { self.new.text ≡ self.old.text }
-    {
-        if left == 0 {
-            self.begin_anew(rest)?;
-            return Ok(());
-        }
-        self.leaf = OpenLeaf::Table(left - 1);
-        Ok(())
-    }
 
     /// A line that lacks no prefix, behind the open leaf.
     #[inline(always)]

@@ -1,10 +1,13 @@
-//! The lines of an open HTML block (CommonMark 4.6).
+//! HTML blocks: what begins them, and their lines (CommonMark 4.6).
 
-ghost use Rattle.std.specs.Prelude.{◌≡◌, List, ℕ, OnOk, false};
+ghost use Rattle.std.specs.Prelude.{◌≡◌, ℕ, OnOk, false};
+ghost use Rattle.cmark_grammar.specs.Openings.{HtmlBlock};
+ghost use Rattle.cmark_scan.specs.HtmlLines.{kind_number};
 
 use crate::state::{OpenLeaf, Pass};
+use cmark_items::ItemBody;
 use cmark_leaves::draw_html_line;
-use cmark_lines::{Further, HtmlKind, LineRest, Verbatim};
+use cmark_lines::{Further, HtmlKind, LineRest, Verbatim, ends_at_once};
 use cmark_text::EntityLookup;
 use std::alloc::AllocError;
 
@@ -12,7 +15,31 @@ impl<'a, E: EntityLookup> Pass<'a, E> {
     ghost use Rattle.cmark_blocks.specs.declared.state.OpenLeaf.TheVariants as leaf;
     ghost use Rattle.cmark_blocks.specs.Runs.{IsGood};
     ghost use Rattle.cmark_leaves.specs.Told.{IsRead};
-    ghost use Rattle.cmark_blocks.specs.Steps.{FeedsLeaf};
+    ghost use Rattle.cmark_blocks.specs.Steps.{FeedsLeaf, BeginsLeaf};
+
+    /// HTML begins on a line, and may end on it (CommonMark 4.6).
+    pub(crate) fn begin_html(
+        &mut self,
+        kind: HtmlKind,
+        rest: LineRest<'a>,
+    ) -> Result<(), AllocError>
+        requires good { IsGood self.old }
+        requires closed { self.old.leaf ≡ leaf.Closed }
+        ensures good { IsGood self.new }
+        ensures runs { OnOk result ((more : ℕ) → BeginsLeaf E.replacement (HtmlBlock (kind_number kind)) more rest.entry self.old self.new) }
+        ensures text { self.new.text ≡ self.old.text }
+    {
+        self.begin_block();
+        self.builder.open(rest.begin(), ItemBody::HtmlBlock)?;
+        draw_html_line(&mut self.builder, rest)?;
+        if ends_at_once(kind, rest) {
+            self.builder.close(rest.past());
+            self.leaf = OpenLeaf::Closed;
+        } else {
+            self.leaf = OpenLeaf::Html(kind);
+        }
+        Ok(())
+    }
 
     /// One more line behind an open HTML block: the block goes on or ends with it, or has ended before it.
     pub(crate) fn feed_html(&mut self, kind: HtmlKind, rest: LineRest<'a>) -> Result<(), AllocError>

@@ -3,8 +3,6 @@
 #![tactic(auto)]
 
 mod ahead;
-mod begin;
-mod begin_code;
 mod code;
 mod containers;
 mod definition;
@@ -12,16 +10,17 @@ mod feed;
 mod first_pass;
 mod footnote;
 mod gathered;
+mod heading;
 mod html;
 mod leaf;
 mod line;
 mod metadata;
 mod paragraph;
-mod pass;
 mod prefixes;
 mod siblings;
 mod state;
 mod table;
+mod thematic_break;
 
 pub use first_pass::{FirstPass, run_first_pass};
 pub use prefixes::{scan_containers, skip_container_prefixes};

@@ -59,7 +59,7 @@ impl<'a, E: EntityLookup> Pass<'a, E> {
     ghost use Rattle.cmark_blocks.specs.declared.state.OpenLeaf.TheVariants as leaf;
     ghost use Rattle.cmark_blocks.specs.Runs.{IsGood};
     ghost use Rattle.cmark_leaves.specs.Told.{IsRead};
-    ghost use Rattle.cmark_blocks.specs.Steps.{BeginsText};
+    ghost use Rattle.cmark_blocks.specs.Steps.{BeginsText, FeedsLeaf};
     ghost use Rattle.cmark_blocks.specs.TablesAhead.{TellsHead, TellsInterrupts, TellsBlock, GoesOnWithRow, DrawsRows, BeginsTable};
 
     /// How many columns the table has whose head the line is, and its delimiter row; none, where the line is none. The line and those
@@ -219,5 +219,23 @@ impl<'a, E: EntityLookup> Pass<'a, E> {
             Some((columns, delimiter)) => self.begin_table(columns, delimiter, rest),
             None => self.begin_paragraph(rest),
         }
+    }
+
+    /// One more line behind the head of a table, to which so many further lines belong.
+    pub(crate) fn feed_table(&mut self, left: usize, rest: LineRest<'a>) -> Result<(), AllocError>
+        requires good { IsGood self.old }
+        requires line { IsRead self.old.text.now rest }
+        requires is { self.old.leaf ≡ leaf.Table left }
+        requires bare { self.old.bare ≡ false }
+        ensures good { IsGood self.new }
+        ensures runs { OnOk result (FeedsLeaf E.replacement rest.entry self.old self.new) }
+        ensures text { self.new.text ≡ self.old.text }
+    {
+        if left == 0 {
+            self.begin_anew(rest)?;
+            return Ok(());
+        }
+        self.leaf = OpenLeaf::Table(left - 1);
+        Ok(())
     }
 }

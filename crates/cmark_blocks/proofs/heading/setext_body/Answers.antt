@@ -6,7 +6,7 @@ use Rattle.cmark_builder.specs.Drawn.{Draws}
 use Rattle.cmark_text.specs.Shown.{level_number}
 use Rattle.cmark_blocks.specs.Setext.{FindsIf}
 use Rattle.cmark_blocks.proofs.SetextSteps.{none-attributes, found-unbraced}
-use Rattle.cmark_blocks.proofs.paragraph.setext_body.Goals as goal
+use Rattle.cmark_blocks.proofs.heading.setext_body.Goals as goal
 
 pub returns-in_default-clause-kind : goal.returns-in_default-clause-kind
 returns-in_default-clause-kind c = λ attributes before last h.

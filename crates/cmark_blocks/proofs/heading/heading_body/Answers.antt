@@ -1,6 +1,6 @@
 use Rattle.std.proofs.Common.{refl, ap}
 use Rattle.cmark_builder.proofs.DrawnSteps.{draws-text}
-use Rattle.cmark_blocks.proofs.begin.heading_body.Goals as goal
+use Rattle.cmark_blocks.proofs.heading.heading_body.Goals as goal
 
 pub returns-clause-drawn : goal.returns-clause-drawn
 returns-clause-drawn c =

@@ -1,0 +1,28 @@
+//! Thematic breaks (CommonMark 4.1).
+
+ghost use Rattle.std.specs.Prelude.{◌≡◌, OnOk};
+ghost use Rattle.cmark_grammar.specs.Openings.{ThematicBreak};
+
+use crate::state::Pass;
+use cmark_items::ItemBody;
+use cmark_lines::LineRest;
+use cmark_text::EntityLookup;
+use std::alloc::AllocError;
+
+impl<'a, E: EntityLookup> Pass<'a, E> {
+    ghost use Rattle.cmark_blocks.specs.Runs.{IsGood};
+    ghost use Rattle.cmark_blocks.specs.Steps.{BeginsLeaf};
+
+    /// A thematic break is a line of its own (CommonMark 4.1).
+    pub(crate) fn begin_thematic_break(&mut self, rest: LineRest<'a>) -> Result<(), AllocError>
+        requires { IsGood self.old }
+        ensures good { IsGood self.new }
+        ensures runs { OnOk result (BeginsLeaf E.replacement ThematicBreak 0 rest.entry self.old self.new) }
+        ensures text { self.new.text ≡ self.old.text }
+    {
+        self.begin_block();
+        self.builder
+            .add(rest.words_begin(), rest.past(), ItemBody::Rule)?;
+        Ok(())
+    }
+}
