@@ -2,6 +2,7 @@ pub mod Beginning
 pub mod Closing
 pub mod CodeRuns
 pub mod Defines
+pub mod DefinitionMarks
 pub mod Drawings
 pub mod Draws
 pub mod Feeding
@@ -11,10 +12,9 @@ pub mod Keeping
 pub mod LazyLines
 pub mod LeafDrawings
 pub mod Marks
-pub mod MarksKept
 pub mod Mirror
-pub mod Places
 pub mod PassSamples
+pub mod Places
 pub mod PlainTokens
 pub mod Replay
 pub mod Settles

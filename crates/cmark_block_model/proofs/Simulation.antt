@@ -24,7 +24,7 @@ use Rattle.cmark_block_model.proofs.VerbatimLines.{verbatim-feeds}
 use Rattle.cmark_block_model.proofs.LazyLines.{container-goes, lazy-feeds}
 use Rattle.cmark_block_model.proofs.Keeping.{kept-ahead, off-ahead}
 use Rattle.cmark_block_model.proofs.Marks.{unmarked-join}
-use Rattle.cmark_block_model.proofs.MarksKept.{OpenUnmarked}
+use Rattle.cmark_block_model.proofs.DefinitionMarks.{OpenUnmarked}
 
 module _ (text : List ℕ) (options : Options) (lookup : Lookup) where
   takes-lazy : (o : OpenLines) → takes_lazy (leaf_at text options lookup o) ≡ lines_take_lazy o

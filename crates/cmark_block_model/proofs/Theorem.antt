@@ -28,7 +28,7 @@ use Rattle.cmark_block_model.proofs.Mirror.{pass_with, Fits, containers_at, bare
 use Rattle.cmark_block_model.proofs.Closing.{leaf-closes, containers-close}
 use Rattle.cmark_block_model.proofs.Keeping.{feed-fits}
 use Rattle.cmark_block_model.proofs.Simulation.{simulates}
-use Rattle.cmark_block_model.proofs.MarksKept.{OpenUnmarked, feed-unmarked}
+use Rattle.cmark_block_model.proofs.DefinitionMarks.{OpenUnmarked, feed-unmarked}
 
 abbrev nothing_noted : Noted
 nothing_noted = record { references = []; footnotes = [] }

@@ -12,8 +12,8 @@ use Rattle.cmark_grammar.proofs.TaskFronts.{task-front}
 use Rattle.cmark_lines.proofs.RestSteps.{in-moved}
 use Rattle.cmark_lines.specs.Rests.{row_of, IsIn}
 use Rattle.cmark_lines.specs.declared.line_rest.LineRest.{LineRest}
-use Rattle.cmark_leaves.specs.Told.{AreTold, IsRead}
-use Rattle.cmark_leaves.proofs.ToldSteps.{without-told}
+use Rattle.cmark_leaves.specs.TextColumns.{AreTold, IsRead}
+use Rattle.cmark_leaves.proofs.TextColumnSteps.{without-told}
 
 no-indent : (a : Bool) (n : ℕ) → (a && (n == 0)) ≡ true → n ≡ 0
 no-indent true n e = grind (arith, e)

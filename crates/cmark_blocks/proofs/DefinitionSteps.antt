@@ -23,7 +23,7 @@ use Rattle.cmark_block_model.specs.BlockPass.{begin_as}
 use Rattle.cmark_block_model.specs.OpenBlocks as model
 use Rattle.cmark_blocks.specs.declared.state.Pass.{Pass}
 use Rattle.cmark_blocks.specs.declared.gathered.Gathered.{Gathered}
-use Rattle.cmark_blocks.specs.Found.{definition_begun}
+use Rattle.cmark_blocks.specs.LinkDefinitions.{definition_begun}
 use Rattle.cmark_blocks.specs.Gathered.{texts_at, Holds, GathersMore, IsWhole}
 use Rattle.cmark_blocks.proofs.GatherSteps.{bytes-split}
 use Rattle.cmark_blocks.proofs.LineFeeds.{texts-end, ends-behind}

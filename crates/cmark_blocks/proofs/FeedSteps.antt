@@ -23,7 +23,7 @@ use Rattle.cmark_blocks.specs.declared.state.OpenContainer.{OpenContainer}
 use Rattle.cmark_blocks.specs.declared.state.Pass.{Pass}
 use Rattle.cmark_blocks.specs.Shown.{ShowsContainers}
 use Rattle.cmark_blocks.specs.Ahead.{lines_at}
-use Rattle.cmark_blocks.specs.Fed.{Feeds, FeedsSoFar, FeedsAll}
+use Rattle.cmark_blocks.specs.LineByLine.{Feeds, FeedsSoFar, FeedsAll}
 use Rattle.cmark_blocks.specs.Runs.{Runs, ShowsLeaf}
 use Rattle.cmark_leaves.proofs.EndSteps.{equal-true, equal-false}
 

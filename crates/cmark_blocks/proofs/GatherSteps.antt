@@ -12,7 +12,7 @@ use Rattle.cmark_grammar.proofs.RowPlaces.{drop-Runs}
 use Rattle.cmark_lines.proofs.RestSteps.{rest-runs}
 use Rattle.cmark_lines.specs.Rests.{row_of}
 use Rattle.cmark_lines.specs.declared.line_rest.LineRest.{LineRest}
-use Rattle.cmark_leaves.specs.Told.{AreTold}
+use Rattle.cmark_leaves.specs.TextColumns.{AreTold}
 use Rattle.cmark_leaves.proofs.ColumnCuts.{bytes-slice, drop-told}
 use Rattle.cmark_block_model.specs.OpenBlocks as model
 use Rattle.cmark_blocks.specs.declared.gathered.Gathered.{Gathered}

@@ -27,7 +27,7 @@ use Rattle.cmark_lines.specs.Rests.{row_of}
 use Rattle.cmark_lines.specs.declared.line_rest.LineRest.{LineRest}
 use Rattle.cmark_leaves.proofs.ColumnCuts.{bytes-slice, drop-told, words-runs}
 use Rattle.cmark_leaves.proofs.WordSteps.{last-text}
-use Rattle.cmark_leaves.specs.Told.{IsRead}
+use Rattle.cmark_leaves.specs.TextColumns.{IsRead}
 
 take-fewer : (n m : ℕ) (xs : List ℕ) → n ≤ m → take n (take m xs) ≡ take n xs
 take-fewer zero m xs le = refl

@@ -15,7 +15,7 @@ use Rattle.cmark_block_model.specs.OpenBlocks as model
 use Rattle.cmark_blocks.specs.declared.state.OpenContainer.{OpenContainer}
 use Rattle.cmark_blocks.specs.Shown.{ShowsContainers}
 use Rattle.cmark_blocks.proofs.AheadSteps.{Inside, inside-keeps, inside-misses, inside-all}
-use Rattle.cmark_blocks.proofs.KeptSteps.{shows-at, shows-all}
+use Rattle.cmark_blocks.proofs.KeepingSteps.{shows-at, shows-all}
 
 none-left : (ms : List model.OpenContainer) (n k : ℕ) → n ≤ k → drop k (take n ms) ≡ []
 none-left ms zero zero le = refl

@@ -14,7 +14,7 @@ pub mod HtmlSteps
 pub mod IndentedSteps
 pub mod InfoSteps
 pub mod InsideSteps
-pub mod KeptSteps
+pub mod KeepingSteps
 pub mod LeafSteps
 pub mod LineFeeds
 pub mod LineSteps

@@ -29,15 +29,15 @@ use Rattle.cmark_lines.specs.declared.opening.Opening.TheVariants as opening
 use Rattle.cmark_text.specs.declared.kind.BlockQuoteKind as found
 use Rattle.cmark_text.specs.declared.kind.HeadingLevel.{HeadingLevel}
 use Rattle.cmark_text.specs.Shown.{level_number, shown_block_quote_kind, shown_options}
-use Rattle.cmark_leaves.specs.Told.{AreTold}
-use Rattle.cmark_leaves.proofs.ToldSteps.{without-told}
+use Rattle.cmark_leaves.specs.TextColumns.{AreTold}
+use Rattle.cmark_leaves.proofs.TextColumnSteps.{without-told}
 use Rattle.cmark_block_model.specs.BlockPass.{ahead_in, begin, begin_as, begin_in, leaf_begun, container_begun, inside_begun, is_item, place_of}
 use Rattle.cmark_block_model.specs.OpenBlocks as model
 use Rattle.cmark_blocks.specs.Ahead.{lines_at}
 use Rattle.cmark_blocks.specs.declared.state.Pass.{Pass}
 use Rattle.cmark_blocks.specs.Entered.{OpensAs, HasNumber, DefinesAs, TellsMetadata, takes_line, line_taken, BeginsContainer, BeginsFirst, BeginsSoFar}
 use Rattle.cmark_blocks.specs.Runs.{Runs}
-use Rattle.cmark_leaves.specs.Told.{IsRead}
+use Rattle.cmark_leaves.specs.TextColumns.{IsRead}
 use Rattle.cmark_blocks.specs.Steps.{Begins}
 use Rattle.cmark_blocks.proofs.OpeningSteps.{Fits, opens-fits}
 use Rattle.cmark_blocks.proofs.TaskSteps.{start-text, nested, nested-on, nested-taken}

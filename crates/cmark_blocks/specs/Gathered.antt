@@ -14,7 +14,7 @@ use Rattle.cmark_blocks.specs.declared.state.Pass.{Pass}
 use Rattle.cmark_blocks.specs.declared.gathered.Gathered.{Gathered}
 use Rattle.cmark_blocks.specs.Ahead.{lines_at}
 use Rattle.cmark_blocks.specs.Runs.{Runs}
-use Rattle.cmark_leaves.specs.Told.{IsRead}
+use Rattle.cmark_leaves.specs.TextColumns.{IsRead}
 
 -- the last of these lines
 abbrev pub last_of : Row → List Row → Row

@@ -1,13 +1,13 @@
 pub mod Ahead
 pub mod Brackets
 pub mod Entered
-pub mod Fed
 pub mod FirstPass
 pub mod Footnotes
-pub mod Found
 pub mod Gathered
 pub mod IndentedLines
-pub mod Kept
+pub mod KeepingContainers
+pub mod LineByLine
+pub mod LinkDefinitions
 pub mod Prefixes
 pub mod Runs
 pub mod Setext

@@ -18,7 +18,7 @@ use Rattle.cmark_grammar.specs.Leaves.{Fence}
 use Rattle.cmark_leaves.specs.Stretches.{shown_waits}
 use Rattle.cmark_leaves.specs.declared.stretch.Stretch.{Stretch}
 use Rattle.cmark_leaves.specs.Contents.{AreRead}
-use Rattle.cmark_leaves.specs.Told.{IsRead}
+use Rattle.cmark_leaves.specs.TextColumns.{IsRead}
 use Rattle.cmark_block_model.specs.OpenBlocks as model
 use Rattle.cmark_blocks.specs.declared.state.OpenLeaf.{OpenLeaf}
 use Rattle.cmark_blocks.specs.declared.state.OpenLeaf.TheVariants as leaf

@@ -5,7 +5,7 @@ ghost use Rattle.cmark_grammar.specs.Leaves.{underlines};
 ghost use Rattle.cmark_grammar.specs.Openings.{interrupts, is_none};
 ghost use Rattle.cmark_text.specs.Shown.{shown_options};
 ghost use Rattle.cmark_grammar.specs.Rows.{Row};
-ghost use Rattle.cmark_leaves.specs.Told.{AreTold};
+ghost use Rattle.cmark_leaves.specs.TextColumns.{AreTold};
 ghost use Rattle.cmark_lines.specs.Rests.{IsIn, row_of};
 
 use crate::state::Pass;
@@ -14,7 +14,7 @@ use cmark_text::{EntityLookup, Options};
 
 impl<'a, E: EntityLookup> Pass<'a, E> {
     ghost use Rattle.cmark_blocks.specs.Ahead.{SeenInside, SeenInsideFirst, SeesNext, SeesNextInside, GoesOnWith};
-    ghost use Rattle.cmark_blocks.specs.Kept.{IsBehind};
+    ghost use Rattle.cmark_blocks.specs.KeepingContainers.{IsBehind};
 
     /// What all open containers leave of a line, if they keep it.
     fn inside(&self, line: LineRest<'a>) -> Option<LineRest<'a>>

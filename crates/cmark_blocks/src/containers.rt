@@ -48,7 +48,7 @@ impl OpenList {
 impl<'a, E: EntityLookup> Pass<'a, E> {
     ghost use Rattle.cmark_blocks.specs.Runs.{IsGood};
     ghost use Rattle.cmark_blocks.specs.Steps.{Steps, ClosesLast, ClosesAll};
-    ghost use Rattle.cmark_blocks.specs.Kept.{IsBehind, KeepsOf};
+    ghost use Rattle.cmark_blocks.specs.KeepingContainers.{IsBehind, KeepsOf};
 
     /// A paragraph that was drawn in a definition list, and is no title, is put behind that list, which is closed.
     pub(crate) fn release_title(&mut self)

@@ -60,10 +60,10 @@ impl<'a, E: EntityLookup> Pass<'a, E> {
     ghost use Rattle.std.specs.Prelude.{false};
     ghost use Rattle.cmark_blocks.specs.declared.state.OpenLeaf.TheVariants as leaf;
     ghost use Rattle.cmark_blocks.specs.Runs.{IsGood};
-    ghost use Rattle.cmark_leaves.specs.Told.{IsRead};
+    ghost use Rattle.cmark_leaves.specs.TextColumns.{IsRead};
     ghost use Rattle.cmark_blocks.specs.Steps.{StepsOver, BeginsBracket, FeedsLeaf};
     ghost use Rattle.cmark_blocks.specs.Gathered.{IsGathered, Gathers, Decides};
-    ghost use Rattle.cmark_blocks.specs.Found.{definition_kept, definition_begun, StopsAt};
+    ghost use Rattle.cmark_blocks.specs.LinkDefinitions.{definition_kept, definition_begun, StopsAt};
 
     /// Where the line ends that stands so many lines behind this one, in the paragraph that this one may begin.
     fn stop_behind(&self, rest: LineRest<'a>, more: usize) -> usize

@@ -5,7 +5,7 @@ ghost use Rattle.cmark_lines.specs.Rests.{row_of};
 ghost use Rattle.cmark_grammar.specs.Containers as grammar;
 ghost use Rattle.cmark_grammar.specs.DefinitionLists.{is_definition};
 ghost use Rattle.cmark_lines.specs.Starts.{Shows};
-ghost use Rattle.cmark_blocks.specs.Fed.{TakesLazy};
+ghost use Rattle.cmark_blocks.specs.LineByLine.{TakesLazy};
 
 use crate::state::{OpenLeaf, Pass};
 use cmark_lines::{Container, LineRest, interrupts};
@@ -38,9 +38,9 @@ fn is_definition(container: Container) -> bool
 impl<'a, E: EntityLookup> Pass<'a, E> {
     ghost use Rattle.cmark_blocks.specs.declared.state.OpenLeaf.TheVariants as leaf;
     ghost use Rattle.cmark_blocks.specs.Runs.{IsGood};
-    ghost use Rattle.cmark_leaves.specs.Told.{IsRead};
+    ghost use Rattle.cmark_leaves.specs.TextColumns.{IsRead};
     ghost use Rattle.cmark_blocks.specs.Steps.{FeedsLeaf, FeedsLazily};
-    ghost use Rattle.cmark_blocks.specs.Fed.{IsLazy, FeedsRest, Feeds};
+    ghost use Rattle.cmark_blocks.specs.LineByLine.{IsLazy, FeedsRest, Feeds};
 
     /// A line that lacks no prefix, behind the open leaf.
     #[inline(always)]

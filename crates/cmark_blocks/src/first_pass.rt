@@ -22,7 +22,7 @@ pub struct FirstPass<'a> {
 
 impl<'a, E: EntityLookup> Pass<'a, E> {
     ghost use Rattle.cmark_blocks.specs.Runs.{Runs, IsGood};
-    ghost use Rattle.cmark_blocks.specs.Fed.{FeedsAll, ClosesEverything};
+    ghost use Rattle.cmark_blocks.specs.LineByLine.{FeedsAll, ClosesEverything};
 
     /// All lines of the text from the next one on.
     fn feed_all(&mut self) -> Result<(), AllocError>

@@ -9,7 +9,7 @@ ghost use Rattle.cmark_lines.specs.Rests.{row_of};
 ghost use Rattle.cmark_lines.specs.Starts.{shown_footnote};
 ghost use Rattle.cmark_scan_parts.specs.Footnotes.{marked, IsClosed};
 ghost use Rattle.cmark_blocks.specs.Footnotes.{KeepsText, Notes};
-ghost use Rattle.cmark_leaves.specs.Told.{IsRead};
+ghost use Rattle.cmark_leaves.specs.TextColumns.{IsRead};
 
 use crate::gathered::words_in;
 use crate::state::Pass;

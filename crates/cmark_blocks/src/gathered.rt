@@ -5,7 +5,7 @@ ghost use Rattle.cmark_grammar.specs.Columns.{bytes_of};
 ghost use Rattle.cmark_grammar.specs.LinkDefinitions.{line_end_of};
 ghost use Rattle.cmark_grammar.specs.Rows.{words_of};
 ghost use Rattle.cmark_lines.specs.Rests.{row_of};
-ghost use Rattle.cmark_leaves.specs.Told.{IsRead};
+ghost use Rattle.cmark_leaves.specs.TextColumns.{IsRead};
 
 use crate::state::Pass;
 use cmark_definitions::is_settled;
@@ -53,7 +53,7 @@ fn line_end_of(rest: LineRest<'_>) -> &'static str
 
 impl<'a, E: EntityLookup> Pass<'a, E> {
     ghost use Rattle.std.specs.Prelude.{false};
-    ghost use Rattle.cmark_leaves.specs.Told.{IsRead};
+    ghost use Rattle.cmark_leaves.specs.TextColumns.{IsRead};
     ghost use Rattle.cmark_blocks.specs.Gathered.{IsGathered, Gathers, GathersMore, Decides};
 
     /// The first line, in this memory.

@@ -9,7 +9,7 @@ ghost use Rattle.cmark_builder.specs.Drawn.{Draws};
 ghost use Rattle.cmark_items.specs.ItemNodes.{shape, kind_of};
 ghost use Rattle.cmark_items.specs.Tables.{tables, defined};
 ghost use Rattle.cmark_leaves.specs.Contents.{AreRead, content_columns as setext_columns};
-ghost use Rattle.cmark_leaves.specs.Told.{IsRead};
+ghost use Rattle.cmark_leaves.specs.TextColumns.{IsRead};
 ghost use Rattle.cmark_blocks.specs.Setext.{FindsIf};
 ghost use Rattle.cmark_tree.specs.Building.{IsPlaced};
 ghost use Rattle.cmark_grammar.specs.SetextAttributes.{setext_attributes};

@@ -14,7 +14,7 @@ use std::alloc::AllocError;
 impl<'a, E: EntityLookup> Pass<'a, E> {
     ghost use Rattle.cmark_blocks.specs.declared.state.OpenLeaf.TheVariants as leaf;
     ghost use Rattle.cmark_blocks.specs.Runs.{IsGood};
-    ghost use Rattle.cmark_leaves.specs.Told.{IsRead};
+    ghost use Rattle.cmark_leaves.specs.TextColumns.{IsRead};
     ghost use Rattle.cmark_blocks.specs.Steps.{FeedsLeaf, BeginsLeaf};
 
     /// HTML begins on a line, and may end on it (CommonMark 4.6).

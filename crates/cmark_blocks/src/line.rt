@@ -35,7 +35,7 @@ fn reads_tasklists(options: Options) -> bool
 impl<'a, E: EntityLookup> Pass<'a, E> {
     ghost use Rattle.cmark_blocks.specs.declared.state.OpenLeaf.TheVariants as leaf;
     ghost use Rattle.cmark_blocks.specs.Runs.{IsGood};
-    ghost use Rattle.cmark_leaves.specs.Told.{IsRead};
+    ghost use Rattle.cmark_leaves.specs.TextColumns.{IsRead};
     ghost use Rattle.cmark_blocks.specs.Steps.{Steps, Begins, BeginsAnew, BeginsTask};
     ghost use Rattle.cmark_blocks.specs.Entered.{BeginsAs, BeginsContainer, BeginsFirst, DefinesAs};
 

@@ -16,7 +16,7 @@ impl<'a, E: EntityLookup> Pass<'a, E> {
     ghost use Rattle.cmark_blocks.specs.declared.state.OpenLeaf.TheVariants as leaf;
     ghost use Rattle.cmark_blocks.specs.Entered.{HoldsMetadata, TellsMetadata};
     ghost use Rattle.cmark_blocks.specs.Runs.{IsGood};
-    ghost use Rattle.cmark_leaves.specs.Told.{IsRead};
+    ghost use Rattle.cmark_leaves.specs.TextColumns.{IsRead};
     ghost use Rattle.cmark_blocks.specs.Steps.{BeginsLeaf, FeedsLeaf};
 
     /// Whether the lines behind this one are those of a metadata block of this kind: one of them ends it, and the first is neither

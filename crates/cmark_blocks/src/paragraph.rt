@@ -3,7 +3,7 @@
 ghost use Rattle.std.specs.Prelude.{◌≡◌, List, ℕ, map, OnOk, false};
 ghost use Rattle.cmark_block_model.specs.BlockPass.{kept_lines};
 ghost use Rattle.cmark_leaves.specs.Contents.{AreRead};
-ghost use Rattle.cmark_leaves.specs.Told.{IsRead};
+ghost use Rattle.cmark_leaves.specs.TextColumns.{IsRead};
 ghost use Rattle.cmark_lines.specs.Rests.{row_of};
 
 use crate::heading::reads_attributes;

@@ -58,7 +58,7 @@ fn table_body<'a>(builder: &mut Builder<'a>, row: &'a str) -> Result<ItemBody, A
 impl<'a, E: EntityLookup> Pass<'a, E> {
     ghost use Rattle.cmark_blocks.specs.declared.state.OpenLeaf.TheVariants as leaf;
     ghost use Rattle.cmark_blocks.specs.Runs.{IsGood};
-    ghost use Rattle.cmark_leaves.specs.Told.{IsRead};
+    ghost use Rattle.cmark_leaves.specs.TextColumns.{IsRead};
     ghost use Rattle.cmark_blocks.specs.Steps.{BeginsText, FeedsLeaf};
     ghost use Rattle.cmark_blocks.specs.TablesAhead.{TellsHead, TellsInterrupts, TellsBlock, GoesOnWithRow, DrawsRows, BeginsTable};
 

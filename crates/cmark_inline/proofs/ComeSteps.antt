@@ -26,7 +26,7 @@ use Rattle.cmark_inline_model.specs.PlacedTokens.{may_open_markup}
 use Rattle.cmark_inline.specs.Closers as closers
 use Rattle.cmark_inline.specs.Decided.{ReadsSame}
 use Rattle.cmark_inline.specs.Come.{HasCome, HasEscaped, HasReached, IsPending}
-use Rattle.cmark_inline.specs.FoundInSource.{AppendsMarkup, AppendsUnclosed, ReadsLess}
+use Rattle.cmark_inline.specs.MarkupInSource.{AppendsMarkup, AppendsUnclosed, ReadsLess}
 use Rattle.cmark_inline.specs.PlainStretches.{StandUpTo}
 use Rattle.cmark_inline.specs.Reached.{ReadsPlaces}
 use Rattle.cmark_inline.specs.SlotViews.{shown_slots}

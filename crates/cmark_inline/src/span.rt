@@ -10,7 +10,7 @@ ghost use Rattle.cmark_inline.specs.Linked.{IsAutolink};
 ghost use Rattle.cmark_inline.specs.declared.link.LinkParts.{LinkParts as Parts};
 ghost use Rattle.cmark_inline.specs.Stands.{AreSlots, AreBrackets, IsBracket, IsCursor, IsSlot, IsTarget, Moves, SameSpans, Stands, bytes_of};
 ghost use Rattle.cmark_inline.specs.Tokens.{Appends, PutsAutolink, TakesEscaped};
-ghost use Rattle.cmark_inline.specs.FoundInSource.{AreUnclosed, ReadsLess};
+ghost use Rattle.cmark_inline.specs.MarkupInSource.{AreUnclosed, ReadsLess};
 ghost use Rattle.cmark_inline.specs.Sound.{AreEnded, IsSound, KeepsSound};
 
 use crate::event::text_between;

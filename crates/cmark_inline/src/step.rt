@@ -11,7 +11,7 @@ ghost use Rattle.cmark_inline.specs.PlainStretches.{IsSetOf};
 ghost use Rattle.cmark_inline.specs.Resolved.{Resolves};
 ghost use Rattle.cmark_inline.specs.Stands.{AreSlots, AreBrackets, IsBracket, IsCursor, IsSlot, IsTarget, Moves, SameSpans, Stands, PushesText, begins_link, bytes_of};
 ghost use Rattle.cmark_inline.specs.Footnoted.{SameFootnotes};
-ghost use Rattle.cmark_inline.specs.FoundInSource.{AreUnclosed};
+ghost use Rattle.cmark_inline.specs.MarkupInSource.{AreUnclosed};
 ghost use Rattle.cmark_inline.specs.Marked.{AreWhole, EndWithin};
 ghost use Rattle.cmark_inline.specs.Sound.{AreEnded, IsSound};
 ghost use Rattle.cmark_inline.specs.SlotViews.{AreLeft};

@@ -9,7 +9,7 @@ use Rattle.cmark_scan.specs.LineStart.{columns_taken}
 use Rattle.cmark_lines.proofs.RestSteps.{rest-runs}
 use Rattle.cmark_lines.specs.Rests.{row_of}
 use Rattle.cmark_lines.specs.declared.line_rest.LineRest.{LineRest}
-use Rattle.cmark_leaves.specs.Told.{AreTold}
+use Rattle.cmark_leaves.specs.TextColumns.{AreTold}
 
 -- the first of these columns is a further one of a tab
 abbrev pub goes_on : List Column → Bool

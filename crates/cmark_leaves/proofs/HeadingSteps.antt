@@ -12,7 +12,7 @@ use Rattle.cmark_lines.specs.Rests.{row_of}
 use Rattle.cmark_lines.specs.declared.line_rest.LineRest.{LineRest}
 use Rattle.std.specs.Str.{IsUtf8}
 use Rattle.cmark_grammar.specs.Attributes.{before_braces, inside_braces}
-use Rattle.cmark_leaves.specs.Told.{AreTold}
+use Rattle.cmark_leaves.specs.TextColumns.{AreTold}
 use Rattle.cmark_leaves.specs.Closings.{behind_opening, without_closing_bytes, without_attributes_bytes, StandsAt, attribute_bytes}
 use Rattle.cmark_leaves.proofs.BraceSteps.{attributes-cut, attributes-bytes, inside-bytes, stands-in}
 use Rattle.cmark_leaves.proofs.ColumnCuts.{goes_on, AreTabbed, Cut, drop-tabbed, front-tabbed, front-runs, end-runs, drop_end-cut, drop_end-bytes, blanks-cut, words-runs, rest-tabbed, bytes-end, bytes-slice, drop-told}

@@ -5,9 +5,9 @@ pub mod ContentPlaces
 pub mod ContentSteps
 pub mod DrawSteps
 pub mod EndSteps
-pub mod FoundSetext
 pub mod HeadingSteps
 pub mod ReadSteps
+pub mod SetextContent
 pub mod TableSteps
-pub mod ToldSteps
+pub mod TextColumnSteps
 pub mod WordSteps

@@ -2,7 +2,7 @@
 use Rattle.std.proofs.Common.{◌≡◌, ℕ, zero, suc, ◌<◌, List, [], ◌∷◌, length, drop, get_or, sym, ap, subst, arith}
 use Rattle.cmark_lines.specs.declared.line_rest.LineRest.{LineRest}
 use Rattle.cmark_leaves.specs.Contents.{AreRead}
-use Rattle.cmark_leaves.specs.Told.{IsRead}
+use Rattle.cmark_leaves.specs.TextColumns.{IsRead}
 
 pub read-at : (text : List ℕ) (lines : List LineRest) (i : ℕ) (rest : LineRest) → AreRead text lines → i < length lines → rest ≡ get_or lines i rest → IsRead text rest
 read-at text [] i rest h l e = absurd (omega (arith, l))

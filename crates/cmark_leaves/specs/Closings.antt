@@ -8,7 +8,7 @@ use Rattle.cmark_grammar.specs.Rows.{Row, words_of}
 use Rattle.cmark_grammar.specs.Tokens.{attribute_columns, content_columns}
 use Rattle.cmark_lines.specs.Rests.{row_of, IsIn}
 use Rattle.cmark_lines.specs.declared.line_rest.LineRest.{LineRest}
-use Rattle.cmark_leaves.specs.Told.{AreTold}
+use Rattle.cmark_leaves.specs.TextColumns.{AreTold}
 
 -- what stands behind the `#` in front and the blanks there
 abbrev pub behind_opening : List ℕ → List ℕ

@@ -6,7 +6,7 @@ use Rattle.cmark_grammar.specs.Rows.{Row, begin_of}
 use Rattle.cmark_grammar.specs.SetextAttributes.{content_of, ends_in_braces, attributes_place}
 use Rattle.cmark_lines.specs.Rests.{row_of}
 use Rattle.cmark_lines.specs.declared.line_rest.LineRest.{LineRest}
-use Rattle.cmark_leaves.specs.Told.{IsRead}
+use Rattle.cmark_leaves.specs.TextColumns.{IsRead}
 use Rattle.cmark_leaves.specs.declared.setext.SetextAttributes.{SetextAttributes}
 
 -- these lines are read in the text

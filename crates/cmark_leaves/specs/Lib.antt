@@ -1,4 +1,4 @@
 pub mod Closings
 pub mod Contents
 pub mod Stretches
-pub mod Told
+pub mod TextColumns

@@ -4,7 +4,7 @@ ghost use Rattle.std.specs.Prelude.{◌≡◌, ◌≤◌, length, map, string_by
 ghost use Rattle.cmark_grammar.specs.Columns.{bytes_of};
 ghost use Rattle.cmark_lines.specs.Rests.{row_of};
 ghost use Rattle.cmark_leaves.specs.Contents.{AreRead, gathered_bytes, place_in, FindsSetext};
-ghost use Rattle.cmark_leaves.specs.Told.{IsRead};
+ghost use Rattle.cmark_leaves.specs.TextColumns.{IsRead};
 
 use crate::heading::count_before_braces;
 use crate::trailing::{without_trailing_blanks, without_trailing_white_space};

@@ -1,6 +1,6 @@
 use Rattle.std.proofs.Common.{sym, ap, ◌∙◌}
 use Rattle.cmark_grammar.specs.Columns.{is_blank_byte, drop_end}
-use Rattle.cmark_leaves.proofs.FoundSetext.{words-in, none-found, all-found}
+use Rattle.cmark_leaves.proofs.SetextContent.{words-in, none-found, all-found}
 use Rattle.cmark_leaves.proofs.setext.find_setext_attributes.Goals as goal
 
 pub returns-then-count-content : goal.returns-then-count-content

@@ -3,7 +3,7 @@ use Rattle.cmark_lines.specs.Rests.{row_of}
 use Rattle.cmark_blocks.specs.Entered.{BeginsSoFar}
 use Rattle.cmark_blocks.specs.declared.state.OpenLeaf.TheVariants as leaf
 use Rattle.cmark_blocks.specs.Runs.{IsGood}
-use Rattle.cmark_leaves.specs.Told.{IsRead}
+use Rattle.cmark_leaves.specs.TextColumns.{IsRead}
 use Rattle.cmark_blocks.proofs.state.Pass.begin_blocks.Given as goal
 
 abbrev pub invariant-loop-inside : goal.invariant-loop-inside

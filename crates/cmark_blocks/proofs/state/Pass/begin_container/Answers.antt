@@ -10,8 +10,8 @@ use Rattle.cmark_lines.specs.Boxes.{is_checked, IsBehindBox}
 use Rattle.cmark_lines.specs.Rests.{row_of, IsIn}
 use Rattle.cmark_lines.specs.Starts.{shown_start, inside_of, Enters}
 use Rattle.cmark_lines.specs.declared.container.ContainerStart.TheVariants as begun
-use Rattle.cmark_leaves.specs.Told.{AreTold, IsRead}
-use Rattle.cmark_leaves.proofs.ToldSteps.{without-told}
+use Rattle.cmark_leaves.specs.TextColumns.{AreTold, IsRead}
+use Rattle.cmark_leaves.proofs.TextColumnSteps.{without-told}
 use Rattle.cmark_blocks.specs.declared.state.OpenLeaf.TheVariants as leaf
 use Rattle.cmark_blocks.specs.Entered.{takes_line, line_taken}
 use Rattle.cmark_blocks.specs.Runs.{Runs}

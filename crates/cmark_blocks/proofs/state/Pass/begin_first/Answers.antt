@@ -12,8 +12,8 @@ use Rattle.cmark_block_model.specs.BlockPass.{ahead_in, begin_in, container_begu
 use Rattle.cmark_lines.specs.Opened.{InsideIsIn}
 use Rattle.cmark_lines.specs.Rests.{row_of}
 use Rattle.cmark_lines.proofs.RestSteps.{whole}
-use Rattle.cmark_leaves.specs.Told.{AreTold}
-use Rattle.cmark_leaves.proofs.ToldSteps.{without-told}
+use Rattle.cmark_leaves.specs.TextColumns.{AreTold}
+use Rattle.cmark_leaves.proofs.TextColumnSteps.{without-told}
 use Rattle.cmark_blocks.specs.Ahead.{lines_at}
 use Rattle.cmark_blocks.specs.Entered.{OpensAs}
 use Rattle.cmark_blocks.specs.Runs.{Runs}

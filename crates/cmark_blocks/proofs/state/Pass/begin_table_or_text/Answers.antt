@@ -7,7 +7,7 @@ use Rattle.cmark_block_model.specs.OpenBlocks as model
 use Rattle.cmark_blocks.specs.Ahead.{lines_at}
 use Rattle.cmark_blocks.specs.Runs.{Runs}
 use Rattle.cmark_blocks.specs.TablesAhead.{IsHead}
-use Rattle.cmark_blocks.proofs.KeptSteps.{shows-all}
+use Rattle.cmark_blocks.proofs.KeepingSteps.{shows-all}
 use Rattle.cmark_blocks.proofs.TableSteps.{begins-table, begins-paragraph}
 use Rattle.cmark_blocks.proofs.state.Pass.begin_table_or_text.Goals as goal
 

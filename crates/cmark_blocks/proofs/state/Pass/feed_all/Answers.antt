@@ -2,8 +2,8 @@ use Rattle.std.proofs.Common.{◌<◌, ◌≤◌, refl, sym, ap, subst, ◌∙�
 use Rattle.std.specs.Str.{IsCharBoundary}
 use Rattle.cmark_grammar.specs.Rows.{Row}
 use Rattle.cmark_lines.specs.Rests.{row_of, IsIn}
-use Rattle.cmark_leaves.specs.Told.{AreTold}
-use Rattle.cmark_leaves.proofs.ToldSteps.{line-told}
+use Rattle.cmark_leaves.specs.TextColumns.{AreTold}
+use Rattle.cmark_leaves.proofs.TextColumnSteps.{line-told}
 use Rattle.cmark_blocks.proofs.FeedSteps.{feeds-start, feeds-step, feeds-end}
 use Rattle.cmark_blocks.proofs.state.Pass.feed_all.Goals as goal
 

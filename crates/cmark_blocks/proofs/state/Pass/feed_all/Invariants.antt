@@ -1,5 +1,5 @@
 use Rattle.std.proofs.Common.{◌≡◌, ◌-◌, length}
-use Rattle.cmark_blocks.specs.Fed.{FeedsSoFar}
+use Rattle.cmark_blocks.specs.LineByLine.{FeedsSoFar}
 use Rattle.cmark_blocks.specs.Runs.{IsGood}
 use Rattle.cmark_blocks.proofs.state.Pass.feed_all.Given as goal
 

@@ -1,8 +1,8 @@
 use Rattle.std.proofs.Common.{ℕ, take, drop, sym, subst, ap, false}
 use Rattle.cmark_grammar.specs.Rows.{Row}
 use Rattle.cmark_lines.specs.Rests.{row_of}
-use Rattle.cmark_leaves.specs.Told.{AreTold}
-use Rattle.cmark_leaves.proofs.ToldSteps.{without-told}
+use Rattle.cmark_leaves.specs.TextColumns.{AreTold}
+use Rattle.cmark_leaves.proofs.TextColumnSteps.{without-told}
 use Rattle.cmark_block_model.specs.BlockPass.{Kept, line_with}
 use Rattle.cmark_block_model.specs.OpenBlocks as model
 use Rattle.cmark_blocks.specs.Ahead.{lines_at}

@@ -6,7 +6,7 @@ use Rattle.cmark_blocks.specs.Ahead.{lines_at}
 use Rattle.cmark_blocks.specs.Runs.{Runs}
 use Rattle.cmark_blocks.proofs.ClosingSteps.{shows-length}
 use Rattle.cmark_blocks.proofs.FeedSteps.{rest-kept, rest-lazy, rest-ends, closed-outer}
-use Rattle.cmark_blocks.proofs.KeptSteps.{shows-all, shows-some}
+use Rattle.cmark_blocks.proofs.KeepingSteps.{shows-all, shows-some}
 use Rattle.cmark_blocks.proofs.state.Pass.feed_rest.Goals as goal
 
 pub returns-then-kept-len-clause-runs : goal.returns-then-kept-len-clause-runs

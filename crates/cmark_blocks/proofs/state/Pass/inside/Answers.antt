@@ -7,7 +7,7 @@ use Rattle.cmark_blocks.specs.Shown.{ShowsContainers}
 use Rattle.cmark_blocks.specs.declared.state.OpenContainer.{OpenContainer}
 use Rattle.cmark_blocks.proofs.AheadSteps.{Sees, sees}
 use Rattle.cmark_blocks.proofs.FeedSteps.{is-zero}
-use Rattle.cmark_blocks.proofs.KeptSteps.{shows-all, shows-some}
+use Rattle.cmark_blocks.proofs.KeepingSteps.{shows-all, shows-some}
 use Rattle.cmark_blocks.proofs.state.Pass.inside.Goals as goal
 
 -- where no container is open, none is in the grammar's list

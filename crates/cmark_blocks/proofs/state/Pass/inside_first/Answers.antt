@@ -3,7 +3,7 @@ use Rattle.std.proofs.lemmas.Option.{slice_get_read}
 use Rattle.cmark_lines.specs.Rests.{row_of}
 use Rattle.cmark_blocks.proofs.AheadSteps.{inside-start}
 use Rattle.cmark_blocks.proofs.InsideSteps.{first-keeps, first-misses, first-all}
-use Rattle.cmark_blocks.proofs.KeptSteps.{behind-more}
+use Rattle.cmark_blocks.proofs.KeepingSteps.{behind-more}
 use Rattle.cmark_blocks.proofs.state.Pass.inside_first.Goals as goal
 
 pub loop-at-init : goal.loop-at-init

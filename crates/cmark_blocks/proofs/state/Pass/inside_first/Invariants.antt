@@ -4,7 +4,7 @@ use Rattle.cmark_grammar.specs.Options.{Options}
 use Rattle.cmark_grammar.specs.Rows.{Row}
 use Rattle.cmark_lines.specs.Rests.{IsIn, row_of}
 use Rattle.cmark_block_model.specs.OpenBlocks as model
-use Rattle.cmark_blocks.specs.Kept.{IsBehind}
+use Rattle.cmark_blocks.specs.KeepingContainers.{IsBehind}
 use Rattle.cmark_blocks.specs.Runs.{Runs}
 use Rattle.cmark_blocks.proofs.AheadSteps.{Inside}
 use Rattle.cmark_blocks.proofs.state.Pass.inside_first.Given as goal

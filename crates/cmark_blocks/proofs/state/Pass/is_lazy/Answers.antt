@@ -6,7 +6,7 @@ use Rattle.cmark_block_model.specs.OpenBlocks.{takes_lazy}
 use Rattle.cmark_grammar.specs.Openings.{interrupts, lazily}
 use Rattle.cmark_blocks.specs.Ahead.{lines_at}
 use Rattle.cmark_blocks.specs.TablesAhead.{block_interrupts}
-use Rattle.cmark_blocks.proofs.KeptSteps.{shows-there}
+use Rattle.cmark_blocks.proofs.KeepingSteps.{shows-there}
 use Rattle.cmark_blocks.proofs.FeedSteps.{and-false, lazily-unless, lazily-not, is-not}
 use Rattle.cmark_blocks.proofs.state.Pass.is_lazy.Goals as goal
 use Rattle.cmark_blocks.proofs.state.Pass.is_lazy.Goals.{then-takes_lazy, else-takes_lazy}

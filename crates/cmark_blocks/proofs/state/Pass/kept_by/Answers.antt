@@ -4,7 +4,7 @@ use Rattle.std.proofs.lemmas.Option.{slice_get_read}
 use Rattle.cmark_grammar.specs.Containers as grammar
 use Rattle.cmark_lines.specs.Rests.{row_of}
 use Rattle.cmark_lines.specs.Starts.{Shows}
-use Rattle.cmark_blocks.proofs.KeptSteps.{keeps-on, keeps-not, keeps-all, behind-more}
+use Rattle.cmark_blocks.proofs.KeepingSteps.{keeps-on, keeps-not, keeps-all, behind-more}
 use Rattle.cmark_blocks.proofs.state.Pass.kept_by.Goals as goal
 
 pub loop-kept-init : goal.loop-kept-init

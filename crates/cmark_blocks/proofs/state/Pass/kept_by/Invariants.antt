@@ -1,6 +1,6 @@
 use Rattle.std.proofs.Common.{List, ℕ, ◌≤◌, ◌-◌, length}
 use Rattle.cmark_lines.specs.Rests.{IsIn}
-use Rattle.cmark_blocks.specs.Kept.{IsBehind, KeepsSoFar}
+use Rattle.cmark_blocks.specs.KeepingContainers.{IsBehind, KeepsSoFar}
 use Rattle.cmark_blocks.proofs.state.Pass.kept_by.Given as goal
 
 abbrev pub invariant-loop-kept : goal.invariant-loop-kept

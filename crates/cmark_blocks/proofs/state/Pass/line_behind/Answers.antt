@@ -1,10 +1,10 @@
 use Rattle.std.proofs.Common.{Option, Some, None, ap, ◌∙◌, subst, take, length, arith}
 use Rattle.std.specs.Prelude.{IfSome}
-use Rattle.cmark_leaves.specs.Told.{AreTold}
-use Rattle.cmark_leaves.proofs.ToldSteps.{line-told, without-told}
+use Rattle.cmark_leaves.specs.TextColumns.{AreTold}
+use Rattle.cmark_leaves.proofs.TextColumnSteps.{line-told, without-told}
 use Rattle.cmark_lines.specs.Rests.{row_of}
 use Rattle.cmark_lines.specs.declared.line_rest.LineRest.{LineRest}
-use Rattle.cmark_blocks.specs.Kept.{IsBehind}
+use Rattle.cmark_blocks.specs.KeepingContainers.{IsBehind}
 use Rattle.cmark_blocks.proofs.AheadSteps.{next-line, no-line}
 use Rattle.cmark_blocks.proofs.state.Pass.line_behind.Goals as goal
 

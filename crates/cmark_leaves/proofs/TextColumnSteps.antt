@@ -7,7 +7,7 @@ use Rattle.cmark_grammar.specs.Lines.{lines, content}
 use Rattle.cmark_grammar.specs.Rows.{Row, row_at, without}
 use Rattle.cmark_grammar.proofs.BoundaryLaws.{joined, lines-ended, content-cut}
 use Rattle.cmark_grammar.proofs.RowPlaces.{kept-behind}
-use Rattle.cmark_leaves.specs.Told.{AreTold}
+use Rattle.cmark_leaves.specs.TextColumns.{AreTold}
 use Rattle.cmark_leaves.proofs.ColumnCuts.{drop-told}
 
 tab-told : (text : List ℕ) (at part n : ℕ) (rest : List Column) → drop at text ≡ tab ∷ drop (suc at) text → AreTold text rest → AreTold text (tab_columns at part n ++ rest)

@@ -17,7 +17,7 @@ use Rattle.cmark_lines.specs.declared.line_rest.LineRest.{LineRest}
 use Rattle.cmark_block_model.specs.BlockPass.{Kept, kept_by, kept_if, is_last}
 use Rattle.cmark_block_model.specs.OpenBlocks as model
 use Rattle.cmark_blocks.specs.declared.state.OpenContainer.{OpenContainer}
-use Rattle.cmark_blocks.specs.Kept.{IsBehind}
+use Rattle.cmark_blocks.specs.KeepingContainers.{IsBehind}
 use Rattle.cmark_blocks.specs.Shown.{ShowsContainer, ShowsContainers}
 
 behind-next : (line rest inside : LineRest) (g : grammar.Container) (bare : Bool) → Some (row_of inside) ≡ keeps g bare (row_of rest) → IsBehind line rest → IsBehind line inside
