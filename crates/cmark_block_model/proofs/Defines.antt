@@ -10,7 +10,7 @@ use Rattle.cmark_grammar.specs.Lists.{ListBefore, tight_behind, goes_on, definit
 use Rattle.cmark_grammar.specs.Tokens.{fenced_lines, lines_before, paragraph_tokens}
 use Rattle.cmark_grammar.specs.Derivation.{paragraph_kind, leaf_then, item_then, document_of, reference_of, stop_of, list_kind}
 use Rattle.cmark_grammar.specs.BlockDocument as document
-use Rattle.cmark_grammar.specs.BlockDocument.{Reference, BlockDocument, Node, node, BlockKind}
+use Rattle.cmark_grammar.specs.BlockDocument.{BlockDocument, Node, node, BlockKind}
 use Rattle.cmark_grammar.specs.References.{references, reference_of_kind}
 use Rattle.cmark_grammar.specs.Metadata.{ends_metadata}
 use Rattle.cmark_block_model.specs.OpenBlocks.{OpenList, Title}

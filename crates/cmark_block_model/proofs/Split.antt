@@ -13,7 +13,7 @@ use Rattle.cmark_grammar.specs.Lists.{definition_mark, is_title, loose_from, is_
 use Rattle.cmark_grammar.specs.Tokens.{paragraph_tokens}
 use Rattle.cmark_grammar.specs.Derivation.{leaf_then, list_kind}
 use Rattle.cmark_grammar.specs.BlockDocument as document
-use Rattle.cmark_grammar.specs.BlockDocument.{BlockKind, BlockNode, BlockDocument, Nil, Node, node, join}
+use Rattle.cmark_grammar.specs.BlockDocument.{BlockKind, BlockDocument, Nil, Node, node, join}
 use Rattle.cmark_block_model.proofs.Replay.{marked}
 
 -- the items that go on with a list, where the last one ends, and the document behind them

@@ -11,7 +11,7 @@ use Rattle.cmark_grammar.specs.Blocks.{Blocks, Nil as NoBlocks, LeafBlock, join 
 use Rattle.cmark_grammar.specs.BlocksByLine.{Verbatim, Indented, Fenced, HtmlLines, further_in, InVerbatim, close_lines, verbatim_line, lines_begin, Metadata, leaf_in, blank_lines}
 use Rattle.cmark_grammar.specs.Tokens.{resolved, code_tokens, code_columns, fenced_lines, html_tokens, stop_at, lines_before}
 use Rattle.cmark_grammar.specs.BlockDocument as document
-use Rattle.cmark_grammar.specs.BlockDocument.{BlockDocument, Nil, Node, node, join}
+use Rattle.cmark_grammar.specs.BlockDocument.{join}
 use Rattle.cmark_grammar.specs.Metadata.{ends_metadata}
 use Rattle.cmark_block_model.specs.CodeLines.{no_run, code_line, texts_of, rest_of}
 use Rattle.cmark_block_model.specs.OpenBlocks.{OpenContainer, OpenLeaf, Closed, InFenced, InHtml, Pass, InMetadata}

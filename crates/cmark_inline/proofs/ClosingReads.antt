@@ -28,7 +28,7 @@ use Rattle.cmark_text.specs.declared.text.CowStr.{CowStr}
 use Rattle.cmark_inline_model.specs.BracketPass.{Pass}
 use Rattle.cmark_inline_model.specs.LikeSlots.{AreLike, IsLike}
 use Rattle.cmark_inline_model.specs.RowParts.{BracketPlace, text_slot}
-use Rattle.cmark_inline_model.specs.RowPasses.{IsReached, linked_slots}
+use Rattle.cmark_inline_model.specs.RowPasses.{IsReached}
 use Rattle.cmark_inline_model.specs.SlotRows as row
 use Rattle.cmark_inline_model.proofs.RowParts.{cut-row}
 use Rattle.cmark_inline.specs.Closers.{Formed, LinksTaken, ReadsOn}

@@ -13,7 +13,6 @@ use Rattle.cmark_grammar.specs.Parts.{Nil, Single}
 use Rattle.cmark_grammar.specs.Readers.{Reader}
 use Rattle.cmark_grammar.specs.Siblings.{item, uri_link}
 use Rattle.cmark_grammar.specs.Tag as tag
-use Rattle.cmark_grammar.specs.Tag.{Linked}
 use Rattle.cmark_grammar.specs.Tokens.{slice}
 use Rattle.cmark_leaf_text.specs.Reads.{is_cell_of, place_of, text_of}
 use Rattle.cmark_leaf_text.specs.declared.leaf_text.LeafText.{LeafText}

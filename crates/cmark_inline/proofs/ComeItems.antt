@@ -19,7 +19,7 @@ use Rattle.cmark_inline.specs.Come.{HasReached}
 use Rattle.cmark_inline.specs.Reached.{ReadsPlaces}
 use Rattle.cmark_inline.specs.Sound.{IsSound}
 use Rattle.cmark_inline.specs.Stands as stands
-use Rattle.cmark_inline.specs.Stands.{AreSlots, IsSlot, PushesText}
+use Rattle.cmark_inline.specs.Stands.{IsSlot, PushesText}
 use Rattle.cmark_inline.specs.Tokens.{Appends, BeginsThere, Says, begins_at, opens_markup}
 use Rattle.cmark_inline.specs.declared.callback.BrokenLink.{BrokenLink}
 use Rattle.cmark_inline.specs.declared.slot.Slot.{Slot}

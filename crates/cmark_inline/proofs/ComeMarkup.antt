@@ -7,7 +7,7 @@ use Rattle.std.proofs.lemmas.Bool.{or_cases}
 use Rattle.cmark_grammar.specs.InlineHtml.{behind_markup}
 use Rattle.cmark_grammar.specs.InlineReading.{event_of}
 use Rattle.cmark_grammar.specs.InlineTokens as grammar
-use Rattle.cmark_grammar.specs.InlineTokens.{begins, from, item_at, longest, markup_or, read_on, tag_or_text, token}
+use Rattle.cmark_grammar.specs.InlineTokens.{begins, from, longest, markup_or, read_on, tag_or_text, token}
 use Rattle.cmark_grammar.specs.Items.{Html, Own, Item, Stands}
 use Rattle.cmark_grammar.specs.LeafReading.{Between}
 use Rattle.cmark_grammar.specs.LeafText.{Leaf, end_of}

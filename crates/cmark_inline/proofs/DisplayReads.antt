@@ -1,6 +1,6 @@
 -- What the grammar's pass has read with a closing bracket that forms a wikilink which shows what stands behind its pipe.
-use Rattle.std.specs.Prelude.{drop, take, map, Option, Some, None}
-use Rattle.std.proofs.Common.{◌≡◌, ◌⊎◌, inl, inr, ℕ, zero, suc, ◌+◌, ◌-◌, ◌<◌, ◌≤◌, ◌==◌, Bool, true, false, true≢false, List, [], ◌∷◌, ◌++◌, length, get_or, refl, sym, ap, subst, ◌∙◌, arith, append_assoc, length-append, length-drop}
+use Rattle.std.specs.Prelude.{drop, take, map, Some}
+use Rattle.std.proofs.Common.{◌≡◌, ◌⊎◌, inl, inr, ℕ, suc, ◌+◌, ◌-◌, ◌<◌, ◌≤◌, ◌==◌, Bool, true, false, true≢false, List, [], ◌∷◌, ◌++◌, length, get_or, refl, sym, ap, subst, ◌∙◌, arith, append_assoc, length-drop}
 use Rattle.std.proofs.lemmas.Bool.{cases_lt}
 use Rattle.std.proofs.lemmas.List.{ext_get_or, get_or-drop, get_or-take, length-take-le, take-append-drop}
 use Rattle.cmark_grammar.specs.BracketDecisions.{decide, behind_pipe, name_in}
@@ -39,7 +39,6 @@ use Rattle.cmark_inline.specs.Wikilinks.{Hides, IsFirstBehind, Shows, ShowsFrom,
 use Rattle.cmark_inline.specs.Written.{dressed_behind, wrapped}
 use Rattle.cmark_inline.specs.declared.bracket.Bracket.{Bracket}
 use Rattle.cmark_inline.specs.declared.slot.Slot.{Slot}
-use Rattle.cmark_inline.specs.declared.slot.SlotKind.TheVariants as kind
 use Rattle.cmark_inline.specs.declared.state.InlineState.{InlineState}
 use Rattle.cmark_inline.specs.declared.wikilink.Wikilink.{Wikilink}
 use Rattle.cmark_inline.proofs.AfterSteps.{IsTried}

@@ -13,20 +13,17 @@ use Rattle.cmark_emphasis.specs.declared.slot.Slot.TheVariants as mark
 use Rattle.cmark_grammar.specs.Emphasis.{Pair, IsEmphasis, StandFrom, kinds_of, places_taken, runs_of}
 use Rattle.cmark_grammar.specs.EmphasisModel.{pairs_of, spans_of}
 use Rattle.cmark_grammar.specs.SpanEntries as entries
-use Rattle.cmark_grammar.specs.Options.{Options}
 use Rattle.cmark_grammar.specs.Spans.{SpanKind, Emphasis, Strong, SingleTilde, DoubleTilde, Caret, Spans, span_width}
 use Rattle.cmark_grammar.proofs.EmphasisOne.{one}
 use Rattle.cmark_grammar.proofs.EmphasisSound.{sound as emphasis}
 use Rattle.cmark_grammar.proofs.SpanEntries.{pairs-marked}
-use Rattle.cmark_inline_model.specs.SlotRows as row
-use Rattle.cmark_inline_model.specs.SlotRows.{Mark, marked, Stays, opening, closing, marks_by, marks_of, run_places}
+use Rattle.cmark_inline_model.specs.SlotRows.{Mark, Stays, opening, closing, marks_by, run_places}
 use Rattle.cmark_inline_model.proofs.SlotLaws.{entries-say}
 use Rattle.cmark_inline.specs.Marked.{AreAhead, AreReady, AreWhole, HaveBytes, places_of, shown_mark, siblings_from, SameBefore}
 use Rattle.cmark_inline.specs.Tokens.{byte_slots}
 use Rattle.cmark_inline.specs.declared.delimiter.PlacedRun.{PlacedRun}
 use Rattle.cmark_inline.specs.declared.slot.Slot.{Slot}
 use Rattle.cmark_inline.specs.declared.slot.SlotKind.TheVariants as kind
-use Rattle.cmark_inline.proofs.Marks.{begun-further}
 
 -- ## Runs as siblings
 
