@@ -29,7 +29,7 @@ use Rattle.cmark_inline.specs.Linked as linked
 use Rattle.cmark_inline.specs.Linked.{InlineLink, Refers, left_behind, reference_behind, shown_asked, shown_target}
 use Rattle.cmark_inline.specs.declared.bracket.Bracket.{Bracket}
 use Rattle.cmark_inline.specs.declared.callback.BrokenLink.{BrokenLink}
-use Rattle.cmark_inline.specs.declared.link.Asked.{Asked}
+use Rattle.cmark_inline.specs.declared.reference.Asked.{Asked}
 use Rattle.cmark_inline.specs.declared.link.Target.{Target}
 use Rattle.cmark_inline.specs.declared.state.InlineState.{InlineState}
 use Rattle.cmark_inline.proofs.DecisionSteps.{refers-spent, refers-led, stays-settled}

@@ -6,7 +6,7 @@ use Rattle.cmark_leaf_text.specs.Reads.{IsPart}
 use Rattle.cmark_inline.specs.declared.bracket.Bracket.{Bracket}
 use Rattle.cmark_inline.specs.declared.delimiter.PlacedRun.{PlacedRun}
 use Rattle.cmark_inline.specs.declared.event.Opened.{Opened}
-use Rattle.cmark_inline.specs.declared.link.Asked.{Asked}
+use Rattle.cmark_inline.specs.declared.reference.Asked.{Asked}
 use Rattle.cmark_inline.specs.declared.link.Target.{Target}
 use Rattle.cmark_inline.specs.declared.slot.Element.{Element}
 use Rattle.cmark_inline.specs.declared.slot.Element.TheVariants as element

@@ -19,7 +19,7 @@ ghost use Rattle.cmark_leaf_text.specs.declared.leaf_text.LeafText.{LeafText as 
 ghost use Rattle.cmark_inline.specs.Stands.{AreSlots, IsBracket, IsSlot, Moves, NoNewLink, Stands, begins_link};
 
 use crate::bracket::Bracket;
-use crate::link::label_text;
+use crate::reference::label_text;
 use crate::slot::{Slot, SlotKind, hide, put_slot, replace_slot};
 use crate::state::InlineState;
 use crate::step::Cursor;
