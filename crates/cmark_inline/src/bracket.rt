@@ -1,9 +1,9 @@
 //! Opening brackets, and those that may still form a link or an image (CommonMark 6.3 and 6.4).
 
-ghost use Rattle.std.specs.Prelude.{◌≡◌, ◌≤◌, min, true, false, ◌-◌, ◌++◌, ◌∷◌, [], ℕ, List, length, take, OnOk, IfSome, ◌⊎◌, Bool, ◌<◌, slice_index, IfOk, ◌+◌};
+ghost use Rattle.std.specs.Prelude.{◌≡◌, ◌≤◌, min, true, false, ◌-◌, ◌++◌, ◌∷◌, [], ℕ, List, length, take, OnOk, IfSome, ◌⊎◌, Bool, slice_index, IfOk, ◌+◌};
 ghost use Rattle.cmark_inline.specs.Doubled.{DropsBehind, doubles, nearest, touching};
 ghost use Rattle.cmark_text.specs.Shown.{shown_options};
-ghost use Rattle.cmark_inline.specs.Stands.{AreBrackets, AreFree, HoldNoLink, IsBracket, IsCursor, Moves, Stands};
+ghost use Rattle.cmark_inline.specs.Stands.{IsAtByte, AreBrackets, AreFree, HoldNoLink, IsBracket, IsCursor, Moves, Stands};
 ghost use Rattle.cmark_inline.specs.declared.slot.Slot.{Slot};
 ghost use Rattle.cmark_grammar.specs.Answers.{Lookup};
 ghost use Rattle.cmark_inline.specs.Sound.{KeepsSound};
@@ -164,10 +164,7 @@ impl<'a> InlineState<'a> {
         text: &str,
         here: Cursor,
     ) -> Result<Cursor, AllocError>
-        requires stands { Stands text.now here.pending self.old }
-        requires cursor { IsCursor text.now here }
-        requires here { here.at < length text.now }
-        requires ascii { slice_index text.now here.at < 128 }
+        requires byte { IsAtByte text.now here self.old }
         ensures expansion { self.new.expansion ≡ self.old.expansion }
         ensures keeps { OnOk result (KeepsSound self.old self.new) }
         ensures moves { IfOk result (Moves text.now here.at self.new) }

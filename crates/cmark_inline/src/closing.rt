@@ -1,13 +1,13 @@
 //! Closing brackets, and the links and images that they form (CommonMark 6.3 and 6.4).
 
-ghost use Rattle.std.specs.Prelude.{◌≡◌, ◌<◌, length, slice_index, IfOk, OnOk, false, ◌+◌, IfSome, None, Bool, ℕ, List, ◌++◌, ◌∷◌, [], ◌≤◌, drop, take};
+ghost use Rattle.std.specs.Prelude.{◌≡◌, ◌<◌, length, IfOk, OnOk, false, ◌+◌, IfSome, None, Bool, ℕ, List, ◌++◌, ◌∷◌, [], ◌≤◌, drop, take};
 ghost use Rattle.cmark_leaf_text.specs.Reads.{IsRead, text_of, IsPart};
 ghost use Rattle.cmark_text.specs.Shown.{shown_options};
 ghost use Rattle.cmark_inline.specs.Asking.{AsksOnce};
 ghost use Rattle.cmark_inline.specs.Closers.{Closes, LinksTaken, LeavesElement};
 ghost use Rattle.cmark_inline.specs.Footnoted.{SameFootnotes};
 ghost use Rattle.cmark_inline.specs.Sound.{AreEnded, IsSound, IsTakenFrom, CanSettle, IsSettled};
-ghost use Rattle.cmark_inline.specs.Stands.{IsCursor, Moves, Stands, Flushes, HoldNoLink, IsBracket, IsTarget, SameSpans, IsEnd, NoNewLink, AreSlots, bytes_of};
+ghost use Rattle.cmark_inline.specs.Stands.{IsAtByte, Moves, Stands, Flushes, HoldNoLink, IsBracket, IsTarget, SameSpans, IsEnd, NoNewLink, AreSlots, bytes_of};
 ghost use Rattle.cmark_leaf_text.specs.declared.leaf_text.LeafText.{LeafText as LeafTexts};
 ghost use Rattle.cmark_grammar.specs.BracketStates.{Opener};
 ghost use Rattle.cmark_grammar.specs.OpenBrackets.{nearest, used_up};
@@ -48,10 +48,7 @@ impl<'a> InlineState<'a> {
         text: &str,
         here: Cursor,
     ) -> Result<Cursor, AllocError>
-        requires stands { Stands text.now here.pending self.old }
-        requires cursor { IsCursor text.now here }
-        requires here { here.at < length text.now }
-        requires ascii { slice_index text.now here.at < 128 }
+        requires byte { IsAtByte text.now here self.old }
         requires read { IsRead leaf.now }
         requires same { text.now ≡ text_of leaf.now }
         requires sound { IsSound self.old }

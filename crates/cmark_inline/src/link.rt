@@ -1,14 +1,12 @@
 //! Links and images, and the inline ones: their destination and their title stand behind the closing bracket (CommonMark 6.3 and 6.4).
 
-ghost use Rattle.std.specs.Prelude.{◌≡◌, ◌==◌, List, None, ℕ, drop, IfOk, IfSome, option_copied, option_map};
+ghost use Rattle.std.specs.Prelude.{◌≡◌, ◌==◌, List, None, ℕ, drop, IfOk, option_copied};
 ghost use Rattle.std.specs.Str.{IsCharBoundary};
 ghost use Rattle.cmark_leaf_text.specs.Reads.{IsRead, is_cell_of, text_of};
 ghost use Rattle.cmark_grammar.specs.Letters.{first_is};
-ghost use Rattle.cmark_grammar.specs.LinkTails.{link_tail_in};
 ghost use Rattle.cmark_text.specs.Shown.{text_bytes};
-ghost use Rattle.cmark_inline.specs.Linked.{inline_link, resolved_title, shown_target};
+ghost use Rattle.cmark_inline.specs.Linked.{FindsInline, resolved_title, shown_target};
 ghost use Rattle.cmark_inline.specs.SlotViews.{linked_or_none, shown_parts};
-ghost use Rattle.cmark_inline.specs.Stands.{IsTarget};
 
 use cmark_finds::{link_tail, title_text};
 use cmark_leaf_text::LeafText;
@@ -58,9 +56,7 @@ fn inline_in<'t, E: EntityLookup>(
     entities: &E,
 ) -> Result<Option<Target<'t>>, AllocError>
     requires { IsCharBoundary text.now at }
-    ensures value { IfOk result (λ found. option_map (shown_target text.entry.now) found ≡ option_map (inline_link (E.replacement entities.now) is_cell) (link_tail_in (drop at text.entry.now))) }
-    ensures target { IfOk result (λ found. IfSome found (IsTarget text.entry.now at)) }
-    ensures past { IfOk result (λ found. IfSome found (λ target. target.past ≡ target.end)) }
+    ensures { IfOk result (FindsInline (E.replacement entities.now) is_cell text.entry.now at) }
 {
     let Some(tail) = link_tail(text, at) else {
         return Ok(None);
@@ -145,9 +141,7 @@ pub fn inline_target<'a, E: EntityLookup>(
     requires read { IsRead leaf.now }
     requires same { text.now ≡ text_of leaf.now }
     requires place { IsCharBoundary text.now at }
-    ensures value { IfOk result (λ found. option_map (shown_target text.now) found ≡ option_map (inline_link (E.replacement entities.now) (is_cell_of leaf.now)) (link_tail_in (drop at text.now))) }
-    ensures target { IfOk result (λ found. IfSome found (IsTarget text.now at)) }
-    ensures past { IfOk result (λ found. IfSome found (λ target. target.past ≡ target.end)) }
+    ensures { IfOk result (FindsInline (E.replacement entities.now) (is_cell_of leaf.now) text.now at) }
 {
     if !opens_tail(text, at) {
         return Ok(None);
@@ -167,9 +161,7 @@ fn tail_target<'a, E: EntityLookup>(
     requires read { IsRead leaf.now }
     requires same { text.now ≡ text_of leaf.now }
     requires place { IsCharBoundary text.now at }
-    ensures value { IfOk result (λ found. option_map (shown_target text.now) found ≡ option_map (inline_link (E.replacement entities.now) (is_cell_of leaf.now)) (link_tail_in (drop at text.now))) }
-    ensures target { IfOk result (λ found. IfSome found (IsTarget text.now at)) }
-    ensures past { IfOk result (λ found. IfSome found (λ target. target.past ≡ target.end)) }
+    ensures { IfOk result (FindsInline (E.replacement entities.now) (is_cell_of leaf.now) text.now at) }
 {
     let is_cell = leaf.is_cell();
     if let Some(source) = leaf.as_source() {
