@@ -1,6 +1,7 @@
 -- What a call of the block pass does to the state of its model.
-use Rattle.std.specs.Prelude.{◌≡◌, ℕ, Bool, List, [], ◌∷◌, ◌++◌, length, map, Some}
+use Rattle.std.specs.Prelude.{◌≡◌, ℕ, Bool, false, List, [], ◌∷◌, ◌++◌, length, map, Some}
 use Rattle.cmark_block_model.specs.BlockPass.{container_closed, containers_closed, paragraph_begun, paragraph_line, heading_made, leaf_begun, leaf_closed, ahead_in, begin, begin_as, leaf_fed, lazy_fed, with_drawn}
+use Rattle.cmark_leaves.specs.TextColumns.{IsRead}
 use Rattle.cmark_lines.specs.Opened.{bracket_of}
 use Rattle.cmark_lines.specs.Rests.{row_of}
 use Rattle.cmark_lines.specs.declared.line_rest.LineRest.{LineRest}
@@ -13,9 +14,25 @@ use Rattle.cmark_grammar.specs.Options.{Options}
 use Rattle.cmark_grammar.specs.Rows.{Row, begin_of}
 use Rattle.cmark_grammar.specs.TableRows.{table_head}
 use Rattle.cmark_block_model.specs.OpenBlocks as model
+use Rattle.cmark_blocks.specs.declared.state.OpenLeaf.TheVariants as leaf
 use Rattle.cmark_blocks.specs.declared.state.Pass.{Pass}
 use Rattle.cmark_blocks.specs.Ahead.{lines_at}
 use Rattle.cmark_blocks.specs.Runs.{Runs}
+
+module _ {E : Type 0} where
+  -- a step in the blocks of the innermost container leaves the tables, the lines that wait and the open leaf as they were
+  pub record LeavesTheRest (old new : Pass E) : Type 0 where
+    pub tables : new.builder.allocations ≡ old.builder.allocations
+    pub text : new.text ≡ old.text
+    pub blank_lines : new.blank_lines ≡ old.blank_lines
+    pub leaf : new.leaf ≡ old.leaf
+    pub bare : new.bare ≡ old.bare
+
+  -- a line of the text stands behind an open paragraph with this last line, which the lines from this byte offset on touch
+  pub record IsBehindParagraph (pass : Pass E) (from : ℕ) (last rest : LineRest) : Type 0 where
+    pub line : IsRead pass.text.now rest
+    pub is : pass.leaf ≡ leaf.Paragraph from last
+    pub bare : pass.bare ≡ false
 
 module _ {E : Type 0} (replacement : E → Lookup) where
   -- from whichever state of the model it was in, over whichever text, it makes this step

@@ -47,7 +47,7 @@ impl OpenList {
 
 impl<'a, E: EntityLookup> Pass<'a, E> {
     ghost use Rattle.cmark_blocks.specs.Runs.{IsGood};
-    ghost use Rattle.cmark_blocks.specs.Steps.{Steps, ClosesLast, ClosesAll};
+    ghost use Rattle.cmark_blocks.specs.Steps.{LeavesTheRest, Steps, ClosesLast, ClosesAll};
     ghost use Rattle.cmark_blocks.specs.KeepingContainers.{IsBehind, KeepsOf};
 
     /// A paragraph that was drawn in a definition list, and is no title, is put behind that list, which is closed.
@@ -57,11 +57,7 @@ impl<'a, E: EntityLookup> Pass<'a, E> {
         ensures runs { Steps E.replacement self.old self.new (λ p. record p { drawing = title_released p.inner.title p.drawing }) }
         ensures inner { self.new.inner ≡ self.old.inner }
         ensures outer { self.new.outer ≡ self.old.outer }
-        ensures tables { self.new.builder.allocations ≡ self.old.builder.allocations }
-        ensures text { self.new.text ≡ self.old.text }
-        ensures blank_lines { self.new.blank_lines ≡ self.old.blank_lines }
-        ensures leaf { self.new.leaf ≡ self.old.leaf }
-        ensures bare { self.new.bare ≡ self.old.bare }
+        ensures others { LeavesTheRest self.old self.new }
     {
         if let Some(list) = self.inner.list_around() {
             self.builder.release_last(list.end, list.body());
@@ -74,11 +70,7 @@ impl<'a, E: EntityLookup> Pass<'a, E> {
         ensures good { IsGood self.new }
         ensures runs { Steps E.replacement self.old self.new (λ p. record p { drawing = ended p.inner p.drawing }) }
         ensures outer { self.new.outer ≡ self.old.outer }
-        ensures tables { self.new.builder.allocations ≡ self.old.builder.allocations }
-        ensures text { self.new.text ≡ self.old.text }
-        ensures blank_lines { self.new.blank_lines ≡ self.old.blank_lines }
-        ensures leaf { self.new.leaf ≡ self.old.leaf }
-        ensures bare { self.new.bare ≡ self.old.bare }
+        ensures others { LeavesTheRest self.old self.new }
     {
         self.release_title();
         if let Some(list) = self.inner.list {
@@ -91,11 +83,7 @@ impl<'a, E: EntityLookup> Pass<'a, E> {
         requires { IsGood self.old }
         ensures good { IsGood self.new }
         ensures runs { Steps E.replacement self.old self.new block_begun }
-        ensures tables { self.new.builder.allocations ≡ self.old.builder.allocations }
-        ensures text { self.new.text ≡ self.old.text }
-        ensures blank_lines { self.new.blank_lines ≡ self.old.blank_lines }
-        ensures leaf { self.new.leaf ≡ self.old.leaf }
-        ensures bare { self.new.bare ≡ self.old.bare }
+        ensures others { LeavesTheRest self.old self.new }
     {
         self.close_list();
         self.inner = self.inner.with_block();
@@ -107,11 +95,7 @@ impl<'a, E: EntityLookup> Pass<'a, E> {
         requires { IsGood self.old }
         ensures good { IsGood self.new }
         ensures runs { Steps E.replacement self.old self.new text_block_begun }
-        ensures tables { self.new.builder.allocations ≡ self.old.builder.allocations }
-        ensures text { self.new.text ≡ self.old.text }
-        ensures blank_lines { self.new.blank_lines ≡ self.old.blank_lines }
-        ensures leaf { self.new.leaf ≡ self.old.leaf }
-        ensures bare { self.new.bare ≡ self.old.bare }
+        ensures others { LeavesTheRest self.old self.new }
     {
         if self.inner.has_list() {
             self.begin_text_behind_list();
@@ -126,11 +110,7 @@ impl<'a, E: EntityLookup> Pass<'a, E> {
         requires { IsGood self.old }
         ensures good { IsGood self.new }
         ensures runs { Steps E.replacement self.old self.new text_block_begun }
-        ensures tables { self.new.builder.allocations ≡ self.old.builder.allocations }
-        ensures text { self.new.text ≡ self.old.text }
-        ensures blank_lines { self.new.blank_lines ≡ self.old.blank_lines }
-        ensures leaf { self.new.leaf ≡ self.old.leaf }
-        ensures bare { self.new.bare ≡ self.old.bare }
+        ensures others { LeavesTheRest self.old self.new }
     {
         if self.inner.definitions().is_some() {
             self.inner = self.inner.with_paragraph();

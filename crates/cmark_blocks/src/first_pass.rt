@@ -1,6 +1,6 @@
 //! The block pass over a whole text.
 
-ghost use Rattle.std.specs.Prelude.{◌≡◌, OnOk, IfOk, false};
+ghost use Rattle.std.specs.Prelude.{◌≡◌, OnOk, IfOk};
 ghost use Rattle.cmark_text.specs.Shown.{shown_options};
 ghost use Rattle.cmark_blocks.specs.FirstPass.{Leaves};
 
@@ -21,7 +21,7 @@ pub struct FirstPass<'a> {
 }
 
 impl<'a, E: EntityLookup> Pass<'a, E> {
-    ghost use Rattle.cmark_blocks.specs.Runs.{Runs, IsGood};
+    ghost use Rattle.cmark_blocks.specs.Runs.{IsGood};
     ghost use Rattle.cmark_blocks.specs.LineByLine.{FeedsAll, ClosesEverything};
 
     /// All lines of the text from the next one on.

@@ -1,6 +1,6 @@
 //! Metadata blocks (this profile's own).
 
-ghost use Rattle.std.specs.Prelude.{◌≡◌, List, ℕ, OnOk, false, option_map};
+ghost use Rattle.std.specs.Prelude.{◌≡◌, ℕ, OnOk, false, option_map};
 ghost use Rattle.cmark_grammar.specs.Openings.{MetadataBlock};
 ghost use Rattle.cmark_lines.specs.Rests.{IsIn};
 ghost use Rattle.cmark_text.specs.Shown.{shown_metadata_block_kind};
@@ -16,7 +16,6 @@ impl<'a, E: EntityLookup> Pass<'a, E> {
     ghost use Rattle.cmark_blocks.specs.declared.state.OpenLeaf.TheVariants as leaf;
     ghost use Rattle.cmark_blocks.specs.Entered.{HoldsMetadata, TellsMetadata};
     ghost use Rattle.cmark_blocks.specs.Runs.{IsGood};
-    ghost use Rattle.cmark_leaves.specs.TextColumns.{IsRead};
     ghost use Rattle.cmark_blocks.specs.Steps.{BeginsLeaf, FeedsLeaf};
 
     /// Whether the lines behind this one are those of a metadata block of this kind: one of them ends it, and the first is neither

@@ -1,6 +1,6 @@
 //! Paragraphs: what begins them, their lines, and their end (CommonMark 4.8).
 
-ghost use Rattle.std.specs.Prelude.{◌≡◌, List, ℕ, map, OnOk, false};
+ghost use Rattle.std.specs.Prelude.{◌≡◌, List, ℕ, map, OnOk};
 ghost use Rattle.cmark_block_model.specs.BlockPass.{kept_lines};
 ghost use Rattle.cmark_leaves.specs.Contents.{AreRead};
 ghost use Rattle.cmark_leaves.specs.TextColumns.{IsRead};
@@ -33,7 +33,7 @@ fn keep_line<'a>(
 impl<'a, E: EntityLookup> Pass<'a, E> {
     ghost use Rattle.cmark_blocks.specs.declared.state.OpenLeaf.TheVariants as leaf;
     ghost use Rattle.cmark_blocks.specs.Runs.{IsGood};
-    ghost use Rattle.cmark_blocks.specs.Steps.{AddsLine, BeginsParagraph, FeedsLeaf, ClosesLeaf};
+    ghost use Rattle.cmark_blocks.specs.Steps.{IsBehindParagraph, AddsLine, BeginsParagraph, FeedsLeaf, ClosesLeaf};
 
     /// A paragraph begins on a line, with no leaf open.
     pub(crate) fn begin_paragraph(&mut self, rest: LineRest<'a>) -> Result<(), AllocError>
@@ -89,9 +89,7 @@ impl<'a, E: EntityLookup> Pass<'a, E> {
         rest: LineRest<'a>,
     ) -> Result<(), AllocError>
         requires good { IsGood self.old }
-        requires line { IsRead self.old.text.now rest }
-        requires is { self.old.leaf ≡ leaf.Paragraph from last }
-        requires bare { self.old.bare ≡ false }
+        requires behind { IsBehindParagraph self.old from last rest }
         ensures good { IsGood self.new }
         ensures runs { OnOk result (FeedsLeaf E.replacement rest.entry self.old self.new) }
         ensures text { self.new.text ≡ self.old.text }
@@ -119,9 +117,7 @@ impl<'a, E: EntityLookup> Pass<'a, E> {
         rest: LineRest<'a>,
     ) -> Result<(), AllocError>
         requires good { IsGood self.old }
-        requires line { IsRead self.old.text.now rest }
-        requires is { self.old.leaf ≡ leaf.Paragraph from last }
-        requires bare { self.old.bare ≡ false }
+        requires behind { IsBehindParagraph self.old from last rest }
         ensures good { IsGood self.new }
         ensures runs { OnOk result (FeedsLeaf E.replacement rest.entry self.old self.new) }
         ensures text { self.new.text ≡ self.old.text }

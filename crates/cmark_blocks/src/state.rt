@@ -1,6 +1,6 @@
 //! The state of the block pass.
 
-ghost use Rattle.std.specs.Prelude.{◌≡◌, List, ℕ, IfOk};
+ghost use Rattle.std.specs.Prelude.{IfOk};
 ghost use Rattle.cmark_text.specs.Shown.{shown_options};
 
 use crate::siblings::Siblings;

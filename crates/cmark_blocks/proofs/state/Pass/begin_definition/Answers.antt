@@ -10,4 +10,4 @@ returns-clause-runs g c text options lookup m runs =
     let replacement = g.E.EntityLookup.replacement in
     let kept = c.in_ok-keep_definition.ensures.runs text options lookup (block_begun m) (c.begin_block.ensures.runs text options lookup m runs) in
     runs-leaf replacement text options lookup _ c.keep_definition.new.self (leaf.Definition c.args.more) (model.InDefinition c.args.more) kept
-    (refl, ap (λ b. b.items) (c.in_ok-keep_definition.ensures.blank_lines ∙ c.begin_block.ensures.blank_lines) ∙ none_behind_closed replacement text options lookup m c.args.self.now c.requires.closed runs)
+    (refl, ap (λ b. b.items) (c.in_ok-keep_definition.ensures.blank_lines ∙ c.begin_block.ensures.others.blank_lines) ∙ none_behind_closed replacement text options lookup m c.args.self.now c.requires.closed runs)

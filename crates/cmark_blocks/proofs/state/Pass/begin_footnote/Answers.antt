@@ -20,7 +20,7 @@ returns-clause-noted g c =
     let before = c.args.self.now.builder.allocations in
     let kept = c.keep_label.new.allocations in
     subst (λ a. Notes label (tables before).footnotes (tables a).footnotes) (sym (c.enter.ensures.tables ∙ c.in_ok-open.ensures.tables))
-    (subst (λ a. Notes label (tables a).footnotes (tables kept).footnotes) c.begin_block.ensures.tables
+    (subst (λ a. Notes label (tables a).footnotes (tables kept).footnotes) c.begin_block.ensures.others.tables
     (subst (λ l. Notes l (tables c.begin_block.new.self.builder.allocations).footnotes (tables kept).footnotes) c.label_in-label.ensures c.in_ok-index.ensures.noted))
 
 pub returns-clause-runs : goal.returns-clause-runs

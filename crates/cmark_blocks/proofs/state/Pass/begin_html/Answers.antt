@@ -34,7 +34,7 @@ returns-then-ends_at_once-clause-runs g c more text options lookup m ahead runs 
     (runs-leaf replacement text options lookup _ _ leaf.Closed model.Closed
     (runs-builder replacement text options lookup (block_begun m) before c.close.new.self (closed_at row.past line) r draws
     (ap (λ a. defined (tables a)) c.close.ensures.tables ∙ c.in_ok-draw_html_line.ensures.definitions ∙ ap (λ a. defined (tables a)) c.in_ok-open.ensures.tables))
-    (refl, ap (λ b. b.items) c.begin_block.ensures.blank_lines ∙ none_behind_closed replacement text options lookup m c.args.self.now c.requires.closed runs))
+    (refl, ap (λ b. b.items) c.begin_block.ensures.others.blank_lines ∙ none_behind_closed replacement text options lookup m c.args.self.now c.requires.closed runs))
 
 pub returns-else-ends_at_once-clause-runs : goal.returns-else-ends_at_once-clause-runs
 returns-else-ends_at_once-clause-runs g c more text options lookup m ahead runs =
@@ -53,4 +53,4 @@ returns-else-ends_at_once-clause-runs g c more text options lookup m ahead runs 
     (runs-leaf replacement text options lookup _ _ (leaf.Html c.args.kind) (model.InHtml kind)
     (runs-builder replacement text options lookup (block_begun m) before c.draw_html_line.new.builder line r (c.in_ok-draw_html_line.ensures.drawn text begun first)
     (c.in_ok-draw_html_line.ensures.definitions ∙ ap (λ a. defined (tables a)) c.in_ok-open.ensures.tables))
-    (refl, ap (λ b. b.items) c.begin_block.ensures.blank_lines ∙ none_behind_closed replacement text options lookup m c.args.self.now c.requires.closed runs))
+    (refl, ap (λ b. b.items) c.begin_block.ensures.others.blank_lines ∙ none_behind_closed replacement text options lookup m c.args.self.now c.requires.closed runs))

@@ -27,7 +27,7 @@ returns-clause-runs g c more text options lookup m ahead runs =
     let first = subst (λ start. Draws text c.open.new.self (opened start IndentedCode d)) (c.begin.ensures.place ∙ code-place 4 row (row_of c.without_indent_upto-code.result) c.without_indent_upto-code.ensures.row)
     (draws-open text before.builder c.open.new.self c.begin.result _ IndentedCode d c.in_ok-open.ensures.ok c.in_ok-open.ensures.tables refl r.drawing) in
     let run = code_line text 4 row None in
-    let none = ap (λ b. b.items) c.begin_block.ensures.blank_lines ∙ none_behind_closed replacement text options lookup m c.args.self.now c.requires.closed runs in
+    let none = ap (λ b. b.items) c.begin_block.ensures.others.blank_lines ∙ none_behind_closed replacement text options lookup m c.args.self.now c.requires.closed runs in
     runs-leaf replacement text options lookup _ _ (leaf.Indented c.in_ok-waits.waits c.past.result) (model.InIndented run.waits row.past [])
     (runs-builder replacement text options lookup (block_begun m) before c.draw_code_line.new.builder (drawn (texts_of run.done) begun) r (c.in_ok-waits.ensures.drawn text begun first)
     (c.in_ok-waits.ensures.definitions ∙ ap (λ a. defined (tables a)) c.in_ok-open.ensures.tables))

@@ -22,4 +22,4 @@ returns-clause-runs g c more text options lookup m ahead runs =
     (draws-open text before.builder c.open.new.self c.words_begin.result _ kind p.drawing c.in_ok-open.ensures.ok c.in_ok-open.ensures.tables refl r.drawing) in
     runs-leaf replacement text options lookup _ _ (leaf.Metadata c.args.kind None) (model.InMetadata (shown_metadata_block_kind c.args.kind) None)
     (runs-builder replacement text options lookup p before c.open.new.self _ r draws (ap (λ a. defined (tables a)) c.in_ok-open.ensures.tables))
-    (refl, ap (λ b. b.items) c.begin_block.ensures.blank_lines ∙ none_behind_closed replacement text options lookup m c.args.self.now c.requires.closed runs)
+    (refl, ap (λ b. b.items) c.begin_block.ensures.others.blank_lines ∙ none_behind_closed replacement text options lookup m c.args.self.now c.requires.closed runs)

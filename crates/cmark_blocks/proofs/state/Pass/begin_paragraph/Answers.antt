@@ -19,7 +19,7 @@ returns-clause-runs g c text options lookup m runs =
     let r = c.begin_text_block.ensures.runs text options lookup m runs in
     let draws = subst (λ at. Draws text c.open.new.self (opened at Paragraph p.drawing)) c.words_begin-begin.ensures.place
     (draws-open text before.builder c.open.new.self c.words_begin-begin.result _ Paragraph p.drawing c.in_ok-open.ensures.ok c.in_ok-open.ensures.tables refl r.drawing) in
-    let none = ap (λ b. b.items) c.begin_text_block.ensures.blank_lines ∙ none_behind_closed replacement text options lookup m c.args.self.now c.requires.closed runs in
+    let none = ap (λ b. b.items) c.begin_text_block.ensures.others.blank_lines ∙ none_behind_closed replacement text options lookup m c.args.self.now c.requires.closed runs in
     runs-leaf replacement text options lookup _ _ _ (model.InParagraph [] (start_of (row_of c.args.rest)) (row_of c.args.rest))
     (runs-builder replacement text options lookup p before c.open.new.self _ r draws (ap (λ a. defined (tables a)) c.in_ok-open.ensures.tables))
     (ap (λ from. model.InParagraph [] from (row_of c.args.rest)) (sym c.words_begin-begin.ensures.place)

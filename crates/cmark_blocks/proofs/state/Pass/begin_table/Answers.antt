@@ -43,7 +43,7 @@ returns-clause-runs g c text options lookup m runs many =
     let mid = runs-builder replacement text options lookup (block_begun m) before c.draw_head.new.builder head r (c.in_ok-draw_head.ensures.drawn text begun first)
     (c.in_ok-draw_head.ensures.definitions ∙ ap (λ a. defined (tables a)) c.in_ok-open.ensures.tables ∙ c.in_ok-body.ensures.definitions) in
     let rows = c.in_ok-count.ensures.runs text options lookup _ mid in
-    let none = none_behind_closed replacement text options lookup _ drew (c.in_ok-count.ensures.leaf ∙ c.begin_block.ensures.leaf ∙ c.requires.closed) rows.0 in
+    let none = none_behind_closed replacement text options lookup _ drew (c.in_ok-count.ensures.leaf ∙ c.begin_block.ensures.others.leaf ∙ c.requires.closed) rows.0 in
     let whole : Drawing = drawn (Node (node kind (start_of row) (past_of next taken)) (table_tokens text columns row (next ∷ taken)) Nil) d in
     let closed = subst (λ past. Draws text new (closed_at past (drawn (row_tokens text columns taken) head))) rows.2
     (draws-close text drew.builder new c.in_ok-count.past _ c.close.ensures.closed c.close.ensures.none c.close.ensures.tables rows.0.drawing) in

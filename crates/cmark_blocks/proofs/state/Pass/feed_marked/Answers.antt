@@ -17,7 +17,7 @@ returns-in-Some-clause-runs g c text options lookup m runs =
     let replacement = g.E.EntityLookup.replacement in
     let row = row_of c.args.rest in
     subst (λ p. Runs replacement text options lookup p c.underline.new.self)
-    (sym (feeds-underline text options lookup row (lines_at text row.past) m (map row_of c.args.self.now.blank_lines.items) c.args.from (row_of c.args.last) (level_number c.in-Some.level) (ap (option_map level_number) (sym c.in-Some.is) ∙ c.underlines.ensures) (in_paragraph replacement text options lookup m c.args.self.now runs c.args.from c.args.last c.requires.is)))
+    (sym (feeds-underline text options lookup row (lines_at text row.past) m (map row_of c.args.self.now.blank_lines.items) c.args.from (row_of c.args.last) (level_number c.in-Some.level) (ap (option_map level_number) (sym c.in-Some.is) ∙ c.underlines.ensures) (in_paragraph replacement text options lookup m c.args.self.now runs c.args.from c.args.last c.requires.behind.is)))
     (c.in_ok-underline.ensures.runs text options lookup m runs)
 
 pub returns-in_ok-begin_anew-clause-runs : goal.returns-in_ok-begin_anew-clause-runs
@@ -36,7 +36,7 @@ returns-in_ok-begin_anew-clause-runs g c text options lookup m runs =
     ] in
     subst (λ p. Runs replacement text options lookup p c.begin_anew.new.self)
     (sym (feeds-interrupted text options lookup row next m (map row_of c.args.self.now.blank_lines.items) c.args.from (row_of c.args.last) (ap (option_map level_number) (sym c.in_default.is) ∙ c.underlines.ensures) (whole c.args.rest)
-    ends (in_paragraph replacement text options lookup m c.args.self.now runs c.args.from c.args.last c.requires.is)))
+    ends (in_paragraph replacement text options lookup m c.args.self.now runs c.args.from c.args.last c.requires.behind.is)))
     (c.in_ok-begin_anew.ensures.runs text options lookup m runs)
 
 pub returns-in_ok-add_to_paragraph-clause-runs : goal.returns-in_ok-add_to_paragraph-clause-runs
@@ -55,5 +55,5 @@ returns-in_ok-add_to_paragraph-clause-runs g c text options lookup m runs =
     ] in
     subst (λ p. Runs replacement text options lookup p c.add_to_paragraph.new.self)
     (sym (feeds-text text options lookup row next m (map row_of c.args.self.now.blank_lines.items) c.args.from (row_of c.args.last) (ap (option_map level_number) (sym c.in_default.is) ∙ c.underlines.ensures) (whole c.args.rest)
-    goes_on (in_paragraph replacement text options lookup m c.args.self.now runs c.args.from c.args.last c.requires.is)))
+    goes_on (in_paragraph replacement text options lookup m c.args.self.now runs c.args.from c.args.last c.requires.behind.is)))
     (c.in_ok-add_to_paragraph.ensures.runs text options lookup m runs)

@@ -20,7 +20,7 @@ returns-then-begins_with_letter-clause-runs g c text options lookup m runs =
     subst (λ p. Runs replacement text options lookup p c.add_to_paragraph.new.self)
     (sym (feeds-text text options lookup row (lines_at text row.past) m (map row_of c.args.self.now.blank_lines.items) c.args.from (row_of c.args.last) (sym (letter-underlines-not row letter)) (whole c.args.rest)
     (sym (ap (λ z. z || block_interrupts options true row (ahead_in text options lookup m.outer (lines_at text row.past))) (letter-interrupts-not options true row (ahead_in text options lookup m.outer (lines_at text row.past)) letter)
-    ∙ ap (λ z. z || begins_definition options row) (letter-table-not options row (ahead_in text options lookup m.outer (lines_at text row.past)) letter) ∙ letter-definition-not options row letter)) (in_paragraph replacement text options lookup m c.args.self.now runs c.args.from c.args.last c.requires.is)))
+    ∙ ap (λ z. z || begins_definition options row) (letter-table-not options row (ahead_in text options lookup m.outer (lines_at text row.past)) letter) ∙ letter-definition-not options row letter)) (in_paragraph replacement text options lookup m c.args.self.now runs c.args.from c.args.last c.requires.behind.is)))
     (c.in_ok-add_to_paragraph.ensures.runs text options lookup m runs)
 
 pub returns-then-is_blank-clause-runs : goal.returns-then-is_blank-clause-runs
@@ -33,6 +33,6 @@ returns-then-is_blank-clause-runs g c text options lookup m runs =
     subst (λ p. Runs replacement text options lookup p c.pass_blank_line.new.self)
     (sym (feeds-interrupted text options lookup row next m (map row_of c.args.self.now.blank_lines.items) c.args.from (row_of c.args.last) (sym (blank-underlines-not row blank)) (whole c.args.rest)
     (sym (ap (λ z. z || block_interrupts options true row (ahead_in text options lookup m.outer next)) (blank-interrupts options row (ahead_in text options lookup m.outer next) blank)))
-    (in_paragraph replacement text options lookup m c.args.self.now runs c.args.from c.args.last c.requires.is)
+    (in_paragraph replacement text options lookup m c.args.self.now runs c.args.from c.args.last c.requires.behind.is)
     ∙ begins-blank text options lookup row next (leaf_closed text options lookup m) (whole c.args.rest) blank))
     (c.pass_blank_line.ensures.runs text options lookup (leaf_closed text options lookup m) closed)
