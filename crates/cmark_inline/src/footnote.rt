@@ -1,6 +1,6 @@
 //! Footnote references (this profile's own).
 
-ghost use Rattle.std.specs.Prelude.{◌≡◌, true, false, ◌<◌, ◌≤◌, ◌+◌, ◌++◌, ◌∷◌, ℕ, List, [], drop, length, is_some, IfOk, OnOk, IfSome, OnSome, None, Some, option_copied, option_map};
+ghost use Rattle.std.specs.Prelude.{◌≡◌, false, ◌<◌, ◌≤◌, ◌+◌, ◌++◌, ◌∷◌, ℕ, List, [], drop, length, is_some, IfOk, OnOk, IfSome, None, option_copied, option_map};
 ghost use Rattle.std.specs.Str.{IsCharBoundary};
 ghost use Rattle.cmark_finds.specs.Shown.{shown_label};
 ghost use Rattle.cmark_grammar.specs.BracketDecisions.{is_there};

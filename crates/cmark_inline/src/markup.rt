@@ -1,6 +1,6 @@
 //! Inline HTML where it stands (CommonMark 6.6): tags in the text of a leaf, and markup, which is all else, in the source.
 
-ghost use Rattle.std.specs.Prelude.{◌≡◌, ◌||◌, ◌<◌, ◌+◌, ℕ, List, length, drop, true, false, Some, None, IfSome};
+ghost use Rattle.std.specs.Prelude.{◌≡◌, ◌<◌, ◌+◌, ℕ, length, drop, true, false, Some, None, IfSome};
 ghost use Rattle.std.specs.Str.{IsCharBoundary};
 ghost use Rattle.cmark_grammar.specs.InlineHtml.{behind_inline_html, behind_markup};
 ghost use Rattle.cmark_grammar.specs.Letters.{starts};

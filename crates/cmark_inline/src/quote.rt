@@ -11,7 +11,7 @@ ghost use Rattle.cmark_inline.specs.Stands.{AreSlots, NoNewLink};
 ghost use Rattle.cmark_inline.specs.declared.link.LinkParts.{LinkParts};
 ghost use Rattle.cmark_inline.specs.declared.quote.PlacedQuote.{PlacedQuote};
 
-use crate::slot::{Slot, SlotKind, become_character};
+use crate::slot::{Slot, become_character};
 use cmark_emphasis::{Quote, quote_characters};
 use std::alloc::{AllocError, Global};
 

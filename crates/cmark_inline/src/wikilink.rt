@@ -1,6 +1,6 @@
 //! Wikilinks (this profile's own).
 
-ghost use Rattle.std.specs.Prelude.{◌≡◌, ◌⊎◌, ◌≤◌, ◌<◌, ◌+◌, ◌++◌, ◌∷◌, ◌&&◌, ◌==◌, drop, if◌then◌else◌, true, false, is_some, ℕ, List, [], length, IfOk, OnOk, IfSome, None, Some};
+ghost use Rattle.std.specs.Prelude.{◌≡◌, ◌⊎◌, ◌≤◌, ◌<◌, ◌+◌, ◌++◌, ◌∷◌, ◌&&◌, ◌==◌, drop, if◌then◌else◌, false, is_some, ℕ, [], length, IfOk, OnOk, IfSome, None, Some};
 ghost use Rattle.std.specs.Str.{IsCharBoundary};
 ghost use Rattle.cmark_grammar.specs.BracketDecisions.{name_in};
 ghost use Rattle.cmark_leaf_text.specs.Reads.{IsRead, IsPart, text_of};
@@ -18,7 +18,6 @@ ghost use Rattle.cmark_leaf_text.specs.declared.leaf_text.LeafText.{LeafText as 
 ghost use Rattle.cmark_inline.specs.Stands.{AreSlots, HoldNoLink, IsBracket, Moves, NoNewLink, Stands};
 ghost use Rattle.cmark_inline.specs.Wikilinks.{IsNamed, IsWikilink, Shows, forms_wikilink, wiki_text};
 ghost use Rattle.cmark_inline.specs.declared.link.LinkParts.{LinkParts as Parts};
-ghost use Rattle.cmark_inline.specs.declared.wikilink.Wikilink.{Wikilink as Found};
 
 use crate::bracket::Bracket;
 use crate::link::LinkParts;
