@@ -1,182 +1,136 @@
-//! Containers and lists: what begins and keeps them, and their end (CommonMark 5).
+//! Containers: what begins and keeps them, and their end (CommonMark 5).
 
-ghost use Rattle.std.specs.Prelude.{◌≡◌, Bool, List, Option, ℕ, OnOk, not, unwrap_or, option_map, length, ◌-◌, ◌<◌, ◌&&◌, ◌==◌, suc, ◌≤◌};
+ghost use Rattle.std.specs.Prelude.{◌≡◌, Bool, List, Option, ℕ, OnOk, unwrap_or, option_map, length, ◌-◌, ◌<◌, ◌&&◌, ◌==◌, suc, ◌≤◌, IfOk, IfSome};
 ghost use Rattle.cmark_grammar.specs.Containers as grammar;
-ghost use Rattle.cmark_items.specs.ItemNodes.{is_tight, list_number, shape, Element};
-ghost use Rattle.cmark_grammar.specs.Derivation.{list_kind};
-ghost use Rattle.cmark_text.specs.Shown.{shown_block_quote_kind};
-ghost use Rattle.cmark_lines.specs.Starts.{Shows};
-ghost use Rattle.cmark_blocks.specs.Shown.{shown_list, shown_siblings, ShowsContainer};
-ghost use Rattle.cmark_block_model.specs.BlockPass.{ended, title_released, title_made, definition_behind, block_begun, list_begun, item_begun, inside_of, quote_begun, item_begun_in, definition_begun_in, behind_container};
-ghost use Rattle.cmark_blocks.specs.Titles.{text_block_begun};
+ghost use Rattle.cmark_items.specs.ItemNodes.{list_number};
+ghost use Rattle.cmark_text.specs.Shown.{shown_block_quote_kind, shown_options};
+ghost use Rattle.cmark_lines.specs.Starts.{Shows, inside_of, Enters, HasMarker};
+ghost use Rattle.cmark_blocks.specs.Shown.{shown_siblings, ShowsContainer};
+ghost use Rattle.cmark_block_model.specs.BlockPass.{inside_of as stepped_inside, quote_begun, item_begun_in, definition_begun_in, behind_container};
 ghost use Rattle.cmark_block_model.specs.OpenBlocks as model;
-ghost use Rattle.cmark_lines.specs.Rests.{IsIn};
+ghost use Rattle.cmark_lines.specs.Rests.{IsIn, row_of};
+ghost use Rattle.cmark_blocks.specs.Entered.{HasNumber, BeginsContainer, DefinesAs};
+ghost use Rattle.cmark_lines.specs.Definitions.{EntersDefinition, width_of};
 
-use crate::siblings::{DEFINITION_MARK, OpenList, Siblings, Title};
-use crate::state::{OpenContainer, Pass};
+use crate::siblings::Siblings;
+use crate::state::{OpenContainer, OpenLeaf, Pass};
 use bitflags::Flags;
-use cmark_items::{ItemBody, ListFlags};
-use cmark_lines::{Container, ItemStart, LineRest};
-use cmark_text::{BlockQuoteKind, EntityLookup};
+use cmark_items::ItemBody;
+use cmark_lines::{
+    Container, ContainerStart, ItemStart, LineRest, definition_start, reads_definition_lists,
+};
+use cmark_text::{BlockQuoteKind, EntityLookup, Options};
 use std::alloc::AllocError;
 
-/// What is said of a list whose end is seen.
-fn list_flags(loose: bool) -> ListFlags
-    ensures { is_tight result ≡ not loose }
+/// Whether alerts are read.
+fn reads_alerts(options: Options) -> bool
+    ensures { result ≡ (shown_options options).gfm }
 {
-    if loose {
-        ListFlags::empty()
-    } else {
-        ListFlags::IS_TIGHT
-    }
+    options.contains(Options::ENABLE_GFM)
 }
 
-impl OpenList {
-    /// The list as an item of the tree.
-    fn body(self) -> ItemBody
-        ensures { shape result ≡ Element (list_kind self.mark (list_number self.mark self.number) (not self.loose)) }
-    {
-        let flags = list_flags(self.loose);
-        if self.mark == DEFINITION_MARK {
-            ItemBody::DefinitionList(flags)
-        } else {
-            ItemBody::List(flags, self.mark, self.number)
-        }
-    }
+/// Whether task markers are read.
+fn reads_tasklists(options: Options) -> bool
+    ensures { result ≡ (shown_options options).tasklists }
+{
+    options.contains(Options::ENABLE_TASKLISTS)
 }
 
 impl<'a, E: EntityLookup> Pass<'a, E> {
     ghost use Rattle.cmark_blocks.specs.Runs.{IsGood};
-    ghost use Rattle.cmark_blocks.specs.Steps.{LeavesTheRest, Steps, ClosesLast, ClosesAll};
+    ghost use Rattle.cmark_blocks.specs.Steps.{Steps, ClosesLast, ClosesAll, BeginsTask};
     ghost use Rattle.cmark_blocks.specs.KeepingContainers.{IsBehind, KeepsOf};
+    ghost use Rattle.cmark_blocks.specs.declared.state.OpenLeaf.TheVariants as leaf;
+    ghost use Rattle.cmark_leaves.specs.TextColumns.{IsRead};
 
-    /// A paragraph that was drawn in a definition list, and is no title, is put behind that list, which is closed.
-    pub(crate) fn release_title(&mut self)
-        requires { IsGood self.old }
-        ensures good { IsGood self.new }
-        ensures runs { Steps E.replacement self.old self.new (λ p. record p { drawing = title_released p.inner.title p.drawing }) }
-        ensures inner { self.new.inner ≡ self.old.inner }
-        ensures outer { self.new.outer ≡ self.old.outer }
-        ensures others { LeavesTheRest self.old self.new }
-    {
-        if let Some(list) = self.inner.list_around() {
-            self.builder.release_last(list.end, list.body());
-        }
-    }
-
-    /// Closes the list, if one is open. Of a definition list, the paragraph behind the last definition is no title.
-    pub(crate) fn close_list(&mut self)
-        requires { IsGood self.old }
-        ensures good { IsGood self.new }
-        ensures runs { Steps E.replacement self.old self.new (λ p. record p { drawing = ended p.inner p.drawing }) }
-        ensures outer { self.new.outer ≡ self.old.outer }
-        ensures others { LeavesTheRest self.old self.new }
-    {
-        self.release_title();
-        if let Some(list) = self.inner.list {
-            self.builder.close_as(list.end, list.body());
-        }
-    }
-
-    /// A block begins that is no item.
-    pub(crate) fn begin_block(&mut self)
-        requires { IsGood self.old }
-        ensures good { IsGood self.new }
-        ensures runs { Steps E.replacement self.old self.new block_begun }
-        ensures others { LeavesTheRest self.old self.new }
-    {
-        self.close_list();
-        self.inner = self.inner.with_block();
-    }
-
-    /// A paragraph begins, which may be a title of the definition list that is open.
-    #[inline(always)]
-    pub(crate) fn begin_text_block(&mut self)
-        requires { IsGood self.old }
-        ensures good { IsGood self.new }
-        ensures runs { Steps E.replacement self.old self.new text_block_begun }
-        ensures others { LeavesTheRest self.old self.new }
-    {
-        if self.inner.has_list() {
-            self.begin_text_behind_list();
-            return;
-        }
-        self.inner.add_paragraph();
-    }
-
-    /// The same, whether or not a list is open.
-    #[inline(never)]
-    fn begin_text_behind_list(&mut self)
-        requires { IsGood self.old }
-        ensures good { IsGood self.new }
-        ensures runs { Steps E.replacement self.old self.new text_block_begun }
-        ensures others { LeavesTheRest self.old self.new }
-    {
-        if self.inner.definitions().is_some() {
-            self.inner = self.inner.with_paragraph();
-            return;
-        }
-        self.close_list();
-        self.inner = self.inner.with_paragraph();
-    }
-
-    /// A list begins at this byte offset with this item.
-    fn begin_list(&mut self, item: ItemStart, start: usize) -> Result<(), AllocError>
+    /// A container begins on a line, with no leaf open. Answers the line behind its marker, and whether the container is an item;
+    /// none, where nothing of the line is left to begin: that line is an alert's tag, or a task marker with its paragraph.
+    pub(crate) fn begin_container(
+        &mut self,
+        start: ContainerStart<'a>,
+        rest: LineRest<'a>,
+    ) -> Result<Option<(LineRest<'a>, bool)>, AllocError>
         requires good { IsGood self.old }
-        requires number { list_number item.mark (unwrap_or item.number 0) ≡ item.number }
+        requires line { IsRead self.old.text.now rest }
+        requires closed { self.old.leaf ≡ leaf.Closed }
+        requires number { HasNumber start }
+        requires marker { HasMarker (row_of rest) start }
+        requires enters { Enters (row_of rest) start }
+        requires placed { IsIn self.old.text.now (inside_of start) }
         ensures good { IsGood self.new }
-        ensures runs { OnOk result (Steps E.replacement self.old self.new (list_begun item.mark item.number start)) }
+        ensures runs { IfOk result (λ entered. BeginsContainer E.replacement start.entry rest.entry entered self.old self.new) }
+        ensures inside { IfOk result (λ entered. IfSome entered (λ inside. inside.0 ≡ inside_of start.entry)) }
         ensures text { self.new.text ≡ self.old.text }
-        ensures leaf { self.new.leaf ≡ self.old.leaf }
+        ensures leaf { IfOk result (λ entered. IfSome entered (λ inside. self.new.leaf ≡ leaf.Closed)) }
         ensures bare { self.new.bare ≡ self.old.bare }
     {
-        self.begin_block();
-        let number = item.number.unwrap_or(0);
-        let list = OpenList {
-            mark: item.mark,
-            number,
-            loose: false,
-            end: start,
-        };
-        self.builder.open(
-            start,
-            OpenList {
-                loose: true,
-                ..list
+        match start {
+            ContainerStart::Quote(inside) => {
+                let alert = inside.alert_kind(reads_alerts(self.options));
+                self.begin_quote(alert, rest.words_begin())?;
+                if alert.is_some() {
+                    self.leaf = OpenLeaf::BehindTag;
+                    return Ok(None);
+                }
+                Ok(Some((inside, false)))
             }
-            .body(),
-        )?;
-        self.inner.list = Some(list);
+            ContainerStart::Item(item, inside) => {
+                let task = inside.task_marker(reads_tasklists(self.options));
+                self.begin_item(item, rest.begin())?;
+                if let Some((is_checked, behind)) = task {
+                    self.begin_task(is_checked, inside.begin(), behind)?;
+                    return Ok(None);
+                }
+                Ok(Some((inside, true)))
+            }
+            ContainerStart::Footnote(footnote, inside) => {
+                self.begin_footnote(footnote, rest)?;
+                Ok(Some((inside, false)))
+            }
+        }
+    }
+
+    /// A task marker begins at this byte offset, and a paragraph behind its box, whatever its text looks like (GFM 5.3).
+    fn begin_task(
+        &mut self,
+        is_checked: bool,
+        start: usize,
+        behind: LineRest<'a>,
+    ) -> Result<(), AllocError>
+        requires good { IsGood self.old }
+        requires line { IsRead self.old.text.now behind }
+        requires closed { self.old.leaf ≡ leaf.Closed }
+        ensures good { IsGood self.new }
+        ensures runs { OnOk result (BeginsTask E.replacement is_checked start behind.entry self.old self.new) }
+        ensures text { self.new.text ≡ self.old.text }
+        ensures bare { self.new.bare ≡ self.old.bare }
+    {
+        let body = ItemBody::TaskListMarker(is_checked);
+        self.builder.add(start, behind.begin(), body)?;
+        self.begin_paragraph(behind)?;
         Ok(())
     }
 
-    /// The list that is open goes on with this item, if it is of the same kind; else one begins at this byte offset.
-    fn join_list(&mut self, item: ItemStart, start: usize) -> Result<(), AllocError>
-        requires good { IsGood self.old }
-        requires number { list_number item.mark (unwrap_or item.number 0) ≡ item.number }
-        ensures good { IsGood self.new }
-        ensures runs { OnOk result (Steps E.replacement self.old self.new (λ p. item_begun item.mark item.number start p p.inner.list)) }
-        ensures text { self.new.text ≡ self.old.text }
-        ensures leaf { self.new.leaf ≡ self.old.leaf }
-        ensures bare { self.new.bare ≡ self.old.bare }
+    /// The width of the definition that a line begins, and the line behind its marker: behind a paragraph, which is its title, or behind another
+    /// definition (this profile's own).
+    #[inline]
+    pub(crate) fn definition_begun(&self, rest: LineRest<'a>) -> Option<(usize, LineRest<'a>)>
+        ensures width { DefinesAs E.replacement self.now rest.entry (option_map width_of result) }
+        ensures inside { IfSome result (EntersDefinition (row_of rest.entry)) }
+        ensures placed { (text : List ℕ) → IsIn text rest.entry → IfSome result (λ begun. IsIn text begun.1) }
+        ensures shorter { IfSome result (λ begun. length (row_of begun.1).columns < length (row_of rest.entry).columns) }
     {
-        match self.inner.list_of(item.mark) {
-            Some(list) => {
-                self.inner = self.inner.with_item_of(list);
-                Ok(())
-            }
-            None => {
-                self.begin_list(item, start)?;
-                Ok(())
-            }
+        if !reads_definition_lists(self.options) || !self.inner.may_define() {
+            return None;
         }
+        definition_start(rest, self.options)
     }
 
     /// Goes into a container that begins.
     pub(crate) fn enter(&mut self, container: Container) -> Result<(), AllocError>
         requires { IsGood self.old }
         ensures good { IsGood self.new }
-        ensures runs { OnOk result ((k : grammar.Container) → Shows container k → Steps E.replacement self.old self.new (inside_of k)) }
+        ensures runs { OnOk result ((k : grammar.Container) → Shows container k → Steps E.replacement self.old self.new (stepped_inside k)) }
         ensures tables { self.new.builder.allocations ≡ self.old.builder.allocations }
         ensures text { self.new.text ≡ self.old.text }
         ensures leaf { self.new.leaf ≡ self.old.leaf }
@@ -223,54 +177,6 @@ impl<'a, E: EntityLookup> Pass<'a, E> {
         self.builder.open(start, ItemBody::ListItem(item.width))?;
         self.enter(Container::Item { width: item.width })?;
         Ok(())
-    }
-
-    /// The paragraph behind which a definition begins at this byte offset becomes its title, in the definition list that was open before
-    /// it, or in a new one around it.
-    fn make_title(&mut self, title: Title, start: usize) -> Result<(), AllocError>
-        requires { IsGood self.old }
-        ensures good { IsGood self.new }
-        ensures runs { OnOk result (Steps E.replacement self.old self.new (title_made (option_map shown_list title.list) title.parted start)) }
-        ensures text { self.new.text ≡ self.old.text }
-        ensures leaf { self.new.leaf ≡ self.old.leaf }
-        ensures bare { self.new.bare ≡ self.old.bare }
-    {
-        if title.list.is_some() {
-            self.builder.turn_last(ItemBody::DefinitionListTitle);
-            self.inner = self.inner.behind_title(title, start);
-            return Ok(());
-        }
-        let around = ItemBody::DefinitionList(list_flags(true));
-        self.builder
-            .enclose_last(around, ItemBody::DefinitionListTitle)?;
-        self.inner = self.inner.behind_title(title, start);
-        Ok(())
-    }
-
-    /// A definition begins at this byte offset, behind its title or another definition.
-    fn join_definitions(&mut self, width: usize, start: usize) -> Result<(), AllocError>
-        requires { IsGood self.old }
-        ensures good { IsGood self.new }
-        ensures runs { OnOk result (Steps E.replacement self.old self.new (λ p. definition_behind p.inner.title start p)) }
-        ensures text { self.new.text ≡ self.old.text }
-        ensures leaf { self.new.leaf ≡ self.old.leaf }
-        ensures bare { self.new.bare ≡ self.old.bare }
-    {
-        match self.inner.title {
-            Some(title) => {
-                self.make_title(title, start)?;
-                Ok(())
-            }
-            None => {
-                let item = ItemStart {
-                    mark: DEFINITION_MARK,
-                    number: None,
-                    width,
-                };
-                self.join_list(item, start)?;
-                Ok(())
-            }
-        }
     }
 
     /// A definition of this width begins at this byte offset, behind its title or another definition (this profile's own).

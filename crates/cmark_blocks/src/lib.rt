@@ -14,6 +14,7 @@ mod heading;
 mod html;
 mod leaf;
 mod line;
+mod list;
 mod metadata;
 mod paragraph;
 mod prefixes;

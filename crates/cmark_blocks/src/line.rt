@@ -1,126 +1,22 @@
 //! All that a line begins: containers, and then a leaf (CommonMark 3 to 5).
 
-ghost use Rattle.std.specs.Prelude.{◌≡◌, ◌<◌, ℕ, List, false, length, option_map, OnOk, IfOk, IfSome};
+ghost use Rattle.std.specs.Prelude.{◌≡◌, ◌<◌, false, length, OnOk, IfOk, IfSome};
 ghost use Rattle.cmark_text.specs.Shown.{shown_options};
 ghost use Rattle.cmark_lines.specs.Opened.{InfoIsIn};
 ghost use Rattle.cmark_lines.specs.Rests.{row_of};
-ghost use Rattle.cmark_lines.specs.Starts.{inside_of, Enters, HasMarker};
-ghost use Rattle.cmark_blocks.specs.Entered.{OpensAs, IsNoContainer, HasNumber};
-ghost use Rattle.cmark_lines.specs.Definitions.{EntersDefinition, width_of};
-ghost use Rattle.cmark_lines.specs.Rests.{IsIn};
+ghost use Rattle.cmark_blocks.specs.Entered.{OpensAs, IsNoContainer};
 
-use crate::state::{OpenLeaf, Pass};
-use bitflags::Flags;
-use cmark_items::ItemBody;
-use cmark_lines::{
-    ContainerStart, LineRest, Opening, definition_start, reads_definition_lists, what_opens,
-};
-use cmark_text::{EntityLookup, Options};
+use crate::state::Pass;
+use cmark_lines::{LineRest, Opening, what_opens};
+use cmark_text::EntityLookup;
 use std::alloc::AllocError;
-
-/// Whether alerts are read.
-fn reads_alerts(options: Options) -> bool
-    ensures { result ≡ (shown_options options).gfm }
-{
-    options.contains(Options::ENABLE_GFM)
-}
-
-/// Whether task markers are read.
-fn reads_tasklists(options: Options) -> bool
-    ensures { result ≡ (shown_options options).tasklists }
-{
-    options.contains(Options::ENABLE_TASKLISTS)
-}
 
 impl<'a, E: EntityLookup> Pass<'a, E> {
     ghost use Rattle.cmark_blocks.specs.declared.state.OpenLeaf.TheVariants as leaf;
     ghost use Rattle.cmark_blocks.specs.Runs.{IsGood};
     ghost use Rattle.cmark_leaves.specs.TextColumns.{IsRead};
-    ghost use Rattle.cmark_blocks.specs.Steps.{Steps, Begins, BeginsAnew, BeginsTask};
-    ghost use Rattle.cmark_blocks.specs.Entered.{BeginsAs, BeginsContainer, BeginsFirst, DefinesAs};
-
-    /// A task marker begins at this byte offset, and a paragraph behind its box, whatever its text looks like (GFM 5.3).
-    fn begin_task(
-        &mut self,
-        is_checked: bool,
-        start: usize,
-        behind: LineRest<'a>,
-    ) -> Result<(), AllocError>
-        requires good { IsGood self.old }
-        requires line { IsRead self.old.text.now behind }
-        requires closed { self.old.leaf ≡ leaf.Closed }
-        ensures good { IsGood self.new }
-        ensures runs { OnOk result (BeginsTask E.replacement is_checked start behind.entry self.old self.new) }
-        ensures text { self.new.text ≡ self.old.text }
-        ensures bare { self.new.bare ≡ self.old.bare }
-    {
-        let body = ItemBody::TaskListMarker(is_checked);
-        self.builder.add(start, behind.begin(), body)?;
-        self.begin_paragraph(behind)?;
-        Ok(())
-    }
-
-    /// A container begins on a line, with no leaf open. Answers the line behind its marker, and whether the container is an item;
-    /// none, where nothing of the line is left to begin: that line is an alert's tag, or a task marker with its paragraph.
-    fn begin_container(
-        &mut self,
-        start: ContainerStart<'a>,
-        rest: LineRest<'a>,
-    ) -> Result<Option<(LineRest<'a>, bool)>, AllocError>
-        requires good { IsGood self.old }
-        requires line { IsRead self.old.text.now rest }
-        requires closed { self.old.leaf ≡ leaf.Closed }
-        requires number { HasNumber start }
-        requires marker { HasMarker (row_of rest) start }
-        requires enters { Enters (row_of rest) start }
-        requires placed { IsIn self.old.text.now (inside_of start) }
-        ensures good { IsGood self.new }
-        ensures runs { IfOk result (λ entered. BeginsContainer E.replacement start.entry rest.entry entered self.old self.new) }
-        ensures inside { IfOk result (λ entered. IfSome entered (λ inside. inside.0 ≡ inside_of start.entry)) }
-        ensures text { self.new.text ≡ self.old.text }
-        ensures leaf { IfOk result (λ entered. IfSome entered (λ inside. self.new.leaf ≡ leaf.Closed)) }
-        ensures bare { self.new.bare ≡ self.old.bare }
-    {
-        match start {
-            ContainerStart::Quote(inside) => {
-                let alert = inside.alert_kind(reads_alerts(self.options));
-                self.begin_quote(alert, rest.words_begin())?;
-                if alert.is_some() {
-                    self.leaf = OpenLeaf::BehindTag;
-                    return Ok(None);
-                }
-                Ok(Some((inside, false)))
-            }
-            ContainerStart::Item(item, inside) => {
-                let task = inside.task_marker(reads_tasklists(self.options));
-                self.begin_item(item, rest.begin())?;
-                if let Some((is_checked, behind)) = task {
-                    self.begin_task(is_checked, inside.begin(), behind)?;
-                    return Ok(None);
-                }
-                Ok(Some((inside, true)))
-            }
-            ContainerStart::Footnote(footnote, inside) => {
-                self.begin_footnote(footnote, rest)?;
-                Ok(Some((inside, false)))
-            }
-        }
-    }
-
-    /// The width of the definition that a line begins, and the line behind its marker: behind a paragraph, which is its title, or behind another
-    /// definition (this profile's own).
-    #[inline]
-    fn definition_begun(&self, rest: LineRest<'a>) -> Option<(usize, LineRest<'a>)>
-        ensures width { DefinesAs E.replacement self.now rest.entry (option_map width_of result) }
-        ensures inside { IfSome result (EntersDefinition (row_of rest.entry)) }
-        ensures placed { (text : List ℕ) → IsIn text rest.entry → IfSome result (λ begun. IsIn text begun.1) }
-        ensures shorter { IfSome result (λ begun. length (row_of begun.1).columns < length (row_of rest.entry).columns) }
-    {
-        if !reads_definition_lists(self.options) || !self.inner.may_define() {
-            return None;
-        }
-        definition_start(rest, self.options)
-    }
+    ghost use Rattle.cmark_blocks.specs.Steps.{Steps, Begins, BeginsAnew};
+    ghost use Rattle.cmark_blocks.specs.Entered.{BeginsAs, BeginsFirst};
 
     /// A blank line begins nothing. `bare` says that it is what stands behind the marker of an item.
     pub(crate) fn pass_blank_line(&mut self, bare: bool)

@@ -1,0 +1,216 @@
+//! Lists and definition lists: what begins them, goes on with them, and their end (CommonMark 5.3).
+
+ghost use Rattle.std.specs.Prelude.{◌≡◌, not, OnOk, unwrap_or, option_map};
+ghost use Rattle.cmark_items.specs.ItemNodes.{is_tight, list_number, shape, Element};
+ghost use Rattle.cmark_grammar.specs.Derivation.{list_kind};
+ghost use Rattle.cmark_block_model.specs.BlockPass.{title_released, ended, block_begun, list_begun, item_begun, title_made, definition_behind};
+ghost use Rattle.cmark_blocks.specs.Titles.{text_block_begun};
+ghost use Rattle.cmark_blocks.specs.Shown.{shown_list};
+
+use crate::siblings::{DEFINITION_MARK, OpenList, Title};
+use crate::state::Pass;
+use bitflags::Flags;
+use cmark_items::{ItemBody, ListFlags};
+use cmark_lines::ItemStart;
+use cmark_text::EntityLookup;
+use std::alloc::AllocError;
+
+/// What is said of a list whose end is seen.
+fn list_flags(loose: bool) -> ListFlags
+    ensures { is_tight result ≡ not loose }
+{
+    if loose {
+        ListFlags::empty()
+    } else {
+        ListFlags::IS_TIGHT
+    }
+}
+
+impl OpenList {
+    /// The list as an item of the tree.
+    fn body(self) -> ItemBody
+        ensures { shape result ≡ Element (list_kind self.mark (list_number self.mark self.number) (not self.loose)) }
+    {
+        let flags = list_flags(self.loose);
+        if self.mark == DEFINITION_MARK {
+            ItemBody::DefinitionList(flags)
+        } else {
+            ItemBody::List(flags, self.mark, self.number)
+        }
+    }
+}
+
+impl<'a, E: EntityLookup> Pass<'a, E> {
+    ghost use Rattle.cmark_blocks.specs.Runs.{IsGood};
+    ghost use Rattle.cmark_blocks.specs.Steps.{LeavesTheRest, Steps};
+
+    /// A paragraph that was drawn in a definition list, and is no title, is put behind that list, which is closed.
+    pub(crate) fn release_title(&mut self)
+        requires { IsGood self.old }
+        ensures good { IsGood self.new }
+        ensures runs { Steps E.replacement self.old self.new (λ p. record p { drawing = title_released p.inner.title p.drawing }) }
+        ensures inner { self.new.inner ≡ self.old.inner }
+        ensures outer { self.new.outer ≡ self.old.outer }
+        ensures others { LeavesTheRest self.old self.new }
+    {
+        if let Some(list) = self.inner.list_around() {
+            self.builder.release_last(list.end, list.body());
+        }
+    }
+
+    /// Closes the list, if one is open. Of a definition list, the paragraph behind the last definition is no title.
+    pub(crate) fn close_list(&mut self)
+        requires { IsGood self.old }
+        ensures good { IsGood self.new }
+        ensures runs { Steps E.replacement self.old self.new (λ p. record p { drawing = ended p.inner p.drawing }) }
+        ensures outer { self.new.outer ≡ self.old.outer }
+        ensures others { LeavesTheRest self.old self.new }
+    {
+        self.release_title();
+        if let Some(list) = self.inner.list {
+            self.builder.close_as(list.end, list.body());
+        }
+    }
+
+    /// A block begins that is no item.
+    pub(crate) fn begin_block(&mut self)
+        requires { IsGood self.old }
+        ensures good { IsGood self.new }
+        ensures runs { Steps E.replacement self.old self.new block_begun }
+        ensures others { LeavesTheRest self.old self.new }
+    {
+        self.close_list();
+        self.inner = self.inner.with_block();
+    }
+
+    /// A paragraph begins, which may be a title of the definition list that is open.
+    #[inline(always)]
+    pub(crate) fn begin_text_block(&mut self)
+        requires { IsGood self.old }
+        ensures good { IsGood self.new }
+        ensures runs { Steps E.replacement self.old self.new text_block_begun }
+        ensures others { LeavesTheRest self.old self.new }
+    {
+        if self.inner.has_list() {
+            self.begin_text_behind_list();
+            return;
+        }
+        self.inner.add_paragraph();
+    }
+
+    /// The same, whether or not a list is open.
+    #[inline(never)]
+    fn begin_text_behind_list(&mut self)
+        requires { IsGood self.old }
+        ensures good { IsGood self.new }
+        ensures runs { Steps E.replacement self.old self.new text_block_begun }
+        ensures others { LeavesTheRest self.old self.new }
+    {
+        if self.inner.definitions().is_some() {
+            self.inner = self.inner.with_paragraph();
+            return;
+        }
+        self.close_list();
+        self.inner = self.inner.with_paragraph();
+    }
+
+    /// A list begins at this byte offset with this item.
+    fn begin_list(&mut self, item: ItemStart, start: usize) -> Result<(), AllocError>
+        requires good { IsGood self.old }
+        requires number { list_number item.mark (unwrap_or item.number 0) ≡ item.number }
+        ensures good { IsGood self.new }
+        ensures runs { OnOk result (Steps E.replacement self.old self.new (list_begun item.mark item.number start)) }
+        ensures text { self.new.text ≡ self.old.text }
+        ensures leaf { self.new.leaf ≡ self.old.leaf }
+        ensures bare { self.new.bare ≡ self.old.bare }
+    {
+        self.begin_block();
+        let number = item.number.unwrap_or(0);
+        let list = OpenList {
+            mark: item.mark,
+            number,
+            loose: false,
+            end: start,
+        };
+        self.builder.open(
+            start,
+            OpenList {
+                loose: true,
+                ..list
+            }
+            .body(),
+        )?;
+        self.inner.list = Some(list);
+        Ok(())
+    }
+
+    /// The list that is open goes on with this item, if it is of the same kind; else one begins at this byte offset.
+    pub(crate) fn join_list(&mut self, item: ItemStart, start: usize) -> Result<(), AllocError>
+        requires good { IsGood self.old }
+        requires number { list_number item.mark (unwrap_or item.number 0) ≡ item.number }
+        ensures good { IsGood self.new }
+        ensures runs { OnOk result (Steps E.replacement self.old self.new (λ p. item_begun item.mark item.number start p p.inner.list)) }
+        ensures text { self.new.text ≡ self.old.text }
+        ensures leaf { self.new.leaf ≡ self.old.leaf }
+        ensures bare { self.new.bare ≡ self.old.bare }
+    {
+        match self.inner.list_of(item.mark) {
+            Some(list) => {
+                self.inner = self.inner.with_item_of(list);
+                Ok(())
+            }
+            None => {
+                self.begin_list(item, start)?;
+                Ok(())
+            }
+        }
+    }
+
+    /// The paragraph behind which a definition begins at this byte offset becomes its title, in the definition list that was open before
+    /// it, or in a new one around it.
+    fn make_title(&mut self, title: Title, start: usize) -> Result<(), AllocError>
+        requires { IsGood self.old }
+        ensures good { IsGood self.new }
+        ensures runs { OnOk result (Steps E.replacement self.old self.new (title_made (option_map shown_list title.list) title.parted start)) }
+        ensures text { self.new.text ≡ self.old.text }
+        ensures leaf { self.new.leaf ≡ self.old.leaf }
+        ensures bare { self.new.bare ≡ self.old.bare }
+    {
+        if title.list.is_some() {
+            self.builder.turn_last(ItemBody::DefinitionListTitle);
+            self.inner = self.inner.behind_title(title, start);
+            return Ok(());
+        }
+        let around = ItemBody::DefinitionList(list_flags(true));
+        self.builder
+            .enclose_last(around, ItemBody::DefinitionListTitle)?;
+        self.inner = self.inner.behind_title(title, start);
+        Ok(())
+    }
+
+    /// A definition begins at this byte offset, behind its title or another definition.
+    pub(crate) fn join_definitions(&mut self, width: usize, start: usize) -> Result<(), AllocError>
+        requires { IsGood self.old }
+        ensures good { IsGood self.new }
+        ensures runs { OnOk result (Steps E.replacement self.old self.new (λ p. definition_behind p.inner.title start p)) }
+        ensures text { self.new.text ≡ self.old.text }
+        ensures leaf { self.new.leaf ≡ self.old.leaf }
+        ensures bare { self.new.bare ≡ self.old.bare }
+    {
+        match self.inner.title {
+            Some(title) => {
+                self.make_title(title, start)?;
+                Ok(())
+            }
+            None => {
+                let item = ItemStart {
+                    mark: DEFINITION_MARK,
+                    number: None,
+                    width,
+                };
+                self.join_list(item, start)?;
+                Ok(())
+            }
+        }
+    }
+}
